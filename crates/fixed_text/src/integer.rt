@@ -1,0 +1,50 @@
+// The decimal texts of whole numbers.
+ghost use Rattle.std.specs.Prelude.{◌≡◌, ℕ, ◌<◌, ◌^◌, ◌++◌, decimal, Some, IfSome, OnOk, OnErr};
+ghost use Rattle.std.specs.Fmt.{signed_decimal};
+ghost use Rattle.fixed_text.specs.Texts.{is_plain};
+
+use crate::digits::{are_digits, value_up_to};
+use itoa::Buffer;
+use liq_base::Memory;
+
+// Digits, at least one, without a leading zero.
+fn is_plain(text: &[u8]) -> bool
+    ensures { result ≡ is_plain text.now }
+{
+    match text {
+        [] => false,
+        [only] => only.is_ascii_digit(),
+        [first, ..] => *first != b'0' && are_digits(text),
+    }
+}
+
+/// The number whose decimal text this is.
+pub fn read_u64(text: &[u8]) -> Option<u64>
+    ensures found { IfSome result (λ n. text.now ≡ decimal n) }
+    ensures only { (n : ℕ) → n < 2 ^ 64 → text.now ≡ decimal n → result ≡ Some n }
+{
+    if !is_plain(text) {
+        return None;
+    }
+    value_up_to(text, u64::MAX)
+}
+
+/// Appends the decimal text of a number.
+pub fn write_u64(into: &mut Vec<u8>, value: u64) -> Result<(), Memory>
+    ensures ok { OnOk result (into.new.items ≡ into.old.items ++ decimal value) }
+    ensures err { OnErr result (into.new.items ≡ into.old.items) }
+{
+    let mut buffer = Buffer::new();
+    into.extend_from_slice(buffer.format(value).as_bytes())?;
+    Ok(())
+}
+
+/// Appends the decimal text of a signed number.
+pub fn write_i64(into: &mut Vec<u8>, value: i64) -> Result<(), Memory>
+    ensures ok { OnOk result (into.new.items ≡ into.old.items ++ signed_decimal value) }
+    ensures err { OnErr result (into.new.items ≡ into.old.items) }
+{
+    let mut buffer = Buffer::new();
+    into.extend_from_slice(buffer.format(value).as_bytes())?;
+    Ok(())
+}

@@ -1,0 +1,17 @@
+// A mark in the week, as it stands in a script.
+
+/// A time mark: at least one of its parts is there. `7w24h60m60s` has the largest parts that a script can write.
+#[derive(Clone, Copy, Debug, PartialEq, Eq, Hash)]
+pub struct TimeMark {
+    /// The day of the week from 1 (Monday) to 7; 0 is Sunday too.
+    pub day: Option<u8>,
+
+    /// Hours, at most 24.
+    pub hour: Option<u8>,
+
+    /// Minutes, at most 60.
+    pub minute: Option<u8>,
+
+    /// Seconds, at most 60.
+    pub second: Option<u8>,
+}
