@@ -34,6 +34,17 @@ impl Library {
         Library { files, leaves }
     }
 
+    /// How many samples each channel has in a file, which is a leaf's file number `track`: at least 1.
+    pub fn samples(&self, leaf: u32, track: u32) -> u64
+        requires leaf { leaf < length self.now.leaves }
+        requires track { track < length (tracks_of self.now leaf) }
+        ensures samples { result ≡ length_of (sound_at self.now leaf track) }
+        ensures some { 0 < result }
+    {
+        let file = self.leaves[leaf as usize][track as usize];
+        self.files[file as usize].samples()
+    }
+
     /// The cell at a place of a file, which is a leaf's file number `track`, in a source of this kind. All of them are counted from 0.
     pub fn cell(&self, leaf: u32, track: u32, at: u64, kind: Kind) -> Cell
         requires leaf { leaf < length self.now.leaves }
