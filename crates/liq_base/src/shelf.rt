@@ -38,6 +38,16 @@ impl fmt::Display for ShelfFault {
 
 impl std::error::Error for ShelfFault {}
 
+impl From<Memory> for ShelfFault {
+    ghost use Rattle.liq_base.specs.declared.shelf.ShelfFault.TheVariants.{Memory as memory_fault};
+
+    ghost from_gives = { λ _ fault. fault ≡ memory_fault };
+
+    fn from(_memory: Memory) -> ShelfFault {
+        ShelfFault::Memory
+    }
+}
+
 /// Files under names: they are read whole, and created as sinks that a closing puts under their
 /// names. The rules stand in `docs/outside.md`.
 pub trait Shelf {
