@@ -14,3 +14,6 @@ mod word;
 
 pub use lexer::lex;
 pub use token::{Keyword, LexFault, Symbol, Token, TokenKind};
+
+#[cfg(test)]
+mod tests;
