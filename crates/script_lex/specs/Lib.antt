@@ -4,3 +4,4 @@ pub mod Spelling
 pub mod Tokens
 pub mod Reading
 pub mod Gives
+pub mod Parts

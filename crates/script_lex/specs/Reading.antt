@@ -1,9 +1,7 @@
 -- How one shape is read from the front of a list of bytes. Each reader mirrors a loop or a match of the program;
 -- `proofs/` shows that they find the longest spelling, and nothing else.
-use Rattle.std.specs.Prelude.{ℕ, ◌+◌, ◌-◌, ◌&&◌, ◌||◌, ◌==◌, List, [], ◌∷◌, length, take, Result, Ok, Err, Option, Some, None, option_map, if◌then◌else◌}
-use Rattle.std.specs.Borrow.{Bor}
+use Rattle.std.specs.Prelude.{ℕ, ◌+◌, ◌-◌, ◌&&◌, ◌||◌, ◌==◌, List, [], ◌∷◌, length, take, Result, Ok, Err, Option, Some, None, if◌then◌else◌}
 use Rattle.std.specs.Str.{is_utf8}
-use Rattle.std.specs.Str.Parse.{AllDigits}
 use Rattle.std.specs.Str.Lossy.{utf8_valid_len}
 use Rattle.std.specs.Char.{is_ascii_digit}
 use Rattle.script_lex.specs.Bytes.{is_letter, is_word, is_quote, is_unit, is_escapable, is_inner, starts_part, starts_digit}
@@ -50,14 +48,6 @@ word_at bytes =
     let rest = after_name bytes in
     let word = front bytes rest in
     word_or_open word (keyword_of word) rest
-
--- the bytes of a part
-abbrev pub digits_in : Option (Bor (List ℕ)) → Option (List ℕ)
-digits_in = option_map (λ digits. digits.now)
-
-abbrev pub AreDigits : Option (List ℕ) → Type 0
-AreDigits None = Unit {0}
-AreDigits (Some digits) = AllDigits 10 digits
 
 -- the part of a time with this unit, if it stands at the front
 abbrev pub part_before : ℕ → List ℕ → List ℕ → Option (List ℕ) × List ℕ

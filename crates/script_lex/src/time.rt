@@ -1,7 +1,8 @@
 // Marks in the week.
 ghost use Rattle.std.specs.Prelude.{◌≡◌, ◌≤◌, length, Some, None, Ok, IfOk, IfErr, if◌then◌else◌};
-ghost use Rattle.script_lex.specs.Spelling.{ATime, is_within, is_up_to, values, mark_of};
-ghost use Rattle.script_lex.specs.Reading.{part_at, time_at, digits_in, AreDigits};
+ghost use Rattle.script_lex.specs.Spelling.{is_within, is_up_to, values};
+ghost use Rattle.script_lex.specs.Reading.{part_at, time_at};
+ghost use Rattle.script_lex.specs.Parts.{digits_in, AreDigits, HasDigits, time_of, mark_in};
 ghost use Rattle.script_lex.specs.Gives.{Gives, left_of};
 
 use crate::refusal::Refusal;
@@ -49,15 +50,9 @@ fn within(digits: Option<&[u8]>, most: u8) -> Option<Option<u8>>
 }
 
 // The mark, if each part is within its bound.
-fn mark_of(parts: Parts<'_>) -> Option<TimeMark>
-    requires day { AreDigits (digits_in parts.day) }
-    requires hour { AreDigits (digits_in parts.hour) }
-    requires minute { AreDigits (digits_in parts.minute) }
-    requires second { AreDigits (digits_in parts.second) }
-    ensures { result
-        ≡ (if is_within (ATime (digits_in parts.entry.day) (digits_in parts.entry.hour) (digits_in parts.entry.minute) (digits_in parts.entry.second))
-        then Some (mark_of (digits_in parts.entry.day) (digits_in parts.entry.hour) (digits_in parts.entry.minute) (digits_in parts.entry.second))
-        else None) }
+fn mark_in(parts: Parts<'_>) -> Option<TimeMark>
+    requires { HasDigits parts }
+    ensures { result ≡ (if is_within (time_of parts.entry) then Some (mark_in parts.entry) else None) }
 {
     Some(TimeMark {
         day: within(parts.day, 7)?,
@@ -72,16 +67,11 @@ fn timed<'a>(
     rest: &'a [u8],
     left: usize,
 ) -> Result<(TokenKind, &'a [u8]), Refusal>
-    requires day { AreDigits (digits_in parts.day) }
-    requires hour { AreDigits (digits_in parts.hour) }
-    requires minute { AreDigits (digits_in parts.minute) }
-    requires second { AreDigits (digits_in parts.second) }
+    requires { HasDigits parts }
     ensures within { IfErr result (λ e. left_of e ≤ left) }
-    ensures gives { Gives (λ x. x.0) (λ x. x.1.now)
-        (Ok (ATime (digits_in parts.entry.day) (digits_in parts.entry.hour) (digits_in parts.entry.minute) (digits_in parts.entry.second), rest.now))
-        left result }
+    ensures gives { Gives (λ x. x.0) (λ x. x.1.now) (Ok (time_of parts.entry, rest.now)) left result }
 {
-    match mark_of(parts) {
+    match mark_in(parts) {
         Some(mark) => Ok((TokenKind::Time(mark), rest)),
         None => Err(Refusal::NumberTooLarge(left)),
     }
