@@ -1,6 +1,7 @@
 //! The grammar: the tree of a script, and the one list of tokens that spells it.
 #![tactic(auto)]
 
+pub mod law;
 pub mod predicate;
 mod spell_predicate;
 mod spell_script;
