@@ -1,11 +1,11 @@
 -- The parts of a predicate, from a Vec of them.
-use Rattle.std.proofs.Common.{◌≡◌, ℕ, List, [], ◌∷◌, Bool, ◌&&◌, ◌||◌, refl, ap, ◌∙◌}
+use Rattle.std.proofs.Common.{◌≡◌, ℕ, List, [], ◌∷◌, Bool, ◌&&◌, ◌||◌, refl, sym, ap, ◌∙◌}
 use Rattle.std.specs.Prelude.{map}
 use Rattle.std.specs.Global.{Vec}
 use Rattle.std.specs.List.{list_all, list_any}
 use Rattle.time_pred.specs.declared.pred.Pred as pred
 use Rattle.time_pred.specs.declared.pred.Pred.TheBlock as block
-use Rattle.time_pred.specs.Predicates.{Tree, Many, more, parts_of, holds, all_hold, some_holds, is_always, is_never, all_always, some_always, all_never, some_never}
+use Rattle.time_pred.specs.Predicates.{Tree, Many, All, Any, more, parts_of, holds, all_hold, some_holds, is_always, is_never, all_always, some_always, all_never, some_never}
 use Rattle.time_pred.specs.View.{view_pred, view_parts}
 
 parts_row : (n : _) (row : pred.Row_of-Pred n) → view_parts row ≡ parts_of (map view_pred (pred.items-the_row-Pred n row))
@@ -58,3 +58,10 @@ all_is_never v = ap some_never (parts_seen v) ∙ never_some v.items
 
 pub any_is_never : (v : Vec pred.Pred) → is_never (view_pred (pred.Any v)) ≡ list_all (λ p. is_never (view_pred p)) v.items
 any_is_never v = ap all_never (parts_seen v) ∙ never_all v.items
+
+-- predicates of the same parts are the same
+pub same_all : (v w : Vec pred.Pred) → map view_pred v.items ≡ map view_pred w.items → view_pred (pred.All v) ≡ view_pred (pred.All w)
+same_all v w same = ap All (parts_seen v ∙ ap parts_of same ∙ sym (parts_seen w))
+
+pub same_any : (v w : Vec pred.Pred) → map view_pred v.items ≡ map view_pred w.items → view_pred (pred.Any v) ≡ view_pred (pred.Any w)
+same_any v w same = ap Any (parts_seen v ∙ ap parts_of same ∙ sym (parts_seen w))

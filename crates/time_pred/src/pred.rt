@@ -1,11 +1,13 @@
 // Predicates, by form and at a second of the week.
-ghost use Rattle.std.specs.Prelude.{◌≡◌, ℕ, IsTrue, true};
+ghost use Rattle.std.specs.Prelude.{◌≡◌, ℕ, IsTrue, true, IfOk, map};
 ghost use Rattle.std.specs.List.{list_all, list_any};
 ghost use Rattle.time_pred.specs.Predicates.{holds, is_always, is_never};
 ghost use Rattle.time_pred.specs.View.{view_pred};
 
 use crate::mark::{is_at, is_between};
 use fixed_text::{TimeMark, WeekSecond};
+use liq_base::Memory;
+use std::alloc::Global;
 
 /// A predicate of a script on the time of the week. `docs/language.md`, "Predicates and time", says when it holds.
 #[derive(Debug, Drop)]
@@ -49,6 +51,22 @@ impl Pred {
         }
     }
 
+    /// A copy of the predicate.
+    #[cycle(copy)]
+    pub fn copy(&self, alloc: Global) -> Result<Pred, Memory>
+        ensures { IfOk result (λ copy. view_pred copy ≡ view_pred self.now) }
+    {
+        match self {
+            Pred::Always => Ok(Pred::Always),
+            Pred::Never => Ok(Pred::Never),
+            Pred::At(mark) => Ok(Pred::At(*mark)),
+            Pred::Between(from, to) => Ok(Pred::Between(*from, *to)),
+            Pred::Not(inner) => Ok(Pred::Not(Box::new(alloc, inner.copy(alloc)?)?)),
+            Pred::All(parts) => Ok(Pred::All(copies(alloc, parts)?)),
+            Pred::Any(parts) => Ok(Pred::Any(copies(alloc, parts)?)),
+        }
+    }
+
     /// Whether the predicate is always true by its form. A mark or an interval is not, also one that covers its period.
     /// It takes no memory.
     pub fn always(&self) -> bool
@@ -57,6 +75,17 @@ impl Pred {
     {
         is_always(self)
     }
+}
+
+#[cycle(copy)]
+fn copies(alloc: Global, parts: &[Pred]) -> Result<Vec<Pred>, Memory>
+    ensures { IfOk result (λ copies. map view_pred copies.items ≡ map view_pred parts.now) }
+{
+    let mut copies = Vec::new(alloc);
+    for part in parts {
+        copies.push(part.copy(alloc)?)?;
+    }
+    Ok(copies)
 }
 
 #[cycle(holds)]

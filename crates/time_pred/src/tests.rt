@@ -312,6 +312,7 @@ fn forms_are_joined(rt: HostRuntime) -> Result<(), Fail> {
         ),
     ];
     for (name, pred, always, at_noon, at_one) in rows {
+        let pred = pred.copy(alloc)?;
         assert_eq!(rt; pred.always(), always, "{name}");
         check(
             &rt,
