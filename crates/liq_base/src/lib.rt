@@ -1,9 +1,29 @@
-//! What every other crate stands on: owned texts, want of memory, and the limits of the language.
+//! What every other crate stands on: owned texts, want of memory, the limits of the language, and
+//! the outside as the program sees it (byte sinks, shelves of files, gates).
 #![tactic(auto)]
 
+mod closed;
+mod gate;
 pub mod limits;
+mod mem_shelf;
+mod mem_sink;
 mod memory;
+mod named_sink;
+mod shelf;
+mod sink;
+mod sure_shelf;
+mod sure_sink;
+#[cfg(test)]
+mod tests;
 mod text;
 
+pub use gate::{FreeGate, Gate};
+pub use mem_shelf::{FailingAppend, MemShelf};
+pub use mem_sink::MemSink;
 pub use memory::{Kind, Memory};
+pub use named_sink::NamedSink;
+pub use shelf::{Fetched, Shelf, ShelfFault};
+pub use sink::{Failed, Sink};
+pub use sure_shelf::SureShelf;
+pub use sure_sink::SureSink;
 pub use text::Text;

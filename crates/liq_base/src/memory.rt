@@ -34,3 +34,17 @@ pub enum Kind {
     Mono,
     Stereo,
 }
+
+impl Kind {
+    ghost use Rattle.liq_base.specs.Kinds.{channels_of};
+
+    /// How many channels a source of this kind has.
+    pub fn channels(self) -> u16
+        ensures count { result ≡ channels_of self }
+    {
+        match self {
+            Kind::Mono => 1,
+            Kind::Stereo => 2,
+        }
+    }
+}

@@ -1,0 +1,42 @@
+-- The sound of an audio file, and its cells in a source of either kind.
+use Rattle.std.specs.Prelude.{◌≡◌, ◌<◌, ℕ, ℤ, pos, ◌+◌, ◌+ℤ◌, ◌*◌, ◌/◌, ◌%◌, List, length, slice_index_or, nat_eq, int_div}
+use Rattle.liq_base.specs.Kinds.{channels_of}
+use Rattle.liq_base.specs.declared.memory.Kind.{Kind}
+use Rattle.liq_base.specs.declared.memory.Kind.TheVariants.{Mono, Stereo}
+use Rattle.frame_core.specs.declared.cell.Cell.{Cell}
+
+-- the samples of a file, left before right where it is stereo
+pub record Sound : Type 0 where
+  pub kind : Kind
+  pub samples : List ℤ
+
+-- how many samples each channel has
+abbrev pub length_of : Sound → ℕ
+length_of sound = length sound.samples / channels_of sound.kind
+
+-- whole blocks alone, and at least one
+pub record IsSound (sound : Sound) : Type 0 where
+  pub whole_blocks : length sound.samples % channels_of sound.kind ≡ 0
+  pub some : 0 < length_of sound
+
+abbrev pub sample_at : List ℤ → ℕ → ℤ
+sample_at samples at = slice_index_or samples at (pos 0)
+
+-- the left and the right sample of a file at a place, in a source of this kind; the right one is 0 in mono
+abbrev pub left_at : Kind → List ℤ → Kind → ℕ → ℤ
+left_at Mono samples kind at = sample_at samples at
+left_at Stereo samples Stereo at = sample_at samples (2 * at)
+left_at Stereo samples Mono at = int_div (sample_at samples (2 * at) +ℤ sample_at samples (2 * at + 1)) (pos 2)
+
+abbrev pub right_at : Kind → List ℤ → Kind → ℕ → ℤ
+right_at source samples Mono at = pos 0
+right_at Mono samples Stereo at = sample_at samples at
+right_at Stereo samples Stereo at = sample_at samples (2 * at + 1)
+
+-- the cell of a file at a place, in a source of this kind: a file begins its track at place 0
+abbrev pub cell_of : Sound → Kind → ℕ → Cell
+cell_of sound kind at = record {
+  left = left_at sound.kind sound.samples kind at;
+  right = right_at sound.kind sound.samples kind at;
+  first = nat_eq at 0;
+}

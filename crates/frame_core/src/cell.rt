@@ -1,0 +1,14 @@
+// One sample of each channel.
+
+/// One sample of each channel, at one instant of a source.
+#[derive(Clone, Copy, Debug, PartialEq, Eq, Hash)]
+pub struct Cell {
+    /// The left sample; in a mono source the only one.
+    pub left: i16,
+
+    /// The right sample; 0 in a mono source.
+    pub right: i16,
+
+    /// Whether a track begins here.
+    pub first: bool,
+}

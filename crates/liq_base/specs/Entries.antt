@@ -1,0 +1,43 @@
+-- What a shelf in memory stores.
+use Rattle.std.specs.Prelude.{◌≡◌, ℕ, Bool, true, false, cond, refl, List, [], ◌∷◌, ◌++◌, map, Option, Some, None, if◌then◌else◌, string_bytes, String, Vec}
+use Rattle.std.specs.Ordering.{nat_cmp}
+use Rattle.std.specs.Cmp.Lexicographic.{slice_cmp, nat_list_cmp_total, texts_ties}
+use Rattle.std.specs.FinMap.{from_entries, get-from_entries, find}
+use Rattle.std.specs.declared.alloc.Global.{Global}
+use Rattle.std.proofs.Common.{sym, ap, ◌∙◌}
+use Rattle.liq_base.specs.Files.{Files, file_at}
+use Rattle.std.specs.Str.{bytes_eq}
+use Rattle.liq_base.specs.declared.closed.Closed.{Closed, End, File'}
+
+abbrev pub entries : Closed → List (List ℕ × List ℕ)
+entries End = []
+entries (File' p name bytes next) = (string_bytes name, bytes.items) ∷ entries next
+
+abbrev pub stored : List ℕ → List (List ℕ × List ℕ) → Option (List ℕ)
+stored name [] = None
+stored name (entry ∷ entries) = if bytes_eq name entry.0 then Some entry.1 else stored name entries
+
+abbrev pub given_entries : List (String Global × Vec ℕ Global) → List (List ℕ × List ℕ)
+given_entries given = map (λ e. (string_bytes e.0, e.1.items)) given
+
+-- the files of a shelf: those that were closed hide those that were given
+abbrev pub files_of : Closed → List (String Global × Vec ℕ Global) → Files
+files_of closed given = from_entries (entries closed ++ given_entries given)
+
+found : (all : List (List ℕ × List ℕ)) (name : List ℕ) → find (slice_cmp nat_cmp) name all ≡ stored name all
+found [] name = refl
+found (e ∷ es) name =
+    ap (λ b. cond b (Some e.1) (find (slice_cmp nat_cmp) name es)) (sym (texts_ties name e.0)) ∙ ap (cond (bytes_eq name e.0) (Some e.1)) (found es name)
+
+-- the newest entry is the file
+pub stored_is_file : (all : List (List ℕ × List ℕ)) (name : List ℕ) → file_at (from_entries all) name ≡ stored name all
+stored_is_file all name = get-from_entries nat_list_cmp_total all name ∙ found all name
+
+abbrev pub first_of : Option (List ℕ) → Option (List ℕ) → Option (List ℕ)
+first_of None other = other
+first_of (Some bytes) other = Some bytes
+
+pub stored_first : (a b : List (List ℕ × List ℕ)) (name : List ℕ) → stored name (a ++ b) ≡ first_of (stored name a) (stored name b)
+stored_first [] b name = refl
+stored_first (e ∷ a) b name =
+    elim (bytes_eq name e.0) as (λ t. cond t (Some e.1) (stored name (a ++ b)) ≡ first_of (cond t (Some e.1) (stored name a)) (stored name b)) [ true ↦ refl | false ↦ stored_first a b name ]

@@ -1,0 +1,107 @@
+-- What clauses see of the shelves in memory, and what a call makes of them.
+use Rattle.std.specs.Prelude.{ℕ, refl, Bool, ◌||◌, ◌==◌, List, [], ◌∷◌, length, map, filter, Option, Some, None, Result, Ok, Err, if◌then◌else◌, nat_le, nat_lt}
+use Rattle.std.specs.List.{list_any}
+use Rattle.std.specs.Coded.{Coded, code_by, coded×, coded_ℕ, coded_list}
+use Rattle.std.specs.FinMap as map
+use Rattle.liq_base.specs.Files.{Files, file_at, with_file}
+use Rattle.liq_base.specs.SinkStates.{one_more, empty_sink, NamedState}
+use Rattle.liq_base.specs.declared.shelf.Fetched.{Fetched}
+use Rattle.liq_base.specs.declared.shelf.Fetched.TheVariants.{Found, Missing, TooLarge}
+use Rattle.liq_base.specs.declared.shelf.ShelfFault.{ShelfFault}
+use Rattle.liq_base.specs.declared.shelf.ShelfFault.TheVariants.{Failed}
+use Rattle.liq_base.specs.declared.mem_shelf.FailingAppend.{FailingAppend}
+
+-- whether the call of this number is listed
+abbrev pub is_listed : List ℕ → ℕ → Bool
+is_listed calls call = list_any (λ listed. listed == call) calls
+
+-- a count after a call that failed or did not
+abbrev pub raised : ℕ → Bool → ℕ
+raised count failed = if failed then one_more count else count
+
+-- the files; the reads, creations and closings so far; those that are listed to fail, and the appends; the two counts of faults
+pub record ShelfState : Type 0 where
+  pub files : Files
+  pub reads : ℕ
+  pub creates : ℕ
+  pub closes : ℕ
+  pub failing_reads : List ℕ
+  pub failing_creates : List ℕ
+  pub failing_closes : List ℕ
+  pub failing_appends : List FailingAppend
+  pub read_faults : ℕ
+  pub write_faults : ℕ
+
+abbrev pub files_code : Coded Files
+files_code = map.code (coded_list coded_ℕ) (coded_list coded_ℕ)
+
+abbrev append_code : Coded FailingAppend
+append_code = code_by (ℕ × (ℕ × ℕ)) (coded× coded_ℕ (coded× coded_ℕ coded_ℕ)) (λ f. (f.sink, (f.call, f.taken))) (λ p. record { sink = p.0; call = p.1.0; taken = p.1.1 }) (λ _. refl)
+
+-- a shelf is stored as its files, the calls made, those listed, and the counts of faults
+abbrev pub shelf_code : Coded ShelfState
+shelf_code =
+    code_by (Files × ((ℕ × (ℕ × ℕ)) × ((List ℕ × (List ℕ × (List ℕ × List FailingAppend))) × (ℕ × ℕ))))
+      (coded× files_code (coded× (coded× coded_ℕ (coded× coded_ℕ coded_ℕ))
+        (coded× (coded× (coded_list coded_ℕ) (coded× (coded_list coded_ℕ) (coded× (coded_list coded_ℕ) (coded_list append_code)))) (coded× coded_ℕ coded_ℕ))))
+      (λ s. (s.files, ((s.reads, (s.creates, s.closes)),
+        ((s.failing_reads, (s.failing_creates, (s.failing_closes, s.failing_appends))), (s.read_faults, s.write_faults)))))
+      (λ p. record {
+          files = p.0; reads = p.1.0.0; creates = p.1.0.1.0; closes = p.1.0.1.1;
+          failing_reads = p.1.1.0.0; failing_creates = p.1.1.0.1.0; failing_closes = p.1.1.0.1.1.0; failing_appends = p.1.1.0.1.1.1;
+          read_faults = p.1.1.1.0; write_faults = p.1.1.1.1 })
+      (λ _. refl)
+
+-- a shelf of which no call was made, and none is listed
+abbrev pub untouched : Files → ShelfState
+untouched files = record {
+    files = files; reads = 0; creates = 0; closes = 0;
+    failing_reads = []; failing_creates = []; failing_closes = []; failing_appends = [];
+    read_faults = 0; write_faults = 0
+  }
+
+-- what a read of this file answers
+abbrev pub fetched : Option (List ℕ) → ℕ → Fetched
+fetched None most = Missing
+fetched (Some bytes) most = if nat_le (length bytes) most then Found else TooLarge
+
+abbrev pub read_fails : ShelfState → Bool
+read_fails shelf = is_listed shelf.failing_reads shelf.reads
+
+abbrev pub create_fails : ShelfState → Bool
+create_fails shelf = is_listed shelf.failing_creates shelf.creates
+
+abbrev pub close_fails : ShelfState → Bool
+close_fails shelf = is_listed shelf.failing_closes shelf.closes
+
+-- what a read answers where memory is not refused
+abbrev pub read_answer : ShelfState → List ℕ → ℕ → Result Fetched ShelfFault
+read_answer shelf name most = if read_fails shelf then Err Failed else Ok (fetched (file_at shelf.files name) most)
+
+-- the shelf after a read
+abbrev pub after_read : ShelfState → ShelfState
+after_read shelf = record shelf { reads = one_more shelf.reads; read_faults = raised shelf.read_faults (read_fails shelf) }
+
+-- the shelf after a creation
+abbrev pub after_create : ShelfState → ShelfState
+after_create shelf = record shelf { creates = one_more shelf.creates; write_faults = raised shelf.write_faults (create_fails shelf) }
+
+-- the listed appends of the sink of this number, each with what it takes
+abbrev pub appends_of : ℕ → List FailingAppend → List (ℕ × ℕ)
+appends_of sink fails = map (λ fail. (fail.call, fail.taken)) (filter (λ fail. fail.sink == sink) fails)
+
+-- the sink that a creation makes
+abbrev pub created_sink : ShelfState → List ℕ → ℕ → NamedState
+created_sink shelf name room = record { name = name; sink = empty_sink room (appends_of shelf.creates shelf.failing_appends) }
+
+-- the files after a closing that failed or did not
+abbrev pub files_after : Bool → Files → NamedState → Files
+files_after failed files out = if failed then files else with_file files out.name out.sink.held
+
+-- the shelf after a closing
+abbrev pub after_close : ShelfState → NamedState → ShelfState
+after_close shelf out = record shelf {
+    files = files_after (close_fails shelf) shelf.files out;
+    closes = one_more shelf.closes;
+    write_faults = raised shelf.write_faults (close_fails shelf || nat_lt 0 out.sink.faults)
+  }

@@ -1,0 +1,77 @@
+-- What clauses see of the sinks in memory, and what a call makes of them.
+use Rattle.std.specs.Prelude.{◌≡◌, ◌≤◌, ℕ, ◌+◌, ◌-◌, ◌^◌, List, [], ◌∷◌, ◌++◌, take, length, min, Bool, true, false, Option, Some, None, is_none, if◌then◌else◌, nat_eq, nat_le}
+
+-- one more, as far as a u64 counts
+abbrev pub one_more : ℕ → ℕ
+one_more count = min (count + 1) (2 ^ 64 - 1)
+
+-- after how many bytes this call fails, where it is listed; of a call that is listed twice the first place counts
+abbrev pub listed : List (ℕ × ℕ) → ℕ → Option ℕ
+listed [] call = None
+listed (fail ∷ fails) call = if nat_eq fail.0 call then Some fail.1 else listed fails call
+
+-- where a piece of this size stops, with so much room left: at the listed byte, at once for want of room, or nowhere
+abbrev pub stop : Option ℕ → ℕ → ℕ → Option ℕ
+stop (Some at) left size = Some (min at (min size left))
+stop None left size = if nat_le size left then None else Some 0
+
+-- what is taken of a piece that stops there
+abbrev pub taken_at : Option ℕ → List ℕ → List ℕ
+taken_at (Some at) piece = take at piece
+taken_at None piece = piece
+
+-- the bytes held and the room for them, the calls that are listed to fail, and how many calls were made and failed
+pub record SinkState : Type 0 where
+  pub held : List ℕ
+  pub room : ℕ
+  pub fails : List (ℕ × ℕ)
+  pub calls : ℕ
+  pub faults : ℕ
+
+-- a sink to which nothing was appended
+abbrev pub empty_sink : ℕ → List (ℕ × ℕ) → SinkState
+empty_sink room fails = record { held = []; room = room; fails = fails; calls = 0; faults = 0 }
+
+-- where this piece stops
+abbrev pub stops : SinkState → List ℕ → Option ℕ
+stops sink piece = stop (listed sink.fails sink.calls) (sink.room - length sink.held) (length piece)
+
+abbrev pub faults_after : Option ℕ → ℕ → ℕ
+faults_after None faults = faults
+faults_after (Some at) faults = one_more faults
+
+-- the sink after a call
+abbrev pub appended : SinkState → List ℕ → SinkState
+appended sink piece = record {
+    held = sink.held ++ taken_at (stops sink piece) piece;
+    room = sink.room; fails = sink.fails;
+    calls = one_more sink.calls;
+    faults = faults_after (stops sink piece) sink.faults
+  }
+
+-- a sink that a shelf in memory made, with its name
+pub record NamedState : Type 0 where
+  pub name : List ℕ
+  pub sink : SinkState
+
+-- what such a sink tells of its bytes
+abbrev pub named_held : NamedState → Option (List ℕ)
+named_held named = Some named.sink.held
+
+-- and of its room
+abbrev pub named_room : NamedState → Option ℕ
+named_room named = Some (named.sink.room - length named.sink.held)
+
+-- a sink that never fails
+pub record SureState : Type 0 where
+  pub name : List ℕ
+  pub held : List ℕ
+  pub room : ℕ
+
+-- what it tells of its bytes
+abbrev pub sure_held : SureState → Option (List ℕ)
+sure_held sure = Some sure.held
+
+-- and of its room
+abbrev pub sure_room : SureState → Option ℕ
+sure_room sure = Some (sure.room - length sure.held)

@@ -1,0 +1,237 @@
+// A shelf in memory, whose calls fail where it is told to.
+ghost use Rattle.std.specs.Prelude.{◌≡◌, ◌≢◌, ◌≤◌, ◌<◌, length, IsSomeAnd, ◌++◌, ◌∷◌, [], not, false, is_ok, MatchOption, IfOk, OnOk, OnErr, IsErrOf, Some, None, Ok, Err};
+ghost use Rattle.std.specs.Option.{ForSome};
+ghost use Rattle.std.specs.FinMap.{from_entries};
+ghost use Rattle.liq_base.specs.Counts.{Rose};
+ghost use Rattle.liq_base.specs.Files.{file_at, Found, Closed as ClosedAs, ClosedPart};
+ghost use Rattle.liq_base.specs.SinkStates.{named_held};
+ghost use Rattle.liq_base.specs.Entries.{given_entries};
+ghost use Rattle.liq_base.specs.ShelfStates.{untouched, read_answer, read_fails, create_fails, close_fails, after_read, after_create, after_close, created_sink, raised, appends_of};
+
+use crate::closed::{Closed, Entry, find_file};
+use crate::named_sink::NamedSink;
+use crate::{Failed, Fetched, MemSink, Memory, Shelf, ShelfFault};
+use std::alloc::Global;
+use std::marker::Model;
+use std::mem;
+
+/// A shelf in memory. It tells its files, and its sinks tell their bytes, name and room left.
+///
+/// Reads, creations and closings are each counted from 0 since the shelf was made, the appends of
+/// a sink from 0 since its creation. A call fails exactly where it is listed. The read count rises
+/// exactly at the listed reads; the write count rises exactly at the listed creations and closings
+/// and where a sink is closed that had failed. A closing that fails leaves the files as they were.
+#[derive(Debug, Drop)]
+pub struct MemShelf {
+    alloc: Global,
+    given: Vec<(String, Vec<u8>)>,
+    closed: Closed,
+    reads: u64,
+    creates: u64,
+    closes: u64,
+    failing_reads: Vec<u64>,
+    failing_creates: Vec<u64>,
+    failing_closes: Vec<u64>,
+    failing_appends: Vec<FailingAppend>,
+    read_faults: u64,
+    write_faults: u64,
+}
+
+/// A listed append: call number `call` of the sink of creation number `sink` fails after `taken`
+/// bytes.
+#[derive(Clone, Copy, Debug, PartialEq, Eq, Hash)]
+pub struct FailingAppend {
+    sink: u32,
+    call: u64,
+    taken: u64,
+}
+
+impl Model for MemShelf {
+    ghost use Rattle.liq_base.specs.Entries.{files_of};
+    ghost use Rattle.liq_base.specs.ShelfStates.{ShelfState, shelf_code};
+
+    ghost Value = { ShelfState };
+
+    ghost coded = { shelf_code };
+
+    ghost view = { λ s. record {
+        files = files_of s.closed s.given.items; reads = s.reads; creates = s.creates; closes = s.closes;
+        failing_reads = s.failing_reads.items; failing_creates = s.failing_creates.items;
+        failing_closes = s.failing_closes.items; failing_appends = s.failing_appends.items;
+        read_faults = s.read_faults; write_faults = s.write_faults } };
+}
+
+impl MemShelf {
+    /// A shelf with these files, of which no call fails. Where a name stands twice, its first
+    /// place counts. It takes no memory.
+    pub fn new(alloc: Global, files: Vec<(String, Vec<u8>)>) -> MemShelf
+        ensures untouched { result ≡ untouched (from_entries (given_entries files.items)) }
+    {
+        MemShelf {
+            alloc,
+            given: files,
+            closed: Closed::End,
+            reads: 0,
+            creates: 0,
+            closes: 0,
+            failing_reads: Vec::new(alloc),
+            failing_creates: Vec::new(alloc),
+            failing_closes: Vec::new(alloc),
+            failing_appends: Vec::new(alloc),
+            read_faults: 0,
+            write_faults: 0,
+        }
+    }
+
+    /// Lists a read that fails, by its number.
+    pub fn fail_read(&mut self, call: u64) -> Result<(), Memory>
+        ensures listed { OnOk result (self.new ≡ record self.old { failing_reads = self.old.failing_reads ++ call ∷ [] }) }
+        ensures unchanged { OnErr result (self.new ≡ self.old) }
+    {
+        self.failing_reads.push(call)?;
+        Ok(())
+    }
+
+    /// Lists a creation that fails, by its number.
+    pub fn fail_create(&mut self, call: u64) -> Result<(), Memory>
+        ensures listed { OnOk result (self.new ≡ record self.old { failing_creates = self.old.failing_creates ++ call ∷ [] }) }
+        ensures unchanged { OnErr result (self.new ≡ self.old) }
+    {
+        self.failing_creates.push(call)?;
+        Ok(())
+    }
+
+    /// Lists a closing that fails, by its number.
+    pub fn fail_close(&mut self, call: u64) -> Result<(), Memory>
+        ensures listed { OnOk result (self.new ≡ record self.old { failing_closes = self.old.failing_closes ++ call ∷ [] }) }
+        ensures unchanged { OnErr result (self.new ≡ self.old) }
+    {
+        self.failing_closes.push(call)?;
+        Ok(())
+    }
+
+    /// Lists an append that fails after `taken` bytes: call number `call` of the sink that creation
+    /// number `sink` makes. A sink takes its list over when it is made.
+    pub fn fail_append(&mut self, sink: u32, call: u64, taken: u64) -> Result<(), Memory>
+        ensures listed { OnOk result (self.new ≡ record self.old { failing_appends = self.old.failing_appends ++ (record { sink = sink; call = call; taken = taken }) ∷ [] }) }
+        ensures unchanged { OnErr result (self.new ≡ self.old) }
+    {
+        self.failing_appends.push(FailingAppend { sink, call, taken })?;
+        Ok(())
+    }
+
+    /// The bytes of the file of this name, if there is one.
+    pub fn get(&self, name: &str) -> Option<&[u8]>
+        ensures file { MatchOption result (file_at self.now.files name.now ≡ None)
+            (λ bytes. file_at self.now.files name.now ≡ Some bytes.now) }
+    {
+        find_file(&self.closed, &self.given, name)
+    }
+}
+
+impl Shelf for MemShelf {
+    type Out = NamedSink;
+
+    ghost use Rattle.std.specs.Prelude.{Some};
+
+    ghost files = { λ s. Some s.files };
+
+    ghost read_count = { λ s. s.read_faults };
+
+    ghost write_count = { λ s. s.write_faults };
+
+    fn read(&mut self, name: &str, into: &mut Vec<u8>, most: u64) -> Result<Fetched, ShelfFault>
+        ensures next { self.new ≡ after_read self.old }
+        ensures answer { result ≢ Err ShelfFault.Memory → result ≡ read_answer self.old name.now most }
+        ensures memory { result ≡ Err ShelfFault.Memory → read_answer self.old name.now most ≡ Ok Fetched.Found }
+        ensures found { result ≡ Ok Fetched.Found → Found (Some self.old.files) name.now most into.old.items into.new.items }
+        ensures missing { result ≡ Ok Fetched.Missing → ForSome (Some self.old.files) (λ files. file_at files name.now ≡ None) }
+        ensures too_large { result ≡ Ok Fetched.TooLarge → ForSome (Some self.old.files) (λ files. IsSomeAnd (file_at files name.now) (λ bytes. most < length bytes)) }
+        ensures otherwise { result ≢ Ok Fetched.Found → into.new.items ≡ into.old.items }
+        ensures cause { IsErrOf result ShelfFault.Failed → Rose self.old.read_faults self.new.read_faults }
+        ensures files { Some self.new.files ≡ Some self.old.files }
+        ensures reads { self.old.read_faults ≤ self.new.read_faults }
+        ensures writes { self.old.write_faults ≤ self.new.write_faults }
+    {
+        let fails = self.failing_reads.contains(&self.reads);
+        self.reads = self.reads.saturating_add(1);
+        self.read_faults = raise(self.read_faults, fails);
+        if fails {
+            return Err(ShelfFault::Failed);
+        }
+        let Some(bytes) = find_file(&self.closed, &self.given, name) else {
+            return Ok(Fetched::Missing);
+        };
+        if bytes.len() as u64 > most {
+            return Ok(Fetched::TooLarge);
+        }
+        match into.extend_from_slice(bytes) {
+            Ok(()) => Ok(Fetched::Found),
+            Err(_) => Err(ShelfFault::Memory),
+        }
+    }
+
+    fn create(&mut self, name: &str, room: u64) -> Result<NamedSink, ShelfFault>
+        ensures next { self.new ≡ after_create self.old }
+        ensures answer { result ≢ Err ShelfFault.Memory → is_ok result ≡ not (create_fails self.old) }
+        ensures memory { result ≡ Err ShelfFault.Memory → create_fails self.old ≡ false }
+        ensures made { IfOk result (λ out. out ≡ created_sink self.old name.now room) }
+        ensures cause { IsErrOf result ShelfFault.Failed → Rose self.old.write_faults self.new.write_faults }
+        ensures reads { self.old.read_faults ≤ self.new.read_faults }
+        ensures writes { self.old.write_faults ≤ self.new.write_faults }
+    {
+        let call = self.creates;
+        let fails = self.failing_creates.contains(&call);
+        self.creates = self.creates.saturating_add(1);
+        self.write_faults = raise(self.write_faults, fails);
+        if fails {
+            return Err(ShelfFault::Failed);
+        }
+        let own = listed_appends(self.alloc, &self.failing_appends, call)?;
+        Ok(NamedSink::new(self.alloc, name, room, own)?)
+    }
+
+    fn close(&mut self, out: NamedSink) -> Result<(), Failed>
+        ensures next { self.new ≡ after_close self.old out }
+        ensures answer { is_ok result ≡ not (close_fails self.old) }
+        ensures closed { OnOk result (ClosedAs (Some self.old.files) (Some out.name) (named_held out) (Some self.new.files)) }
+        ensures part { OnErr result (ClosedPart (Some self.old.files) (Some out.name) (named_held out) (Some self.new.files)) }
+        ensures cause { OnErr result (Rose self.old.write_faults self.new.write_faults) }
+        ensures failed_sink { 0 < out.sink.faults → Rose self.old.write_faults self.new.write_faults }
+        ensures reads { self.old.read_faults ≤ self.new.read_faults }
+        ensures writes { self.old.write_faults ≤ self.new.write_faults }
+    {
+        let fails = self.failing_closes.contains(&self.closes);
+        self.closes = self.closes.saturating_add(1);
+        self.write_faults = raise(self.write_faults, fails || out.faults() > 0);
+        if fails {
+            return Err(Failed);
+        }
+        let mut entry = out.into_entry();
+        entry.next = mem::replace(&mut self.closed, Closed::End);
+        self.closed = Closed::File(entry);
+        Ok(())
+    }
+}
+
+/// The listed appends of the sink of this number, each with what it takes.
+fn listed_appends(
+    alloc: Global,
+    fails: &[FailingAppend],
+    sink: u64,
+) -> Result<Vec<(u64, u64)>, Memory>
+    ensures { IfOk result (λ own. own.items ≡ appends_of sink fails.now) }
+{
+    let own = fails
+        .iter()
+        .filter(|fail| u64::from(fail.sink) == sink)
+        .map(|fail| (fail.call, fail.taken));
+    Ok(own.collect(alloc)?)
+}
+
+/// A count after a call that failed or did not.
+fn raise(count: u64, failed: bool) -> u64
+    ensures { result ≡ raised count failed }
+{
+    if failed { count.saturating_add(1) } else { count }
+}

@@ -1,0 +1,132 @@
+// A byte sink in memory, with room for so many bytes, that fails where it is told to.
+ghost use Rattle.std.specs.Prelude.{◌≡◌, ◌≤◌, length, Option, Some, None, is_ok, is_none, IfOk, OnOk, OnErr};
+ghost use Rattle.liq_base.specs.Counts.{Rose};
+ghost use Rattle.liq_base.specs.Pieces.{HasRoom, Took, TookPart};
+ghost use Rattle.liq_base.specs.SinkStates.{appended, stops, stop, listed, empty_sink};
+
+use crate::{Failed, Memory, Sink};
+use std::alloc::Global;
+use std::marker::Model;
+
+/// A byte sink in memory. It tells its bytes, and no room left.
+///
+/// A call that is listed takes as many bytes as listed, cut to the piece and to the room, and
+/// fails; a piece past the room fails with nothing taken. Its count of faults rises exactly there.
+#[derive(Debug, Drop)]
+pub struct MemSink {
+    bytes: Vec<u8>,
+    room: u64,
+    fails: Vec<(u64, u64)>,
+    calls: u64,
+    faults: u64,
+}
+
+impl Model for MemSink {
+    ghost use Rattle.std.specs.Prelude.{◌≤◌, vec_len, vec_capacity};
+    ghost use Rattle.liq_base.specs.SinkStates.{SinkState};
+
+    ghost Value = { SinkState };
+
+    ghost view = { λ s. record { held = s.bytes.items; room = s.room; fails = s.fails.items; calls = s.calls; faults = s.faults } };
+
+    ghost invariant = { λ s. (vec_len s.bytes ≤ s.room) × (s.room ≤ vec_capacity s.bytes) };
+}
+
+impl MemSink {
+    /// A sink that reserves room for so many bytes. Its call number `k`, counted from 0, fails
+    /// after `j` bytes where `(k, j)` is listed; of a call that is listed twice the first counts.
+    pub fn new(alloc: Global, room: u64, fails: Vec<(u64, u64)>) -> Result<MemSink, Memory>
+        ensures empty { IfOk result (λ sink. sink ≡ empty_sink room fails.items) }
+    {
+        let bytes = Vec::with_capacity(alloc, room as usize)?;
+        Ok(MemSink {
+            bytes,
+            room,
+            fails,
+            calls: 0,
+            faults: 0,
+        })
+    }
+
+    /// The bytes that were taken.
+    pub fn held(&self) -> &[u8]
+        ensures held { result.now ≡ self.now.held }
+    {
+        &self.bytes
+    }
+
+    /// How often a call failed.
+    pub(crate) fn faults(&self) -> u64
+        ensures { result ≡ self.now.faults }
+    {
+        self.faults
+    }
+
+    /// The bytes that were taken, with their memory.
+    pub(crate) fn into_bytes(self) -> Vec<u8>
+        ensures { result.items ≡ self.held }
+    {
+        let MemSink { bytes, fails, .. } = self;
+        drop(fails);
+        bytes
+    }
+}
+
+/// After how many bytes this call fails, where it is listed.
+fn find_stop(fails: &[(u64, u64)], call: u64) -> Option<u64>
+    ensures { result ≡ listed fails.now call }
+{
+    for (at, taken) in fails {
+        if *at == call {
+            return Some(*taken);
+        }
+    }
+    None
+}
+
+/// Where a piece of this size stops.
+fn stop_at(listed_stop: Option<u64>, left: u64, size: u64) -> Option<u64>
+    ensures { result ≡ stop listed_stop left size }
+{
+    match listed_stop {
+        Some(at) => Some(at.min(size.min(left))),
+        None if size <= left => None,
+        None => Some(0),
+    }
+}
+
+impl Sink for MemSink {
+    ghost use Rattle.std.specs.Prelude.{Some, None};
+
+    ghost held = { λ s. Some s.held };
+
+    ghost name = { λ s. None };
+
+    ghost room = { λ s. None };
+
+    ghost faults = { λ s. s.faults };
+
+    fn append(&mut self, piece: &[u8]) -> Result<(), Failed>
+        ensures next { self.new ≡ appended self.old piece.now }
+        ensures answer { is_ok result ≡ is_none (stops self.old piece.now) }
+        ensures took { OnOk result (Took (λ s. Some s.held) (λ s. None) piece.now self.old self.new) }
+        ensures part { OnErr result (TookPart (λ s. Some s.held) (λ s. None) piece.now self.old self.new) }
+        ensures faults { self.old.faults ≤ self.new.faults }
+        ensures cause { OnErr result (Rose self.old.faults self.new.faults) }
+    {
+        let left = self.room - self.bytes.len() as u64;
+        let stop = stop_at(find_stop(&self.fails, self.calls), left, piece.len() as u64);
+        self.calls = self.calls.saturating_add(1);
+        match stop {
+            None => {
+                self.bytes.extend_from_slice(piece).unwrap();
+                Ok(())
+            }
+            Some(at) => {
+                self.bytes.extend_from_slice(&piece[..at as usize]).unwrap();
+                self.faults = self.faults.saturating_add(1);
+                Err(Failed)
+            }
+        }
+    }
+}

@@ -1,0 +1,90 @@
+// A sink of a shelf in memory.
+ghost use Rattle.std.specs.Prelude.{◌≡◌, ◌≤◌, length, IfOk, OnOk, OnErr, is_ok, is_none, string_bytes};
+ghost use Rattle.liq_base.specs.Counts.{Rose};
+ghost use Rattle.liq_base.specs.Pieces.{HasRoom, Took, TookPart};
+ghost use Rattle.liq_base.specs.SinkStates.{appended, listed, empty_sink, named_held, named_room};
+
+use crate::closed::{Closed, Entry};
+use crate::{Failed, MemSink, Memory, Sink};
+use std::alloc::Global;
+use std::marker::Model;
+
+/// A sink that a `MemShelf` made: a byte sink in memory with its name, and with the entry of the
+/// shelf that it becomes when it is closed. It tells its bytes, its name and its room left, so it
+/// fails at the listed calls alone.
+#[derive(Debug, Drop)]
+pub struct NamedSink {
+    name: String,
+    sink: MemSink,
+    entry: Box<Entry>,
+}
+
+impl Model for NamedSink {
+    ghost use Rattle.std.specs.Prelude.{string_bytes};
+    ghost use Rattle.liq_base.specs.SinkStates.{NamedState};
+
+    ghost Value = { NamedState };
+
+    ghost view = { λ s. record { name = string_bytes s.name; sink = s.sink } };
+}
+
+impl NamedSink {
+    /// An empty sink with room reserved, and with its listed calls.
+    pub(crate) fn new(
+        alloc: Global,
+        name: &str,
+        room: u64,
+        fails: Vec<(u64, u64)>,
+    ) -> Result<NamedSink, Memory>
+        ensures { IfOk result (λ out. out ≡ record { name = name.now; sink = empty_sink room fails.items }) }
+    {
+        let sink = MemSink::new(alloc, room, fails)?;
+        let name = String::from_str(alloc, name)?;
+        let entry = Entry::empty(alloc)?;
+        Ok(NamedSink { name, sink, entry })
+    }
+
+    /// How often a call failed.
+    pub(crate) fn faults(&self) -> u64
+        ensures { result ≡ self.now.sink.faults }
+    {
+        self.sink.faults()
+    }
+
+    /// The entry of the shelf, with nothing behind it.
+    pub(crate) fn into_entry(self) -> Box<Entry>
+        ensures name { string_bytes result.value.name ≡ self.name }
+        ensures bytes { result.value.bytes.items ≡ self.sink.held }
+    {
+        let NamedSink { name, sink, entry } = self;
+        let mut entry = entry;
+        entry.name = name;
+        entry.bytes = sink.into_bytes();
+        entry
+    }
+}
+
+impl Sink for NamedSink {
+    ghost use Rattle.std.specs.Prelude.{Some};
+    ghost use Rattle.liq_base.specs.SinkStates.{named_held, named_room};
+
+    ghost held = { named_held };
+
+    ghost name = { λ s. Some s.name };
+
+    ghost room = { named_room };
+
+    ghost faults = { λ s. s.sink.faults };
+
+    fn append(&mut self, piece: &[u8]) -> Result<(), Failed>
+        requires { HasRoom (named_room self.old) (length piece.now) }
+        ensures next { self.new ≡ record self.old { sink = appended self.old.sink piece.now } }
+        ensures answer { is_ok result ≡ is_none (listed self.old.sink.fails self.old.sink.calls) }
+        ensures took { OnOk result (Took named_held named_room piece.now self.old self.new) }
+        ensures part { OnErr result (TookPart named_held named_room piece.now self.old self.new) }
+        ensures faults { self.old.sink.faults ≤ self.new.sink.faults }
+        ensures cause { OnErr result (Rose self.old.sink.faults self.new.sink.faults) }
+    {
+        self.sink.append(piece)
+    }
+}

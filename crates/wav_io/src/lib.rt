@@ -1,0 +1,6 @@
+//! WAV files: the header that is written, and the files that it opens.
+#![tactic(auto)]
+
+mod plain;
+
+pub use plain::Wav;
