@@ -2,7 +2,7 @@
 ghost use Rattle.std.specs.Prelude.{◌≡◌, ℕ, ◌+◌, ◌*◌, ◌/◌, ◌%◌, ◌<◌, ◌≤◌, Some, IfSome, IsSomeAnd};
 ghost use Rattle.fixed_text.specs.Texts.{IsStartText};
 
-/// A second of the week: 0 is Monday at 00:00:00. `docs/language.md`, "Time", has the rule.
+/// A second of the week: 0 is Monday at 00:00:00. `docs/language.md`, "Predicates and time", has the rule.
 #[derive(Clone, Copy, Debug, PartialEq, Eq)]
 pub struct WeekSecond {
     /// Seconds since Monday at 00:00:00, below 604800.
