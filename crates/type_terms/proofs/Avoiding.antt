@@ -1,8 +1,8 @@
 -- Terms in which a variable does not stand.
-use Rattle.std.proofs.Common.{◌≡◌, ◌≢◌, ◌∙◌, sym, ap, subst, refl, ℕ, zero, suc, ◌+◌, ◌<◌, ◌≤◌, Bool, true, false, ◌||◌, List, [], ◌∷◌, ◌++◌, Some, None, Option, eqb, arith, eqb-true, eq-eqb, ne_eqb, ◌⊎◌, inl, inr}
+use Rattle.std.proofs.Common.{◌≡◌, ◌≢◌, ◌∙◌, sym, ap, subst, refl, ℕ, Bool, true, false, ◌||◌, List, Some, None, Option, eqb, eqb-true, eq-eqb, ne_eqb, ◌⊎◌, inl, inr}
 use Rattle.type_terms.specs.Variables.{Variable}
 use Rattle.type_terms.specs.Table.{Avoids, bound_at}
-use Rattle.type_terms.specs.Term.{Term, Terms, base_term, list_term, tuple_term, source_term, variable, terms_of, no_terms, one_more, InTerm, InTerms}
+use Rattle.type_terms.specs.Term.{Term, Terms, base_term, list_term, tuple_term, source_term, variable, no_terms, one_more, InTerm}
 use Rattle.type_terms.specs.declared.ty.Base.{Base}
 use Rattle.type_terms.specs.declared.ty.KindTerm.{KindTerm}
 use Rattle.type_terms.proofs.Terms.{InTerm-map, InTerms-map, any_kind}

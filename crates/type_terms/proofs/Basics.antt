@@ -1,5 +1,5 @@
 -- What is known where a test has come out.
-use Rattle.std.proofs.Common.{Bool, true, false}
+use Rattle.std.proofs.Common.{true, false}
 use Rattle.std.specs.Bool.{OnTrue, OnFalse}
 
 pub on_true : (P : Type 0) → OnTrue true P → P

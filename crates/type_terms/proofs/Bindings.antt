@@ -1,13 +1,13 @@
 -- What a new binding does to a substitution.
 use Rattle.std.proofs.Common.{◌≡◌, ◌≢◌, ℕ, zero, suc, ◌+◌, ◌<◌, ◌≤◌, Bool, true, false, List, length, Option, Some, None, refl, ap, sym, ◌∙◌, subst, arith, ◌⊎◌, inl, inr}
-use Rattle.type_terms.specs.Ground.{Ground, Assignment, IsNumber, base_type}
-use Rattle.type_terms.specs.Term.{Term, Terms, base_term, list_term, tuple_term, source_term, variable, meaning, kind_meaning, InTerm, height}
+use Rattle.type_terms.specs.Ground.{Assignment}
+use Rattle.type_terms.specs.Term.{Term, base_term, list_term, tuple_term, source_term, variable, meaning, kind_meaning, InTerm, height}
 use Rattle.type_terms.specs.Variables.{Variable}
+use Rattle.type_terms.specs.Nested.{AreMarked, IsMarked, mark_at}
 use Rattle.type_terms.specs.Table.{Table, bound_at, number_at, kind_at, Solves, IsSound, IsOver, IsRank, IsNumberTerm, Binds, BindsKind, Avoids}
-use Rattle.liq_base.specs.declared.memory.Kind.{Kind}
 use Rattle.type_terms.specs.declared.ty.KindTerm.{KindTerm}
-use Rattle.type_terms.specs.declared.ty.KindTerm.TheVariants.{Fixed, Var}
-use Rattle.type_terms.proofs.Terms.{InTerm-map, variables_weigh, meaning_same, height_same, height_rises}
+use Rattle.type_terms.specs.declared.ty.KindTerm.TheVariants.{Var}
+use Rattle.type_terms.proofs.Terms.{InTerm-map, height_same, height_rises}
 
 abbrev raised : Bool → ℕ → ℕ → ℕ
 raised true c n = n
@@ -136,3 +136,24 @@ solves_after_kind s s' x t b ts a h q = record {
 
 pub over_after : (s s' : Table) → length s'.types ≡ length s.types → length s'.kinds ≡ length s.kinds → (u : Term) → IsOver s u → IsOver s' u
 over_after s s' l l' u = InTerm-map (λ n h. omega arith) (λ n h. omega arith) u
+
+-- marks that grow still serve
+pub marked_more : (vs : List Variable) (marks marks' : List Bool) → length marks' ≡ length marks → ((k : ℕ) → mark_at marks k ≡ true → mark_at marks' k ≡ true) → AreMarked vs marks → AreMarked vs marks'
+marked_more vs marks marks' l kept h = record {
+  enough = let e = h.enough in omega arith;
+  marked = λ k t e. InTerm-map kept (λ _ _. tt) t (h.marked k t e);
+}
+
+-- the marks after a binding whose variables are marked
+pub marked_bind : (x : ℕ) (t : Term) (old new : List Variable) (marks marks' : List Bool) → Binds x t old new → AreMarked old marks → length marks' ≡ length marks → ((k : ℕ) → mark_at marks k ≡ true → mark_at marks' k ≡ true) → IsMarked marks' t → AreMarked new marks'
+marked_bind x t old new marks marks' b h l kept here = record {
+  enough = let e = h.enough in let f = b.same_length in omega arith;
+  marked = λ k s e. marked_at k s (binding_of b k s e);
+}
+  where
+    marked_at : (k : ℕ) (s : Term) → ((k ≡ x) × (s ≡ t)) ⊎ (bound_at old k ≡ Some s) → IsMarked marks' s
+    marked_at k s (inl e) = subst (λ u. IsMarked marks' u) (sym e.1) here
+    marked_at k s (inr e) = InTerm-map kept (λ _ _. tt) s (h.marked k s e)
+
+pub over_marks : (s : Table) (marks : List Bool) → AreMarked s.types marks → (t : Term) → IsOver s t → InTerm (λ n. n < length marks) (λ _. Unit {0}) t
+over_marks s marks h t = InTerm-map (λ n l. let e = h.enough in omega arith) (λ _ _. tt) t

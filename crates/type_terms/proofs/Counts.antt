@@ -1,5 +1,5 @@
 -- How many variables are bound.
-use Rattle.std.proofs.Common.{◌≡◌, ◌≢◌, ◌∙◌, sym, ap, ap₂, refl, ℕ, zero, suc, ◌+◌, ◌-◌, ◌<◌, ◌≤◌, List, [], ◌∷◌, length, map, take, Option, Some, None, arith, ◌⊎◌, inl, inr}
+use Rattle.std.proofs.Common.{◌≡◌, ◌≢◌, ◌∙◌, sym, ap, refl, ℕ, zero, suc, ◌+◌, ◌≤◌, List, [], ◌∷◌, length, Option, Some, None, arith, inl, inr}
 use Rattle.type_terms.specs.Variables.{Variable}
 use Rattle.type_terms.specs.Table.{bound_at, kind_at, Binds, BindsKind}
 use Rattle.type_terms.specs.Rank.{one_if_bound, bound_count, erase}

@@ -1,10 +1,9 @@
 -- The solution at which every free kind is stereo and every other free variable is int.
-use Rattle.std.proofs.Common.{◌≡◌, ◌∙◌, sym, ap, refl, ℕ, zero, suc, ◌<◌, ◌≤◌, Option, Some, None, arith}
+use Rattle.std.proofs.Common.{◌≡◌, ◌∙◌, sym, refl, ℕ, zero, suc, ◌<◌, Option, Some, None, arith}
 use Rattle.type_terms.specs.Ground.{Assignment, base_type}
 use Rattle.type_terms.specs.Term.{kind_meaning}
 use Rattle.type_terms.specs.Table.{Table, Solves, IsSound, kind_at}
 use Rattle.type_terms.specs.Extends.{Extends, HasDefaults}
-use Rattle.liq_base.specs.declared.memory.Kind.{Kind}
 use Rattle.liq_base.specs.declared.memory.Kind.TheVariants.{Mono, Stereo}
 use Rattle.type_terms.specs.declared.ty.Base.TheVariants.{Int}
 use Rattle.type_terms.specs.declared.ty.KindTerm.{KindTerm}

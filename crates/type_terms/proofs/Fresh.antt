@@ -1,11 +1,12 @@
 -- A substitution with one more variable.
-use Rattle.std.proofs.Common.{◌≡◌, ◌≢◌, ◌∙◌, sym, ap, subst, refl, eqb, eq-eqb, ne_eqb, ◌⊎◌, inl, inr, ◌≤◌, ℕ, zero, suc, ◌+◌, ◌<◌, Bool, true, false, List, [], ◌∷◌, ◌++◌, length, length-append, Option, Some, None, slice_get, arith}
+use Rattle.std.proofs.Common.{◌≡◌, ◌≢◌, ◌∙◌, sym, ap, subst, refl, eqb, eq-eqb, ne_eqb, ◌⊎◌, inl, inr, ℕ, zero, suc, ◌<◌, Bool, true, false, List, [], ◌∷◌, ◌++◌, length, length-append, Option, Some, None, arith}
 use Rattle.type_terms.specs.Variables.{Variable}
 use Rattle.type_terms.specs.Term.{Term, base_term, list_term, tuple_term, source_term, variable, InTerm, InKind, meaning, kind_meaning}
 use Rattle.type_terms.specs.Ground.{Assignment, Ground, IsNumber}
-use Rattle.type_terms.specs.Agrees.{Agrees, Follows, HasNewType, HasNewKind}
+use Rattle.type_terms.specs.Nested.{AreMarked, IsWhole, mark_at}
+use Rattle.type_terms.specs.Agrees.{HasNewType, HasNewKind}
 use Rattle.liq_base.specs.declared.memory.Kind.{Kind}
-use Rattle.type_terms.specs.Table.{Table, Solves, IsSound, IsOver, IsRank, IsNumberTerm, bound_at, number_at, kind_at}
+use Rattle.type_terms.specs.Table.{Solves, IsSound, IsNumberTerm, bound_at, number_at, kind_at}
 use Rattle.type_terms.specs.Table.{table}
 use Rattle.type_terms.specs.declared.ty.KindTerm.{KindTerm}
 use Rattle.type_terms.specs.declared.ty.KindTerm.TheVariants.{Fixed, Var}
@@ -208,3 +209,33 @@ new_kind vs ks h = record {
     with_kind_here a (length ks) c,
   );
 }
+
+pub whole_none : IsWhole (table [] []) []
+whole_none = record { sound = sound_none; marked = record { enough = omega arith; marked = λ k t e. absurd (let f : ◌≡◌ {A = Option Term} None (Some t) = e in cc) } }
+
+mark_push : (ms : List Bool) (b : Bool) (k : ℕ) → mark_at ms k ≡ true → mark_at (ms ++ (b ∷ [])) k ≡ true
+mark_push [] b k e = absurd (let f : ◌≡◌ {A = Bool} false true = e in cc)
+mark_push (m ∷ ms) b zero e = e
+mark_push (m ∷ ms) b (suc k) e = mark_push ms b k e
+
+-- one mark more does no harm
+pub marks_push : (vs : List Variable) (ms : List Bool) (b : Bool) → AreMarked vs ms → AreMarked vs (ms ++ (b ∷ []))
+marks_push vs ms b h = record {
+  enough = let e = h.enough in let l = length-append ms (b ∷ []) in omega arith;
+  marked = λ k t e. InTerm-map (mark_push ms b) (λ _ _. tt) t (h.marked k t e);
+}
+
+pub whole_push : (vs : List Variable) (ks : List (Option KindTerm)) (ms : List Bool) (b : Bool) → IsWhole (table vs ks) ms → IsWhole (table vs ks) (ms ++ (b ∷ []))
+whole_push vs ks ms b h = record { sound = h.sound; marked = marks_push vs ms b h.marked }
+
+pub whole_fresh : (vs : List Variable) (ks : List (Option KindTerm)) (ms : List Bool) (n b : Bool) → IsWhole (table vs ks) ms → IsWhole (table (vs ++ (record { number = n; bound = None } ∷ [])) ks) (ms ++ (b ∷ []))
+whole_fresh vs ks ms n b h = record {
+  sound = sound_fresh vs ks n h.sound;
+  marked = record {
+    enough = let e = h.marked.enough in let l = length-append ms (b ∷ []) in let m = grown_length vs n in omega arith;
+    marked = λ k t e. (marks_push vs ms b h.marked).marked k t (sym (bound_push vs n k) ∙ e);
+  };
+}
+
+pub whole_fresh_kind : (vs : List Variable) (ks : List (Option KindTerm)) (ms : List Bool) → IsWhole (table vs ks) ms → IsWhole (table vs (ks ++ (None ∷ []))) ms
+whole_fresh_kind vs ks ms h = record { sound = sound_fresh_kind vs ks h.sound; marked = h.marked }

@@ -1,10 +1,8 @@
 -- Kinds and what kind variables are bound to.
-use Rattle.std.proofs.Common.{◌≡◌, ◌≢◌, ◌∙◌, sym, ap, refl, ℕ, zero, suc, ◌<◌, ◌≤◌, List, [], ◌∷◌, length, Option, Some, None, get_or, slice_get, arith}
-use Rattle.std.proofs.lemmas.Option.{slice_get_read, slice_get_past}
-use Rattle.type_terms.specs.Ground.{Assignment}
-use Rattle.type_terms.specs.Table.{kind_in, kind_at, FallsByNumber, MeetsKinds, IsSound}
-use Rattle.type_terms.specs.Term.{InKind, kind_meaning}
-use Rattle.liq_base.specs.declared.memory.Kind.{Kind}
+use Rattle.std.proofs.Common.{◌≡◌, ap, refl, ℕ, zero, suc, ◌<◌, List, [], ◌∷◌, length, Option, Some, None, get_or, arith}
+use Rattle.std.proofs.lemmas.Option.{slice_get_read}
+use Rattle.type_terms.specs.Table.{kind_in, kind_at, FallsByNumber}
+use Rattle.type_terms.specs.Term.{InKind}
 use Rattle.type_terms.specs.declared.ty.KindTerm.{KindTerm}
 use Rattle.type_terms.specs.declared.ty.KindTerm.TheVariants.{Fixed, Var}
 

@@ -8,7 +8,7 @@ pub mod KindLemmas
 pub mod Lookups
 pub mod Parts
 pub mod Ranks
-pub mod Resolving
+pub mod Settled
 pub mod Settling
 pub mod Solutions
 pub mod Stack

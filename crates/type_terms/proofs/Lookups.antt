@@ -1,11 +1,11 @@
 -- What a look-up in the list of variables tells.
-use Rattle.std.proofs.Common.{◌≡◌, ◌∙◌, sym, ap, subst, refl, ℕ, suc, ◌+◌, ◌<◌, ◌≤◌, List, length, get_or, slice_get, Some, None, Option, arith}
+use Rattle.std.proofs.Common.{◌≡◌, ◌∙◌, sym, ap, subst, refl, ℕ, ◌<◌, List, length, get_or, Some, None, arith}
 use Rattle.std.proofs.lemmas.Option.{slice_get_read}
 use Rattle.type_terms.specs.Ground.{Assignment}
 use Rattle.type_terms.specs.Variables.{Variable}
 use Rattle.type_terms.specs.Rank.{rank_of}
 use Rattle.type_terms.specs.Table.{IsTriangular, MeetsBindings, bound_in, bound_at}
-use Rattle.type_terms.specs.Term.{Term, variable, term_of, meaning, height, InTerm}
+use Rattle.type_terms.specs.Term.{Term, term_of, meaning, height, InTerm}
 use Rattle.type_terms.specs.declared.ty.Ty.{Ty}
 use Rattle.type_terms.specs.declared.ty.Ty.TheVariants.{Var as TyVar}
 use Rattle.type_terms.proofs.Ranks.{rank_of_bound}

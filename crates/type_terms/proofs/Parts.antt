@@ -1,7 +1,7 @@
 -- What holds of a tuple's type holds of its parts.
-use Rattle.std.proofs.Common.{◌≡◌, ◌∙◌, sym, ap, subst, refl, ℕ, zero, suc, ◌+◌, ◌<◌, ◌≤◌, max, map, List, [], ◌∷◌, ◌++◌, length, get_or, take, add-one, arith, Vec, Global}
-use Rattle.type_terms.specs.Ground.{Assignment, size, sizes, more}
-use Rattle.type_terms.specs.Term.{Term, Terms, term_of, terms_of, no_terms, one_more, tuple_term, meaning, meanings, height, heights, InTerm, InTerms}
+use Rattle.std.proofs.Common.{◌≡◌, ◌∙◌, sym, ap, subst, refl, ℕ, zero, suc, ◌+◌, ◌<◌, ◌≤◌, map, List, [], ◌∷◌, ◌++◌, length, get_or, take, add-one, arith, Vec, Global}
+use Rattle.type_terms.specs.Ground.{Assignment, size, sizes}
+use Rattle.type_terms.specs.Term.{Term, term_of, terms_of, tuple_term, meaning, meanings, height, heights, InTerm, InTerms}
 use Rattle.type_terms.specs.declared.ty.Ty.{Ty}
 use Rattle.type_terms.specs.declared.ty.Ty.TheViews as view
 use Rattle.type_terms.proofs.Views.{term_Tuple}

@@ -1,9 +1,9 @@
 -- The rank that a substitution's bindings give, where any rank falls along them.
-use Rattle.std.proofs.Common.{◌≡◌, ◌≢◌, ℕ, zero, suc, ◌+◌, ◌-◌, ◌<◌, ◌≤◌, List, [], ◌∷◌, Option, Some, None, refl, ap, sym, ◌∙◌, arith}
+use Rattle.std.proofs.Common.{◌≡◌, ◌≢◌, ℕ, zero, suc, ◌-◌, ◌<◌, ◌≤◌, List, [], ◌∷◌, Option, Some, None, refl, ap, sym, ◌∙◌, arith}
 use Rattle.type_terms.specs.Term.{Term, InTerm, height}
 use Rattle.type_terms.specs.Variables.{Variable}
 use Rattle.type_terms.specs.Rank.{one_if_bound, bound_count, erase, rank_step, rank_in, rank_of}
-use Rattle.type_terms.specs.Table.{bound_in, bound_at, IsRank}
+use Rattle.type_terms.specs.Table.{bound_at, IsRank}
 use Rattle.type_terms.proofs.Terms.{InTerm-map, height_same, variables_weigh}
 
 pub erase_other : (k j : ℕ) (vs : List Variable) → j ≢ k → bound_at (erase k vs) j ≡ bound_at vs j

@@ -1,15 +1,15 @@
 -- What the steps of the search for a difference tell.
-use Rattle.std.proofs.Common.{◌≡◌, ◌≢◌, ◌∙◌, sym, ap, ap₂, subst, refl, ℕ, zero, suc, ◌+◌, ◌<◌, ◌≤◌, Bool, true, false, List, [], ◌∷◌, length, Option, Some, None, get_or, slice_get, slice_index_or, arith}
+use Rattle.std.proofs.Common.{◌≡◌, ◌∙◌, sym, ap, subst, refl, ℕ, zero, suc, ◌<◌, Bool, true, false, List, [], ◌∷◌, length, Option, Some, None, get_or, slice_index_or, arith}
 use Rattle.std.proofs.lemmas.Option.{slice_get_read}
-use Rattle.type_terms.specs.Ground.{Assignment, Ground, Grounds, IsNumber, IsNumberBase, base_type, list, tuple, source, no_more, more}
-use Rattle.type_terms.specs.Nested.{AreMarked, IsUnnested, mark_at, mark_in}
+use Rattle.type_terms.specs.Ground.{Assignment, IsNumber, IsNumberBase, base_type}
+use Rattle.type_terms.specs.Nested.{AreMarked, IsUnnested, mark_at}
 use Rattle.type_terms.specs.Variables.{Variable}
 use Rattle.type_terms.specs.Pairs.{IsSplit, part_count}
 use Rattle.type_terms.specs.Table.{Table, Solves, IsSound, IsTriangular, MeetsBindings, IsOver, IsNumberTerm, Avoids, bound_at, number_at, number_in, extra, table}
-use Rattle.type_terms.specs.Differ.{IsForced, IsKindForced, Settles, is_number_base}
+use Rattle.type_terms.specs.Differ.{IsForced, Settles, is_number_base}
 use Rattle.type_terms.specs.declared.differ.Difference.{Difference}
 use Rattle.type_terms.specs.declared.differ.Difference.TheVariants.{Same, Clash, Bind, BindKind}
-use Rattle.type_terms.specs.Term.{Term, Terms, no_terms, one_more, term_of, terms_of, meaning, meanings, base_of, variable, base_term, list_term, tuple_term, source_term, InTerm}
+use Rattle.type_terms.specs.Term.{Term, Terms, no_terms, one_more, term_of, meaning, meanings, base_of, variable, base_term, list_term, tuple_term, source_term, InTerm}
 use Rattle.type_terms.specs.declared.ty.Base.{Base}
 use Rattle.type_terms.specs.declared.ty.Base.TheVariants as base
 use Rattle.type_terms.specs.declared.ty.Ty.{Ty}

@@ -1,7 +1,7 @@
 -- Each choice for the free variables of a sound substitution extends to a solution.
-use Rattle.std.proofs.Common.{◌≡◌, ℕ, zero, suc, ◌<◌, ◌≤◌, Bool, true, List, Option, Some, None, refl, ap, sym, ◌∙◌, subst, arith}
+use Rattle.std.proofs.Common.{◌≡◌, ℕ, zero, suc, ◌<◌, true, List, Option, Some, None, refl, ap, sym, ◌∙◌, arith}
 use Rattle.type_terms.specs.Ground.{Ground, Assignment, IsNumber, base_type}
-use Rattle.type_terms.specs.Term.{Term, Terms, base_term, list_term, tuple_term, source_term, variable, meaning, kind_meaning, InTerm, height}
+use Rattle.type_terms.specs.Term.{Term, base_term, list_term, tuple_term, source_term, variable, meaning, kind_meaning, height}
 use Rattle.type_terms.specs.Variables.{Variable}
 use Rattle.type_terms.specs.Extends.{Extends}
 use Rattle.type_terms.specs.Table.{Table, bound_at, number_at, kind_at, Solves, IsSound, IsRank, IsNumberTerm}

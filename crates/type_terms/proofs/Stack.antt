@@ -1,8 +1,8 @@
 -- Stacks of pairs, and the parts of two types.
-use Rattle.std.proofs.Common.{◌≡◌, ◌∙◌, sym, ap, ap₂, subst, refl, ℕ, zero, suc, ◌+◌, ◌<◌, ◌≤◌, List, [], ◌∷◌, ◌++◌, map, take, length, get_or, add-one, append-nil, append_assoc, arith, ◌⊎◌, inl, inr}
+use Rattle.std.proofs.Common.{◌≡◌, ◌∙◌, sym, ap, ap₂, subst, refl, ℕ, zero, suc, ◌+◌, ◌<◌, List, [], ◌∷◌, ◌++◌, map, take, length, get_or, add-one, append_assoc, arith}
 use Rattle.std.specs.Borrow.{Bor}
-use Rattle.type_terms.specs.Ground.{Ground, Grounds, Assignment, size, sizes, list, tuple, more, no_more, base_type, source}
-use Rattle.type_terms.specs.Term.{Term, Terms, base_term, list_term, tuple_term, source_term, variable, no_terms, one_more, term_of, terms_of, meaning, meanings}
+use Rattle.type_terms.specs.Ground.{Ground, Grounds, Assignment, list, tuple, more}
+use Rattle.type_terms.specs.Term.{Term, Terms, list_term, tuple_term, no_terms, one_more, term_of, terms_of, meaning, meanings}
 use Rattle.type_terms.specs.Table.{Table, IsOver}
 use Rattle.type_terms.specs.declared.ty.Ty.{Ty}
 use Rattle.type_terms.specs.Pairs.{pairs, AllEqual, AllOver, zipped, parts_of, part_count, IsSplit}

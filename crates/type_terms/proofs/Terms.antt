@@ -1,6 +1,6 @@
 -- Laws of terms under choices and heights, by induction on the term.
-use Rattle.std.proofs.Common.{◌≡◌, ℕ, ◌+◌, max, ◌<◌, ◌≤◌, refl, ap, ap₂, sym, ◌∙◌, arith}
-use Rattle.type_terms.specs.Ground.{Ground, Grounds, base_type, list, tuple, source, no_more, more, Assignment}
+use Rattle.std.proofs.Common.{◌≡◌, ℕ, ◌+◌, max, ◌≤◌, refl, ap, ap₂, arith}
+use Rattle.type_terms.specs.Ground.{list, tuple, source, more, Assignment}
 use Rattle.type_terms.specs.Term.{Term, Terms, base_term, list_term, tuple_term, source_term, variable, no_terms, one_more, meaning, meanings, kind_meaning, InKind, InTerm, InTerms, height, heights}
 use Rattle.type_terms.specs.declared.ty.KindTerm.{KindTerm}
 use Rattle.type_terms.specs.declared.ty.KindTerm.TheVariants.{Fixed, Var}

@@ -1,5 +1,5 @@
 -- The comparison of two types with a stack of pairs that are still to be compared.
-use Rattle.std.proofs.Common.{◌≡◌, ◌∙◌, sym, ap, subst, refl, ℕ, ◌+◌, ◌<◌, ◌≤◌, List, [], ◌∷◌, ◌++◌, arith}
+use Rattle.std.proofs.Common.{◌≡◌, ◌∙◌, sym, ap, subst, List, [], ◌∷◌, ◌++◌}
 use Rattle.std.specs.Borrow.{Bor}
 use Rattle.type_terms.specs.Ground.{Assignment}
 use Rattle.type_terms.specs.Term.{Term, term_of, meaning}
@@ -56,8 +56,8 @@ module _ (s : Table) (left right l r : Term) (rest stack : List (Term × Term)) 
       over = subst (λ ps. AllOver s ps) (sym is') (over_both s rest (parts_of t u) rest_over (split_over s t u split p q));
       needed = λ a m e. subst (λ ps. AllEqual a ps) (sym is') (equal_both a rest (parts_of t u) (rest_needed a m e) (split_equal a t u split (resolved_needed a m e)));
       enough = λ a m k.
-        let f = subst (λ ps. AllEqual a ps) is' k in
-        rest_enough a m (sym (tl a m.types) ∙ equal_split a t u split (equal_right a rest (parts_of t u) f) ∙ ur a m.types) (equal_left a rest (parts_of t u) f);
+          let f = subst (λ ps. AllEqual a ps) is' k in
+          rest_enough a m (sym (tl a m.types) ∙ equal_split a t u split (equal_right a rest (parts_of t u) f) ∙ ur a m.types) (equal_left a rest (parts_of t u) f);
     }
 
 -- a popped stack

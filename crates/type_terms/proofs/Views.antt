@@ -1,5 +1,5 @@
 -- The plain data of each variant of a `Ty`, and the shapes that a type can have.
-use Rattle.std.proofs.Common.{◌≡◌, ◌∙◌, sym, ap, refl, ℕ, map, List, Vec, Box, Global}
+use Rattle.std.proofs.Common.{◌≡◌, ◌∙◌, sym, ap, refl, ℕ, map, Vec, Box, Global}
 use Rattle.type_terms.specs.Term.{Term, base_term, list_term, tuple_term, source_term, variable, term_of, term_step, terms_of}
 use Rattle.type_terms.specs.declared.ty.Base.{Base}
 use Rattle.type_terms.specs.declared.ty.Base.TheVariants as base

@@ -1,19 +1,19 @@
 -- Walks over types with a stack: marks, and the search for a variable.
-use Rattle.std.proofs.Common.{◌≡◌, ◌≢◌, ◌∙◌, sym, ap, subst, refl, ℕ, zero, suc, ◌+◌, ◌<◌, ◌≤◌, Bool, true, false, map, take, take_all, List, [], ◌∷◌, ◌++◌, length, get_or, arith, add-one, Option, Some, None, eqb, ne_eqb, eqb-true, eq-eqb, not, Vec, Global, append_assoc}
+use Rattle.std.proofs.Common.{◌≡◌, ◌≢◌, ◌∙◌, sym, ap, subst, refl, ℕ, zero, suc, ◌+◌, ◌<◌, ◌≤◌, Bool, true, false, map, take, take_all, List, [], ◌∷◌, ◌++◌, length, get_or, arith, Option, Some, None, eqb, ne_eqb, eq-eqb, not, Vec, Global, append_assoc}
 use Rattle.std.proofs.Math.ListN.{set}
 use Rattle.std.specs.Borrow.{Bor}
 use Rattle.type_terms.specs.Ground.{Assignment, size, sizes}
-use Rattle.type_terms.specs.Nested.{mark_at, mark_in, IsMarked, AreMarked, IsUnnested, terms, parts, below, bound_list, reached_by}
+use Rattle.type_terms.specs.Nested.{mark_at, IsMarked, IsUnnested, terms, parts, below, bound_list, reached_by}
 use Rattle.type_terms.specs.Table.{Avoids, IsTriangular, MeetsBindings, bound_at, extra}
 use Rattle.type_terms.specs.Term.{Term, Terms, base_term, list_term, tuple_term, source_term, variable, no_terms, one_more, meaning, meanings, InTerm, InTerms, term_of, terms_of}
 use Rattle.type_terms.specs.Variables.{Variable}
 use Rattle.type_terms.specs.declared.ty.Ty.{Ty}
 use Rattle.type_terms.specs.declared.ty.Ty.TheViews as view
 use Rattle.type_terms.specs.declared.ty.Ty.TheVariants as ty
-use Rattle.type_terms.proofs.Avoiding.{avoids_closed, avoids_base, avoids_source, avoids_list, avoids_free, avoids_bound, avoids_none, avoids_more}
-use Rattle.type_terms.proofs.Terms.{InTerm-map, InTerms-map, any_kind}
-use Rattle.type_terms.proofs.Parts.{InTerms-push, InTerms-at, tuple_is, map_take_next}
-use Rattle.type_terms.proofs.Views.{Shape, is_base, is_list, is_tuple, is_source, is_var, shape_of, term_List, term_Tuple, term_Source, term_Var}
+use Rattle.type_terms.proofs.Avoiding.{avoids_base, avoids_source, avoids_list, avoids_free, avoids_bound, avoids_none, avoids_more}
+use Rattle.type_terms.proofs.Terms.{InTerm-map, InTerms-map}
+use Rattle.type_terms.proofs.Parts.{InTerms-push, tuple_is, map_take_next}
+use Rattle.type_terms.proofs.Views.{Shape, is_base, is_list, is_tuple, is_source, is_var, shape_of, term_List, term_Tuple, term_Source}
 
 -- references
 

@@ -1,7 +1,7 @@
 -- Choices that agree on a substitution's variables.
-use Rattle.std.specs.Prelude.{◌≡◌, ℕ, ◌<◌, ◌≤◌, true, length}
+use Rattle.std.specs.Prelude.{◌≡◌, ℕ, ◌<◌, ◌≤◌, length}
 use Rattle.type_terms.specs.Ground.{Assignment, Ground, IsNumber}
-use Rattle.type_terms.specs.Table.{Table, Solves, number_at}
+use Rattle.type_terms.specs.Table.{Table, Solves}
 use Rattle.liq_base.specs.declared.memory.Kind.{Kind}
 
 pub record Agrees (s : Table) (a b : Assignment) : Type 0 where

@@ -9,7 +9,6 @@ use Rattle.type_terms.specs.Variables.{Variable}
 use Rattle.type_terms.specs.Table.{Table}
 use Rattle.type_terms.specs.declared.ty.Base.{Base}
 use Rattle.type_terms.specs.declared.ty.Base.TheVariants.{Int, Decimal, Text, Bool as BoolType, Unit as UnitType, Format, Pred}
-use Rattle.liq_base.specs.declared.memory.Kind.{Kind}
 use Rattle.liq_base.specs.declared.memory.Kind.TheVariants.{Mono, Stereo}
 use Rattle.type_terms.specs.declared.ty.KindTerm.{KindTerm}
 use Rattle.type_terms.specs.declared.ty.KindTerm.TheVariants.{Fixed, Var}

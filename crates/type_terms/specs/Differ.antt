@@ -6,7 +6,7 @@ use Rattle.type_terms.specs.Table.{Table, Solves, IsOver, IsNumberTerm, Avoids, 
 use Rattle.type_terms.specs.declared.ty.Base.{Base}
 use Rattle.type_terms.specs.declared.ty.Base.TheVariants.{Int, Decimal}
 use Rattle.type_terms.specs.declared.ty.KindTerm.{KindTerm}
-use Rattle.type_terms.specs.declared.ty.KindTerm.TheVariants.{Fixed, Var}
+use Rattle.type_terms.specs.declared.ty.KindTerm.TheVariants.{Var}
 use Rattle.type_terms.specs.declared.differ.Difference.{Difference}
 use Rattle.type_terms.specs.declared.differ.Difference.TheVariants.{Same, Clash, Bind, BindKind}
 

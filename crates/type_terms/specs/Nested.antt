@@ -1,9 +1,9 @@
 -- Which variables stand in what others are bound to.
-use Rattle.std.specs.Prelude.{◌≡◌, ◌≢◌, ℕ, Bool, true, false, List, [], ◌∷◌, length, Option, Some, None, slice_get}
+use Rattle.std.specs.Prelude.{◌≡◌, ◌≢◌, ◌≤◌, ℕ, Bool, true, false, List, [], ◌∷◌, length, Option, Some, None, slice_get}
 use Rattle.std.specs.Borrow.{Bor}
 use Rattle.type_terms.specs.Term.{Term, Terms, base_term, list_term, tuple_term, source_term, variable, no_terms, one_more, InTerm, term_of}
 use Rattle.type_terms.specs.Variables.{Variable}
-use Rattle.type_terms.specs.Table.{bound_at}
+use Rattle.type_terms.specs.Table.{Table, IsSound, bound_at}
 use Rattle.type_terms.specs.declared.ty.Ty.{Ty}
 
 abbrev pub mark_in : Option Bool → Bool
@@ -19,8 +19,13 @@ IsMarked marks t = InTerm (λ j. mark_at marks j ≡ true) (λ _. Unit {0}) t
 
 -- there is a mark for each variable, and those that stand in a binding have it
 pub record AreMarked (vs : List Variable) (marks : List Bool) : Type 0 where
-  pub same_length : length marks ≡ length vs
+  pub enough : length vs ≤ length marks
   pub marked : (k : ℕ) (t : Term) → bound_at vs k ≡ Some t → IsMarked marks t
+
+-- what holds of a substitution and its marks
+pub record IsWhole (s : Table) (marks : List Bool) : Type 0 where
+  pub sound : IsSound s
+  pub marked : AreMarked s.types marks
 
 -- the variable stands in no binding
 pub record IsUnnested (vs : List Variable) (x : ℕ) : Type 0 where

@@ -1,7 +1,7 @@
 -- Pairs of types that are still to be compared.
-use Rattle.std.specs.Prelude.{◌≡◌, ℕ, suc, ◌+◌, List, [], ◌∷◌, map}
-use Rattle.type_terms.specs.Ground.{Assignment, size}
-use Rattle.type_terms.specs.Term.{Term, Terms, base_term, list_term, tuple_term, source_term, variable, no_terms, one_more, term_of, meaning}
+use Rattle.std.specs.Prelude.{◌≡◌, ℕ, suc, List, [], ◌∷◌}
+use Rattle.type_terms.specs.Ground.{Assignment}
+use Rattle.type_terms.specs.Term.{Term, Terms, list_term, tuple_term, no_terms, one_more, term_of, meaning}
 use Rattle.type_terms.specs.Table.{Table, IsOver}
 use Rattle.type_terms.specs.declared.ty.Ty.{Ty}
 use Rattle.std.specs.Borrow.{Bor}

@@ -1,11 +1,10 @@
 -- A substitution: its variables, which of them are number variables, and what they are bound to.
-use Rattle.std.specs.Prelude.{◌≡◌, ◌≢◌, ℕ, suc, ◌+◌, ◌<◌, ◌≤◌, Bool, true, false, List, [], ◌∷◌, length, Option, Some, None, slice_get, slice_set, IsTrue}
-use Rattle.type_terms.specs.Ground.{Ground, Assignment, IsNumber, IsNumberBase}
-use Rattle.type_terms.specs.Term.{Term, base_term, list_term, tuple_term, source_term, variable, meaning, kind_meaning, InTerm, height}
+use Rattle.std.specs.Prelude.{◌≡◌, ◌≢◌, ℕ, ◌<◌, Bool, true, false, List, length, Option, Some, None, slice_get}
+use Rattle.type_terms.specs.Ground.{Assignment, IsNumber, IsNumberBase}
+use Rattle.type_terms.specs.Term.{Term, base_term, variable, meaning, kind_meaning, InTerm, height}
 use Rattle.type_terms.specs.Variables.{Variable}
-use Rattle.liq_base.specs.declared.memory.Kind.{Kind}
 use Rattle.type_terms.specs.declared.ty.KindTerm.{KindTerm}
-use Rattle.type_terms.specs.declared.ty.KindTerm.TheVariants.{Fixed, Var}
+use Rattle.type_terms.specs.declared.ty.KindTerm.TheVariants.{Var}
 
 pub record Table : Type 0 where
   pub types : List Variable

@@ -1,5 +1,5 @@
 -- Types over variables, as plain data, and what they mean.
-use Rattle.std.specs.Prelude.{ℕ, ◌+◌, max, Bool, true, false, Option, Some, None, List, [], ◌∷◌}
+use Rattle.std.specs.Prelude.{ℕ, ◌+◌, max, Option, Some, None, List, [], ◌∷◌}
 use Rattle.type_terms.specs.Ground.{Ground, Grounds, base_type, list, tuple, source, no_more, more, Assignment}
 use Rattle.liq_base.specs.declared.memory.Kind.{Kind}
 use Rattle.type_terms.specs.declared.ty.Base.{Base}

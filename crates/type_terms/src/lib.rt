@@ -4,7 +4,11 @@
 mod copying;
 mod differ;
 mod occurs;
+mod resolving;
+mod subst;
 mod ty;
 mod type_variable;
+mod unifier;
 
+pub use subst::{Subst, resolved, unify};
 pub use ty::{Base, KindTerm, Ty};

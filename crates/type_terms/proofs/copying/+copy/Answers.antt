@@ -1,4 +1,4 @@
-use Rattle.std.proofs.Common.{◌≡◌, ◌∙◌, sym, ap, map, take, take_all}
+use Rattle.std.proofs.Common.{◌∙◌, sym, ap, map, take_all}
 use Rattle.type_terms.specs.Term.{term_of, terms_of, tuple_term}
 use Rattle.type_terms.proofs.Views.{term_Tuple}
 use Rattle.type_terms.proofs.Parts.{tuple_is}

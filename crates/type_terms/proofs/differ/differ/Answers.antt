@@ -1,4 +1,4 @@
-use Rattle.std.proofs.Common.{◌≡◌, refl, ap}
+use Rattle.std.proofs.Common.{refl, ap}
 use Rattle.type_terms.specs.Pairs.{pairs}
 use Rattle.type_terms.specs.Table.{table}
 use Rattle.type_terms.specs.Term.{meaning, term_of}
@@ -13,7 +13,7 @@ resolve-s-requires-clause-triangular c = triangular _ _ c.requires.sound
 pub resolve-s-requires-clause-over : goal.resolve-s-requires-clause-over
 resolve-s-requires-clause-over c =
     over_types c.args.types.now c.args.kinds.now (term_of c.in-Some.next.0.now)
-      (top_over (table c.args.types.now c.args.kinds.now) (term_of c.args.left.now) (term_of c.args.right.now) (term_of c.in-Some.next.0.now) (term_of c.in-Some.next.1.now) (pairs c.pop.new.self.items) (pairs c.loop-step.work.items) (popped_pair _ _ _ c.in-Some.ensures.items) c.loop-step.invariant).0
+    (top_over (table c.args.types.now c.args.kinds.now) (term_of c.args.left.now) (term_of c.args.right.now) (term_of c.in-Some.next.0.now) (term_of c.in-Some.next.1.now) (pairs c.pop.new.self.items) (pairs c.loop-step.work.items) (popped_pair _ _ _ c.in-Some.ensures.items) c.loop-step.invariant).0
 
 pub resolve-t-requires-clause-triangular : goal.resolve-t-requires-clause-triangular
 resolve-t-requires-clause-triangular c = triangular _ _ c.requires.sound
@@ -21,7 +21,7 @@ resolve-t-requires-clause-triangular c = triangular _ _ c.requires.sound
 pub resolve-t-requires-clause-over : goal.resolve-t-requires-clause-over
 resolve-t-requires-clause-over c =
     over_types c.args.types.now c.args.kinds.now (term_of c.in-Some.next.1.now)
-      (top_over (table c.args.types.now c.args.kinds.now) (term_of c.args.left.now) (term_of c.args.right.now) (term_of c.in-Some.next.0.now) (term_of c.in-Some.next.1.now) (pairs c.pop.new.self.items) (pairs c.loop-step.work.items) (popped_pair _ _ _ c.in-Some.ensures.items) c.loop-step.invariant).1
+    (top_over (table c.args.types.now c.args.kinds.now) (term_of c.args.left.now) (term_of c.args.right.now) (term_of c.in-Some.next.0.now) (term_of c.in-Some.next.1.now) (pairs c.pop.new.self.items) (pairs c.loop-step.work.items) (popped_pair _ _ _ c.in-Some.ensures.items) c.loop-step.invariant).1
 
 pub loop-step-preserved-then-are_one_variable : goal.loop-step-preserved-then-are_one_variable
 loop-step-preserved-then-are_one_variable c =
@@ -42,9 +42,9 @@ differ_resolved-requires-clause-right c = c.resolve-t.ensures.kept (table c.args
 pub returns-in_default-2 : goal.returns-in_default-2
 returns-in_default-2 c =
     settles_part (table c.args.types.now c.args.kinds.now) (term_of c.resolve-s.result.now) (term_of c.resolve-t.result.now) _ _ c.in_ok-found.found
-      (λ e. c.in_default-2.not-Same e)
-      (resolved_needed (table c.args.types.now c.args.kinds.now) (term_of c.args.left.now) (term_of c.args.right.now) (term_of c.in-Some.next.0.now) (term_of c.in-Some.next.1.now) (pairs c.pop.new.self.items) (pairs c.loop-step.work.items) (popped_pair _ _ _ c.in-Some.ensures.items) c.loop-step.invariant (term_of c.resolve-s.result.now) (term_of c.resolve-t.result.now) c.resolve-s.ensures.value c.resolve-t.ensures.value)
-      c.in_ok-found.ensures
+    (λ e. c.in_default-2.not-Same e)
+    (resolved_needed (table c.args.types.now c.args.kinds.now) (term_of c.args.left.now) (term_of c.args.right.now) (term_of c.in-Some.next.0.now) (term_of c.in-Some.next.1.now) (pairs c.pop.new.self.items) (pairs c.loop-step.work.items) (popped_pair _ _ _ c.in-Some.ensures.items) c.loop-step.invariant (term_of c.resolve-s.result.now) (term_of c.resolve-t.result.now) c.resolve-s.ensures.value c.resolve-t.ensures.value)
+    c.in_ok-found.ensures
 
 pub loop-step-preserved : goal.loop-step-preserved
 loop-step-preserved c =

@@ -1,6 +1,5 @@
-use Rattle.std.proofs.Common.{◌≡◌, ◌∙◌, sym, ap, false, true}
+use Rattle.std.proofs.Common.{◌≡◌, ◌∙◌, sym, false, true}
 use Rattle.type_terms.specs.Differ.{is_number_base}
-use Rattle.type_terms.specs.Nested.{mark_at}
 use Rattle.type_terms.specs.Table.{number_at}
 use Rattle.type_terms.specs.Term.{base_of, term_of}
 use Rattle.type_terms.proofs.Basics.{on_false}

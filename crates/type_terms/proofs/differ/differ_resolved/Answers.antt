@@ -1,7 +1,7 @@
-use Rattle.std.proofs.Common.{◌≡◌, ◌∙◌, sym, ap, subst, ◌<◌, length}
+use Rattle.std.proofs.Common.{subst}
 use Rattle.type_terms.specs.Table.{IsOver, table}
-use Rattle.type_terms.specs.Term.{InTerm, term_of}
-use Rattle.type_terms.proofs.Settling.{extra_other, over_types, settles_flipped, settles_terms, triangular}
+use Rattle.type_terms.specs.Term.{term_of}
+use Rattle.type_terms.proofs.Settling.{extra_other, over_types, settles_terms, triangular}
 use Rattle.type_terms.proofs.Views.{term_Var}
 use Rattle.type_terms.proofs.differ.differ_resolved.Goals as goal
 

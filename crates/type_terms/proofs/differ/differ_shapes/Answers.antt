@@ -1,4 +1,4 @@
-use Rattle.std.proofs.Common.{◌≡◌, ◌∙◌, sym, ap, subst, None}
+use Rattle.std.proofs.Common.{◌≡◌, ◌∙◌, sym, subst, None}
 use Rattle.type_terms.specs.Table.{IsOver, table}
 use Rattle.type_terms.specs.Term.{base_of, term_of}
 use Rattle.type_terms.proofs.Settling.{no_source, settles_terms, shapes_clash}

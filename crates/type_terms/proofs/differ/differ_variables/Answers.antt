@@ -1,5 +1,4 @@
-use Rattle.std.proofs.Common.{◌≡◌, ◌∙◌, sym, ap, ◌<◌, ℕ, Bool, true, false, arith}
-use Rattle.type_terms.specs.Term.{term_of, variable}
+use Rattle.std.proofs.Common.{◌≡◌, ◌∙◌, sym, Bool, true, false}
 use Rattle.type_terms.specs.Table.{number_at}
 use Rattle.type_terms.proofs.Settling.{number_read, forced_variable, forced_flipped}
 use Rattle.type_terms.proofs.differ.differ_variables.Goals as goal

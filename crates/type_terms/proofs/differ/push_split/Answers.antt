@@ -1,4 +1,4 @@
-use Rattle.std.proofs.Common.{◌≡◌, ◌∙◌, sym, ap}
+use Rattle.std.proofs.Common.{◌∙◌, sym, ap}
 use Rattle.type_terms.specs.Term.{term_of, list_term}
 use Rattle.type_terms.proofs.Views.{term_List}
 use Rattle.type_terms.proofs.Parts.{tuple_is}

@@ -1,4 +1,4 @@
-use Rattle.std.proofs.Common.{◌≡◌, ◌∙◌, sym, ap, subst, ◌<◌, ℕ, arith, get_or, length, Some, None}
+use Rattle.std.proofs.Common.{◌≡◌, ◌∙◌, sym, ap, subst, ◌<◌, arith, length, Some}
 use Rattle.type_terms.specs.Term.{InKind, kind_meaning}
 use Rattle.type_terms.specs.Table.{kind_at}
 use Rattle.type_terms.proofs.KindLemmas.{kind_at-get_or, kind_height, lower, lower_over, var_injective}

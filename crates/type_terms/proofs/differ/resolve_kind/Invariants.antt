@@ -1,4 +1,4 @@
-use Rattle.std.proofs.Common.{◌≡◌, ◌<◌, ℕ, length}
+use Rattle.std.proofs.Common.{◌≡◌, ◌<◌, length}
 use Rattle.type_terms.specs.Ground.{Assignment}
 use Rattle.type_terms.specs.Table.{MeetsKinds}
 use Rattle.type_terms.specs.Term.{InKind, kind_meaning}

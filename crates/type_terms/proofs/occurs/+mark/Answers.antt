@@ -1,8 +1,8 @@
-use Rattle.std.proofs.Common.{◌≡◌, ◌∙◌, sym, ap, subst, ◌<◌, ℕ, length, true, arith}
+use Rattle.std.proofs.Common.{◌≡◌, sym, subst, ◌<◌, length, true, arith}
 use Rattle.std.proofs.Math.ListN.{set}
 use Rattle.type_terms.specs.Nested.{IsMarked}
-use Rattle.type_terms.specs.Term.{InTerm, height, list_term, term_of}
-use Rattle.type_terms.proofs.Views.{term_List, term_Var}
+use Rattle.type_terms.specs.Term.{InTerm, term_of}
+use Rattle.type_terms.proofs.Views.{term_Var}
 use Rattle.type_terms.proofs.Parts.{part_height, part_over}
 use Rattle.type_terms.proofs.Walks.{all_marked, mark_here, mark_kept, next_marked}
 use Rattle.type_terms.proofs.occurs.+mark.Goals as goal

@@ -1,8 +1,6 @@
-use Rattle.std.proofs.Common.{rules, ◌≡◌, ◌∙◌, sym, ap, subst, ◌+◌, ◌<◌, ◌≤◌, ℕ, suc, Some, None, length, get_or, arith}
-use Rattle.type_terms.specs.Rank.{rank_of}
-use Rattle.type_terms.specs.Term.{height, term_of, meaning, InTerm, variable}
+use Rattle.std.proofs.Common.{◌≡◌, ◌∙◌, sym, ap, subst, ◌<◌, Some, length}
+use Rattle.type_terms.specs.Term.{term_of, InTerm}
 use Rattle.type_terms.specs.Table.{bound_at}
-use Rattle.type_terms.proofs.Ranks.{rank_of_bound}
 use Rattle.type_terms.proofs.Views.{term_Var, variable_injective}
 use Rattle.type_terms.proofs.Lookups.{bound_none, bound_read, bound_height, bound_value}
 use Rattle.type_terms.proofs.occurs.resolve.Goals as goal

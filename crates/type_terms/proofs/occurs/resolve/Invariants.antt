@@ -1,4 +1,4 @@
-use Rattle.std.proofs.Common.{◌≡◌, ◌<◌, ◌≤◌, ℕ, length}
+use Rattle.std.proofs.Common.{◌≡◌, ◌<◌, length}
 use Rattle.type_terms.specs.Ground.{Assignment}
 use Rattle.type_terms.specs.Rank.{rank_of}
 use Rattle.type_terms.specs.Table.{MeetsBindings, Table, IsSound, IsOver}
