@@ -29,4 +29,4 @@ pub defaults : (s : Table) → IsSound s → HasDefaults s
 defaults s h =
     let p : Assignment = record { type_of = λ _. base_type Int; kind_of = λ _. Stereo } in
     let e = solution_extends s h p (λ k _. tt) in
-    record { at = solution s h p; solves = e.solves; types = e.types; mono = mono_forced s h (solution s h p) e }
+    record { at = solution s h p; solves = e.solves; types = e.types; kinds = e.kinds; mono = mono_forced s h (solution s h p) e }

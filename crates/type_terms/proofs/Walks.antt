@@ -3,7 +3,7 @@ use Rattle.std.proofs.Common.{◌≡◌, ◌≢◌, ◌∙◌, sym, ap, subst, r
 use Rattle.std.proofs.Math.ListN.{set}
 use Rattle.std.specs.Borrow.{Bor}
 use Rattle.type_terms.specs.Ground.{Assignment, size, sizes}
-use Rattle.type_terms.specs.Nested.{mark_at, IsMarked, IsUnnested, terms, parts, below, bound_list, reached_by}
+use Rattle.type_terms.specs.Nested.{mark_at, IsMarked, IsUnnested, terms, parts, below, bound_list, reached_by, inside, IsAmong}
 use Rattle.type_terms.specs.Table.{Avoids, IsTriangular, MeetsBindings, bound_at, extra}
 use Rattle.type_terms.specs.Term.{Term, Terms, base_term, list_term, tuple_term, source_term, variable, no_terms, one_more, meaning, meanings, InTerm, InTerms, term_of, terms_of}
 use Rattle.type_terms.specs.Variables.{Variable}
@@ -224,3 +224,64 @@ search_found vs x t u e h a m =
     let z = ap (λ v. size (meaning a v)) e in
     let y = ap extra e in
     omega (arith, h a m)
+
+-- the search for variables that are not there
+
+abbrev pub IsOverAll : ℕ → ℕ → Term → Type 0
+IsOverAll m n t = InTerm (λ k. k < m) (λ k. k < n) t
+
+-- t has all its variables exactly where the terms of the stack have
+pub record IsCensus (m n : ℕ) (t : Term) (stack : List Term) : Type 0 where
+  pub enough : Every (IsOverAll m n) stack → IsOverAll m n t
+  pub needed : IsOverAll m n t → Every (IsOverAll m n) stack
+
+parts_over : (m n : ℕ) (ts : Terms) → InTerms (λ k. k < m) (λ k. k < n) ts → Every (IsOverAll m n) (parts ts)
+parts_over m n no_terms h = tt
+parts_over m n (one_more t ts) h = (h.0, parts_over m n ts h.1)
+
+over_parts : (m n : ℕ) (ts : Terms) → Every (IsOverAll m n) (parts ts) → InTerms (λ k. k < m) (λ k. k < n) ts
+over_parts m n no_terms h = tt
+over_parts m n (one_more t ts) h = (h.0, over_parts m n ts h.1)
+
+inside_over : (m n : ℕ) (u : Term) → IsOverAll m n u → Every (IsOverAll m n) (inside u)
+inside_over m n (base_term b) h = tt
+inside_over m n (list_term u) h = (h, tt)
+inside_over m n (tuple_term us) h = parts_over m n us h
+inside_over m n (source_term k) h = tt
+inside_over m n (variable k) h = tt
+
+over_inside : (m n : ℕ) (u : Term) → IsAmong m n u → Every (IsOverAll m n) (inside u) → IsOverAll m n u
+over_inside m n (base_term b) a h = tt
+over_inside m n (list_term u) a h = h.0
+over_inside m n (tuple_term us) a h = over_parts m n us h
+over_inside m n (source_term k) a h = a
+over_inside m n (variable k) a h = a
+
+over_among : (m n : ℕ) (u : Term) → IsOverAll m n u → IsAmong m n u
+over_among m n (base_term b) h = tt
+over_among m n (list_term u) h = tt
+over_among m n (tuple_term us) h = tt
+over_among m n (source_term k) h = h
+over_among m n (variable k) h = h
+
+pub census_start : (m n : ℕ) (t : Term) → IsCensus m n t (t ∷ [])
+census_start m n t = record { enough = λ h. h.0; needed = λ h. (h, tt) }
+
+module _ (m n : ℕ) (t u : Term) (rest stack stack' : List Term) (is : stack ≡ rest ++ (u ∷ [])) (h : IsCensus m n t stack) where
+  top_over : IsOverAll m n t → IsOverAll m n u
+  top_over o = (every_right (IsOverAll m n) rest (u ∷ []) (subst (Every (IsOverAll m n)) is (h.needed o))).0
+
+  -- a variable that is not there
+  pub census_fails : (IsAmong m n u → ⊥) → IsOverAll m n t → ⊥
+  census_fails f o = f (over_among m n u (top_over o))
+
+  pub census_step : IsAmong m n u → stack' ≡ rest ++ inside u → IsCensus m n t stack'
+  census_step a is' = record {
+    enough = λ e.
+        let f = subst (Every (IsOverAll m n)) is' e in
+        h.enough (subst (Every (IsOverAll m n)) (sym is) (every_both (IsOverAll m n) rest (u ∷ []) (every_left (IsOverAll m n) rest (inside u) f) (over_inside m n u a (every_right (IsOverAll m n) rest (inside u) f), tt)));
+    needed = λ o. subst (Every (IsOverAll m n)) (sym is') (every_both (IsOverAll m n) rest (inside u) (every_left (IsOverAll m n) rest (u ∷ []) (subst (Every (IsOverAll m n)) is (h.needed o))) (inside_over m n u (top_over o)));
+  }
+
+pub census_done : (m n : ℕ) (t : Term) (stack : List Term) → stack ≡ [] → IsCensus m n t stack → IsOverAll m n t
+census_done m n t stack e h = h.enough (subst (Every (IsOverAll m n)) (sym e) tt)

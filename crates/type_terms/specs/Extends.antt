@@ -3,7 +3,7 @@ use Rattle.std.specs.Prelude.{◌≡◌, ℕ, None}
 use Rattle.type_terms.specs.Ground.{Assignment, base_type}
 use Rattle.type_terms.specs.Term.{kind_meaning}
 use Rattle.type_terms.specs.declared.ty.Base.TheVariants.{Int}
-use Rattle.liq_base.specs.declared.memory.Kind.TheVariants.{Mono}
+use Rattle.liq_base.specs.declared.memory.Kind.TheVariants.{Mono, Stereo}
 use Rattle.type_terms.specs.declared.ty.KindTerm.{KindTerm}
 use Rattle.type_terms.specs.Table.{Table, Solves, bound_at, kind_at}
 
@@ -18,4 +18,5 @@ pub record HasDefaults (s : Table) : Type 0 where
   pub at : Assignment
   pub solves : Solves at s
   pub types : (k : ℕ) → bound_at s.types k ≡ None → at.type_of k ≡ base_type Int
+  pub kinds : (k : ℕ) → kind_at s.kinds k ≡ None → at.kind_of k ≡ Stereo
   pub mono : (k : KindTerm) → kind_meaning at k ≡ Mono → (a : Assignment) → Solves a s → kind_meaning a k ≡ Mono

@@ -1,7 +1,7 @@
 -- Which variables stand in what others are bound to.
-use Rattle.std.specs.Prelude.{◌≡◌, ◌≢◌, ◌≤◌, ℕ, Bool, true, false, List, [], ◌∷◌, length, Option, Some, None, slice_get}
+use Rattle.std.specs.Prelude.{◌≡◌, ◌≢◌, ◌<◌, ◌≤◌, ℕ, Bool, true, false, List, [], ◌∷◌, length, Option, Some, None, slice_get}
 use Rattle.std.specs.Borrow.{Bor}
-use Rattle.type_terms.specs.Term.{Term, Terms, base_term, list_term, tuple_term, source_term, variable, no_terms, one_more, InTerm, term_of}
+use Rattle.type_terms.specs.Term.{Term, Terms, base_term, list_term, tuple_term, source_term, variable, no_terms, one_more, InKind, InTerm, term_of}
 use Rattle.type_terms.specs.Variables.{Variable}
 use Rattle.type_terms.specs.Table.{Table, IsSound, bound_at}
 use Rattle.type_terms.specs.declared.ty.Ty.{Ty}
@@ -48,10 +48,21 @@ abbrev pub reached_by : Bool → Option Term → List Term
 reached_by true o = bound_list o
 reached_by false o = []
 
+-- the terms right inside a term
+abbrev pub inside : Term → List Term
+inside (list_term t) = t ∷ []
+inside (tuple_term ts) = parts ts
+inside _ = []
+
 -- the terms right below a term, where a variable has what it is bound to below it, if that is asked for
 abbrev pub below : List Variable → Bool → Term → List Term
-below vs deep (base_term b) = []
+below vs deep (variable k) = reached_by deep (bound_at vs k)
 below vs deep (list_term t) = t ∷ []
 below vs deep (tuple_term ts) = parts ts
-below vs deep (source_term k) = []
-below vs deep (variable k) = reached_by deep (bound_at vs k)
+below vs deep _ = []
+
+-- the term's outermost variable, if it has one, is one of so many
+abbrev pub IsAmong : ℕ → ℕ → Term → Type 0
+IsAmong m n (variable k) = k < m
+IsAmong m n (source_term k) = InKind (λ j. j < n) k
+IsAmong m n _ = Unit {0}

@@ -12,3 +12,6 @@ mod unifier;
 
 pub use subst::{Subst, resolved, unify};
 pub use ty::{Base, KindTerm, Ty};
+
+#[cfg(test)]
+mod tests;

@@ -1,13 +1,13 @@
 // What a type is bound to, and whether a variable stands in it.
-ghost use Rattle.std.specs.Prelude.{◌≡◌, ◌≢◌, ◌+◌, ◌++◌, ◌<◌, ◌≤◌, ℕ, Bool, None, List, length, map, false, true, IfOk, OnOk};
+ghost use Rattle.std.specs.Prelude.{◌≡◌, ◌≢◌, ◌+◌, ◌++◌, ◌<◌, ◌≤◌, ℕ, Bool, None, List, length, map, false, true, IfOk, IsTrue, OnOk, ◌↔◌};
 ghost use Rattle.std.specs.Bool.{OnTrue, OnFalse};
 ghost use Rattle.type_terms.specs.Ground.{Assignment, size};
-ghost use Rattle.type_terms.specs.Nested.{IsMarked, IsUnnested, below, mark_at, terms};
+ghost use Rattle.type_terms.specs.Nested.{IsAmong, IsMarked, IsUnnested, below, inside, mark_at, terms};
 ghost use Rattle.type_terms.specs.Rank.{rank_of};
 ghost use Rattle.type_terms.specs.Table.{Avoids, IsOver, IsSound, IsTriangular, Table, MeetsBindings, bound_at, extra};
 ghost use Rattle.type_terms.specs.Term.{InTerm, meaning, height, term_of, variable};
 
-use crate::ty::Ty;
+use crate::ty::{KindTerm, Ty};
 use crate::type_variable::TypeVariable;
 use liq_base::Memory;
 use std::alloc::Global;
@@ -74,6 +74,20 @@ fn push_parts<'a>(work: &mut Vec<&'a Ty>, parts: &'a [Ty]) -> Result<(), Memory>
     Ok(())
 }
 
+/// Puts what is right inside a type on the stack.
+fn push_inside<'a>(work: &mut Vec<&'a Ty>, ty: &'a Ty) -> Result<(), Memory>
+    ensures { OnOk result (terms work.new.items ≡ terms work.old.items ++ inside (term_of ty.now)) }
+{
+    match ty {
+        Ty::List(item) => {
+            work.push(item)?;
+            Ok(())
+        }
+        Ty::Tuple(parts) => push_parts(work, parts),
+        _ => Ok(()),
+    }
+}
+
 /// Puts what is right below a type on the stack; with `deep` also what a variable is bound to.
 fn push_below<'a>(
     work: &mut Vec<&'a Ty>,
@@ -85,11 +99,6 @@ fn push_below<'a>(
     ensures { OnOk result (terms work.new.items ≡ terms work.old.items ++ below types.now deep (term_of ty.now)) }
 {
     match ty {
-        Ty::List(item) => {
-            work.push(item)?;
-            Ok(())
-        }
-        Ty::Tuple(parts) => push_parts(work, parts),
         Ty::Var(k) => {
             if deep {
                 let variable = &types[*k as usize];
@@ -99,7 +108,7 @@ fn push_below<'a>(
             }
             Ok(())
         }
-        _ => Ok(()),
+        _ => push_inside(work, ty),
     }
 }
 
@@ -129,6 +138,43 @@ pub fn occurs_in(
             return Ok(true);
         }
         push_below(&mut work, types, nested, next)?;
+    }
+    Err(Memory)
+}
+
+/// Whether the type's outermost node is no variable, or one of less than so many.
+fn is_among(ty: &Ty, types: usize, kinds: usize) -> bool
+    ensures { IsTrue result ↔ IsAmong types kinds (term_of ty.now) }
+{
+    match ty {
+        Ty::Var(k) => (*k as usize) < types,
+        Ty::Source(kind) => match kind {
+            KindTerm::Var(k) => (*k as usize) < kinds,
+            KindTerm::Fixed(_) => true,
+        },
+        _ => true,
+    }
+}
+
+/// Whether each variable of the type is one of these.
+pub fn are_among(
+    alloc: Global,
+    types: &[TypeVariable],
+    kinds: &[Option<KindTerm>],
+    ty: &Ty,
+) -> Result<bool, Memory>
+    ensures { IfOk result (λ yes. IsTrue yes ↔ InTerm (λ n. n < length types.now) (λ n. n < length kinds.now) (term_of ty.now)) }
+{
+    let mut work = Vec::new(alloc);
+    work.push(ty)?;
+    for _step in 0..MOST_STEPS {
+        let Some(next) = work.pop() else {
+            return Ok(true);
+        };
+        if !is_among(next, types.len(), kinds.len()) {
+            return Ok(false);
+        }
+        push_inside(&mut work, next)?;
     }
     Err(Memory)
 }

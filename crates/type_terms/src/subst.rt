@@ -11,6 +11,7 @@ ghost use Rattle.type_terms.specs.Undo.{SameVariables};
 ghost use Rattle.type_terms.specs.declared.ty.KindTerm.TheVariants.{Var};
 
 use crate::copying::MOST_LEVELS;
+use crate::occurs::are_among;
 use crate::resolving::{MOST_NODES, settle};
 use crate::ty::{KindTerm, Ty};
 use crate::type_variable::TypeVariable;
@@ -111,6 +112,13 @@ impl Subst {
             Some(variable) => variable.is_number(),
             None => false,
         }
+    }
+
+    /// Whether each variable of the type is one of this substitution.
+    pub fn covers(&self, alloc: Global, ty: &Ty) -> Result<bool, Memory>
+        ensures { IfOk result (λ yes. IsTrue yes ↔ IsOver self.now (term_of ty.now)) }
+    {
+        are_among(alloc, &self.types, &self.kinds, ty)
     }
 
     /// Each assignment to the variables that are bound to nothing, with int or decimal for each number variable, is that of a solution.

@@ -7,17 +7,6 @@ use Rattle.type_terms.proofs.Views.{term_List, term_Var}
 use Rattle.type_terms.proofs.Walks.{below_bound, below_free, parts_of_terms, terms-append}
 use Rattle.type_terms.proofs.occurs.push_below.Goals as goal
 
-pub returns-in_ok-push-in-List : goal.returns-in_ok-push-in-List
-returns-in_ok-push-in-List c =
-    ap terms c.in_ok-push-in-List.ensures.items ∙ terms-append _ _
-    ∙ ap (λ u. terms c.args.work.now.items ++ below c.args.types.now c.args.deep u) (sym (term_List _ _ c.in-List.is ∙ ap (λ u. list_term (term_of u)) (sym c.deref.ensures)))
-
-pub returns-in-Tuple : goal.returns-in-Tuple
-returns-in-Tuple c =
-    subst (λ us. OnOk c.push_parts.result (terms c.push_parts.new.work.items ≡ terms c.args.work.now.items ++ us))
-    (sym (ap (below c.args.types.now c.args.deep) (tuple_is _ _ _ c.in-Tuple.is c.deref-in-Tuple.ensures.value) ∙ parts_of_terms _))
-    c.push_parts.ensures
-
 pub returns-in_ok-push-in-Var : goal.returns-in_ok-push-in-Var
 returns-in_ok-push-in-Var c =
     ap terms c.in_ok-push-in-Var.ensures.items ∙ terms-append _ _
