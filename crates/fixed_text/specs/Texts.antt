@@ -1,5 +1,5 @@
--- The texts of numbers.
-use Rattle.std.specs.Prelude.{◌≡◌, ℕ, ◌+◌, ◌-◌, ◌*◌, ◌^◌, ◌≤◌, List, [], ◌∷◌, ◌++◌, length, Bool, false, not, ◌&&◌, ◌==◌}
+-- The texts of numbers and of times.
+use Rattle.std.specs.Prelude.{◌≡◌, ℕ, ◌+◌, ◌-◌, ◌*◌, ◌/◌, ◌%◌, ◌^◌, ◌≤◌, List, [], ◌∷◌, ◌++◌, length, Bool, false, not, ◌&&◌, ◌==◌, ℤ, unsigned_abs}
 use Rattle.std.specs.Char.{is_ascii_digit}
 use Rattle.std.specs.List.{list_all}
 use Rattle.std.specs.Str.Parse.{IsNumeral, AllDigits, digits_value}
@@ -8,7 +8,7 @@ use Rattle.std.specs.Str.Parse.{IsNumeral, AllDigits, digits_value}
 abbrev pub millionths : List ℕ → List ℕ → ℕ
 millionths whole fraction = digits_value 10 whole * 1000000 + digits_value 10 fraction * 10 ^ (6 - length fraction)
 
--- digits, a point, at most six digits, of at most 10 ^ 15 millionths
+-- digits, a point and at most six digits write a number of millionths, of at most 10 ^ 15
 pub record IsDecimalText (text : List ℕ) (value : ℕ) : Type 0 where
   pub whole : List ℕ
   pub fraction : List ℕ
@@ -24,3 +24,24 @@ abbrev pub is_plain : List ℕ → Bool
 is_plain [] = false
 is_plain (b ∷ []) = is_ascii_digit b
 is_plain (b ∷ c ∷ bs) = not (b == 48) && list_all is_ascii_digit (b ∷ c ∷ bs)
+
+-- the whole samples in a time of so many millionths of a second, at so many samples a second
+abbrev pub samples_in : ℤ → ℕ → ℕ
+samples_in millionths rate = unsigned_abs millionths * rate / 10 ^ 6
+
+-- a number below 100 as two digits, so that 7 is `07`
+abbrev pub two_digits : ℕ → List ℕ
+two_digits n = (48 + n / 10) ∷ (48 + n % 10) ∷ []
+
+-- `D:HH:MM:SS` writes a second of the week: a day from 1, which is Monday, and the hour, minute and second of that day
+pub record IsStartText (text : List ℕ) (at : ℕ) : Type 0 where
+  pub day : ℕ
+  pub hour : ℕ
+  pub minute : ℕ
+  pub second : ℕ
+  pub days : (1 ≤ day) × (day ≤ 7)
+  pub hours : hour ≤ 23
+  pub minutes : minute ≤ 59
+  pub seconds : second ≤ 59
+  pub spelled : text ≡ ((48 + day) ∷ 58 ∷ two_digits hour) ++ (58 ∷ two_digits minute) ++ (58 ∷ two_digits second)
+  pub means : at ≡ (day - 1) * 86400 + hour * 3600 + minute * 60 + second

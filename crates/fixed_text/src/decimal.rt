@@ -1,11 +1,11 @@
 // Decimals of a script, exact to a millionth.
-ghost use Rattle.std.specs.Prelude.{◌≡◌, ◌-◌, ◌&&◌, pos, negsuc, ◌≤ℤ◌, option_map, ◌≤◌, ◌^◌, length, nat_le, if◌then◌else◌, Some, None};
-ghost use Rattle.std.specs.Str.Parse.{AllDigits};
-ghost use Rattle.fixed_text.specs.Texts.{millionths};
+ghost use Rattle.std.specs.Prelude.{◌≡◌, ℕ, ◌-◌, ◌&&◌, ◌↔◌, pos, negsuc, ◌≤ℤ◌, ◌<ℤ◌, option_map, ◌≤◌, ◌^◌, length, nat_le, if◌then◌else◌, Some, None, IfSome, IsNone, IsSomeAnd, position, ◌==◌, List, ◌++◌, ◌∷◌};
+ghost use Rattle.std.specs.Str.Parse.{AllDigits, IsNumeral};
+ghost use Rattle.fixed_text.specs.Texts.{millionths, samples_in, IsDecimalText};
 
-use crate::digits::value_up_to;
+use crate::digits::{are_digits, value_up_to};
 
-// What one unit of the last of these places is worth.
+// What one unit of the last of these places is worth, in millionths.
 fn scale(places: usize) -> Option<u64>
     ensures { result ≡ (if nat_le places 6 then Some (10 ^ (6 - places)) else None) }
 {
@@ -21,16 +21,18 @@ fn scale(places: usize) -> Option<u64>
     }
 }
 
-/// A number of millionths, of at most 10^9 units.
+/// A decimal of a script, exact to a millionth: `0.04` is 40000. `docs/language.md`, "Numbers", has the rule.
 #[derive(Clone, Copy, Debug, PartialEq, Eq)]
 pub struct Decimal {
+    /// Millionths, from -10^15 to 10^15, that is 10^9 units either way.
     pub millionths: i64,
     ghost low: { negsuc 999999999999999 ≤ℤ millionths },
     ghost high: { millionths ≤ℤ pos 1000000000000000 },
 }
 
 impl Decimal {
-    /// The number that digits before and after a point write; none if it has more than six behind the point or passes 10^9.
+    /// The decimal that the digits before and behind a point write.
+    /// `None` exactly where more than six stand behind the point, or where it passes 10^9 units.
     pub fn from_digits(whole: &[u8], fraction: &[u8]) -> Option<Decimal>
         requires whole { AllDigits 10 whole.now }
         requires fraction { AllDigits 10 fraction.now }
@@ -47,4 +49,52 @@ impl Decimal {
             millionths: value as i64,
         })
     }
+
+    /// How many samples this many seconds last at `rate` samples a second, rounded down.
+    /// `None` exactly for a time below zero. It takes no memory.
+    pub fn samples(self, rate: u32) -> Option<u64>
+        ensures none { IsNone result ↔ (self.millionths <ℤ pos 0) }
+        ensures count { IfSome result (λ n. n ≡ samples_in self.millionths rate) }
+    {
+        let millionths = u64::try_from(self.millionths).ok()?;
+        let samples = u128::from(millionths) * u128::from(rate) / 1_000_000;
+        Some(samples as u64)
+    }
+}
+
+// Where the first point of a text stands.
+fn first_point(text: &[u8]) -> Option<usize>
+    ensures { result ≡ position (λ b. b == 46) text.now }
+{
+    text.iter().position(|byte| *byte == b'.')
+}
+
+// The digits before and behind the point of a text.
+fn parts(text: &[u8]) -> Option<(&[u8], &[u8])>
+    ensures found { IfSome result (λ p. IsNumeral 10 p.0.now × AllDigits 10 p.1.now × (text.now ≡ p.0.now ++ 46 ∷ p.1.now)) }
+    ensures only { (whole fraction : List ℕ) → text.now ≡ whole ++ 46 ∷ fraction → IsNumeral 10 whole → AllDigits 10 fraction → IsSomeAnd result (λ p. (p.0.now ≡ whole) × (p.1.now ≡ fraction)) }
+{
+    let point = first_point(text)?;
+    let whole = &text[..point];
+    let fraction = &text[point + 1..];
+    if whole.is_empty() {
+        return None;
+    }
+    if !are_digits(whole) {
+        return None;
+    }
+    if !are_digits(fraction) {
+        return None;
+    }
+    Some((whole, fraction))
+}
+
+/// The decimal that a text writes: digits, a point, and at most six digits.
+/// `None` exactly where the text has another form, or where it passes 10^9 units. It takes no memory.
+pub fn read_decimal(text: &[u8]) -> Option<Decimal>
+    ensures found { IfSome result (λ d. (n : ℕ) × (d.millionths ≡ pos n) × IsDecimalText text.now n) }
+    ensures only { (n : ℕ) → IsDecimalText text.now n → option_map (λ d. d.millionths) result ≡ Some (pos n) }
+{
+    let (whole, fraction) = parts(text)?;
+    Decimal::from_digits(whole, fraction)
 }

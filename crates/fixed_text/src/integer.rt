@@ -18,7 +18,8 @@ fn is_plain(text: &[u8]) -> bool
     }
 }
 
-/// The number whose decimal text this is.
+/// The number whose decimal text this is: digits without a sign and without a leading zero (`docs/language.md`,
+/// "Numbers"). `None` exactly where no number below 2^64 has this text. It takes no memory.
 pub fn read_u64(text: &[u8]) -> Option<u64>
     ensures found { IfSome result (λ n. text.now ≡ decimal n) }
     ensures only { (n : ℕ) → n < 2 ^ 64 → text.now ≡ decimal n → result ≡ Some n }
@@ -29,7 +30,7 @@ pub fn read_u64(text: &[u8]) -> Option<u64>
     value_up_to(text, u64::MAX)
 }
 
-/// Appends the decimal text of a number.
+/// Appends the decimal text of a number, which `read_u64` reads back. Where memory is refused, `into` is as it was.
 pub fn write_u64(into: &mut Vec<u8>, value: u64) -> Result<(), Memory>
     ensures ok { OnOk result (into.new.items ≡ into.old.items ++ decimal value) }
     ensures err { OnErr result (into.new.items ≡ into.old.items) }
@@ -39,7 +40,8 @@ pub fn write_u64(into: &mut Vec<u8>, value: u64) -> Result<(), Memory>
     Ok(())
 }
 
-/// Appends the decimal text of a signed number.
+/// Appends the decimal text of a number, with `-` before it where it is below zero. Where memory is refused, `into` is
+/// as it was.
 pub fn write_i64(into: &mut Vec<u8>, value: i64) -> Result<(), Memory>
     ensures ok { OnOk result (into.new.items ≡ into.old.items ++ signed_decimal value) }
     ensures err { OnErr result (into.new.items ≡ into.old.items) }

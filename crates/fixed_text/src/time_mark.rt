@@ -1,6 +1,7 @@
 // A mark in the week, as it stands in a script.
 
-/// A time mark: at least one of its parts is there. `7w24h60m60s` has the largest parts that a script can write.
+/// A time mark of a script: at least one of its parts is there. `7w24h60m60s` has the largest parts that a script can
+/// write. `docs/language.md`, "Predicates and time", says what it means.
 #[derive(Clone, Copy, Debug, PartialEq, Eq, Hash)]
 pub struct TimeMark {
     /// The day of the week from 1 (Monday) to 7; 0 is Sunday too.

@@ -2,5 +2,9 @@
 #![tactic(auto)]
 
 mod cell;
+mod library;
+mod track;
 
 pub use cell::Cell;
+pub use library::Library;
+pub use track::Track;

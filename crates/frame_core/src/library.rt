@@ -1,0 +1,58 @@
+// The audio files of a plan, and the files that each leaf plays.
+ghost use Rattle.std.specs.Prelude.{◌≡◌, ◌<◌, length, map};
+ghost use Rattle.frame_core.specs.Library.{IsLibrary, Sounds, sound_at, tracks_of};
+ghost use Rattle.frame_core.specs.Sounds.{cell_of, length_of};
+
+use crate::{Cell, Track};
+use liq_base::Kind;
+use std::marker::Model;
+
+/// The audio files of a plan, each once, and for each of its nodes the numbers of the files that it plays, in order.
+#[derive(Debug, Drop)]
+pub struct Library {
+    files: Vec<Track>,
+    leaves: Vec<Vec<u32>>,
+}
+
+impl Model for Library {
+    ghost use Rattle.std.specs.Prelude.{map};
+    ghost use Rattle.frame_core.specs.Library.{IsLibrary, Sounds};
+
+    ghost Value = { Sounds };
+
+    ghost view = { λ l. record { files = l.files.items; leaves = map (λ v. v.items) l.leaves.items } };
+
+    ghost invariant = { λ l. IsLibrary (record { files = l.files.items; leaves = map (λ v. v.items) l.leaves.items }) };
+}
+
+impl Library {
+    /// The library of these files and lists.
+    pub fn new(files: Vec<Track>, leaves: Vec<Vec<u32>>) -> Library
+        requires { IsLibrary (record { files = files.items; leaves = map (λ v. v.items) leaves.items }) }
+        ensures { result ≡ record { files = files.items; leaves = map (λ v. v.items) leaves.items } }
+    {
+        Library { files, leaves }
+    }
+
+    /// How many samples each channel has in a file, which is a leaf's file number `track`: at least 1.
+    pub fn samples(&self, leaf: u32, track: u32) -> u64
+        requires leaf { leaf < length self.now.leaves }
+        requires track { track < length (tracks_of self.now leaf) }
+        ensures samples { result ≡ length_of (sound_at self.now leaf track) }
+        ensures some { 0 < result }
+    {
+        let file = self.leaves[leaf as usize][track as usize];
+        self.files[file as usize].samples()
+    }
+
+    /// The cell at a place of a file, which is a leaf's file number `track`, in a source of this kind. All of them are counted from 0.
+    pub fn cell(&self, leaf: u32, track: u32, at: u64, kind: Kind) -> Cell
+        requires leaf { leaf < length self.now.leaves }
+        requires track { track < length (tracks_of self.now leaf) }
+        requires at { at < length_of (sound_at self.now leaf track) }
+        ensures { result ≡ cell_of (sound_at self.now leaf track) kind at }
+    {
+        let file = self.leaves[leaf as usize][track as usize];
+        self.files[file as usize].cell(at, kind)
+    }
+}

@@ -1,0 +1,93 @@
+// An audio file, held as samples.
+ghost use Rattle.std.specs.Prelude.{◌≡◌, ◌<◌, ◌≤◌, ◌+ℤ◌, ◌*◌, ◌+◌, ◌/◌, ◌^◌, ℕ, ℤ, pos, length, int_div, nat_eq};
+ghost use Rattle.frame_core.specs.Sounds.{Sound, IsSound, cell_of, length_of, sample_at};
+
+use crate::Cell;
+use liq_base::Kind;
+use std::marker::Model;
+
+/// An audio file: whole blocks of signed samples, left before right, and at least one block.
+#[derive(Debug, Drop)]
+pub struct Track {
+    kind: Kind,
+    samples: Vec<i16>,
+}
+
+impl Model for Track {
+    ghost use Rattle.frame_core.specs.Sounds.{Sound, IsSound};
+
+    ghost Value = { Sound };
+
+    ghost view = { λ t. record { kind = t.kind; samples = t.samples.items } };
+
+    ghost invariant = { λ t. IsSound (record { kind = t.kind; samples = t.samples.items }) };
+}
+
+impl Track {
+    /// The file of these samples.
+    pub fn new(kind: Kind, samples: Vec<i16>) -> Track
+        requires { IsSound (record { kind = kind; samples = samples.items }) }
+        ensures { result ≡ record { kind = kind; samples = samples.items } }
+    {
+        Track { kind, samples }
+    }
+
+    /// How many channels it has.
+    pub fn kind(&self) -> Kind
+        ensures { result ≡ self.now.kind }
+    {
+        self.kind
+    }
+
+    /// How many samples each channel has, at least 1.
+    pub fn samples(&self) -> u64
+        ensures samples { result ≡ length_of self.now }
+        ensures some { 0 < result }
+    {
+        let samples = self.samples.len() as u64;
+        match self.kind {
+            Kind::Mono => samples,
+            Kind::Stereo => samples / 2,
+        }
+    }
+
+    /// The cell at a place, in a source of this kind. A mono file gives its sample to both sides, and a stereo file
+    /// in a mono source half the sum of its two, rounded toward zero.
+    pub fn cell(&self, at: u64, kind: Kind) -> Cell
+        requires { at < length_of self.now }
+        ensures { result ≡ cell_of self.now kind at }
+    {
+        let first = at == 0;
+        let at = at as usize;
+        match (self.kind, kind) {
+            (Kind::Mono, Kind::Mono) => Cell {
+                left: self.samples[at],
+                right: 0,
+                first,
+            },
+            (Kind::Mono, Kind::Stereo) => Cell {
+                left: self.samples[at],
+                right: self.samples[at],
+                first,
+            },
+            (Kind::Stereo, Kind::Mono) => Cell {
+                left: half_sum(self.samples[2 * at], self.samples[2 * at + 1]),
+                right: 0,
+                first,
+            },
+            (Kind::Stereo, Kind::Stereo) => Cell {
+                left: self.samples[2 * at],
+                right: self.samples[2 * at + 1],
+                first,
+            },
+        }
+    }
+}
+
+// Half the sum, rounded toward zero.
+fn half_sum(left: i16, right: i16) -> i16
+    ensures { result ≡ int_div (left +ℤ right) (pos 2) }
+{
+    let sum = i32::from(left) + i32::from(right);
+    (sum / 2) as i16
+}

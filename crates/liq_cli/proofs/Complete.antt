@@ -1,0 +1,41 @@
+-- Where no count rose, the answer is the status: it follows from the rows by status.
+use Rattle.std.proofs.Common.{◌≡◌, ◌≤◌, ◌⊎◌, ℕ, zero, suc, List, sym, subst, ◌∙◌, ap, refl, inl, inr, arith}
+use Rattle.std.specs.Prelude.{Option, Some, None}
+use Rattle.liq_base.specs.Counts.{Rose}
+use Rattle.liq_base.specs.Files.{Files, file_at}
+use Rattle.liq_cli.specs.Answer.{Answer, Usage, Refused, Accepted, Plan, answer, asked_step}
+use Rattle.liq_cli.specs.Call.{Moment, Ends, IsDone, Told, Calm, Completes, IsComplete, Starved, WriteFailed}
+use Rattle.liq_cli.specs.Words.{Asked, asked_by}
+use Rattle.liq_cli.specs.declared.fault.Fault.{Fault}
+
+no_write : (old new : Moment) → Calm old new → WriteFailed old new → ⊥
+no_write old new calm (inl e) = calm.err e
+no_write old new calm (inr (inl o)) = calm.out o
+no_write old new calm (inr (inr w)) = calm.writes w
+
+done_is_accepted : (a : Answer) (files : Files) (old new : Moment) → IsDone a files old new → Completes a 0
+done_is_accepted (Accepted plan) files old new done = inl refl
+done_is_accepted (Refused fault) files old new done = absurd done.rendered
+done_is_accepted Usage files old new done = absurd done.rendered
+
+told_is_refused : (a : Answer) (old new : Moment) → Told a old new → Completes a 1
+told_is_refused (Accepted plan) old new told = absurd told
+told_is_refused (Refused fault) old new told = inl refl
+told_is_refused Usage old new told = absurd told
+
+usage_answer : (words : List (List ℕ)) (files : Files) → asked_by words ≡ None → answer words files ≡ Usage
+usage_answer words files none = ap (asked_step files) none
+
+starved_is_free : (a : Answer) (cause : Type 0) (files : Files) (after : Option Files) → Starved a cause files after → Completes a 5
+starved_is_free (Accepted plan) cause files after starved = inr refl
+starved_is_free (Refused fault) cause files after starved = inr refl
+starved_is_free Usage cause files after starved = absurd starved
+
+pub completes : (words : List (List ℕ)) (old new : Moment) (status : ℕ) → Ends words old new status → IsComplete words old new status
+completes words old new zero ends calm files told = done_is_accepted (answer words files) files old new ((ends.done refl).0 files told)
+completes words old new (suc zero) ends calm files told = told_is_refused (answer words files) old new ((ends.refused refl).0 files told)
+completes words old new (suc (suc zero)) ends calm files told = subst (λ a. Completes a 2) (sym (usage_answer words files (ends.usage refl).0)) refl
+completes words old new (suc (suc (suc zero))) ends calm files told = absurd (calm.reads (ends.read_fault refl).0)
+completes words old new (suc (suc (suc (suc zero)))) ends calm files told = absurd (no_write old new calm (ends.write_fault refl).1)
+completes words old new (suc (suc (suc (suc (suc zero))))) ends calm files told = starved_is_free (answer words files) _ files new.files ((ends.memory refl).0 files told)
+completes words old new (suc (suc (suc (suc (suc (suc n)))))) ends calm files told = absurd (let le = ends.is_status in omega arith)

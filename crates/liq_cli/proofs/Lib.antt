@@ -1,0 +1,10 @@
+pub mod Numbers
+pub mod Blocks
+pub mod Results
+pub mod Parts
+pub mod Names
+pub mod Ended
+pub mod Complete
+pub mod Decoded
+pub mod Ends
+pub mod Usage

@@ -1,0 +1,120 @@
+-- What one call leaves, for each status.
+use Rattle.std.specs.Prelude.{◌≡◌, ◌≤◌, ◌⊎◌, ℕ, List, Option, Some, None, IsSomeAnd}
+use Rattle.std.specs.Option.{ForSome}
+use Rattle.liq_base.specs.Counts.{Rose}
+use Rattle.liq_base.specs.Pieces.{IsPrefix, grown}
+use Rattle.liq_base.specs.Files.{Files}
+use Rattle.liq_cli.specs.Outputs.{with_outputs, HoldsSome}
+use Rattle.liq_cli.specs.Words.{asked_by}
+use Rattle.liq_cli.specs.Answer.{Answer, Usage, Refused, Accepted, answer, Plan, Run, IsLawful, IsBegun, outputs_of, report_of, line_of, usage_line}
+
+-- what the shelf, `out` and `err` tell at one moment, and how often they failed
+pub record Moment : Type 0 where
+  pub files : Option Files
+  pub out : Option (List ℕ)
+  pub err : Option (List ℕ)
+  pub reads : ℕ
+  pub writes : ℕ
+  pub out_faults : ℕ
+  pub err_faults : ℕ
+
+-- a prefix of the line was written
+pub record GrewPart (line : List ℕ) (old new : Option (List ℕ)) : Type 0 where
+  pub part : List ℕ
+  pub is_front : IsPrefix part line
+  pub grew : new ≡ grown part old
+
+-- a run wrote all outputs, and this is its report
+pub record Wrote (plan : Plan) (files : Files) (after : Option Files) (report : List ℕ) : Type 0 where
+  pub run : Run
+  pub lawful : IsLawful plan run
+  pub written : after ≡ Some (with_outputs files (outputs_of plan run))
+  pub report_is : report ≡ report_of plan run
+
+-- a run was broken off: the outputs that were created hold a part, or, for this cause, what they held
+pub record WrotePart (plan : Plan) (cause : Type 0) (files : Files) (after : Option Files) : Type 0 where
+  pub run : Run
+  pub begun : IsBegun plan run
+  pub parts : IsSomeAnd after (HoldsSome cause files (outputs_of plan run))
+
+abbrev pub Rendered : Answer → Files → Option Files → List ℕ → Type 0
+Rendered (Accepted plan) files after report = Wrote plan files after report
+Rendered (Refused fault) files after report = ⊥
+Rendered Usage files after report = ⊥
+
+abbrev pub Broken : Answer → Type 0 → Files → Option Files → Type 0
+Broken (Accepted plan) cause files after = WrotePart plan cause files after
+Broken (Refused fault) cause files after = ⊥
+Broken Usage cause files after = ⊥
+
+-- memory was refused, maybe before anything was created
+abbrev pub Starved : Answer → Type 0 → Files → Option Files → Type 0
+Starved (Accepted plan) cause files after = WrotePart plan cause files after
+Starved (Refused fault) cause files after = after ≡ Some files
+Starved Usage cause files after = ⊥
+
+-- the files were written, and the report too or a part of it
+pub record IsDone (answer : Answer) (files : Files) (old new : Moment) : Type 0 where
+  pub report : List ℕ
+  pub rendered : Rendered answer files new.files report
+  pub reported : new.out ≡ grown report old.out
+
+pub record ReportBroke (answer : Answer) (files : Files) (old new : Moment) : Type 0 where
+  pub report : List ℕ
+  pub rendered : Rendered answer files new.files report
+  pub reported : GrewPart report old.out new.out
+  pub cause : Rose old.out_faults new.out_faults
+
+-- a creation, an output or a closing failed
+pub record OutputBroke (answer : Answer) (files : Files) (old new : Moment) : Type 0 where
+  pub broken : Broken answer (Rose old.writes new.writes) files new.files
+  pub out_kept : new.out ≡ old.out
+  pub cause : Rose old.writes new.writes
+
+-- the line on `err` broke off
+pub record LineBroke (line : List ℕ) (old new : Moment) : Type 0 where
+  pub files_kept : new.files ≡ old.files
+  pub out_kept : new.out ≡ old.out
+  pub written : GrewPart line old.err new.err
+  pub cause : Rose old.err_faults new.err_faults
+
+-- what status 1 and 4 say, by the answer
+abbrev pub Told : Answer → Moment → Moment → Type 0
+Told (Refused fault) old new = new.err ≡ grown (line_of fault) old.err
+Told (Accepted plan) old new = ⊥
+Told Usage old new = ⊥
+
+abbrev pub Broke : Answer → Files → Moment → Moment → Type 0
+Broke (Accepted plan) files old new = (ReportBroke (Accepted plan) files old new ⊎ OutputBroke (Accepted plan) files old new) × (new.err ≡ old.err)
+Broke (Refused fault) files old new = LineBroke (line_of fault) old new
+Broke Usage files old new = LineBroke usage_line old new
+
+abbrev pub WriteFailed : Moment → Moment → Type 0
+WriteFailed old new = Rose old.err_faults new.err_faults ⊎ Rose old.out_faults new.out_faults ⊎ Rose old.writes new.writes
+
+-- by status
+pub record Ends (words : List (List ℕ)) (old new : Moment) (status : ℕ) : Type 0 where
+  pub is_status : status ≤ 5
+  pub done : status ≡ 0 → ForSome old.files (λ files. IsDone (answer words files) files old new) × (new.err ≡ old.err)
+  pub refused : status ≡ 1 → ForSome old.files (λ files. Told (answer words files) old new) × (new.files ≡ old.files) × (new.out ≡ old.out)
+  pub usage : status ≡ 2 → (asked_by words ≡ None) × (new.err ≡ grown usage_line old.err) × (new.files ≡ old.files) × (new.out ≡ old.out)
+  pub read_fault : status ≡ 3 → Rose old.reads new.reads × (new.files ≡ old.files) × (new.out ≡ old.out) × (new.err ≡ old.err)
+  pub write_fault : status ≡ 4 → ForSome old.files (λ files. Broke (answer words files) files old new) × WriteFailed old new
+  pub memory : status ≡ 5 → ForSome old.files (λ files. Starved (answer words files) (Rose old.writes new.writes) files new.files) × (new.out ≡ old.out) × (new.err ≡ old.err)
+  pub no_form : asked_by words ≡ None → (status ≡ 2) ⊎ ((status ≡ 4) × Rose old.err_faults new.err_faults)
+
+-- no count rose
+pub record Calm (old new : Moment) : Type 0 where
+  pub reads : Rose old.reads new.reads → ⊥
+  pub writes : Rose old.writes new.writes → ⊥
+  pub out : Rose old.out_faults new.out_faults → ⊥
+  pub err : Rose old.err_faults new.err_faults → ⊥
+
+abbrev pub Completes : Answer → ℕ → Type 0
+Completes (Accepted plan) status = (status ≡ 0) ⊎ (status ≡ 5)
+Completes (Refused fault) status = (status ≡ 1) ⊎ (status ≡ 5)
+Completes Usage status = status ≡ 2
+
+-- where no count rose, the answer is the status, or memory was refused
+abbrev pub IsComplete : List (List ℕ) → Moment → Moment → ℕ → Type 0
+IsComplete words old new status = Calm old new → ForSome old.files (λ files. Completes (answer words files) status)

@@ -1,0 +1,9 @@
+pub mod Words
+pub mod Script
+pub mod Streams
+pub mod Outputs
+pub mod Answer
+pub mod Call
+pub mod Halts
+pub mod Prepared
+pub mod Works

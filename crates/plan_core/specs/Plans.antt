@@ -1,0 +1,178 @@
+-- Well-formed plans.
+use Rattle.std.specs.Prelude.{◌≡◌, ℕ, ◌+◌, ◌^◌, ◌<◌, ◌≤◌, ◌<ℤ◌, pos, ⊤, Some, List, [], ◌∷◌, ◌++◌, length, map, take, max, slice_get, slice_index, Bool, false, ◌==◌, All, Contains, count_by}
+use Rattle.std.specs.Option.{option_map_or}
+use Rattle.liq_base.specs.declared.memory.Kind.{Kind}
+use Rattle.liq_base.specs.declared.memory.Kind.TheVariants.{Mono, Stereo as Both}
+use Rattle.plan_core.specs.declared.node.Node.{Node}
+use Rattle.plan_core.specs.declared.node.Op.{Op}
+use Rattle.plan_core.specs.declared.node.Op.TheVariants.{Single, Playlist, Blank, Square, Fail, Fallback, Switch, Sequence, Add, Amplify, Mean, Stereo, Crossfade, Buffer, Clock}
+use Rattle.plan_core.specs.declared.plan.Plan.{Plan}
+use Rattle.plan_core.specs.declared.sink.SinkPlan.{SinkPlan}
+use Rattle.plan_core.specs.declared.sink.SinkPlan.TheVariants.{Output, Feed}
+
+-- how many children a node of this operator has: a leaf none, a switch one for each predicate
+abbrev pub HasChildren : Op → ℕ → Type 0
+HasChildren (Single file) n = n ≡ 0
+HasChildren (Playlist file again) n = n ≡ 0
+HasChildren (Blank track) n = n ≡ 0
+HasChildren (Square pitch) n = n ≡ 0
+HasChildren Fail n = n ≡ 0
+HasChildren (Fallback sensitive) n = ⊤
+HasChildren (Switch sensitive preds) n = n ≡ length preds
+HasChildren Sequence n = ⊤
+HasChildren (Add normalize) n = ⊤
+HasChildren (Amplify factor) n = n ≡ 1
+HasChildren Mean n = n ≡ 1
+HasChildren Stereo n = n ≡ 1
+HasChildren (Crossfade overlap) n = n ≡ 1
+HasChildren (Buffer number) n = n ≡ 0
+HasChildren (Clock id) n = n ≡ 1
+
+-- the kind of a node of this operator, over children of a kind: the children's, but a mean is mono over stereo, and a stereo is stereo over mono
+abbrev pub HasKind : Op → (children : Kind) → Kind → Type 0
+HasKind (Single file) children kind = kind ≡ children
+HasKind (Playlist file again) children kind = kind ≡ children
+HasKind (Blank track) children kind = kind ≡ children
+HasKind (Square pitch) children kind = kind ≡ children
+HasKind Fail children kind = kind ≡ children
+HasKind (Fallback sensitive) children kind = kind ≡ children
+HasKind (Switch sensitive preds) children kind = kind ≡ children
+HasKind Sequence children kind = kind ≡ children
+HasKind (Add normalize) children kind = kind ≡ children
+HasKind (Amplify factor) children kind = kind ≡ children
+HasKind Mean children kind = (children ≡ Both) × (kind ≡ Mono)
+HasKind Stereo children kind = (children ≡ Mono) × (kind ≡ Both)
+HasKind (Crossfade overlap) children kind = kind ≡ children
+HasKind (Buffer number) children kind = kind ≡ children
+HasKind (Clock id) children kind = kind ≡ children
+
+-- a pitch is above 0, and an overlap from 1 to 4194304 samples
+abbrev pub IsInRange : Op → Type 0
+IsInRange (Single file) = ⊤
+IsInRange (Playlist file again) = ⊤
+IsInRange (Blank track) = ⊤
+IsInRange (Square pitch) = pos 0 <ℤ pitch.millionths
+IsInRange Fail = ⊤
+IsInRange (Fallback sensitive) = ⊤
+IsInRange (Switch sensitive preds) = ⊤
+IsInRange Sequence = ⊤
+IsInRange (Add normalize) = ⊤
+IsInRange (Amplify factor) = ⊤
+IsInRange Mean = ⊤
+IsInRange Stereo = ⊤
+IsInRange (Crossfade overlap) = (1 ≤ overlap) × (overlap ≤ 4194304)
+IsInRange (Buffer number) = ⊤
+IsInRange (Clock id) = ⊤
+
+-- 1 for a crossfade, 0 for any other node
+abbrev pub own_crossfades : Op → ℕ
+own_crossfades (Single file) = 0
+own_crossfades (Playlist file again) = 0
+own_crossfades (Blank track) = 0
+own_crossfades (Square pitch) = 0
+own_crossfades Fail = 0
+own_crossfades (Fallback sensitive) = 0
+own_crossfades (Switch sensitive preds) = 0
+own_crossfades Sequence = 0
+own_crossfades (Add normalize) = 0
+own_crossfades (Amplify factor) = 0
+own_crossfades Mean = 0
+own_crossfades Stereo = 0
+own_crossfades (Crossfade overlap) = 1
+own_crossfades (Buffer number) = 0
+own_crossfades (Clock id) = 0
+
+-- whether this is the reader of a buffer
+abbrev pub reads : ℕ → Op → Bool
+reads b (Single file) = false
+reads b (Playlist file again) = false
+reads b (Blank track) = false
+reads b (Square pitch) = false
+reads b Fail = false
+reads b (Fallback sensitive) = false
+reads b (Switch sensitive preds) = false
+reads b Sequence = false
+reads b (Add normalize) = false
+reads b (Amplify factor) = false
+reads b Mean = false
+reads b Stereo = false
+reads b (Crossfade overlap) = false
+reads b (Buffer number) = number == b
+reads b (Clock id) = false
+
+-- whether this is the feed of a buffer
+abbrev pub feeds : ℕ → SinkPlan → Bool
+feeds b (Output name node fallible) = false
+feeds b (Feed buffer node) = buffer == b
+
+-- the node of a sink
+abbrev pub sink_node : SinkPlan → ℕ
+sink_node (Output name node fallible) = node
+sink_node (Feed buffer node) = node
+
+-- the greatest of some numbers, or 0
+abbrev pub greatest : List ℕ → ℕ
+greatest [] = 0
+greatest (n ∷ ns) = max n (greatest ns)
+
+-- the most crossfades on a path down from a node, where each node below has these
+abbrev pub crossfades_over : List ℕ → Node → ℕ
+crossfades_over counts node = own_crossfades node.op + greatest (map (λ child. slice_index counts child) node.children)
+
+abbrev pub counts_after : List ℕ → List Node → List ℕ
+counts_after counts [] = counts
+counts_after counts (node ∷ nodes) = counts_after (counts ++ crossfades_over counts node ∷ []) nodes
+
+-- for each node, the most crossfades on a path down from it, itself among them
+abbrev pub crossfade_counts : List Node → List ℕ
+crossfade_counts nodes = counts_after [] nodes
+
+-- the same for a node over these nodes
+abbrev pub crossfades_from : List Node → Node → ℕ
+crossfades_from nodes node = crossfades_over (crossfade_counts nodes) node
+
+-- what a node over these nodes has to meet
+pub record IsNodeOver (below : List Node) (node : Node) : Type 0 where
+  pub children : All (λ child. child < length below) node.children
+  pub few : length node.children ≤ 65535
+  pub number : HasChildren node.op (length node.children)
+  pub kinds : (child : ℕ) (node_below : Node) → Contains node.children child → slice_get below child ≡ Some node_below → HasKind node.op node_below.kind node.kind
+  pub range : IsInRange node.op
+  pub crossfades : crossfades_from below node ≤ 4
+
+-- each node stands over the ones before it
+abbrev pub AreNodes : List Node → Type 0
+AreNodes nodes = (i : ℕ) (node : Node) → slice_get nodes i ≡ Some node → IsNodeOver (take i nodes) node
+
+-- a reader has the kind of its feed's node
+abbrev pub ReadersHaveKind : Plan → Type 0
+ReadersHaveKind plan = (reader source : Node) (buffer node : ℕ) → Contains plan.nodes reader → reader.op ≡ Buffer buffer → Contains plan.sinks (Feed buffer node) → slice_get plan.nodes node ≡ Some source → reader.kind ≡ source.kind
+
+-- what every call that takes a plan may rely on
+pub record IsWellFormed (plan : Plan) : Type 0 where
+  pub rate : (8000 ≤ plan.rate) × (plan.rate ≤ 192000)
+  pub frame : (1 ≤ plan.frame) × (plan.frame ≤ 65536)
+  pub few_nodes : length plan.nodes ≤ 4096
+  pub few_sinks : length plan.sinks < 2 ^ 32
+  pub nodes : AreNodes plan.nodes
+  pub sinks : All (λ sink. sink_node sink < length plan.nodes) plan.sinks
+  pub fed : (buffer node : ℕ) → Contains plan.sinks (Feed buffer node) → buffer < length plan.buffers
+  pub read : (reader : Node) (buffer : ℕ) → Contains plan.nodes reader → reader.op ≡ Buffer buffer → buffer < length plan.buffers
+  pub buffers : All (λ buffer. (buffer.pre ≤ 4194304) × (1 ≤ buffer.capacity) × (buffer.capacity ≤ 65536)) plan.buffers
+  pub one_feed : (buffer : ℕ) → buffer < length plan.buffers → count_by (λ sink. feeds buffer sink) plan.sinks ≡ 1
+  pub one_reader : (buffer : ℕ) → buffer < length plan.buffers → count_by (λ node. reads buffer node.op) plan.nodes ≡ 1
+  pub readers : ReadersHaveKind plan
+
+-- a path down from a node: a child of it, a child of that one, and so on
+abbrev pub IsPathDown : List Node → ℕ → List ℕ → Type 0
+IsPathDown nodes i [] = i < length nodes
+IsPathDown nodes i (child ∷ path) = ((node : Node) × (slice_get nodes i ≡ Some node) × Contains node.children child) × IsPathDown nodes child path
+
+-- 1 if there is a crossfade of this number
+abbrev pub crossfades_at : List Node → ℕ → ℕ
+crossfades_at nodes i = option_map_or (λ node. own_crossfades node.op) (slice_get nodes i) 0
+
+-- how many crossfades a path has, with the node that it goes down from
+abbrev pub crossfades_on : List Node → ℕ → List ℕ → ℕ
+crossfades_on nodes i [] = crossfades_at nodes i
+crossfades_on nodes i (child ∷ path) = crossfades_at nodes i + crossfades_on nodes child path

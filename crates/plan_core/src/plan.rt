@@ -1,0 +1,82 @@
+// Plans, and how a node is added.
+ghost use Rattle.std.specs.Prelude.{◌≡◌, ◌<◌, ◌≤◌, ◌↔◌, ◌++◌, ◌∷◌, [], length, All, IfOk, OnOk, OnErr, IsErrOf};
+ghost use Rattle.plan_core.specs.Plans.{crossfades_from, AreNodes, IsNodeOver};
+
+use crate::{BufferPlan, Items, Node, SinkPlan};
+use liq_base::Memory;
+use liq_base::limits::MAX_NODES;
+use std::fmt;
+
+/// What a script stands for: nodes, of which each has smaller numbers below it, sinks and buffers, each counted from 0.
+#[derive(Debug, Drop)]
+pub struct Plan {
+    /// Samples a second, from 8000 to 192000.
+    pub rate: u32,
+
+    /// Samples of a tick, from 1 to 65536.
+    pub frame: u32,
+
+    /// The nodes, at most 4096.
+    pub nodes: Items<Node>,
+
+    /// The outputs and the feeds, in the order of the script.
+    pub sinks: Items<SinkPlan>,
+
+    /// The buffers. Each has one feed among the sinks and one reader among the nodes.
+    pub buffers: Items<BufferPlan>,
+}
+
+/// Why a node was not added.
+#[derive(Clone, Copy, Debug, PartialEq, Eq, Hash)]
+pub enum PlanFault {
+    /// As many nodes as a plan may have are there.
+    TooManySources,
+
+    /// Memory was refused.
+    Memory,
+}
+
+impl fmt::Display for PlanFault {
+    fn fmt<W: fmt::Write>(&self, f: &mut fmt::Formatter<W>) -> fmt::Result {
+        match self {
+            PlanFault::TooManySources => write!(f, "too many sources"),
+            PlanFault::Memory => Memory.fmt(f),
+        }
+    }
+}
+
+impl std::error::Error for PlanFault {}
+
+impl From<Memory> for PlanFault {
+    ghost use Rattle.plan_core.specs.declared.plan.PlanFault.TheVariants as fault;
+
+    ghost from_gives = { λ _ e. e ≡ fault.Memory };
+
+    fn from(_refused: Memory) -> PlanFault {
+        Self::Memory
+    }
+}
+
+impl Plan {
+    /// Adds a node, whose children are nodes of the plan, at most 65535 of them, and answers its number. No path down
+    /// from it may have more than 4 crossfades. `TooManySources` comes exactly where 4096 nodes are there. The plan is
+    /// unchanged after that, and where memory is refused.
+    pub fn push_node(&mut self, node: Node) -> Result<u32, PlanFault>
+        requires children { All (λ child. child < length self.old.nodes) node.children }
+        requires few { length node.children ≤ 65535 }
+        requires crossfades { crossfades_from self.old.nodes node ≤ 4 }
+        ensures number { IfOk result (λ number. number ≡ length self.old.nodes) }
+        ensures added { OnOk result (self.new ≡ record self.old { nodes = self.old.nodes ++ node ∷ [] }) }
+        ensures room { OnOk result (length self.old.nodes < 4096) }
+        ensures kept { OnOk result (AreNodes self.old.nodes → IsNodeOver self.old.nodes node → AreNodes self.new.nodes) }
+        ensures full { IsErrOf result PlanFault.TooManySources ↔ (4096 ≤ length self.old.nodes) }
+        ensures unchanged { OnErr result (self.new ≡ self.old) }
+    {
+        let number = self.nodes.len();
+        if number >= MAX_NODES as usize {
+            return Err(PlanFault::TooManySources);
+        }
+        self.nodes.push(node)?;
+        Ok(number as u32)
+    }
+}

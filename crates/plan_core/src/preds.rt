@@ -1,0 +1,57 @@
+// The predicates of a switch.
+ghost use Rattle.std.specs.Prelude.{◌≡◌, map, length};
+ghost use Rattle.time_pred.specs.View.{view_pred};
+
+use std::marker::Model;
+use time_pred::Pred;
+
+/// The predicates of a switch, one for each child. Contracts see the list of them as plain trees.
+#[derive(Debug, Drop)]
+pub struct Preds {
+    preds: Vec<Pred>,
+}
+
+impl Model for Preds {
+    ghost use Rattle.std.specs.Prelude.{List, map};
+    ghost use Rattle.std.specs.Coded.{coded_list};
+    ghost use Rattle.time_pred.specs.Predicates.{Predicate};
+    ghost use Rattle.time_pred.specs.Stored.{predicate_code};
+
+    ghost Value = { List Predicate };
+
+    ghost coded = { coded_list predicate_code };
+
+    ghost use Rattle.time_pred.specs.View.{view_pred};
+
+    ghost view = { λ s. map view_pred s.preds.items };
+}
+
+impl Preds {
+    /// The predicates of a `Vec`. It takes no memory.
+    pub fn from_vec(preds: Vec<Pred>) -> Preds
+        ensures { result ≡ map view_pred preds.items }
+    {
+        Preds { preds }
+    }
+
+    /// The `Vec` of the predicates. It takes no memory.
+    pub fn into_vec(self) -> Vec<Pred>
+        ensures { map view_pred result.items ≡ self }
+    {
+        self.preds
+    }
+
+    /// The predicates, to be read.
+    pub fn as_slice(&self) -> &[Pred]
+        ensures { map view_pred result.now ≡ self.now }
+    {
+        self.preds.as_slice()
+    }
+
+    /// How many predicates there are.
+    pub fn len(&self) -> usize
+        ensures { result ≡ length self.now }
+    {
+        self.preds.len()
+    }
+}

@@ -1,0 +1,45 @@
+//! Adding nodes, and a plan that is well formed.
+ghost use Rattle.std.specs.Prelude.{◌≡◌, []};
+
+use crate::{Items, Node, Op, Plan, PlanFault};
+use liq_base::Kind;
+use std::alloc::Global;
+use std::test::Fail;
+
+fn blank(alloc: Global) -> Node
+    ensures leaf { result.children ≡ [] }
+    ensures op { result.op ≡ Op.Blank 0 }
+{
+    Node {
+        op: Op::Blank { track: 0 },
+        kind: Kind::Stereo,
+        children: Items::new(alloc),
+    }
+}
+
+fn empty(alloc: Global) -> Plan
+    ensures { result.nodes ≡ [] }
+{
+    Plan {
+        rate: 44_100,
+        frame: 1764,
+        nodes: Items::new(alloc),
+        sinks: Items::new(alloc),
+        buffers: Items::new(alloc),
+    }
+}
+
+#[test]
+fn the_4097th_node_is_refused(rt: HostRuntime) -> Result<(), Fail> {
+    let mut plan = empty(rt.alloc());
+    for number in 0..4096u32 {
+        assert_eq!(rt; plan.push_node(blank(rt.alloc()))?, number);
+    }
+    assert_eq!(rt;
+        plan.push_node(blank(rt.alloc())).err(),
+        Some(PlanFault::TooManySources)
+    );
+    assert_eq!(rt; plan.nodes.len(), 4096);
+    assert_eq!(rt; plan.rate, 44_100);
+    Ok(())
+}

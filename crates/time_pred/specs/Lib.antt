@@ -1,0 +1,4 @@
+pub mod Marks
+pub mod Predicates
+pub mod Stored
+pub mod View

@@ -1,0 +1,83 @@
+-- A code of predicates, by which proofs tell two of them apart.
+use Rattle.std.specs.Prelude.{◌≡◌, ℕ, zero, suc, Option, Some, None, refl}
+use base.Stored.{Coded, Gv, gnil, gnum, gcons, num}
+use Rattle.std.proofs.Common.{sym, ap, ◌∙◌}
+use Rattle.fixed_text.specs.declared.time_mark.TimeMark.{TimeMark}
+use Rattle.time_pred.specs.Predicates.{Tree, One, Many, Predicate, Always, Never, At, Between, Not, All, Any, none, more}
+
+abbrev part_code : Option ℕ → Gv
+part_code None = gnil
+part_code (Some n) = gnum n
+
+abbrev part_back : Gv → Option ℕ
+part_back gnil = None
+part_back (gnum n) = Some n
+part_back (gcons a b) = None
+
+pub part_same : (o : Option ℕ) → part_back (part_code o) ≡ o
+part_same None = refl
+part_same (Some n) = refl
+
+abbrev first : Gv → Gv
+first gnil = gnil
+first (gnum n) = gnil
+first (gcons a b) = a
+
+abbrev rest : Gv → Gv
+rest gnil = gnil
+rest (gnum n) = gnil
+rest (gcons a b) = b
+
+abbrev mark_code : TimeMark → Gv
+mark_code m = gcons (part_code m.day) (gcons (part_code m.hour) (gcons (part_code m.minute) (part_code m.second)))
+
+abbrev mark_back : Gv → TimeMark
+mark_back g = record { day = part_back (first g); hour = part_back (first (rest g)); minute = part_back (first (rest (rest g))); second = part_back (rest (rest (rest g))) }
+
+pub mark_same : (m : TimeMark) → mark_back (mark_code m) ≡ m
+mark_same m = λ i. record { day = part_same m.day i; hour = part_same m.hour i; minute = part_same m.minute i; second = part_same m.second i }
+
+abbrev mutual
+  code : Tree One → Gv
+  code Always = gcons (gnum 0) gnil
+  code Never = gcons (gnum 1) gnil
+  code (At mark) = gcons (gnum 2) (mark_code mark)
+  code (Between from to) = gcons (gnum 3) (gcons (mark_code from) (mark_code to))
+  code (Not p) = gcons (gnum 4) (code p)
+  code (All ps) = gcons (gnum 5) (codes ps)
+  code (Any ps) = gcons (gnum 6) (codes ps)
+
+  codes : Tree Many → Gv
+  codes none = gnil
+  codes (more p ps) = gcons (code p) (codes ps)
+
+abbrev by_tag : ℕ → Gv → Tree One → Tree Many → Tree One
+by_tag zero g p ps = Always
+by_tag (suc zero) g p ps = Never
+by_tag (suc (suc zero)) g p ps = At (mark_back g)
+by_tag (suc (suc (suc zero))) g p ps = Between (mark_back (first g)) (mark_back (rest g))
+by_tag (suc (suc (suc (suc zero)))) g p ps = Not p
+by_tag (suc (suc (suc (suc (suc zero))))) g p ps = All ps
+by_tag (suc (suc (suc (suc (suc (suc n)))))) g p ps = Any ps
+
+abbrev back : Gv → Tree One × Tree Many
+back gnil = (Never, none)
+back (gnum n) = (Never, none)
+back (gcons a b) = (by_tag (num a) b (back b).0 (back b).1, more (back a).0 (back b).1)
+
+mutual
+  pub back_same : (p : Tree One) → (back (code p)).0 ≡ p
+  back_same Always = refl
+  back_same Never = refl
+  back_same (At mark) = ap At (mark_same mark)
+  back_same (Between from to) = λ i. Between (mark_same from i) (mark_same to i)
+  back_same (Not p) = ap Not (back_same p)
+  back_same (All ps) = ap All (backs_same ps)
+  back_same (Any ps) = ap Any (backs_same ps)
+
+  pub backs_same : (ps : Tree Many) → (back (codes ps)).1 ≡ ps
+  backs_same none = refl
+  backs_same (more p ps) = λ i. more (back_same p i) (backs_same ps i)
+
+abbrev pub predicate_code : Coded Predicate
+predicate_code = record { code = code; inj = λ x y same. sym (back_same x) ∙ ap (λ (g : Gv). (back g).0) same ∙ back_same y }

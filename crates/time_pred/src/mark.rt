@@ -1,0 +1,82 @@
+// When a time mark and an interval of two of them hold.
+ghost use Rattle.std.specs.Prelude.{◌≡◌, ◌≤◌, ◌<◌};
+ghost use Rattle.time_pred.specs.Marks.{value_of, period_of, finest_of, is_at, is_between};
+
+use fixed_text::{TimeMark, WeekSecond};
+
+const MINUTE: u32 = 60;
+
+const HOUR: u32 = 3600;
+
+const DAY: u32 = 86_400;
+
+const WEEK: u32 = 604_800;
+
+// The value of a mark: the sum of its parts, in seconds.
+fn value(mark: TimeMark) -> u32
+    ensures { result ≡ value_of mark }
+{
+    let days = match mark.day {
+        None => 0,
+        Some(0) => 6,
+        Some(day) => u32::from(day - 1),
+    };
+    let hours = u32::from(mark.hour.unwrap_or(0));
+    let minutes = u32::from(mark.minute.unwrap_or(0));
+    let seconds = u32::from(mark.second.unwrap_or(0));
+    days * DAY + hours * HOUR + minutes * MINUTE + seconds
+}
+
+// The period in which a mark comes back, in seconds: that of its coarsest part.
+fn period(mark: TimeMark) -> u32
+    ensures same { result ≡ period_of mark }
+    ensures some { 0 < result }
+    ensures small { result ≤ 604800 }
+{
+    if mark.day.is_some() {
+        WEEK
+    } else if mark.hour.is_some() {
+        DAY
+    } else if mark.minute.is_some() {
+        HOUR
+    } else {
+        MINUTE
+    }
+}
+
+// How long a mark alone holds, in seconds: the length of its finest part.
+fn finest(mark: TimeMark) -> u32
+    ensures { result ≡ finest_of mark }
+{
+    if mark.second.is_some() {
+        1
+    } else if mark.minute.is_some() {
+        MINUTE
+    } else if mark.hour.is_some() {
+        HOUR
+    } else {
+        DAY
+    }
+}
+
+// Whether a mark alone holds at a second of the week.
+pub fn is_at(mark: TimeMark, at: WeekSecond) -> bool
+    ensures { result ≡ is_at mark at.second }
+{
+    let period = period(mark);
+    let since = i64::from(at.second % period) - i64::from(value(mark));
+    since.rem_euclid(i64::from(period)) < i64::from(finest(mark))
+}
+
+// Whether the interval from one mark to another holds at a second of the week.
+pub fn is_between(from: TimeMark, to: TimeMark, at: WeekSecond) -> bool
+    ensures { result ≡ is_between from to at.second }
+{
+    let since = at.second % period(from).max(period(to));
+    let (first, end) = (value(from), value(to));
+    if first <= end {
+        first <= since && since < end
+    } else {
+        first <= since || since < end
+    }
+}
