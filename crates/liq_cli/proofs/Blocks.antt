@@ -81,15 +81,15 @@ module _ (stream : Stream) where
         length-append (ticks_bytes stream frame ticks) (tick_bytes stream frame ticks) ∙ (grind (arith, e, f))
 
 -- a `single` leaf has no gap
-pub gaps-single : (sound : Sound) (kind : Kind) (instants : ℕ) → gaps (single sound kind) instants ≡ 0
+pub gaps_single : (sound : Sound) (kind : Kind) (instants : ℕ) → gaps (single sound kind) instants ≡ 0
 unfolding gaps single
-gaps-single sound kind zero = refl
-gaps-single sound kind (suc instants) = let e = gaps-single sound kind instants in omega (arith, e)
+gaps_single sound kind zero = refl
+gaps_single sound kind (suc instants) = let e = gaps_single sound kind instants in omega (arith, e)
 
 -- the cell of an instant of a `single` leaf
-pub single-cell : (sound : Sound) (kind : Kind) (n samples : ℕ) (cell : Cell) → samples ≡ length_of sound → cell ≡ cell_of sound kind (n % samples) → Some cell ≡ single sound kind n
+pub single_cell : (sound : Sound) (kind : Kind) (n samples : ℕ) (cell : Cell) → samples ≡ length_of sound → cell ≡ cell_of sound kind (n % samples) → Some cell ≡ single sound kind n
 unfolding single
-single-cell sound kind n samples cell long is = ap Some (is ∙ ap (λ m. cell_of sound kind (n % m)) long)
+single_cell sound kind n samples cell long is = ap Some (is ∙ ap (λ m. cell_of sound kind (n % m)) long)
 
 pub length_header : (kind : Kind) (rate samples : ℕ) → length (header_bytes kind rate samples) ≡ 44
 unfolding header_bytes

@@ -1,15 +1,16 @@
 -- What a call leaves, by the way that it ends.
-use Rattle.std.proofs.Common.{◌≡◌, ◌⊎◌, ℕ, List, sym, ap, ◌∙◌, subst, inl, inr, lit≤, refl, arith}
-use Rattle.std.specs.Prelude.{Option, Some, None}
+use Rattle.std.proofs.Common.{◌≡◌, ◌≤◌, ◌⊎◌, ℕ, List, sym, ap, ◌∙◌, subst, inl, inr, lit≤, refl, arith}
+use Rattle.std.specs.Prelude.{Option, Some, None, IsSomeAnd}
 use Rattle.std.specs.Option.{ForSome}
 use Rattle.liq_base.specs.Counts.{Rose}
 use Rattle.liq_base.specs.Pieces.{IsPrefix, grown, TookPart}
 use Rattle.liq_base.specs.Files.{Files, file_at}
-use Rattle.liq_cli.specs.Answer.{Answer, Usage, Refused, Accepted, Plan, answer, asked_step, script_step, line_of, outputs_of, no_buffers}
+use Rattle.liq_cli.specs.Answer.{Answer, Usage, Refused, Accepted, Plan, answer, asked_step, script_step, line_of, bytes_of, outputs_of, report_of, no_buffers}
 use Rattle.liq_cli.specs.Call.{Moment, GrewPart, Rendered, Broken, Starved, IsDone, ReportBroke, OutputBroke, LineBroke, Told, Broke, WriteFailed, Ends}
 use Rattle.liq_cli.specs.Words.{Asked, asked_by}
 use Rattle.liq_cli.specs.declared.fault.Fault.{Fault}
-use Rattle.liq_cli.proofs.Parts.{none_created}
+use Rattle.liq_cli.specs.Outputs.{HoldsSome, with_outputs}
+use Rattle.liq_cli.proofs.Parts.{none_created, some_later, whole_created}
 
 -- a prefix of the piece is one of the line
 pub grew_part : {S : Type 0} (held : S → Option (List ℕ)) (room : S → Option ℕ) (piece line : List ℕ) (old new : S) → piece ≡ line → TookPart held room piece old new → GrewPart line (held old) (held new)
@@ -21,6 +22,30 @@ kept_is_starved Usage cause files before after form told same = absurd (form ref
 kept_is_starved (Refused fault) cause files before after form told same = same ∙ told
 kept_is_starved (Accepted plan) cause files before after form told same =
     record { run = no_buffers; begun = refl; parts = none_created cause (outputs_of plan no_buffers) before after same files told }
+
+-- what a rendering leaves, where the answer accepts
+pub accepted_broken : (a : Answer) (plan : Plan) (before between after : ℕ) (files : Files) (left : Option Files) → a ≡ Accepted plan → before ≤ between
+    → IsSomeAnd left (HoldsSome (Rose between after) files (outputs_of plan no_buffers)) → Broken a (Rose before after) files left
+accepted_broken a plan before between after files left is le parts =
+    subst (λ a. Broken a (Rose before after) files left) (sym is)
+    (record { run = no_buffers; begun = refl; parts = some_later (Rose between after) (Rose before after) (λ rose. omega arith) files (outputs_of plan no_buffers) left parts })
+
+pub accepted_starved : (a : Answer) (plan : Plan) (before between after : ℕ) (files : Files) (left : Option Files) → a ≡ Accepted plan → before ≤ between
+    → IsSomeAnd left (HoldsSome (Rose between after) files (outputs_of plan no_buffers)) → Starved a (Rose before after) files left
+accepted_starved a plan before between after files left is le parts =
+    subst (λ a. Starved a (Rose before after) files left) (sym is)
+    (record { run = no_buffers; begun = refl; parts = some_later (Rose between after) (Rose before after) (λ rose. omega arith) files (outputs_of plan no_buffers) left parts })
+
+pub written_starved : (a : Answer) (plan : Plan) (cause : Type 0) (files : Files) (left : Option Files) → a ≡ Accepted plan
+    → left ≡ Some (with_outputs files (outputs_of plan no_buffers)) → Starved a cause files left
+written_starved a plan cause files left is written =
+    subst (λ a. Starved a cause files left) (sym is)
+    (record { run = no_buffers; begun = refl; parts = whole_created cause left files (record { name = plan.output; bytes = bytes_of plan no_buffers }) written })
+
+pub accepted_rendered : (a : Answer) (plan : Plan) (files : Files) (left : Option Files) (report : List ℕ) → a ≡ Accepted plan
+    → left ≡ Some (with_outputs files (outputs_of plan no_buffers)) → report ≡ report_of plan no_buffers → Rendered a files left report
+accepted_rendered a plan files left report is written told =
+    subst (λ a. Rendered a files left report) (sym is) (record { run = no_buffers; lawful = refl; written = written; report_is = told })
 
 -- a rendering has an accepted answer
 broke_report : (a : Answer) (files : Files) (old new : Moment) → ReportBroke a files old new → new.err ≡ old.err → Broke a files old new
@@ -38,7 +63,6 @@ module _ (words : List (List ℕ)) (old new : Moment) (asked : Asked) (has_form 
   step files = script_step asked.ticks files (file_at files asked.file)
 
   by_steps : (files : Files) → step files ≡ answer words files
-
   by_steps files = sym (ap (asked_step files) has_form)
 
   form_there : {P : Type 0} → asked_by words ≡ None → P
@@ -125,3 +149,8 @@ module _ (words : List (List ℕ)) (old new : Moment) (asked : Asked) (has_form 
     memory = λ at. ((λ files f. subst (λ a. Starved a (Rose old.writes new.writes) files new.files) (by_steps files) (told files f)), out_same, err_same);
     no_form = λ none. form_there none;
   }
+
+  -- memory was refused for the line
+  pub ended_unsaid : (fault : Fault) → ForSome old.files (λ files. step files ≡ Refused fault) → new.files ≡ old.files → new.out ≡ old.out → new.err ≡ old.err → Ends words old new 5
+  ended_unsaid fault told files_same out_same err_same =
+      ended_starved (λ files f. subst (λ a. Starved a (Rose old.writes new.writes) files new.files) (sym (told files f)) (files_same ∙ f)) out_same err_same

@@ -5,3 +5,6 @@ pub mod Parts
 pub mod Names
 pub mod Ended
 pub mod Complete
+pub mod Decoded
+pub mod Ends
+pub mod Usage

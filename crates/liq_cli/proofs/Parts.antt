@@ -4,8 +4,8 @@ use Rattle.std.specs.Prelude.{Option, Some, None, IsSomeAnd}
 use Rattle.std.specs.Option.{ForSome}
 use Rattle.liq_base.specs.Pieces.{IsPrefix, grown}
 use Rattle.liq_base.specs.Files.{Files, with_file}
-use Rattle.liq_base.specs.Kept.{HoldsPartOr}
-use Rattle.liq_cli.specs.Outputs.{Output, HoldsSome, with_outputs}
+use Rattle.liq_base.specs.Kept.{HoldsPartOr, later_cause}
+use Rattle.liq_cli.specs.Outputs.{Output, HoldsParts, HoldsSome, with_outputs}
 
 -- the one output was created
 one_created : (cause : Type 0) (after : Option Files) (files : Files) (output : Output) → IsSomeAnd after (HoldsPartOr cause files output.name output.bytes) → IsSomeAnd after (HoldsSome cause files (output ∷ []))
@@ -30,4 +30,17 @@ whole_created cause after files output is =
 pub none_created : (cause : Type 0) (outputs : List Output) (before after : Option Files) → after ≡ before → ForSome before (λ files. IsSomeAnd after (HoldsSome cause files outputs))
 none_created cause outputs before after same files told =
     subst (λ a. IsSomeAnd a (HoldsSome cause files outputs)) (sym (same ∙ told))
-      (record { created = []; others = outputs; outputs_are = refl; parts = refl })
+    (record { created = []; others = outputs; outputs_are = refl; parts = refl })
+
+-- a cause may be told as a wider one
+parts_later : (cause more : Type 0) → (cause → more) → (files : Files) (outputs : List Output) (after : Files) → HoldsParts cause files outputs after → HoldsParts more files outputs after
+parts_later cause more f files [] after parts = parts
+parts_later cause more f files (output ∷ outputs) after parts =
+    (parts.0, later_cause cause more files output.name output.bytes parts.0 f parts.1, parts_later cause more f parts.0 outputs after parts.2)
+
+pub some_later : (cause more : Type 0) → (cause → more) → (files : Files) (outputs : List Output) (after : Option Files) → IsSomeAnd after (HoldsSome cause files outputs) → IsSomeAnd after (HoldsSome more files outputs)
+some_later cause more f files outputs None parts = parts
+some_later cause more f files outputs (Some after) parts = record {
+    created = parts.created; others = parts.others; outputs_are = parts.outputs_are;
+    parts = parts_later cause more f files parts.created after parts.parts
+  }

@@ -10,12 +10,12 @@ use Rattle.liq_cli.specs.declared.prepare.Work.{Work}
 
 -- the work stands for this plan
 abbrev pub plan_of : Work → Plan
-plan_of work = record { output = work.output; sound = sound_at work.library 0 0; ticks = work.ticks }
+plan_of work = record { output = work.output; sound = sound_at work.audio.library 0 0; ticks = work.ticks }
 
 -- the work is whole: its one leaf plays the one file, and the header is that of the output
 pub record IsReady (work : Work) : Type 0 where
-  pub leaf : work.library.leaves ≡ (0 ∷ []) ∷ []
-  pub header : work.header ≡ header_bytes Stereo rate (work.ticks * F)
+  pub leaf : work.audio.library.leaves ≡ (0 ∷ []) ∷ []
+  pub header : work.audio.header ≡ header_bytes Stereo rate (work.ticks * F)
   pub short : 36 + work.ticks * F * 4 < 2 ^ 32
 
 -- the audio is that of an accepted file

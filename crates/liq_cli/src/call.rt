@@ -17,7 +17,8 @@ use crate::words::{Form, read_words};
 use liq_base::{Failed, Gate, Memory, Shelf, Sink};
 use std::alloc::Global;
 
-const USAGE: &str = "usage: check FILE | render FILE N [--one-thread] [--window=W] [--start=D:HH:MM:SS] [--trace=NAME] | make SEED SIZE\n";
+const USAGE: &str =
+    "usage: check FILE | render FILE N [--one-thread] [--window=W] [--start=D:HH:MM:SS] [--trace=NAME] | make SEED SIZE\n";
 
 /// The statuses of a call.
 const DONE: u8 = 0;
@@ -57,7 +58,13 @@ pub fn liq<S: Shelf, O: Sink, E: Sink, G: Gate + Sync>(
 }
 
 // The call itself: a job answers the report or why there is none, and then the one text is written.
-fn run<S: Shelf, O: Sink, E: Sink>(alloc: Global, words: &[String], shelf: &mut S, out: &mut O, err: &mut E) -> u8
+fn run<S: Shelf, O: Sink, E: Sink>(
+    alloc: Global,
+    words: &[String],
+    shelf: &mut S,
+    out: &mut O,
+    err: &mut E,
+) -> u8
     requires out_room { O.room out.old ≡ None }
     requires err_room { E.room err.old ≡ None }
     ensures { Ends (texts words.now)

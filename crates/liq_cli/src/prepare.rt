@@ -8,11 +8,10 @@ ghost use Rattle.liq_cli.specs.Prepared.{EndsFor, OnlyRead};
 ghost use Rattle.liq_cli.specs.Script.{names_of};
 ghost use Rattle.liq_cli.specs.Works.{IsReady, plan_of};
 
-use crate::audio::open_audio;
+use crate::audio::{Audio, open_audio};
 use crate::script::read_names;
 use crate::words::Form;
 use crate::{Fault, Halt};
-use frame_core::Library;
 use liq_base::limits::{MAX_FILE_BYTES, MAX_SCRIPT_BYTES};
 use liq_base::{Fetched, Shelf, ShelfFault, Text};
 use std::alloc::Global;
@@ -29,11 +28,8 @@ pub struct Work {
     /// The name of the output's file.
     pub output: Text,
 
-    /// The header of the output.
-    pub header: [u8; 44],
-
-    /// The file that its one leaf plays.
-    pub library: Library,
+    /// The file that its one leaf plays, and the header of the output.
+    pub audio: Audio,
 
     /// How many ticks, at most 1000000000.
     pub ticks: u64,
@@ -60,8 +56,7 @@ pub fn prepare<S: Shelf>(alloc: Global, form: Form<'_>, shelf: &mut S) -> Result
     };
     Ok(Work {
         output,
-        header: audio.header,
-        library: audio.library,
+        audio,
         ticks: form.ticks,
     })
 }

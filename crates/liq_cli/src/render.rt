@@ -48,9 +48,9 @@ fn write_output<O: Sink>(alloc: Global, work: &Work, sink: &mut O) -> Result<(),
     ensures faults { O.faults sink.old ≤ O.faults sink.new }
     ensures cause { IsErrOf result RenderFault.Write → Rose (O.faults sink.old) (O.faults sink.new) }
 {
-    sink.append(&work.header)?;
+    sink.append(&work.audio.header)?;
     for tick in 0..work.ticks {
-        let piece = tick_piece(alloc, &work.library, tick)?;
+        let piece = tick_piece(alloc, &work.audio.library, tick)?;
         sink.append(&piece)?;
     }
     Ok(())

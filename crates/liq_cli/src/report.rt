@@ -8,6 +8,7 @@ use liq_base::Memory;
 use std::alloc::Global;
 
 /// The report: one line for the output. A `single` leaf has a cell at every instant, so there is no gap.
+#[tactic(auto, using(crate::proofs::Blocks::gaps_single))]
 pub fn report(alloc: Global, work: &Work) -> Result<String, Memory>
     requires { IsReady work.now }
     ensures { IfOk result (λ text. string_bytes text ≡ report_of (plan_of work.now) no_buffers) }

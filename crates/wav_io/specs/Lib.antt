@@ -1,2 +1,3 @@
 pub mod Header
 pub mod Plain
+pub mod Opened

@@ -1,5 +1,5 @@
 -- A WAV file that is a header of ours, and then its blocks.
-use Rattle.std.specs.Prelude.{◌≡◌, ◌<◌, ◌≤◌, ℕ, ◌*◌, ◌/◌, ◌-◌, ◌&&◌, List, ◌++◌, length, take, drop, Bool, false, Option, Some, None, if◌then◌else◌, nat_le, nat_lt, nat_eq, ◌+◌}
+use Rattle.std.specs.Prelude.{◌≡◌, ◌<◌, ◌≤◌, ℕ, ◌*◌, ◌/◌, ◌-◌, ◌&&◌, List, ◌++◌, length, take, drop, Bool, false, Option, Some, None, if◌then◌else◌, option_map, nat_le, nat_lt, nat_eq, ◌+◌}
 use Rattle.std.specs.Str.{bytes_eq}
 use Rattle.byteorder.specs.Endian.{little_number}
 use Rattle.liq_base.specs.declared.memory.Kind.{Kind}
@@ -40,9 +40,10 @@ is_plain_as kind bytes =
     && nat_eq (44 + blocks_in kind bytes * block_size kind) (length bytes)
     && is_front bytes (header_of kind (rate_in bytes) (blocks_in kind bytes))
 
+-- the kind of a plain file
+abbrev pub plain_kind_of : List ℕ → Option Kind
+plain_kind_of bytes = if is_plain_as Mono bytes then Some Mono else if is_plain_as Stereo bytes then Some Stereo else None
+
 -- the file, if it is plain
 abbrev pub plain_of : List ℕ → Option Wave
-plain_of bytes =
-    if is_plain_as Mono bytes then Some (record { kind = Mono; rate = rate_in bytes; body = drop 44 bytes })
-    else if is_plain_as Stereo bytes then Some (record { kind = Stereo; rate = rate_in bytes; body = drop 44 bytes })
-    else None
+plain_of bytes = option_map (λ kind. record { kind = kind; rate = rate_in bytes; body = drop 44 bytes }) (plain_kind_of bytes)

@@ -1,6 +1,10 @@
 //! WAV files: the header that is written, and the files that it opens.
 #![tactic(auto)]
 
-mod plain;
+mod fields;
+#[cfg(test)]
+mod tests;
+mod wave;
 
-pub use plain::Wav;
+pub use fields::header;
+pub use wave::{Wav, plain};

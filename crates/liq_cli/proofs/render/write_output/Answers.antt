@@ -37,7 +37,7 @@ append-requires-in-loop-tick g c =
     let rest = before_rest stream F head c.loop-tick.tick c.args.work.now.ticks (omega arith) in
     let piece : c.deref.result.now ≡ tick_bytes stream F c.loop-tick.tick = search rules in
     let whole : length (head ++ ticks_bytes stream F c.args.work.now.ticks) ≡ 44 + c.args.work.now.ticks * F * 4 =
-        length-append head (ticks_bytes stream F c.args.work.now.ticks) ∙ (let a = length_header Stereo rate (c.args.work.now.ticks * F) in let b = length_ticks stream F c.args.work.now.ticks in omega arith) in
+    length-append head (ticks_bytes stream F c.args.work.now.ticks) ∙ (let a = length_header Stereo rate (c.args.work.now.ticks * F) in let b = length_ticks stream F c.args.work.now.ticks in omega arith) in
     let fits : HasRoom (g.O.Sink.room c.args.sink.now) (length (head ++ ticks_bytes stream F c.args.work.now.ticks)) = rw whole c.requires.room in
     rw piece (room_after _ _ _ _ _ _ _ _ rest.1 c.loop-tick.invariant.took fits)
 

@@ -1,0 +1,23 @@
+use Rattle.std.proofs.Common.{◌∙◌, ap, refl, Err}
+use Rattle.liq_cli.proofs.Ended.{ended_refused, ended_unsaid, broken_line, grew_part}
+use Rattle.liq_cli.proofs.call.run.Goals as goal
+
+pub returns-in-Ok-append-2 : goal.returns-in-Ok-append-2
+returns-in-Ok-append-2 g c =
+    let at = c.in-Err-Refused.is ∙ ap Err c.in-Err-Refused.field-0-is in
+    ended_refused _ _ _ _ c.in-Some.ensures.form c.in-Err-Refused.fault (c.job.ensures.fault c.in-Err-Refused.fault at) (c.job.ensures.fault_files c.in-Err-Refused.fault at) refl
+    (rw (c.as_bytes-in-Ok-line.ensures.value ∙ c.in-Ok-line.ensures) at c.in-Ok-append-2.ensures.took.held_grew)
+
+-- the line broke off
+pub returns-in-Ok-line : goal.returns-in-Ok-line
+returns-in-Ok-line g c =
+    let at = c.in-Err-Refused.is ∙ ap Err c.in-Err-Refused.field-0-is in
+    broken_line _ _ _ _ c.in-Some.ensures.form c.in-Err-Refused.fault (c.job.ensures.fault c.in-Err-Refused.fault at) (c.job.ensures.fault_files c.in-Err-Refused.fault at) refl
+    (grew_part g.E.Sink.held g.E.Sink.room _ _ _ _ (c.as_bytes-in-Ok-line.ensures.value ∙ c.in-Ok-line.ensures) c.in-Err-append-2.ensures.part)
+    c.in-Err-append-2.ensures.cause
+
+-- the line could not be held
+pub returns-in-Err-Refused : goal.returns-in-Err-Refused
+returns-in-Err-Refused g c =
+    let at = c.in-Err-Refused.is ∙ ap Err c.in-Err-Refused.field-0-is in
+    ended_unsaid _ _ _ _ c.in-Some.ensures.form c.in-Err-Refused.fault (c.job.ensures.fault c.in-Err-Refused.fault at) (c.job.ensures.fault_files c.in-Err-Refused.fault at) refl refl

@@ -1,0 +1,88 @@
+-- Kinds of tokens, by name.
+use Rattle.std.specs.Prelude.{Bool, true, false, Option, Some, None}
+use Rattle.script_lex.specs.declared.token.TokenKind.{TokenKind}
+use Rattle.script_lex.specs.declared.token.TokenKind.TheVariants.{Keyword, Symbol}
+use Rattle.script_lex.specs.declared.token.Keyword.TheVariants as word
+use Rattle.script_lex.specs.declared.token.Symbol.TheVariants as sign
+use Rattle.script_grammar.specs.declared.tree.CompareOp.{CompareOp}
+use Rattle.script_grammar.specs.declared.tree.CompareOp.TheVariants as op
+
+abbrev pub is_end : TokenKind → Bool
+is_end (Keyword word.End) = true
+is_end k = false
+
+abbrev pub is_then : TokenKind → Bool
+is_then (Keyword word.Then) = true
+is_then k = false
+
+abbrev pub is_else : TokenKind → Bool
+is_else (Keyword word.Else) = true
+is_else k = false
+
+abbrev pub is_or : TokenKind → Bool
+is_or (Keyword word.Or) = true
+is_or k = false
+
+abbrev pub is_and : TokenKind → Bool
+is_and (Keyword word.And) = true
+is_and k = false
+
+abbrev pub is_not : TokenKind → Bool
+is_not (Keyword word.Not) = true
+is_not k = false
+
+abbrev pub is_assign : TokenKind → Bool
+is_assign (Symbol sign.Assign) = true
+is_assign k = false
+
+abbrev pub is_comma : TokenKind → Bool
+is_comma (Symbol sign.Comma) = true
+is_comma k = false
+
+abbrev pub is_semicolon : TokenKind → Bool
+is_semicolon (Symbol sign.Semicolon) = true
+is_semicolon k = false
+
+abbrev pub is_open_round : TokenKind → Bool
+is_open_round (Symbol sign.OpenRound) = true
+is_open_round k = false
+
+abbrev pub is_close_round : TokenKind → Bool
+is_close_round (Symbol sign.CloseRound) = true
+is_close_round k = false
+
+abbrev pub is_close_square : TokenKind → Bool
+is_close_square (Symbol sign.CloseSquare) = true
+is_close_square k = false
+
+abbrev pub is_close_curly : TokenKind → Bool
+is_close_curly (Symbol sign.CloseCurly) = true
+is_close_curly k = false
+
+abbrev pub is_minus : TokenKind → Bool
+is_minus (Symbol sign.Minus) = true
+is_minus k = false
+
+-- an operator of a sum, and of a product
+abbrev pub is_added : TokenKind → Bool
+is_added (Symbol sign.Plus) = true
+is_added (Symbol sign.Minus) = true
+is_added k = false
+
+abbrev pub is_multiplied : TokenKind → Bool
+is_multiplied (Symbol sign.Star) = true
+is_multiplied (Symbol sign.Slash) = true
+is_multiplied k = false
+
+abbrev pub is_any : TokenKind → Bool
+is_any k = true
+
+-- the comparing operator that a token is
+abbrev pub op_of : TokenKind → Option CompareOp
+op_of (Symbol sign.Equal) = Some op.Equal
+op_of (Symbol sign.Differs) = Some op.Differs
+op_of (Symbol sign.Less) = Some op.Less
+op_of (Symbol sign.AtMost) = Some op.AtMost
+op_of (Symbol sign.Greater) = Some op.Greater
+op_of (Symbol sign.AtLeast) = Some op.AtLeast
+op_of k = None

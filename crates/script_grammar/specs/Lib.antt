@@ -1,0 +1,10 @@
+pub mod Tree
+pub mod Spelling
+pub mod View
+pub mod Pieces
+pub mod Bare
+pub mod Kinds
+pub mod Read
+pub mod ReadPredicate
+pub mod ReadValue
+pub mod ReadScript

@@ -1,0 +1,43 @@
+-- The spellings of lists of trees, as the program writes them.
+use Rattle.std.specs.Prelude.{ℕ, List, [], ◌∷◌, ◌++◌}
+use Rattle.std.specs.List.{flat_map}
+use Rattle.script_lex.specs.declared.token.TokenKind.{TokenKind}
+use Rattle.script_lex.specs.declared.token.TokenKind.TheVariants.{NameOpen, Keyword, Symbol}
+use Rattle.script_lex.specs.declared.token.Keyword.TheVariants as word
+use Rattle.script_lex.specs.declared.token.Symbol.{Symbol as Sign}
+use Rattle.script_lex.specs.declared.token.Symbol.TheVariants as sign
+use Rattle.script_grammar.specs.Tree.{Sort, Tree, APAnd, APNot, AParam, AnInner, AnExpr}
+use Rattle.script_grammar.specs.Spelling.{spell}
+
+-- one after another
+abbrev pub each : {s : Sort} → List (Tree s) → List TokenKind
+each ts = flat_map spell ts
+
+-- each behind a token
+abbrev pub each_behind : {s : Sort} → TokenKind → List (Tree s) → List TokenKind
+each_behind k ts = flat_map (λ t. k ∷ spell t) ts
+
+-- with commas between
+abbrev pub between_commas : {s : Sort} → List (Tree s) → List TokenKind
+between_commas [] = []
+between_commas (t ∷ ts) = spell t ++ each_behind (Symbol sign.Comma) ts
+
+-- the same between two signs
+abbrev pub in_brackets : {s : Sort} → Sign → List (Tree s) → Sign → List TokenKind
+in_brackets first ts last = Symbol first ∷ (between_commas ts ++ (Symbol last ∷ []))
+
+-- a predicate's parts; no part at all is spelled as what it stands for
+abbrev pub por_parts : List (Tree APAnd) → List TokenKind
+por_parts [] = Keyword word.False ∷ []
+por_parts (t ∷ ts) = spell t ++ each_behind (Keyword word.Or) ts
+
+abbrev pub pand_parts : List (Tree APNot) → List TokenKind
+pand_parts [] = Keyword word.True ∷ []
+pand_parts (t ∷ ts) = spell t ++ each_behind (Keyword word.And) ts
+
+-- a def up to the bracket behind its parameters, and from its bindings on
+abbrev pub def_head : List ℕ → List (Tree AParam) → List TokenKind
+def_head name params = Keyword word.Def ∷ NameOpen name ∷ (between_commas params ++ (Symbol sign.CloseRound ∷ []))
+
+abbrev pub def_body : List (Tree AnInner) → Tree AnExpr → List TokenKind
+def_body inner value = each inner ++ (spell value ++ (Keyword word.End ∷ []))

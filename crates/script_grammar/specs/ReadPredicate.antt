@@ -1,0 +1,33 @@
+-- How a predicate is read. A reader of POr stands for the recursion.
+use Rattle.std.specs.Prelude.{ℕ, zero, suc, ◌∷◌, length, Ok, Err}
+use Rattle.script_lex.specs.declared.token.TokenKind.TheVariants.{Time, Keyword, Symbol}
+use Rattle.script_lex.specs.declared.token.Keyword.TheVariants as word
+use Rattle.script_lex.specs.declared.token.Symbol.TheVariants as sign
+use Rattle.script_grammar.specs.Tree.{Tree, APOr, APAnd, APNot, APAtom, POr, PAnd, PNot, Always, Never, Mark, Between, Grouped}
+use Rattle.script_grammar.specs.Read.{Reader, ◌>>=◌, made, both, expect, perhaps, chain}
+use Rattle.script_grammar.specs.Kinds.{is_or, is_and, is_not, is_close_round}
+
+unfoldable pub patom : Reader (Tree APOr) → Reader (Tree APAtom)
+patom por (Keyword word.True ∷ r) = Ok (Always, r)
+patom por (Keyword word.False ∷ r) = Ok (Never, r)
+patom por (Time a ∷ Symbol sign.Minus ∷ Time b ∷ r) = Ok (Between a b, r)
+patom por (Time a ∷ Symbol sign.Minus ∷ r) = Err (length r)
+patom por (Time a ∷ r) = Ok (Mark a, r)
+patom por (Symbol sign.OpenRound ∷ r) = both por (expect is_close_round) r >>= made (λ x. Grouped x.0)
+patom por w = Err (length w)
+
+unfoldable pub pnot : Reader (Tree APOr) → Reader (Tree APNot)
+pnot por w = both (perhaps is_not) (patom por) w >>= made (λ x. PNot x.0 x.1)
+
+unfoldable pub pand : Reader (Tree APOr) → Reader (Tree APAnd)
+pand por w = chain is_and (pnot por) w >>= made (λ x. PAnd x.0 x.1)
+
+unfoldable pub por_step : Reader (Tree APOr) → Reader (Tree APOr)
+por_step por w = chain is_or (pand por) w >>= made (λ x. POr x.0 x.1)
+
+unfoldable pub por_by : ℕ → Reader (Tree APOr)
+por_by zero w = Err (length w)
+por_by (suc n) w = por_step (por_by n) w
+
+unfoldable pub por : Reader (Tree APOr)
+por w = por_by (suc (length w)) w

@@ -1,0 +1,10 @@
+// What the grammar promises of all scripts.
+ghost use Rattle.std.specs.Prelude.{◌≡◌};
+ghost use Rattle.script_grammar.specs.Tree.{Script};
+ghost use Rattle.script_grammar.specs.Spelling.{spelling};
+ghost use Rattle.script_grammar.specs.Bare.{bare};
+
+/// No list of tokens has two scripts: two that are spelled alike differ at most in their fields `at`.
+pub fn one_script()
+    ensures one { (a b : Script) → spelling a ≡ spelling b → bare a ≡ bare b }
+{}

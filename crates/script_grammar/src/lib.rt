@@ -1,0 +1,13 @@
+//! The grammar: the tree of a script, and the one list of tokens that spells it.
+#![tactic(auto)]
+
+pub mod law;
+pub mod predicate;
+mod spell_predicate;
+mod spell_script;
+mod spell_value;
+#[cfg(test)]
+mod tests;
+pub mod tree;
+
+pub use spell_script::spell;

@@ -1,0 +1,51 @@
+-- What a function returned, against the shape that is read.
+use Rattle.std.specs.Prelude.{◌≡◌, ℕ, true, false, Result, Ok, Err, List, Some}
+use Rattle.script_lex.specs.Spelling.{Fault, Bad, Open, Large, Means, is_within}
+use Rattle.script_lex.specs.Reading.{Read}
+use Rattle.script_lex.specs.Tokens.{Runs, told}
+use Rattle.script_lex.specs.declared.token.Token.{Token}
+use Rattle.script_lex.specs.declared.token.TokenKind.{TokenKind}
+use Rattle.script_lex.specs.declared.token.LexFault.{LexFault}
+use Rattle.script_lex.specs.declared.token.LexFault.TheVariants as faults
+use Rattle.script_lex.specs.declared.refusal.Refusal.{Refusal}
+use Rattle.script_lex.specs.declared.refusal.Refusal.TheVariants as refusals
+
+-- want of memory is free; a number is too large exactly where its shape passes a bound; another fault is the one of reading
+abbrev pub Refuses : Read → ℕ → Refusal → Type 0
+Refuses read left refusals.Memory = Unit {0}
+Refuses (Ok found) left (refusals.NumberTooLarge n) = (is_within found.0 ≡ false) × (n ≡ left)
+Refuses (Ok found) left (refusals.BadByte n) = ⊥
+Refuses (Ok found) left (refusals.UnclosedString n) = ⊥
+Refuses (Err fault) left (refusals.BadByte n) = fault ≡ Bad n
+Refuses (Err fault) left (refusals.UnclosedString n) = fault ≡ Open n
+Refuses (Err fault) left (refusals.NumberTooLarge n) = ⊥
+
+abbrev pub Gives : {X : Type 0} → (X → TokenKind) → (X → List ℕ) → Read → ℕ → Result X Refusal → Type 0
+Gives kind after (Ok found) left (Ok x) = (is_within found.0 ≡ true) × Means found.0 (kind x) × (after x ≡ found.1)
+Gives kind after (Err fault) left (Ok x) = ⊥
+Gives kind after read left (Err e) = Refuses read left e
+
+-- how many bytes stand from the fault on
+abbrev pub left_of : Refusal → ℕ
+left_of refusals.Memory = 0
+left_of (refusals.BadByte n) = n
+left_of (refusals.UnclosedString n) = n
+left_of (refusals.NumberTooLarge n) = n
+
+-- a fact of the fault, which want of memory is not
+abbrev pub IfFault : Refusal → (Fault → Type 0) → Type 0
+IfFault refusals.Memory P = Unit {0}
+IfFault (refusals.BadByte n) P = P (Bad n)
+IfFault (refusals.UnclosedString n) P = P (Open n)
+IfFault (refusals.NumberTooLarge n) P = P (Large n)
+
+-- what a refusal is told as
+abbrev pub told_as : ℕ → Refusal → LexFault
+told_as total refusals.Memory = faults.Memory
+told_as total (refusals.BadByte n) = told total (Bad n)
+told_as total (refusals.UnclosedString n) = told total (Open n)
+told_as total (refusals.NumberTooLarge n) = told total (Large n)
+
+-- the fault of a text, behind some tokens
+abbrev pub RunsInto : List ℕ → Fault → Type 0
+RunsInto text fault = (ts : List Token) × Runs text ts (Some fault)

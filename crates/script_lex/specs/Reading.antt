@@ -1,0 +1,147 @@
+-- How one shape is read from the front of a list of bytes. Each reader mirrors a loop or a match of the program;
+-- `proofs/` shows that they find the longest spelling, and nothing else.
+use Rattle.std.specs.Prelude.{ℕ, ◌+◌, ◌-◌, ◌&&◌, ◌||◌, ◌==◌, List, [], ◌∷◌, length, take, Result, Ok, Err, Option, Some, None, if◌then◌else◌}
+use Rattle.std.specs.Str.{is_utf8}
+use Rattle.std.specs.Str.Lossy.{utf8_valid_len}
+use Rattle.std.specs.Char.{is_ascii_digit}
+use Rattle.script_lex.specs.Bytes.{is_letter, is_word, is_quote, is_unit, is_escapable, is_inner, starts_part, starts_digit}
+use Rattle.script_lex.specs.Words.{keyword_of, symbol_of, symbol_with_equals}
+use Rattle.script_lex.specs.Spelling.{Shape, AWord, AnOpen, AnInt, ANumber, ATime, AText, AWav, ASymbol, Fault, Bad, Open}
+use Rattle.script_lex.specs.declared.token.Keyword.{Keyword}
+use Rattle.script_lex.specs.declared.token.Symbol.{Symbol}
+use Rattle.script_lex.specs.declared.body.BodyEnd.{BodyEnd}
+use Rattle.script_lex.specs.declared.body.BodyEnd.TheVariants as ends
+
+-- a shape and the bytes behind it
+abbrev pub Found : Type 0
+Found = Shape × List ℕ
+
+-- that, or the fault
+abbrev pub Read : Type 0
+Read = Result Found Fault
+
+-- what stands before the rest
+abbrev pub front : List ℕ → List ℕ → List ℕ
+front bytes rest = take (length bytes - length rest) bytes
+
+abbrev pub tail : List ℕ → List ℕ
+tail [] = []
+tail (b ∷ bs) = bs
+
+-- behind the digits
+abbrev pub after_digits : List ℕ → List ℕ
+after_digits [] = []
+after_digits (b ∷ bs) = if is_ascii_digit b then after_digits bs else b ∷ bs
+
+-- behind the rest of a name
+abbrev pub after_name : List ℕ → List ℕ
+after_name [] = []
+after_name (b ∷ bs) = if is_word b || ((b == 46) && starts_part bs) then after_name bs else b ∷ bs
+
+abbrev pub word_or_open : List ℕ → Option Keyword → List ℕ → Found
+word_or_open word (Some keyword) rest = (AWord word, rest)
+word_or_open word None [] = (AWord word, [])
+word_or_open word None (b ∷ bs) = if b == 40 then (AnOpen word, bs) else (AWord word, b ∷ bs)
+
+unfoldable pub word_at : List ℕ → Found
+word_at bytes =
+    let rest = after_name bytes in
+    let word = front bytes rest in
+    word_or_open word (keyword_of word) rest
+
+-- the part of a time with this unit, if it stands at the front
+abbrev pub part_before : ℕ → List ℕ → List ℕ → Option (List ℕ) × List ℕ
+part_before unit bytes [] = (None, bytes)
+part_before unit bytes (b ∷ bs) = if starts_digit bytes && (b == unit) then (Some (front bytes (b ∷ bs)), bs) else (None, bytes)
+
+unfoldable pub part_at : ℕ → List ℕ → Option (List ℕ) × List ℕ
+part_at unit bytes = part_before unit bytes (after_digits bytes)
+
+-- the minutes without a unit behind an hour
+abbrev pub minutes_after : (day hour minute second : Option (List ℕ)) → List ℕ → Found
+minutes_after day (Some hour) None None bytes = if starts_digit bytes then (ATime day (Some hour) (Some (front bytes (after_digits bytes))) None, after_digits bytes) else (ATime day (Some hour) None None, bytes)
+minutes_after day hour minute second bytes = (ATime day hour minute second, bytes)
+
+unfoldable pub time_at : List ℕ → Found
+time_at bytes =
+    let day = part_at 119 bytes in
+    let hour = part_at 104 day.1 in
+    let minute = part_at 109 hour.1 in
+    let second = part_at 115 minute.1 in
+    minutes_after day.0 hour.0 minute.0 second.0 second.1
+
+abbrev pub number_from : List ℕ → List ℕ → List ℕ → Found
+number_from bytes digits [] = (AnInt digits, [])
+number_from bytes digits (b ∷ bs) =
+    if b == 46 then (ANumber digits (front bs (after_digits bs)), after_digits bs)
+    else (if is_unit b then time_at bytes else (AnInt digits, b ∷ bs))
+
+unfoldable pub number_at : List ℕ → Found
+number_at bytes = number_from bytes (front bytes (after_digits bytes)) (after_digits bytes)
+
+-- where the bytes of a text stop, and why
+abbrev mutual
+  pub body_end : ℕ → List ℕ → BodyEnd × List ℕ
+  body_end quote [] = (ends.Cut, [])
+  body_end quote (b ∷ bs) =
+      if b == quote then (ends.Closed, b ∷ bs)
+      else (if b == 92 then escape_end quote b bs
+      else (if is_inner b then body_end quote bs else (ends.Broken, b ∷ bs)))
+
+  pub escape_end : ℕ → ℕ → List ℕ → BodyEnd × List ℕ
+  escape_end quote b [] = (ends.Cut, b ∷ [])
+  escape_end quote b (c ∷ bs) = if is_escapable c then body_end quote bs else (ends.Broken, b ∷ c ∷ bs)
+
+-- the characters of a text
+abbrev mutual
+  pub unescaped : List ℕ → List ℕ
+  unescaped [] = []
+  unescaped (b ∷ bs) = if b == 92 then after_backslash bs else b ∷ unescaped bs
+
+  pub after_backslash : List ℕ → List ℕ
+  after_backslash [] = []
+  after_backslash (c ∷ bs) = c ∷ unescaped bs
+
+abbrev pub text_from : List ℕ → List ℕ → BodyEnd → ℕ → Read
+text_from body rest ends.Closed left = Ok (AText (unescaped body), tail rest)
+text_from body rest ends.Broken left = Err (Bad (length rest))
+text_from body rest ends.Cut left = Err (Open left)
+
+-- the text whose opening quote stands before these bytes
+unfoldable pub text_at : ℕ → List ℕ → Read
+text_at quote bytes =
+    let stop = body_end quote bytes in
+    let body = front bytes stop.1 in
+    if is_utf8 body then text_from body stop.1 stop.0 (length bytes + 1) else Err (Bad (length bytes - utf8_valid_len body))
+
+abbrev pub symbol_before : Option Symbol → List ℕ → Option Found
+symbol_before None rest = None
+symbol_before (Some symbol) rest = Some (ASymbol symbol, rest)
+
+abbrev pub first_of_two : Option Found → Option Found → Option Found
+first_of_two None second = second
+first_of_two (Some found) second = Some found
+
+-- the symbol at the front: of two bytes, or else of one
+unfoldable pub symbol_at : ℕ → List ℕ → Option Found
+symbol_at b [] = symbol_before (symbol_of b) []
+symbol_at b (c ∷ bs) =
+    if c == 61 then first_of_two (symbol_before (symbol_with_equals b) bs) (symbol_before (symbol_of b) (c ∷ bs))
+    else symbol_before (symbol_of b) (c ∷ bs)
+
+-- `%wav`
+unfoldable pub wav_at : List ℕ → Option Found
+wav_at (a ∷ b ∷ c ∷ d ∷ bs) = if (a == 37) && ((b == 119) && ((c == 97) && (d == 118))) then Some (AWav, bs) else None
+wav_at bs = None
+
+abbrev pub sign_or_bad : Option Found → ℕ → Read
+sign_or_bad (Some found) left = Ok found
+sign_or_bad None left = Err (Bad left)
+
+unfoldable pub shape_at : List ℕ → Read
+shape_at [] = Err (Bad 0)
+shape_at (b ∷ bs) =
+    if is_letter b then Ok (word_at (b ∷ bs))
+    else (if is_ascii_digit b then Ok (number_at (b ∷ bs))
+    else (if is_quote b then text_at b bs
+    else sign_or_bad (first_of_two (wav_at (b ∷ bs)) (symbol_at b bs)) (length (b ∷ bs))))

@@ -1,0 +1,219 @@
+-- The spellings of tokens, apart from any scanner. A shape is a token before its bounds are looked at.
+use Rattle.std.specs.Prelude.{◌≡◌, ◌≢◌, ℕ, pos, ◌≤◌, ◌⊎◌, Bool, true, false, ◌&&◌, nat_le, List, [], ◌∷◌, ◌++◌, length, Option, Some, None, option_map, codes, encode_utf8}
+use Rattle.std.specs.List.{flat_map}
+use Rattle.std.specs.Char.{IsScalar}
+use Rattle.std.specs.Str.Parse.{IsNumeral, AllDigits, digits_value}
+use Rattle.fixed_text.specs.Texts.{millionths}
+use Rattle.fixed_text.specs.declared.decimal.Decimal.{Decimal}
+use Rattle.fixed_text.specs.declared.time_mark.TimeMark.{TimeMark}
+use Rattle.script_lex.specs.Bytes.{is_letter, is_word, is_escapable}
+use Rattle.script_lex.specs.Words.{keyword_of, symbol_text}
+use Rattle.script_lex.specs.declared.token.Keyword.{Keyword}
+use Rattle.script_lex.specs.declared.token.Symbol.{Symbol}
+use Rattle.script_lex.specs.declared.token.TokenKind.{TokenKind}
+use Rattle.script_lex.specs.declared.token.TokenKind.TheVariants as kinds
+
+pub data Shape : Type 0 where
+  AWord : List ℕ → Shape
+  AnOpen : (name : List ℕ) → Shape
+  AnInt : (digits : List ℕ) → Shape
+  ANumber : (whole fraction : List ℕ) → Shape
+  ATime : (day hour minute second : Option (List ℕ)) → Shape
+  AText : (value : List ℕ) → Shape
+  AWav : Shape
+  ASymbol : Symbol → Shape
+
+-- letters, `_` and digits
+abbrev pub AllWord : List ℕ → Type 0
+AllWord [] = Unit {0}
+AllWord (b ∷ bs) = (is_word b ≡ true) × AllWord bs
+
+-- a letter or `_`, and then letters, `_` and digits
+abbrev pub IsPart : List ℕ → Type 0
+IsPart [] = ⊥
+IsPart (b ∷ bs) = (is_letter b ≡ true) × AllWord bs
+
+-- each of them
+abbrev pub AreParts : List (List ℕ) → Type 0
+AreParts [] = Unit {0}
+AreParts (p ∷ ps) = IsPart p × AreParts ps
+
+-- each behind a point
+abbrev pub behind_points : List (List ℕ) → List ℕ
+behind_points [] = []
+behind_points (p ∷ ps) = 46 ∷ p ++ behind_points ps
+
+-- parts joined by points
+abbrev pub IsDotted : List ℕ → Type 0
+IsDotted text = (part : List ℕ) × (parts : List (List ℕ)) × IsPart part × AreParts parts × (text ≡ part ++ behind_points parts)
+
+-- a part of a time: its digits and its unit, or nothing
+abbrev pub part_text : Option (List ℕ) → ℕ → List ℕ
+part_text None unit = []
+part_text (Some digits) unit = digits ++ unit ∷ []
+
+abbrev pub IsDigits : Option (List ℕ) → Type 0
+IsDigits None = Unit {0}
+IsDigits (Some digits) = IsNumeral 10 digits
+
+-- the parts in the order w, h, m, s
+abbrev pub time_text : (day hour minute second : Option (List ℕ)) → List ℕ
+time_text day hour minute second = part_text day 119 ++ (part_text hour 104 ++ (part_text minute 109 ++ part_text second 115))
+
+-- minutes without a unit, directly behind the hour and at the end
+abbrev pub IsShortTime : (day hour minute second : Option (List ℕ)) → List ℕ → Type 0
+IsShortTime day (Some hour) (Some minute) None text = text ≡ part_text day 119 ++ (part_text (Some hour) 104 ++ minute)
+IsShortTime day hour minute second text = ⊥
+
+pub record IsTimeText (day hour minute second : Option (List ℕ)) (text : List ℕ) : Type 0 where
+  pub day_digits : IsDigits day
+  pub hour_digits : IsDigits hour
+  pub minute_digits : IsDigits minute
+  pub second_digits : IsDigits second
+  pub some : text ≢ []
+  pub spelled : (text ≡ time_text day hour minute second) ⊎ IsShortTime day hour minute second text
+
+-- a character of a text: itself, or behind a backslash
+pub data Piece : Type 0 where
+  Plain : ℕ → Piece
+  Escaped : ℕ → Piece
+
+abbrev pub written : Piece → List ℕ
+written (Plain c) = encode_utf8 c
+written (Escaped c) = 92 ∷ c ∷ []
+
+abbrev pub meant : Piece → List ℕ
+meant (Plain c) = encode_utf8 c
+meant (Escaped c) = c ∷ []
+
+-- U+0020 to U+007E other than the backslash and the quote, or a character from U+0080 on; or one of the three behind a backslash
+abbrev pub IsPiece : ℕ → Piece → Type 0
+IsPiece quote (Plain c) = IsScalar c × (32 ≤ c) × (c ≢ 127) × (c ≢ 92) × (c ≢ quote)
+IsPiece quote (Escaped c) = is_escapable c ≡ true
+
+abbrev pub ArePieces : ℕ → List Piece → Type 0
+ArePieces quote [] = Unit {0}
+ArePieces quote (p ∷ ps) = IsPiece quote p × ArePieces quote ps
+
+abbrev pub IsQuote : ℕ → Type 0
+IsQuote q = (q ≡ 34) ⊎ (q ≡ 39)
+
+-- a text between quotes, and the characters that it stands for
+pub record IsQuotedText (value text : List ℕ) : Type 0 where
+  pub quote : ℕ
+  pub pieces : List Piece
+  pub is_quote : IsQuote quote
+  pub allowed : ArePieces quote pieces
+  pub spelled : text ≡ quote ∷ flat_map written pieces ++ quote ∷ []
+  pub means : value ≡ flat_map meant pieces
+
+-- The spellings of each shape.
+abbrev pub Spells : Shape → List ℕ → Type 0
+Spells (AWord word) text = IsDotted text × (word ≡ text)
+Spells (AnOpen name) text = IsDotted name × (keyword_of name ≡ None) × (text ≡ name ++ 40 ∷ [])
+Spells (AnInt digits) text = IsNumeral 10 text × (digits ≡ text)
+Spells (ANumber whole fraction) text = IsNumeral 10 whole × AllDigits 10 fraction × (text ≡ whole ++ 46 ∷ fraction)
+Spells (ATime day hour minute second) text = IsTimeText day hour minute second text
+Spells (AText value) text = IsQuotedText value text
+Spells AWav text = text ≡ codes "%wav"
+Spells (ASymbol symbol) text = text ≡ symbol_text symbol
+
+-- a part of a time passes no more than this
+abbrev pub is_up_to : ℕ → Option (List ℕ) → Bool
+is_up_to most None = true
+is_up_to most (Some digits) = nat_le (digits_value 10 digits) most
+
+-- within the bounds of numbers and times
+abbrev pub is_within : Shape → Bool
+is_within (AnInt digits) = nat_le (digits_value 10 digits) 9223372036854775807
+is_within (ANumber whole fraction) = nat_le (length fraction) 6 && nat_le (millionths whole fraction) 1000000000000000
+is_within (ATime day hour minute second) = is_up_to 7 day && (is_up_to 24 hour && (is_up_to 60 minute && is_up_to 60 second))
+is_within shape = true
+
+-- a word is a keyword or a name
+abbrev pub kind_of_word : List ℕ → Option Keyword → TokenKind
+kind_of_word word None = kinds.Name word
+kind_of_word word (Some keyword) = kinds.Keyword keyword
+
+abbrev pub values : Option (List ℕ) → Option ℕ
+values = option_map (λ digits. digits_value 10 digits)
+
+abbrev pub mark_of : (day hour minute second : Option (List ℕ)) → TimeMark
+mark_of day hour minute second = record { day = values day; hour = values hour; minute = values minute; second = values second }
+
+-- what a shape stands for
+abbrev pub Means : Shape → TokenKind → Type 0
+Means (AWord word) kind = kind ≡ kind_of_word word (keyword_of word)
+Means (AnOpen name) kind = kind ≡ kinds.NameOpen name
+Means (AnInt digits) kind = kind ≡ kinds.Int (pos (digits_value 10 digits))
+Means (ANumber whole fraction) kind = (decimal : Decimal) × (kind ≡ kinds.Number decimal) × (decimal.millionths ≡ pos (millionths whole fraction))
+Means (ATime day hour minute second) kind = kind ≡ kinds.Time (mark_of day hour minute second)
+Means (AText value) kind = kind ≡ kinds.Str value
+Means AWav kind = kind ≡ kinds.Wav
+Means (ASymbol symbol) kind = kind ≡ kinds.Symbol symbol
+
+-- Of the fronts of bytes that spell a shape, this one is the longest, and rest is behind it.
+pub record IsLongest (shape : Shape) (bytes rest : List ℕ) : Type 0 where
+  pub text : List ℕ
+  pub split : bytes ≡ text ++ rest
+  pub spelled : Spells shape text
+  pub longest : (other : Shape) (more behind : List ℕ) → bytes ≡ more ++ behind → Spells other more → length more ≤ length text
+
+-- a token of this kind stands at the front of bytes, and rest is behind it
+pub record IsToken (bytes : List ℕ) (kind : TokenKind) (rest : List ℕ) : Type 0 where
+  pub shape : Shape
+  pub longest : IsLongest shape bytes rest
+  pub within : is_within shape ≡ true
+  pub means : Means shape kind
+
+-- where a fault stands, as the number of bytes from there on
+pub data Fault : Type 0 where
+  Bad : (left : ℕ) → Fault
+  Open : (left : ℕ) → Fault
+  Large : (left : ℕ) → Fault
+
+-- a number that passes its bound stands at the front of bytes
+pub record IsTooLarge (bytes : List ℕ) : Type 0 where
+  pub shape : Shape
+  pub rest : List ℕ
+  pub longest : IsLongest shape bytes rest
+  pub past : is_within shape ≡ false
+
+-- a text that the end cuts; a backslash may be the last byte
+pub record IsUnclosed (bytes : List ℕ) : Type 0 where
+  pub quote : ℕ
+  pub pieces : List Piece
+  pub last : List ℕ
+  pub is_quote : IsQuote quote
+  pub allowed : ArePieces quote pieces
+  pub spelled : bytes ≡ quote ∷ flat_map written pieces ++ last
+  pub cut : (last ≡ []) ⊎ (last ≡ 92 ∷ [])
+
+-- neither a character of a text nor its quote begins these bytes, and they do not end
+pub record BeginsNoPiece (quote : ℕ) (bytes : List ℕ) : Type 0 where
+  pub no_piece : (p : Piece) (rest : List ℕ) → IsPiece quote p → bytes ≢ written p ++ rest
+  pub no_quote : (rest : List ℕ) → bytes ≢ quote ∷ rest
+  pub no_end : (bytes ≢ []) × (bytes ≢ 92 ∷ [])
+
+-- within a text, so many bytes from the end, stands what may not stand there
+pub record IsBadInText (bytes : List ℕ) (left : ℕ) : Type 0 where
+  pub quote : ℕ
+  pub pieces : List Piece
+  pub bad : List ℕ
+  pub is_quote : IsQuote quote
+  pub allowed : ArePieces quote pieces
+  pub spelled : bytes ≡ quote ∷ flat_map written pieces ++ bad
+  pub no_piece : BeginsNoPiece quote bad
+  pub place : left ≡ length bad
+
+-- no token begins here, nor a text
+pub record BeginsNothing (bytes : List ℕ) : Type 0 where
+  pub some : bytes ≢ []
+  pub no_shape : (shape : Shape) (text rest : List ℕ) → bytes ≡ text ++ rest → Spells shape text → ⊥
+  pub no_quote : (quote : ℕ) (rest : List ℕ) → IsQuote quote → bytes ≢ quote ∷ rest
+
+-- the fault that stands at the front of bytes
+abbrev pub FaultAt : Fault → List ℕ → Type 0
+FaultAt (Bad left) bytes = (BeginsNothing bytes × (left ≡ length bytes)) ⊎ IsBadInText bytes left
+FaultAt (Open left) bytes = IsUnclosed bytes × (left ≡ length bytes)
+FaultAt (Large left) bytes = IsTooLarge bytes × (left ≡ length bytes)

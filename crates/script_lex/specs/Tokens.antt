@@ -1,0 +1,50 @@
+-- The tokens of a text, and its fault.
+use Rattle.std.specs.Prelude.{◌≡◌, ℕ, ◌-◌, ◌<◌, ◌≤◌, Bool, true, false, ◌==◌, List, [], ◌∷◌, length, Option, Some, None, if◌then◌else◌}
+use Rattle.script_lex.specs.Bytes.{is_blank}
+use Rattle.script_lex.specs.Spelling.{IsToken, Fault, Bad, Open, Large, FaultAt}
+use Rattle.script_lex.specs.declared.token.Token.{Token}
+use Rattle.script_lex.specs.declared.token.LexFault.{LexFault}
+use Rattle.script_lex.specs.declared.token.LexFault.TheVariants as faults
+
+-- behind the blanks and comments, within a comment or not; a comment ends before the next LF
+abbrev pub between : Bool → List ℕ → List ℕ
+between inside [] = []
+between true (b ∷ bs) = if b == 10 then between false bs else between true bs
+between false (b ∷ bs) = if is_blank b then between false bs else (if b == 35 then between true bs else b ∷ bs)
+
+-- From a place on, behind blanks and comments, these tokens stand one after another; then the rest is left.
+abbrev pub Leads : ℕ → List ℕ → List Token → List ℕ → Type 0
+Leads total bytes [] rest = bytes ≡ rest
+Leads total bytes (t ∷ ts) rest =
+    (after : List ℕ) × IsToken (between false bytes) t.kind after × (t.start ≡ total - length (between false bytes))
+    × (t.end ≡ total - length after) × Leads total after ts rest
+
+-- how a text ends behind its tokens: nothing is left, or a fault stands there
+abbrev pub EndsBy : Option Fault → List ℕ → Type 0
+EndsBy None bytes = bytes ≡ []
+EndsBy (Some fault) bytes = FaultAt fault bytes
+
+abbrev pub Runs : List ℕ → List Token → Option Fault → Type 0
+Runs text ts end = (rest : List ℕ) × Leads (length text) text ts rest × EndsBy end (between false rest)
+
+-- the fault, with its place from the text's start
+abbrev pub told : ℕ → Fault → LexFault
+told total (Bad left) = faults.BadByte (total - left)
+told total (Open left) = faults.UnclosedString (total - left)
+told total (Large left) = faults.NumberTooLarge (total - left)
+
+-- a fault stands behind some tokens, at its place
+abbrev pub StandsIn : List ℕ → LexFault → Type 0
+StandsIn text fault = (length text ≤ 1048576) × ((ts : List Token) × (stop : Fault) × Runs text ts (Some stop) × (fault ≡ told (length text) stop))
+
+-- the tokens of a text
+abbrev pub AreTokens : List ℕ → List Token → Type 0
+AreTokens text ts = (length text ≤ 1048576) × Runs text ts None
+
+-- the fault of a text: it is too long, or the fault is the first that stands in it
+abbrev pub HasFault : List ℕ → LexFault → Type 0
+HasFault text faults.TextTooLong = 1048576 < length text
+HasFault text faults.Memory = ⊥
+HasFault text (faults.BadByte at) = StandsIn text (faults.BadByte at)
+HasFault text (faults.UnclosedString at) = StandsIn text (faults.UnclosedString at)
+HasFault text (faults.NumberTooLarge at) = StandsIn text (faults.NumberTooLarge at)

@@ -1,0 +1,75 @@
+// All tokens of a script.
+ghost use Rattle.std.specs.Prelude.{◌≡◌, ◌≢◌, ◌≤◌, ◌-◌, ◌⊎◌, List, length, None, Err, IfOk, IfErr, IsOkUnless};
+ghost use Rattle.script_lex.specs.Tokens.{Runs, AreTokens, HasFault};
+ghost use Rattle.script_lex.specs.Gives.{IfFault, RunsInto, left_of, told_as};
+ghost use Rattle.script_lex.specs.declared.token.Token.{Token};
+ghost use Rattle.script_lex.specs.declared.token.LexFault.{LexFault};
+ghost use Rattle.script_lex.specs.declared.token.LexFault.TheVariants as faults;
+
+use crate::refusal::Refusal;
+use crate::scan::token_at;
+use crate::spans::after_blanks;
+use crate::token::{LexFault, Token};
+use liq_base::limits::MAX_SCRIPT_BYTES;
+use std::alloc::Global;
+
+// Where the rest of a text begins.
+fn place(text: &[u8], rest: &[u8]) -> u32
+    requires within { length rest.now ≤ length text.now }
+    requires small { length text.now ≤ 1048576 }
+    ensures { result ≡ length text.now - length rest.now }
+{
+    (text.len() - rest.len()) as u32
+}
+
+// The fault, with its place from the text's start.
+fn told_as(total: usize, refusal: Refusal) -> LexFault
+    requires within { left_of refusal ≤ total }
+    requires small { total ≤ 1048576 }
+    ensures { result ≡ told_as total refusal }
+{
+    match refusal {
+        Refusal::BadByte(left) => LexFault::BadByte((total - left) as u32),
+        Refusal::UnclosedString(left) => LexFault::UnclosedString((total - left) as u32),
+        Refusal::NumberTooLarge(left) => LexFault::NumberTooLarge((total - left) as u32),
+        Refusal::Memory => LexFault::Memory,
+    }
+}
+
+// The tokens of a text that is not too long.
+fn tokens(alloc: Global, text: &[u8]) -> Result<Vec<Token>, Refusal>
+    requires { length text.now ≤ 1048576 }
+    ensures tokens { IfOk result (λ v. Runs text.now v.items None) }
+    ensures fault { IfErr result (λ e. IfFault e (RunsInto text.now)) }
+    ensures within { IfErr result (λ e. left_of e ≤ length text.now) }
+{
+    let mut made = Vec::new(alloc);
+    let mut rest = after_blanks(text);
+    while !rest.is_empty() {
+        let (kind, after) = token_at(alloc, rest)?;
+        let start = place(text, rest);
+        let end = place(text, after);
+        made.push(Token { kind, start, end })?;
+        rest = after_blanks(after);
+    }
+    Ok(made)
+}
+
+/// The tokens of a script, each the longest that stands at its place (`docs/language.md`, "Tokens").
+///
+/// It answers the list of tokens exactly where the script has one, and else the fault that stands first in it;
+/// only want of memory may come in place of either.
+pub fn lex(alloc: Global, text: &[u8]) -> Result<Vec<Token>, LexFault>
+    ensures tokens { IfOk result (λ v. AreTokens text.now v.items) }
+    ensures only { (ts : List Token) → AreTokens text.now ts → IsOkUnless result faults.Memory × IfOk result (λ v. v.items ≡ ts) }
+    ensures fault { IfErr result (λ e. e ≢ faults.Memory → HasFault text.now e) }
+    ensures only_fault { (e : LexFault) → HasFault text.now e → (result ≡ Err e) ⊎ (result ≡ Err faults.Memory) }
+{
+    if text.len() as u64 > MAX_SCRIPT_BYTES {
+        return Err(LexFault::TextTooLong);
+    }
+    match tokens(alloc, text) {
+        Ok(tokens) => Ok(tokens),
+        Err(refusal) => Err(told_as(text.len(), refusal)),
+    }
+}

@@ -1,0 +1,19 @@
+//! The tokens of a script, each the longest at its place.
+#![tactic(auto)]
+
+mod body;
+mod lexer;
+mod number;
+mod refusal;
+mod scan;
+mod sign;
+mod spans;
+mod time;
+mod token;
+mod word;
+
+pub use lexer::lex;
+pub use token::{Keyword, LexFault, Symbol, Token, TokenKind};
+
+#[cfg(test)]
+mod tests;

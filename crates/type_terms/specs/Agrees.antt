@@ -1,0 +1,28 @@
+-- Choices that agree on a substitution's variables.
+use Rattle.std.specs.Prelude.{◌≡◌, ℕ, ◌<◌, ◌≤◌, length}
+use Rattle.type_terms.specs.Ground.{Assignment, Ground, IsNumber}
+use Rattle.type_terms.specs.Table.{Table, Solves}
+use Rattle.liq_base.specs.declared.memory.Kind.{Kind}
+
+pub record Agrees (s : Table) (a b : Assignment) : Type 0 where
+  pub types : (k : ℕ) → k < length s.types → a.type_of k ≡ b.type_of k
+  pub kinds : (k : ℕ) → k < length s.kinds → a.kind_of k ≡ b.kind_of k
+
+-- a later substitution: it has the old variables, and solves no more than the old one does
+pub record Follows (s s' : Table) : Type 0 where
+  pub types : length s.types ≤ length s'.types
+  pub kinds : length s.kinds ≤ length s'.kinds
+  pub solves : (a : Assignment) → Solves a s' → Solves a s
+
+-- with a new type variable, which may be anything, or any number
+pub record HasNewType (s s' : Table) (number : Type 0) (n : ℕ) : Type 0 where
+  pub inside : n < length s'.types
+  pub follows : Follows s s'
+  pub is_number : number → (a : Assignment) → Solves a s' → IsNumber (a.type_of n)
+  pub each : (a : Assignment) → Solves a s → (g : Ground) → (number → IsNumber g) → (b : Assignment) × Solves b s' × Agrees s a b × (b.type_of n ≡ g)
+
+-- with a new kind variable, which may be either kind
+pub record HasNewKind (s s' : Table) (n : ℕ) : Type 0 where
+  pub inside : n < length s'.kinds
+  pub follows : Follows s s'
+  pub each : (a : Assignment) → Solves a s → (k : Kind) → (b : Assignment) × Solves b s' × Agrees s a b × (b.kind_of n ≡ k)

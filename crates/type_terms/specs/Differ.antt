@@ -1,0 +1,39 @@
+-- What the first difference of two types tells of the solutions that make them equal.
+use Rattle.std.specs.Prelude.{◌≡◌, ◌≢◌, ℕ, ◌<◌, Bool, true, false, length, Option, Some, None}
+use Rattle.type_terms.specs.Ground.{Assignment}
+use Rattle.type_terms.specs.Term.{Term, term_of, meaning, kind_meaning}
+use Rattle.type_terms.specs.Table.{Table, Solves, IsOver, IsNumberTerm, Avoids, bound_at, number_at, kind_at}
+use Rattle.type_terms.specs.declared.ty.Base.{Base}
+use Rattle.type_terms.specs.declared.ty.Base.TheVariants.{Int, Decimal}
+use Rattle.type_terms.specs.declared.ty.KindTerm.{KindTerm}
+use Rattle.type_terms.specs.declared.ty.KindTerm.TheVariants.{Var}
+use Rattle.type_terms.specs.declared.differ.Difference.{Difference}
+use Rattle.type_terms.specs.declared.differ.Difference.TheVariants.{Same, Clash, Bind, BindKind}
+
+-- where the two are equal the free variable x is t, to which it may be bound
+pub record IsForced (s : Table) (left right : Term) (x : ℕ) (t : Term) : Type 0 where
+  pub inside : x < length s.types
+  pub free : bound_at s.types x ≡ None
+  pub avoids : Avoids s.types x t
+  pub over : IsOver s t
+  pub number : number_at s.types x ≡ true → IsNumberTerm s.types t
+  pub forced : (a : Assignment) → Solves a s → meaning a left ≡ meaning a right → a.type_of x ≡ meaning a t
+
+-- the same of a kind variable
+pub record IsKindForced (s : Table) (left right : Term) (x : ℕ) (t : KindTerm) : Type 0 where
+  pub inside : x < length s.kinds
+  pub free : kind_at s.kinds x ≡ None
+  pub lower : (j : ℕ) → t ≡ Var j → j < x
+  pub forced : (a : Assignment) → Solves a s → meaning a left ≡ meaning a right → a.kind_of x ≡ kind_meaning a t
+
+abbrev pub Settles : Table → Term → Term → Difference → Type 0
+Settles s left right Same = (a : Assignment) → Solves a s → meaning a left ≡ meaning a right
+Settles s left right Clash = (a : Assignment) → Solves a s → meaning a left ≢ meaning a right
+Settles s left right (Bind x t) = IsForced s left right x (term_of t.now)
+Settles s left right (BindKind x t) = IsKindForced s left right x t
+
+-- int or decimal
+abbrev pub is_number_base : Option Base → Bool
+is_number_base (Some Int) = true
+is_number_base (Some Decimal) = true
+is_number_base _ = false

@@ -1,0 +1,13 @@
+pub mod Agrees
+pub mod Codes
+pub mod Differ
+pub mod Extends
+pub mod Ground
+pub mod Nested
+pub mod Pairs
+pub mod Rank
+pub mod Resolved
+pub mod Table
+pub mod Term
+pub mod Undo
+pub mod Variables

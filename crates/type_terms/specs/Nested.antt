@@ -1,0 +1,68 @@
+-- Which variables stand in what others are bound to.
+use Rattle.std.specs.Prelude.{◌≡◌, ◌≢◌, ◌<◌, ◌≤◌, ℕ, Bool, true, false, List, [], ◌∷◌, length, Option, Some, None, slice_get}
+use Rattle.std.specs.Borrow.{Bor}
+use Rattle.type_terms.specs.Term.{Term, Terms, base_term, list_term, tuple_term, source_term, variable, no_terms, one_more, InKind, InTerm, term_of}
+use Rattle.type_terms.specs.Variables.{Variable}
+use Rattle.type_terms.specs.Table.{Table, IsSound, bound_at}
+use Rattle.type_terms.specs.declared.ty.Ty.{Ty}
+
+abbrev pub mark_in : Option Bool → Bool
+mark_in None = false
+mark_in (Some b) = b
+
+abbrev pub mark_at : List Bool → ℕ → Bool
+mark_at marks k = mark_in (slice_get marks k)
+
+-- each variable of the term is marked
+abbrev pub IsMarked : List Bool → Term → Type 0
+IsMarked marks t = InTerm (λ j. mark_at marks j ≡ true) (λ _. Unit {0}) t
+
+-- there is a mark for each variable, and those that stand in a binding have it
+pub record AreMarked (vs : List Variable) (marks : List Bool) : Type 0 where
+  pub enough : length vs ≤ length marks
+  pub marked : (k : ℕ) (t : Term) → bound_at vs k ≡ Some t → IsMarked marks t
+
+-- what holds of a substitution and its marks
+pub record IsWhole (s : Table) (marks : List Bool) : Type 0 where
+  pub sound : IsSound s
+  pub marked : AreMarked s.types marks
+
+-- the variable stands in no binding
+pub record IsUnnested (vs : List Variable) (x : ℕ) : Type 0 where
+  pub apart : (k : ℕ) (t : Term) → bound_at vs k ≡ Some t → InTerm (λ j. j ≢ x) (λ _. Unit {0}) t
+
+-- the plain data of references to types
+abbrev pub terms : List (Bor Ty) → List Term
+terms [] = []
+terms (p ∷ ps) = term_of p.now ∷ terms ps
+
+abbrev pub parts : Terms → List Term
+parts no_terms = []
+parts (one_more t ts) = t ∷ parts ts
+
+abbrev pub bound_list : Option Term → List Term
+bound_list None = []
+bound_list (Some t) = t ∷ []
+
+abbrev pub reached_by : Bool → Option Term → List Term
+reached_by true o = bound_list o
+reached_by false o = []
+
+-- the terms right inside a term
+abbrev pub inside : Term → List Term
+inside (list_term t) = t ∷ []
+inside (tuple_term ts) = parts ts
+inside _ = []
+
+-- the terms right below a term, where a variable has what it is bound to below it, if that is asked for
+abbrev pub below : List Variable → Bool → Term → List Term
+below vs deep (variable k) = reached_by deep (bound_at vs k)
+below vs deep (list_term t) = t ∷ []
+below vs deep (tuple_term ts) = parts ts
+below vs deep _ = []
+
+-- the term's outermost variable, if it has one, is one of so many
+abbrev pub IsAmong : ℕ → ℕ → Term → Type 0
+IsAmong m n (variable k) = k < m
+IsAmong m n (source_term k) = InKind (λ j. j < n) k
+IsAmong m n _ = Unit {0}

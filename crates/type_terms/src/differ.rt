@@ -1,0 +1,299 @@
+// The first difference of two types under a substitution.
+ghost use Rattle.std.specs.Prelude.{◌≡◌, ◌+◌, ◌<◌, ◌≤◌, ◌++◌, ℕ, Bool, None, Option, List, length, map, IfOk, OnOk};
+ghost use Rattle.std.specs.Bool.{OnTrue, OnFalse};
+ghost use Rattle.type_terms.specs.Differ.{Settles, is_number_base};
+ghost use Rattle.type_terms.specs.Ground.{Assignment};
+ghost use Rattle.type_terms.specs.Nested.{AreMarked};
+ghost use Rattle.type_terms.specs.Pairs.{IsSplit, pairs, parts_of, zipped};
+ghost use Rattle.type_terms.specs.Table.{table, IsOver, IsSound, IsTriangular, bound_at, kind_at, extra, FallsByNumber, MeetsKinds};
+ghost use Rattle.type_terms.specs.Term.{InTerm, InKind, base_of, term_of, terms_of, variable, kind_meaning, source_term};
+ghost use Rattle.type_terms.specs.Variables.{Variable};
+ghost use Rattle.type_terms.specs.declared.ty.KindTerm.{KindTerm};
+ghost use Rattle.type_terms.specs.declared.ty.KindTerm.TheVariants.{Var};
+
+use crate::occurs::{MOST_STEPS, occurs_in, resolve};
+use crate::ty::{Base, KindTerm, Ty};
+use crate::type_variable::TypeVariable;
+use liq_base::Memory;
+use std::alloc::Global;
+
+/// The first difference of two types, and the binding that takes it away.
+#[derive(Drop)]
+pub enum Difference<'a> {
+    Same,
+    Clash,
+    Bind(u64, &'a Ty),
+    BindKind(u64, KindTerm),
+}
+
+/// The kind itself, or where it is a bound variable what that is bound to in the end.
+pub fn resolve_kind(kinds: &[Option<KindTerm>], k: KindTerm) -> KindTerm
+    requires falls { FallsByNumber kinds.now }
+    requires over { InKind (λ n. n < length kinds.now) k }
+    ensures value { (a : Assignment) → MeetsKinds kinds.now a → kind_meaning a result ≡ kind_meaning a k }
+    ensures free { (n : ℕ) → result ≡ Var n → kind_at kinds.now n ≡ None }
+    ensures over { InKind (λ n. n < length kinds.now) result }
+{
+    let mut k = k;
+    while let KindTerm::Var(n) = k {
+        match kinds[n as usize] {
+            Some(next) => k = next,
+            None => return k,
+        }
+    }
+    k
+}
+
+/// The difference of two kinds.
+fn differ_kinds<'a>(kinds: &[Option<KindTerm>], left: KindTerm, right: KindTerm) -> Difference<'a>
+    requires falls { FallsByNumber kinds.now }
+    requires left { InKind (λ n. n < length kinds.now) left }
+    requires right { InKind (λ n. n < length kinds.now) right }
+    ensures { (vs : List Variable) → Settles (table vs kinds.now) (source_term left) (source_term right) result }
+{
+    let left = resolve_kind(kinds, left);
+    let right = resolve_kind(kinds, right);
+    match left {
+        KindTerm::Fixed(l) => match right {
+            KindTerm::Fixed(r) => {
+                if l == r {
+                    Difference::Same
+                } else {
+                    Difference::Clash
+                }
+            }
+            KindTerm::Var(j) => Difference::BindKind(j, left),
+        },
+        KindTerm::Var(i) => match right {
+            KindTerm::Fixed(_) => Difference::BindKind(i, right),
+            KindTerm::Var(j) => {
+                if i == j {
+                    Difference::Same
+                } else if i < j {
+                    Difference::BindKind(j, left)
+                } else {
+                    Difference::BindKind(i, right)
+                }
+            }
+        },
+    }
+}
+
+/// Whether the type is int or decimal.
+fn is_number(ty: &Ty) -> bool
+    ensures { result ≡ is_number_base (base_of (term_of ty.now)) }
+{
+    match ty.base() {
+        Some(Base::Int) => true,
+        Some(Base::Decimal) => true,
+        _ => false,
+    }
+}
+
+/// The difference of a free variable and a type that is no variable.
+fn differ_from_variable<'a>(
+    alloc: Global,
+    types: &[TypeVariable],
+    nested: &[bool],
+    x: u64,
+    t: &'a Ty,
+) -> Result<Difference<'a>, Memory>
+    requires triangular { IsTriangular types.now }
+    requires marked { AreMarked types.now nested.now }
+    requires inside { x < length types.now }
+    requires free { bound_at types.now x ≡ None }
+    requires over { InTerm (λ n. n < length types.now) (λ _. Unit {0}) (term_of t.now) }
+    requires no_variable { extra (term_of t.now) ≡ 1 }
+    ensures { IfOk result (λ d. (ks : List (Option KindTerm)) → IsOver (table types.now ks) (term_of t.now) → Settles (table types.now ks) (variable x) (term_of t.now) d) }
+{
+    let variable = &types[x as usize];
+    if variable.is_number() {
+        if is_number(t) {
+            Ok(Difference::Bind(x, t))
+        } else {
+            Ok(Difference::Clash)
+        }
+    } else if occurs_in(alloc, types, nested[x as usize], x, t)? {
+        Ok(Difference::Clash)
+    } else {
+        Ok(Difference::Bind(x, t))
+    }
+}
+
+/// The difference of two free variables.
+fn differ_variables<'a>(
+    types: &[TypeVariable],
+    x: u64,
+    left: &'a Ty,
+    y: u64,
+    right: &'a Ty,
+) -> Difference<'a>
+    requires left { term_of left.now ≡ variable x }
+    requires right { term_of right.now ≡ variable y }
+    requires inside { x < length types.now }
+    requires inside_too { y < length types.now }
+    requires free { bound_at types.now x ≡ None }
+    requires free_too { bound_at types.now y ≡ None }
+    ensures { (ks : List (Option KindTerm)) → Settles (table types.now ks) (variable x) (variable y) result }
+{
+    if x == y {
+        return Difference::Same;
+    }
+    let variable = &types[x as usize];
+    if variable.is_number() {
+        Difference::Bind(y, left)
+    } else {
+        Difference::Bind(x, right)
+    }
+}
+
+/// The difference of two types that are no variables, where they are neither two lists nor two tuples of one length.
+fn differ_shapes<'a>(kinds: &[Option<KindTerm>], left: &'a Ty, right: &'a Ty) -> Difference<'a>
+    requires falls { FallsByNumber kinds.now }
+    requires left { (vs : List Variable) × IsOver (table vs kinds.now) (term_of left.now) }
+    requires right { (vs : List Variable) × IsOver (table vs kinds.now) (term_of right.now) }
+    requires left_shape { extra (term_of left.now) ≡ 1 }
+    requires right_shape { extra (term_of right.now) ≡ 1 }
+    requires unsplit { IsSplit (term_of left.now) (term_of right.now) → ⊥ }
+    ensures { (vs : List Variable) → Settles (table vs kinds.now) (term_of left.now) (term_of right.now) result }
+{
+    if let Some(base) = left.base() {
+        return if right.base() == Some(base) {
+            Difference::Same
+        } else {
+            Difference::Clash
+        };
+    }
+    match left {
+        Ty::Source(k) => match right {
+            Ty::Source(j) => differ_kinds(kinds, *k, *j),
+            _ => Difference::Clash,
+        },
+        _ => Difference::Clash,
+    }
+}
+
+/// The difference of two resolved types that are neither two lists nor two tuples of one length.
+fn differ_resolved<'a>(
+    alloc: Global,
+    types: &[TypeVariable],
+    kinds: &[Option<KindTerm>],
+    nested: &[bool],
+    left: &'a Ty,
+    right: &'a Ty,
+) -> Result<Difference<'a>, Memory>
+    requires sound { IsSound (table types.now kinds.now) }
+    requires marked { AreMarked types.now nested.now }
+    requires left { IsOver (table types.now kinds.now) (term_of left.now) }
+    requires right { IsOver (table types.now kinds.now) (term_of right.now) }
+    requires left_free { (k : ℕ) → term_of left.now ≡ variable k → bound_at types.now k ≡ None }
+    requires right_free { (k : ℕ) → term_of right.now ≡ variable k → bound_at types.now k ≡ None }
+    requires unsplit { IsSplit (term_of left.now) (term_of right.now) → ⊥ }
+    ensures { IfOk result (λ d. Settles (table types.now kinds.now) (term_of left.now) (term_of right.now) d) }
+{
+    match right {
+        Ty::Var(y) => match left {
+            Ty::Var(x) => Ok(differ_variables(types, *x, left, *y, right)),
+            _ => differ_from_variable(alloc, types, nested, *y, left),
+        },
+        _ => match left {
+            Ty::Var(x) => differ_from_variable(alloc, types, nested, *x, right),
+            _ => Ok(differ_shapes(kinds, left, right)),
+        },
+    }
+}
+
+/// Whether both types are one and the same variable.
+fn are_one_variable(left: &Ty, right: &Ty) -> bool
+    ensures { OnTrue result (term_of left.now ≡ term_of right.now) }
+{
+    match left {
+        Ty::Var(x) => match right {
+            Ty::Var(y) => x == y,
+            _ => false,
+        },
+        _ => false,
+    }
+}
+
+/// Puts the parts of two tuples on the stack.
+fn push_parts<'a>(
+    work: &mut Vec<(&'a Ty, &'a Ty)>,
+    ss: &'a [Ty],
+    ts: &'a [Ty],
+) -> Result<(), Memory>
+    requires { length ss.now ≡ length ts.now }
+    ensures { OnOk result (pairs work.new.items ≡ pairs work.old.items ++ zipped (terms_of (map term_of ss.now)) (terms_of (map term_of ts.now))) }
+{
+    for i in 0..ss.len() {
+        work.push((&ss[i], &ts[i]))?;
+    }
+    Ok(())
+}
+
+/// Puts the parts of two lists or two tuples on the stack; `false` where the two are not of one such shape.
+fn push_split<'a>(work: &mut Vec<(&'a Ty, &'a Ty)>, s: &'a Ty, t: &'a Ty) -> Result<bool, Memory>
+    ensures yes { IfOk result (λ b. OnTrue b (IsSplit (term_of s.now) (term_of t.now) × (pairs work.new.items ≡ pairs work.old.items ++ parts_of (term_of s.now) (term_of t.now)))) }
+    ensures no { IfOk result (λ b. OnFalse b (pairs work.new.items ≡ pairs work.old.items)) }
+    ensures unsplit { IfOk result (λ b. OnFalse b (IsSplit (term_of s.now) (term_of t.now) → ⊥)) }
+{
+    match s {
+        Ty::List(a) => match t {
+            Ty::List(b) => {
+                work.push((a, b))?;
+                Ok(true)
+            }
+            _ => Ok(false),
+        },
+        Ty::Tuple(ss) => match t {
+            Ty::Tuple(ts) => {
+                let ss: &[Ty] = ss;
+                let ts: &[Ty] = ts;
+                if ss.len() != ts.len() {
+                    return Ok(false);
+                }
+                push_parts(work, ss, ts)?;
+                Ok(true)
+            }
+            _ => Ok(false),
+        },
+        _ => Ok(false),
+    }
+}
+
+/// The first difference of two types, found with a stack of pairs that are still to be compared.
+pub fn differ<'a>(
+    alloc: Global,
+    types: &'a [TypeVariable],
+    kinds: &[Option<KindTerm>],
+    nested: &[bool],
+    left: &'a Ty,
+    right: &'a Ty,
+) -> Result<Difference<'a>, Memory>
+    requires sound { IsSound (table types.now kinds.now) }
+    requires marked { AreMarked types.now nested.now }
+    requires left { IsOver (table types.now kinds.now) (term_of left.now) }
+    requires right { IsOver (table types.now kinds.now) (term_of right.now) }
+    ensures { IfOk result (λ d. Settles (table types.now kinds.now) (term_of left.now) (term_of right.now) d) }
+{
+    let mut work: Vec<(&'a Ty, &'a Ty)> = Vec::new(alloc);
+    work.push((left, right))?;
+    for _step in 0..MOST_STEPS {
+        let Some(next) = work.pop() else {
+            return Ok(Difference::Same);
+        };
+        if are_one_variable(next.0, next.1) {
+            continue;
+        }
+        let s = resolve(types, next.0);
+        let t = resolve(types, next.1);
+        if push_split(&mut work, s, t)? {
+            continue;
+        }
+        match differ_resolved(alloc, types, kinds, nested, s, t)? {
+            Difference::Same => {}
+            found => return Ok(found),
+        }
+    }
+    Err(Memory)
+}

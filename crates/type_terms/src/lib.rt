@@ -1,0 +1,17 @@
+//! Types over variables, and a most general unifier.
+#![tactic(auto)]
+
+mod copying;
+mod differ;
+mod occurs;
+mod resolving;
+mod subst;
+mod ty;
+mod type_variable;
+mod unifier;
+
+pub use subst::{Subst, resolved, unify};
+pub use ty::{Base, KindTerm, Ty};
+
+#[cfg(test)]
+mod tests;

@@ -1,0 +1,180 @@
+// What a type is bound to, and whether a variable stands in it.
+ghost use Rattle.std.specs.Prelude.{◌≡◌, ◌≢◌, ◌+◌, ◌++◌, ◌<◌, ◌≤◌, ℕ, Bool, None, List, length, map, false, true, IfOk, IsTrue, OnOk, ◌↔◌};
+ghost use Rattle.std.specs.Bool.{OnTrue, OnFalse};
+ghost use Rattle.type_terms.specs.Ground.{Assignment, size};
+ghost use Rattle.type_terms.specs.Nested.{IsAmong, IsMarked, IsUnnested, below, inside, mark_at, terms};
+ghost use Rattle.type_terms.specs.Rank.{rank_of};
+ghost use Rattle.type_terms.specs.Table.{Avoids, IsOver, IsSound, IsTriangular, Table, MeetsBindings, bound_at, extra};
+ghost use Rattle.type_terms.specs.Term.{InTerm, meaning, height, term_of, variable};
+
+use crate::ty::{KindTerm, Ty};
+use crate::type_variable::TypeVariable;
+use liq_base::Memory;
+use std::alloc::Global;
+
+/// How many steps a walk over types may take. One that takes more is given up as if memory had run out.
+pub const MOST_STEPS: u64 = 67_108_864;
+
+/// The type itself, or where it is a bound variable what that is bound to in the end.
+pub fn resolve<'a>(types: &'a [TypeVariable], t: &'a Ty) -> &'a Ty
+    requires triangular { IsTriangular types.now }
+    requires over { InTerm (λ n. n < length types.now) (λ _. Unit {0}) (term_of t.now) }
+    ensures value { (a : Assignment) → MeetsBindings types.now a → meaning a (term_of result.now) ≡ meaning a (term_of t.now) }
+    ensures free { (k : ℕ) → term_of result.now ≡ variable k → bound_at types.now k ≡ None }
+    ensures over { InTerm (λ n. n < length types.now) (λ _. Unit {0}) (term_of result.now) }
+    ensures kept { (s : Table) → s.types ≡ types.now → IsSound s → IsOver s (term_of t.now) → IsOver s (term_of result.now) }
+{
+    let mut t = t;
+    while let Ty::Var(k) = t {
+        let variable = &types[*k as usize];
+        match variable.bound() {
+            Some(next) => t = next,
+            None => return t,
+        }
+    }
+    t
+}
+
+/// Marks the variables of a type.
+pub fn mark(nested: &mut [bool], ty: &Ty)
+    requires { InTerm (λ n. n < length nested.old) (λ _. Unit {0}) (term_of ty.now) }
+    ensures marked { IsMarked nested.new (term_of ty.now) }
+    ensures kept { (k : ℕ) → mark_at nested.old k ≡ true → mark_at nested.new k ≡ true }
+{
+    match ty {
+        Ty::List(item) => mark(nested, item),
+        Ty::Tuple(parts) => {
+            for part in parts {
+                mark(nested, part);
+            }
+        }
+        Ty::Var(k) => nested[*k as usize] = true,
+        _ => {}
+    }
+}
+
+/// Whether the type is this variable.
+fn is_variable(ty: &Ty, x: u64) -> bool
+    ensures yes { OnTrue result (term_of ty.now ≡ variable x) }
+    ensures no { OnFalse result (term_of ty.now ≢ variable x) }
+{
+    match ty {
+        Ty::Var(k) => *k == x,
+        _ => false,
+    }
+}
+
+/// Puts the parts of a tuple on the stack.
+fn push_parts<'a>(work: &mut Vec<&'a Ty>, parts: &'a [Ty]) -> Result<(), Memory>
+    ensures { OnOk result (terms work.new.items ≡ terms work.old.items ++ map term_of parts.now) }
+{
+    for part in parts {
+        work.push(part)?;
+    }
+    Ok(())
+}
+
+/// Puts what is right inside a type on the stack.
+fn push_inside<'a>(work: &mut Vec<&'a Ty>, ty: &'a Ty) -> Result<(), Memory>
+    ensures { OnOk result (terms work.new.items ≡ terms work.old.items ++ inside (term_of ty.now)) }
+{
+    match ty {
+        Ty::List(item) => {
+            work.push(item)?;
+            Ok(())
+        }
+        Ty::Tuple(parts) => push_parts(work, parts),
+        _ => Ok(()),
+    }
+}
+
+/// Puts what is right below a type on the stack; with `deep` also what a variable is bound to.
+fn push_below<'a>(
+    work: &mut Vec<&'a Ty>,
+    types: &'a [TypeVariable],
+    deep: bool,
+    ty: &'a Ty,
+) -> Result<(), Memory>
+    requires { InTerm (λ n. n < length types.now) (λ _. Unit {0}) (term_of ty.now) }
+    ensures { OnOk result (terms work.new.items ≡ terms work.old.items ++ below types.now deep (term_of ty.now)) }
+{
+    match ty {
+        Ty::Var(k) => {
+            if deep {
+                let variable = &types[*k as usize];
+                if let Some(bound) = variable.bound() {
+                    work.push(bound)?;
+                }
+            }
+            Ok(())
+        }
+        _ => push_inside(work, ty),
+    }
+}
+
+/// Whether the variable stands in the type, directly or through what variables are bound to.
+///
+/// A variable that stands in no binding needs no walk through the bindings: `nested` is false.
+pub fn occurs_in(
+    alloc: Global,
+    types: &[TypeVariable],
+    nested: bool,
+    x: u64,
+    ty: &Ty,
+) -> Result<bool, Memory>
+    requires triangular { IsTriangular types.now }
+    requires over { InTerm (λ n. n < length types.now) (λ _. Unit {0}) (term_of ty.now) }
+    requires unnested { nested ≡ false → IsUnnested types.now x }
+    ensures no { IfOk result (λ b. OnFalse b (Avoids types.now x (term_of ty.now))) }
+    ensures yes { IfOk result (λ b. OnTrue b ((a : Assignment) → MeetsBindings types.now a → size (a.type_of x) + extra (term_of ty.now) ≤ size (meaning a (term_of ty.now)))) }
+{
+    let mut work = Vec::new(alloc);
+    work.push(ty)?;
+    for _step in 0..MOST_STEPS {
+        let Some(next) = work.pop() else {
+            return Ok(false);
+        };
+        if is_variable(next, x) {
+            return Ok(true);
+        }
+        push_below(&mut work, types, nested, next)?;
+    }
+    Err(Memory)
+}
+
+/// Whether the type's outermost node is no variable, or one of less than so many.
+fn is_among(ty: &Ty, types: usize, kinds: usize) -> bool
+    ensures { IsTrue result ↔ IsAmong types kinds (term_of ty.now) }
+{
+    match ty {
+        Ty::Var(k) => (*k as usize) < types,
+        Ty::Source(kind) => match kind {
+            KindTerm::Var(k) => (*k as usize) < kinds,
+            KindTerm::Fixed(_) => true,
+        },
+        _ => true,
+    }
+}
+
+/// Whether each variable of the type is one of these.
+pub fn are_among(
+    alloc: Global,
+    types: &[TypeVariable],
+    kinds: &[Option<KindTerm>],
+    ty: &Ty,
+) -> Result<bool, Memory>
+    ensures { IfOk result (λ yes. IsTrue yes ↔ InTerm (λ n. n < length types.now) (λ n. n < length kinds.now) (term_of ty.now)) }
+{
+    let mut work = Vec::new(alloc);
+    work.push(ty)?;
+    for _step in 0..MOST_STEPS {
+        let Some(next) = work.pop() else {
+            return Ok(true);
+        };
+        if !is_among(next, types.len(), kinds.len()) {
+            return Ok(false);
+        }
+        push_inside(&mut work, next)?;
+    }
+    Err(Memory)
+}

@@ -1,0 +1,60 @@
+// A type with all that is bound put in.
+ghost use Rattle.std.specs.Prelude.{◌≡◌, Option, List, IfOk};
+ghost use Rattle.type_terms.specs.Resolved.{IsResolved};
+ghost use Rattle.type_terms.specs.Table.{table, IsOver, IsSound};
+ghost use Rattle.type_terms.specs.Term.{term_of};
+
+use crate::differ::resolve_kind;
+use crate::occurs::resolve;
+use crate::ty::{KindTerm, Ty};
+use crate::type_variable::TypeVariable;
+use liq_base::Memory;
+use std::alloc::Global;
+
+/// How many nodes a resolved type may have.
+pub const MOST_NODES: u64 = 1_048_576;
+
+/// The type with all that is bound put in, if it has at most so many levels and nodes.
+pub fn settle(
+    alloc: Global,
+    types: &[TypeVariable],
+    kinds: &[Option<KindTerm>],
+    ty: &Ty,
+    levels: u32,
+    nodes: &mut u64,
+) -> Result<Ty, Memory>
+    requires sound { IsSound (table types.now kinds.now) }
+    requires over { IsOver (table types.now kinds.now) (term_of ty.now) }
+    ensures { IfOk result (λ u. IsResolved (table types.now kinds.now) (term_of ty.now) (term_of u)) }
+{
+    let below = levels.checked_sub(1).ok_or(Memory)?;
+    *nodes = nodes.checked_sub(1).ok_or(Memory)?;
+    let ty = resolve(types, ty);
+    match ty {
+        Ty::Int => Ok(Ty::Int),
+        Ty::Decimal => Ok(Ty::Decimal),
+        Ty::Text => Ok(Ty::Text),
+        Ty::Bool => Ok(Ty::Bool),
+        Ty::Unit => Ok(Ty::Unit),
+        Ty::Format => Ok(Ty::Format),
+        Ty::Pred => Ok(Ty::Pred),
+        Ty::Var(number) => Ok(Ty::Var(*number)),
+        Ty::Source(kind) => {
+            let kind = resolve_kind(kinds, *kind);
+            Ok(Ty::Source(kind))
+        }
+        Ty::List(item) => {
+            let item = settle(alloc, types, kinds, item, below, nodes)?;
+            let item = Box::new(alloc, item)?;
+            Ok(Ty::List(item))
+        }
+        Ty::Tuple(parts) => {
+            let mut settled = Vec::new(alloc);
+            for part in parts {
+                let next = settle(alloc, types, kinds, part, below, nodes)?;
+                settled.push(next)?;
+            }
+            Ok(Ty::Tuple(settled))
+        }
+    }
+}

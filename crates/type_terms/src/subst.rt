@@ -1,0 +1,180 @@
+// Substitutions, and the most general unifier over one.
+ghost use Rattle.std.specs.Prelude.{◌≡◌, ◌≢◌, ◌+◌, ◌<◌, ◌↔◌, ◌++◌, ℕ, None, Some, List, [], ◌∷◌, length, true, option_map, option_copied, IfOk, OnOk, OnErr, IsTrue, IsNone, IfSome};
+ghost use Rattle.std.specs.Bool.{OnTrue, OnFalse};
+ghost use Rattle.type_terms.specs.Agrees.{HasNewKind, HasNewType};
+ghost use Rattle.type_terms.specs.Extends.{Extends, HasDefaults};
+ghost use Rattle.type_terms.specs.Ground.{Assignment, IsNumber};
+ghost use Rattle.type_terms.specs.Resolved.{IsUnbound};
+ghost use Rattle.type_terms.specs.Table.{table, IsOver, Solves, bound_at, kind_at, number_at};
+ghost use Rattle.type_terms.specs.Term.{meaning, term_of, variable};
+ghost use Rattle.type_terms.specs.Undo.{SameVariables};
+ghost use Rattle.type_terms.specs.declared.ty.KindTerm.TheVariants.{Var};
+
+use crate::copying::MOST_LEVELS;
+use crate::occurs::are_among;
+use crate::resolving::{MOST_NODES, settle};
+use crate::ty::{KindTerm, Ty};
+use crate::type_variable::TypeVariable;
+use crate::unifier::unify_in;
+use liq_base::Memory;
+use std::alloc::Global;
+use std::marker::Model;
+
+/// Binds variables, and keeps which of them are number variables.
+///
+/// The numbers of its type variables, and of its kind variables, are those that it has handed out, from 0.
+/// A number variable can only be int or decimal in the end.
+#[derive(Drop)]
+pub struct Subst {
+    types: Vec<TypeVariable>,
+    kinds: Vec<Option<KindTerm>>,
+    // Whether a type variable may stand in what another is bound to.
+    nested: Vec<bool>,
+}
+
+impl Model for Subst {
+    ghost use Rattle.type_terms.specs.Table.{Table};
+    ghost use Rattle.type_terms.specs.Codes.{table_code};
+    ghost use Rattle.type_terms.specs.Nested.{IsWhole};
+
+    ghost Value = { Table };
+
+    ghost coded = { table_code };
+
+    ghost view = { λ s. record { types = s.types.items; kinds = s.kinds.items } };
+
+    ghost invariant = { λ s. IsWhole (record { types = s.types.items; kinds = s.kinds.items }) s.nested.items };
+}
+
+impl Subst {
+    /// A substitution without variables.
+    pub fn new(alloc: Global) -> Result<Subst, Memory>
+        ensures { IfOk result (λ s. s ≡ table [] []) }
+    {
+        Ok(Subst {
+            types: Vec::new(alloc),
+            kinds: Vec::new(alloc),
+            nested: Vec::new(alloc),
+        })
+    }
+
+    /// A new type variable that is bound to nothing. Its number is how many there were.
+    ///
+    /// A number variable where `number` is true. Where memory runs out nothing changes.
+    pub fn fresh(&mut self, number: bool) -> Result<Ty, Memory>
+        ensures next { IfOk result (λ t. term_of t ≡ variable (length self.old.types)) }
+        ensures grown { OnOk result (self.new ≡ table (self.old.types ++ record { number = number; bound = None } ∷ []) self.old.kinds) }
+        ensures free { OnOk result (HasNewType self.old self.new (IsTrue number) (length self.old.types)) }
+        ensures err { OnErr result (self.new ≡ self.old) }
+    {
+        let next = self.types.len() as u64;
+        self.nested.push(false)?;
+        self.types.push(TypeVariable::new(number))?;
+        Ok(Ty::Var(next))
+    }
+
+    /// A new kind variable that is bound to nothing. Its number is how many there were.
+    ///
+    /// Where memory runs out nothing changes.
+    pub fn fresh_kind(&mut self) -> Result<KindTerm, Memory>
+        ensures next { IfOk result (λ k. k ≡ Var (length self.old.kinds)) }
+        ensures grown { OnOk result (self.new ≡ table self.old.types (self.old.kinds ++ None ∷ [])) }
+        ensures free { OnOk result (HasNewKind self.old self.new (length self.old.kinds)) }
+        ensures err { OnErr result (self.new ≡ self.old) }
+    {
+        let next = self.kinds.len() as u64;
+        self.kinds.push(None)?;
+        Ok(KindTerm::Var(next))
+    }
+
+    /// What a type variable is bound to; `None` for one that is bound to nothing.
+    pub fn bound(&self, var: u64) -> Option<&Ty>
+        ensures none { IsNone result ↔ (bound_at self.now.types var ≡ None) }
+        ensures some { IfSome result (λ t. bound_at self.now.types var ≡ Some (term_of t.now)) }
+    {
+        let variable = self.types.get(var as usize)?;
+        variable.bound()
+    }
+
+    /// What a kind variable is bound to; `None` for one that is bound to nothing.
+    pub fn bound_kind(&self, var: u64) -> Option<KindTerm>
+        ensures { result ≡ kind_at self.now.kinds var }
+    {
+        let bound = self.kinds.get(var as usize)?;
+        *bound
+    }
+
+    /// Whether it is a number variable.
+    pub fn is_number(&self, var: u64) -> bool
+        ensures { result ≡ number_at self.now.types var }
+    {
+        match self.types.get(var as usize) {
+            Some(variable) => variable.is_number(),
+            None => false,
+        }
+    }
+
+    /// Whether each variable of the type is one of this substitution.
+    pub fn covers(&self, alloc: Global, ty: &Ty) -> Result<bool, Memory>
+        ensures { IfOk result (λ yes. IsTrue yes ↔ IsOver self.now (term_of ty.now)) }
+    {
+        are_among(alloc, &self.types, &self.kinds, ty)
+    }
+
+    /// Each assignment to the variables that are bound to nothing, with int or decimal for each number variable, is that of a solution.
+    pub fn extends_each_assignment(&self)
+        ensures { (p : Assignment) → ((k : ℕ) → number_at self.now.types k ≡ true → IsNumber (p.type_of k)) → (a : Assignment) × Extends self.now p a }
+    {
+        let _ = &self.types;
+    }
+
+    /// One solution has stereo for each kind variable, and int for each type variable, that is bound to nothing.
+    pub fn has_defaults(&self)
+        ensures { HasDefaults self.now }
+    {
+        let _ = &self.types;
+    }
+}
+
+/// Binds variables so that exactly those solutions are left at which the two types are the same.
+///
+/// `false` where there is none. Nothing is bound then, nor where memory runs out.
+/// A binding with more than a thousand levels, and a comparison of more than some 67 million steps, is given up as if memory had run out.
+pub fn unify(alloc: Global, subst: &mut Subst, left: &Ty, right: &Ty) -> Result<bool, Memory>
+    requires left { IsOver subst.old (term_of left.now) }
+    requires right { IsOver subst.old (term_of right.now) }
+    ensures most_general { IfOk result (λ yes. OnTrue yes ((a : Assignment) → Solves a subst.new ↔ (Solves a subst.old × (meaning a (term_of left.now) ≡ meaning a (term_of right.now))))) }
+    ensures solvable { IfOk result (λ yes. OnTrue yes ((a : Assignment) × Solves a subst.new)) }
+    ensures none { IfOk result (λ yes. OnFalse yes ((a : Assignment) → Solves a subst.old → meaning a (term_of left.now) ≢ meaning a (term_of right.now))) }
+    ensures unchanged { IfOk result (λ yes. OnFalse yes (subst.new ≡ subst.old)) }
+    ensures same_variables { IfOk result (λ yes. OnTrue yes (SameVariables subst.old subst.new)) }
+    ensures err { OnErr result (subst.new ≡ subst.old) }
+{
+    unify_in(
+        alloc,
+        &mut subst.types,
+        &mut subst.kinds,
+        &mut subst.nested,
+        left,
+        right,
+    )
+}
+
+/// The type with all that is bound put in.
+///
+/// A type of more than a thousand levels or a million nodes is given up as if memory had run out.
+pub fn resolved(alloc: Global, subst: &Subst, ty: &Ty) -> Result<Ty, Memory>
+    requires { IsOver subst.now (term_of ty.now) }
+    ensures unbound { IfOk result (λ t. IsUnbound subst.now (term_of t)) }
+    ensures same { IfOk result (λ t. (a : Assignment) → Solves a subst.now → meaning a (term_of t) ≡ meaning a (term_of ty.now)) }
+{
+    let mut nodes = MOST_NODES;
+    settle(
+        alloc,
+        &subst.types,
+        &subst.kinds,
+        ty,
+        MOST_LEVELS,
+        &mut nodes,
+    )
+}

@@ -1,0 +1,304 @@
+// What no clause says: that the definitions mean what the language's types mean, that calls succeed, and that no depth is too deep.
+use crate::{KindTerm, Subst, Ty, resolved, unify};
+use liq_base::{Kind, Memory};
+use std::alloc::Global;
+use std::process::Abort;
+use std::test::Fail;
+
+fn list(alloc: Global, item: Ty) -> Result<Ty, Memory> {
+    Ok(Ty::List(Box::new(alloc, item)?))
+}
+
+fn pair(alloc: Global, first: Ty, second: Ty) -> Result<Ty, Memory> {
+    let mut parts = Vec::new(alloc);
+    parts.push(first)?;
+    parts.push(second)?;
+    Ok(Ty::Tuple(parts))
+}
+
+fn single(alloc: Global, only: Ty) -> Result<Ty, Memory> {
+    let mut parts = Vec::new(alloc);
+    parts.push(only)?;
+    Ok(Ty::Tuple(parts))
+}
+
+fn source(kind: Kind) -> Ty {
+    Ty::Source(KindTerm::Fixed(kind))
+}
+
+fn open_source(number: u64) -> Ty {
+    Ty::Source(KindTerm::Var(number))
+}
+
+// Type variables 0 and 1, number variables 2 and 3, kind variables 0 and 1.
+fn six_variables(alloc: Global) -> Result<Subst, Memory> {
+    let mut subst = Subst::new(alloc)?;
+    subst.fresh(false)?;
+    subst.fresh(false)?;
+    subst.fresh(true)?;
+    subst.fresh(true)?;
+    subst.fresh_kind()?;
+    subst.fresh_kind()?;
+    Ok(subst)
+}
+
+// `unify`, where the types are over variables of the substitution.
+fn unified(
+    rt: &impl Abort,
+    alloc: Global,
+    subst: &mut Subst,
+    left: &Ty,
+    right: &Ty,
+) -> Result<bool, Memory> {
+    let left_covered = subst.covers(alloc, left)?;
+    assert!(rt; left_covered);
+    let right_covered = subst.covers(alloc, right)?;
+    assert!(rt; right_covered);
+    unify(alloc, subst, left, right)
+}
+
+// The text of a resolved type.
+fn resolved_text(rt: &impl Abort, alloc: Global, subst: &Subst, ty: &Ty) -> Result<String, Fail> {
+    let covered = subst.covers(alloc, ty)?;
+    assert!(rt; covered);
+    let ty = resolved(alloc, subst, ty)?;
+    Ok(format!(in alloc; "{ty:?}")?)
+}
+
+// Unifies two types over six variables. `want` is the text of both once they are resolved, or empty where they clash.
+fn check_row(
+    rt: &impl Abort,
+    alloc: Global,
+    left: &Ty,
+    right: &Ty,
+    want: &str,
+) -> Result<(), Fail> {
+    let mut subst = six_variables(alloc)?;
+    let yes = unified(rt, alloc, &mut subst, left, right)?;
+    assert_eq!(rt; yes, want != "", "{left:?} and {right:?}");
+    if yes {
+        assert_eq!(rt; resolved_text(rt, alloc, &subst, left)?.as_str(), want);
+        assert_eq!(rt; resolved_text(rt, alloc, &subst, right)?.as_str(), want);
+    } else {
+        for number in 0..4 {
+            assert!(rt;
+                subst.bound(number).is_none(),
+                "{left:?} and {right:?} leave {number} bound"
+            );
+        }
+        assert!(rt; subst.bound_kind(0).is_none());
+        assert!(rt; subst.bound_kind(1).is_none());
+    }
+    Ok(())
+}
+
+#[test]
+fn base_types_and_variables(rt: HostRuntime) -> Result<(), Fail> {
+    check_row(&rt, rt.alloc(), &Ty::Int, &Ty::Text, "")?;
+    check_row(&rt, rt.alloc(), &Ty::Bool, &Ty::Bool, "Bool")?;
+    check_row(&rt, rt.alloc(), &Ty::Unit, &Ty::Format, "")?;
+    check_row(&rt, rt.alloc(), &Ty::Pred, &Ty::Bool, "")?;
+    check_row(&rt, rt.alloc(), &Ty::Var(0), &Ty::Var(0), "Var(0)")?;
+    check_row(&rt, rt.alloc(), &Ty::Var(0), &Ty::Var(1), "Var(1)")?;
+    check_row(&rt, rt.alloc(), &Ty::Var(0), &Ty::Format, "Format")?;
+    Ok(())
+}
+
+#[test]
+fn number_variables(rt: HostRuntime) -> Result<(), Fail> {
+    check_row(&rt, rt.alloc(), &Ty::Var(2), &Ty::Int, "Int")?;
+    check_row(&rt, rt.alloc(), &Ty::Decimal, &Ty::Var(2), "Decimal")?;
+    check_row(&rt, rt.alloc(), &Ty::Var(2), &Ty::Text, "")?;
+    check_row(&rt, rt.alloc(), &Ty::Var(2), &source(Kind::Mono), "")?;
+    check_row(&rt, rt.alloc(), &Ty::Var(2), &Ty::Var(3), "Var(2)")?;
+    check_row(&rt, rt.alloc(), &Ty::Var(0), &Ty::Var(2), "Var(2)")?;
+    check_row(&rt, rt.alloc(), &Ty::Var(2), &Ty::Var(0), "Var(2)")?;
+    Ok(())
+}
+
+#[test]
+fn lists_and_tuples(rt: HostRuntime) -> Result<(), Fail> {
+    let alloc = rt.alloc();
+    let ints = list(alloc, Ty::Int)?;
+    let open = list(alloc, Ty::Var(0))?;
+    check_row(&rt, rt.alloc(), &open, &ints, "List(Int)")?;
+    check_row(&rt, rt.alloc(), &ints, &list(alloc, Ty::Text)?, "")?;
+    check_row(&rt, rt.alloc(), &ints, &Ty::Int, "")?;
+    let left = pair(alloc, Ty::Var(0), Ty::Text)?;
+    check_row(
+        &rt,
+        &left,
+        &pair(alloc, Ty::Int, Ty::Var(1))?,
+        "Tuple([Int, Text])",
+    )?;
+    check_row(&rt, rt.alloc(), &left, &pair(alloc, Ty::Int, Ty::Bool)?, "")?;
+    check_row(&rt, rt.alloc(), &left, &single(alloc, Ty::Int)?, "")?;
+    let twice = pair(alloc, Ty::Var(0), Ty::Var(0))?;
+    check_row(
+        &rt,
+        rt.alloc(),
+        &twice,
+        &pair(alloc, Ty::Int, Ty::Text)?,
+        "",
+    )?;
+    check_row(
+        &rt,
+        &twice,
+        &pair(alloc, Ty::Var(1), Ty::Text)?,
+        "Tuple([Text, Text])",
+    )?;
+    Ok(())
+}
+
+#[test]
+fn no_type_is_inside_itself(rt: HostRuntime) -> Result<(), Fail> {
+    let alloc = rt.alloc();
+    check_row(&rt, rt.alloc(), &Ty::Var(0), &list(alloc, Ty::Var(0))?, "")?;
+    check_row(
+        &rt,
+        rt.alloc(),
+        &single(alloc, Ty::Var(1))?,
+        &Ty::Var(1),
+        "",
+    )?;
+    let left = pair(alloc, Ty::Var(0), Ty::Var(1))?;
+    let right = pair(alloc, list(alloc, Ty::Var(1))?, single(alloc, Ty::Var(0))?)?;
+    check_row(&rt, rt.alloc(), &left, &right, "")?;
+    Ok(())
+}
+
+#[test]
+fn kinds_of_sources(rt: HostRuntime) -> Result<(), Fail> {
+    check_row(
+        &rt,
+        &source(Kind::Mono),
+        &source(Kind::Mono),
+        "Source(Fixed(Mono))",
+    )?;
+    check_row(
+        &rt,
+        rt.alloc(),
+        &source(Kind::Mono),
+        &source(Kind::Stereo),
+        "",
+    )?;
+    check_row(
+        &rt,
+        &open_source(0),
+        &source(Kind::Mono),
+        "Source(Fixed(Mono))",
+    )?;
+    check_row(
+        &rt,
+        &source(Kind::Stereo),
+        &open_source(1),
+        "Source(Fixed(Stereo))",
+    )?;
+    check_row(
+        &rt,
+        rt.alloc(),
+        &open_source(0),
+        &open_source(1),
+        "Source(Var(0))",
+    )?;
+    check_row(
+        &rt,
+        rt.alloc(),
+        &open_source(1),
+        &open_source(1),
+        "Source(Var(1))",
+    )?;
+    check_row(&rt, rt.alloc(), &open_source(0), &Ty::Unit, "")?;
+    Ok(())
+}
+
+#[test]
+fn a_chain_of_a_hundred_variables(rt: HostRuntime) -> Result<(), Fail> {
+    let mut subst = Subst::new(rt.alloc())?;
+    let first = subst.fresh(false)?;
+    let mut last = Ty::Var(0);
+    for number in 1..100 {
+        subst.fresh(false)?;
+        let next = Ty::Var(number);
+        let yes = unified(&rt, rt.alloc(), &mut subst, &last, &next)?;
+        assert!(rt; yes);
+        last = next;
+    }
+    let yes = unified(&rt, rt.alloc(), &mut subst, &first, &Ty::Pred)?;
+    assert!(rt; yes);
+    assert_eq!(rt;
+        resolved_text(&rt, rt.alloc(), &subst, &last)?.as_str(),
+        "Pred"
+    );
+    let clash = unified(&rt, rt.alloc(), &mut subst, &last, &Ty::Int)?;
+    assert!(rt; !clash);
+    Ok(())
+}
+
+// Each variable is bound to what `make` makes of the one before.
+fn tower(
+    rt: &impl Abort,
+    alloc: Global,
+    subst: &mut Subst,
+    height: u64,
+    double: bool,
+) -> Result<Ty, Memory> {
+    let mut top = subst.fresh(false)?;
+    let mut number = match top {
+        Ty::Var(number) => number,
+        _ => 0,
+    };
+    for _level in 0..height {
+        let built = if double {
+            pair(alloc, Ty::Var(number), Ty::Var(number))?
+        } else {
+            list(alloc, Ty::Var(number))?
+        };
+        top = subst.fresh(false)?;
+        number = match top {
+            Ty::Var(number) => number,
+            _ => 0,
+        };
+        let yes = unified(rt, alloc, subst, &top, &built)?;
+        assert!(rt; yes);
+    }
+    Ok(top)
+}
+
+#[test]
+fn a_chain_of_170000_lists(rt: HostRuntime) -> Result<(), Fail> {
+    let mut subst = Subst::new(rt.alloc())?;
+    let top = tower(&rt, rt.alloc(), &mut subst, 170_000, false)?;
+    let again = unified(&rt, rt.alloc(), &mut subst, &top, &top)?;
+    assert!(rt; again);
+    let other = tower(&rt, rt.alloc(), &mut subst, 170_000, false)?;
+    let both = unified(&rt, rt.alloc(), &mut subst, &top, &other)?;
+    assert!(rt; both);
+    let covered = subst.covers(rt.alloc(), &top)?;
+    assert!(rt; covered);
+    assert!(rt;
+        resolved(rt.alloc(), &subst, &top).is_err(),
+        "too deep to be built"
+    );
+    Ok(())
+}
+
+#[test]
+fn a_type_that_doubles_thirty_times(rt: HostRuntime) -> Result<(), Fail> {
+    let mut subst = Subst::new(rt.alloc())?;
+    let top = tower(&rt, rt.alloc(), &mut subst, 30, true)?;
+    let again = unified(&rt, rt.alloc(), &mut subst, &top, &top)?;
+    assert!(rt; again);
+    let other = tower(&rt, rt.alloc(), &mut subst, 30, true)?;
+    assert_eq!(rt;
+        unified(&rt, rt.alloc(), &mut subst, &top, &other),
+        Err(Memory)
+    );
+    let covered = subst.covers(rt.alloc(), &top)?;
+    assert!(rt; covered);
+    assert!(rt;
+        resolved(rt.alloc(), &subst, &top).is_err(),
+        "too large to be built"
+    );
+    Ok(())
+}

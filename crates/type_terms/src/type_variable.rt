@@ -1,0 +1,69 @@
+// A type variable of a substitution.
+ghost use Rattle.std.specs.Prelude.{◌≡◌, option_map, option_copied};
+ghost use Rattle.type_terms.specs.Term.{term_of};
+
+use crate::ty::Ty;
+use std::marker::Model;
+
+/// A type variable: whether it is a number variable, and what it is bound to.
+#[derive(Drop)]
+pub struct TypeVariable {
+    number: bool,
+    bound: Option<Ty>,
+}
+
+impl Model for TypeVariable {
+    ghost use Rattle.std.specs.Prelude.{option_map};
+    ghost use Rattle.type_terms.specs.Term.{term_of};
+    ghost use Rattle.type_terms.specs.Variables.{Variable};
+    ghost use Rattle.type_terms.specs.Codes.{variable_code};
+
+    ghost Value = { Variable };
+
+    ghost coded = { variable_code };
+
+    ghost view = { λ s. record { number = s.number; bound = option_map term_of s.bound } };
+}
+
+impl TypeVariable {
+    /// A variable that is bound to nothing.
+    pub fn new(number: bool) -> TypeVariable
+        ensures { result ≡ record { number = number; bound = None } }
+    {
+        TypeVariable {
+            number,
+            bound: None,
+        }
+    }
+
+    /// Whether it can only be int or decimal in the end.
+    pub fn is_number(&self) -> bool
+        ensures { result ≡ self.now.number }
+    {
+        self.number
+    }
+
+    /// What it is bound to.
+    pub fn bound(&self) -> Option<&Ty>
+        ensures { option_map term_of (option_copied result) ≡ self.now.bound }
+    {
+        match &self.bound {
+            Some(ty) => Some(ty),
+            None => None,
+        }
+    }
+
+    /// Binds it.
+    pub fn bind(&mut self, ty: Ty)
+        ensures { self.new ≡ record { number = self.old.number; bound = Some (term_of ty) } }
+    {
+        self.bound = Some(ty);
+    }
+
+    /// Takes its binding away.
+    pub fn free(&mut self)
+        ensures { self.new ≡ record { number = self.old.number; bound = None } }
+    {
+        self.bound = None;
+    }
+}

@@ -1,0 +1,167 @@
+// The bindings that make two types equal, and their undoing.
+ghost use Rattle.std.specs.Prelude.{◌≡◌, ◌≢◌, ◌<◌, ◌↔◌, ℕ, None, Option, List, [], length, true, IfOk, OnErr};
+ghost use Rattle.std.specs.Bool.{OnTrue, OnFalse};
+ghost use Rattle.type_terms.specs.Ground.{Assignment};
+ghost use Rattle.type_terms.specs.Nested.{AreMarked, mark_at};
+ghost use Rattle.type_terms.specs.Table.{table, Binds, BindsKind, IsOver, IsSound, Solves, bound_at, kind_at};
+ghost use Rattle.type_terms.specs.Term.{meaning, term_of};
+ghost use Rattle.type_terms.specs.Undo.{Frees, FreesKind, IsKindTrail, IsTrail, SameVariables};
+ghost use Rattle.type_terms.specs.Variables.{Variable};
+ghost use Rattle.type_terms.specs.declared.ty.KindTerm.{KindTerm};
+
+use crate::copying::{MOST_LEVELS, copy};
+use crate::differ::{Difference, differ};
+use crate::occurs::mark;
+use crate::ty::{KindTerm, Ty};
+use crate::type_variable::TypeVariable;
+use liq_base::Memory;
+use std::alloc::Global;
+
+/// Binds a free type variable.
+fn bind_type(types: &mut [TypeVariable], x: u64, ty: Ty)
+    requires inside { x < length types.old }
+    requires free { bound_at types.old x ≡ None }
+    ensures { Binds x (term_of ty) types.old types.new }
+{
+    let variable = &mut types[x as usize];
+    variable.bind(ty);
+}
+
+/// Binds a free kind variable.
+fn bind_kind(kinds: &mut [Option<KindTerm>], x: u64, k: KindTerm)
+    requires inside { x < length kinds.old }
+    requires free { kind_at kinds.old x ≡ None }
+    ensures { BindsKind x k kinds.old kinds.new }
+{
+    kinds[x as usize] = Some(k);
+}
+
+/// Frees a type variable.
+fn free_type(types: &mut [TypeVariable], x: u64)
+    requires { x < length types.old }
+    ensures { Frees x types.old types.new }
+{
+    let variable = &mut types[x as usize];
+    variable.free();
+}
+
+/// Frees a kind variable.
+fn free_kind(kinds: &mut [Option<KindTerm>], x: u64)
+    requires { x < length kinds.old }
+    ensures { FreesKind x kinds.old kinds.new }
+{
+    kinds[x as usize] = None;
+}
+
+/// Frees the type variables of a trail.
+fn free_types(types: &mut [TypeVariable], trail: &[u64])
+    requires { (vs : List Variable) × IsTrail trail.now vs types.old }
+    ensures { (vs : List Variable) → IsTrail trail.now vs types.old → types.new ≡ vs }
+{
+    for x in trail {
+        free_type(types, *x);
+    }
+}
+
+/// Frees the kind variables of a trail.
+fn free_kinds(kinds: &mut [Option<KindTerm>], trail: &[u64])
+    requires { (ks : List (Option KindTerm)) × IsKindTrail trail.now ks kinds.old }
+    ensures { (ks : List (Option KindTerm)) → IsKindTrail trail.now ks kinds.old → kinds.new ≡ ks }
+{
+    for x in trail {
+        free_kind(kinds, *x);
+    }
+}
+
+/// Binds variables until the two types are the same, or differ in shape. The trails tell which were bound.
+fn solve(
+    alloc: Global,
+    types: &mut [TypeVariable],
+    kinds: &mut [Option<KindTerm>],
+    nested: &mut [bool],
+    type_trail: &mut Vec<u64>,
+    kind_trail: &mut Vec<u64>,
+    left: &Ty,
+    right: &Ty,
+) -> Result<bool, Memory>
+    requires sound { IsSound (table types.old kinds.old) }
+    requires marked { AreMarked types.old nested.old }
+    requires left { IsOver (table types.old kinds.old) (term_of left.now) }
+    requires right { IsOver (table types.old kinds.old) (term_of right.now) }
+    requires type_trail { type_trail.old.items ≡ [] }
+    requires kind_trail { kind_trail.old.items ≡ [] }
+    ensures sound { IsSound (table types.new kinds.new) }
+    ensures marked { AreMarked types.new nested.new }
+    ensures marks_kept { (k : ℕ) → mark_at nested.old k ≡ true → mark_at nested.new k ≡ true }
+    ensures type_trail { IsTrail type_trail.new.items types.old types.new }
+    ensures kind_trail { IsKindTrail kind_trail.new.items kinds.old kinds.new }
+    ensures narrower { (a : Assignment) → Solves a (table types.new kinds.new) → Solves a (table types.old kinds.old) }
+    ensures kept { (a : Assignment) → Solves a (table types.old kinds.old) → meaning a (term_of left.now) ≡ meaning a (term_of right.now) → Solves a (table types.new kinds.new) }
+    ensures same { IfOk result (λ yes. OnTrue yes ((a : Assignment) → Solves a (table types.new kinds.new) → meaning a (term_of left.now) ≡ meaning a (term_of right.now))) }
+    ensures clash { IfOk result (λ yes. OnFalse yes ((a : Assignment) → Solves a (table types.new kinds.new) → meaning a (term_of left.now) ≢ meaning a (term_of right.now))) }
+{
+    loop {
+        match differ(alloc, types, kinds, nested, left, right)? {
+            Difference::Same => return Ok(true),
+            Difference::Clash => return Ok(false),
+            Difference::Bind(x, t) => {
+                let t = copy(alloc, t, MOST_LEVELS)?;
+                type_trail.push(x)?;
+                mark(nested, &t);
+                bind_type(types, x, t);
+            }
+            Difference::BindKind(x, k) => {
+                kind_trail.push(x)?;
+                bind_kind(kinds, x, k);
+            }
+        }
+    }
+}
+
+/// Binds as `solve` does, and frees again what was bound where the types differ in shape or memory runs out.
+pub fn unify_in(
+    alloc: Global,
+    types: &mut [TypeVariable],
+    kinds: &mut [Option<KindTerm>],
+    nested: &mut [bool],
+    left: &Ty,
+    right: &Ty,
+) -> Result<bool, Memory>
+    requires sound { IsSound (table types.old kinds.old) }
+    requires marked { AreMarked types.old nested.old }
+    requires left { IsOver (table types.old kinds.old) (term_of left.now) }
+    requires right { IsOver (table types.old kinds.old) (term_of right.now) }
+    ensures sound { IsSound (table types.new kinds.new) }
+    ensures marked { AreMarked types.new nested.new }
+    ensures most_general { IfOk result (λ yes. OnTrue yes ((a : Assignment) → Solves a (table types.new kinds.new) ↔ (Solves a (table types.old kinds.old) × (meaning a (term_of left.now) ≡ meaning a (term_of right.now))))) }
+    ensures solvable { IfOk result (λ yes. OnTrue yes ((a : Assignment) × Solves a (table types.new kinds.new))) }
+    ensures none { IfOk result (λ yes. OnFalse yes ((a : Assignment) → Solves a (table types.old kinds.old) → meaning a (term_of left.now) ≢ meaning a (term_of right.now))) }
+    ensures unchanged { IfOk result (λ yes. OnFalse yes (table types.new kinds.new ≡ table types.old kinds.old)) }
+    ensures same_variables { SameVariables (table types.old kinds.old) (table types.new kinds.new) }
+    ensures err { OnErr result (table types.new kinds.new ≡ table types.old kinds.old) }
+{
+    let mut type_trail = Vec::new(alloc);
+    let mut kind_trail = Vec::new(alloc);
+    match solve(
+        alloc,
+        types,
+        kinds,
+        nested,
+        &mut type_trail,
+        &mut kind_trail,
+        left,
+        right,
+    ) {
+        Ok(true) => Ok(true),
+        Ok(false) => {
+            free_types(types, &type_trail);
+            free_kinds(kinds, &kind_trail);
+            Ok(false)
+        }
+        Err(e) => {
+            free_types(types, &type_trail);
+            free_kinds(kinds, &kind_trail);
+            Err(e)
+        }
+    }
+}
