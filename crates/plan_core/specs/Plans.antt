@@ -28,7 +28,8 @@ HasChildren (Crossfade overlap) n = n ≡ 1
 HasChildren (Buffer number) n = n ≡ 0
 HasChildren (Clock id) n = n ≡ 1
 
--- the kind of a node of this operator, over children of a kind: the children's, but a mean is mono over stereo, and a stereo is stereo over mono
+-- the kind of a node of this operator, over children of a kind: the children's, but a mean is mono over stereo, and a
+-- stereo is stereo over mono
 abbrev pub HasKind : Op → (children : Kind) → Kind → Type 0
 HasKind (Single file) children kind = kind ≡ children
 HasKind (Playlist file again) children kind = kind ≡ children
@@ -136,7 +137,8 @@ pub record IsNodeOver (below : List Node) (node : Node) : Type 0 where
   pub children : All (λ child. child < length below) node.children
   pub few : length node.children ≤ 65535
   pub number : HasChildren node.op (length node.children)
-  pub kinds : (child : ℕ) (node_below : Node) → Contains node.children child → slice_get below child ≡ Some node_below → HasKind node.op node_below.kind node.kind
+  pub kinds : (number : ℕ) (child : Node) → Contains node.children number → slice_get below number ≡ Some child
+      → HasKind node.op child.kind node.kind
   pub range : IsInRange node.op
   pub crossfades : crossfades_from below node ≤ 4
 
@@ -146,7 +148,8 @@ AreNodes nodes = (i : ℕ) (node : Node) → slice_get nodes i ≡ Some node →
 
 -- a reader has the kind of its feed's node
 abbrev pub ReadersHaveKind : Plan → Type 0
-ReadersHaveKind plan = (reader source : Node) (buffer node : ℕ) → Contains plan.nodes reader → reader.op ≡ Buffer buffer → Contains plan.sinks (Feed buffer node) → slice_get plan.nodes node ≡ Some source → reader.kind ≡ source.kind
+ReadersHaveKind plan = (reader source : Node) (buffer node : ℕ) → Contains plan.nodes reader → reader.op ≡ Buffer buffer
+    → Contains plan.sinks (Feed buffer node) → slice_get plan.nodes node ≡ Some source → reader.kind ≡ source.kind
 
 -- what every call that takes a plan may rely on
 pub record IsWellFormed (plan : Plan) : Type 0 where
@@ -157,7 +160,8 @@ pub record IsWellFormed (plan : Plan) : Type 0 where
   pub nodes : AreNodes plan.nodes
   pub sinks : All (λ sink. sink_node sink < length plan.nodes) plan.sinks
   pub fed : (buffer node : ℕ) → Contains plan.sinks (Feed buffer node) → buffer < length plan.buffers
-  pub read : (reader : Node) (buffer : ℕ) → Contains plan.nodes reader → reader.op ≡ Buffer buffer → buffer < length plan.buffers
+  pub read : (reader : Node) (buffer : ℕ) → Contains plan.nodes reader → reader.op ≡ Buffer buffer
+      → buffer < length plan.buffers
   pub buffers : All (λ buffer. (buffer.pre ≤ 4194304) × (1 ≤ buffer.capacity) × (buffer.capacity ≤ 65536)) plan.buffers
   pub one_feed : (buffer : ℕ) → buffer < length plan.buffers → count_by (λ sink. feeds buffer sink) plan.sinks ≡ 1
   pub one_reader : (buffer : ℕ) → buffer < length plan.buffers → count_by (λ node. reads buffer node.op) plan.nodes ≡ 1

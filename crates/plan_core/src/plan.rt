@@ -68,7 +68,8 @@ impl Plan {
         ensures number { IfOk result (λ number. number ≡ length self.old.nodes) }
         ensures added { OnOk result (self.new ≡ record self.old { nodes = self.old.nodes ++ node ∷ [] }) }
         ensures room { OnOk result (length self.old.nodes < 4096) }
-        ensures kept { OnOk result (AreNodes self.old.nodes → IsNodeOver self.old.nodes node → AreNodes self.new.nodes) }
+        ensures kept { OnOk result
+            (AreNodes self.old.nodes → IsNodeOver self.old.nodes node → AreNodes self.new.nodes) }
         ensures full { IsErrOf result PlanFault.TooManySources ↔ (4096 ≤ length self.old.nodes) }
         ensures unchanged { OnErr result (self.new ≡ self.old) }
     {
