@@ -1,8 +1,8 @@
 -- A file that is created, written and closed.
-use Rattle.std.specs.Prelude.{◌≡◌, ◌⊎◌, ℕ, List, [], ◌∷◌, ◌++◌, Option, Some, None, is_some, true, IsSome, IsSomeAnd, Result, Ok, Err, OnOk, OnErr, refl}
+use Rattle.std.specs.Prelude.{◌≡◌, ℕ, List, [], ◌++◌, Option, Some, None, is_some, IsSome, IsSomeAnd, Result, Ok, Err, OnOk, OnErr, refl}
 use Rattle.std.specs.Option.{ForSome}
-use Rattle.std.proofs.Common.{sym, ◌∙◌, ap, append_assoc, subst, inl, inr}
-use Rattle.liq_base.specs.Pieces.{IsPrefix, grown, Took, TookPart}
+use Rattle.std.proofs.Common.{◌∙◌, ap, append_assoc, subst, inl, inr}
+use Rattle.liq_base.specs.Pieces.{IsPrefix, grown, TookPart}
 use Rattle.liq_base.specs.Files.{Files, with_file, HoldsPart, Closed, ClosedPart}
 use Rattle.liq_base.specs.Kept.{HoldsPartOr, some_and, closed_part_or}
 

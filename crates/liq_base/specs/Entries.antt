@@ -1,5 +1,5 @@
 -- What a shelf in memory stores.
-use Rattle.std.specs.Prelude.{◌≡◌, ℕ, Bool, true, false, cond, refl, List, [], ◌∷◌, ◌++◌, map, Option, Some, None, if◌then◌else◌, string_bytes, String, Vec}
+use Rattle.std.specs.Prelude.{◌≡◌, ℕ, true, false, cond, refl, List, [], ◌∷◌, ◌++◌, map, Option, Some, None, if◌then◌else◌, string_bytes, String, Vec}
 use Rattle.std.specs.Ordering.{nat_cmp}
 use Rattle.std.specs.Cmp.Lexicographic.{slice_cmp, nat_list_cmp_total, texts_ties}
 use Rattle.std.specs.FinMap.{from_entries, get-from_entries, find}

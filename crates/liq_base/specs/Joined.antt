@@ -1,8 +1,7 @@
 -- Pieces written one after another are as one piece.
-use Rattle.std.specs.Prelude.{◌≡◌, ◌≤◌, ℕ, ◌+◌, ◌-◌, List, [], ◌∷◌, ◌++◌, length, Option, Some, None, refl}
-use Rattle.std.specs.Option.{ForSome}
+use Rattle.std.specs.Prelude.{◌≡◌, ◌≤◌, ℕ, ◌+◌, ◌-◌, List, ◌++◌, length, Option, Some, None, refl}
 use Rattle.std.proofs.Common.{sym, ◌∙◌, ap, append_assoc, length-append, arith}
-use Rattle.liq_base.specs.Pieces.{IsPrefix, grown, narrowed, Took, TookPart, HasRoom}
+use Rattle.liq_base.specs.Pieces.{grown, narrowed, Took, TookPart, HasRoom}
 
 grown_grown : (a b : List ℕ) (held : Option (List ℕ)) → grown b (grown a held) ≡ grown (a ++ b) held
 grown_grown a b None = refl

@@ -1,6 +1,5 @@
 -- A name keeps what it held only for a cause.
 use Rattle.std.specs.Prelude.{◌≡◌, ◌⊎◌, ◌≤◌, ℕ, List, ◌++◌, Option, Some, None, IsSomeAnd, Result, Ok, Err, OnOk, OnErr, refl}
-use Rattle.std.specs.Option.{ForSome}
 use Rattle.std.proofs.Common.{sym, ◌∙◌, ap, append_assoc, subst, inl, inr, arith}
 use Rattle.liq_base.specs.Counts.{Rose}
 use Rattle.liq_base.specs.Pieces.{IsPrefix}

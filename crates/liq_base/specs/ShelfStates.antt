@@ -1,5 +1,5 @@
 -- What clauses see of the shelves in memory, and what a call makes of them.
-use Rattle.std.specs.Prelude.{ℕ, refl, Bool, ◌||◌, ◌==◌, List, [], ◌∷◌, length, map, filter, Option, Some, None, Result, Ok, Err, if◌then◌else◌, nat_le, nat_lt}
+use Rattle.std.specs.Prelude.{ℕ, refl, Bool, ◌||◌, ◌==◌, List, [], length, map, filter, Option, Some, None, Result, Ok, Err, if◌then◌else◌, nat_le, nat_lt}
 use Rattle.std.specs.List.{list_any}
 use Rattle.std.specs.Coded.{Coded, code_by, coded×, coded_ℕ, coded_list}
 use Rattle.std.specs.FinMap as map
@@ -42,23 +42,43 @@ append_code = code_by (ℕ × (ℕ × ℕ)) (coded× coded_ℕ (coded× coded_�
 abbrev pub shelf_code : Coded ShelfState
 shelf_code =
     code_by (Files × ((ℕ × (ℕ × ℕ)) × ((List ℕ × (List ℕ × (List ℕ × List FailingAppend))) × (ℕ × ℕ))))
-      (coded× files_code (coded× (coded× coded_ℕ (coded× coded_ℕ coded_ℕ))
-        (coded× (coded× (coded_list coded_ℕ) (coded× (coded_list coded_ℕ) (coded× (coded_list coded_ℕ) (coded_list append_code)))) (coded× coded_ℕ coded_ℕ))))
-      (λ s. (s.files, ((s.reads, (s.creates, s.closes)),
-        ((s.failing_reads, (s.failing_creates, (s.failing_closes, s.failing_appends))), (s.read_faults, s.write_faults)))))
-      (λ p. record {
-          files = p.0; reads = p.1.0.0; creates = p.1.0.1.0; closes = p.1.0.1.1;
-          failing_reads = p.1.1.0.0; failing_creates = p.1.1.0.1.0; failing_closes = p.1.1.0.1.1.0; failing_appends = p.1.1.0.1.1.1;
-          read_faults = p.1.1.1.0; write_faults = p.1.1.1.1 })
-      (λ _. refl)
+    (coded× files_code (coded× (coded× coded_ℕ (coded× coded_ℕ coded_ℕ))
+    (coded× (coded× (coded_list coded_ℕ) (coded× (coded_list coded_ℕ) (coded× (coded_list coded_ℕ) (coded_list append_code)))) (coded× coded_ℕ coded_ℕ))))
+    (λ s. (
+      s.files,
+      (
+        (s.reads, (s.creates, s.closes)),
+        ((s.failing_reads, (s.failing_creates, (s.failing_closes, s.failing_appends))), (s.read_faults, s.write_faults)),
+      ),
+    ))
+    (λ p. record {
+      files = p.0;
+      reads = p.1.0.0;
+      creates = p.1.0.1.0;
+      closes = p.1.0.1.1;
+      failing_reads = p.1.1.0.0;
+      failing_creates = p.1.1.0.1.0;
+      failing_closes = p.1.1.0.1.1.0;
+      failing_appends = p.1.1.0.1.1.1;
+      read_faults = p.1.1.1.0;
+      write_faults = p.1.1.1.1;
+    })
+    (λ _. refl)
 
 -- a shelf of which no call was made, and none is listed
 abbrev pub untouched : Files → ShelfState
 untouched files = record {
-    files = files; reads = 0; creates = 0; closes = 0;
-    failing_reads = []; failing_creates = []; failing_closes = []; failing_appends = [];
-    read_faults = 0; write_faults = 0
-  }
+  files = files;
+  reads = 0;
+  creates = 0;
+  closes = 0;
+  failing_reads = [];
+  failing_creates = [];
+  failing_closes = [];
+  failing_appends = [];
+  read_faults = 0;
+  write_faults = 0;
+}
 
 -- what a read of this file answers
 abbrev pub fetched : Option (List ℕ) → ℕ → Fetched
@@ -101,7 +121,7 @@ files_after failed files out = if failed then files else with_file files out.nam
 -- the shelf after a closing
 abbrev pub after_close : ShelfState → NamedState → ShelfState
 after_close shelf out = record shelf {
-    files = files_after (close_fails shelf) shelf.files out;
-    closes = one_more shelf.closes;
-    write_faults = raised shelf.write_faults (close_fails shelf || nat_lt 0 out.sink.faults)
-  }
+  files = files_after (close_fails shelf) shelf.files out;
+  closes = one_more shelf.closes;
+  write_faults = raised shelf.write_faults (close_fails shelf || nat_lt 0 out.sink.faults);
+}

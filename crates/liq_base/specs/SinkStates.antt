@@ -1,5 +1,5 @@
 -- What clauses see of the sinks in memory, and what a call makes of them.
-use Rattle.std.specs.Prelude.{◌≡◌, ◌≤◌, ℕ, ◌+◌, ◌-◌, ◌^◌, List, [], ◌∷◌, ◌++◌, take, length, min, Bool, true, false, Option, Some, None, is_none, if◌then◌else◌, nat_eq, nat_le}
+use Rattle.std.specs.Prelude.{ℕ, ◌+◌, ◌-◌, ◌^◌, List, [], ◌∷◌, ◌++◌, take, length, min, Option, Some, None, if◌then◌else◌, nat_eq, nat_le}
 
 -- one more, as far as a u64 counts
 abbrev pub one_more : ℕ → ℕ
@@ -43,11 +43,12 @@ faults_after (Some at) faults = one_more faults
 -- the sink after a call
 abbrev pub appended : SinkState → List ℕ → SinkState
 appended sink piece = record {
-    held = sink.held ++ taken_at (stops sink piece) piece;
-    room = sink.room; fails = sink.fails;
-    calls = one_more sink.calls;
-    faults = faults_after (stops sink piece) sink.faults
-  }
+  held = sink.held ++ taken_at (stops sink piece) piece;
+  room = sink.room;
+  fails = sink.fails;
+  calls = one_more sink.calls;
+  faults = faults_after (stops sink piece) sink.faults;
+}
 
 -- a sink that a shelf in memory made, with its name
 pub record NamedState : Type 0 where

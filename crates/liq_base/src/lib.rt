@@ -18,7 +18,7 @@ mod tests;
 mod text;
 
 pub use gate::{FreeGate, Gate};
-pub use mem_shelf::{FailingAppend, MemShelf};
+pub use mem_shelf::MemShelf;
 pub use mem_sink::MemSink;
 pub use memory::{Kind, Memory};
 pub use named_sink::NamedSink;

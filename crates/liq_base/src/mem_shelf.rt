@@ -39,8 +39,8 @@ pub struct MemShelf {
 
 /// A listed append: call number `call` of the sink of creation number `sink` fails after `taken`
 /// bytes.
-#[derive(Clone, Copy, Debug, PartialEq, Eq, Hash)]
-pub struct FailingAppend {
+#[derive(Clone, Copy, Debug)]
+struct FailingAppend {
     sink: u32,
     call: u64,
     taken: u64,
@@ -55,10 +55,17 @@ impl Model for MemShelf {
     ghost coded = { shelf_code };
 
     ghost view = { λ s. record {
-        files = files_of s.closed s.given.items; reads = s.reads; creates = s.creates; closes = s.closes;
-        failing_reads = s.failing_reads.items; failing_creates = s.failing_creates.items;
-        failing_closes = s.failing_closes.items; failing_appends = s.failing_appends.items;
-        read_faults = s.read_faults; write_faults = s.write_faults } };
+      files = files_of s.closed s.given.items;
+      reads = s.reads;
+      creates = s.creates;
+      closes = s.closes;
+      failing_reads = s.failing_reads.items;
+      failing_creates = s.failing_creates.items;
+      failing_closes = s.failing_closes.items;
+      failing_appends = s.failing_appends.items;
+      read_faults = s.read_faults;
+      write_faults = s.write_faults;
+    } };
 }
 
 impl MemShelf {
@@ -116,7 +123,8 @@ impl MemShelf {
         ensures listed { OnOk result (self.new ≡ record self.old { failing_appends = self.old.failing_appends ++ (record { sink = sink; call = call; taken = taken }) ∷ [] }) }
         ensures unchanged { OnErr result (self.new ≡ self.old) }
     {
-        self.failing_appends.push(FailingAppend { sink, call, taken })?;
+        self.failing_appends
+            .push(FailingAppend { sink, call, taken })?;
         Ok(())
     }
 
@@ -233,5 +241,9 @@ fn listed_appends(
 fn raise(count: u64, failed: bool) -> u64
     ensures { result ≡ raised count failed }
 {
-    if failed { count.saturating_add(1) } else { count }
+    if failed {
+        count.saturating_add(1)
+    } else {
+        count
+    }
 }

@@ -91,7 +91,10 @@ fn shelf_files(alloc: Global) -> Result<Vec<(String, Vec<u8>)>, AllocError> {
 #[test]
 fn faults_are_printed(rt: HostRuntime) -> Result<(), Fail> {
     let alloc = rt.alloc();
-    assert_eq!(rt; format!(in alloc; "{Memory}, {Failed}")?.as_str(), "out of memory, a device failed");
+    assert_eq!(rt;
+        format!(in alloc; "{Memory}, {Failed}")?.as_str(),
+        "out of memory, a device failed"
+    );
     for (fault, text) in [
         (ShelfFault::Memory, "out of memory"),
         (ShelfFault::Failed, "a device failed"),

@@ -41,6 +41,8 @@ parts_later cause more f files (output ∷ outputs) after parts =
 pub some_later : (cause more : Type 0) → (cause → more) → (files : Files) (outputs : List Output) (after : Option Files) → IsSomeAnd after (HoldsSome cause files outputs) → IsSomeAnd after (HoldsSome more files outputs)
 some_later cause more f files outputs None parts = parts
 some_later cause more f files outputs (Some after) parts = record {
-    created = parts.created; others = parts.others; outputs_are = parts.outputs_are;
-    parts = parts_later cause more f files parts.created after parts.parts
-  }
+  created = parts.created;
+  others = parts.others;
+  outputs_are = parts.outputs_are;
+  parts = parts_later cause more f files parts.created after parts.parts;
+}

@@ -9,7 +9,6 @@ use Rattle.liq_cli.specs.Answer.{Answer, Usage, Refused, F, rate, header_step, w
 use Rattle.liq_cli.specs.Script.{Names, names_of}
 use Rattle.liq_cli.specs.declared.fault.Fault.TheVariants.{OtherForm}
 
-
 tested : (test : Bool) (a : Answer) → (a ≡ Usage → ⊥) → (if test then a else Refused OtherForm) ≡ Usage → ⊥
 tested true a formed is = formed is
 tested false a formed is = cc

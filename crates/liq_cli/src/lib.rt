@@ -12,3 +12,6 @@ mod words;
 
 pub use call::liq;
 pub use fault::{Fault, Halt, RenderFault};
+
+#[cfg(test)]
+mod tests;

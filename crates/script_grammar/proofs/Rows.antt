@@ -1,5 +1,5 @@
 -- A struct that holds a Vec, seen by its fields, and what it spells.
-use Rattle.std.proofs.Common.{◌≡◌, ℕ, List, [], ◌∷◌, ◌++◌, refl, sym, ap, ◌∙◌, append_assoc}
+use Rattle.std.proofs.Common.{◌≡◌, ◌<◌, ℕ, length, arith, List, [], ◌∷◌, ◌++◌, refl, sym, ap, ◌∙◌, append_assoc}
 use Rattle.std.proofs.lemmas.List.{append-nil}
 use Rattle.std.specs.Prelude.{map}
 use Rattle.std.specs.Global.{Vec}
@@ -8,9 +8,10 @@ use Rattle.script_lex.specs.declared.token.TokenKind.{TokenKind}
 use Rattle.script_lex.specs.declared.token.TokenKind.TheVariants.{NameOpen, Keyword, Symbol}
 use Rattle.script_lex.specs.declared.token.Keyword.TheVariants as word
 use Rattle.script_lex.specs.declared.token.Symbol.TheVariants as sign
-use Rattle.script_grammar.specs.Tree.{Sort, Tree, Many, more, Expr, And, Sum, Product, Call, APAnd, APNot, AFull}
+use Rattle.script_grammar.specs.Tree.{Sort, Tree, Many, more, Expr, And, Sum, Product, Call, APAnd, APNot, AFull, Listed, POr, PAnd}
 use Rattle.script_grammar.specs.Spelling.{spell, behind, with_commas, token_if}
 use Rattle.script_grammar.specs.Pieces.{each, each_behind, between_commas, in_brackets, por_parts, pand_parts, def_head, def_body}
+use Rattle.script_grammar.specs.ReadValue.{round_of}
 use Rattle.script_grammar.specs.View.{listed, por_of, pand_of, tuple_of, view_por, view_pands, view_pand, view_pnots, view_pnot, view_expr, view_ands, view_and, view_nots, view_not, view_sum, view_addeds, view_added, view_product, view_multiplieds, view_multiplied, view_prim, view_fulls, view_full, view_call, view_args, view_arg, view_def, view_param, view_inner}
 use Rattle.script_grammar.specs.declared.tree.Full.{Full}
 use Rattle.script_grammar.specs.declared.tree.Full.TheBlock as block
@@ -127,7 +128,7 @@ args_listed v = args_row _ (block.hidden-the_row-Arg-2 v) ∙ ap (λ (l : List a
 
 -- ---- the structs, seen by their fields
 
-expr_seen : (e : expr.Expr) → view_expr e ≡ Expr (view_and (expr.out-Expr e).first) (listed (map view_and (expr.out-Expr e).rest.items))
+pub expr_seen : (e : expr.Expr) → view_expr e ≡ Expr (view_and (expr.out-Expr e).first) (listed (map view_and (expr.out-Expr e).rest.items))
 expr_seen e = ap view_expr (sym (expr.roll-out-Expr e) ∙ expr.rolls-Expr' (expr.out-Expr e)) ∙ ap (Expr (view_and (expr.out-Expr e).first)) (ands_listed (expr.out-Expr e).rest)
 
 -- what is written after its two parts
@@ -136,7 +137,7 @@ expr_parts e l old a new lis ais nis =
     let whole : spell (view_expr e) ≡ spell (view_and (expr.out-Expr e).first) ++ each_behind (Keyword word.Or) (map view_and l) = ap spell (expr_seen e) ∙ ap (λ (z : List TokenKind). spell (view_and (expr.out-Expr e).first) ++ z) (behind_listed (Keyword word.Or) (map view_and (expr.out-Expr e).rest.items)) ∙ ap (λ (z : List and_.And). spell (view_and (expr.out-Expr e).first) ++ each_behind (Keyword word.Or) (map view_and z)) (sym lis) in
     two_parts old a new (spell (view_and (expr.out-Expr e).first)) (each_behind (Keyword word.Or) (map view_and l)) (spell (view_expr e)) ais nis whole
 
-and_seen : (e : and_.And) → view_and e ≡ And (view_not (and_.out-And e).first) (listed (map view_not (and_.out-And e).rest.items))
+pub and_seen : (e : and_.And) → view_and e ≡ And (view_not (and_.out-And e).first) (listed (map view_not (and_.out-And e).rest.items))
 and_seen e = ap view_and (sym (and_.roll-out-And e) ∙ and_.rolls-And' (and_.out-And e)) ∙ ap (And (view_not (and_.out-And e).first)) (nots_listed (and_.out-And e).rest)
 
 -- what is written after its two parts
@@ -145,7 +146,7 @@ and_parts e l old a new lis ais nis =
     let whole : spell (view_and e) ≡ spell (view_not (and_.out-And e).first) ++ each_behind (Keyword word.And) (map view_not l) = ap spell (and_seen e) ∙ ap (λ (z : List TokenKind). spell (view_not (and_.out-And e).first) ++ z) (behind_listed (Keyword word.And) (map view_not (and_.out-And e).rest.items)) ∙ ap (λ (z : List not_.Not). spell (view_not (and_.out-And e).first) ++ each_behind (Keyword word.And) (map view_not z)) (sym lis) in
     two_parts old a new (spell (view_not (and_.out-And e).first)) (each_behind (Keyword word.And) (map view_not l)) (spell (view_and e)) ais nis whole
 
-sum_seen : (e : sum.Sum) → view_sum e ≡ Sum (view_product (sum.out-Sum e).first) (listed (map view_added (sum.out-Sum e).rest.items))
+pub sum_seen : (e : sum.Sum) → view_sum e ≡ Sum (view_product (sum.out-Sum e).first) (listed (map view_added (sum.out-Sum e).rest.items))
 sum_seen e = ap view_sum (sym (sum.roll-out-Sum e) ∙ sum.rolls-Sum' (sum.out-Sum e)) ∙ ap (Sum (view_product (sum.out-Sum e).first)) (addeds_listed (sum.out-Sum e).rest)
 
 -- what is written after its two parts
@@ -154,7 +155,7 @@ sum_parts e l old a new lis ais nis =
     let whole : spell (view_sum e) ≡ spell (view_product (sum.out-Sum e).first) ++ each (map view_added l) = ap spell (sum_seen e) ∙ ap (λ (z : List TokenKind). spell (view_product (sum.out-Sum e).first) ++ z) (each_listed (map view_added (sum.out-Sum e).rest.items)) ∙ ap (λ (z : List added.Added). spell (view_product (sum.out-Sum e).first) ++ each (map view_added z)) (sym lis) in
     two_parts old a new (spell (view_product (sum.out-Sum e).first)) (each (map view_added l)) (spell (view_sum e)) ais nis whole
 
-product_seen : (e : product.Product) → view_product e ≡ Product (view_prim (product.out-Product e).first) (listed (map view_multiplied (product.out-Product e).rest.items))
+pub product_seen : (e : product.Product) → view_product e ≡ Product (view_prim (product.out-Product e).first) (listed (map view_multiplied (product.out-Product e).rest.items))
 product_seen e = ap view_product (sym (product.roll-out-Product e) ∙ product.rolls-Product' (product.out-Product e)) ∙ ap (Product (view_prim (product.out-Product e).first)) (multiplieds_listed (product.out-Product e).rest)
 
 -- what is written after its two parts
@@ -163,7 +164,7 @@ product_parts e l old a new lis ais nis =
     let whole : spell (view_product e) ≡ spell (view_prim (product.out-Product e).first) ++ each (map view_multiplied l) = ap spell (product_seen e) ∙ ap (λ (z : List TokenKind). spell (view_prim (product.out-Product e).first) ++ z) (each_listed (map view_multiplied (product.out-Product e).rest.items)) ∙ ap (λ (z : List multiplied.Multiplied). spell (view_prim (product.out-Product e).first) ++ each (map view_multiplied z)) (sym lis) in
     two_parts old a new (spell (view_prim (product.out-Product e).first)) (each (map view_multiplied l)) (spell (view_product e)) ais nis whole
 
-call_seen : (e : call.Call) → view_call e ≡ Call (call.out-Call e).at (call.out-Call e).name (listed (map view_arg (call.out-Call e).args.items))
+pub call_seen : (e : call.Call) → view_call e ≡ Call (call.out-Call e).at (call.out-Call e).name (listed (map view_arg (call.out-Call e).args.items))
 call_seen e = ap view_call (sym (call.roll-out-Call e) ∙ call.rolls-Call' (call.out-Call e)) ∙ ap (Call (call.out-Call e).at (call.out-Call e).name) (args_listed (call.out-Call e).args)
 
 pub call_parts : (e : call.Call) (l : List arg.Arg) (old a b new : List TokenKind) → l ≡ (call.out-Call e).args.items → a ≡ old ++ (NameOpen (call.out-Call e).name ∷ []) → b ≡ a ++ between_commas (map view_arg l) → new ≡ b ++ (Symbol sign.CloseRound ∷ []) → new ≡ old ++ spell (view_call e)
@@ -201,3 +202,34 @@ def_parts d ps is old a b new pis iis ais bis nis =
     let whole : spell (view_def d) ≡ head ++ (mark ++ body) = def_spelled d ∙ ap (λ (z : List param.Param). def_head d.name (map view_param z) ++ (mark ++ def_body (map view_inner d.inner.items) (view_expr d.result))) (sym pis) ∙ ap (λ (z : List inner.Inner). head ++ (mark ++ def_body (map view_inner z) (view_expr d.result))) (sym iis) in
     let later : new ≡ a ++ (mark ++ body) = nis ∙ ap (λ (z : List TokenKind). z ++ body) bis ∙ append_assoc a mark body in
     two_parts old a new head (mark ++ body) (spell (view_def d)) ais later whole
+
+-- ---- the structs that are made of their parts
+
+pub expr_made : (f : and_.And) (v : Vec and_.And) → view_expr (expr.roll-Expr (record { first = f; rest = v })) ≡ Expr (view_and f) (listed (map view_and v.items))
+expr_made f v = ap view_expr (expr.rolls-Expr' (record { first = f; rest = v })) ∙ ap (Expr (view_and f)) (ands_listed v)
+
+pub and_made : (f : not_.Not) (v : Vec not_.Not) → view_and (and_.roll-And (record { first = f; rest = v })) ≡ And (view_not f) (listed (map view_not v.items))
+and_made f v = ap view_and (and_.rolls-And' (record { first = f; rest = v })) ∙ ap (And (view_not f)) (nots_listed v)
+
+pub sum_made : (f : product.Product) (v : Vec added.Added) → view_sum (sum.roll-Sum (record { first = f; rest = v })) ≡ Sum (view_product f) (listed (map view_added v.items))
+sum_made f v = ap view_sum (sum.rolls-Sum' (record { first = f; rest = v })) ∙ ap (Sum (view_product f)) (addeds_listed v)
+
+pub product_made : (f : prim.Prim) (v : Vec multiplied.Multiplied) → view_product (product.roll-Product (record { first = f; rest = v })) ≡ Product (view_prim f) (listed (map view_multiplied v.items))
+product_made f v = ap view_product (product.rolls-Product' (record { first = f; rest = v })) ∙ ap (Product (view_prim f)) (multiplieds_listed v)
+
+pub call_made : (at : ℕ) (name : List ℕ) (v : Vec arg.Arg) → view_call (call.roll-Call (record { at = at; name = name; args = v })) ≡ Call at name (listed (map view_arg v.items))
+call_made at name v = ap view_call (call.rolls-Call' (record { at = at; name = name; args = v })) ∙ ap (Call at name) (args_listed v)
+
+pub list_made : (at : ℕ) (v : Vec Full) → view_prim (prim.List at v) ≡ Listed at (listed (map view_full v.items))
+list_made at v = ap (Listed at) (fulls_listed v)
+
+-- a tuple of a first part and the others
+pub tuple_made : (at : ℕ) (f : Full) (fs : List Full) (v : Vec Full) → 0 < length fs → v.items ≡ f ∷ fs → view_prim (prim.Tuple at v) ≡ round_of at (view_full f) (listed (map view_full fs))
+tuple_made at f [] v lt e = absurd (omega arith)
+tuple_made at f (g ∷ fs) v lt e = ap (tuple_of at) (fulls_listed v ∙ ap (λ (l : List Full). listed (map view_full l)) e)
+
+pub por_made : (p : pand.PAnd) (ps : List pand.PAnd) (v : Vec pand.PAnd) → v.items ≡ p ∷ ps → view_por (por.roll-POr (record { parts = v })) ≡ POr (view_pand p) (listed (map view_pand ps))
+por_made p ps v e = ap view_por (por.rolls-POr' (record { parts = v })) ∙ ap por_of (pands_listed v ∙ ap (λ (l : List pand.PAnd). listed (map view_pand l)) e)
+
+pub pand_made : (p : pnot.PNot) (ps : List pnot.PNot) (v : Vec pnot.PNot) → v.items ≡ p ∷ ps → view_pand (pand.roll-PAnd (record { parts = v })) ≡ PAnd (view_pnot p) (listed (map view_pnot ps))
+pand_made p ps v e = ap view_pand (pand.rolls-PAnd' (record { parts = v })) ∙ ap pand_of (pnots_listed v ∙ ap (λ (l : List pnot.PNot). listed (map view_pnot l)) e)

@@ -10,11 +10,11 @@ use Rattle.script_grammar.specs.Spelling.{spell, with_commas, token_if, spelling
 use Rattle.script_grammar.specs.Bare.{bare}
 use Rattle.script_grammar.specs.Read.{Read, Reader, both, next, expect, perhaps, many, closed}
 use Rattle.script_grammar.specs.Kinds.{is_assign, is_comma, is_close_round, is_end, is_semicolon, is_any}
-use Rattle.script_grammar.specs.ReadValue.{binds, expr, full_step, full}
-use Rattle.script_grammar.specs.ReadScript.{bind, inner, param, def, part, stmt, script}
+use Rattle.script_grammar.specs.ReadValue.{binds, full_by}
+use Rattle.script_grammar.specs.ReadScript.{value, result, bind, inner, param, def, part, stmt, script}
 use Rattle.script_grammar.proofs.Rules.{Reads, Anything, same, weaker, lift, pair_sp, pair_pl, both_reads, expect_reads, perhaps_reads, many_reads, closed_reads}
 use Rattle.script_grammar.proofs.Firsts.{Ends, strength, no_option, expr_binds, expr_weak, expr_optional, expr_no_assign, expr_no_semicolon, stop_assign}
-use Rattle.script_grammar.proofs.ValueRead.{no_place, full_reads, step_reads, expr_reads, call_reads, choice_reads}
+use Rattle.script_grammar.proofs.ValueRead.{no_place, by_reads, step_reads, expr_reads, call_reads, choice_reads}
 
 -- what stands behind a part that a `;` may end
 abbrev Behind : Bool → List TokenKind → Type 0
@@ -29,20 +29,32 @@ mark_reads loose n = weaker (Behind loose) (λ u e. e.1) (perhaps_reads is_semic
 
 -- ---- bindings
 
-module _ (value : Reader (Tree AFull)) (en : List TokenKind → Type 0) (n : ℕ) (lv : Reads value spell bare en n) where
-  bind_again : (t : Tree ABind) (u : List TokenKind) → en u → length (spell t ++ u) < n → bind no_place value (spell t ++ u) ≡ Ok (bare t, u)
-  unfolding bind
-  bind_again (Bind at x v) u e short = lift ((both_reads (expect_reads is_assign (Symbol sign.Assign) refl) lv (λ b u e. tt)).again (tt, v) u e (omega arith)) (λ y. Bind 0 x y.1)
+pub value_reads : (loose : Bool) (n : ℕ) → Reads (value loose no_place) spell bare (Ends loose 1) n
+unfolding value
+value_reads loose n = record {
+  again = λ t u e short.
+      let m = length (spell t ++ u) in
+      (step_reads (full_by m no_place) m (by_reads m) loose).again t u e (omega arith);
+}
 
-  bind_reads : Reads (bind no_place value) spell bare en n
-  bind_reads = record { again = bind_again }
+expr_result_reads : (n : ℕ) → Reads (result no_place) spell bare (Ends false 1) n
+unfolding result
+expr_result_reads n = record {
+  again = λ t u e short.
+      let m = length (spell t ++ u) in
+      (expr_reads (full_by m no_place) m (by_reads m) false).again t u e (omega arith);
+}
 
-loose_reads : (n : ℕ) → Reads (full_step true no_place (full no_place)) spell bare (Ends true 1) (suc n)
-loose_reads n = step_reads (full no_place) n (full_reads n) true
+bind_again : (loose : Bool) (n : ℕ) (t : Tree ABind) (u : List TokenKind) → Ends loose 1 u → length (spell t ++ u) < n → bind loose no_place (spell t ++ u) ≡ Ok (bare t, u)
+unfolding bind
+bind_again loose n (Bind at x v) u e short = lift ((both_reads (expect_reads is_assign (Symbol sign.Assign) refl) (value_reads loose n) (λ b u e. tt)).again (tt, v) u e (omega arith)) (λ y. Bind 0 x y.1)
+
+bind_reads : (loose : Bool) (n : ℕ) → Reads (bind loose no_place) spell bare (Ends loose 1) n
+bind_reads loose n = record { again = bind_again loose n }
 
 inner_again : (n : ℕ) (t : Tree AnInner) (u : List TokenKind) → Behind true u → length (spell t ++ u) < suc n → inner no_place (spell t ++ u) ≡ Ok (bare t, u)
 unfolding inner
-inner_again n (Inner b semicolon) u e short = lift ((both_reads (bind_reads (full_step true no_place (full no_place)) (Ends true 1) (suc n) (loose_reads n)) (mark_reads true (suc n)) (λ b u e. ends_mark true b u e.0)).again (b, semicolon) u e short) (λ x. Inner x.0 x.1)
+inner_again n (Inner b semicolon) u e short = lift ((both_reads (bind_reads true (suc n)) (mark_reads true (suc n)) (λ b u e. ends_mark true b u e.0)).again (b, semicolon) u e short) (λ x. Inner x.0 x.1)
 
 inner_binds : (t : Tree AnInner) (u : List TokenKind) → binds (spell t ++ u) ≡ true
 inner_binds (Inner (Bind at x v) b) u = refl
@@ -68,7 +80,7 @@ param_again : (n : ℕ) (t : Tree AParam) (u : List TokenKind) → Ends false 1 
 unfolding param
 param_again n (Param at x) u e short = refl
 param_again n (Labelled at x) u e short = labelled_again x u (stop_assign u (omega (arith, e.0)))
-param_again n (Optional at x f) u e short = lift ((full_reads n).again f u e (omega arith)) (Optional 0 x)
+param_again n (Optional at x f) u e short = lift ((value_reads false n).again f u e (omega arith)) (Optional 0 x)
 
 param_no_round : (t : Tree AParam) (u : List TokenKind) → next is_assign u ≡ false → next is_close_round (spell t ++ u) ≡ false
 param_no_round (Param at x) u e = refl
@@ -86,8 +98,8 @@ end_sp x = Keyword word.End ∷ []
 abbrev result_sp : Tree AnExpr × Unit {0} → List TokenKind
 result_sp = pair_sp spell end_sp
 
-result_reads : (n : ℕ) → Reads (both (expr false no_place (full no_place)) (expect is_end)) result_sp (pair_pl bare same) Anything (suc n)
-result_reads n = both_reads (expr_reads (full no_place) n (full_reads n) false) (expect_reads is_end (Keyword word.End) refl) (λ b u e. (omega arith, refl))
+result_reads : (n : ℕ) → Reads (both (result no_place) (expect is_end)) result_sp (pair_pl bare same) Anything (suc n)
+result_reads n = both_reads (expr_result_reads (suc n)) (expect_reads is_end (Keyword word.End) refl) (λ b u e. (omega arith, refl))
 
 -- a result ends the bindings before it
 ends_inners : (e : Tree AnExpr) (u : List TokenKind) → Behind true (spell e ++ (Keyword word.End ∷ u)) × (binds (spell e ++ (Keyword word.End ∷ u)) ≡ false)
@@ -102,20 +114,20 @@ result_behind b u = subst (λ (z : List TokenKind). Behind true z × (binds z �
 abbrev body_sp : Tree (Many AnInner) × (Tree AnExpr × Unit {0}) → List TokenKind
 body_sp = pair_sp (λ (ts : Tree (Many AnInner)). spell ts) result_sp
 
-body_reads : (n : ℕ) → Reads (both (many binds (inner no_place)) (both (expr false no_place (full no_place)) (expect is_end))) body_sp (pair_pl bare (pair_pl bare same)) Anything (suc n)
+body_reads : (n : ℕ) → Reads (both (many binds (inner no_place)) (both (result no_place) (expect is_end))) body_sp (pair_pl bare (pair_pl bare same)) Anything (suc n)
 body_reads n = both_reads (inners_reads n) (result_reads n) (λ b u e. result_behind b u)
 
 body_no_assign : (ts : Tree (Many AnInner)) (e : Tree AnExpr) (u : List TokenKind) → next is_assign (body_sp (ts, (e, tt)) ++ u) ≡ false
 body_no_assign none e u = ap (next is_assign) (append_assoc (spell e) (Keyword word.End ∷ []) u) ∙ expr_no_assign e (Keyword word.End ∷ u) refl
 body_no_assign (more (Inner (Bind at x v) b) ts) e u = refl
 
-equals_reads : (n : ℕ) → Reads (both (perhaps is_assign) (both (many binds (inner no_place)) (both (expr false no_place (full no_place)) (expect is_end)))) (pair_sp (token_if (Symbol sign.Assign)) body_sp) (pair_pl same (pair_pl bare (pair_pl bare same))) Anything (suc n)
+equals_reads : (n : ℕ) → Reads (both (perhaps is_assign) (both (many binds (inner no_place)) (both (result no_place) (expect is_end)))) (pair_sp (token_if (Symbol sign.Assign)) body_sp) (pair_pl same (pair_pl bare (pair_pl bare same))) Anything (suc n)
 equals_reads n = both_reads (perhaps_reads is_assign (Symbol sign.Assign) refl) (body_reads n) (λ b u e. body_no_assign b.0 b.1.0 u)
 
 abbrev params_sp : Tree (Many AParam) → List TokenKind
 params_sp ts = with_commas ts ++ (Symbol sign.CloseRound ∷ [])
 
-def_parts : (n : ℕ) → Reads (both (closed is_comma is_close_round (param no_place)) (both (perhaps is_assign) (both (many binds (inner no_place)) (both (expr false no_place (full no_place)) (expect is_end))))) (pair_sp params_sp (pair_sp (token_if (Symbol sign.Assign)) body_sp)) (pair_pl bare (pair_pl same (pair_pl bare (pair_pl bare same)))) Anything (suc n)
+def_parts : (n : ℕ) → Reads (both (closed is_comma is_close_round (param no_place)) (both (perhaps is_assign) (both (many binds (inner no_place)) (both (result no_place) (expect is_end))))) (pair_sp params_sp (pair_sp (token_if (Symbol sign.Assign)) body_sp)) (pair_pl bare (pair_pl same (pair_pl bare (pair_pl bare same)))) Anything (suc n)
 def_parts n = both_reads (params_reads n) (equals_reads n) (λ b u e. tt)
 
 def_again : (n : ℕ) (t : Tree ADef) (u : List TokenKind) → Anything u → length (spell t ++ u) < suc n → def no_place (spell t ++ u) ≡ Ok (bare t, u)
@@ -130,10 +142,14 @@ def_again n (Def at x ps eq is e) u any short =
 
 part_again : (n : ℕ) (t : Tree APart) (u : List TokenKind) → Ends false 1 u → length (spell t ++ u) < suc n → part no_place (spell t ++ u) ≡ Ok (bare t, u)
 unfolding part
-part_again n (BindPart (Bind at x v)) u e short = lift (bind_again (full no_place) (Ends false 1) (suc n) (full_reads (suc n)) (Bind at x v) u e short) BindPart
+part_again n (BindPart (Bind at x v)) u e short = lift (bind_again false (suc n) (Bind at x v) u e short) BindPart
 part_again n (DefPart (Def at x ps eq is v)) u e short = lift (def_again n (Def at x ps eq is v) u tt short) DefPart
-part_again n (CallPart (Call at x ts)) u e short = lift ((call_reads (full no_place) n (full_reads n)).again (Call at x ts) u tt short) CallPart
-part_again n (IfPart (If at c t f)) u e short = lift ((choice_reads (full no_place) n (full_reads n)).again (If at c t f) u tt short) IfPart
+part_again n (CallPart (Call at x ts)) u e short =
+    let m = suc (length ((with_commas ts ++ (Symbol sign.CloseRound ∷ [])) ++ u)) in
+    lift ((call_reads (full_by m no_place) m (by_reads m)).again (Call at x ts) u tt (omega arith)) CallPart
+part_again n (IfPart (If at c t f)) u e short =
+    let m = suc (length ((spell c ++ (Keyword word.Then ∷ (spell t ++ (Keyword word.Else ∷ (spell f ++ (Keyword word.End ∷ [])))))) ++ u)) in
+    lift ((choice_reads (full_by m no_place) m (by_reads m)).again (If at c t f) u tt (omega arith)) IfPart
 
 part_reads : (n : ℕ) → Reads (part no_place) spell bare (Ends false 1) (suc n)
 part_reads n = record { again = part_again n }

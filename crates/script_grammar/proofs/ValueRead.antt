@@ -14,7 +14,7 @@ use Rattle.script_grammar.specs.Bare.{bare}
 use Rattle.script_grammar.specs.Read.{Read, Reader, ◌>>=◌, made, both, next, expect, many, closed}
 use Rattle.script_grammar.specs.Kinds.{is_or, is_and, is_not, is_minus, is_assign, is_comma, is_close_round, is_close_square, is_close_curly, is_then, is_else, is_end, is_added, is_multiplied, op_of}
 use Rattle.script_grammar.specs.ReadPredicate.{por}
-use Rattle.script_grammar.specs.ReadValue.{binds, takes_option, digits, whole_number, the_name, size, wav, arg, args, round_or_unit, choice, call, prim, multiplied, product, added, sum, next_op, behind_op, compare, not_, and_, expr, full_step, full_by, full}
+use Rattle.script_grammar.specs.ReadValue.{binds, takes_option, digits, whole_number, the_name, size, wav, arg, args, round_or_unit, choice, call, prim, multiplied, product, added, sum, next_op, behind_op, compare, not_, and_, expr, full_step, full_by}
 use Rattle.script_grammar.proofs.Rules.{Reads, Anything, same, lift, pair_sp, pair_pl, both_reads, expect_reads, perhaps_reads, many_reads, chain_reads, closed_reads}
 use Rattle.script_grammar.proofs.Firsts.{Ends, no_option, no_op, stop_or, stop_and, stop_added, stop_multiplied, stop_assign, compare_no_not, expr_no_minus, full_binds, full_no_round, full_no_square}
 use Rattle.script_grammar.proofs.PredicateRead.{por_reads}
@@ -249,11 +249,7 @@ module _ (full : Reader (Tree AFull)) (n : ℕ) (lf : Reads full spell bare (End
     step_reads = record { again = step_again }
 
 -- every depth
-by_reads : (n : ℕ) → Reads (full_by n no_place) spell bare (Ends false 1) n
+pub by_reads : (n : ℕ) → Reads (full_by n no_place) spell bare (Ends false 1) n
 unfolding full_by
 by_reads zero = record { again = λ t u e short. absurd (omega arith) }
 by_reads (suc n) = record { again = λ t u e short. (step_reads (full_by n no_place) n (by_reads n) false).again t u e short }
-
-pub full_reads : (n : ℕ) → Reads (full no_place) spell bare (Ends false 1) n
-unfolding full
-full_reads n = record { again = λ t u e short. (by_reads (suc (length (spell t ++ u)))).again t u e (omega arith) }

@@ -148,6 +148,3 @@ full_step loose stamp full w = expr loose stamp full w >>= made Plain
 unfoldable pub full_by : ℕ → (ℕ → ℕ) → Reader (Tree AFull)
 full_by zero stamp w = Err (length w)
 full_by (suc n) stamp w = full_step false stamp (full_by n stamp) w
-
-unfoldable pub full : (ℕ → ℕ) → Reader (Tree AFull)
-full stamp w = full_by (suc (length w)) stamp w

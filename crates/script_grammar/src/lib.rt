@@ -2,6 +2,7 @@
 #![tactic(auto)]
 
 pub mod law;
+pub mod make;
 pub mod predicate;
 mod spell_predicate;
 mod spell_script;

@@ -1,7 +1,7 @@
--- Choices that agree on a substitution's variables.
+-- Assignments that agree on a substitution's variables, and how a later substitution stands to an earlier one.
 use Rattle.std.specs.Prelude.{◌≡◌, ℕ, ◌<◌, ◌≤◌, length}
 use Rattle.type_terms.specs.Ground.{Assignment, Ground, IsNumber}
-use Rattle.type_terms.specs.Table.{Table, Solves}
+use Rattle.type_terms.specs.Table.{Table, Solves, number_at}
 use Rattle.liq_base.specs.declared.memory.Kind.{Kind}
 
 pub record Agrees (s : Table) (a b : Assignment) : Type 0 where
@@ -26,3 +26,9 @@ pub record HasNewKind (s s' : Table) (n : ℕ) : Type 0 where
   pub inside : n < length s'.kinds
   pub follows : Follows s s'
   pub each : (a : Assignment) → Solves a s → (k : Kind) → (b : Assignment) × Solves b s' × Agrees s a b × (b.kind_of n ≡ k)
+
+-- no variable is new, and none changed whether it is a number variable
+pub record SameVariables (old new : Table) : Type 0 where
+  pub types : length new.types ≡ length old.types
+  pub kinds : length new.kinds ≡ length old.kinds
+  pub numbers : (k : ℕ) → number_at new.types k ≡ number_at old.types k

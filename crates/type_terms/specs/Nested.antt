@@ -1,7 +1,7 @@
 -- Which variables stand in what others are bound to.
 use Rattle.std.specs.Prelude.{◌≡◌, ◌≢◌, ◌<◌, ◌≤◌, ℕ, Bool, true, false, List, [], ◌∷◌, length, Option, Some, None, slice_get}
 use Rattle.std.specs.Borrow.{Bor}
-use Rattle.type_terms.specs.Term.{Term, Terms, base_term, list_term, tuple_term, source_term, variable, no_terms, one_more, InKind, InTerm, term_of}
+use Rattle.type_terms.specs.Term.{Term, Terms, list_term, tuple_term, source_term, variable, no_terms, one_more, InKind, InTerm, term_of}
 use Rattle.type_terms.specs.Variables.{Variable}
 use Rattle.type_terms.specs.Table.{Table, IsSound, bound_at}
 use Rattle.type_terms.specs.declared.ty.Ty.{Ty}

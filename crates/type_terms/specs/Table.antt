@@ -102,7 +102,7 @@ pub record BindsKind (x : ℕ) (t : KindTerm) (old new : List (Option KindTerm))
   pub here : kind_at new x ≡ Some t
   pub elsewhere : (k : ℕ) → k ≢ x → kind_at new k ≡ kind_at old k
 
--- no variable is as high as what it stands for
+-- 1 for a type that is no variable, which is larger than each of its parts
 abbrev pub extra : Term → ℕ
 extra (variable n) = 0
 extra _ = 1

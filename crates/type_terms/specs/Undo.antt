@@ -1,7 +1,7 @@
 -- What a list of variables that were bound since tells of a substitution before and now.
 use Rattle.std.specs.Prelude.{◌≡◌, ◌≢◌, ℕ, ◌<◌, ◌⊎◌, List, [], ◌∷◌, length, Option, None}
 use Rattle.type_terms.specs.Variables.{Variable}
-use Rattle.type_terms.specs.Table.{Table, bound_at, number_at, kind_at}
+use Rattle.type_terms.specs.Table.{bound_at, number_at, kind_at}
 use Rattle.type_terms.specs.declared.ty.KindTerm.{KindTerm}
 
 abbrev pub Among : ℕ → List ℕ → Type 0
@@ -33,9 +33,3 @@ pub record FreesKind (x : ℕ) (old new : List (Option KindTerm)) : Type 0 where
   pub same_length : length new ≡ length old
   pub here : kind_at new x ≡ None
   pub elsewhere : (k : ℕ) → k ≢ x → kind_at new k ≡ kind_at old k
-
--- no variable is new, and none changed whether it is a number variable
-pub record SameVariables (old new : Table) : Type 0 where
-  pub types : length new.types ≡ length old.types
-  pub kinds : length new.kinds ≡ length old.kinds
-  pub numbers : (k : ℕ) → number_at new.types k ≡ number_at old.types k

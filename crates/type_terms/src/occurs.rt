@@ -13,7 +13,9 @@ use liq_base::Memory;
 use std::alloc::Global;
 
 /// How many steps a walk over types may take. One that takes more is given up as if memory had run out.
-pub const MOST_STEPS: u64 = 67_108_864;
+///
+/// A script of a mebibyte writes fewer nodes than this, so only types that double again and again pass it.
+pub const MOST_STEPS: u64 = 4_194_304;
 
 /// The type itself, or where it is a bound variable what that is bound to in the end.
 pub fn resolve<'a>(types: &'a [TypeVariable], t: &'a Ty) -> &'a Ty

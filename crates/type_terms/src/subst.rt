@@ -1,13 +1,12 @@
 // Substitutions, and the most general unifier over one.
 ghost use Rattle.std.specs.Prelude.{◌≡◌, ◌≢◌, ◌+◌, ◌<◌, ◌↔◌, ◌++◌, ℕ, None, Some, List, [], ◌∷◌, length, true, option_map, option_copied, IfOk, OnOk, OnErr, IsTrue, IsNone, IfSome};
 ghost use Rattle.std.specs.Bool.{OnTrue, OnFalse};
-ghost use Rattle.type_terms.specs.Agrees.{HasNewKind, HasNewType};
+ghost use Rattle.type_terms.specs.Agrees.{HasNewKind, HasNewType, SameVariables};
 ghost use Rattle.type_terms.specs.Extends.{Extends, HasDefaults};
 ghost use Rattle.type_terms.specs.Ground.{Assignment, IsNumber};
 ghost use Rattle.type_terms.specs.Resolved.{IsUnbound};
 ghost use Rattle.type_terms.specs.Table.{table, IsOver, Solves, bound_at, kind_at, number_at};
 ghost use Rattle.type_terms.specs.Term.{meaning, term_of, variable};
-ghost use Rattle.type_terms.specs.Undo.{SameVariables};
 ghost use Rattle.type_terms.specs.declared.ty.KindTerm.TheVariants.{Var};
 
 use crate::copying::MOST_LEVELS;
@@ -139,7 +138,7 @@ impl Subst {
 /// Binds variables so that exactly those solutions are left at which the two types are the same.
 ///
 /// `false` where there is none. Nothing is bound then, nor where memory runs out.
-/// A binding with more than a thousand levels, and a comparison of more than some 67 million steps, is given up as if memory had run out.
+/// A binding with more than a thousand levels, and a comparison of more than some four million steps, is given up as if memory had run out.
 pub fn unify(alloc: Global, subst: &mut Subst, left: &Ty, right: &Ty) -> Result<bool, Memory>
     requires left { IsOver subst.old (term_of left.now) }
     requires right { IsOver subst.old (term_of right.now) }

@@ -92,123 +92,153 @@ fn check_row(
     Ok(())
 }
 
+// The same for two lists.
+fn check_lists(
+    rt: &impl Abort,
+    alloc: Global,
+    left: Ty,
+    right: Ty,
+    want: &str,
+) -> Result<(), Fail> {
+    let left = list(alloc, left)?;
+    let right = list(alloc, right)?;
+    check_row(rt, alloc, &left, &right, want)
+}
+
+// The same for two pairs.
+fn check_pairs(
+    rt: &impl Abort,
+    alloc: Global,
+    left: Ty,
+    left_too: Ty,
+    right: Ty,
+    right_too: Ty,
+    want: &str,
+) -> Result<(), Fail> {
+    let left = pair(alloc, left, left_too)?;
+    let right = pair(alloc, right, right_too)?;
+    check_row(rt, alloc, &left, &right, want)
+}
+
+// A type clashes with a list in a tuple of one part, and with its tuple of two parts.
+fn check_nested(rt: &impl Abort, alloc: Global, left: &Ty, inner: Ty) -> Result<(), Fail> {
+    let right = list(alloc, inner)?;
+    check_row(rt, alloc, left, &right, "")?;
+    let right = single(alloc, right)?;
+    check_row(rt, alloc, left, &right, "")?;
+    let two = pair(alloc, Ty::Int, Ty::Text)?;
+    check_row(rt, alloc, &two, &right, "")
+}
+
 #[test]
 fn base_types_and_variables(rt: HostRuntime) -> Result<(), Fail> {
-    check_row(&rt, rt.alloc(), &Ty::Int, &Ty::Text, "")?;
-    check_row(&rt, rt.alloc(), &Ty::Bool, &Ty::Bool, "Bool")?;
-    check_row(&rt, rt.alloc(), &Ty::Unit, &Ty::Format, "")?;
-    check_row(&rt, rt.alloc(), &Ty::Pred, &Ty::Bool, "")?;
-    check_row(&rt, rt.alloc(), &Ty::Var(0), &Ty::Var(0), "Var(0)")?;
-    check_row(&rt, rt.alloc(), &Ty::Var(0), &Ty::Var(1), "Var(1)")?;
-    check_row(&rt, rt.alloc(), &Ty::Var(0), &Ty::Format, "Format")?;
+    let rows = [
+        (Ty::Int, Ty::Text, ""),
+        (Ty::Bool, Ty::Bool, "Bool"),
+        (Ty::Unit, Ty::Format, ""),
+        (Ty::Pred, Ty::Bool, ""),
+        (Ty::Var(0), Ty::Var(0), "Var(0)"),
+        (Ty::Var(0), Ty::Var(1), "Var(1)"),
+        (Ty::Var(0), Ty::Format, "Format"),
+    ];
+    for (left, right, want) in rows {
+        check_row(&rt, rt.alloc(), &left, &right, want)?;
+    }
     Ok(())
 }
 
 #[test]
 fn number_variables(rt: HostRuntime) -> Result<(), Fail> {
-    check_row(&rt, rt.alloc(), &Ty::Var(2), &Ty::Int, "Int")?;
-    check_row(&rt, rt.alloc(), &Ty::Decimal, &Ty::Var(2), "Decimal")?;
-    check_row(&rt, rt.alloc(), &Ty::Var(2), &Ty::Text, "")?;
-    check_row(&rt, rt.alloc(), &Ty::Var(2), &source(Kind::Mono), "")?;
-    check_row(&rt, rt.alloc(), &Ty::Var(2), &Ty::Var(3), "Var(2)")?;
-    check_row(&rt, rt.alloc(), &Ty::Var(0), &Ty::Var(2), "Var(2)")?;
-    check_row(&rt, rt.alloc(), &Ty::Var(2), &Ty::Var(0), "Var(2)")?;
+    let rows = [
+        (Ty::Var(2), Ty::Int, "Int"),
+        (Ty::Decimal, Ty::Var(2), "Decimal"),
+        (Ty::Var(2), Ty::Text, ""),
+        (Ty::Var(2), source(Kind::Mono), ""),
+        (Ty::Var(2), Ty::Var(3), "Var(2)"),
+        (Ty::Var(0), Ty::Var(2), "Var(2)"),
+        (Ty::Var(2), Ty::Var(0), "Var(2)"),
+    ];
+    for (left, right, want) in rows {
+        check_row(&rt, rt.alloc(), &left, &right, want)?;
+    }
     Ok(())
 }
 
 #[test]
-fn lists_and_tuples(rt: HostRuntime) -> Result<(), Fail> {
-    let alloc = rt.alloc();
-    let ints = list(alloc, Ty::Int)?;
-    let open = list(alloc, Ty::Var(0))?;
-    check_row(&rt, rt.alloc(), &open, &ints, "List(Int)")?;
-    check_row(&rt, rt.alloc(), &ints, &list(alloc, Ty::Text)?, "")?;
-    check_row(&rt, rt.alloc(), &ints, &Ty::Int, "")?;
-    let left = pair(alloc, Ty::Var(0), Ty::Text)?;
-    check_row(
-        &rt,
-        &left,
-        &pair(alloc, Ty::Int, Ty::Var(1))?,
-        "Tuple([Int, Text])",
-    )?;
-    check_row(&rt, rt.alloc(), &left, &pair(alloc, Ty::Int, Ty::Bool)?, "")?;
-    check_row(&rt, rt.alloc(), &left, &single(alloc, Ty::Int)?, "")?;
-    let twice = pair(alloc, Ty::Var(0), Ty::Var(0))?;
-    check_row(
-        &rt,
-        rt.alloc(),
-        &twice,
-        &pair(alloc, Ty::Int, Ty::Text)?,
-        "",
-    )?;
-    check_row(
-        &rt,
-        &twice,
-        &pair(alloc, Ty::Var(1), Ty::Text)?,
-        "Tuple([Text, Text])",
-    )?;
+fn lists(rt: HostRuntime) -> Result<(), Fail> {
+    let rows = [
+        (Ty::Var(0), Ty::Int, "List(Int)"),
+        (Ty::Int, Ty::Text, ""),
+        (Ty::Var(2), Ty::Decimal, "List(Decimal)"),
+        (Ty::Var(2), Ty::Bool, ""),
+    ];
+    for (left, right, want) in rows {
+        check_lists(&rt, rt.alloc(), left, right, want)?;
+    }
     Ok(())
 }
 
 #[test]
-fn no_type_is_inside_itself(rt: HostRuntime) -> Result<(), Fail> {
-    let alloc = rt.alloc();
-    check_row(&rt, rt.alloc(), &Ty::Var(0), &list(alloc, Ty::Var(0))?, "")?;
-    check_row(
-        &rt,
-        rt.alloc(),
-        &single(alloc, Ty::Var(1))?,
-        &Ty::Var(1),
-        "",
-    )?;
-    let left = pair(alloc, Ty::Var(0), Ty::Var(1))?;
-    let right = pair(alloc, list(alloc, Ty::Var(1))?, single(alloc, Ty::Var(0))?)?;
-    check_row(&rt, rt.alloc(), &left, &right, "")?;
+fn tuples(rt: HostRuntime) -> Result<(), Fail> {
+    let rows = [
+        (
+            Ty::Var(0),
+            Ty::Text,
+            Ty::Int,
+            Ty::Var(1),
+            "Tuple([Int, Text])",
+        ),
+        (Ty::Var(0), Ty::Text, Ty::Int, Ty::Bool, ""),
+        (Ty::Var(0), Ty::Var(0), Ty::Int, Ty::Text, ""),
+        (
+            Ty::Var(0),
+            Ty::Var(0),
+            Ty::Var(1),
+            Ty::Text,
+            "Tuple([Text, Text])",
+        ),
+    ];
+    for (left, left_too, right, right_too, want) in rows {
+        check_pairs(&rt, rt.alloc(), left, left_too, right, right_too, want)?;
+    }
+    Ok(())
+}
+
+#[test]
+fn unlike_shapes_and_types_inside_themselves(rt: HostRuntime) -> Result<(), Fail> {
+    let rows = [
+        (Ty::Int, Ty::Int),
+        (Ty::Var(2), Ty::Int),
+        (Ty::Var(0), Ty::Var(0)),
+    ];
+    for (left, inner) in rows {
+        check_nested(&rt, rt.alloc(), &left, inner)?;
+    }
     Ok(())
 }
 
 #[test]
 fn kinds_of_sources(rt: HostRuntime) -> Result<(), Fail> {
-    check_row(
-        &rt,
-        &source(Kind::Mono),
-        &source(Kind::Mono),
-        "Source(Fixed(Mono))",
-    )?;
-    check_row(
-        &rt,
-        rt.alloc(),
-        &source(Kind::Mono),
-        &source(Kind::Stereo),
-        "",
-    )?;
-    check_row(
-        &rt,
-        &open_source(0),
-        &source(Kind::Mono),
-        "Source(Fixed(Mono))",
-    )?;
-    check_row(
-        &rt,
-        &source(Kind::Stereo),
-        &open_source(1),
-        "Source(Fixed(Stereo))",
-    )?;
-    check_row(
-        &rt,
-        rt.alloc(),
-        &open_source(0),
-        &open_source(1),
-        "Source(Var(0))",
-    )?;
-    check_row(
-        &rt,
-        rt.alloc(),
-        &open_source(1),
-        &open_source(1),
-        "Source(Var(1))",
-    )?;
-    check_row(&rt, rt.alloc(), &open_source(0), &Ty::Unit, "")?;
+    let rows = [
+        (
+            source(Kind::Mono),
+            source(Kind::Mono),
+            "Source(Fixed(Mono))",
+        ),
+        (source(Kind::Mono), source(Kind::Stereo), ""),
+        (open_source(0), source(Kind::Mono), "Source(Fixed(Mono))"),
+        (
+            source(Kind::Stereo),
+            open_source(1),
+            "Source(Fixed(Stereo))",
+        ),
+        (open_source(0), open_source(1), "Source(Var(0))"),
+        (open_source(1), open_source(1), "Source(Var(1))"),
+        (open_source(0), Ty::Unit, ""),
+    ];
+    for (left, right, want) in rows {
+        check_row(&rt, rt.alloc(), &left, &right, want)?;
+    }
     Ok(())
 }
 

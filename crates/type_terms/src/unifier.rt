@@ -5,7 +5,8 @@ ghost use Rattle.type_terms.specs.Ground.{Assignment};
 ghost use Rattle.type_terms.specs.Nested.{AreMarked, mark_at};
 ghost use Rattle.type_terms.specs.Table.{table, Binds, BindsKind, IsOver, IsSound, Solves, bound_at, kind_at};
 ghost use Rattle.type_terms.specs.Term.{meaning, term_of};
-ghost use Rattle.type_terms.specs.Undo.{Frees, FreesKind, IsKindTrail, IsTrail, SameVariables};
+ghost use Rattle.type_terms.specs.Agrees.{SameVariables};
+ghost use Rattle.type_terms.specs.Undo.{Frees, FreesKind, IsKindTrail, IsTrail};
 ghost use Rattle.type_terms.specs.Variables.{Variable};
 ghost use Rattle.type_terms.specs.declared.ty.KindTerm.{KindTerm};
 

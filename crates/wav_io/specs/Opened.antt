@@ -71,7 +71,7 @@ plain_as kind bytes h =
       usual_rate = leb-true _ _ d.0;
       header = f.0;
       header_is = f.1;
-      bytes_are = sym (take-append-drop 44 bytes) ∙ ap (λ front. front ++ drop 44 bytes) front
+      bytes_are = sym (take-append-drop 44 bytes) ∙ ap (λ front. front ++ drop 44 bytes) front;
     }
 
 kinds_differ : (bytes : List ℕ) (one other : Wave) → IsPlain bytes one → IsPlain bytes other → channels_of one.kind ≡ channels_of other.kind
@@ -116,7 +116,7 @@ module _ (bytes : List ℕ) (wave : Wave) (p : IsPlain bytes wave) where
       let rate : nat_le (rate_in bytes) 192000 ≡ true = le-leb _ _ (omega (arith, rate_is, p.usual_rate)) in
       let some : nat_lt 0 (blocks_in wave.kind bytes) ≡ true = lt-ltb _ _ (omega (arith, blocks_are_samples, p.some)) in
       let whole : nat_eq (44 + blocks_in wave.kind bytes * block_size wave.kind) (length bytes) ≡ true = eq-eqb _ _
-          (ap (λ n. 44 + n * block_size wave.kind) blocks_are_samples ∙ ap (λ n. 44 + n) (sym p.whole_blocks) ∙ sym long) in
+      (ap (λ n. 44 + n * block_size wave.kind) blocks_are_samples ∙ ap (λ n. 44 + n) (sym p.whole_blocks) ∙ sym long) in
       joined _ _ (joined _ _ (joined _ _ rate some) whole) front_stands
 
 abbrev pick : Kind → Bool → Bool → Bool
@@ -138,7 +138,7 @@ kind_chosen Stereo false false same own = absurd (cc)
 pub opens : (bytes : List ℕ) (wave : Wave) → IsPlain bytes wave → plain_of bytes ≡ Some wave
 opens bytes wave p =
     let kind : plain_kind_of bytes ≡ Some wave.kind = kind_chosen wave.kind (is_plain_as Mono bytes) (is_plain_as Stereo bytes)
-        (λ mono. kinds_differ bytes (opened Mono bytes) wave (plain_as Mono bytes mono) p) (picked wave.kind bytes (opens_as bytes wave p)) in
+    (λ mono. kinds_differ bytes (opened Mono bytes) wave (plain_as Mono bytes mono) p) (picked wave.kind bytes (opens_as bytes wave p)) in
     let body : drop 44 bytes ≡ wave.body = ap (λ (all : List ℕ). drop 44 all) (laid_out bytes wave p) ∙ body_behind wave.kind wave.rate p.samples wave.body in
     let rate = rate_is bytes wave p in
     ap (λ o. option_map (λ kind. opened kind bytes) o) kind ∙ ap Some (λ i. record { kind = wave.kind; rate = rate i; body = body i })

@@ -9,8 +9,10 @@ use std::test::Fail;
 #[test]
 fn a_header_has_its_fields(rt: HostRuntime) {
     // One tick of 1764 samples in stereo, and the same in mono: the fields' bytes one after another.
-    let stereo = b"RIFF\xb4\x1b\x00\x00WAVEfmt \x10\x00\x00\x00\x01\x00\x02\x00\x44\xac\x00\x00\x10\xb1\x02\x00\x04\x00\x10\x00data\x90\x1b\x00\x00";
-    let mono = b"RIFF\xec\x0d\x00\x00WAVEfmt \x10\x00\x00\x00\x01\x00\x01\x00\x44\xac\x00\x00\x88\x58\x01\x00\x02\x00\x10\x00data\xc8\x0d\x00\x00";
+    let stereo =
+        b"RIFF\xb4\x1b\x00\x00WAVEfmt \x10\x00\x00\x00\x01\x00\x02\x00\x44\xac\x00\x00\x10\xb1\x02\x00\x04\x00\x10\x00data\x90\x1b\x00\x00";
+    let mono =
+        b"RIFF\xec\x0d\x00\x00WAVEfmt \x10\x00\x00\x00\x01\x00\x01\x00\x44\xac\x00\x00\x88\x58\x01\x00\x02\x00\x10\x00data\xc8\x0d\x00\x00";
     for (kind, want) in [(Kind::Stereo, stereo), (Kind::Mono, mono)] {
         assert_eq!(rt; header(kind, 44_100, 1764), Some(*want));
     }
@@ -26,7 +28,11 @@ fn the_file_size_has_four_bytes(rt: HostRuntime) {
         (Kind::Mono, 2_147_483_630, false),
         (Kind::Stereo, u64::MAX, false),
     ] {
-        assert_eq!(rt; header(kind, 44_100, samples).is_some(), fits, "{samples} samples");
+        assert_eq!(rt;
+            header(kind, 44_100, samples).is_some(),
+            fits,
+            "{samples} samples"
+        );
     }
 }
 

@@ -1,6 +1,4 @@
-use Rattle.std.proofs.Common.{◌≡◌, ◌∙◌, sym, ap, rules, Some, None, List, ℕ, ◌++◌}
-use Rattle.std.specs.Prelude.{MatchOption, Option}
-use denote.Ref.{Bor}
+use Rattle.std.proofs.Common.{◌≡◌, ◌∙◌, ap, ◌++◌}
 use Rattle.liq_base.specs.Entries.{entries, given_entries, stored, stored_is_file, stored_first, first_of}
 use Rattle.liq_base.proofs.closed.find_file.Goals as goal
 

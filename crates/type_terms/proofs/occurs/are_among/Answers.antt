@@ -1,5 +1,5 @@
 use Rattle.std.proofs.Common.{◌≡◌, subst, sym, refl, length, Bool, true, false, IsTrue}
-use Rattle.type_terms.specs.Nested.{IsAmong, terms}
+use Rattle.type_terms.specs.Nested.{terms}
 use Rattle.type_terms.specs.Term.{term_of}
 use Rattle.type_terms.proofs.Walks.{census_fails, census_step, popped}
 use Rattle.type_terms.proofs.occurs.are_among.Goals as goal

@@ -1,10 +1,9 @@
-use Rattle.std.proofs.Common.{◌≡◌, ◌∙◌, sym, ap, subst, ◌++◌, append-nil, None, OnOk, option_map, option_copied}
-use Rattle.type_terms.specs.Nested.{below, terms}
-use Rattle.type_terms.specs.Term.{list_term, term_of}
+use Rattle.std.proofs.Common.{◌≡◌, ◌∙◌, sym, ap, ◌++◌, append-nil, None, option_map, option_copied}
+use Rattle.type_terms.specs.Nested.{terms}
+use Rattle.type_terms.specs.Term.{term_of}
 use Rattle.type_terms.proofs.Lookups.{read_bound, read_free}
-use Rattle.type_terms.proofs.Parts.{tuple_is}
-use Rattle.type_terms.proofs.Views.{term_List, term_Var}
-use Rattle.type_terms.proofs.Walks.{below_bound, below_free, parts_of_terms, terms-append}
+use Rattle.type_terms.proofs.Views.{term_Var}
+use Rattle.type_terms.proofs.Walks.{below_bound, below_free, terms-append}
 use Rattle.type_terms.proofs.occurs.push_below.Goals as goal
 
 pub returns-in_ok-push-in-Var : goal.returns-in_ok-push-in-Var

@@ -8,9 +8,9 @@ use Rattle.wav_io.proofs.fields.header.Goals as goal
 -- the fields of a header whose sizes fit
 header_is : (kind : Kind) (rate samples channels size : ℕ) → 36 + samples * block_size kind < 2 ^ 32 → channels ≡ channels_of kind → size ≡ samples * block_size kind
     → Some (codes "RIFF" ++ four_bytes (36 + size) ++ codes "WAVE"
-        ++ codes "fmt " ++ four_bytes 16 ++ two_bytes 1 ++ two_bytes channels
-        ++ four_bytes rate ++ four_bytes (rate * (2 * channels)) ++ two_bytes (2 * channels) ++ two_bytes 16
-        ++ codes "data" ++ four_bytes size) ≡ header_of kind rate samples
+    ++ codes "fmt " ++ four_bytes 16 ++ two_bytes 1 ++ two_bytes channels
+    ++ four_bytes rate ++ four_bytes (rate * (2 * channels)) ++ two_bytes (2 * channels) ++ two_bytes 16
+    ++ codes "data" ++ four_bytes size) ≡ header_of kind rate samples
 unfolding header_bytes
 header_is kind rate samples channels size fits of_kind is = rw (lt-ltb (36 + samples * block_size kind) (2 ^ 32) fits, is, of_kind) refl
 

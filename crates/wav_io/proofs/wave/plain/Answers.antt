@@ -17,4 +17,4 @@ returns-clause-plain c =
     let rate : c.header_rate-rate.result ≡ rate_in c.args.bytes.now = c.header_rate-rate.ensures in
     let body : c.split_at.result.1.now ≡ drop 44 c.args.bytes.now = c.split_at.ensures.back in
     is_opened _ _ (ap (λ o. option_map (λ k. opened k c.args.bytes.now) o) (sym kind)
-      ∙ ap Some (λ i. record { kind = c.in_ok-kind.kind; rate = sym rate i; body = sym body i }))
+    ∙ ap Some (λ i. record { kind = c.in_ok-kind.kind; rate = sym rate i; body = sym body i }))

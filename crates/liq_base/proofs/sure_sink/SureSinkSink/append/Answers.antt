@@ -1,5 +1,5 @@
-use Rattle.std.proofs.Common.{◌≡◌, ◌≤◌, ◌+◌, ◌-◌, length, ap, refl, arith, ℕ}
-use Rattle.std.specs.Vec.{vec_len, vec_capacity}
+use Rattle.std.proofs.Common.{◌≡◌, ◌≤◌, ◌+◌, ◌-◌, length, ap, refl, arith}
+use Rattle.std.specs.Vec.{vec_len}
 use Rattle.liq_base.specs.SinkStates.{SureState}
 use Rattle.liq_base.proofs.sure_sink.SureSinkSink.append.Goals as goal
 

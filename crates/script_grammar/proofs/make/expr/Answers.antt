@@ -1,0 +1,5 @@
+use Rattle.script_grammar.proofs.Rows.{expr_made}
+use Rattle.script_grammar.proofs.make.expr.Goals as goal
+
+pub returns : goal.returns
+returns c = record { made = expr_made c.args.first c.args.rest }

@@ -1,0 +1,5 @@
+use Rattle.script_grammar.proofs.Rows.{list_made}
+use Rattle.script_grammar.proofs.make.list.Goals as goal
+
+pub returns : goal.returns
+returns c = record { made = list_made c.args.at c.args.parts }

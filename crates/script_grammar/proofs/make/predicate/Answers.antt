@@ -1,0 +1,5 @@
+use Rattle.script_grammar.proofs.Rows.{por_made}
+use Rattle.script_grammar.proofs.make.predicate.Goals as goal
+
+pub returns : goal.returns
+returns c = record { made = por_made c.args.first c.args.rest.items c.insert.new.self c.in_ok-insert.ensures.items }
