@@ -225,6 +225,25 @@ fn a_mark_holds_as_long_as_its_finest_part(rt: HostRuntime) {
     );
 }
 
+// Whether a predicate is always true by its form, and whether it holds at noon and at one o'clock.
+fn check_form(rt: &impl Abort, name: &str, pred: Pred, always: bool, noon: bool, one: bool) {
+    assert_eq!(rt; pred.always(), always, "{name}");
+    check(
+        rt,
+        name,
+        &pred,
+        &[("3:12:00:00", noon), ("3:13:00:00", one)],
+    );
+}
+
+fn noon() -> Pred {
+    Pred::At(hour(12))
+}
+
+fn not(alloc: Global, pred: Pred) -> Result<Pred, AllocFailed<Pred>> {
+    Ok(Pred::Not(Box::new(alloc, pred)?))
+}
+
 fn pair(alloc: Global, left: Pred, right: Pred) -> Result<Vec<Pred>, AllocFailed<Pred>> {
     let mut parts = Vec::new(alloc);
     parts.push(left)?;
@@ -232,109 +251,130 @@ fn pair(alloc: Global, left: Pred, right: Pred) -> Result<Vec<Pred>, AllocFailed
     Ok(parts)
 }
 
+fn both(alloc: Global, left: Pred, right: Pred) -> Result<Pred, AllocFailed<Pred>> {
+    Ok(Pred::All(pair(alloc, left, right)?))
+}
+
+fn either(alloc: Global, left: Pred, right: Pred) -> Result<Pred, AllocFailed<Pred>> {
+    Ok(Pred::Any(pair(alloc, left, right)?))
+}
+
 #[test]
-fn forms_are_joined(rt: HostRuntime) -> Result<(), Fail> {
+fn a_mark_is_never_always_by_form(rt: HostRuntime) {
+    check_form(&rt, "true", Pred::Always, true, true, true);
+    check_form(&rt, "false", Pred::Never, false, false, false);
+    check_form(&rt, "12h", noon(), false, true, false);
+    check_form(
+        &rt,
+        "0h-24h",
+        Pred::Between(hour(0), hour(24)),
+        false,
+        true,
+        true,
+    );
+}
+
+#[test]
+fn not_exchanges_always_and_never(rt: HostRuntime) -> Result<(), Fail> {
     let alloc = rt.alloc();
-    let noon = Pred::At(hour(12));
-    let rows = [
-        ("true", Pred::Always, true, true, true),
-        ("false", Pred::Never, false, false, false),
-        (
-            "0h-24h",
-            Pred::Between(hour(0), hour(24)),
-            false,
-            true,
-            true,
-        ),
-        ("12h", noon, false, true, false),
-        (
-            "not false",
-            Pred::Not(Box::new(alloc, Pred::Never)?),
-            true,
-            true,
-            true,
-        ),
-        (
-            "not true",
-            Pred::Not(Box::new(alloc, Pred::Always)?),
-            false,
-            false,
-            false,
-        ),
-        (
-            "not 12h",
-            Pred::Not(Box::new(alloc, Pred::At(hour(12)))?),
-            false,
-            false,
-            true,
-        ),
-        (
-            "true and true",
-            Pred::All(pair(alloc, Pred::Always, Pred::Always)?),
-            true,
-            true,
-            true,
-        ),
-        (
-            "true and 12h",
-            Pred::All(pair(alloc, Pred::Always, Pred::At(hour(12)))?),
-            false,
-            true,
-            false,
-        ),
-        (
-            "12h and false",
-            Pred::All(pair(alloc, Pred::At(hour(12)), Pred::Never)?),
-            false,
-            false,
-            false,
-        ),
-        (
-            "12h or true",
-            Pred::Any(pair(alloc, Pred::At(hour(12)), Pred::Always)?),
-            true,
-            true,
-            true,
-        ),
-        (
-            "12h or false",
-            Pred::Any(pair(alloc, Pred::At(hour(12)), Pred::Never)?),
-            false,
-            true,
-            false,
-        ),
-        (
-            "false or false",
-            Pred::Any(pair(alloc, Pred::Never, Pred::Never)?),
-            false,
-            false,
-            false,
-        ),
-    ];
-    for (name, pred, always, at_noon, at_one) in rows {
-        let pred = pred.copy(alloc)?;
-        assert_eq!(rt; pred.always(), always, "{name}");
-        check(
-            &rt,
-            name,
-            &pred,
-            &[("3:12:00:00", at_noon), ("3:13:00:00", at_one)],
-        );
-    }
-    let none = Pred::Any(pair(alloc, Pred::Never, Pred::Never)?);
-    assert_eq!(rt; Pred::Not(Box::new(alloc, none)?).always(), true);
-    let some = Pred::All(pair(alloc, Pred::At(hour(12)), Pred::Never)?);
-    assert_eq!(rt; Pred::Not(Box::new(alloc, some)?).always(), true);
+    check_form(&rt, "not false", not(alloc, Pred::Never)?, true, true, true);
+    check_form(
+        &rt,
+        "not true",
+        not(alloc, Pred::Always)?,
+        false,
+        false,
+        false,
+    );
+    check_form(&rt, "not 12h", not(alloc, noon())?, false, false, true);
     Ok(())
 }
 
 #[test]
-fn two_hundred_nestings_are_no_depth(rt: HostRuntime) -> Result<(), Fail> {
+fn and_needs_each_part(rt: HostRuntime) -> Result<(), Fail> {
+    let alloc = rt.alloc();
+    check_form(
+        &rt,
+        "true and true",
+        both(alloc, Pred::Always, Pred::Always)?,
+        true,
+        true,
+        true,
+    );
+    check_form(
+        &rt,
+        "true and 12h",
+        both(alloc, Pred::Always, noon())?,
+        false,
+        true,
+        false,
+    );
+    check_form(
+        &rt,
+        "12h and false",
+        both(alloc, noon(), Pred::Never)?,
+        false,
+        false,
+        false,
+    );
+    check_form(
+        &rt,
+        "not (12h and false)",
+        not(alloc, both(alloc, noon(), Pred::Never)?)?,
+        true,
+        true,
+        true,
+    );
+    Ok(())
+}
+
+#[test]
+fn or_needs_one_part(rt: HostRuntime) -> Result<(), Fail> {
+    let alloc = rt.alloc();
+    check_form(
+        &rt,
+        "12h or true",
+        either(alloc, noon(), Pred::Always)?,
+        true,
+        true,
+        true,
+    );
+    check_form(
+        &rt,
+        "12h or false",
+        either(alloc, noon(), Pred::Never)?,
+        false,
+        true,
+        false,
+    );
+    check_form(
+        &rt,
+        "false or false",
+        either(alloc, Pred::Never, Pred::Never)?,
+        false,
+        false,
+        false,
+    );
+    check_form(
+        &rt,
+        "a copy",
+        either(alloc, noon(), Pred::Always)?.copy(alloc)?,
+        true,
+        true,
+        true,
+    );
+    Ok(())
+}
+
+#[test]
+fn two_hundred_brackets_fit_the_stack(rt: HostRuntime) -> Result<(), Fail> {
     let mut pred = Pred::Always;
-    for _ in 0..100 {
-        let mut parts = Vec::new(rt.alloc());
-        parts.push(Pred::Not(Box::new(rt.alloc(), pred)?))?;
-        pred = Pred::Any(parts);
+    for _ in 0..200 {
+        let mut all = Vec::new(rt.alloc());
+        all.push(Pred::Not(Box::new(rt.alloc(), pred)?))?;
+        let mut any = Vec::new(rt.alloc());
+        any.push(Pred::All(all))?;
+        pred = Pred::Any(any);
     }
     assert_eq!(rt; pred.always(), true);
     assert_eq!(rt; pred.holds(start(&rt, "1:00:00:00")), true);
