@@ -47,8 +47,10 @@ fn call(
     out_fails: Vec<(u64, u64)>,
 ) -> Result<Called, Memory> {
     let mut words = Vec::new(alloc);
-    for word in line.split(' ') {
-        words.push(String::from_str(alloc, word)?)?;
+    if !line.is_empty() {
+        for word in line.split(' ') {
+            words.push(String::from_str(alloc, word)?)?;
+        }
     }
     let mut out = MemSink::new(alloc, 1000, out_fails)?;
     let mut err = MemSink::new(alloc, 1000, Vec::new(alloc))?;
@@ -72,6 +74,23 @@ fn renders_with_ample_memory(rt: HostRuntime) -> Result<(), Fail> {
         assert!(rt; cycle.0 == cycle.1);
     }
     assert!(rt; output.ends_with(b"\x03\0\x03\0"));
+    Ok(())
+}
+
+#[test]
+fn no_tick_is_a_header_alone(rt: HostRuntime) -> Result<(), Fail> {
+    let alloc = rt.alloc();
+    let mut shelf = shelf(alloc, Some(SCRIPT), Some(ONE_TWO_THREE))?;
+    let called = call(alloc, "render f 0", &mut shelf, Vec::new(alloc))?;
+    assert_eq!(rt; called.status, 0);
+    assert_eq!(rt;
+        called.out.held(),
+        b"output A samples 0 gaps 0\n".as_slice()
+    );
+    let output = shelf.get("A").ok_or("no output")?;
+    assert_eq!(rt; output.len(), 44);
+    assert!(rt; output.starts_with(b"RIFF\x24\0\0\0WAVE"));
+    assert!(rt; output.ends_with(b"data\0\0\0\0"));
     Ok(())
 }
 
