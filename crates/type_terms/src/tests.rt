@@ -332,3 +332,19 @@ fn a_type_that_doubles_thirty_times(rt: HostRuntime) -> Result<(), Fail> {
     );
     Ok(())
 }
+
+#[test]
+fn a_thousand_levels_are_bound_and_no_more(rt: HostRuntime) -> Result<(), Fail> {
+    let mut subst = six_variables(rt.alloc())?;
+    let mut deep = Ty::Int;
+    for _level in 0..999 {
+        deep = list(rt.alloc(), deep)?;
+    }
+    let yes = unified(&rt, rt.alloc(), &mut subst, &Ty::Var(0), &deep)?;
+    assert!(rt; yes);
+    deep = list(rt.alloc(), deep)?;
+    let refused = unified(&rt, rt.alloc(), &mut subst, &Ty::Var(1), &deep);
+    assert_eq!(rt; refused, Err(Memory));
+    assert!(rt; subst.bound(1).is_none());
+    Ok(())
+}
