@@ -1,7 +1,7 @@
 -- Each predicate is read from its spelling.
 use Rattle.std.proofs.Common.{◌≡◌, ℕ, zero, suc, ◌<◌, List, [], ◌∷◌, ◌++◌, length, false, Ok, refl, arith}
 use Rattle.script_lex.specs.declared.token.TokenKind.{TokenKind}
-use Rattle.script_lex.specs.declared.token.TokenKind.TheVariants.{Time, Keyword, Symbol}
+use Rattle.script_lex.specs.declared.token.TokenKind.TheVariants.{Keyword, Symbol}
 use Rattle.script_lex.specs.declared.token.Keyword.TheVariants as word
 use Rattle.script_lex.specs.declared.token.Symbol.TheVariants as sign
 use Rattle.fixed_text.specs.declared.time_mark.TimeMark.{TimeMark}
@@ -10,7 +10,7 @@ use Rattle.script_grammar.specs.Spelling.{spell, token_if}
 use Rattle.script_grammar.specs.Bare.{bare}
 use Rattle.script_grammar.specs.Read.{Reader, both, next, expect, perhaps}
 use Rattle.script_grammar.specs.Kinds.{is_or, is_and, is_not, is_minus, is_close_round}
-use Rattle.script_grammar.specs.ReadPredicate.{patom, pnot, pand, por_step, por_by, por}
+use Rattle.script_grammar.specs.ReadPredicate.{interval, patom, pnot, pand, por_step, por_by, por}
 use Rattle.script_grammar.proofs.Rules.{Reads, Anything, same, lift, pair_sp, pair_pl, both_reads, expect_reads, perhaps_reads, chain_reads}
 use Rattle.script_grammar.proofs.Firsts.{strength, stop_or, stop_and, stop_minus}
 
@@ -18,11 +18,11 @@ use Rattle.script_grammar.proofs.Firsts.{strength, stop_or, stop_and, stop_minus
 abbrev pub Below : ℕ → List TokenKind → Type 0
 Below level u = strength u < level
 
-mark_again : (por : Reader (Tree APOr)) (a : TimeMark) (u : List TokenKind) → next is_minus u ≡ false → patom por (Time a ∷ u) ≡ Ok (Mark a, u)
-unfolding patom
-mark_again por a [] e = refl
-mark_again por a (Symbol sign.Minus ∷ u) e = absurd cc
-mark_again por a (k ∷ u) e = refl
+mark_again : (a : TimeMark) (u : List TokenKind) → next is_minus u ≡ false → interval a u ≡ Ok (Mark a, u)
+unfolding interval
+mark_again a [] e = refl
+mark_again a (Symbol sign.Minus ∷ u) e = absurd cc
+mark_again a (k ∷ u) e = refl
 
 atom_no_not : (t : Tree APAtom) (u : List TokenKind) → next is_not (spell t ++ u) ≡ false
 atom_no_not Always u = refl
@@ -36,10 +36,10 @@ module _ (por : Reader (Tree APOr)) (n : ℕ) (lp : Reads por spell bare (Below 
   grouped_reads = both_reads lp (expect_reads is_close_round (Symbol sign.CloseRound) refl) (λ b u e. omega arith)
 
   patom_again : (t : Tree APAtom) (u : List TokenKind) → Below 4 u → length (spell t ++ u) < suc n → patom por (spell t ++ u) ≡ Ok (bare t, u)
-  unfolding patom
+  unfolding patom interval
   patom_again Always u e short = refl
   patom_again Never u e short = refl
-  patom_again (Mark a) u e short = mark_again por a u (stop_minus u e)
+  patom_again (Mark a) u e short = mark_again a u (stop_minus u e)
   patom_again (Between a b) u e short = refl
   patom_again (Grouped p) u e short = lift (grouped_reads.again (p, tt) u tt (omega arith)) (λ x. Grouped x.0)
 

@@ -3,7 +3,6 @@ use Rattle.std.proofs.Common.{◌≡◌, ◌<◌, ℕ, length, arith, List, [], 
 use Rattle.std.proofs.lemmas.List.{append-nil}
 use Rattle.std.specs.Prelude.{map}
 use Rattle.std.specs.Global.{Vec}
-use Rattle.std.specs.List.{flat_map}
 use Rattle.script_lex.specs.declared.token.TokenKind.{TokenKind}
 use Rattle.script_lex.specs.declared.token.TokenKind.TheVariants.{NameOpen, Keyword, Symbol}
 use Rattle.script_lex.specs.declared.token.Keyword.TheVariants as word

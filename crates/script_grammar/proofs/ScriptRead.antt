@@ -5,10 +5,10 @@ use Rattle.script_lex.specs.declared.token.TokenKind.{TokenKind}
 use Rattle.script_lex.specs.declared.token.TokenKind.TheVariants.{Name, NameOpen, Keyword, Symbol}
 use Rattle.script_lex.specs.declared.token.Keyword.TheVariants as word
 use Rattle.script_lex.specs.declared.token.Symbol.TheVariants as sign
-use Rattle.script_grammar.specs.Tree.{Tree, Many, none, more, AStmt, APart, ABind, ADef, AnInner, AParam, AFull, AnExpr, Stmt, BindPart, DefPart, CallPart, IfPart, Bind, Def, Inner, Param, Labelled, Optional, Call, If, Script}
+use Rattle.script_grammar.specs.Tree.{Tree, Many, none, more, AStmt, APart, ABind, ADef, AnInner, AParam, AnExpr, Stmt, BindPart, DefPart, CallPart, IfPart, Bind, Def, Inner, Param, Labelled, Optional, Call, If, Script}
 use Rattle.script_grammar.specs.Spelling.{spell, with_commas, token_if, spelling}
 use Rattle.script_grammar.specs.Bare.{bare}
-use Rattle.script_grammar.specs.Read.{Read, Reader, both, next, expect, perhaps, many, closed}
+use Rattle.script_grammar.specs.Read.{Read, both, next, expect, perhaps, many, closed}
 use Rattle.script_grammar.specs.Kinds.{is_assign, is_comma, is_close_round, is_end, is_semicolon, is_any}
 use Rattle.script_grammar.specs.ReadValue.{binds, full_by}
 use Rattle.script_grammar.specs.ReadScript.{value, result, bind, inner, param, def, part, stmt, script}

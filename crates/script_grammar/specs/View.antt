@@ -1,5 +1,5 @@
 -- The tree that a program's tree stands for.
-use Rattle.std.specs.Prelude.{ℕ, map, List, [], ◌∷◌, Bool, true, false, Option, Some, None}
+use Rattle.std.specs.Prelude.{ℕ, map, List, [], ◌∷◌, false}
 use Rattle.script_grammar.specs.Tree.{Sort, Tree, AStmt, APart, ABind, ADef, AnInner, AParam, AFull, AnExpr, AnAnd, ANot, ACompare, ASum, AnAdded, AProduct, AMultiplied, APrim, ACall, AnArg, AnIf, APOr, APAnd, APNot, APAtom, Many, none, more, Stmt, BindPart, DefPart, CallPart, IfPart, Bind, Def, Inner, Param, Labelled, Optional, Negative, Plain, Expr, And, Not, Alone, Compared, Sum, Added, Product, Multiplied, Constant, Quoted, Truth, Named, Called, Chosen, Nothing, Paren, Tuple, Listed, Braces, Format, Call, Arg, If, POr, PAnd, PNot, Always, Never, Mark, Between, Grouped, Script}
 use Rattle.script_grammar.specs.declared.tree.Full.{Full}
 use Rattle.script_grammar.specs.declared.tree.Full.TheVariants as full
@@ -30,7 +30,6 @@ use Rattle.script_grammar.specs.declared.predicate.POr as por
 use Rattle.script_grammar.specs.declared.predicate.PAnd as pand
 use Rattle.script_grammar.specs.declared.predicate.PNot as pnot
 use Rattle.script_grammar.specs.declared.predicate.PAtom as patom
-use Rattle.script_grammar.specs.declared.predicate.PAtom.TheVariants as atom
 
 -- a list of trees as a tree
 abbrev pub listed : {s : Sort} → List (Tree s) → Tree (Many s)
