@@ -1,0 +1,1 @@
+output.file(%wav, "first.wav", single("tone.wav"))
