@@ -8,3 +8,4 @@ pub mod Complete
 pub mod Decoded
 pub mod Ends
 pub mod Usage
+pub mod Forms

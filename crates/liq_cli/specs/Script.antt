@@ -1,6 +1,6 @@
 -- The one form of script that is rendered so far.
 use Rattle.std.specs.Prelude.{◌≡◌, ◌⊎◌, ◌<◌, ℕ, List, [], ◌∷◌, ◌++◌, ◌&&◌, length, take, drop, not, Bool, true, false, Option, Some, None, if◌then◌else◌, nat_le, nat_lt, nat_eq, codes}
-use Rattle.std.specs.List.{prefix_len, AllByRecursion}
+use Rattle.std.specs.List.{prefix_len, list_all}
 use Rattle.std.specs.Str.{bytes_eq}
 
 -- the name of the output, and that of the audio file
@@ -65,3 +65,16 @@ opening_step (Some rest) = output_step (name_at rest)
 -- the names in `output.file(%wav, "A", single("B"))`, which one LF may end
 unfoldable pub names_of : List ℕ → Option Names
 names_of script = opening_step (behind opening script)
+
+-- a name has one or more bytes, each of which may stand in one
+pub record IsName (name : List ℕ) : Type 0 where
+  pub some : 0 < length name
+  pub inner : list_all is_inner name ≡ true
+
+-- the script has this form with these names
+pub record IsScript (script : List ℕ) (names : Names) : Type 0 where
+  pub end : List ℕ
+  pub is_end : is_end end ≡ true
+  pub output : IsName names.output
+  pub file : IsName names.file
+  pub script_is : script ≡ opening ++ names.output ++ between ++ names.file ++ closing ++ end

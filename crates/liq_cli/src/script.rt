@@ -1,8 +1,8 @@
 // The one form of script that is rendered so far.
-ghost use Rattle.std.specs.Prelude.{◌≡◌, ◌≤◌, length, option_map};
+ghost use Rattle.std.specs.Prelude.{◌≡◌, ◌≤◌, length, option_map, IfSome, Some};
 ghost use Rattle.std.specs.Option.{option_copied};
 ghost use Rattle.std.specs.List.{prefix_len};
-ghost use Rattle.liq_cli.specs.Script.{Names, Read, behind, is_end, is_inner, name_at, names_of};
+ghost use Rattle.liq_cli.specs.Script.{Names, Read, IsScript, behind, is_end, is_inner, name_at, names_of};
 
 const OPENING: &[u8] = b"output.file(%wav, \"";
 
@@ -21,8 +21,17 @@ pub struct ScriptNames<'a> {
 }
 
 /// The names in `output.file(%wav, "A", single("B"))`, which one LF may end; nothing for any other script.
-#[tactic(auto, unfolding(crate::specs::Script::names_of))]
 pub fn read_names(script: &[u8]) -> Option<ScriptNames<'_>>
+    ensures names { option_map (λ n. record { output = n.output.now; file = n.file.now }) result ≡ names_of script.now }
+    ensures found { IfSome result (λ n. IsScript script.now (record { output = n.output.now; file = n.file.now })) }
+    ensures only { (names : Names) → IsScript script.now names → option_map (λ n. record { output = n.output.now; file = n.file.now }) result ≡ Some names }
+{
+    find_names(script)
+}
+
+// The names, step by step.
+#[tactic(auto, unfolding(crate::specs::Script::names_of))]
+fn find_names(script: &[u8]) -> Option<ScriptNames<'_>>
     ensures names { option_map (λ n. record { output = n.output.now; file = n.file.now }) result ≡ names_of script.now }
 {
     let rest = read_known(script, OPENING)?;
