@@ -1,12 +1,10 @@
 -- Where no count rose, the answer is the status: it follows from the rows by status.
-use Rattle.std.proofs.Common.{◌≡◌, ◌≤◌, ◌⊎◌, ℕ, zero, suc, List, sym, subst, ◌∙◌, ap, refl, inl, inr, arith}
-use Rattle.std.specs.Prelude.{Option, Some, None}
-use Rattle.liq_base.specs.Counts.{Rose}
-use Rattle.liq_base.specs.Files.{Files, file_at}
-use Rattle.liq_cli.specs.Answer.{Answer, Usage, Refused, Accepted, Plan, answer, asked_step}
+use Rattle.std.proofs.Common.{◌≡◌, ℕ, zero, suc, List, sym, subst, ap, refl, inl, inr, arith}
+use Rattle.std.specs.Prelude.{Option, None}
+use Rattle.liq_base.specs.Files.{Files}
+use Rattle.liq_cli.specs.Answer.{Answer, Usage, Refused, Accepted, answer, asked_step}
 use Rattle.liq_cli.specs.Call.{Moment, Ends, IsDone, Told, Calm, Completes, IsComplete, Starved, WriteFailed}
-use Rattle.liq_cli.specs.Words.{Asked, asked_by}
-use Rattle.liq_cli.specs.declared.fault.Fault.{Fault}
+use Rattle.liq_cli.specs.Words.{asked_by}
 
 no_write : (old new : Moment) → Calm old new → WriteFailed old new → ⊥
 no_write old new calm (inl e) = calm.err e

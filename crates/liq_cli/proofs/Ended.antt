@@ -1,12 +1,12 @@
 -- What a call leaves, by the way that it ends.
-use Rattle.std.proofs.Common.{◌≡◌, ◌≤◌, ◌⊎◌, ℕ, List, sym, ap, ◌∙◌, subst, inl, inr, lit≤, refl, arith}
+use Rattle.std.proofs.Common.{◌≡◌, ◌≤◌, ℕ, List, sym, ap, ◌∙◌, subst, inl, inr, lit≤, refl, arith}
 use Rattle.std.specs.Prelude.{Option, Some, None, IsSomeAnd}
 use Rattle.std.specs.Option.{ForSome}
 use Rattle.liq_base.specs.Counts.{Rose}
 use Rattle.liq_base.specs.Pieces.{IsPrefix, grown, TookPart}
 use Rattle.liq_base.specs.Files.{Files, file_at}
 use Rattle.liq_cli.specs.Answer.{Answer, Usage, Refused, Accepted, Plan, answer, asked_step, script_step, line_of, bytes_of, outputs_of, report_of, no_buffers}
-use Rattle.liq_cli.specs.Call.{Moment, GrewPart, Rendered, Broken, Starved, IsDone, ReportBroke, OutputBroke, LineBroke, Told, Broke, WriteFailed, Ends}
+use Rattle.liq_cli.specs.Call.{Moment, GrewPart, Rendered, Broken, Starved, IsDone, ReportBroke, OutputBroke, Told, Broke, WriteFailed, Ends}
 use Rattle.liq_cli.specs.Words.{Asked, asked_by}
 use Rattle.liq_cli.specs.declared.fault.Fault.{Fault}
 use Rattle.liq_cli.specs.Outputs.{HoldsSome, with_outputs}

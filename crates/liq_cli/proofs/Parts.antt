@@ -1,8 +1,8 @@
 -- What is left of the one output.
-use Rattle.std.proofs.Common.{◌∙◌, ◌≡◌, ℕ, List, [], ◌∷◌, sym, append-nil, ap, refl, subst, inl, inr}
+use Rattle.std.proofs.Common.{◌∙◌, ◌≡◌, ℕ, List, [], ◌∷◌, sym, append-nil, refl, subst, inr}
 use Rattle.std.specs.Prelude.{Option, Some, None, IsSomeAnd}
 use Rattle.std.specs.Option.{ForSome}
-use Rattle.liq_base.specs.Pieces.{IsPrefix, grown}
+use Rattle.liq_base.specs.Pieces.{IsPrefix}
 use Rattle.liq_base.specs.Files.{Files, with_file}
 use Rattle.liq_base.specs.Kept.{HoldsPartOr, later_cause}
 use Rattle.liq_cli.specs.Outputs.{Output, HoldsParts, HoldsSome, with_outputs}

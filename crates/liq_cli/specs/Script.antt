@@ -1,5 +1,5 @@
 -- The one form of script that is rendered so far.
-use Rattle.std.specs.Prelude.{◌≡◌, ◌⊎◌, ◌<◌, ℕ, List, [], ◌∷◌, ◌++◌, ◌&&◌, length, take, drop, not, Bool, true, false, Option, Some, None, if◌then◌else◌, nat_le, nat_lt, nat_eq, codes}
+use Rattle.std.specs.Prelude.{◌≡◌, ◌<◌, ℕ, List, [], ◌∷◌, ◌++◌, ◌&&◌, length, take, drop, not, Bool, true, false, Option, Some, None, if◌then◌else◌, nat_le, nat_lt, nat_eq, codes}
 use Rattle.std.specs.List.{prefix_len, list_all}
 use Rattle.std.specs.Str.{bytes_eq}
 

@@ -1,4 +1,4 @@
-use Rattle.std.proofs.Common.{◌≡◌, ◌∙◌, refl, rules, arith, ◌≤◌}
+use Rattle.std.proofs.Common.{◌∙◌, refl, arith}
 use Rattle.std.proofs.lemmas.Result.{err_from_is_err_and}
 use Rattle.liq_cli.proofs.Ends.{ends_through, ends_refused, if_none, if_some, names_read}
 use Rattle.liq_cli.proofs.prepare.prepare.Goals as goal

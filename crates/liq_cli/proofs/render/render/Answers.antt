@@ -1,6 +1,4 @@
-use Rattle.std.proofs.Common.{◌≤◌, sym, arith, [], append-nil}
-use Rattle.std.specs.Prelude.{OnErr}
-use Rattle.liq_base.specs.Counts.{Rose}
+use Rattle.std.proofs.Common.{sym, [], append-nil}
 use Rattle.liq_base.specs.Created.{part_left_or}
 use Rattle.liq_base.specs.Joined.{took_is_part}
 use Rattle.liq_cli.specs.Answer.{bytes_of, no_buffers, outputs_of}

@@ -1,4 +1,4 @@
-use Rattle.std.proofs.Common.{◌≡◌, ◌∙◌, sym, ap, arith, ◌++◌, ◌*◌, ◌+◌}
+use Rattle.std.proofs.Common.{◌∙◌, sym, ap, ◌++◌, ◌*◌, ◌+◌}
 use Rattle.std.specs.Prelude.{Some}
 use Rattle.liq_base.specs.declared.memory.Kind.TheVariants.{Stereo}
 use Rattle.frame_core.specs.Library.{sound_at}

@@ -1,12 +1,12 @@
-use Rattle.std.proofs.Common.{◌≡◌, ◌≤◌, ◌∙◌, ap, rules, arith, ◌++◌, ◌*◌, ◌+◌, length, length-append, sym, append_assoc, append-nil, refl, [], ℕ, List}
+use Rattle.std.proofs.Common.{◌≡◌, ◌≤◌, ◌∙◌, ap, rules, arith, ◌++◌, ◌*◌, ◌+◌, length, length-append, sym, append_assoc, append-nil}
 use Rattle.liq_base.specs.declared.memory.Kind.TheVariants.{Stereo}
 use Rattle.liq_base.specs.Pieces.{HasRoom}
 use Rattle.liq_base.specs.Joined.{took_then, part_then, part_of_more, took_is_part, room_after}
 use Rattle.wav_io.specs.Header.{header_bytes}
-use Rattle.liq_cli.specs.Answer.{F, rate, no_buffers, stream_of, bytes_of}
+use Rattle.liq_cli.specs.Answer.{F, rate, no_buffers, stream_of}
 use Rattle.liq_cli.specs.Streams.{ticks_bytes, tick_bytes}
 use Rattle.liq_cli.specs.Works.{plan_of}
-use Rattle.liq_cli.proofs.Blocks.{no_ticks, next_tick, rest_of_ticks, length_ticks, after_tick, before_rest, length_header}
+use Rattle.liq_cli.proofs.Blocks.{no_ticks, rest_of_ticks, length_ticks, after_tick, before_rest, length_header}
 use Rattle.liq_cli.proofs.Results.{on_err}
 use Rattle.liq_cli.proofs.render.write_output.Goals as goal
 

@@ -1,6 +1,3 @@
-use Rattle.std.proofs.Common.{rules}
-use Rattle.std.specs.List.{prefix_len}
-use Rattle.liq_cli.specs.Script.{is_inner}
 use Rattle.liq_cli.proofs.Names.{name_is_text}
 use Rattle.liq_cli.proofs.script.read_name.Goals as goal
 

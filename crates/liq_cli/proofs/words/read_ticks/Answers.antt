@@ -1,6 +1,5 @@
-use Rattle.std.proofs.Common.{◌≡◌, ◌^◌, ◌≤◌, ◌<◌, ℕ, arith, sym, ◌∙◌}
-use Rattle.std.specs.Str.Parse.{digits_value}
-use Rattle.liq_cli.proofs.Numbers.{number_of_ticks, ticks_of_number, false_unless}
+use Rattle.std.proofs.Common.{arith}
+use Rattle.liq_cli.proofs.Numbers.{number_of_ticks}
 use Rattle.liq_cli.proofs.words.read_ticks.Goals as goal
 
 pub returns-clause-ticks : goal.returns-clause-ticks
