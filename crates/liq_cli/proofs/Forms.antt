@@ -1,5 +1,5 @@
 -- The names that are read are those of the script's form, and of no other.
-use Rattle.std.proofs.Common.{◌≡◌, ◌≤◌, ℕ, suc, ◌+◌, List, [], ◌∷◌, ◌++◌, ◌&&◌, Bool, true, false, cond, length, take, drop, refl, sym, ap, ◌∙◌, subst, append_assoc, arith}
+use Rattle.std.proofs.Common.{◌≡◌, ◌≤◌, ℕ, suc, ◌+◌, List, [], ◌∷◌, ◌++◌, Bool, true, false, cond, length, take, drop, refl, sym, ap, ◌∙◌, subst, append_assoc, arith}
 use Rattle.std.specs.Prelude.{Option, Some, None, IfSome, option_map, if◌then◌else◌, nat_lt}
 use Rattle.std.specs.List.{prefix_len, list_all}
 use Rattle.std.specs.Str.{bytes_eq}
@@ -9,6 +9,7 @@ use Rattle.std.proofs.lemmas.List.Folds.{length-prefix_len}
 use Rattle.std.proofs.Math.Seq.{take-append_seam, drop-append_seam}
 use Rattle.std.proofs.lemmas.List.{take-append-drop}
 use Rattle.liq_cli.specs.Script.{Names, Read, IsName, IsScript, opening, between, closing, is_inner, is_end, behind, name_at, end_step, file_step, between_step, output_step, opening_step, names_of}
+use Rattle.liq_cli.proofs.Conjunctions.{left_part, right_part}
 
 -- a name and what stands behind it are these bytes
 record IsFront (bytes : List ℕ) (read : Read) : Type 0 where
@@ -55,14 +56,6 @@ name_found bytes read =
       | false ↦ λ e is. absurd (cc)
     ] in
     f (nat_lt 0 size) refl
-
-left_part : (a b : Bool) → (a && b) ≡ true → a ≡ true
-left_part true b is = refl
-left_part false b is = is
-
-right_part : (a b : Bool) → (a && b) ≡ true → b ≡ true
-right_part true b is = is
-right_part false b is = absurd (cc)
 
 prefix_all : (name rest : List ℕ) (c : ℕ) → list_all is_inner name ≡ true → is_inner c ≡ false → prefix_len is_inner (name ++ c ∷ rest) ≡ length name
 prefix_all [] rest c all stop = rw stop refl

@@ -1,3 +1,4 @@
+pub mod Conjunctions
 pub mod Numbers
 pub mod Blocks
 pub mod Results

@@ -1,5 +1,5 @@
 -- The bytes of a name are ASCII.
-use Rattle.std.proofs.Common.{◌≡◌, ◌<◌, ◌≤◌, ◌⊎◌, ◌&&◌, ℕ, suc, List, Bool, true, false, get_or, take, refl, arith, not, inl, inr}
+use Rattle.std.proofs.Common.{◌≡◌, ◌<◌, ◌≤◌, ◌⊎◌, ◌&&◌, ℕ, suc, List, true, false, get_or, take, arith, not, inl, inr}
 use Rattle.std.specs.Prelude.{nat_le, nat_eq}
 use Rattle.std.specs.List.{prefix_len}
 use Rattle.std.specs.Str.{IsUtf8}
@@ -10,14 +10,7 @@ use Rattle.std.proofs.lemmas.List.Sums.{prefix_len_passes}
 use Rattle.std.proofs.lemmas.List.Folds.{length-prefix_len}
 use Rattle.std.proofs.lemmas.Str.{IsUtf8-from_ascii}
 use Rattle.liq_cli.specs.Script.{is_inner}
-
-left_part : (a b : Bool) → (a && b) ≡ true → a ≡ true
-left_part true b is = refl
-left_part false b is = is
-
-right_part : (a b : Bool) → (a && b) ≡ true → b ≡ true
-right_part true b is = is
-right_part false b is = absurd (cc)
+use Rattle.liq_cli.proofs.Conjunctions.{left_part, right_part}
 
 pub inner_below : (byte : ℕ) → is_inner byte ≡ true → byte < 128
 inner_below byte is =

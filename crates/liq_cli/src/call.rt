@@ -20,17 +20,22 @@ use std::alloc::Global;
 const USAGE: &str =
     "usage: check FILE | render FILE N [--one-thread] [--window=W] [--start=D:HH:MM:SS] [--trace=NAME] | make SEED SIZE\n";
 
-/// The statuses of a call.
+/// All was written.
 const DONE: u8 = 0;
 
+/// The script is refused, with one line on `err`.
 const REFUSED: u8 = 1;
 
+/// The words have no form; the usage line is on `err`.
 const NO_FORM: u8 = 2;
 
+/// A read failed, and nothing was written.
 const READ_FAILED: u8 = 3;
 
+/// An output, the report or the line broke off.
 const WRITE_FAILED: u8 = 4;
 
+/// Memory was refused.
 const NO_MEMORY: u8 = 5;
 
 /// Does what the words ask for, and answers the status, from 0 to 5. `docs/promises.md` says what each leaves.

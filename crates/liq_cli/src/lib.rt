@@ -11,7 +11,8 @@ mod script;
 mod words;
 
 pub use call::liq;
-pub use fault::{Fault, Halt, RenderFault};
+pub use fault::Fault;
+use fault::{Halt, RenderFault};
 
 #[cfg(test)]
 mod tests;
