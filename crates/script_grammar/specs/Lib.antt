@@ -8,3 +8,5 @@ pub mod Read
 pub mod ReadPredicate
 pub mod ReadValue
 pub mod ReadScript
+pub mod Placed
+pub mod Whole
