@@ -5,10 +5,10 @@ use Rattle.script_lex.specs.declared.token.TokenKind.TheVariants.{Time, Keyword,
 use Rattle.script_lex.specs.declared.token.Keyword.TheVariants as word
 use Rattle.script_lex.specs.declared.token.Symbol.TheVariants as sign
 use Rattle.fixed_text.specs.declared.time_mark.TimeMark.{TimeMark}
-use Rattle.script_grammar.specs.Tree.{Tree, none, APOr, APAnd, APNot, APAtom, POr, PAnd, PNot, Always, Never, Mark, Between, Grouped}
+use Rattle.script_grammar.specs.Tree.{Tree, none, APOr, APAnd, APNot, POr, PAnd, PNot, Always, Never, Mark, Between, Grouped}
 use Rattle.script_grammar.specs.Spelling.{spell}
 use Rattle.script_grammar.specs.Placed.{IsPlaced}
-use Rattle.script_grammar.specs.Read.{Reader, expect}
+use Rattle.script_grammar.specs.Read.{Reader}
 use Rattle.script_grammar.specs.Kinds.{is_or, is_and, is_not, is_close_round}
 use Rattle.script_grammar.specs.ReadPredicate.{interval, patom, pnot, pand, por_step, por_by, por}
 use Rattle.script_reading.proofs.SoundRules.{Outcome, found, Sound, stop, refused, behind_front, made_of, both_sound, expect_sound, perhaps_sound, chain_sound}

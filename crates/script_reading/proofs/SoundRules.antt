@@ -1,5 +1,5 @@
 -- What is known of what a reader gives: a spelling with its places, or a fault where a spelling has begun. How this carries over to readers made of it.
-use Rattle.std.proofs.Common.{◌≡◌, ℕ, zero, suc, ◌+◌, ◌-◌, List, [], ◌∷◌, ◌++◌, length, Bool, true, false, Ok, Err, refl, sym, ap, subst, ◌∙◌, append_assoc, arith}
+use Rattle.std.proofs.Common.{◌≡◌, ℕ, zero, suc, ◌+◌, ◌-◌, List, [], ◌∷◌, ◌++◌, length, Bool, true, false, Ok, Err, refl, sym, ap, ◌∙◌, append_assoc, arith}
 use Rattle.std.proofs.lemmas.List.{length-append, append-nil}
 use Rattle.script_lex.specs.declared.token.TokenKind.{TokenKind}
 use Rattle.script_lex.specs.declared.token.TokenKind.TheVariants.{Symbol}
@@ -197,5 +197,5 @@ module _ {stamp : ℕ → ℕ} {total : ℕ} where
   closed_sound close k only t0 li = record {
     outcome = λ w.
         pick (next close w) (none_closed k (expect_out close k only w))
-          (made_of (λ x. more x.0.0 x.0.1) (λ x. refl) (λ i x h p. (p.0.0, p.0.1 (i + length (spell x.0.0)) refl)) ((both_sound tt (chain_sound is_comma (Symbol sign.Comma) only_comma t0 li) (expect_sound close k only)).outcome w));
+        (made_of (λ x. more x.0.0 x.0.1) (λ x. refl) (λ i x h p. (p.0.0, p.0.1 (i + length (spell x.0.0)) refl)) ((both_sound tt (chain_sound is_comma (Symbol sign.Comma) only_comma t0 li) (expect_sound close k only)).outcome w));
   }

@@ -11,15 +11,14 @@ use Rattle.script_grammar.specs.declared.tree.Literal.{Literal}
 use Rattle.script_grammar.specs.declared.tree.Literal.TheVariants as literal
 use Rattle.script_grammar.specs.declared.tree.CompareOp.{CompareOp}
 use Rattle.script_grammar.specs.declared.tree.CompareOp.TheVariants as op
-use Rattle.script_grammar.specs.Tree.{Tree, Many, none, more, AFull, AnExpr, AnAnd, ANot, ACompare, ASum, AnAdded, AProduct, AMultiplied, APrim, ACall, AnArg, AnIf, Negative, Plain, Expr, And, Not, Alone, Compared, Sum, Added, Product, Multiplied, Constant, Quoted, Truth, Named, Called, Chosen, Nothing, Paren, Tuple, Listed, Braces, Format, Call, Arg, If}
+use Rattle.script_grammar.specs.Tree.{Tree, Many, none, more, AFull, AnExpr, AnAnd, ANot, ACompare, ASum, AProduct, APrim, AnArg, Negative, Plain, Expr, And, Not, Alone, Compared, Sum, Added, Product, Multiplied, Constant, Quoted, Truth, Named, Called, Chosen, Listed, Braces, Format, Call, Arg, If}
 use Rattle.script_grammar.specs.Spelling.{spell, behind, with_commas, literal_token, op_token, option_name, token_if, wav_tokens}
-use Rattle.script_grammar.specs.Placed.{IsPlaced, IsBehind, IsApart}
-use Rattle.script_grammar.specs.Read.{Read, Reader, ◌>>=◌, made, both, next, expect, many, closed}
+use Rattle.script_grammar.specs.Placed.{IsPlaced, IsApart}
+use Rattle.script_grammar.specs.Read.{Read, Reader, ◌>>=◌, made, both, next, expect}
 use Rattle.script_grammar.specs.Kinds.{is_or, is_and, is_not, is_assign, is_open_round, is_close_round, is_close_square, is_close_curly, is_then, is_else, is_end, is_added, is_multiplied, op_of}
-use Rattle.script_grammar.specs.ReadPredicate.{por}
-use Rattle.script_grammar.specs.ReadValue.{takes_option, digits, whole_number, the_name, size, wav, arg, args, round_of, round_or_unit, choice, call, prim, multiplied, product, added, sum, next_op, behind_op, compare, not_, and_, expr, full_step, full_by}
-use Rattle.script_reading.proofs.SoundRules.{Here, Outcome, found, stopped, Sound, nowhere, one, pair_at, here, first, later, begun_behind, stop, refused, behind_front, made_of, both_sound, expect_sound, perhaps_sound, pick, row_sound, chain_sound, closed_sound}
-use Rattle.script_reading.proofs.SoundPredicate.{only_or, only_and, only_not, only_close_round, some_por, por_sound}
+use Rattle.script_grammar.specs.ReadValue.{takes_option, digits, whole_number, the_name, size, wav, arg, args, round_or_unit, choice, call, prim, multiplied, product, added, sum, next_op, behind_op, compare, not_, and_, expr, full_step, full_by}
+use Rattle.script_reading.proofs.SoundRules.{Here, Outcome, found, stopped, Sound, nowhere, one, pair_at, here, first, later, begun_behind, refused, behind_front, made_of, both_sound, expect_sound, perhaps_sound, pick, row_sound, chain_sound, closed_sound}
+use Rattle.script_reading.proofs.SoundPredicate.{only_or, only_and, only_not, only_close_round, por_sound}
 
 -- ---- kinds
 
@@ -140,9 +139,9 @@ module _ {stamp : ℕ → ℕ} {total : ℕ} where
   option_sound = record {
     outcome = λ w. made_of (λ x. x.1.1.1.0) (λ x. refl) (λ i x h p. tt)
         ((both_sound (tt, (tt, (some_number, tt))) (expect_sound is_open_round (Symbol sign.OpenRound) only_open_round)
-          (both_sound (tt, (some_number, tt)) (record { outcome = name_out })
-          (both_sound (some_number, tt) (expect_sound is_assign (Symbol sign.Assign) only_assign)
-          (both_sound tt (record { outcome = number_out }) (expect_sound is_close_round (Symbol sign.CloseRound) only_close_round))))).outcome w);
+        (both_sound (tt, (some_number, tt)) (record { outcome = name_out })
+        (both_sound (some_number, tt) (expect_sound is_assign (Symbol sign.Assign) only_assign)
+        (both_sound tt (record { outcome = number_out }) (expect_sound is_close_round (Symbol sign.CloseRound) only_close_round))))).outcome w);
   }
 
   wav_out : (loose : Bool) (w : List TokenKind) → Outcome stamp total option_tokens nowhere w (wav loose w)
@@ -177,16 +176,16 @@ module _ {stamp : ℕ → ℕ} {total : ℕ} where
     choice_made : (r : List TokenKind) → Outcome stamp total spell IsPlaced (Keyword word.If ∷ r) (both full (both (expect is_then) (both full (both (expect is_else) (both full (expect is_end))))) r >>= made (λ x. If (stamp (suc (length r))) x.0 x.1.1.0 x.1.1.1.1.0))
     choice_made r =
         behind_front (λ x. If (stamp (suc (length r))) x.0 x.1.1.0 x.1.1.1.1.0) (Keyword word.If ∷ []) refl (λ x. refl)
-          (λ i x h p.
-            let c = p (i + 1) (omega arith) in
-            let t = (c.1 (i + 1 + length (spell x.0)) refl).1 (i + 2 + length (spell x.0)) (omega arith) in
-            let e = (t.1 (i + 2 + length (spell x.0) + length (spell x.1.1.0)) refl).1 (i + 3 + length (spell x.0) + length (spell x.1.1.0)) (omega arith) in
-            (first h, c.0, t.0, e.0))
-          ((both_sound (tt, (some_full, (tt, (some_full, tt)))) lf
-            (both_sound (some_full, (tt, (some_full, tt))) (expect_sound is_then (Keyword word.Then) only_then)
-            (both_sound (tt, (some_full, tt)) lf
-            (both_sound (some_full, tt) (expect_sound is_else (Keyword word.Else) only_else)
-            (both_sound tt lf (expect_sound is_end (Keyword word.End) only_end)))))).outcome r)
+        (λ i x h p.
+        let c = p (i + 1) (omega arith) in
+        let t = (c.1 (i + 1 + length (spell x.0)) refl).1 (i + 2 + length (spell x.0)) (omega arith) in
+        let e = (t.1 (i + 2 + length (spell x.0) + length (spell x.1.1.0)) refl).1 (i + 3 + length (spell x.0) + length (spell x.1.1.0)) (omega arith) in
+        (first h, c.0, t.0, e.0))
+        ((both_sound (tt, (some_full, (tt, (some_full, tt)))) lf
+        (both_sound (some_full, (tt, (some_full, tt))) (expect_sound is_then (Keyword word.Then) only_then)
+        (both_sound (tt, (some_full, tt)) lf
+        (both_sound (some_full, tt) (expect_sound is_else (Keyword word.Else) only_else)
+        (both_sound tt lf (expect_sound is_end (Keyword word.End) only_end)))))).outcome r)
 
     choice_out : (w : List TokenKind) → Outcome stamp total spell IsPlaced w (choice stamp full w)
     unfolding choice
@@ -209,13 +208,13 @@ module _ {stamp : ℕ → ℕ} {total : ℕ} where
       prim_out (Keyword word.If ∷ r) = made_of Chosen (λ a. refl) (λ i a h p. p) (choice_out (Keyword word.If ∷ r))
       prim_out (Symbol sign.OpenRound ∷ r) =
           behind_front (round_or_unit (stamp (suc (length r)))) (Symbol sign.OpenRound ∷ []) refl (λ ts. round_spelled (stamp (suc (length r))) ts) (λ i ts h p. round_placed i (stamp (suc (length r))) ts (first h) (p (i + 1) (omega arith)))
-            ((closed_sound is_close_round (Symbol sign.CloseRound) only_close_round some_full lf).outcome r)
+          ((closed_sound is_close_round (Symbol sign.CloseRound) only_close_round some_full lf).outcome r)
       prim_out (Symbol sign.OpenSquare ∷ r) =
           behind_front (Listed (stamp (suc (length r)))) (Symbol sign.OpenSquare ∷ []) refl (λ ts. refl) (λ i ts h p. (first h, p (i + 1) (omega arith)))
-            ((closed_sound is_close_square (Symbol sign.CloseSquare) only_close_square some_full lf).outcome r)
+          ((closed_sound is_close_square (Symbol sign.CloseSquare) only_close_square some_full lf).outcome r)
       prim_out (Symbol sign.OpenCurly ∷ r) =
           behind_front (λ x. Braces (stamp (suc (length r))) x.0) (Symbol sign.OpenCurly ∷ []) refl (λ x. refl) (λ i x h p. first h)
-            ((both_sound tt por_sound (expect_sound is_close_curly (Symbol sign.CloseCurly) only_close_curly)).outcome r)
+          ((both_sound tt por_sound (expect_sound is_close_curly (Symbol sign.CloseCurly) only_close_curly)).outcome r)
       prim_out (Wav ∷ r) = behind_front (Format (stamp (suc (length r)))) (Wav ∷ []) refl (λ o. wav_spelled o) (λ i o h p. first h) (wav_out loose r)
       prim_out w = refused w some_prim
 
@@ -249,9 +248,9 @@ module _ {stamp : ℕ → ℕ} {total : ℕ} where
       op_out left k u e p None is = found (Alone left) (k ∷ u) e p
       op_out left k u e p (Some o) is =
           behind_front (Compared left (stamp (suc (length u))) o) (spell left ++ (op_token o ∷ [])) (e ∙ ap (λ (z : TokenKind). spell left ++ (z ∷ u)) (only_op k o is) ∙ sym (append_assoc (spell left) (op_token o ∷ []) u))
-            (λ a. sym (append_assoc (spell left) (op_token o ∷ []) (spell a)))
-            (λ i a h q. (p i h, later (spell left) (k ∷ u) e h, q (i + length (spell left) + 1) (omega (arith, length-append (spell left) (op_token o ∷ [])))))
-            (sum_sound.outcome u)
+          (λ a. sym (append_assoc (spell left) (op_token o ∷ []) (spell a)))
+          (λ i a h q. (p i h, later (spell left) (k ∷ u) e h, q (i + length (spell left) + 1) (omega (arith, length-append (spell left) (op_token o ∷ [])))))
+          (sum_sound.outcome u)
 
       compare_behind : {w : List TokenKind} (left : Tree ASum) (r : List TokenKind) → w ≡ spell left ++ r → ((i : ℕ) → Here stamp total i w → IsPlaced i left) → Outcome stamp total spell IsPlaced w (behind_op loose stamp full left (next_op r) r)
       compare_behind left [] e p = found (Alone left) [] e p
