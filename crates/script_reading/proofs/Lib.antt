@@ -1,0 +1,4 @@
+pub mod SoundRules
+pub mod SoundPredicate
+pub mod SoundValue
+pub mod SoundScript
