@@ -2,6 +2,8 @@
 #![tactic(auto)]
 
 mod fault;
+mod predicates;
 pub mod token;
 
 pub use fault::Fault;
+pub use predicates::predicate;
