@@ -11,10 +11,10 @@ use Rattle.script_grammar.specs.Bare.{bare}
 use Rattle.script_grammar.specs.Read.{Read, both, next, expect, perhaps, many, closed}
 use Rattle.script_grammar.specs.Kinds.{is_assign, is_comma, is_close_round, is_end, is_semicolon, is_any}
 use Rattle.script_grammar.specs.ReadValue.{binds, full_by}
-use Rattle.script_grammar.specs.ReadScript.{value, result, bind, inner, param, def, part, stmt, script}
+use Rattle.script_grammar.specs.ReadScript.{no_place, value, result, bind, inner, param, def, part, stmt, script}
 use Rattle.script_grammar.proofs.Rules.{Reads, Anything, same, weaker, lift, pair_sp, pair_pl, both_reads, expect_reads, perhaps_reads, many_reads, closed_reads}
 use Rattle.script_grammar.proofs.Firsts.{Ends, strength, no_option, expr_binds, expr_weak, expr_optional, expr_no_assign, expr_no_semicolon, stop_assign}
-use Rattle.script_grammar.proofs.ValueRead.{no_place, by_reads, step_reads, expr_reads, call_reads, choice_reads}
+use Rattle.script_grammar.proofs.ValueRead.{by_reads, step_reads, expr_reads, call_reads, choice_reads}
 
 -- what stands behind a part that a `;` may end
 abbrev Behind : Bool → List TokenKind → Type 0

@@ -14,14 +14,11 @@ use Rattle.script_grammar.specs.Bare.{bare}
 use Rattle.script_grammar.specs.Read.{Read, Reader, ◌>>=◌, made, both, next, expect, many, closed}
 use Rattle.script_grammar.specs.Kinds.{is_or, is_and, is_not, is_minus, is_assign, is_comma, is_close_round, is_close_square, is_close_curly, is_then, is_else, is_end, is_added, is_multiplied, op_of}
 use Rattle.script_grammar.specs.ReadPredicate.{por}
+use Rattle.script_grammar.specs.ReadScript.{no_place}
 use Rattle.script_grammar.specs.ReadValue.{binds, takes_option, digits, whole_number, the_name, size, wav, arg, args, round_or_unit, choice, call, prim, multiplied, product, added, sum, next_op, behind_op, compare, not_, and_, expr, full_step, full_by}
 use Rattle.script_grammar.proofs.Rules.{Reads, Anything, same, lift, pair_sp, pair_pl, both_reads, expect_reads, perhaps_reads, many_reads, chain_reads, closed_reads}
 use Rattle.script_grammar.proofs.Firsts.{Ends, no_option, no_op, stop_or, stop_and, stop_added, stop_multiplied, stop_assign, compare_no_not, expr_no_minus, full_binds, full_no_round, full_no_square}
 use Rattle.script_grammar.proofs.PredicateRead.{por_reads}
-
--- no places: each field at is 0
-abbrev pub no_place : ℕ → ℕ
-no_place left = 0
 
 -- ---- the option of %wav
 

@@ -8,6 +8,10 @@ use Rattle.script_grammar.specs.Read.{Reader, ◌>>=◌, made, both, next, expec
 use Rattle.script_grammar.specs.Kinds.{is_assign, is_comma, is_close_round, is_end, is_semicolon, is_any}
 use Rattle.script_grammar.specs.ReadValue.{binds, call, choice, expr, full_step, full_by}
 
+-- no places: each field at is 0
+abbrev pub no_place : ℕ → ℕ
+no_place left = 0
+
 -- a value, which is loose in the body of a def
 unfoldable pub value : Bool → (ℕ → ℕ) → Reader (Tree AFull)
 value loose stamp w = full_step loose stamp (full_by (length w) stamp) w

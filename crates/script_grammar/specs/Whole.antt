@@ -1,5 +1,4 @@
 -- When a program's tree is one of the grammar: each list in it is as long as the grammar wants.
-use Rattle.std.specs.Prelude.{List}
 use Rattle.std.specs.List.{All}
 use Rattle.script_grammar.specs.Tree.{Sort, Tree, Many, none, more}
 use Rattle.script_grammar.specs.View.{view_pands, view_pnots, view_fulls}
@@ -46,14 +45,14 @@ abbrev mutual
   pub IsWholePOr : por.POr → Type 0
   IsWholePOr (por.POr' shape parts) = HasPart (view_pands parts) × AreWholePAnds parts
 
-  AreWholePAnds : {m : _} → por.Row_of-PAnd m → Type 0
+  pub AreWholePAnds : {m : _} → por.Row_of-PAnd m → Type 0
   AreWholePAnds por.end_of-PAnd = Unit {0}
   AreWholePAnds (por.more_of-PAnd p rest) = IsWholePAnd p × AreWholePAnds rest
 
   pub IsWholePAnd : pand.PAnd → Type 0
   IsWholePAnd (pand.PAnd' shape parts) = HasPart (view_pnots parts) × AreWholePNots parts
 
-  AreWholePNots : {m : _} → pand.Row_of-PNot m → Type 0
+  pub AreWholePNots : {m : _} → pand.Row_of-PNot m → Type 0
   AreWholePNots pand.end_of-PNot = Unit {0}
   AreWholePNots (pand.more_of-PNot negated atom rest) = IsWholePAtom atom × AreWholePNots rest
 
@@ -72,14 +71,14 @@ abbrev mutual
   pub IsWholeExpr : expr.Expr → Type 0
   IsWholeExpr (expr.Expr' first shape rest) = IsWholeAnd first × AreWholeAnds rest
 
-  AreWholeAnds : {m : _} → expr.Row_of-And m → Type 0
+  pub AreWholeAnds : {m : _} → expr.Row_of-And m → Type 0
   AreWholeAnds expr.end_of-And = Unit {0}
   AreWholeAnds (expr.more_of-And a rest) = IsWholeAnd a × AreWholeAnds rest
 
   pub IsWholeAnd : and_.And → Type 0
   IsWholeAnd (and_.And' n shape rest) = IsWholeNot n × AreWholeNots rest
 
-  AreWholeNots : {m : _} → and_.Row_of-Not m → Type 0
+  pub AreWholeNots : {m : _} → and_.Row_of-Not m → Type 0
   AreWholeNots and_.end_of-Not = Unit {0}
   AreWholeNots (and_.more_of-Not n rest) = IsWholeNot n × AreWholeNots rest
 
@@ -93,7 +92,7 @@ abbrev mutual
   pub IsWholeSum : sum.Sum → Type 0
   IsWholeSum (sum.Sum' first shape rest) = IsWholeProduct first × AreWholeAddeds rest
 
-  AreWholeAddeds : {m : _} → sum.Row_of-Added m → Type 0
+  pub AreWholeAddeds : {m : _} → sum.Row_of-Added m → Type 0
   AreWholeAddeds sum.end_of-Added = Unit {0}
   AreWholeAddeds (sum.more_of-Added a rest) = IsWholeAdded a × AreWholeAddeds rest
 
@@ -103,7 +102,7 @@ abbrev mutual
   pub IsWholeProduct : product.Product → Type 0
   IsWholeProduct (product.Product' first shape rest) = IsWholePrim first × AreWholeMultiplieds rest
 
-  AreWholeMultiplieds : {m : _} → product.Row_of-Multiplied m → Type 0
+  pub AreWholeMultiplieds : {m : _} → product.Row_of-Multiplied m → Type 0
   AreWholeMultiplieds product.end_of-Multiplied = Unit {0}
   AreWholeMultiplieds (product.more_of-Multiplied at divide p rest) = IsWholePrim p × AreWholeMultiplieds rest
 
@@ -116,14 +115,14 @@ abbrev mutual
   IsWholePrim (prim.Braces at pred) = IsWholePOr pred
   IsWholePrim p = Unit {0}
 
-  AreWholeFulls : {m : _} → prim.Row_of-Full m → Type 0
+  pub AreWholeFulls : {m : _} → prim.Row_of-Full m → Type 0
   AreWholeFulls prim.end_of-Full = Unit {0}
   AreWholeFulls (prim.more_of-Full f rest) = IsWholeFull f × AreWholeFulls rest
 
   pub IsWholeCall : call.Call → Type 0
   IsWholeCall (call.Call' at name shape args) = AreWholeArgs args
 
-  AreWholeArgs : {m : _} → call.Row_of-Arg m → Type 0
+  pub AreWholeArgs : {m : _} → call.Row_of-Arg m → Type 0
   AreWholeArgs call.end_of-Arg = Unit {0}
   AreWholeArgs (call.more_of-Arg at name f rest) = IsWholeFull f × AreWholeArgs rest
 

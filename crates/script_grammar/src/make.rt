@@ -3,6 +3,8 @@ ghost use Rattle.std.specs.Prelude.{◌≡◌, IfOk, map};
 ghost use Rattle.script_grammar.specs.Tree.{Expr as an_expr, And as an_and, Sum as a_sum, Product as a_product, Call as a_call, POr as a_por, PAnd as a_pand, Listed as a_list};
 ghost use Rattle.script_grammar.specs.View.{listed, view_expr, view_and, view_not, view_sum, view_product, view_added, view_prim, view_multiplied, view_full, view_call, view_arg, view_por, view_pand, view_pnot};
 ghost use Rattle.script_grammar.specs.ReadValue.{round_of};
+ghost use Rattle.script_grammar.specs.Whole.{IsWholeExpr, IsWholeAnd, IsWholeNot, IsWholeSum, IsWholeAdded, IsWholeProduct, IsWholeMultiplied, IsWholePrim, IsWholeFull, IsWholeCall, IsWholeArg, IsWholePOr, IsWholePAnd, IsWholePNot};
+ghost use Rattle.std.specs.List.{All};
 
 use crate::predicate::{PAnd, PNot, POr};
 use crate::tree::{self, Added, And, Arg, Call, Expr, Full, Multiplied, Not, Product, Sum};
@@ -12,6 +14,7 @@ use std::alloc::Global;
 /// A first part and those behind an `or`.
 pub fn expr(first: And, rest: Vec<And>) -> Expr
     ensures made { view_expr result ≡ an_expr (view_and first) (listed (map view_and rest.items)) }
+    ensures whole { IsWholeAnd first → All IsWholeAnd rest.items → IsWholeExpr result }
 {
     Expr { first, rest }
 }
@@ -19,6 +22,7 @@ pub fn expr(first: And, rest: Vec<And>) -> Expr
 /// A first part and those behind an `and`.
 pub fn and_term(first: Not, rest: Vec<Not>) -> And
     ensures made { view_and result ≡ an_and (view_not first) (listed (map view_not rest.items)) }
+    ensures whole { IsWholeNot first → All IsWholeNot rest.items → IsWholeAnd result }
 {
     And { first, rest }
 }
@@ -26,6 +30,7 @@ pub fn and_term(first: Not, rest: Vec<Not>) -> And
 /// A first product and those behind a `+` or `-`.
 pub fn sum(first: Product, rest: Vec<Added>) -> Sum
     ensures made { view_sum result ≡ a_sum (view_product first) (listed (map view_added rest.items)) }
+    ensures whole { IsWholeProduct first → All IsWholeAdded rest.items → IsWholeSum result }
 {
     Sum { first, rest }
 }
@@ -33,6 +38,7 @@ pub fn sum(first: Product, rest: Vec<Added>) -> Sum
 /// A first operand and those behind a `*` or `/`.
 pub fn product(first: tree::Prim, rest: Vec<Multiplied>) -> Product
     ensures made { view_product result ≡ a_product (view_prim first) (listed (map view_multiplied rest.items)) }
+    ensures whole { IsWholePrim first → All IsWholeMultiplied rest.items → IsWholeProduct result }
 {
     Product { first, rest }
 }
@@ -40,6 +46,7 @@ pub fn product(first: tree::Prim, rest: Vec<Multiplied>) -> Product
 /// A call of a name with its arguments.
 pub fn call(at: u32, name: Text, args: Vec<Arg>) -> Call
     ensures made { view_call result ≡ a_call at name (listed (map view_arg args.items)) }
+    ensures whole { All IsWholeArg args.items → IsWholeCall result }
 {
     Call { at, name, args }
 }
@@ -47,6 +54,7 @@ pub fn call(at: u32, name: Text, args: Vec<Arg>) -> Call
 /// Values in square brackets.
 pub fn list(at: u32, parts: Vec<Full>) -> tree::Prim
     ensures made { view_prim result ≡ a_list at (listed (map view_full parts.items)) }
+    ensures whole { All IsWholeFull parts.items → IsWholePrim result }
 {
     tree::Prim::List { at, parts }
 }
@@ -54,6 +62,7 @@ pub fn list(at: u32, parts: Vec<Full>) -> tree::Prim
 /// Values in parentheses: a first one alone, or a tuple of it and the others.
 pub fn round(alloc: Global, at: u32, first: Full, rest: Vec<Full>) -> Result<tree::Prim, Memory>
     ensures made { IfOk result (λ p. view_prim p ≡ round_of at (view_full first) (listed (map view_full rest.items))) }
+    ensures whole { IfOk result (λ p. IsWholeFull first → All IsWholeFull rest.items → IsWholePrim p) }
 {
     if rest.is_empty() {
         Ok(tree::Prim::Paren(Box::new(alloc, first)?))
@@ -67,6 +76,7 @@ pub fn round(alloc: Global, at: u32, first: Full, rest: Vec<Full>) -> Result<tre
 /// A predicate of a first part and those behind an `or`.
 pub fn predicate(first: PAnd, rest: Vec<PAnd>) -> Result<POr, Memory>
     ensures made { IfOk result (λ p. view_por p ≡ a_por (view_pand first) (listed (map view_pand rest.items))) }
+    ensures whole { IfOk result (λ p. IsWholePAnd first → All IsWholePAnd rest.items → IsWholePOr p) }
 {
     let mut parts = rest;
     parts.insert(0, first)?;
@@ -76,6 +86,7 @@ pub fn predicate(first: PAnd, rest: Vec<PAnd>) -> Result<POr, Memory>
 /// A part of a predicate, of a first one and those behind an `and`.
 pub fn predicate_term(first: PNot, rest: Vec<PNot>) -> Result<PAnd, Memory>
     ensures made { IfOk result (λ p. view_pand p ≡ a_pand (view_pnot first) (listed (map view_pnot rest.items))) }
+    ensures whole { IfOk result (λ p. IsWholePNot first → All IsWholePNot rest.items → IsWholePAnd p) }
 {
     let mut parts = rest;
     parts.insert(0, first)?;
