@@ -1,9 +1,11 @@
 // Predicates, each nonterminal by a function of its own.
 ghost use Rattle.std.specs.Prelude.{◌≡◌, ◌<◌, ◌≤◌, IfOk, length, map};
+ghost use Rattle.std.specs.List.{All};
 ghost use Rattle.script_grammar.specs.Kinds.{is_and, is_or};
 ghost use Rattle.script_grammar.specs.Read.{behind, many, next};
 ghost use Rattle.script_grammar.specs.ReadPredicate.{interval, pand, patom, pnot, por, por_by, por_step};
 ghost use Rattle.script_grammar.specs.View.{listed, view_pand, view_patom, view_pnot, view_por};
+ghost use Rattle.script_grammar.specs.Whole.{IsWholePAnd, IsWholePAtom, IsWholePNot, IsWholePOr};
 ghost use Rattle.predicate_parse.specs.Gives.{kinds, Gives};
 
 use crate::fault::Fault;
@@ -21,6 +23,7 @@ use std::alloc::Global;
 pub fn predicate(alloc: Global, tokens: &[Token]) -> Result<(POr, &[Token]), Fault>
     ensures shorter { IfOk result (λ x. length x.1.now < length tokens.now) }
     ensures gives { Gives (λ x. (view_por x.0, kinds x.1.now)) result (por (kinds tokens.now)) }
+    ensures whole { IfOk result (λ x. IsWholePOr x.0) }
 {
     por(alloc, tokens.len() + 1, tokens)
 }
@@ -30,6 +33,7 @@ pub fn predicate(alloc: Global, tokens: &[Token]) -> Result<(POr, &[Token]), Fau
 fn por(alloc: Global, levels: usize, tokens: &[Token]) -> Result<(POr, &[Token]), Fault>
     ensures shorter { IfOk result (λ x. length x.1.now < length tokens.now) }
     ensures gives { Gives (λ x. (view_por x.0, kinds x.1.now)) result (por_by levels (kinds tokens.now)) }
+    ensures whole { IfOk result (λ x. IsWholePOr x.0) }
 {
     if levels == 0 {
         Err(Fault::Syntax(tokens.len()))
@@ -43,6 +47,7 @@ fn por(alloc: Global, levels: usize, tokens: &[Token]) -> Result<(POr, &[Token])
 fn por_step(alloc: Global, levels: usize, tokens: &[Token]) -> Result<(POr, &[Token]), Fault>
     ensures shorter { IfOk result (λ x. length x.1.now < length tokens.now) }
     ensures gives { Gives (λ x. (view_por x.0, kinds x.1.now)) result (por_step (por_by levels) (kinds tokens.now)) }
+    ensures whole { IfOk result (λ x. IsWholePOr x.0) }
 {
     let (first, rest) = pand(alloc, levels, tokens)?;
     let (others, rest) = pands(alloc, levels, rest)?;
@@ -53,6 +58,7 @@ fn por_step(alloc: Global, levels: usize, tokens: &[Token]) -> Result<(POr, &[To
 fn pands(alloc: Global, levels: usize, tokens: &[Token]) -> Result<(Vec<PAnd>, &[Token]), Fault>
     ensures shorter { IfOk result (λ x. length x.1.now ≤ length tokens.now) }
     ensures gives { Gives (λ x. (listed (map view_pand x.0.items), kinds x.1.now)) result (many (next is_or) (behind is_or (pand (por_by levels))) (kinds tokens.now)) }
+    ensures whole { IfOk result (λ x. All IsWholePAnd x.0.items) }
 {
     let mut items = Vec::new(alloc);
     let mut rest = tokens;
@@ -69,6 +75,7 @@ fn pands(alloc: Global, levels: usize, tokens: &[Token]) -> Result<(Vec<PAnd>, &
 fn or_pand(alloc: Global, levels: usize, tokens: &[Token]) -> Result<(PAnd, &[Token]), Fault>
     ensures shorter { IfOk result (λ x. length x.1.now < length tokens.now) }
     ensures gives { Gives (λ x. (view_pand x.0, kinds x.1.now)) result (behind is_or (pand (por_by levels)) (kinds tokens.now)) }
+    ensures whole { IfOk result (λ x. IsWholePAnd x.0) }
 {
     let ((), rest) = token::expect_or(tokens)?;
     pand(alloc, levels, rest)
@@ -79,6 +86,7 @@ fn or_pand(alloc: Global, levels: usize, tokens: &[Token]) -> Result<(PAnd, &[To
 fn pand(alloc: Global, levels: usize, tokens: &[Token]) -> Result<(PAnd, &[Token]), Fault>
     ensures shorter { IfOk result (λ x. length x.1.now < length tokens.now) }
     ensures gives { Gives (λ x. (view_pand x.0, kinds x.1.now)) result (pand (por_by levels) (kinds tokens.now)) }
+    ensures whole { IfOk result (λ x. IsWholePAnd x.0) }
 {
     let (first, rest) = pnot(alloc, levels, tokens)?;
     let (others, rest) = pnots(alloc, levels, rest)?;
@@ -89,6 +97,7 @@ fn pand(alloc: Global, levels: usize, tokens: &[Token]) -> Result<(PAnd, &[Token
 fn pnots(alloc: Global, levels: usize, tokens: &[Token]) -> Result<(Vec<PNot>, &[Token]), Fault>
     ensures shorter { IfOk result (λ x. length x.1.now ≤ length tokens.now) }
     ensures gives { Gives (λ x. (listed (map view_pnot x.0.items), kinds x.1.now)) result (many (next is_and) (behind is_and (pnot (por_by levels))) (kinds tokens.now)) }
+    ensures whole { IfOk result (λ x. All IsWholePNot x.0.items) }
 {
     let mut items = Vec::new(alloc);
     let mut rest = tokens;
@@ -105,6 +114,7 @@ fn pnots(alloc: Global, levels: usize, tokens: &[Token]) -> Result<(Vec<PNot>, &
 fn and_pnot(alloc: Global, levels: usize, tokens: &[Token]) -> Result<(PNot, &[Token]), Fault>
     ensures shorter { IfOk result (λ x. length x.1.now < length tokens.now) }
     ensures gives { Gives (λ x. (view_pnot x.0, kinds x.1.now)) result (behind is_and (pnot (por_by levels)) (kinds tokens.now)) }
+    ensures whole { IfOk result (λ x. IsWholePNot x.0) }
 {
     let ((), rest) = token::expect_and(tokens)?;
     pnot(alloc, levels, rest)
@@ -115,6 +125,7 @@ fn and_pnot(alloc: Global, levels: usize, tokens: &[Token]) -> Result<(PNot, &[T
 fn pnot(alloc: Global, levels: usize, tokens: &[Token]) -> Result<(PNot, &[Token]), Fault>
     ensures shorter { IfOk result (λ x. length x.1.now < length tokens.now) }
     ensures gives { Gives (λ x. (view_pnot x.0, kinds x.1.now)) result (pnot (por_by levels) (kinds tokens.now)) }
+    ensures whole { IfOk result (λ x. IsWholePNot x.0) }
 {
     let (negated, rest) = token::perhaps_not(tokens);
     let (atom, rest) = patom(alloc, levels, rest)?;
@@ -126,6 +137,7 @@ fn pnot(alloc: Global, levels: usize, tokens: &[Token]) -> Result<(PNot, &[Token
 fn patom(alloc: Global, levels: usize, tokens: &[Token]) -> Result<(PAtom, &[Token]), Fault>
     ensures shorter { IfOk result (λ x. length x.1.now < length tokens.now) }
     ensures gives { Gives (λ x. (view_patom x.0, kinds x.1.now)) result (patom (por_by levels) (kinds tokens.now)) }
+    ensures whole { IfOk result (λ x. IsWholePAtom x.0) }
 {
     match tokens {
         [
@@ -169,6 +181,7 @@ fn patom(alloc: Global, levels: usize, tokens: &[Token]) -> Result<(PAtom, &[Tok
 fn interval(from: TimeMark, tokens: &[Token]) -> Result<(PAtom, &[Token]), Fault>
     ensures shorter { IfOk result (λ x. length x.1.now ≤ length tokens.now) }
     ensures gives { Gives (λ x. (view_patom x.0, kinds x.1.now)) result (interval from (kinds tokens.now)) }
+    ensures whole { IfOk result (λ x. IsWholePAtom x.0) }
 {
     match tokens {
         [
