@@ -3,6 +3,8 @@
 
 mod fault;
 mod predicates;
+#[cfg(test)]
+mod tests;
 pub mod token;
 
 pub use fault::Fault;

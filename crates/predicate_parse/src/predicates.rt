@@ -16,9 +16,9 @@ use script_grammar::predicate::{PAnd, PAtom, PNot, POr};
 use script_lex::{Keyword, Symbol, Token, TokenKind};
 use std::alloc::Global;
 
-/// The predicate that the tokens begin with, and the tokens behind it.
+/// The predicate that the tokens begin with, and the tokens behind it. Calls nest once for each open parenthesis.
 ///
-/// A fault is where no predicate has such a beginning.
+/// A fault counts the tokens from the first one that cannot go on.
 #[tactic(auto, using(crate::proofs::Levels::por_levels))]
 pub fn predicate(alloc: Global, tokens: &[Token]) -> Result<(POr, &[Token]), Fault>
     ensures shorter { IfOk result (λ x. length x.1.now < length tokens.now) }
@@ -28,7 +28,8 @@ pub fn predicate(alloc: Global, tokens: &[Token]) -> Result<(POr, &[Token]), Fau
     por(alloc, tokens.len() + 1, tokens)
 }
 
-// Reads at most so many levels of parentheses.
+// The same with so many levels at most: one for the predicate itself, and one for each that it nests. More
+// levels than tokens are enough.
 #[cycle(predicate)]
 fn por(alloc: Global, levels: usize, tokens: &[Token]) -> Result<(POr, &[Token]), Fault>
     ensures shorter { IfOk result (λ x. length x.1.now < length tokens.now) }
@@ -139,36 +140,15 @@ fn patom(alloc: Global, levels: usize, tokens: &[Token]) -> Result<(PAtom, &[Tok
     ensures gives { Gives (λ x. (view_patom x.0, kinds x.1.now)) result (patom (por_by levels) (kinds tokens.now)) }
     ensures whole { IfOk result (λ x. IsWholePAtom x.0) }
 {
-    match tokens {
-        [
-            Token {
-                kind: TokenKind::Keyword(Keyword::True),
-                ..
-            },
-            rest @ ..,
-        ] => Ok((PAtom::True, rest)),
-        [
-            Token {
-                kind: TokenKind::Keyword(Keyword::False),
-                ..
-            },
-            rest @ ..,
-        ] => Ok((PAtom::False, rest)),
-        [
-            Token {
-                kind: TokenKind::Time(from),
-                ..
-            },
-            rest @ ..,
-        ] => interval(*from, rest),
-        [
-            Token {
-                kind: TokenKind::Symbol(Symbol::OpenRound),
-                ..
-            },
-            after @ ..,
-        ] => {
-            let (inside, rest) = por(alloc, levels, after)?;
+    let Some((first, rest)) = tokens.split_first() else {
+        return Err(Fault::Syntax(0));
+    };
+    match &first.kind {
+        TokenKind::Keyword(Keyword::True) => Ok((PAtom::True, rest)),
+        TokenKind::Keyword(Keyword::False) => Ok((PAtom::False, rest)),
+        TokenKind::Time(from) => interval(*from, rest),
+        TokenKind::Symbol(Symbol::OpenRound) => {
+            let (inside, rest) = por(alloc, levels, rest)?;
             let ((), rest) = token::expect_close_round(rest)?;
             Ok((PAtom::Paren(Box::new(alloc, inside)?), rest))
         }
