@@ -2,6 +2,10 @@
 #![tactic(auto)]
 
 mod fault;
+mod predicates;
+#[cfg(test)]
+mod tests;
 pub mod token;
 
 pub use fault::Fault;
+pub use predicates::predicate;

@@ -23,7 +23,7 @@ pub fn at_any(tokens: &[Token]) -> bool
     matches!(tokens, [_, ..])
 }
 
-/// Whether a `or` stands first.
+/// Whether `or` stands first.
 pub fn at_or(tokens: &[Token]) -> bool
     ensures { result ≡ next is_or (kinds tokens.now) }
 {
@@ -39,7 +39,7 @@ pub fn at_or(tokens: &[Token]) -> bool
     )
 }
 
-/// Whether a `and` stands first.
+/// Whether `and` stands first.
 pub fn at_and(tokens: &[Token]) -> bool
     ensures { result ≡ next is_and (kinds tokens.now) }
 {
@@ -55,7 +55,7 @@ pub fn at_and(tokens: &[Token]) -> bool
     )
 }
 
-/// Whether a `-` stands first.
+/// Whether `-` stands first.
 pub fn at_minus(tokens: &[Token]) -> bool
     ensures { result ≡ next is_minus (kinds tokens.now) }
 {
@@ -71,7 +71,7 @@ pub fn at_minus(tokens: &[Token]) -> bool
     )
 }
 
-/// Whether a `,` stands first.
+/// Whether `,` stands first.
 pub fn at_comma(tokens: &[Token]) -> bool
     ensures { result ≡ next is_comma (kinds tokens.now) }
 {
@@ -87,7 +87,7 @@ pub fn at_comma(tokens: &[Token]) -> bool
     )
 }
 
-/// Whether a `(` stands first.
+/// Whether `(` stands first.
 pub fn at_open_round(tokens: &[Token]) -> bool
     ensures { result ≡ next is_open_round (kinds tokens.now) }
 {
@@ -103,7 +103,7 @@ pub fn at_open_round(tokens: &[Token]) -> bool
     )
 }
 
-/// Whether a `)` stands first.
+/// Whether `)` stands first.
 pub fn at_close_round(tokens: &[Token]) -> bool
     ensures { result ≡ next is_close_round (kinds tokens.now) }
 {
@@ -119,7 +119,7 @@ pub fn at_close_round(tokens: &[Token]) -> bool
     )
 }
 
-/// Whether a `]` stands first.
+/// Whether `]` stands first.
 pub fn at_close_square(tokens: &[Token]) -> bool
     ensures { result ≡ next is_close_square (kinds tokens.now) }
 {
@@ -135,7 +135,7 @@ pub fn at_close_square(tokens: &[Token]) -> bool
     )
 }
 
-/// Whether a `end` stands first.
+/// Whether `end` stands first.
 pub fn at_end(tokens: &[Token]) -> bool
     ensures { result ≡ next is_end (kinds tokens.now) }
 {
@@ -151,7 +151,7 @@ pub fn at_end(tokens: &[Token]) -> bool
     )
 }
 
-/// Whether a `+` or `-` stands first.
+/// Whether `+` or `-` stands first.
 pub fn at_added(tokens: &[Token]) -> bool
     ensures { result ≡ next is_added (kinds tokens.now) }
 {
@@ -167,7 +167,7 @@ pub fn at_added(tokens: &[Token]) -> bool
     )
 }
 
-/// Whether a `*` or `/` stands first.
+/// Whether `*` or `/` stands first.
 pub fn at_multiplied(tokens: &[Token]) -> bool
     ensures { result ≡ next is_multiplied (kinds tokens.now) }
 {
@@ -183,7 +183,7 @@ pub fn at_multiplied(tokens: &[Token]) -> bool
     )
 }
 
-/// The tokens behind a `,`. Any other token, or none, is a fault there.
+/// The tokens behind `,`. Any other token, or none, is a fault there.
 pub fn expect_comma(tokens: &[Token]) -> Result<((), &[Token]), Fault>
     ensures shorter { IfOk result (λ x. length x.1.now < length tokens.now) }
     ensures gives { Gives (λ x. (tt, kinds x.1.now)) result (expect is_comma (kinds tokens.now)) }
@@ -200,7 +200,7 @@ pub fn expect_comma(tokens: &[Token]) -> Result<((), &[Token]), Fault>
     }
 }
 
-/// The tokens behind a `=`. Any other token, or none, is a fault there.
+/// The tokens behind `=`. Any other token, or none, is a fault there.
 pub fn expect_assign(tokens: &[Token]) -> Result<((), &[Token]), Fault>
     ensures shorter { IfOk result (λ x. length x.1.now < length tokens.now) }
     ensures gives { Gives (λ x. (tt, kinds x.1.now)) result (expect is_assign (kinds tokens.now)) }
@@ -217,7 +217,7 @@ pub fn expect_assign(tokens: &[Token]) -> Result<((), &[Token]), Fault>
     }
 }
 
-/// The tokens behind a `(`. Any other token, or none, is a fault there.
+/// The tokens behind `(`. Any other token, or none, is a fault there.
 pub fn expect_open_round(tokens: &[Token]) -> Result<((), &[Token]), Fault>
     ensures shorter { IfOk result (λ x. length x.1.now < length tokens.now) }
     ensures gives { Gives (λ x. (tt, kinds x.1.now)) result (expect is_open_round (kinds tokens.now)) }
@@ -234,7 +234,7 @@ pub fn expect_open_round(tokens: &[Token]) -> Result<((), &[Token]), Fault>
     }
 }
 
-/// The tokens behind a `)`. Any other token, or none, is a fault there.
+/// The tokens behind `)`. Any other token, or none, is a fault there.
 pub fn expect_close_round(tokens: &[Token]) -> Result<((), &[Token]), Fault>
     ensures shorter { IfOk result (λ x. length x.1.now < length tokens.now) }
     ensures gives { Gives (λ x. (tt, kinds x.1.now)) result (expect is_close_round (kinds tokens.now)) }
@@ -251,7 +251,7 @@ pub fn expect_close_round(tokens: &[Token]) -> Result<((), &[Token]), Fault>
     }
 }
 
-/// The tokens behind a `]`. Any other token, or none, is a fault there.
+/// The tokens behind `]`. Any other token, or none, is a fault there.
 pub fn expect_close_square(tokens: &[Token]) -> Result<((), &[Token]), Fault>
     ensures shorter { IfOk result (λ x. length x.1.now < length tokens.now) }
     ensures gives { Gives (λ x. (tt, kinds x.1.now)) result (expect is_close_square (kinds tokens.now)) }
@@ -268,7 +268,7 @@ pub fn expect_close_square(tokens: &[Token]) -> Result<((), &[Token]), Fault>
     }
 }
 
-/// The tokens behind a `}`. Any other token, or none, is a fault there.
+/// The tokens behind `}`. Any other token, or none, is a fault there.
 pub fn expect_close_curly(tokens: &[Token]) -> Result<((), &[Token]), Fault>
     ensures shorter { IfOk result (λ x. length x.1.now < length tokens.now) }
     ensures gives { Gives (λ x. (tt, kinds x.1.now)) result (expect is_close_curly (kinds tokens.now)) }
@@ -285,7 +285,7 @@ pub fn expect_close_curly(tokens: &[Token]) -> Result<((), &[Token]), Fault>
     }
 }
 
-/// The tokens behind a `then`. Any other token, or none, is a fault there.
+/// The tokens behind `then`. Any other token, or none, is a fault there.
 pub fn expect_then(tokens: &[Token]) -> Result<((), &[Token]), Fault>
     ensures shorter { IfOk result (λ x. length x.1.now < length tokens.now) }
     ensures gives { Gives (λ x. (tt, kinds x.1.now)) result (expect is_then (kinds tokens.now)) }
@@ -302,7 +302,7 @@ pub fn expect_then(tokens: &[Token]) -> Result<((), &[Token]), Fault>
     }
 }
 
-/// The tokens behind a `else`. Any other token, or none, is a fault there.
+/// The tokens behind `else`. Any other token, or none, is a fault there.
 pub fn expect_else(tokens: &[Token]) -> Result<((), &[Token]), Fault>
     ensures shorter { IfOk result (λ x. length x.1.now < length tokens.now) }
     ensures gives { Gives (λ x. (tt, kinds x.1.now)) result (expect is_else (kinds tokens.now)) }
@@ -319,7 +319,7 @@ pub fn expect_else(tokens: &[Token]) -> Result<((), &[Token]), Fault>
     }
 }
 
-/// The tokens behind a `end`. Any other token, or none, is a fault there.
+/// The tokens behind `end`. Any other token, or none, is a fault there.
 pub fn expect_end(tokens: &[Token]) -> Result<((), &[Token]), Fault>
     ensures shorter { IfOk result (λ x. length x.1.now < length tokens.now) }
     ensures gives { Gives (λ x. (tt, kinds x.1.now)) result (expect is_end (kinds tokens.now)) }
@@ -336,7 +336,7 @@ pub fn expect_end(tokens: &[Token]) -> Result<((), &[Token]), Fault>
     }
 }
 
-/// The tokens behind a `or`. Any other token, or none, is a fault there.
+/// The tokens behind `or`. Any other token, or none, is a fault there.
 pub fn expect_or(tokens: &[Token]) -> Result<((), &[Token]), Fault>
     ensures shorter { IfOk result (λ x. length x.1.now < length tokens.now) }
     ensures gives { Gives (λ x. (tt, kinds x.1.now)) result (expect is_or (kinds tokens.now)) }
@@ -353,7 +353,7 @@ pub fn expect_or(tokens: &[Token]) -> Result<((), &[Token]), Fault>
     }
 }
 
-/// The tokens behind a `and`. Any other token, or none, is a fault there.
+/// The tokens behind `and`. Any other token, or none, is a fault there.
 pub fn expect_and(tokens: &[Token]) -> Result<((), &[Token]), Fault>
     ensures shorter { IfOk result (λ x. length x.1.now < length tokens.now) }
     ensures gives { Gives (λ x. (tt, kinds x.1.now)) result (expect is_and (kinds tokens.now)) }
@@ -370,7 +370,7 @@ pub fn expect_and(tokens: &[Token]) -> Result<((), &[Token]), Fault>
     }
 }
 
-/// Whether a `not` stands first, and the tokens behind it.
+/// Whether `not` stands first, and the tokens behind it.
 pub fn perhaps_not(tokens: &[Token]) -> (bool, &[Token])
     ensures shorter { length result.1.now ≤ length tokens.now }
     ensures gives { perhaps is_not (kinds tokens.now) ≡ Ok (result.0, kinds result.1.now) }
@@ -387,7 +387,7 @@ pub fn perhaps_not(tokens: &[Token]) -> (bool, &[Token])
     }
 }
 
-/// Whether a `;` stands first, and the tokens behind it.
+/// Whether `;` stands first, and the tokens behind it.
 pub fn perhaps_semicolon(tokens: &[Token]) -> (bool, &[Token])
     ensures shorter { length result.1.now ≤ length tokens.now }
     ensures gives { perhaps is_semicolon (kinds tokens.now) ≡ Ok (result.0, kinds result.1.now) }
@@ -404,7 +404,7 @@ pub fn perhaps_semicolon(tokens: &[Token]) -> (bool, &[Token])
     }
 }
 
-/// Whether a `=` stands first, and the tokens behind it.
+/// Whether `=` stands first, and the tokens behind it.
 pub fn perhaps_assign(tokens: &[Token]) -> (bool, &[Token])
     ensures shorter { length result.1.now ≤ length tokens.now }
     ensures gives { perhaps is_assign (kinds tokens.now) ≡ Ok (result.0, kinds result.1.now) }

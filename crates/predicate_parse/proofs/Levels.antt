@@ -1,0 +1,26 @@
+-- The recursion of reading: so many levels.
+use Rattle.std.proofs.Common.{◌≡◌, ℕ, zero, suc, ◌+◌, List, length, Err, refl, ap, arith}
+use Rattle.std.proofs.lemmas.List.{length-map}
+use Rattle.script_lex.specs.declared.token.Token.{Token}
+use Rattle.script_grammar.specs.ReadPredicate.{por_step, por_by, por}
+use Rattle.predicate_parse.specs.Gives.{kind_of, kinds}
+
+-- no level is left
+pub por_ends : (n : ℕ) (ts : List Token) → n ≡ 0 → por_by n (kinds ts) ≡ Err (length ts)
+unfolding por_by
+por_ends zero ts e = rw (length-map ts kind_of) refl
+por_ends (suc n) ts e = absurd (omega arith)
+
+-- one level less
+pub por_turn : (n m : ℕ) (ts : List Token) → n ≡ m + 1 → por_by n (kinds ts) ≡ por_step (por_by m) (kinds ts)
+unfolding por_by
+por_turn n m ts e =
+    let next : n ≡ suc m = omega arith in
+    ap (λ (k : ℕ). por_by k (kinds ts)) next
+
+-- a level more than there are tokens
+pub por_levels : (ts : List Token) → por (kinds ts) ≡ por_by (length ts + 1) (kinds ts)
+unfolding por
+por_levels ts =
+    let levels : suc (length (kinds ts)) ≡ length ts + 1 = omega (arith, length-map ts kind_of) in
+    ap (λ (k : ℕ). por_by k (kinds ts)) levels
