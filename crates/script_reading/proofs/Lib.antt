@@ -1,0 +1,3 @@
+mod SteadyRules
+mod SteadyLists
+mod SteadyPredicate
