@@ -1,3 +1,4 @@
 mod SteadyRules
 mod SteadyLists
 mod SteadyPredicate
+mod SteadyValue

@@ -181,7 +181,7 @@ unfolding behind
 behind_eats is item falls w = eaten_bind (λ (x : Unit {0} × List TokenKind). item x.1) (λ x. falls x.1) (expect is w) (length w) (expect_eats is w)
 
 module _ {s : Sort} (is : TokenKind → Bool) (loud : (k : TokenKind) → is k ≡ true → quiet k ≡ true) {loose : Bool} {item item' : Reader (Tree s)} {n n' : ℕ} (li : Steady bare loose n n' item item') where
-  others_steady : Steady bare loose n n' (many (next is) (behind is item)) (many (next is) (behind is item'))
+  pub others_steady : Steady bare loose n n' (many (next is) (behind is item)) (many (next is) (behind is item'))
   others_steady = many_next is loose (λ w w' pk e. alike_is loose is loud w w' pk e) (behind is item) (behind is item') (behind_eats is item li.within) n n' (behind_steady is li)
 
   pub chain_steady : Steady (pair_core bare bare) loose n n' (chain is item) (chain is item')
@@ -194,7 +194,7 @@ closed_true : {s : Sort} (comma close : TokenKind → Bool) (item : Reader (Tree
 unfolding closed
 closed_true comma close item w e = rw (e, closed) refl
 
-closed_more : {s : Sort} (comma close : TokenKind → Bool) (item : Reader (Tree s)) (w : List TokenKind) → next close w ≡ false → closed comma close item w ≡ (both (chain comma item) (expect close) w >>= made (λ x. more x.0.0 x.0.1))
+pub closed_more : {s : Sort} (comma close : TokenKind → Bool) (item : Reader (Tree s)) (w : List TokenKind) → next close w ≡ false → closed comma close item w ≡ (both (chain comma item) (expect close) w >>= made (λ x. more x.0.0 x.0.1))
 unfolding closed
 closed_more comma close item w e = rw (e, closed) refl
 
