@@ -2,3 +2,4 @@ mod SteadyRules
 mod SteadyLists
 mod SteadyPredicate
 mod SteadyValue
+mod SteadyScript

@@ -188,6 +188,18 @@ module _ {A B : Type 0} {coreA : A → A} {coreB : B → B} {n n' : ℕ} {f f' :
       kept = λ p v v' pk s s'. lock_bind (λ (x : A × List TokenKind). g x.0 x.1) (λ (x : A × List TokenKind). g' x.0 x.1) (λ x. (lg x.0).within x.1) (lf.kept p v v' pk s s') (λ a r e. turn g g' is loud c rests rests' loose loose v v' pk a r (second loose loose lf lg p v v' pk s s' a r e) (λ h. h) (decide (next is (r ++ v))));
     }
 
+module _ {A B : Type 0} {coreA : A → A} {coreB : B → B} {n n' : ℕ} {f f' : Reader A} (g g' : A → Reader B) (loose first : Bool) (far : (a : A) (r v v' : List TokenKind) → peek v ≡ peek v' → Alike first (r ++ v) (r ++ v') ⊎ (left (g a (r ++ v)) < length v)) (lf : Steady coreA first n n' f f') (lg : (a : A) → Steady coreB loose n n' (g a) (g' (coreA a))) where
+  on_or_past : (a : A) (r v v' : List TokenKind) → Lock coreB loose v v' (g a (r ++ v)) (g' (coreA a) (r ++ v')) → Alike first (r ++ v) (r ++ v') ⊎ (left (g a (r ++ v)) < length v) → After coreA coreB first loose v v' (λ (x : A × List TokenKind). g x.0 x.1) (λ (x : A × List TokenKind). g' x.0 x.1) a r
+  on_or_past a r v v' lock (inl al) = goes al lock
+  on_or_past a r v v' lock (inr l) = leaps l
+
+  -- where the second reads past what is shared, or the rest looks the same to the first
+  pub seq_far : Steady coreB loose n n' (λ w. f w >>= λ x. g x.0 x.1) (λ w. f' w >>= λ x. g' x.0 x.1)
+  seq_far = record {
+    within = falls g g' loose first lf lg;
+    kept = λ p v v' pk s s'. lock_bind (λ (x : A × List TokenKind). g x.0 x.1) (λ (x : A × List TokenKind). g' x.0 x.1) (λ x. (lg x.0).within x.1) (lf.kept p v v' pk s s') (λ a r e. on_or_past a r v v' (second g g' loose first lf lg p v v' pk s s' a r e) (far a r v v' pk));
+  }
+
 -- pairs
 paired : {A B : Type 0} (coreA : A → A) {coreB : B → B} {n n' : ℕ} {g g' : Reader B} {loose : Bool} (a : A) → Steady coreB loose n n' g g' → Steady (pair_core coreA coreB) loose n n' (λ w. g w >>= made (λ (b : B). (a, b))) (λ w. g' w >>= made (λ (b : B). (coreA a, b)))
 paired coreA a lg = made_at (λ l b. (a, b)) (λ b. (coreA a, b)) (λ l b. refl) lg
@@ -200,6 +212,14 @@ module _ {A B : Type 0} {coreA : A → A} {coreB : B → B} {n n' : ℕ} {f f' :
   both_by is loud c rests rests' lf lg =
       seq_by (λ (a : A) (w : List TokenKind). g w >>= made (λ (b : B). (a, b))) (λ (a : A) (w : List TokenKind). g' w >>= made (λ (b : B). (a, b))) is loud (λ a. (a, c))
           (λ a w e. ap (λ (z : Read B). z >>= made (λ (b : B). (a, b))) (rests w e)) (λ a w e. ap (λ (z : Read B). z >>= made (λ (b : B). (coreA a, b))) (rests' w e)) lf (λ a. paired coreA a lg)
+
+pair_far : {A B : Type 0} (a : A) (y : Read B) (l : ℕ) {X : Type 0} → X ⊎ (left y < l) → X ⊎ (left {T = A × B} (y >>= made (λ (b : B). (a, b))) < l)
+pair_far a y l (inl x) = inl x
+pair_far {A = A} {B = B} a y l (inr far) = inr (let mk : B → A × B = λ b. (a, b) in let same_left : left (y >>= made mk) ≡ left y = left_made mk y in omega arith)
+
+module _ {A B : Type 0} {coreA : A → A} {coreB : B → B} {n n' : ℕ} {f f' : Reader A} {g g' : Reader B} (loose first : Bool) (far : (r v v' : List TokenKind) → peek v ≡ peek v' → Alike first (r ++ v) (r ++ v') ⊎ (left (g (r ++ v)) < length v)) where
+  pub both_far : Steady coreA first n n' f f' → Steady coreB loose n n' g g' → Steady (pair_core coreA coreB) loose n n' (both f g) (both f' g')
+  both_far lf lg = seq_far (λ (a : A) (w : List TokenKind). g w >>= made (λ (b : B). (a, b))) (λ (a : A) (w : List TokenKind). g' w >>= made (λ (b : B). (a, b))) loose first (λ a r v v' pk. pair_far a (g (r ++ v)) (length v) (far r v v' pk)) lf (λ a. paired coreA a lg)
 
 -- ---- by the first token
 

@@ -121,7 +121,7 @@ size_named x u e =
     let short = both_left the_name (both (expect is_assign) (both whole_number (expect is_close_round))) ((end_steady {n = 0} {n' = 0}).within) (Name x ∷ u) (length u) (omega arith) in
     omega arith
 
-abbrev only_if : Bool → Bool → Bool
+abbrev pub only_if : Bool → Bool → Bool
 only_if b c =
     elim b [
       | true ↦ c
