@@ -1,12 +1,12 @@
 -- Two readers side by side: single tokens, and lists of items.
-use Rattle.std.proofs.Common.{◌≡◌, ℕ, zero, suc, ◌+◌, ◌<◌, ◌≤◌, ◌⊎◌, inl, inr, List, [], ◌∷◌, ◌++◌, length, Bool, true, false, Option, Some, None, Result, Ok, Err, refl, sym, ap, subst, ◌∙◌, arith}
+use Rattle.std.proofs.Common.{◌≡◌, ℕ, zero, suc, ◌<◌, ◌≤◌, ◌⊎◌, inl, inr, List, [], ◌∷◌, ◌++◌, length, Bool, true, false, Ok, Err, refl, sym, ap, subst, ◌∙◌, arith}
 use Rattle.std.proofs.lemmas.List.{length-append}
 use Rattle.script_lex.specs.declared.token.TokenKind.{TokenKind}
 use Rattle.script_grammar.specs.Tree.{Sort, Tree, Many, none, more}
 use Rattle.script_grammar.specs.Bare.{bare}
 use Rattle.script_grammar.specs.Read.{Read, Reader, ◌>>=◌, made, both, next, expect, perhaps, repeat, many, behind, chain, closed}
 use Rattle.script_reading.specs.Steady.{peek}
-use Rattle.script_reading.proofs.SteadyRules.{left, Alike, Lock, ok, bad, past, Steady, same, pair_core, decide, peek_front, next_same, quiet, alike_is, alike_peek, lock_eq, left_made, left_bind, lock_made, goes, idles, leaps, After, lock_bind, steady_eq, cut, given, made_at, seq_near, both_near, both_by, fails, gives, Arm, fault, idle, reads, by_first, branch, at_length}
+use Rattle.script_reading.proofs.SteadyRules.{left, Alike, Lock, ok, past, Steady, same, pair_core, decide, peek_front, next_same, quiet, alike_is, alike_peek, lock_eq, left_made, left_bind, lock_made, goes, idles, leaps, After, lock_bind, steady_eq, cut, given, made_at, seq_near, both_near, both_by, fails, gives, Arm, fault, idle, reads, by_first, branch}
 
 -- ---- single tokens
 
@@ -129,11 +129,11 @@ module _ {s : Sort} (test : List TokenKind → Bool) (empty : test [] ≡ false)
   one_item : (m m' : ℕ) → Both m m' → (p v v' : List TokenKind) → peek v ≡ peek v' → length (p ++ v) ≤ suc m → length (p ++ v') ≤ suc m' → length (p ++ v) < n → length (p ++ v') < n' → test (p ++ v) ≡ true → test (p ++ v') ≡ true → Lock bare loose v v' (repeat test item (suc m) (p ++ v)) (repeat test item' (suc m') (p ++ v'))
   one_item m m' ih p v v' pk a b c d e e' =
       lock_eq (repeat_true test item m (p ++ v) e) (repeat_true test item' m' (p ++ v') e')
-          (lock_bind (rest m) (rest' m') (rest_within test item li.within m (repeat_within test item li.within m)) (li.kept p v v' pk c d)
-              (λ t r is.
-                  let short : length (r ++ v) < length (p ++ v) = subst (λ (z : Read (Tree s)). Eaten z (length (p ++ v))) is (eats (p ++ v)) in
-                  let short' : length (r ++ v') < length (p ++ v') = omega (arith, length-append p v, length-append p v', length-append r v, length-append r v') in
-                  behind_item m m' ih t r v v' pk (omega arith) (omega arith) (omega arith) (omega arith) (tests r v v' pk (decide (test (r ++ v))))))
+      (lock_bind (rest m) (rest' m') (rest_within test item li.within m (repeat_within test item li.within m)) (li.kept p v v' pk c d)
+      (λ t r is.
+      let short : length (r ++ v) < length (p ++ v) = subst (λ (z : Read (Tree s)). Eaten z (length (p ++ v))) is (eats (p ++ v)) in
+      let short' : length (r ++ v') < length (p ++ v') = omega (arith, length-append p v, length-append p v', length-append r v, length-append r v') in
+      behind_item m m' ih t r v v' pk (omega arith) (omega arith) (omega arith) (omega arith) (tests r v v' pk (decide (test (r ++ v))))))
 
   by_test : (m m' : ℕ) → ((k k' : ℕ) → m ≡ suc k → m' ≡ suc k' → Both k k') → (p v v' : List TokenKind) → peek v ≡ peek v' → length (p ++ v) ≤ m → length (p ++ v') ≤ m' → length (p ++ v) < n → length (p ++ v') < n'
       → (test (p ++ v) ≡ false) ⊎ ((test (p ++ v) ≡ true) × (((test (p ++ v') ≡ true) × Alike loose (p ++ v) (p ++ v')) ⊎ (left (item (p ++ v)) < length v))) → Lock bare loose v v' (repeat test item m (p ++ v)) (repeat test item' m' (p ++ v'))
@@ -201,5 +201,5 @@ closed_more comma close item w e = rw (e, closed) refl
 pub closed_steady : {s : Sort} (comma close : TokenKind → Bool) → ((k : TokenKind) → comma k ≡ true → quiet k ≡ true) → {loose : Bool} {item item' : Reader (Tree s)} {n n' : ℕ} → Steady bare false n n' item item' → Steady bare loose n n' (closed comma close item) (closed comma close item')
 closed_steady {s = s} comma close loud {item = item} {item' = item'} li =
     branch close (closed comma close item) (closed comma close item') (closed_true comma close item) (closed_true comma close item') (closed_more comma close item) (closed_more comma close item')
-        (made_at (λ l (x : Unit {0}). none {s = s}) (λ (x : Unit {0}). none {s = s}) (λ l x. refl) (expect_steady close))
-        (made_at (λ l (x : (Tree s × Tree (Many s)) × Unit {0}). more x.0.0 x.0.1) (λ (x : (Tree s × Tree (Many s)) × Unit {0}). more x.0.0 x.0.1) (λ l x. refl) (both_near (chain_steady comma loud li) (expect_steady close)))
+    (made_at (λ l (x : Unit {0}). none {s = s}) (λ (x : Unit {0}). none {s = s}) (λ l x. refl) (expect_steady close))
+    (made_at (λ l (x : (Tree s × Tree (Many s)) × Unit {0}). more x.0.0 x.0.1) (λ (x : (Tree s × Tree (Many s)) × Unit {0}). more x.0.0 x.0.1) (λ l x. refl) (both_near (chain_steady comma loud li) (expect_steady close)))

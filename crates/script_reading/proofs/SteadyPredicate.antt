@@ -1,16 +1,16 @@
 -- Predicates are read alike as far as the tokens are shared.
-use Rattle.std.proofs.Common.{◌≡◌, ℕ, zero, suc, ◌<◌, ◌≤◌, List, [], ◌∷◌, ◌++◌, length, Bool, true, false, Ok, Err, refl, arith}
+use Rattle.std.proofs.Common.{◌≡◌, ℕ, zero, suc, ◌∷◌, Bool, true, false, refl, arith}
 use Rattle.script_lex.specs.declared.token.TokenKind.{TokenKind}
-use Rattle.script_lex.specs.declared.token.TokenKind.TheVariants.{Name, Time, Keyword, Symbol}
+use Rattle.script_lex.specs.declared.token.TokenKind.TheVariants.{Time, Keyword, Symbol}
 use Rattle.script_lex.specs.declared.token.Keyword.TheVariants as word
 use Rattle.script_lex.specs.declared.token.Symbol.TheVariants as sign
 use Rattle.fixed_text.specs.declared.time_mark.TimeMark.{TimeMark}
 use Rattle.script_grammar.specs.Tree.{Tree, Many, APOr, APAnd, APNot, APAtom, POr, PAnd, PNot, Always, Never, Mark, Between, Grouped}
 use Rattle.script_grammar.specs.Bare.{bare}
-use Rattle.script_grammar.specs.Read.{Reader, both, next, expect, perhaps, chain}
+use Rattle.script_grammar.specs.Read.{Reader}
 use Rattle.script_grammar.specs.Kinds.{is_or, is_and, is_not, is_close_round}
 use Rattle.script_grammar.specs.ReadPredicate.{interval, patom, pnot, pand, por_step, por_by, por}
-use Rattle.script_reading.proofs.SteadyRules.{Steady, same, quiet, left, loosen, cut, at_length, given, made_at, both_near, fails, gives, Arm, fault, idle, reads, by_first}
+use Rattle.script_reading.proofs.SteadyRules.{Steady, quiet, cut, at_length, given, made_at, both_near, fails, gives, Arm, fault, idle, reads, by_first}
 use Rattle.script_reading.proofs.SteadyLists.{expect_steady, perhaps_steady, chain_steady}
 
 pub loud_or : (k : TokenKind) → is_or k ≡ true → quiet k ≡ true

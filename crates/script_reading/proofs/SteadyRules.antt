@@ -1,12 +1,10 @@
 -- Two readers side by side, on lists that part behind one token: how far both read alike, and how this carries over to readers made of them.
-use Rattle.std.proofs.Common.{◌≡◌, ℕ, zero, suc, ◌+◌, ◌<◌, ◌≤◌, ◌⊎◌, inl, inr, List, [], ◌∷◌, ◌++◌, length, Bool, true, false, Option, Some, None, Result, Ok, Err, refl, sym, ap, subst, ◌∙◌, arith}
+use Rattle.std.proofs.Common.{◌≡◌, ℕ, suc, ◌+◌, ◌<◌, ◌≤◌, ◌⊎◌, inl, inr, List, [], ◌∷◌, ◌++◌, length, Bool, true, false, Ok, Err, refl, sym, ap, subst, ◌∙◌, arith}
 use Rattle.std.proofs.lemmas.List.{length-append}
 use Rattle.script_lex.specs.declared.token.TokenKind.{TokenKind}
 use Rattle.script_lex.specs.declared.token.TokenKind.TheVariants.{Name, Symbol}
 use Rattle.script_lex.specs.declared.token.Symbol.TheVariants as sign
-use Rattle.script_grammar.specs.Tree.{Sort, Tree, Many, none, more}
-use Rattle.script_grammar.specs.Bare.{bare}
-use Rattle.script_grammar.specs.Read.{Read, Reader, ◌>>=◌, made, both, next, expect, perhaps, repeat, many, behind, chain, closed}
+use Rattle.script_grammar.specs.Read.{Read, Reader, ◌>>=◌, made, both, next}
 use Rattle.script_grammar.specs.ReadValue.{binds, optional}
 use Rattle.script_reading.specs.Steady.{peek}
 
@@ -211,7 +209,7 @@ module _ {A B : Type 0} {coreA : A → A} {coreB : B → B} {n n' : ℕ} {f f' :
   pub both_by : {loose : Bool} (is : TokenKind → Bool) → ((k : TokenKind) → is k ≡ true → quiet k ≡ true) → (c : B) → ((w : List TokenKind) → next is w ≡ false → g w ≡ Ok (c, w)) → ((w : List TokenKind) → next is w ≡ false → g' w ≡ Ok (coreB c, w)) → Steady coreA loose n n' f f' → Steady coreB loose n n' g g' → Steady (pair_core coreA coreB) loose n n' (both f g) (both f' g')
   both_by is loud c rests rests' lf lg =
       seq_by (λ (a : A) (w : List TokenKind). g w >>= made (λ (b : B). (a, b))) (λ (a : A) (w : List TokenKind). g' w >>= made (λ (b : B). (a, b))) is loud (λ a. (a, c))
-          (λ a w e. ap (λ (z : Read B). z >>= made (λ (b : B). (a, b))) (rests w e)) (λ a w e. ap (λ (z : Read B). z >>= made (λ (b : B). (coreA a, b))) (rests' w e)) lf (λ a. paired coreA a lg)
+      (λ a w e. ap (λ (z : Read B). z >>= made (λ (b : B). (a, b))) (rests w e)) (λ a w e. ap (λ (z : Read B). z >>= made (λ (b : B). (coreA a, b))) (rests' w e)) lf (λ a. paired coreA a lg)
 
 pair_far : {A B : Type 0} (a : A) (y : Read B) (l : ℕ) {X : Type 0} → X ⊎ (left y < l) → X ⊎ (left {T = A × B} (y >>= made (λ (b : B). (a, b))) < l)
 pair_far a y l (inl x) = inl x

@@ -1,21 +1,21 @@
 -- Statements and scripts are read alike as far as the tokens are shared, so a fault depends on no token behind it.
-use Rattle.std.proofs.Common.{◌≡◌, ℕ, zero, suc, ◌+◌, ◌<◌, ◌≤◌, ◌⊎◌, inl, inr, List, [], ◌∷◌, ◌++◌, length, Bool, true, false, Ok, Err, refl, sym, ap, ◌∙◌, arith}
+use Rattle.std.proofs.Common.{◌≡◌, ℕ, suc, ◌<◌, ◌≤◌, ◌⊎◌, inl, inr, List, [], ◌∷◌, ◌++◌, length, Bool, true, false, Ok, Err, refl, sym, ap, ◌∙◌, arith}
 use Rattle.std.specs.Prelude.{bytes_eq}
 use Rattle.script_lex.specs.declared.token.TokenKind.{TokenKind}
 use Rattle.script_lex.specs.declared.token.TokenKind.TheVariants.{Name, NameOpen, Keyword, Symbol}
 use Rattle.script_lex.specs.declared.token.Keyword.TheVariants as word
 use Rattle.script_lex.specs.declared.token.Symbol.TheVariants as sign
-use Rattle.script_grammar.specs.Tree.{Tree, Many, none, more, AStmt, APart, ABind, ADef, AnInner, AParam, AFull, AnExpr, Stmt, BindPart, DefPart, CallPart, IfPart, Bind, Def, Inner, Param, Labelled, Optional, Script}
+use Rattle.script_grammar.specs.Tree.{Tree, Many, APart, ABind, AnInner, AParam, AFull, AnExpr, Stmt, BindPart, DefPart, CallPart, IfPart, Bind, Def, Inner, Param, Labelled, Optional, Script}
 use Rattle.script_grammar.specs.Spelling.{option_name}
 use Rattle.script_grammar.specs.Bare.{bare}
-use Rattle.script_grammar.specs.Read.{Read, Reader, ◌>>=◌, made, both, next, expect, perhaps, many, closed}
+use Rattle.script_grammar.specs.Read.{Read, Reader, ◌>>=◌, made, both, expect, perhaps, many, closed}
 use Rattle.script_grammar.specs.Kinds.{is_assign, is_comma, is_close_round, is_end, is_semicolon, is_any}
-use Rattle.script_grammar.specs.ReadValue.{binds, optional, call, choice, expr, full_step, full_by}
+use Rattle.script_grammar.specs.ReadValue.{binds, call, choice, expr, full_step, full_by}
 use Rattle.script_grammar.specs.ReadScript.{value, result, bind, inner, param, def, part, stmt, script}
 use Rattle.script_reading.specs.Steady.{peek, no_place}
-use Rattle.script_reading.proofs.SteadyRules.{left, Alike, Lock, ok, bad, past, Steady, same, pair_core, decide, peeked, next_same, quiet, left_made, cut, given, made_at, at_length, both_near, both_by, both_far, fails, gives, Arm, fault, idle, reads, by_first}
+use Rattle.script_reading.proofs.SteadyRules.{left, Alike, Lock, ok, bad, past, Steady, same, pair_core, peeked, next_same, quiet, left_made, cut, given, made_at, at_length, both_near, both_by, both_far, fails, gives, Arm, fault, idle, reads, by_first}
 use Rattle.script_reading.proofs.SteadyLists.{expect_steady, perhaps_steady, perhaps_none, Eaten, eaten_left, eaten_bind, many_steady, many_next, closed_steady}
-use Rattle.script_reading.proofs.SteadyValue.{loud_comma, only_if, both_left, Known, known, call_reads, choice_reads, expr_steady, expr_name, expr_open, expr_open_name, step_steady}
+use Rattle.script_reading.proofs.SteadyValue.{loud_comma, only_if, both_left, known, call_reads, choice_reads, expr_steady, expr_name, expr_open, expr_open_name, step_steady}
 
 loud_semicolon : (k : TokenKind) → is_semicolon k ≡ true → quiet k ≡ true
 loud_semicolon (Symbol sign.Semicolon) e = refl
@@ -183,13 +183,13 @@ module _ (stamp : ℕ → ℕ) where
   unfolding part
   part_call x = made_at (λ l. CallPart) CallPart (λ l a. refl)
       (at_length (λ m u. call stamp (full_by (suc m) stamp) (NameOpen x ∷ u)) (λ m u. call no_place (full_by (suc m) no_place) (NameOpen x ∷ u))
-          (λ m m'. call_reads stamp (full_by (suc m) stamp) (full_by (suc m') no_place) (suc m) (suc m') (known stamp (suc m) (suc m')).steady (known stamp (suc m) (suc m')).bites x))
+      (λ m m'. call_reads stamp (full_by (suc m) stamp) (full_by (suc m') no_place) (suc m) (suc m') (known stamp (suc m) (suc m')).steady (known stamp (suc m) (suc m')).bites x))
 
   part_if : {n n' : ℕ} → Steady bare false n n' (λ u. part stamp (Keyword word.If ∷ u)) (λ u. part no_place (Keyword word.If ∷ u))
   unfolding part
   part_if = made_at (λ l. IfPart) IfPart (λ l a. refl)
       (at_length (λ m u. choice stamp (full_by (suc m) stamp) (Keyword word.If ∷ u)) (λ m u. choice no_place (full_by (suc m) no_place) (Keyword word.If ∷ u))
-          (λ m m'. choice_reads stamp (full_by (suc m) stamp) (full_by (suc m') no_place) (suc m) (suc m') (known stamp (suc m) (suc m')).steady (known stamp (suc m) (suc m')).bites))
+      (λ m m'. choice_reads stamp (full_by (suc m) stamp) (full_by (suc m') no_place) (suc m) (suc m') (known stamp (suc m) (suc m')).steady (known stamp (suc m) (suc m')).bites))
 
   part_arm : (n n' : ℕ) (k : TokenKind) → Arm bare false n n' (part stamp) (part no_place) k
   unfolding part
@@ -225,7 +225,7 @@ module _ (stamp : ℕ → ℕ) where
   unfolding stmt
   stmt_eats w =
       eaten_bind (made (λ (x : Tree APart × Bool). Stmt x.0 x.1)) (λ x. omega arith) (both (part stamp) (perhaps is_semicolon) w) (length w)
-          (eaten_bind (λ (x : Tree APart × List TokenKind). perhaps is_semicolon x.1 >>= made (λ (b : Bool). (x.0, b))) mark_falls (part stamp w) (length w) (part_eats w))
+      (eaten_bind (λ (x : Tree APart × List TokenKind). perhaps is_semicolon x.1 >>= made (λ (b : Bool). (x.0, b))) mark_falls (part stamp w) (length w) (part_eats w))
 
   -- ---- scripts
 
@@ -246,3 +246,8 @@ faults_steady stamp before after v e pk =
     let n = suc (length (before ++ after)) in
     let n' = suc (length (before ++ v)) in
     fault_there after v (script stamp (before ++ after)) (script no_place (before ++ v)) ((script_steady stamp n n').kept before after v (sym pk) (omega arith) (omega arith)) e
+
+pub faults_within : (stamp : ℕ → ℕ) (w : List TokenKind) (k : ℕ) → script stamp w ≡ Err k → k ≤ length w
+faults_within stamp w k e =
+    let there : left (script stamp w) ≡ k = ap left e in
+    let short = (script_steady stamp 0 0).within w in omega arith

@@ -1,22 +1,20 @@
 -- Values are read alike as far as the tokens are shared.
-use Rattle.std.proofs.Common.{◌≡◌, ℕ, ℤ, zero, suc, ◌+◌, ◌<◌, ◌≤◌, ◌⊎◌, inl, inr, List, [], ◌∷◌, ◌++◌, length, Bool, true, false, Option, Some, None, Ok, Err, refl, sym, ap, subst, ◌∙◌, arith}
+use Rattle.std.proofs.Common.{◌≡◌, ℕ, ℤ, zero, suc, ◌<◌, ◌≤◌, ◌⊎◌, inl, inr, List, [], ◌∷◌, ◌++◌, length, Bool, true, false, Option, Some, None, Ok, Err, refl, sym, ap, ◌∙◌, arith}
 use Rattle.std.specs.Prelude.{bytes_eq}
 use Rattle.script_lex.specs.declared.token.TokenKind.{TokenKind}
 use Rattle.script_lex.specs.declared.token.TokenKind.TheVariants.{Name, NameOpen, Int, Number, Str, Keyword, Wav, Symbol}
 use Rattle.script_lex.specs.declared.token.Keyword.TheVariants as word
 use Rattle.script_lex.specs.declared.token.Symbol.TheVariants as sign
-use Rattle.script_grammar.specs.declared.tree.Literal.{Literal}
 use Rattle.script_grammar.specs.declared.tree.Literal.TheVariants as literal
 use Rattle.script_grammar.specs.declared.tree.CompareOp.{CompareOp}
-use Rattle.script_grammar.specs.Tree.{Tree, Many, none, more, AFull, AnExpr, AnAnd, ANot, ACompare, ASum, AnAdded, AProduct, AMultiplied, APrim, ACall, AnArg, AnIf, APOr, Negative, Plain, Expr, And, Not, Alone, Compared, Sum, Added, Product, Multiplied, Constant, Quoted, Truth, Named, Called, Chosen, Nothing, Paren, Tuple, Listed, Braces, Format, Call, Arg, If}
+use Rattle.script_grammar.specs.Tree.{Tree, Many, none, more, AFull, AnAnd, ANot, ACompare, ASum, AnAdded, AProduct, AMultiplied, APrim, APOr, Negative, Plain, Expr, And, Not, Alone, Compared, Sum, Added, Product, Multiplied, Constant, Quoted, Truth, Named, Called, Chosen, Listed, Braces, Format, Call, Arg, If}
 use Rattle.script_grammar.specs.Spelling.{option_name}
 use Rattle.script_grammar.specs.Bare.{bare}
 use Rattle.script_grammar.specs.Read.{Read, Reader, ◌>>=◌, made, both, next, expect, perhaps, many, behind, chain, closed}
 use Rattle.script_grammar.specs.Kinds.{is_or, is_and, is_not, is_minus, is_assign, is_comma, is_close_round, is_close_square, is_close_curly, is_open_round, is_then, is_else, is_end, is_added, is_multiplied, op_of}
-use Rattle.script_grammar.specs.ReadPredicate.{por}
 use Rattle.script_grammar.specs.ReadValue.{binds, optional, takes_option, digits, whole_number, the_name, size, wav, arg, args, round_or_unit, choice, call, prim, multiplied, product, added, sum, next_op, behind_op, compare, not_, and_, expr, full_step, full_by}
 use Rattle.script_reading.specs.Steady.{peek, no_place}
-use Rattle.script_reading.proofs.SteadyRules.{left, Alike, Lock, ok, bad, past, Steady, same, pair_core, decide, peeked, peek_front, next_same, quiet, alike_is, lock_eq, lock_loose, left_made, left_bind, lock_made, steady_eq, loosen, cut, given, made_at, seq_near, seq_by, both_near, both_by, fails, gives, Arm, fault, idle, reads, by_first, branch}
+use Rattle.script_reading.proofs.SteadyRules.{left, Alike, Lock, ok, past, Steady, same, pair_core, decide, peeked, peek_front, next_same, quiet, alike_is, lock_eq, lock_loose, left_made, left_bind, lock_made, steady_eq, loosen, cut, given, made_at, seq_by, both_near, both_by, fails, gives, Arm, fault, idle, reads, by_first, branch}
 use Rattle.script_reading.proofs.SteadyLists.{expect_steady, perhaps_steady, perhaps_none, Eaten, eaten_left, many_false, many_next, others_steady, chain_steady, closed_more, closed_steady}
 use Rattle.script_reading.proofs.SteadyPredicate.{loud_or, loud_and, por_steady}
 
@@ -225,11 +223,14 @@ op_rests loose stamp full t (k ∷ u) e = ap (λ (o : Option CompareOp). behind_
 module _ (stamp : ℕ → ℕ) (full full' : Reader (Tree AFull)) (n n' : ℕ) (lf : Steady bare false n n' full full') (bites : (x : List ℕ) (u : List TokenKind) → suc (length u) < n → left (full (Name x ∷ u)) ≤ length u) where
   -- arguments
 
-  arg_within_by : (w : List TokenKind) → (binds w ≡ true) ⊎ (binds w ≡ false) → left (arg stamp full w) ≤ length w
-  arg_within_by (Name x ∷ Symbol sign.Assign ∷ r) (inl e) =
+  label_far : (x : List ℕ) (r : List TokenKind) → left (arg stamp full (Name x ∷ Symbol sign.Assign ∷ r)) ≤ length r
+  label_far x r =
       let l : left (arg stamp full (Name x ∷ Symbol sign.Assign ∷ r)) ≡ left (full r >>= made (Arg (stamp (suc (suc (length r)))) (Some x))) = ap left (arg_label stamp full x r) in
       let same_left = left_made (Arg (stamp (suc (suc (length r)))) (Some x)) (full r) in
       let short = lf.within r in omega arith
+
+  arg_within_by : (w : List TokenKind) → (binds w ≡ true) ⊎ (binds w ≡ false) → left (arg stamp full w) ≤ length w
+  arg_within_by (Name x ∷ Symbol sign.Assign ∷ r) (inl e) = let short = label_far x r in omega arith
   arg_within_by w (inl e) = absurd cc
   arg_within_by w (inr e) =
       let l : left (arg stamp full w) ≡ left (full w >>= made (Arg (stamp (length w)) None)) = ap left (arg_plain stamp full w e) in
@@ -237,10 +238,7 @@ module _ (stamp : ℕ → ℕ) (full full' : Reader (Tree AFull)) (n n' : ℕ) (
       let short = lf.within w in omega arith
 
   arg_bites_by : (x : List ℕ) (u : List TokenKind) → suc (length u) < n → (binds (Name x ∷ u) ≡ true) ⊎ (binds (Name x ∷ u) ≡ false) → left (arg stamp full (Name x ∷ u)) ≤ length u
-  arg_bites_by x (Symbol sign.Assign ∷ r) s (inl e) =
-      let l : left (arg stamp full (Name x ∷ Symbol sign.Assign ∷ r)) ≡ left (full r >>= made (Arg (stamp (suc (suc (length r)))) (Some x))) = ap left (arg_label stamp full x r) in
-      let same_left = left_made (Arg (stamp (suc (suc (length r)))) (Some x)) (full r) in
-      let short = lf.within r in omega arith
+  arg_bites_by x (Symbol sign.Assign ∷ r) s (inl e) = let short = label_far x r in omega arith
   arg_bites_by x u s (inl e) = absurd cc
   arg_bites_by x u s (inr e) =
       let l : left (arg stamp full (Name x ∷ u)) ≡ left (full (Name x ∷ u) >>= made (Arg (stamp (suc (length u))) None)) = ap left (arg_plain stamp full (Name x ∷ u) e) in
@@ -256,12 +254,6 @@ module _ (stamp : ℕ → ℕ) (full full' : Reader (Tree AFull)) (n n' : ℕ) (
   seen (Name x ∷ []) v v' pk s = inl (next_same is_assign v v' pk)
   seen (Name x ∷ k ∷ p) v v' pk s = inl refl
   seen (k ∷ p) v v' pk s = inl refl
-
-  label_far : (x : List ℕ) (r : List TokenKind) → left (arg stamp full (Name x ∷ Symbol sign.Assign ∷ r)) ≤ length r
-  label_far x r =
-      let l : left (arg stamp full (Name x ∷ Symbol sign.Assign ∷ r)) ≡ left (full r >>= made (Arg (stamp (suc (suc (length r)))) (Some x))) = ap left (arg_label stamp full x r) in
-      let same_left = left_made (Arg (stamp (suc (suc (length r)))) (Some x)) (full r) in
-      let short = lf.within r in omega arith
 
   label_kept : (p v v' : List TokenKind) → peek v ≡ peek v' → length (p ++ v) < n → length (p ++ v') < n' → binds (p ++ v) ≡ true → Lock bare false v v' (arg stamp full (p ++ v)) (arg no_place full' (p ++ v'))
   label_kept [] (Name x ∷ Symbol sign.Assign ∷ u) v' pk s s' e = past (let short = label_far x u in omega arith)
@@ -391,7 +383,7 @@ module _ (stamp : ℕ → ℕ) (full full' : Reader (Tree AFull)) (n n' : ℕ) (
     op_arm t k None e = idle (λ l. Alone t) (Alone (bare t)) (λ u. ap (λ (o : Option CompareOp). behind_op loose stamp full t o (k ∷ u)) e) (λ u. ap (λ (o : Option CompareOp). behind_op loose no_place full' (bare t) o (k ∷ u)) e) (λ l. refl)
     op_arm t k (Some o) e =
         reads (steady_eq (λ u. tail t (k ∷ u)) (λ u. tail' (bare t) (k ∷ u)) (λ u. ap (λ (o : Option CompareOp). behind_op loose stamp full t o (k ∷ u)) e) (λ u. ap (λ (o : Option CompareOp). behind_op loose no_place full' (bare t) o (k ∷ u)) e)
-            (made_at (λ l. Compared t (stamp (suc l)) o) (Compared (bare t) 0 o) (λ l a. refl) sum_steady))
+        (made_at (λ l. Compared t (stamp (suc l)) o) (Compared (bare t) 0 o) (λ l a. refl) sum_steady))
 
     tail_steady : (t : Tree ASum) → Steady bare loose (suc n) (suc n') (tail t) (tail' (bare t))
     tail_steady t = cut (suc n) (suc n') (omega arith) (omega arith) (by_first (gives (Alone t) refl refl) (λ k. op_arm t k (op_of k) refl))
