@@ -22,7 +22,7 @@ use Rattle.script_grammar.specs.declared.tree.Sum as sum
 use Rattle.script_grammar.specs.declared.tree.Added as added
 use Rattle.script_grammar.specs.declared.tree.Product as product
 use Rattle.script_grammar.specs.declared.tree.Multiplied as multiplied
-use Rattle.script_grammar.specs.declared.tree.Prim as prim
+use Rattle.script_grammar.specs.declared.tree.Operand as prim
 use Rattle.script_grammar.specs.declared.tree.Call as call
 use Rattle.script_grammar.specs.declared.tree.Arg as arg
 use Rattle.script_grammar.specs.declared.tree.Def as def
@@ -213,7 +213,7 @@ and_made f v = ap view_and (and_.rolls-And' (record { first = f; rest = v })) �
 pub sum_made : (f : product.Product) (v : Vec added.Added) → view_sum (sum.roll-Sum (record { first = f; rest = v })) ≡ Sum (view_product f) (listed (map view_added v.items))
 sum_made f v = ap view_sum (sum.rolls-Sum' (record { first = f; rest = v })) ∙ ap (Sum (view_product f)) (addeds_listed v)
 
-pub product_made : (f : prim.Prim) (v : Vec multiplied.Multiplied) → view_product (product.roll-Product (record { first = f; rest = v })) ≡ Product (view_prim f) (listed (map view_multiplied v.items))
+pub product_made : (f : prim.Operand) (v : Vec multiplied.Multiplied) → view_product (product.roll-Product (record { first = f; rest = v })) ≡ Product (view_prim f) (listed (map view_multiplied v.items))
 product_made f v = ap view_product (product.rolls-Product' (record { first = f; rest = v })) ∙ ap (Product (view_prim f)) (multiplieds_listed v)
 
 pub call_made : (at : ℕ) (name : List ℕ) (v : Vec arg.Arg) → view_call (call.roll-Call (record { at = at; name = name; args = v })) ≡ Call at name (listed (map view_arg v.items))

@@ -16,7 +16,7 @@ use Rattle.script_grammar.specs.declared.tree.Sum as sum
 use Rattle.script_grammar.specs.declared.tree.Added as added
 use Rattle.script_grammar.specs.declared.tree.Product as product
 use Rattle.script_grammar.specs.declared.tree.Multiplied as multiplied
-use Rattle.script_grammar.specs.declared.tree.Prim as prim
+use Rattle.script_grammar.specs.declared.tree.Operand as prim
 use Rattle.script_grammar.specs.declared.tree.Call as call
 use Rattle.script_grammar.specs.declared.tree.Arg as arg
 use Rattle.script_grammar.specs.declared.predicate.POr as por
@@ -95,7 +95,7 @@ and_whole f v a h = subst IsWholeAnd (sym (and_.rolls-And' (record { first = f; 
 pub sum_whole : (f : product.Product) (v : Vec added.Added) → IsWholeProduct f → All IsWholeAdded v.items → IsWholeSum (sum.roll-Sum (record { first = f; rest = v }))
 sum_whole f v a h = subst IsWholeSum (sym (sum.rolls-Sum' (record { first = f; rest = v }))) (a, addeds_vec v h)
 
-pub product_whole : (f : prim.Prim) (v : Vec multiplied.Multiplied) → IsWholePrim f → All IsWholeMultiplied v.items → IsWholeProduct (product.roll-Product (record { first = f; rest = v }))
+pub product_whole : (f : prim.Operand) (v : Vec multiplied.Multiplied) → IsWholePrim f → All IsWholeMultiplied v.items → IsWholeProduct (product.roll-Product (record { first = f; rest = v }))
 product_whole f v a h = subst IsWholeProduct (sym (product.rolls-Product' (record { first = f; rest = v }))) (a, multiplieds_vec v h)
 
 pub call_whole : (at : ℕ) (name : List ℕ) (v : Vec arg.Arg) → All IsWholeArg v.items → IsWholeCall (call.roll-Call (record { at = at; name = name; args = v }))

@@ -66,10 +66,10 @@ pub data Tree : Sort → Type 0 where
   -- Sum = Product (("+" | "-") Product)*
   Sum : Tree AProduct → Tree (Many AnAdded) → Tree ASum
   Added : (at : ℕ) → (minus : Bool) → Tree AProduct → Tree AnAdded
-  -- Product = Prim (("*" | "/") Prim)*
+  -- Product = Operand (("*" | "/") Operand)*
   Product : Tree APrim → Tree (Many AMultiplied) → Tree AProduct
   Multiplied : (at : ℕ) → (divide : Bool) → Tree APrim → Tree AMultiplied
-  -- Prim = Int | Number | Str | "true" | "false" | Name | Call | If
+  -- Operand = Int | Number | Str | "true" | "false" | Name | Call | If
   Constant : (at : ℕ) → Literal → Tree APrim
   Quoted : (at : ℕ) → (text : List ℕ) → Tree APrim
   Truth : (at : ℕ) → Bool → Tree APrim

@@ -12,7 +12,7 @@ use Rattle.script_grammar.specs.declared.tree.Sum as sum
 use Rattle.script_grammar.specs.declared.tree.Added as added
 use Rattle.script_grammar.specs.declared.tree.Product as product
 use Rattle.script_grammar.specs.declared.tree.Multiplied as multiplied
-use Rattle.script_grammar.specs.declared.tree.Prim as prim
+use Rattle.script_grammar.specs.declared.tree.Operand as prim
 use Rattle.script_grammar.specs.declared.tree.Call as call
 use Rattle.script_grammar.specs.declared.tree.Arg as arg
 use Rattle.script_grammar.specs.declared.tree.If as if_
@@ -119,7 +119,7 @@ abbrev mutual
   view_multiplieds product.end_of-Multiplied = none
   view_multiplieds (product.more_of-Multiplied at divide p rest) = more (Multiplied at divide (view_prim p)) (view_multiplieds rest)
 
-  pub view_prim : prim.Prim → Tree APrim
+  pub view_prim : prim.Operand → Tree APrim
   view_prim (prim.Literal at value) = Constant at value
   view_prim (prim.Str at text) = Quoted at text
   view_prim (prim.Bool at value) = Truth at value

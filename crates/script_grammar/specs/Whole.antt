@@ -13,7 +13,7 @@ use Rattle.script_grammar.specs.declared.tree.Sum as sum
 use Rattle.script_grammar.specs.declared.tree.Added as added
 use Rattle.script_grammar.specs.declared.tree.Product as product
 use Rattle.script_grammar.specs.declared.tree.Multiplied as multiplied
-use Rattle.script_grammar.specs.declared.tree.Prim as prim
+use Rattle.script_grammar.specs.declared.tree.Operand as prim
 use Rattle.script_grammar.specs.declared.tree.Call as call
 use Rattle.script_grammar.specs.declared.tree.Arg as arg
 use Rattle.script_grammar.specs.declared.tree.If as if_
@@ -106,7 +106,7 @@ abbrev mutual
   AreWholeMultiplieds product.end_of-Multiplied = Unit {0}
   AreWholeMultiplieds (product.more_of-Multiplied at divide p rest) = IsWholePrim p × AreWholeMultiplieds rest
 
-  pub IsWholePrim : prim.Prim → Type 0
+  pub IsWholePrim : prim.Operand → Type 0
   IsWholePrim (prim.Call c) = IsWholeCall c
   IsWholePrim (prim.If' at p condition q then_part r else_part) = IsWholeFull condition × IsWholeFull then_part × IsWholeFull else_part
   IsWholePrim (prim.Paren' p f) = IsWholeFull f

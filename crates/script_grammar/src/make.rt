@@ -36,7 +36,7 @@ pub fn sum(first: Product, rest: Vec<Added>) -> Sum
 }
 
 /// A first operand and those behind a `*` or `/`.
-pub fn product(first: tree::Prim, rest: Vec<Multiplied>) -> Product
+pub fn product(first: tree::Operand, rest: Vec<Multiplied>) -> Product
     ensures made { view_product result ≡ a_product (view_prim first) (listed (map view_multiplied rest.items)) }
     ensures whole { IsWholePrim first → All IsWholeMultiplied rest.items → IsWholeProduct result }
 {
@@ -52,24 +52,24 @@ pub fn call(at: u32, name: Text, args: Vec<Arg>) -> Call
 }
 
 /// Values in square brackets.
-pub fn list(at: u32, parts: Vec<Full>) -> tree::Prim
+pub fn list(at: u32, parts: Vec<Full>) -> tree::Operand
     ensures made { view_prim result ≡ a_list at (listed (map view_full parts.items)) }
     ensures whole { All IsWholeFull parts.items → IsWholePrim result }
 {
-    tree::Prim::List { at, parts }
+    tree::Operand::List { at, parts }
 }
 
 /// Values in parentheses: a first one alone, or a tuple of it and the others.
-pub fn round(alloc: Global, at: u32, first: Full, rest: Vec<Full>) -> Result<tree::Prim, Memory>
+pub fn round(alloc: Global, at: u32, first: Full, rest: Vec<Full>) -> Result<tree::Operand, Memory>
     ensures made { IfOk result (λ p. view_prim p ≡ round_of at (view_full first) (listed (map view_full rest.items))) }
     ensures whole { IfOk result (λ p. IsWholeFull first → All IsWholeFull rest.items → IsWholePrim p) }
 {
     if rest.is_empty() {
-        Ok(tree::Prim::Paren(Box::new(alloc, first)?))
+        Ok(tree::Operand::Paren(Box::new(alloc, first)?))
     } else {
         let mut parts = rest;
         parts.insert(0, first)?;
-        Ok(tree::Prim::Tuple { at, parts })
+        Ok(tree::Operand::Tuple { at, parts })
     }
 }
 

@@ -214,48 +214,48 @@ fn put_multiplied(
 }
 
 #[cycle(value)]
-fn put_prim(alloc: Global, out: &mut Vec<TokenKind>, prim: &tree::Prim) -> Result<(), Memory>
+fn put_prim(alloc: Global, out: &mut Vec<TokenKind>, prim: &tree::Operand) -> Result<(), Memory>
     ensures { OnOk result (out.new.items ≡ out.old.items ++ spell (view_prim prim.now)) }
 {
     match prim {
-        tree::Prim::Literal { at: _, value } => {
+        tree::Operand::Literal { at: _, value } => {
             out.push(literal_token(*value))?;
             Ok(())
         }
-        tree::Prim::Str { at: _, text } => {
+        tree::Operand::Str { at: _, text } => {
             out.push(TokenKind::Str(copy(alloc, text)?))?;
             Ok(())
         }
-        tree::Prim::Bool { at: _, value } => {
+        tree::Operand::Bool { at: _, value } => {
             out.push(truth_token(*value))?;
             Ok(())
         }
-        tree::Prim::Name { at: _, name } => {
+        tree::Operand::Name { at: _, name } => {
             out.push(TokenKind::Name(copy(alloc, name)?))?;
             Ok(())
         }
-        tree::Prim::Call(call) => put_call(alloc, out, call),
-        tree::Prim::If(choice) => put_choice(alloc, out, choice),
-        tree::Prim::Unit { at: _ } => {
+        tree::Operand::Call(call) => put_call(alloc, out, call),
+        tree::Operand::If(choice) => put_choice(alloc, out, choice),
+        tree::Operand::Unit { at: _ } => {
             out.push(TokenKind::Symbol(Symbol::OpenRound))?;
             out.push(TokenKind::Symbol(Symbol::CloseRound))?;
             Ok(())
         }
-        tree::Prim::Paren(full) => {
+        tree::Operand::Paren(full) => {
             out.push(TokenKind::Symbol(Symbol::OpenRound))?;
             put_full(alloc, out, full)?;
             out.push(TokenKind::Symbol(Symbol::CloseRound))?;
             Ok(())
         }
-        tree::Prim::Tuple { at: _, parts } => put_tuple(alloc, out, parts),
-        tree::Prim::List { at: _, parts } => put_list(alloc, out, parts),
-        tree::Prim::Braces { at: _, pred } => {
+        tree::Operand::Tuple { at: _, parts } => put_tuple(alloc, out, parts),
+        tree::Operand::List { at: _, parts } => put_list(alloc, out, parts),
+        tree::Operand::Braces { at: _, pred } => {
             out.push(TokenKind::Symbol(Symbol::OpenCurly))?;
             put_por(out, pred)?;
             out.push(TokenKind::Symbol(Symbol::CloseCurly))?;
             Ok(())
         }
-        tree::Prim::Wav { at: _, size } => put_wav(alloc, out, *size),
+        tree::Operand::Wav { at: _, size } => put_wav(alloc, out, *size),
     }
 }
 

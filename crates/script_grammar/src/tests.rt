@@ -12,7 +12,7 @@ use std::alloc::Global;
 use std::test::Fail;
 
 // One operand as a value.
-fn plain(alloc: Global, prim: tree::Prim) -> Full {
+fn plain(alloc: Global, prim: tree::Operand) -> Full {
     let product = Product {
         first: prim,
         rest: Vec::new(alloc),
@@ -42,7 +42,7 @@ fn plain(alloc: Global, prim: tree::Prim) -> Full {
 fn int(alloc: Global, value: i64) -> Full {
     plain(
         alloc,
-        tree::Prim::Literal {
+        tree::Operand::Literal {
             at: 0,
             value: Literal::Int(value),
         },
@@ -113,7 +113,7 @@ fn a_tuple_has_commas_between(rt: HostRuntime) -> Result<(), Fail> {
     parts.push(int(alloc, 1))?;
     parts.push(int(alloc, 2))?;
     parts.push(int(alloc, 3))?;
-    let script = bound(alloc, plain(alloc, tree::Prim::Tuple { at: 2, parts }))?;
+    let script = bound(alloc, plain(alloc, tree::Operand::Tuple { at: 2, parts }))?;
     let kinds = spell(alloc, &script)?;
     let right = matches!(
         kinds.as_slice(),
@@ -137,7 +137,7 @@ fn a_tuple_has_commas_between(rt: HostRuntime) -> Result<(), Fail> {
 fn an_option_of_wav_is_spelled_out(rt: HostRuntime) -> Result<(), Fail> {
     let alloc = rt.alloc();
     let size = Some(16);
-    let script = bound(alloc, plain(alloc, tree::Prim::Wav { at: 2, size }))?;
+    let script = bound(alloc, plain(alloc, tree::Operand::Wav { at: 2, size }))?;
     let kinds = spell(alloc, &script)?;
     let right = match kinds.as_slice() {
         [
@@ -177,7 +177,7 @@ fn a_predicate_stands_in_curly_brackets(rt: HostRuntime) -> Result<(), Fail> {
     let mut parts = Vec::new(alloc);
     parts.push(PAnd { parts: atoms })?;
     let pred = POr { parts };
-    let script = bound(alloc, plain(alloc, tree::Prim::Braces { at: 2, pred }))?;
+    let script = bound(alloc, plain(alloc, tree::Operand::Braces { at: 2, pred }))?;
     let kinds = spell(alloc, &script)?;
     let right = matches!(
         kinds.as_slice(),

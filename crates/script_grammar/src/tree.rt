@@ -157,7 +157,7 @@ pub struct Added {
 #[cycle(tree)]
 #[derive(Drop)]
 pub struct Product {
-    pub first: Prim,
+    pub first: Operand,
     pub rest: Vec<Multiplied>,
 }
 
@@ -167,13 +167,13 @@ pub struct Product {
 pub struct Multiplied {
     pub at: u32,
     pub divide: bool,
-    pub prim: Prim,
+    pub prim: Operand,
 }
 
 /// An operand.
 #[cycle(tree)]
 #[derive(Drop)]
-pub enum Prim {
+pub enum Operand {
     Literal { at: u32, value: Literal },
     Str { at: u32, text: Text },
     Bool { at: u32, value: bool },

@@ -1,0 +1,9 @@
+mod SoundRules
+mod SoundPredicate
+mod SoundValue
+mod SoundScript
+mod SteadyRules
+mod SteadyLists
+mod SteadyPredicate
+mod SteadyValue
+mod SteadyScript
