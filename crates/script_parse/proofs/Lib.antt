@@ -1,2 +1,4 @@
-pub mod Turns
-pub mod Arms
+mod Turns
+mod Arms
+mod Exact
+mod Parsed

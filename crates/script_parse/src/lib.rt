@@ -2,8 +2,8 @@
 #![tactic(auto)]
 
 mod fault;
-// mod script;
+mod script;
 mod statement;
 
 pub use fault::ParseFault;
-// pub use script::parse;
+pub use script::parse;

@@ -1,0 +1,120 @@
+// A script, or the first place that rules one out.
+ghost use Rattle.std.specs.Prelude.{◌≡◌, ℕ, ◌<◌, ◌^◌, length, IfOk, IfErr, IfSome, IfNone};
+ghost use Rattle.script_grammar.specs.Spelling.{spelling};
+ghost use Rattle.script_grammar.specs.Placed.{IsPlaced};
+ghost use Rattle.script_grammar.specs.View.{view_script};
+ghost use Rattle.script_grammar.specs.Whole.{IsWhole};
+ghost use Rattle.predicate_parse.specs.Gives.{kinds};
+ghost use Rattle.script_parse.specs.Places.{opens, closes, IsDeepAt, IsDepthPlace};
+ghost use Rattle.script_parse.specs.Answer.{Whole, IsParsed, IsShallow, IsFault};
+
+use crate::fault::ParseFault;
+use crate::statement::statements;
+use predicate_parse::Fault;
+use script_grammar::law::reads_again;
+use script_grammar::tree::Script;
+use script_lex::{Keyword, Symbol, Token, TokenKind};
+use script_reading::law::{faults_are_steady, reads_spellings};
+use std::alloc::Global;
+
+// The levels that brackets may nest.
+const MAX_NESTING: usize = 200;
+
+fn opens(kind: &TokenKind) -> bool
+    ensures { result ≡ opens kind.now }
+{
+    matches!(
+        kind,
+        TokenKind::NameOpen(_)
+            | TokenKind::Symbol(Symbol::OpenRound | Symbol::OpenSquare | Symbol::OpenCurly)
+            | TokenKind::Keyword(Keyword::If | Keyword::Def)
+    )
+}
+
+fn closes(kind: &TokenKind) -> bool
+    ensures { result ≡ closes kind.now }
+{
+    matches!(
+        kind,
+        TokenKind::Symbol(Symbol::CloseRound | Symbol::CloseSquare | Symbol::CloseCurly) | TokenKind::Keyword(Keyword::End)
+    )
+}
+
+// The first token at which brackets nest too deep.
+fn depth_place(tokens: &[Token]) -> Option<usize>
+    requires { length tokens.now < 2 ^ 32 }
+    ensures found { IfSome result (λ d. IsDepthPlace (kinds tokens.now) d) }
+    ensures none { IfNone result (IsShallow (kinds tokens.now)) }
+{
+    let mut opened: usize = 0;
+    let mut closed: usize = 0;
+    for (i, token) in tokens.iter().enumerate() {
+        opened += usize::from(opens(&token.kind));
+        closed += usize::from(closes(&token.kind));
+        if opened > closed + MAX_NESTING {
+            return Some(i);
+        }
+    }
+    None
+}
+
+// The script, with no bound on its nesting. A fault is the index of its token.
+fn whole(alloc: Global, tokens: &[Token]) -> Result<Script, Fault>
+    requires { length tokens.now < 2 ^ 32 }
+    ensures { Whole (kinds tokens.now) result }
+{
+    reads_again();
+    reads_spellings();
+    faults_are_steady();
+    match statements(alloc, tokens.len(), tokens) {
+        Ok((statements, _end)) => Ok(Script { statements }),
+        Err(Fault::Syntax(left)) => Err(Fault::Syntax(tokens.len() - left)),
+        Err(Fault::Memory) => Err(Fault::Memory),
+    }
+}
+
+// Tokens that nest too deep at d: a fault of syntax up to there comes first.
+fn front(alloc: Global, tokens: &[Token], d: usize) -> ParseFault
+    requires small { length tokens.now < 2 ^ 32 }
+    requires deep { IsDepthPlace (kinds tokens.now) d }
+    ensures { IsFault (kinds tokens.now) result }
+{
+    match whole(alloc, &tokens[..d + 1]) {
+        Ok(_) => ParseFault::TooDeep(d as u32),
+        Err(Fault::Syntax(k)) => {
+            if k <= d {
+                ParseFault::Syntax(k as u32)
+            } else {
+                ParseFault::TooDeep(d as u32)
+            }
+        }
+        Err(Fault::Memory) => ParseFault::Memory,
+    }
+}
+
+/// The script that the tokens spell, those of a text (`docs/grammar.md`). It answers the script exactly where there is
+/// one and brackets nest at most 200 deep, each field `at` being the index of its token; and else the first fault.
+/// The text itself is not read: tokens hold all that a script's tree is made of.
+///
+/// # Errors
+///
+/// `Syntax`: the least token such that no script begins with the tokens up to it, or the number of tokens where only more
+/// of them are missing. `TooDeep`: the first token at which 201 brackets are open. The lesser place decides, and at equal
+/// places it is `Syntax`. `Memory`: memory was refused.
+pub fn parse(alloc: Global, _text: &[u8], tokens: &[Token]) -> Result<Script, ParseFault>
+    requires small { length tokens.now < 2 ^ 32 }
+    ensures spelled { IfOk result (λ s. spelling (view_script s) ≡ kinds tokens.now) }
+    ensures placed { IfOk result (λ s. IsPlaced 0 (view_script s)) }
+    ensures whole { IfOk result IsWhole }
+    ensures shallow { IfOk result (λ s. IsShallow (kinds tokens.now)) }
+    ensures fault { IfErr result (IsFault (kinds tokens.now)) }
+{
+    match depth_place(tokens) {
+        Some(d) => Err(front(alloc, tokens, d)),
+        None => match whole(alloc, tokens) {
+            Ok(script) => Ok(script),
+            Err(Fault::Syntax(k)) => Err(ParseFault::Syntax(k as u32)),
+            Err(Fault::Memory) => Err(ParseFault::Memory),
+        },
+    }
+}
