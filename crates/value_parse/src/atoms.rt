@@ -22,7 +22,7 @@ fn braces(alloc: Global, at: u32, tokens: &[Token]) -> Result<(tree::Operand, &[
     ensures whole { IfOk result (λ x. IsWholePrim x.0) }
 {
     let (pred, rest) = predicate(alloc, tokens)?;
-    let (_close, rest) = expect_close_curly(rest)?;
+    let ((), rest) = expect_close_curly(rest)?;
     Ok((tree::Operand::Braces { at, pred }, rest))
 }
 
@@ -43,32 +43,74 @@ pub fn atom(
 {
     let at = index(total, tokens);
     match tokens {
-        [Token { kind: TokenKind::Int(number), .. }, rest @ ..] => {
+        [
+            Token {
+                kind: TokenKind::Int(number),
+                ..
+            },
+            rest @ ..,
+        ] => {
             let value = Literal::Int(*number);
             Ok((tree::Operand::Literal { at, value }, rest))
         }
-        [Token { kind: TokenKind::Number(number), .. }, rest @ ..] => {
+        [
+            Token {
+                kind: TokenKind::Number(number),
+                ..
+            },
+            rest @ ..,
+        ] => {
             let value = Literal::Number(*number);
             Ok((tree::Operand::Literal { at, value }, rest))
         }
-        [Token { kind: TokenKind::Str(text), .. }, rest @ ..] => {
+        [
+            Token {
+                kind: TokenKind::Str(text),
+                ..
+            },
+            rest @ ..,
+        ] => {
             let text = copy(alloc, text)?;
             Ok((tree::Operand::Str { at, text }, rest))
         }
-        [Token { kind: TokenKind::Name(name), .. }, rest @ ..] => {
+        [
+            Token {
+                kind: TokenKind::Name(name),
+                ..
+            },
+            rest @ ..,
+        ] => {
             let name = copy(alloc, name)?;
             Ok((tree::Operand::Name { at, name }, rest))
         }
-        [Token { kind: TokenKind::Keyword(Keyword::True), .. }, rest @ ..] => {
-            Ok((tree::Operand::Bool { at, value: true }, rest))
-        }
-        [Token { kind: TokenKind::Keyword(Keyword::False), .. }, rest @ ..] => {
-            Ok((tree::Operand::Bool { at, value: false }, rest))
-        }
-        [Token { kind: TokenKind::Symbol(Symbol::OpenCurly), .. }, after @ ..] => {
-            braces(alloc, at, after)
-        }
-        [Token { kind: TokenKind::Wav, .. }, after @ ..] => {
+        [
+            Token {
+                kind: TokenKind::Keyword(Keyword::True),
+                ..
+            },
+            rest @ ..,
+        ] => { Ok((tree::Operand::Bool { at, value: true }, rest)) }
+        [
+            Token {
+                kind: TokenKind::Keyword(Keyword::False),
+                ..
+            },
+            rest @ ..,
+        ] => { Ok((tree::Operand::Bool { at, value: false }, rest)) }
+        [
+            Token {
+                kind: TokenKind::Symbol(Symbol::OpenCurly),
+                ..
+            },
+            after @ ..,
+        ] => { braces(alloc, at, after) }
+        [
+            Token {
+                kind: TokenKind::Wav,
+                ..
+            },
+            after @ ..,
+        ] => {
             let (size, rest) = wav(loose, after)?;
             Ok((tree::Operand::Wav { at, size }, rest))
         }
@@ -90,5 +132,10 @@ pub fn make_choice(
     let condition = Box::new(alloc, condition)?;
     let then_part = Box::new(alloc, then_part)?;
     let else_part = Box::new(alloc, else_part)?;
-    Ok(If { at, condition, then_part, else_part })
+    Ok(If {
+        at,
+        condition,
+        then_part,
+        else_part,
+    })
 }

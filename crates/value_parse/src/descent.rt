@@ -11,7 +11,7 @@ ghost use Rattle.predicate_parse.specs.Gives.{kinds, Gives, places};
 ghost use Rattle.value_parse.specs.Operand.{plain, round_at, list_at, labelled, chosen, branches, otherwise, seen_branches, seen_otherwise};
 
 use crate::atoms::{atom, make_choice};
-use crate::number::{argument_label, copy, digits, index, next_op};
+use crate::number::{argument_label, copy, digits, expect_if, index, next_op};
 use liq_base::Text;
 use predicate_parse::Fault;
 use predicate_parse::token::{
@@ -27,7 +27,12 @@ use script_lex::{Keyword, Symbol, Token, TokenKind};
 use std::alloc::Global;
 
 #[cycle(value)]
-fn full(alloc: Global, total: usize, levels: usize, tokens: &[Token]) -> Result<(Full, &[Token]), Fault>
+fn full(
+    alloc: Global,
+    total: usize,
+    levels: usize,
+    tokens: &[Token],
+) -> Result<(Full, &[Token]), Fault>
     requires within { length tokens.now ≤ total }
     requires small { total < 2 ^ 32 }
     ensures shorter { IfOk result (λ x. length x.1.now < length tokens.now) }
@@ -43,7 +48,13 @@ fn full(alloc: Global, total: usize, levels: usize, tokens: &[Token]) -> Result<
 
 #[cycle(value)]
 #[tactic(auto, unfolding(script_grammar::specs::ReadValue::full_step))]
-pub fn full_step(alloc: Global, total: usize, levels: usize, loose: bool, tokens: &[Token]) -> Result<(Full, &[Token]), Fault>
+pub fn full_step(
+    alloc: Global,
+    total: usize,
+    levels: usize,
+    loose: bool,
+    tokens: &[Token],
+) -> Result<(Full, &[Token]), Fault>
     requires within { length tokens.now ≤ total }
     requires small { total < 2 ^ 32 }
     ensures shorter { IfOk result (λ x. length x.1.now < length tokens.now) }
@@ -51,7 +62,13 @@ pub fn full_step(alloc: Global, total: usize, levels: usize, loose: bool, tokens
     ensures whole { IfOk result (λ x. IsWholeFull x.0) }
 {
     match tokens {
-        [Token { kind: TokenKind::Symbol(Symbol::Minus), .. }, after @ ..] => {
+        [
+            Token {
+                kind: TokenKind::Symbol(Symbol::Minus),
+                ..
+            },
+            after @ ..,
+        ] => {
             let (number, rest) = digits(after)?;
             let at = index(total, tokens);
             Ok((Full::Minus { at, number }, rest))
@@ -61,7 +78,13 @@ pub fn full_step(alloc: Global, total: usize, levels: usize, loose: bool, tokens
 }
 
 #[cycle(value)]
-fn plain(alloc: Global, total: usize, levels: usize, loose: bool, tokens: &[Token]) -> Result<(Full, &[Token]), Fault>
+fn plain(
+    alloc: Global,
+    total: usize,
+    levels: usize,
+    loose: bool,
+    tokens: &[Token],
+) -> Result<(Full, &[Token]), Fault>
     requires within { length tokens.now ≤ total }
     requires small { total < 2 ^ 32 }
     ensures shorter { IfOk result (λ x. length x.1.now < length tokens.now) }
@@ -74,7 +97,13 @@ fn plain(alloc: Global, total: usize, levels: usize, loose: bool, tokens: &[Toke
 
 #[cycle(value)]
 #[tactic(auto, unfolding(script_grammar::specs::ReadValue::expr, script_grammar::specs::Read::chain))]
-pub fn expr(alloc: Global, total: usize, levels: usize, loose: bool, tokens: &[Token]) -> Result<(Expr, &[Token]), Fault>
+pub fn expr(
+    alloc: Global,
+    total: usize,
+    levels: usize,
+    loose: bool,
+    tokens: &[Token],
+) -> Result<(Expr, &[Token]), Fault>
     requires within { length tokens.now ≤ total }
     requires small { total < 2 ^ 32 }
     ensures shorter { IfOk result (λ x. length x.1.now < length tokens.now) }
@@ -87,7 +116,13 @@ pub fn expr(alloc: Global, total: usize, levels: usize, loose: bool, tokens: &[T
 }
 
 #[cycle(value)]
-fn ands(alloc: Global, total: usize, levels: usize, loose: bool, tokens: &[Token]) -> Result<(Vec<And>, &[Token]), Fault>
+fn ands(
+    alloc: Global,
+    total: usize,
+    levels: usize,
+    loose: bool,
+    tokens: &[Token],
+) -> Result<(Vec<And>, &[Token]), Fault>
     requires within { length tokens.now ≤ total }
     requires small { total < 2 ^ 32 }
     ensures shorter { IfOk result (λ x. length x.1.now ≤ length tokens.now) }
@@ -106,20 +141,32 @@ fn ands(alloc: Global, total: usize, levels: usize, loose: bool, tokens: &[Token
 
 #[cycle(value)]
 #[tactic(auto, unfolding(script_grammar::specs::Read::behind))]
-fn or_and(alloc: Global, total: usize, levels: usize, loose: bool, tokens: &[Token]) -> Result<(And, &[Token]), Fault>
+fn or_and(
+    alloc: Global,
+    total: usize,
+    levels: usize,
+    loose: bool,
+    tokens: &[Token],
+) -> Result<(And, &[Token]), Fault>
     requires within { length tokens.now ≤ total }
     requires small { total < 2 ^ 32 }
     ensures shorter { IfOk result (λ x. length x.1.now < length tokens.now) }
     ensures gives { Gives (λ x. (view_and x.0, kinds x.1.now)) result (behind is_or (and_ loose (places total) (full_by levels (places total))) (kinds tokens.now)) }
     ensures whole { IfOk result (λ x. IsWholeAnd x.0) }
 {
-    let (_sign, rest) = expect_or(tokens)?;
+    let ((), rest) = expect_or(tokens)?;
     and_term(alloc, total, levels, loose, rest)
 }
 
 #[cycle(value)]
 #[tactic(auto, unfolding(script_grammar::specs::ReadValue::and_, script_grammar::specs::Read::chain))]
-fn and_term(alloc: Global, total: usize, levels: usize, loose: bool, tokens: &[Token]) -> Result<(And, &[Token]), Fault>
+fn and_term(
+    alloc: Global,
+    total: usize,
+    levels: usize,
+    loose: bool,
+    tokens: &[Token],
+) -> Result<(And, &[Token]), Fault>
     requires within { length tokens.now ≤ total }
     requires small { total < 2 ^ 32 }
     ensures shorter { IfOk result (λ x. length x.1.now < length tokens.now) }
@@ -132,7 +179,13 @@ fn and_term(alloc: Global, total: usize, levels: usize, loose: bool, tokens: &[T
 }
 
 #[cycle(value)]
-fn nots(alloc: Global, total: usize, levels: usize, loose: bool, tokens: &[Token]) -> Result<(Vec<Not>, &[Token]), Fault>
+fn nots(
+    alloc: Global,
+    total: usize,
+    levels: usize,
+    loose: bool,
+    tokens: &[Token],
+) -> Result<(Vec<Not>, &[Token]), Fault>
     requires within { length tokens.now ≤ total }
     requires small { total < 2 ^ 32 }
     ensures shorter { IfOk result (λ x. length x.1.now ≤ length tokens.now) }
@@ -151,20 +204,32 @@ fn nots(alloc: Global, total: usize, levels: usize, loose: bool, tokens: &[Token
 
 #[cycle(value)]
 #[tactic(auto, unfolding(script_grammar::specs::Read::behind))]
-fn and_not(alloc: Global, total: usize, levels: usize, loose: bool, tokens: &[Token]) -> Result<(Not, &[Token]), Fault>
+fn and_not(
+    alloc: Global,
+    total: usize,
+    levels: usize,
+    loose: bool,
+    tokens: &[Token],
+) -> Result<(Not, &[Token]), Fault>
     requires within { length tokens.now ≤ total }
     requires small { total < 2 ^ 32 }
     ensures shorter { IfOk result (λ x. length x.1.now < length tokens.now) }
     ensures gives { Gives (λ x. (view_not x.0, kinds x.1.now)) result (behind is_and (not_ loose (places total) (full_by levels (places total))) (kinds tokens.now)) }
     ensures whole { IfOk result (λ x. IsWholeNot x.0) }
 {
-    let (_sign, rest) = expect_and(tokens)?;
+    let ((), rest) = expect_and(tokens)?;
     not_term(alloc, total, levels, loose, rest)
 }
 
 #[cycle(value)]
 #[tactic(auto, unfolding(script_grammar::specs::ReadValue::not_))]
-fn not_term(alloc: Global, total: usize, levels: usize, loose: bool, tokens: &[Token]) -> Result<(Not, &[Token]), Fault>
+fn not_term(
+    alloc: Global,
+    total: usize,
+    levels: usize,
+    loose: bool,
+    tokens: &[Token],
+) -> Result<(Not, &[Token]), Fault>
     requires within { length tokens.now ≤ total }
     requires small { total < 2 ^ 32 }
     ensures shorter { IfOk result (λ x. length x.1.now < length tokens.now) }
@@ -178,7 +243,13 @@ fn not_term(alloc: Global, total: usize, levels: usize, loose: bool, tokens: &[T
 
 #[cycle(value)]
 #[tactic(auto, unfolding(script_grammar::specs::ReadValue::compare))]
-fn compare(alloc: Global, total: usize, levels: usize, loose: bool, tokens: &[Token]) -> Result<(Compare, &[Token]), Fault>
+fn compare(
+    alloc: Global,
+    total: usize,
+    levels: usize,
+    loose: bool,
+    tokens: &[Token],
+) -> Result<(Compare, &[Token]), Fault>
     requires within { length tokens.now ≤ total }
     requires small { total < 2 ^ 32 }
     ensures shorter { IfOk result (λ x. length x.1.now < length tokens.now) }
@@ -191,7 +262,14 @@ fn compare(alloc: Global, total: usize, levels: usize, loose: bool, tokens: &[To
 
 // A sum, and what stands behind it: perhaps an operator and another sum.
 #[cycle(value)]
-fn behind_sum(alloc: Global, total: usize, levels: usize, loose: bool, left: Sum, tokens: &[Token]) -> Result<(Compare, &[Token]), Fault>
+fn behind_sum(
+    alloc: Global,
+    total: usize,
+    levels: usize,
+    loose: bool,
+    left: Sum,
+    tokens: &[Token],
+) -> Result<(Compare, &[Token]), Fault>
     requires within { length tokens.now ≤ total }
     requires small { total < 2 ^ 32 }
     requires whole { IsWholeSum left }
@@ -212,7 +290,13 @@ fn behind_sum(alloc: Global, total: usize, levels: usize, loose: bool, left: Sum
 
 #[cycle(value)]
 #[tactic(auto, unfolding(script_grammar::specs::ReadValue::sum))]
-fn sum(alloc: Global, total: usize, levels: usize, loose: bool, tokens: &[Token]) -> Result<(Sum, &[Token]), Fault>
+fn sum(
+    alloc: Global,
+    total: usize,
+    levels: usize,
+    loose: bool,
+    tokens: &[Token],
+) -> Result<(Sum, &[Token]), Fault>
     requires within { length tokens.now ≤ total }
     requires small { total < 2 ^ 32 }
     ensures shorter { IfOk result (λ x. length x.1.now < length tokens.now) }
@@ -225,7 +309,13 @@ fn sum(alloc: Global, total: usize, levels: usize, loose: bool, tokens: &[Token]
 }
 
 #[cycle(value)]
-fn addeds(alloc: Global, total: usize, levels: usize, loose: bool, tokens: &[Token]) -> Result<(Vec<Added>, &[Token]), Fault>
+fn addeds(
+    alloc: Global,
+    total: usize,
+    levels: usize,
+    loose: bool,
+    tokens: &[Token],
+) -> Result<(Vec<Added>, &[Token]), Fault>
     requires within { length tokens.now ≤ total }
     requires small { total < 2 ^ 32 }
     ensures shorter { IfOk result (λ x. length x.1.now ≤ length tokens.now) }
@@ -244,7 +334,13 @@ fn addeds(alloc: Global, total: usize, levels: usize, loose: bool, tokens: &[Tok
 
 #[cycle(value)]
 #[tactic(auto, unfolding(script_grammar::specs::ReadValue::added))]
-fn added(alloc: Global, total: usize, levels: usize, loose: bool, tokens: &[Token]) -> Result<(Added, &[Token]), Fault>
+fn added(
+    alloc: Global,
+    total: usize,
+    levels: usize,
+    loose: bool,
+    tokens: &[Token],
+) -> Result<(Added, &[Token]), Fault>
     requires within { length tokens.now ≤ total }
     requires small { total < 2 ^ 32 }
     ensures shorter { IfOk result (λ x. length x.1.now < length tokens.now) }
@@ -253,12 +349,24 @@ fn added(alloc: Global, total: usize, levels: usize, loose: bool, tokens: &[Toke
 {
     let at = index(total, tokens);
     match tokens {
-        [Token { kind: TokenKind::Symbol(Symbol::Plus), .. }, after @ ..] => {
+        [
+            Token {
+                kind: TokenKind::Symbol(Symbol::Plus),
+                ..
+            },
+            after @ ..,
+        ] => {
             let (product, rest) = product(alloc, total, levels, loose, after)?;
             let minus = false;
             Ok((Added { at, minus, product }, rest))
         }
-        [Token { kind: TokenKind::Symbol(Symbol::Minus), .. }, after @ ..] => {
+        [
+            Token {
+                kind: TokenKind::Symbol(Symbol::Minus),
+                ..
+            },
+            after @ ..,
+        ] => {
             let (product, rest) = product(alloc, total, levels, loose, after)?;
             let minus = true;
             Ok((Added { at, minus, product }, rest))
@@ -269,7 +377,13 @@ fn added(alloc: Global, total: usize, levels: usize, loose: bool, tokens: &[Toke
 
 #[cycle(value)]
 #[tactic(auto, unfolding(script_grammar::specs::ReadValue::product))]
-fn product(alloc: Global, total: usize, levels: usize, loose: bool, tokens: &[Token]) -> Result<(Product, &[Token]), Fault>
+fn product(
+    alloc: Global,
+    total: usize,
+    levels: usize,
+    loose: bool,
+    tokens: &[Token],
+) -> Result<(Product, &[Token]), Fault>
     requires within { length tokens.now ≤ total }
     requires small { total < 2 ^ 32 }
     ensures shorter { IfOk result (λ x. length x.1.now < length tokens.now) }
@@ -282,7 +396,13 @@ fn product(alloc: Global, total: usize, levels: usize, loose: bool, tokens: &[To
 }
 
 #[cycle(value)]
-fn multiplieds(alloc: Global, total: usize, levels: usize, loose: bool, tokens: &[Token]) -> Result<(Vec<Multiplied>, &[Token]), Fault>
+fn multiplieds(
+    alloc: Global,
+    total: usize,
+    levels: usize,
+    loose: bool,
+    tokens: &[Token],
+) -> Result<(Vec<Multiplied>, &[Token]), Fault>
     requires within { length tokens.now ≤ total }
     requires small { total < 2 ^ 32 }
     ensures shorter { IfOk result (λ x. length x.1.now ≤ length tokens.now) }
@@ -301,7 +421,13 @@ fn multiplieds(alloc: Global, total: usize, levels: usize, loose: bool, tokens: 
 
 #[cycle(value)]
 #[tactic(auto, unfolding(script_grammar::specs::ReadValue::multiplied))]
-fn multiplied(alloc: Global, total: usize, levels: usize, loose: bool, tokens: &[Token]) -> Result<(Multiplied, &[Token]), Fault>
+fn multiplied(
+    alloc: Global,
+    total: usize,
+    levels: usize,
+    loose: bool,
+    tokens: &[Token],
+) -> Result<(Multiplied, &[Token]), Fault>
     requires within { length tokens.now ≤ total }
     requires small { total < 2 ^ 32 }
     ensures shorter { IfOk result (λ x. length x.1.now < length tokens.now) }
@@ -310,12 +436,24 @@ fn multiplied(alloc: Global, total: usize, levels: usize, loose: bool, tokens: &
 {
     let at = index(total, tokens);
     match tokens {
-        [Token { kind: TokenKind::Symbol(Symbol::Star), .. }, after @ ..] => {
+        [
+            Token {
+                kind: TokenKind::Symbol(Symbol::Star),
+                ..
+            },
+            after @ ..,
+        ] => {
             let (prim, rest) = operand(alloc, total, levels, loose, after)?;
             let divide = false;
             Ok((Multiplied { at, divide, prim }, rest))
         }
-        [Token { kind: TokenKind::Symbol(Symbol::Slash), .. }, after @ ..] => {
+        [
+            Token {
+                kind: TokenKind::Symbol(Symbol::Slash),
+                ..
+            },
+            after @ ..,
+        ] => {
             let (prim, rest) = operand(alloc, total, levels, loose, after)?;
             let divide = true;
             Ok((Multiplied { at, divide, prim }, rest))
@@ -326,7 +464,13 @@ fn multiplied(alloc: Global, total: usize, levels: usize, loose: bool, tokens: &
 
 #[cycle(value)]
 #[tactic(auto, unfolding(script_grammar::specs::ReadValue::prim, script_grammar::specs::ReadValue::call))]
-fn operand(alloc: Global, total: usize, levels: usize, loose: bool, tokens: &[Token]) -> Result<(tree::Operand, &[Token]), Fault>
+fn operand(
+    alloc: Global,
+    total: usize,
+    levels: usize,
+    loose: bool,
+    tokens: &[Token],
+) -> Result<(tree::Operand, &[Token]), Fault>
     requires within { length tokens.now ≤ total }
     requires small { total < 2 ^ 32 }
     ensures shorter { IfOk result (λ x. length x.1.now < length tokens.now) }
@@ -334,20 +478,40 @@ fn operand(alloc: Global, total: usize, levels: usize, loose: bool, tokens: &[To
     ensures whole { IfOk result (λ x. IsWholePrim x.0) }
 {
     match tokens {
-        [Token { kind: TokenKind::NameOpen(_), .. }, ..] => {
+        [
+            Token {
+                kind: TokenKind::NameOpen(_),
+                ..
+            },
+            ..
+        ] => {
             let (call, rest) = call(alloc, total, levels, tokens)?;
             Ok((tree::Operand::Call(call), rest))
         }
-        [Token { kind: TokenKind::Keyword(Keyword::If), .. }, ..] => {
+        [
+            Token {
+                kind: TokenKind::Keyword(Keyword::If),
+                ..
+            },
+            ..
+        ] => {
             let (choice, rest) = choice(alloc, total, levels, tokens)?;
             Ok((tree::Operand::If(choice), rest))
         }
-        [Token { kind: TokenKind::Symbol(Symbol::OpenRound), .. }, after @ ..] => {
-            round(alloc, total, levels, index(total, tokens), after)
-        }
-        [Token { kind: TokenKind::Symbol(Symbol::OpenSquare), .. }, after @ ..] => {
-            list(alloc, total, levels, index(total, tokens), after)
-        }
+        [
+            Token {
+                kind: TokenKind::Symbol(Symbol::OpenRound),
+                ..
+            },
+            after @ ..,
+        ] => { round(alloc, total, levels, index(total, tokens), after) }
+        [
+            Token {
+                kind: TokenKind::Symbol(Symbol::OpenSquare),
+                ..
+            },
+            after @ ..,
+        ] => { list(alloc, total, levels, index(total, tokens), after) }
         _ => atom(alloc, total, loose, tokens),
     }
 }
@@ -355,7 +519,13 @@ fn operand(alloc: Global, total: usize, levels: usize, loose: bool, tokens: &[To
 // Values in parentheses, behind the first one.
 #[cycle(value)]
 #[tactic(auto, unfolding(script_grammar::specs::Read::closed, script_grammar::specs::Read::chain))]
-fn round(alloc: Global, total: usize, levels: usize, at: u32, tokens: &[Token]) -> Result<(tree::Operand, &[Token]), Fault>
+fn round(
+    alloc: Global,
+    total: usize,
+    levels: usize,
+    at: u32,
+    tokens: &[Token],
+) -> Result<(tree::Operand, &[Token]), Fault>
     requires within { length tokens.now ≤ total }
     requires small { total < 2 ^ 32 }
     ensures shorter { IfOk result (λ x. length x.1.now < length tokens.now) }
@@ -363,12 +533,12 @@ fn round(alloc: Global, total: usize, levels: usize, at: u32, tokens: &[Token]) 
     ensures whole { IfOk result (λ x. IsWholePrim x.0) }
 {
     if at_close_round(tokens) {
-        let (_close, rest) = expect_close_round(tokens)?;
+        let ((), rest) = expect_close_round(tokens)?;
         return Ok((tree::Operand::Unit { at }, rest));
     }
     let (first, rest) = full(alloc, total, levels, tokens)?;
     let (others, rest) = fulls(alloc, total, levels, rest)?;
-    let (_close, rest) = expect_close_round(rest)?;
+    let ((), rest) = expect_close_round(rest)?;
     let round = make::round(alloc, at, first, others)?;
     Ok((round, rest))
 }
@@ -376,7 +546,13 @@ fn round(alloc: Global, total: usize, levels: usize, at: u32, tokens: &[Token]) 
 // Values in square brackets, behind the first one.
 #[cycle(value)]
 #[tactic(auto, unfolding(script_grammar::specs::Read::closed, script_grammar::specs::Read::chain))]
-fn list(alloc: Global, total: usize, levels: usize, at: u32, tokens: &[Token]) -> Result<(tree::Operand, &[Token]), Fault>
+fn list(
+    alloc: Global,
+    total: usize,
+    levels: usize,
+    at: u32,
+    tokens: &[Token],
+) -> Result<(tree::Operand, &[Token]), Fault>
     requires within { length tokens.now ≤ total }
     requires small { total < 2 ^ 32 }
     ensures shorter { IfOk result (λ x. length x.1.now < length tokens.now) }
@@ -384,18 +560,23 @@ fn list(alloc: Global, total: usize, levels: usize, at: u32, tokens: &[Token]) -
     ensures whole { IfOk result (λ x. IsWholePrim x.0) }
 {
     if at_close_square(tokens) {
-        let (_close, rest) = expect_close_square(tokens)?;
+        let ((), rest) = expect_close_square(tokens)?;
         return Ok((make::list(at, Vec::new(alloc)), rest));
     }
     let (first, rest) = full(alloc, total, levels, tokens)?;
     let (mut items, rest) = fulls(alloc, total, levels, rest)?;
-    let (_close, rest) = expect_close_square(rest)?;
+    let ((), rest) = expect_close_square(rest)?;
     items.insert(0, first)?;
     Ok((make::list(at, items), rest))
 }
 
 #[cycle(value)]
-fn fulls(alloc: Global, total: usize, levels: usize, tokens: &[Token]) -> Result<(Vec<Full>, &[Token]), Fault>
+fn fulls(
+    alloc: Global,
+    total: usize,
+    levels: usize,
+    tokens: &[Token],
+) -> Result<(Vec<Full>, &[Token]), Fault>
     requires within { length tokens.now ≤ total }
     requires small { total < 2 ^ 32 }
     ensures shorter { IfOk result (λ x. length x.1.now ≤ length tokens.now) }
@@ -414,20 +595,30 @@ fn fulls(alloc: Global, total: usize, levels: usize, tokens: &[Token]) -> Result
 
 #[cycle(value)]
 #[tactic(auto, unfolding(script_grammar::specs::Read::behind))]
-fn comma_full(alloc: Global, total: usize, levels: usize, tokens: &[Token]) -> Result<(Full, &[Token]), Fault>
+fn comma_full(
+    alloc: Global,
+    total: usize,
+    levels: usize,
+    tokens: &[Token],
+) -> Result<(Full, &[Token]), Fault>
     requires within { length tokens.now ≤ total }
     requires small { total < 2 ^ 32 }
     ensures shorter { IfOk result (λ x. length x.1.now < length tokens.now) }
     ensures gives { Gives (λ x. (view_full x.0, kinds x.1.now)) result (behind is_comma (full_by levels (places total)) (kinds tokens.now)) }
     ensures whole { IfOk result (λ x. IsWholeFull x.0) }
 {
-    let (_sign, rest) = expect_comma(tokens)?;
+    let ((), rest) = expect_comma(tokens)?;
     full(alloc, total, levels, rest)
 }
 
 #[cycle(value)]
 #[tactic(auto, unfolding(script_grammar::specs::ReadValue::call))]
-pub fn call(alloc: Global, total: usize, levels: usize, tokens: &[Token]) -> Result<(Call, &[Token]), Fault>
+pub fn call(
+    alloc: Global,
+    total: usize,
+    levels: usize,
+    tokens: &[Token],
+) -> Result<(Call, &[Token]), Fault>
     requires within { length tokens.now ≤ total }
     requires small { total < 2 ^ 32 }
     ensures shorter { IfOk result (λ x. length x.1.now < length tokens.now) }
@@ -435,7 +626,13 @@ pub fn call(alloc: Global, total: usize, levels: usize, tokens: &[Token]) -> Res
     ensures whole { IfOk result (λ x. IsWholeCall x.0) }
 {
     match tokens {
-        [Token { kind: TokenKind::NameOpen(name), .. }, after @ ..] => {
+        [
+            Token {
+                kind: TokenKind::NameOpen(name),
+                ..
+            },
+            after @ ..,
+        ] => {
             let at = index(total, tokens);
             let (args, rest) = args(alloc, total, levels, after)?;
             let name = copy(alloc, name)?;
@@ -447,7 +644,12 @@ pub fn call(alloc: Global, total: usize, levels: usize, tokens: &[Token]) -> Res
 
 #[cycle(value)]
 #[tactic(auto, unfolding(script_grammar::specs::ReadValue::args, script_grammar::specs::Read::closed, script_grammar::specs::Read::chain))]
-fn args(alloc: Global, total: usize, levels: usize, tokens: &[Token]) -> Result<(Vec<Arg>, &[Token]), Fault>
+fn args(
+    alloc: Global,
+    total: usize,
+    levels: usize,
+    tokens: &[Token],
+) -> Result<(Vec<Arg>, &[Token]), Fault>
     requires within { length tokens.now ≤ total }
     requires small { total < 2 ^ 32 }
     ensures shorter { IfOk result (λ x. length x.1.now < length tokens.now) }
@@ -455,18 +657,23 @@ fn args(alloc: Global, total: usize, levels: usize, tokens: &[Token]) -> Result<
     ensures whole { IfOk result (λ x. All IsWholeArg x.0.items) }
 {
     if at_close_round(tokens) {
-        let (_close, rest) = expect_close_round(tokens)?;
+        let ((), rest) = expect_close_round(tokens)?;
         return Ok((Vec::new(alloc), rest));
     }
     let (first, rest) = arg(alloc, total, levels, tokens)?;
     let (mut items, rest) = more_args(alloc, total, levels, rest)?;
-    let (_close, rest) = expect_close_round(rest)?;
+    let ((), rest) = expect_close_round(rest)?;
     items.insert(0, first)?;
     Ok((items, rest))
 }
 
 #[cycle(value)]
-fn more_args(alloc: Global, total: usize, levels: usize, tokens: &[Token]) -> Result<(Vec<Arg>, &[Token]), Fault>
+fn more_args(
+    alloc: Global,
+    total: usize,
+    levels: usize,
+    tokens: &[Token],
+) -> Result<(Vec<Arg>, &[Token]), Fault>
     requires within { length tokens.now ≤ total }
     requires small { total < 2 ^ 32 }
     ensures shorter { IfOk result (λ x. length x.1.now ≤ length tokens.now) }
@@ -485,20 +692,30 @@ fn more_args(alloc: Global, total: usize, levels: usize, tokens: &[Token]) -> Re
 
 #[cycle(value)]
 #[tactic(auto, unfolding(script_grammar::specs::Read::behind))]
-fn comma_arg(alloc: Global, total: usize, levels: usize, tokens: &[Token]) -> Result<(Arg, &[Token]), Fault>
+fn comma_arg(
+    alloc: Global,
+    total: usize,
+    levels: usize,
+    tokens: &[Token],
+) -> Result<(Arg, &[Token]), Fault>
     requires within { length tokens.now ≤ total }
     requires small { total < 2 ^ 32 }
     ensures shorter { IfOk result (λ x. length x.1.now < length tokens.now) }
     ensures gives { Gives (λ x. (view_arg x.0, kinds x.1.now)) result (behind is_comma (arg (places total) (full_by levels (places total))) (kinds tokens.now)) }
     ensures whole { IfOk result (λ x. IsWholeArg x.0) }
 {
-    let (_sign, rest) = expect_comma(tokens)?;
+    let ((), rest) = expect_comma(tokens)?;
     arg(alloc, total, levels, rest)
 }
 
 #[cycle(value)]
 #[tactic(auto, using(crate::proofs::Labels::arg_labelled))]
-fn arg(alloc: Global, total: usize, levels: usize, tokens: &[Token]) -> Result<(Arg, &[Token]), Fault>
+fn arg(
+    alloc: Global,
+    total: usize,
+    levels: usize,
+    tokens: &[Token],
+) -> Result<(Arg, &[Token]), Fault>
     requires within { length tokens.now ≤ total }
     requires small { total < 2 ^ 32 }
     ensures shorter { IfOk result (λ x. length x.1.now < length tokens.now) }
@@ -512,7 +729,14 @@ fn arg(alloc: Global, total: usize, levels: usize, tokens: &[Token]) -> Result<(
 
 // An argument's value, behind its label or without one.
 #[cycle(value)]
-fn labelled(alloc: Global, total: usize, levels: usize, at: u32, label: Option<Text>, tokens: &[Token]) -> Result<(Arg, &[Token]), Fault>
+fn labelled(
+    alloc: Global,
+    total: usize,
+    levels: usize,
+    at: u32,
+    label: Option<Text>,
+    tokens: &[Token],
+) -> Result<(Arg, &[Token]), Fault>
     requires within { length tokens.now ≤ total }
     requires small { total < 2 ^ 32 }
     ensures shorter { IfOk result (λ x. length x.1.now < length tokens.now) }
@@ -524,25 +748,33 @@ fn labelled(alloc: Global, total: usize, levels: usize, at: u32, label: Option<T
 }
 
 #[cycle(value)]
-#[tactic(auto, unfolding(script_grammar::specs::ReadValue::choice))]
-pub fn choice(alloc: Global, total: usize, levels: usize, tokens: &[Token]) -> Result<(If, &[Token]), Fault>
+#[tactic(auto, using(crate::proofs::Choices::choice_goes, crate::proofs::Choices::choice_fails))]
+pub fn choice(
+    alloc: Global,
+    total: usize,
+    levels: usize,
+    tokens: &[Token],
+) -> Result<(If, &[Token]), Fault>
     requires within { length tokens.now ≤ total }
     requires small { total < 2 ^ 32 }
     ensures shorter { IfOk result (λ x. length x.1.now < length tokens.now) }
     ensures gives { Gives (λ x. (view_if x.0, kinds x.1.now)) result (choice (places total) (full_by levels (places total)) (kinds tokens.now)) }
     ensures whole { IfOk result (λ x. IsWholeIf x.0) }
 {
-    match tokens {
-        [Token { kind: TokenKind::Keyword(Keyword::If), .. }, after @ ..] => {
-            chosen(alloc, total, levels, index(total, tokens), after)
-        }
-        _ => Err(Fault::Syntax(tokens.len())),
-    }
+    let at = index(total, tokens);
+    let ((), rest) = expect_if(tokens)?;
+    chosen(alloc, total, levels, at, rest)
 }
 
 // An `if` behind that word.
 #[cycle(value)]
-fn chosen(alloc: Global, total: usize, levels: usize, at: u32, tokens: &[Token]) -> Result<(If, &[Token]), Fault>
+fn chosen(
+    alloc: Global,
+    total: usize,
+    levels: usize,
+    at: u32,
+    tokens: &[Token],
+) -> Result<(If, &[Token]), Fault>
     requires within { length tokens.now ≤ total }
     requires small { total < 2 ^ 32 }
     ensures shorter { IfOk result (λ x. length x.1.now < length tokens.now) }
@@ -557,14 +789,19 @@ fn chosen(alloc: Global, total: usize, levels: usize, at: u32, tokens: &[Token])
 
 // `then`, a value, `else`, another, and `end`.
 #[cycle(value)]
-fn branches(alloc: Global, total: usize, levels: usize, tokens: &[Token]) -> Result<(Full, Full, &[Token]), Fault>
+fn branches(
+    alloc: Global,
+    total: usize,
+    levels: usize,
+    tokens: &[Token],
+) -> Result<(Full, Full, &[Token]), Fault>
     requires within { length tokens.now ≤ total }
     requires small { total < 2 ^ 32 }
     ensures shorter { IfOk result (λ x. length x.2.now < length tokens.now) }
     ensures gives { Gives (λ x. (seen_branches (view_full x.0) (view_full x.1), kinds x.2.now)) result (branches (full_by levels (places total)) (kinds tokens.now)) }
     ensures whole { IfOk result (λ x. IsWholeFull x.0 × IsWholeFull x.1) }
 {
-    let (_then, rest) = expect_then(tokens)?;
+    let ((), rest) = expect_then(tokens)?;
     let (then_part, rest) = full(alloc, total, levels, rest)?;
     let (else_part, rest) = otherwise(alloc, total, levels, rest)?;
     Ok((then_part, else_part, rest))
@@ -572,15 +809,20 @@ fn branches(alloc: Global, total: usize, levels: usize, tokens: &[Token]) -> Res
 
 // `else`, a value, and `end`.
 #[cycle(value)]
-fn otherwise(alloc: Global, total: usize, levels: usize, tokens: &[Token]) -> Result<(Full, &[Token]), Fault>
+fn otherwise(
+    alloc: Global,
+    total: usize,
+    levels: usize,
+    tokens: &[Token],
+) -> Result<(Full, &[Token]), Fault>
     requires within { length tokens.now ≤ total }
     requires small { total < 2 ^ 32 }
     ensures shorter { IfOk result (λ x. length x.1.now < length tokens.now) }
     ensures gives { Gives (λ x. (seen_otherwise (view_full x.0), kinds x.1.now)) result (otherwise (full_by levels (places total)) (kinds tokens.now)) }
     ensures whole { IfOk result (λ x. IsWholeFull x.0) }
 {
-    let (_else, rest) = expect_else(tokens)?;
+    let ((), rest) = expect_else(tokens)?;
     let (part, rest) = full(alloc, total, levels, rest)?;
-    let (_end, rest) = expect_end(rest)?;
+    let ((), rest) = expect_end(rest)?;
     Ok((part, rest))
 }

@@ -15,7 +15,12 @@ use std::alloc::Global;
 /// A value. Where it is loose, a `(` may stand behind it, so that `%wav` takes its option only if
 /// `(samplesize =` stands there. `tokens` are the last of `total`, of which the tree names some by their index.
 #[tactic(auto, unfolding(script_grammar::specs::ReadScript::value))]
-pub fn value(alloc: Global, total: usize, loose: bool, tokens: &[Token]) -> Result<(Full, &[Token]), Fault>
+pub fn value(
+    alloc: Global,
+    total: usize,
+    loose: bool,
+    tokens: &[Token],
+) -> Result<(Full, &[Token]), Fault>
     requires within { length tokens.now ≤ total }
     requires small { total < 2 ^ 32 }
     ensures shorter { IfOk result (λ x. length x.1.now < length tokens.now) }

@@ -4,13 +4,14 @@ ghost use Rattle.script_grammar.specs.Kinds.{op_of};
 ghost use Rattle.script_lex.specs.declared.token.TokenKind.TheVariants.{Symbol as a_symbol};
 ghost use Rattle.script_grammar.specs.ReadValue.{digits, whole_number, the_name, size, wav, takes_option, optional, opens_name, next_op, binds};
 ghost use Rattle.predicate_parse.specs.Gives.{kinds, Gives, places};
-ghost use Rattle.value_parse.specs.Operand.{label_of};
+ghost use Rattle.value_parse.specs.Operand.{is_if, label_of};
+ghost use Rattle.script_grammar.specs.Read.{expect};
 
 use liq_base::{Memory, Text};
 use predicate_parse::Fault;
 use predicate_parse::token::{at_open_round, expect_assign, expect_close_round, expect_open_round};
 use script_grammar::tree::{CompareOp, Literal};
-use script_lex::{Symbol, Token, TokenKind};
+use script_lex::{Keyword, Symbol, Token, TokenKind};
 use std::alloc::Global;
 
 /// The index of the first of these tokens, which are the last of `total`.
@@ -36,8 +37,20 @@ pub fn digits(tokens: &[Token]) -> Result<(Literal, &[Token]), Fault>
     ensures gives { Gives (λ x. (x.0, kinds x.1.now)) result (digits (kinds tokens.now)) }
 {
     match tokens {
-        [Token { kind: TokenKind::Int(number), .. }, rest @ ..] => Ok((Literal::Int(*number), rest)),
-        [Token { kind: TokenKind::Number(number), .. }, rest @ ..] => Ok((Literal::Number(*number), rest)),
+        [
+            Token {
+                kind: TokenKind::Int(number),
+                ..
+            },
+            rest @ ..,
+        ] => Ok((Literal::Int(*number), rest)),
+        [
+            Token {
+                kind: TokenKind::Number(number),
+                ..
+            },
+            rest @ ..,
+        ] => Ok((Literal::Number(*number), rest)),
         _ => Err(Fault::Syntax(tokens.len())),
     }
 }
@@ -48,7 +61,13 @@ fn whole_number(tokens: &[Token]) -> Result<(i64, &[Token]), Fault>
     ensures gives { Gives (λ x. (x.0, kinds x.1.now)) result (whole_number (kinds tokens.now)) }
 {
     match tokens {
-        [Token { kind: TokenKind::Int(number), .. }, rest @ ..] => Ok((*number, rest)),
+        [
+            Token {
+                kind: TokenKind::Int(number),
+                ..
+            },
+            rest @ ..,
+        ] => Ok((*number, rest)),
         _ => Err(Fault::Syntax(tokens.len())),
     }
 }
@@ -59,7 +78,13 @@ fn the_name(tokens: &[Token]) -> Result<((), &[Token]), Fault>
     ensures gives { Gives (λ x. (tt, kinds x.1.now)) result (the_name (kinds tokens.now)) }
 {
     match tokens {
-        [Token { kind: TokenKind::Name(name), .. }, rest @ ..] => {
+        [
+            Token {
+                kind: TokenKind::Name(name),
+                ..
+            },
+            rest @ ..,
+        ] => {
             if name.as_str() == "samplesize" {
                 Ok(((), rest))
             } else {
@@ -76,8 +101,14 @@ fn at_option_name(tokens: &[Token]) -> bool
 {
     match tokens {
         [
-            Token { kind: TokenKind::Name(name), .. },
-            Token { kind: TokenKind::Symbol(Symbol::Assign), .. },
+            Token {
+                kind: TokenKind::Name(name),
+                ..
+            },
+            Token {
+                kind: TokenKind::Symbol(Symbol::Assign),
+                ..
+            },
             ..
         ] => name.as_str() == "samplesize",
         _ => false,
@@ -88,7 +119,13 @@ fn optional(tokens: &[Token]) -> bool
     ensures { result ≡ optional (kinds tokens.now) }
 {
     match tokens {
-        [Token { kind: TokenKind::Symbol(Symbol::OpenRound), .. }, after @ ..] => at_option_name(after),
+        [
+            Token {
+                kind: TokenKind::Symbol(Symbol::OpenRound),
+                ..
+            },
+            after @ ..,
+        ] => at_option_name(after),
         _ => false,
     }
 }
@@ -108,11 +145,11 @@ fn size(tokens: &[Token]) -> Result<(i64, &[Token]), Fault>
     ensures shorter { IfOk result (λ x. length x.1.now < length tokens.now) }
     ensures gives { Gives (λ x. (x.0, kinds x.1.now)) result (size (kinds tokens.now)) }
 {
-    let (_open, rest) = expect_open_round(tokens)?;
-    let (_name, rest) = the_name(rest)?;
-    let (_assign, rest) = expect_assign(rest)?;
+    let ((), rest) = expect_open_round(tokens)?;
+    let ((), rest) = the_name(rest)?;
+    let ((), rest) = expect_assign(rest)?;
     let (number, rest) = whole_number(rest)?;
-    let (_close, rest) = expect_close_round(rest)?;
+    let ((), rest) = expect_close_round(rest)?;
     Ok((number, rest))
 }
 
@@ -149,7 +186,13 @@ pub fn next_op(tokens: &[Token]) -> Option<CompareOp>
     ensures { result ≡ next_op (kinds tokens.now) }
 {
     match tokens {
-        [Token { kind: TokenKind::Symbol(symbol), .. }, ..] => op_of(*symbol),
+        [
+            Token {
+                kind: TokenKind::Symbol(symbol),
+                ..
+            },
+            ..
+        ] => op_of(*symbol),
         _ => None,
     }
 }
@@ -161,10 +204,33 @@ pub fn argument_label(alloc: Global, tokens: &[Token]) -> Result<(Option<Text>, 
 {
     match tokens {
         [
-            Token { kind: TokenKind::Name(name), .. },
-            Token { kind: TokenKind::Symbol(Symbol::Assign), .. },
-            rest @ ..
+            Token {
+                kind: TokenKind::Name(name),
+                ..
+            },
+            Token {
+                kind: TokenKind::Symbol(Symbol::Assign),
+                ..
+            },
+            rest @ ..,
         ] => Ok((Some(copy(alloc, name)?), rest)),
         _ => Ok((None, tokens)),
+    }
+}
+
+/// The tokens behind an `if`. Any other token, or none, is a fault there.
+pub fn expect_if(tokens: &[Token]) -> Result<((), &[Token]), Fault>
+    ensures shorter { IfOk result (λ x. length x.1.now < length tokens.now) }
+    ensures gives { Gives (λ x. (tt, kinds x.1.now)) result (expect is_if (kinds tokens.now)) }
+{
+    match tokens {
+        [
+            Token {
+                kind: TokenKind::Keyword(Keyword::If),
+                ..
+            },
+            rest @ ..,
+        ] => Ok(((), rest)),
+        _ => Err(Fault::Syntax(tokens.len())),
     }
 }
