@@ -11,7 +11,7 @@ use script_lex::{Keyword, Symbol, Token, TokenKind};
 pub fn place(total: usize, tokens: &[Token]) -> u32
     requires within { length tokens.now ≤ total }
     requires small { total < 2 ^ 32 }
-    ensures { result ≡ places total (length tokens.now) }
+    ensures { result ≡ places total (length (kinds tokens.now)) }
 {
     (total - tokens.len()) as u32
 }

@@ -1,4 +1,9 @@
-pub mod SoundRules
-pub mod SoundPredicate
-pub mod SoundValue
-pub mod SoundScript
+mod SoundRules
+mod SoundPredicate
+mod SoundValue
+mod SoundScript
+mod SteadyRules
+mod SteadyLists
+mod SteadyPredicate
+mod SteadyValue
+mod SteadyScript

@@ -1,0 +1,65 @@
+-- Reading by the first token.
+use Rattle.std.proofs.Common.{◌≡◌, ℕ, suc, List, [], ◌∷◌, length, Bool, true, false, Ok, Err, refl}
+use Rattle.script_lex.specs.declared.token.TokenKind.{TokenKind}
+use Rattle.script_lex.specs.declared.token.TokenKind.TheVariants.{Name, NameOpen, Keyword, Symbol}
+use Rattle.script_lex.specs.declared.token.Keyword.TheVariants as word
+use Rattle.script_lex.specs.declared.token.Symbol.TheVariants as sign
+use Rattle.script_grammar.specs.Read.{◌>>=◌, next, expect}
+use Rattle.script_grammar.specs.ReadScript.{bind, param, def, part}
+use Rattle.script_parse.specs.Reads.{a_name, an_open_name, is_name, is_open_name, is_def, is_if, bind_of, behind_tilde, label_of, def_of, bind_part, def_part, call_part, if_part}
+
+pub bind_is : (loose : Bool) (stamp : ℕ → ℕ) (w : List TokenKind) → bind loose stamp w ≡ (a_name w >>= λ x. bind_of loose stamp (stamp (length w)) x.0 x.1)
+unfolding bind
+bind_is loose stamp [] = refl
+bind_is loose stamp (Name n ∷ r) = refl
+bind_is loose stamp (k ∷ r) = refl
+
+pub tilde_is : (stamp : ℕ → ℕ) (w : List TokenKind) → behind_tilde stamp w ≡ (a_name w >>= λ x. label_of stamp (stamp (length w)) x.0 x.1)
+unfolding behind_tilde label_of param
+tilde_is stamp [] = refl
+tilde_is stamp (Name n ∷ []) = refl
+tilde_is stamp (Name n ∷ Symbol sign.Assign ∷ r) = refl
+tilde_is stamp (Name n ∷ k ∷ r) = refl
+tilde_is stamp (k ∷ r) = refl
+
+pub def_is : (stamp : ℕ → ℕ) (w : List TokenKind) → def stamp w ≡ (expect is_def w >>= λ x. an_open_name x.1 >>= λ y. def_of stamp (stamp (length x.1)) y.0 y.1)
+unfolding def
+def_is stamp [] = refl
+def_is stamp (Keyword word.Def ∷ []) = refl
+def_is stamp (Keyword word.Def ∷ NameOpen n ∷ r) = refl
+def_is stamp (Keyword word.Def ∷ k ∷ r) = refl
+def_is stamp (k ∷ r) = refl
+
+pub part_bind : (stamp : ℕ → ℕ) (w : List TokenKind) → next is_name w ≡ true → part stamp w ≡ bind_part stamp w
+unfolding part
+part_bind stamp [] e = absurd cc
+part_bind stamp (Name n ∷ r) e = refl
+part_bind stamp (k ∷ r) e = absurd cc
+
+pub part_def : (stamp : ℕ → ℕ) (w : List TokenKind) → next is_def w ≡ true → part stamp w ≡ def_part stamp w
+unfolding part
+part_def stamp [] e = absurd cc
+part_def stamp (Keyword word.Def ∷ r) e = refl
+part_def stamp (k ∷ r) e = absurd cc
+
+pub part_call : (stamp : ℕ → ℕ) (w : List TokenKind) → next is_open_name w ≡ true → part stamp w ≡ call_part stamp (length w) w
+unfolding part
+part_call stamp [] e = absurd cc
+part_call stamp (NameOpen n ∷ r) e = refl
+part_call stamp (k ∷ r) e = absurd cc
+
+pub part_if : (stamp : ℕ → ℕ) (w : List TokenKind) → next is_if w ≡ true → part stamp w ≡ if_part stamp (length w) w
+unfolding part
+part_if stamp [] e = absurd cc
+part_if stamp (Keyword word.If ∷ r) e = refl
+part_if stamp (k ∷ r) e = absurd cc
+
+-- a token that begins no statement
+pub part_other : (stamp : ℕ → ℕ) (w : List TokenKind) → next is_name w ≡ false → next is_def w ≡ false → next is_open_name w ≡ false → next is_if w ≡ false → part stamp w ≡ Err (length w)
+unfolding part
+part_other stamp [] a b c d = refl
+part_other stamp (Name n ∷ r) a b c d = absurd cc
+part_other stamp (Keyword word.Def ∷ r) a b c d = absurd cc
+part_other stamp (NameOpen n ∷ r) a b c d = absurd cc
+part_other stamp (Keyword word.If ∷ r) a b c d = absurd cc
+part_other stamp (k ∷ r) a b c d = refl

@@ -1,0 +1,15 @@
+use Rattle.std.proofs.Common.{◌≤◌, length}
+use Rattle.std.specs.List.{All}
+use Rattle.script_grammar.specs.ReadValue.{binds}
+use Rattle.script_grammar.specs.ReadScript.{inner}
+use Rattle.script_grammar.specs.View.{view_inner}
+use Rattle.script_grammar.specs.Whole.{IsWholeInner}
+use Rattle.predicate_parse.specs.Gives.{places}
+use Rattle.script_parse.proofs.Turns.{Turning}
+use Rattle.script_parse.proofs.statement.inners.Given as goal
+
+abbrev pub invariant-turns : goal.invariant-turns
+invariant-turns l = (length l.rest ≤ length l.tokens) × Turning view_inner binds (inner (places l.total)) l.tokens l.rest l.items.items × All IsWholeInner l.items.items
+
+abbrev pub decreases-turns : goal.decreases-turns
+decreases-turns l = length l.rest

@@ -1,0 +1,16 @@
+use Rattle.std.proofs.Common.{◌≤◌, length}
+use Rattle.std.specs.List.{All}
+use Rattle.script_grammar.specs.Kinds.{is_any}
+use Rattle.script_grammar.specs.Read.{next}
+use Rattle.script_grammar.specs.ReadScript.{stmt}
+use Rattle.script_grammar.specs.View.{view_stmt}
+use Rattle.script_grammar.specs.Whole.{IsWholeStmt}
+use Rattle.predicate_parse.specs.Gives.{places}
+use Rattle.script_parse.proofs.Turns.{Turning}
+use Rattle.script_parse.proofs.statement.statements.Given as goal
+
+abbrev pub invariant-turns : goal.invariant-turns
+invariant-turns l = (length l.rest ≤ length l.tokens) × Turning view_stmt (next is_any) (stmt (places l.total)) l.tokens l.rest l.items.items × All IsWholeStmt l.items.items
+
+abbrev pub decreases-turns : goal.decreases-turns
+decreases-turns l = length l.rest

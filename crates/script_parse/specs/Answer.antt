@@ -1,0 +1,35 @@
+-- What is answered of a list of tokens.
+use Rattle.std.specs.Prelude.{◌≡◌, ℕ, ◌<◌, List, length, Result, Ok, Err}
+use Rattle.script_lex.specs.declared.token.TokenKind.{TokenKind}
+use Rattle.script_grammar.specs.declared.tree.Script as program
+use Rattle.script_grammar.specs.Spelling.{spelling}
+use Rattle.script_grammar.specs.Placed.{IsPlaced}
+use Rattle.script_grammar.specs.View.{view_script}
+use Rattle.script_grammar.specs.Whole.{IsWhole}
+use Rattle.predicate_parse.specs.declared.fault.Fault.{Fault}
+use Rattle.predicate_parse.specs.declared.fault.Fault.TheVariants as faults
+use Rattle.script_parse.specs.declared.fault.ParseFault.{ParseFault}
+use Rattle.script_parse.specs.declared.fault.ParseFault.TheVariants as answers
+use Rattle.script_parse.specs.Places.{IsSyntaxPlace, IsDeepAt, IsDepthPlace}
+
+-- this script is spelled so, each field at is the index of its token, and its lists are as long as the grammar wants
+pub record IsParsed (tokens : List TokenKind) (script : program.Script) : Type 0 where
+  pub spelled : spelling (view_script script) ≡ tokens
+  pub placed : IsPlaced 0 (view_script script)
+  pub whole : IsWhole script
+
+-- no token nests too deep
+abbrev pub IsShallow : List TokenKind → Type 0
+IsShallow tokens = (k : ℕ) → k < length tokens → IsDeepAt tokens k → ⊥
+
+-- what is answered with no bound on the nesting
+abbrev pub Whole : List TokenKind → Result program.Script Fault → Type 0
+Whole tokens (Ok s) = IsParsed tokens s
+Whole tokens (Err faults.Memory) = Unit {0}
+Whole tokens (Err (faults.Syntax k)) = IsSyntaxPlace tokens k
+
+-- why there is no script: the lesser place decides, and at equal places it is that of syntax
+abbrev pub IsFault : List TokenKind → ParseFault → Type 0
+IsFault tokens answers.Memory = Unit {0}
+IsFault tokens (answers.Syntax k) = IsSyntaxPlace tokens k × ((d : ℕ) → d < k → IsDeepAt tokens d → ⊥)
+IsFault tokens (answers.TooDeep d) = IsDepthPlace tokens d × ((k : ℕ) → IsSyntaxPlace tokens k → d < k)

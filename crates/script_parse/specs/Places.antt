@@ -1,0 +1,45 @@
+-- The places at which tokens are no script: where syntax ends, and where brackets nest too deep.
+use Rattle.std.specs.Prelude.{◌≡◌, ℕ, ◌+◌, ◌<◌, ◌≤◌, List, ◌++◌, length, take, count_by, Bool, true, false}
+use Rattle.script_lex.specs.declared.token.TokenKind.{TokenKind}
+use Rattle.script_lex.specs.declared.token.TokenKind.TheVariants.{NameOpen, Keyword, Symbol}
+use Rattle.script_lex.specs.declared.token.Keyword.TheVariants as word
+use Rattle.script_lex.specs.declared.token.Symbol.TheVariants as sign
+use Rattle.script_grammar.specs.Tree.{Script}
+use Rattle.script_grammar.specs.Spelling.{spelling}
+
+-- some script's spelling begins with these tokens
+abbrev pub Begins : List TokenKind → Type 0
+Begins front = (s : Script) × (others : List TokenKind) × (spelling s ≡ front ++ others)
+
+-- The least place: some script's spelling begins with the tokens before k, and none with those up to k. Where k is the end of the tokens, more of them are missing.
+pub record IsSyntaxPlace (tokens : List TokenKind) (k : ℕ) : Type 0 where
+  pub within : k ≤ length tokens
+  pub begun : Begins (take k tokens)
+  pub no_more : k < length tokens → Begins (take (k + 1) tokens) → ⊥
+  pub no_script : (s : Script) → spelling s ≡ tokens → ⊥
+
+abbrev pub opens : TokenKind → Bool
+opens (NameOpen name) = true
+opens (Symbol sign.OpenRound) = true
+opens (Symbol sign.OpenSquare) = true
+opens (Symbol sign.OpenCurly) = true
+opens (Keyword word.If) = true
+opens (Keyword word.Def) = true
+opens k = false
+
+abbrev pub closes : TokenKind → Bool
+closes (Symbol sign.CloseRound) = true
+closes (Symbol sign.CloseSquare) = true
+closes (Symbol sign.CloseCurly) = true
+closes (Keyword word.End) = true
+closes k = false
+
+-- the nesting at token k, what is opened less what is closed among tokens 0 to k, is at least 201
+abbrev pub IsDeepAt : List TokenKind → ℕ → Type 0
+IsDeepAt tokens k = 201 + count_by closes (take (k + 1) tokens) ≤ count_by opens (take (k + 1) tokens)
+
+-- and at no token before
+pub record IsDepthPlace (tokens : List TokenKind) (k : ℕ) : Type 0 where
+  pub within : k < length tokens
+  pub here : IsDeepAt tokens k
+  pub first : (j : ℕ) → j < k → IsDeepAt tokens j → ⊥

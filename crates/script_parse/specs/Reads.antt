@@ -1,0 +1,81 @@
+-- Parts of what is read, as the functions read them. The number at is the index of a token that was read before.
+use Rattle.std.specs.Prelude.{ℕ, List, ◌∷◌, length, Bool, true, false, Ok, Err}
+use Rattle.script_lex.specs.declared.token.TokenKind.{TokenKind}
+use Rattle.script_lex.specs.declared.token.TokenKind.TheVariants.{Name, NameOpen, Keyword, Symbol}
+use Rattle.script_lex.specs.declared.token.Keyword.TheVariants as word
+use Rattle.script_lex.specs.declared.token.Symbol.TheVariants as sign
+use Rattle.script_grammar.specs.Tree.{Sort, Tree, Many, more, ABind, AParam, ADef, APart, AnExpr, Bind, Labelled, Optional, Def, BindPart, DefPart, CallPart, IfPart}
+use Rattle.script_grammar.specs.Read.{Reader, ◌>>=◌, made, both, expect, perhaps, many, chain, closed}
+use Rattle.script_grammar.specs.Kinds.{is_assign, is_comma, is_close_round, is_end}
+use Rattle.script_grammar.specs.ReadValue.{binds, call, choice, full_by}
+use Rattle.script_grammar.specs.ReadScript.{value, result, bind, inner, param, def}
+
+-- a name, and a name with "(" behind it
+abbrev pub a_name : Reader (List ℕ)
+a_name (Name n ∷ r) = Ok (n, r)
+a_name w = Err (length w)
+
+abbrev pub an_open_name : Reader (List ℕ)
+an_open_name (NameOpen n ∷ r) = Ok (n, r)
+an_open_name w = Err (length w)
+
+-- what the first token of a statement can be
+abbrev pub is_name : TokenKind → Bool
+is_name (Name n) = true
+is_name k = false
+
+abbrev pub is_open_name : TokenKind → Bool
+is_open_name (NameOpen n) = true
+is_open_name k = false
+
+abbrev pub is_def : TokenKind → Bool
+is_def (Keyword word.Def) = true
+is_def k = false
+
+abbrev pub is_if : TokenKind → Bool
+is_if (Keyword word.If) = true
+is_if k = false
+
+-- a binding behind its name
+abbrev pub bind_of : Bool → (ℕ → ℕ) → ℕ → List ℕ → Reader (Tree ABind)
+bind_of loose stamp at name w = both (expect is_assign) (value loose stamp) w >>= made (λ x. Bind at name x.1)
+
+-- a parameter behind its "~"
+unfoldable pub behind_tilde : (ℕ → ℕ) → Reader (Tree AParam)
+behind_tilde stamp w = param stamp (Symbol sign.Tilde ∷ w)
+
+-- the default of a parameter
+abbrev pub default_of : (ℕ → ℕ) → ℕ → List ℕ → Reader (Tree AParam)
+default_of stamp at name w = value false stamp w >>= made (Optional at name)
+
+-- a parameter behind its "~" and its name
+unfoldable pub label_of : (ℕ → ℕ) → ℕ → List ℕ → Reader (Tree AParam)
+label_of stamp at name w = perhaps is_assign w >>= λ x. elim x.0 [
+  | true ↦ default_of stamp at name x.1
+  | false ↦ Ok (Labelled at name, x.1)
+]
+
+-- one item or several with one token between, up to another
+abbrev pub some_closed : {s : Sort} → (TokenKind → Bool) → (TokenKind → Bool) → Reader (Tree s) → Reader (Tree (Many s))
+some_closed comma close item w = both (chain comma item) (expect close) w >>= made (λ x. more x.0.0 x.0.1)
+
+-- the result of a def, and the word behind it
+abbrev pub ended : (ℕ → ℕ) → Reader (Tree AnExpr × Unit {0})
+ended stamp w = both (result stamp) (expect is_end) w
+
+-- a def behind its name
+abbrev pub def_of : (ℕ → ℕ) → ℕ → List ℕ → Reader (Tree ADef)
+def_of stamp at name w = both (closed is_comma is_close_round (param stamp)) (both (perhaps is_assign) (both (many binds (inner stamp)) (ended stamp))) w >>= made (λ x. Def at name x.0 x.1.0 x.1.1.0 x.1.1.1.0)
+
+-- the parts of statements
+abbrev pub bind_part : (ℕ → ℕ) → Reader (Tree APart)
+bind_part stamp w = bind false stamp w >>= made BindPart
+
+abbrev pub def_part : (ℕ → ℕ) → Reader (Tree APart)
+def_part stamp w = def stamp w >>= made DefPart
+
+abbrev pub call_part : (ℕ → ℕ) → ℕ → Reader (Tree APart)
+call_part stamp levels w = call stamp (full_by levels stamp) w >>= made CallPart
+
+abbrev pub if_part : (ℕ → ℕ) → ℕ → Reader (Tree APart)
+if_part stamp levels w = choice stamp (full_by levels stamp) w >>= made IfPart

@@ -1,0 +1,9 @@
+//! The script that tokens spell, or the first place that rules one out.
+#![tactic(auto)]
+
+mod fault;
+// mod script;
+mod statement;
+
+pub use fault::ParseFault;
+// pub use script::parse;
