@@ -1,0 +1,4 @@
+pub mod Turns
+pub mod Levels
+pub mod Labels
+pub mod Choices

@@ -1,0 +1,69 @@
+-- What the functions of the descent read, where no definition of the grammar has a name for it.
+use Rattle.std.specs.Prelude.{ℕ, List, [], ◌∷◌, length, Bool, true, false, Option, Some, None, Err}
+use Rattle.script_lex.specs.declared.token.TokenKind.{TokenKind}
+use Rattle.script_lex.specs.declared.token.TokenKind.TheVariants.{Name, NameOpen, Keyword, Symbol}
+use Rattle.script_lex.specs.declared.token.Keyword.TheVariants as word
+use Rattle.script_lex.specs.declared.token.Symbol.TheVariants as sign
+use Rattle.script_grammar.specs.Tree.{Tree, AFull, APrim, AnArg, AnIf, Plain, Braces, Listed, Arg, If}
+use Rattle.script_grammar.specs.Read.{Reader, ◌>>=◌, made, both, expect, closed}
+use Rattle.script_grammar.specs.Kinds.{is_comma, is_close_round, is_close_square, is_close_curly, is_then, is_else, is_end}
+use Rattle.script_grammar.specs.ReadPredicate.{por}
+use Rattle.script_grammar.specs.ReadValue.{expr, round_or_unit}
+
+-- whether a token begins an operand that holds values
+abbrev pub holds_values : TokenKind → Bool
+holds_values (NameOpen name) = true
+holds_values (Keyword word.If) = true
+holds_values (Symbol sign.OpenRound) = true
+holds_values (Symbol sign.OpenSquare) = true
+holds_values k = false
+
+-- a reader that reads no value
+abbrev pub no_value : Reader (Tree AFull)
+no_value w = Err (length w)
+
+-- a predicate and the bracket behind it
+abbrev pub braces_at : ℕ → Reader (Tree APrim)
+braces_at at w = both por (expect is_close_curly) w >>= made (λ x. Braces at x.0)
+
+-- values in parentheses, behind the first bracket
+abbrev pub round_at : ℕ → Reader (Tree AFull) → Reader (Tree APrim)
+round_at at full w = closed is_comma is_close_round full w >>= made (round_or_unit at)
+
+-- values in square brackets, behind the first bracket
+abbrev pub list_at : ℕ → Reader (Tree AFull) → Reader (Tree APrim)
+list_at at full w = closed is_comma is_close_square full w >>= made (Listed at)
+
+-- the parts of an `if` behind its condition: what is read, and what is made of its values
+abbrev pub otherwise : Reader (Tree AFull) → Reader (Unit {0} × (Tree AFull × Unit {0}))
+otherwise full w = both (expect is_else) (both full (expect is_end)) w
+
+abbrev pub branches : Reader (Tree AFull) → Reader (Unit {0} × (Tree AFull × (Unit {0} × (Tree AFull × Unit {0}))))
+branches full w = both (expect is_then) (both full (otherwise full)) w
+
+abbrev pub seen_otherwise : Tree AFull → Unit {0} × (Tree AFull × Unit {0})
+seen_otherwise f = (tt, (f, tt))
+
+abbrev pub seen_branches : Tree AFull → Tree AFull → Unit {0} × (Tree AFull × (Unit {0} × (Tree AFull × Unit {0})))
+seen_branches f g = (tt, (f, seen_otherwise g))
+
+abbrev pub is_if : TokenKind → Bool
+is_if (Keyword word.If) = true
+is_if k = false
+
+-- an `if` behind that word
+abbrev pub chosen : ℕ → Reader (Tree AFull) → Reader (Tree AnIf)
+chosen at full w = both full (branches full) w >>= made (λ x. If at x.0 x.1.1.0 x.1.1.1.1.0)
+
+-- a value that does not begin with "-"
+abbrev pub plain : Bool → (ℕ → ℕ) → Reader (Tree AFull) → Reader (Tree AFull)
+plain loose stamp full w = expr loose stamp full w >>= made Plain
+
+-- the label of an argument, and what stands behind it
+abbrev pub label_of : List TokenKind → Option (List ℕ) × List TokenKind
+label_of (Name n ∷ Symbol sign.Assign ∷ r) = (Some n, r)
+label_of w = (None, w)
+
+-- an argument behind its label
+abbrev pub labelled : ℕ → Option (List ℕ) → Reader (Tree AFull) → Reader (Tree AnArg)
+labelled at label full w = full w >>= made (Arg at label)

@@ -1,0 +1,141 @@
+// Operands that hold no value: numbers, texts, truth values, names, predicates and `%wav`.
+ghost use Rattle.std.specs.Prelude.{◌≡◌, ◌<◌, ◌≤◌, ◌^◌, IfOk, length, false};
+ghost use Rattle.script_grammar.specs.Read.{next};
+ghost use Rattle.script_grammar.specs.ReadValue.{prim};
+ghost use Rattle.script_grammar.specs.View.{view_full, view_if, view_prim};
+ghost use Rattle.script_grammar.specs.Tree.{If as an_if};
+ghost use Rattle.script_grammar.specs.Whole.{IsWholeFull, IsWholeIf, IsWholePrim};
+ghost use Rattle.predicate_parse.specs.Gives.{kinds, Gives, places};
+ghost use Rattle.value_parse.specs.Operand.{braces_at, holds_values, no_value};
+
+use crate::number::{copy, index, wav};
+use liq_base::Memory;
+use predicate_parse::token::expect_close_curly;
+use predicate_parse::{Fault, predicate};
+use script_grammar::tree::{self, Full, If, Literal};
+use script_lex::{Keyword, Symbol, Token, TokenKind};
+use std::alloc::Global;
+
+fn braces(alloc: Global, at: u32, tokens: &[Token]) -> Result<(tree::Operand, &[Token]), Fault>
+    ensures shorter { IfOk result (λ x. length x.1.now < length tokens.now) }
+    ensures gives { Gives (λ x. (view_prim x.0, kinds x.1.now)) result (braces_at at (kinds tokens.now)) }
+    ensures whole { IfOk result (λ x. IsWholePrim x.0) }
+{
+    let (pred, rest) = predicate(alloc, tokens)?;
+    let ((), rest) = expect_close_curly(rest)?;
+    Ok((tree::Operand::Braces { at, pred }, rest))
+}
+
+/// An operand that holds no value.
+#[tactic(auto, unfolding(script_grammar::specs::ReadValue::prim))]
+pub fn atom(
+    alloc: Global,
+    total: usize,
+    loose: bool,
+    tokens: &[Token],
+) -> Result<(tree::Operand, &[Token]), Fault>
+    requires within { length tokens.now ≤ total }
+    requires small { total < 2 ^ 32 }
+    requires closed { next holds_values (kinds tokens.now) ≡ false }
+    ensures shorter { IfOk result (λ x. length x.1.now < length tokens.now) }
+    ensures gives { Gives (λ x. (view_prim x.0, kinds x.1.now)) result (prim loose (places total) no_value (kinds tokens.now)) }
+    ensures whole { IfOk result (λ x. IsWholePrim x.0) }
+{
+    let at = index(total, tokens);
+    match tokens {
+        [
+            Token {
+                kind: TokenKind::Int(number),
+                ..
+            },
+            rest @ ..,
+        ] => {
+            let value = Literal::Int(*number);
+            Ok((tree::Operand::Literal { at, value }, rest))
+        }
+        [
+            Token {
+                kind: TokenKind::Number(number),
+                ..
+            },
+            rest @ ..,
+        ] => {
+            let value = Literal::Number(*number);
+            Ok((tree::Operand::Literal { at, value }, rest))
+        }
+        [
+            Token {
+                kind: TokenKind::Str(text),
+                ..
+            },
+            rest @ ..,
+        ] => {
+            let text = copy(alloc, text)?;
+            Ok((tree::Operand::Str { at, text }, rest))
+        }
+        [
+            Token {
+                kind: TokenKind::Name(name),
+                ..
+            },
+            rest @ ..,
+        ] => {
+            let name = copy(alloc, name)?;
+            Ok((tree::Operand::Name { at, name }, rest))
+        }
+        [
+            Token {
+                kind: TokenKind::Keyword(Keyword::True),
+                ..
+            },
+            rest @ ..,
+        ] => { Ok((tree::Operand::Bool { at, value: true }, rest)) }
+        [
+            Token {
+                kind: TokenKind::Keyword(Keyword::False),
+                ..
+            },
+            rest @ ..,
+        ] => { Ok((tree::Operand::Bool { at, value: false }, rest)) }
+        [
+            Token {
+                kind: TokenKind::Symbol(Symbol::OpenCurly),
+                ..
+            },
+            after @ ..,
+        ] => { braces(alloc, at, after) }
+        [
+            Token {
+                kind: TokenKind::Wav,
+                ..
+            },
+            after @ ..,
+        ] => {
+            let (size, rest) = wav(loose, after)?;
+            Ok((tree::Operand::Wav { at, size }, rest))
+        }
+        _ => Err(Fault::Syntax(tokens.len())),
+    }
+}
+
+/// An `if` of its parts.
+pub fn make_choice(
+    alloc: Global,
+    at: u32,
+    condition: Full,
+    then_part: Full,
+    else_part: Full,
+) -> Result<If, Memory>
+    ensures made { IfOk result (λ i. view_if i ≡ an_if at (view_full condition) (view_full then_part) (view_full else_part)) }
+    ensures whole { IfOk result (λ i. IsWholeFull condition → IsWholeFull then_part → IsWholeFull else_part → IsWholeIf i) }
+{
+    let condition = Box::new(alloc, condition)?;
+    let then_part = Box::new(alloc, then_part)?;
+    let else_part = Box::new(alloc, else_part)?;
+    Ok(If {
+        at,
+        condition,
+        then_part,
+        else_part,
+    })
+}

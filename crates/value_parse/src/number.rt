@@ -1,0 +1,236 @@
+// Numbers, operators, and the option of `%wav`.
+ghost use Rattle.std.specs.Prelude.{◌≡◌, ◌<◌, ◌≤◌, ◌^◌, IfOk, length, cond, false};
+ghost use Rattle.script_grammar.specs.Kinds.{op_of};
+ghost use Rattle.script_lex.specs.declared.token.TokenKind.TheVariants.{Symbol as a_symbol};
+ghost use Rattle.script_grammar.specs.ReadValue.{digits, whole_number, the_name, size, wav, takes_option, optional, opens_name, next_op, binds};
+ghost use Rattle.predicate_parse.specs.Gives.{kinds, Gives, places};
+ghost use Rattle.value_parse.specs.Operand.{is_if, label_of};
+ghost use Rattle.script_grammar.specs.Read.{expect};
+
+use liq_base::{Memory, Text};
+use predicate_parse::Fault;
+use predicate_parse::token::{at_open_round, expect_assign, expect_close_round, expect_open_round};
+use script_grammar::tree::{CompareOp, Literal};
+use script_lex::{Keyword, Symbol, Token, TokenKind};
+use std::alloc::Global;
+
+/// The index of the first of these tokens, which are the last of `total`.
+pub fn index(total: usize, tokens: &[Token]) -> u32
+    requires within { length tokens.now ≤ total }
+    requires small { total < 2 ^ 32 }
+    ensures { result ≡ places total (length (kinds tokens.now)) }
+{
+    (total - tokens.len()) as u32
+}
+
+/// The same text once more.
+pub fn copy(alloc: Global, text: &Text) -> Result<Text, Memory>
+    ensures { IfOk result (λ t. t ≡ text.now) }
+{
+    Text::from_str(alloc, text.as_str())
+}
+
+/// A number.
+#[tactic(auto, unfolding(script_grammar::specs::ReadValue::digits))]
+pub fn digits(tokens: &[Token]) -> Result<(Literal, &[Token]), Fault>
+    ensures shorter { IfOk result (λ x. length x.1.now < length tokens.now) }
+    ensures gives { Gives (λ x. (x.0, kinds x.1.now)) result (digits (kinds tokens.now)) }
+{
+    match tokens {
+        [
+            Token {
+                kind: TokenKind::Int(number),
+                ..
+            },
+            rest @ ..,
+        ] => Ok((Literal::Int(*number), rest)),
+        [
+            Token {
+                kind: TokenKind::Number(number),
+                ..
+            },
+            rest @ ..,
+        ] => Ok((Literal::Number(*number), rest)),
+        _ => Err(Fault::Syntax(tokens.len())),
+    }
+}
+
+#[tactic(auto, unfolding(script_grammar::specs::ReadValue::whole_number))]
+fn whole_number(tokens: &[Token]) -> Result<(i64, &[Token]), Fault>
+    ensures shorter { IfOk result (λ x. length x.1.now < length tokens.now) }
+    ensures gives { Gives (λ x. (x.0, kinds x.1.now)) result (whole_number (kinds tokens.now)) }
+{
+    match tokens {
+        [
+            Token {
+                kind: TokenKind::Int(number),
+                ..
+            },
+            rest @ ..,
+        ] => Ok((*number, rest)),
+        _ => Err(Fault::Syntax(tokens.len())),
+    }
+}
+
+#[tactic(auto, unfolding(script_grammar::specs::ReadValue::the_name))]
+fn the_name(tokens: &[Token]) -> Result<((), &[Token]), Fault>
+    ensures shorter { IfOk result (λ x. length x.1.now < length tokens.now) }
+    ensures gives { Gives (λ x. (tt, kinds x.1.now)) result (the_name (kinds tokens.now)) }
+{
+    match tokens {
+        [
+            Token {
+                kind: TokenKind::Name(name),
+                ..
+            },
+            rest @ ..,
+        ] => {
+            if name.as_str() == "samplesize" {
+                Ok(((), rest))
+            } else {
+                Err(Fault::Syntax(tokens.len()))
+            }
+        }
+        _ => Err(Fault::Syntax(tokens.len())),
+    }
+}
+
+// `samplesize` and `=`, at the front or not.
+fn at_option_name(tokens: &[Token]) -> bool
+    ensures { result ≡ cond (opens_name (kinds tokens.now)) (binds (kinds tokens.now)) false }
+{
+    match tokens {
+        [
+            Token {
+                kind: TokenKind::Name(name),
+                ..
+            },
+            Token {
+                kind: TokenKind::Symbol(Symbol::Assign),
+                ..
+            },
+            ..
+        ] => name.as_str() == "samplesize",
+        _ => false,
+    }
+}
+
+fn optional(tokens: &[Token]) -> bool
+    ensures { result ≡ optional (kinds tokens.now) }
+{
+    match tokens {
+        [
+            Token {
+                kind: TokenKind::Symbol(Symbol::OpenRound),
+                ..
+            },
+            after @ ..,
+        ] => at_option_name(after),
+        _ => false,
+    }
+}
+
+fn takes_option(loose: bool, tokens: &[Token]) -> bool
+    ensures { result ≡ takes_option loose (kinds tokens.now) }
+{
+    if loose {
+        optional(tokens)
+    } else {
+        at_open_round(tokens)
+    }
+}
+
+#[tactic(auto, unfolding(script_grammar::specs::ReadValue::size))]
+fn size(tokens: &[Token]) -> Result<(i64, &[Token]), Fault>
+    ensures shorter { IfOk result (λ x. length x.1.now < length tokens.now) }
+    ensures gives { Gives (λ x. (x.0, kinds x.1.now)) result (size (kinds tokens.now)) }
+{
+    let ((), rest) = expect_open_round(tokens)?;
+    let ((), rest) = the_name(rest)?;
+    let ((), rest) = expect_assign(rest)?;
+    let (number, rest) = whole_number(rest)?;
+    let ((), rest) = expect_close_round(rest)?;
+    Ok((number, rest))
+}
+
+/// What stands behind `%wav`: its option, or nothing.
+#[tactic(auto, unfolding(script_grammar::specs::ReadValue::wav))]
+pub fn wav(loose: bool, tokens: &[Token]) -> Result<(Option<i64>, &[Token]), Fault>
+    ensures shorter { IfOk result (λ x. length x.1.now ≤ length tokens.now) }
+    ensures gives { Gives (λ x. (x.0, kinds x.1.now)) result (wav loose (kinds tokens.now)) }
+{
+    if takes_option(loose, tokens) {
+        let (number, rest) = size(tokens)?;
+        Ok((Some(number), rest))
+    } else {
+        Ok((None, tokens))
+    }
+}
+
+fn op_of(symbol: Symbol) -> Option<CompareOp>
+    ensures { result ≡ op_of (a_symbol symbol) }
+{
+    match symbol {
+        Symbol::Equal => Some(CompareOp::Equal),
+        Symbol::Differs => Some(CompareOp::Differs),
+        Symbol::Less => Some(CompareOp::Less),
+        Symbol::AtMost => Some(CompareOp::AtMost),
+        Symbol::Greater => Some(CompareOp::Greater),
+        Symbol::AtLeast => Some(CompareOp::AtLeast),
+        _ => None,
+    }
+}
+
+/// The comparing operator that stands first, if one does.
+pub fn next_op(tokens: &[Token]) -> Option<CompareOp>
+    ensures { result ≡ next_op (kinds tokens.now) }
+{
+    match tokens {
+        [
+            Token {
+                kind: TokenKind::Symbol(symbol),
+                ..
+            },
+            ..
+        ] => op_of(*symbol),
+        _ => None,
+    }
+}
+
+/// The label of an argument, if it has one, and the tokens behind it.
+pub fn argument_label(alloc: Global, tokens: &[Token]) -> Result<(Option<Text>, &[Token]), Memory>
+    ensures shorter { IfOk result (λ x. length x.1.now ≤ length tokens.now) }
+    ensures read { IfOk result (λ x. label_of (kinds tokens.now) ≡ (x.0, kinds x.1.now)) }
+{
+    match tokens {
+        [
+            Token {
+                kind: TokenKind::Name(name),
+                ..
+            },
+            Token {
+                kind: TokenKind::Symbol(Symbol::Assign),
+                ..
+            },
+            rest @ ..,
+        ] => Ok((Some(copy(alloc, name)?), rest)),
+        _ => Ok((None, tokens)),
+    }
+}
+
+/// The tokens behind an `if`. Any other token, or none, is a fault there.
+pub fn expect_if(tokens: &[Token]) -> Result<((), &[Token]), Fault>
+    ensures shorter { IfOk result (λ x. length x.1.now < length tokens.now) }
+    ensures gives { Gives (λ x. (tt, kinds x.1.now)) result (expect is_if (kinds tokens.now)) }
+{
+    match tokens {
+        [
+            Token {
+                kind: TokenKind::Keyword(Keyword::If),
+                ..
+            },
+            rest @ ..,
+        ] => Ok(((), rest)),
+        _ => Err(Fault::Syntax(tokens.len())),
+    }
+}
