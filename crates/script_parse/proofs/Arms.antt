@@ -1,5 +1,5 @@
 -- Reading by the first token.
-use Rattle.std.proofs.Common.{◌≡◌, ℕ, suc, List, [], ◌∷◌, length, Bool, true, false, Ok, Err, refl}
+use Rattle.std.proofs.Common.{◌≡◌, ℕ, suc, List, [], ◌∷◌, length, Bool, true, false, Ok, Err, refl, ap}
 use Rattle.script_lex.specs.declared.token.TokenKind.{TokenKind}
 use Rattle.script_lex.specs.declared.token.TokenKind.TheVariants.{Name, NameOpen, Keyword, Symbol}
 use Rattle.script_lex.specs.declared.token.Keyword.TheVariants as word
@@ -42,17 +42,17 @@ part_def stamp [] e = absurd cc
 part_def stamp (Keyword word.Def ∷ r) e = refl
 part_def stamp (k ∷ r) e = absurd cc
 
-pub part_call : (stamp : ℕ → ℕ) (w : List TokenKind) → next is_open_name w ≡ true → part stamp w ≡ call_part stamp (length w) w
+pub part_call : (stamp : ℕ → ℕ) (w : List TokenKind) (levels : ℕ) → length w ≡ levels → next is_open_name w ≡ true → part stamp w ≡ call_part stamp levels w
 unfolding part
-part_call stamp [] e = absurd cc
-part_call stamp (NameOpen n ∷ r) e = refl
-part_call stamp (k ∷ r) e = absurd cc
+part_call stamp [] levels l e = absurd cc
+part_call stamp (NameOpen n ∷ r) levels l e = ap (λ (i : ℕ). call_part stamp i (NameOpen n ∷ r)) l
+part_call stamp (k ∷ r) levels l e = absurd cc
 
-pub part_if : (stamp : ℕ → ℕ) (w : List TokenKind) → next is_if w ≡ true → part stamp w ≡ if_part stamp (length w) w
+pub part_if : (stamp : ℕ → ℕ) (w : List TokenKind) (levels : ℕ) → length w ≡ levels → next is_if w ≡ true → part stamp w ≡ if_part stamp levels w
 unfolding part
-part_if stamp [] e = absurd cc
-part_if stamp (Keyword word.If ∷ r) e = refl
-part_if stamp (k ∷ r) e = absurd cc
+part_if stamp [] levels l e = absurd cc
+part_if stamp (Keyword word.If ∷ r) levels l e = ap (λ (i : ℕ). if_part stamp i (Keyword word.If ∷ r)) l
+part_if stamp (k ∷ r) levels l e = absurd cc
 
 -- a token that begins no statement
 pub part_other : (stamp : ℕ → ℕ) (w : List TokenKind) → next is_name w ≡ false → next is_def w ≡ false → next is_open_name w ≡ false → next is_if w ≡ false → part stamp w ≡ Err (length w)

@@ -2,3 +2,4 @@ mod Turns
 mod Arms
 mod Exact
 mod Parsed
+mod Nesting

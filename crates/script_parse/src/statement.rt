@@ -345,7 +345,7 @@ fn call_part(alloc: Global, total: usize, tokens: &[Token]) -> Result<(StmtPart,
     requires within { length tokens.now ≤ total }
     requires small { total < 2 ^ 32 }
     ensures shorter { IfOk result (λ x. length x.1.now < length tokens.now) }
-    ensures gives { Gives (λ x. (view_part x.0, kinds x.1.now)) result (call_part (places total) (length (kinds tokens.now)) (kinds tokens.now)) }
+    ensures gives { Gives (λ x. (view_part x.0, kinds x.1.now)) result (call_part (places total) (length tokens.now) (kinds tokens.now)) }
     ensures whole { IfOk result (λ x. IsWholePart x.0) }
 {
     let (call, rest) = call(alloc, total, tokens)?;
@@ -356,7 +356,7 @@ fn if_part(alloc: Global, total: usize, tokens: &[Token]) -> Result<(StmtPart, &
     requires within { length tokens.now ≤ total }
     requires small { total < 2 ^ 32 }
     ensures shorter { IfOk result (λ x. length x.1.now < length tokens.now) }
-    ensures gives { Gives (λ x. (view_part x.0, kinds x.1.now)) result (if_part (places total) (length (kinds tokens.now)) (kinds tokens.now)) }
+    ensures gives { Gives (λ x. (view_part x.0, kinds x.1.now)) result (if_part (places total) (length tokens.now) (kinds tokens.now)) }
     ensures whole { IfOk result (λ x. IsWholePart x.0) }
 {
     let (choice, rest) = choice(alloc, total, tokens)?;

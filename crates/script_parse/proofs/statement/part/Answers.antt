@@ -11,10 +11,10 @@ pub returns-then-at_def-clause-gives : goal.returns-then-at_def-clause-gives
 returns-then-at_def-clause-gives c = rw (part_def (places c.args.total) (kinds c.args.tokens.now) (sym c.at_def.ensures ∙ c.if-at_def.true)) c.def_part.ensures.gives
 
 pub returns-then-at_open_name-clause-gives : goal.returns-then-at_open_name-clause-gives
-returns-then-at_open_name-clause-gives c = rw (part_call (places c.args.total) (kinds c.args.tokens.now) (sym c.at_open_name.ensures ∙ c.if-at_open_name.true)) c.call_part.ensures.gives
+returns-then-at_open_name-clause-gives c = rw (part_call (places c.args.total) (kinds c.args.tokens.now) (length c.args.tokens.now) (length-map c.args.tokens.now kind_of) (sym c.at_open_name.ensures ∙ c.if-at_open_name.true)) c.call_part.ensures.gives
 
 pub returns-then-at_if-clause-gives : goal.returns-then-at_if-clause-gives
-returns-then-at_if-clause-gives c = rw (part_if (places c.args.total) (kinds c.args.tokens.now) (sym c.at_if.ensures ∙ c.if-at_if.true)) c.if_part.ensures.gives
+returns-then-at_if-clause-gives c = rw (part_if (places c.args.total) (kinds c.args.tokens.now) (length c.args.tokens.now) (length-map c.args.tokens.now kind_of) (sym c.at_if.ensures ∙ c.if-at_if.true)) c.if_part.ensures.gives
 
 pub returns-else-at_if-clause-gives : goal.returns-else-at_if-clause-gives
 returns-else-at_if-clause-gives c =
