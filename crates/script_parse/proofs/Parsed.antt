@@ -1,5 +1,5 @@
 -- What is answered where brackets nest too deep at d.
-use Rattle.std.proofs.Common.{◌≡◌, ℕ, ◌+◌, ◌<◌, ◌≤◌, List, take, arith}
+use Rattle.std.proofs.Common.{ℕ, ◌+◌, ◌<◌, ◌≤◌, List, take, arith}
 use Rattle.script_lex.specs.declared.token.TokenKind.{TokenKind}
 use Rattle.script_grammar.specs.declared.tree.Script as program
 use Rattle.script_grammar.specs.View.{view_script}

@@ -36,7 +36,8 @@ fn closes(kind: &TokenKind) -> bool
 {
     matches!(
         kind,
-        TokenKind::Symbol(Symbol::CloseRound | Symbol::CloseSquare | Symbol::CloseCurly) | TokenKind::Keyword(Keyword::End)
+        TokenKind::Symbol(Symbol::CloseRound | Symbol::CloseSquare | Symbol::CloseCurly)
+            | TokenKind::Keyword(Keyword::End)
     )
 }
 

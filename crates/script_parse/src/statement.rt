@@ -12,7 +12,10 @@ ghost use Rattle.predicate_parse.specs.Gives.{kinds, Gives, places};
 
 use liq_base::Text;
 use predicate_parse::Fault;
-use predicate_parse::token::{at_any, at_close_round, at_comma, expect_assign, expect_close_round, expect_comma, expect_end, perhaps_assign, perhaps_semicolon, place};
+use predicate_parse::token::{
+    at_any, at_close_round, at_comma, expect_assign, expect_close_round, expect_comma, expect_end,
+    perhaps_assign, perhaps_semicolon, place,
+};
 use script_grammar::tree::{Bind, Def, Expr, Inner, Param, ParamForm, Stmt, StmtPart};
 use script_lex::{Keyword, Symbol, Token, TokenKind};
 use std::alloc::Global;
@@ -25,8 +28,14 @@ fn at_binding(tokens: &[Token]) -> bool
     matches!(
         tokens,
         [
-            Token { kind: TokenKind::Name(_), .. },
-            Token { kind: TokenKind::Symbol(Symbol::Assign), .. },
+            Token {
+                kind: TokenKind::Name(_),
+                ..
+            },
+            Token {
+                kind: TokenKind::Symbol(Symbol::Assign),
+                ..
+            },
             ..
         ]
     )
@@ -36,25 +45,61 @@ fn at_binding(tokens: &[Token]) -> bool
 fn at_name(tokens: &[Token]) -> bool
     ensures { result ≡ next is_name (kinds tokens.now) }
 {
-    matches!(tokens, [Token { kind: TokenKind::Name(_), .. }, ..])
+    matches!(
+        tokens,
+        [
+            Token {
+                kind: TokenKind::Name(_),
+                ..
+            },
+            ..
+        ]
+    )
 }
 
 fn at_open_name(tokens: &[Token]) -> bool
     ensures { result ≡ next is_open_name (kinds tokens.now) }
 {
-    matches!(tokens, [Token { kind: TokenKind::NameOpen(_), .. }, ..])
+    matches!(
+        tokens,
+        [
+            Token {
+                kind: TokenKind::NameOpen(_),
+                ..
+            },
+            ..
+        ]
+    )
 }
 
 fn at_def(tokens: &[Token]) -> bool
     ensures { result ≡ next is_def (kinds tokens.now) }
 {
-    matches!(tokens, [Token { kind: TokenKind::Keyword(Keyword::Def), .. }, ..])
+    matches!(
+        tokens,
+        [
+            Token {
+                kind: TokenKind::Keyword(Keyword::Def),
+                ..
+            },
+            ..
+        ]
+    )
 }
 
 fn at_if(tokens: &[Token]) -> bool
     ensures { result ≡ next is_if (kinds tokens.now) }
 {
-    matches!(tokens, [Token { kind: TokenKind::Keyword(Keyword::If), .. }, ..])
+    matches!(
+        tokens,
+        [
+            Token {
+                kind: TokenKind::Keyword(Keyword::If),
+                ..
+            },
+            ..
+        ]
+    )
 }
 
 fn expect_def(tokens: &[Token]) -> Result<((), &[Token]), Fault>
@@ -62,7 +107,13 @@ fn expect_def(tokens: &[Token]) -> Result<((), &[Token]), Fault>
     ensures gives { Gives (λ x. (tt, kinds x.1.now)) result (expect is_def (kinds tokens.now)) }
 {
     match tokens {
-        [Token { kind: TokenKind::Keyword(Keyword::Def), .. }, rest @ ..] => Ok(((), rest)),
+        [
+            Token {
+                kind: TokenKind::Keyword(Keyword::Def),
+                ..
+            },
+            rest @ ..,
+        ] => Ok(((), rest)),
         _ => Err(Fault::Syntax(tokens.len())),
     }
 }
@@ -73,7 +124,13 @@ fn name(tokens: &[Token]) -> Result<(&Text, &[Token]), Fault>
     ensures gives { Gives (λ x. (x.0.now, kinds x.1.now)) result (a_name (kinds tokens.now)) }
 {
     match tokens {
-        [Token { kind: TokenKind::Name(name), .. }, rest @ ..] => Ok((name, rest)),
+        [
+            Token {
+                kind: TokenKind::Name(name),
+                ..
+            },
+            rest @ ..,
+        ] => Ok((name, rest)),
         _ => Err(Fault::Syntax(tokens.len())),
     }
 }
@@ -83,13 +140,24 @@ fn open_name(tokens: &[Token]) -> Result<(&Text, &[Token]), Fault>
     ensures gives { Gives (λ x. (x.0.now, kinds x.1.now)) result (an_open_name (kinds tokens.now)) }
 {
     match tokens {
-        [Token { kind: TokenKind::NameOpen(name), .. }, rest @ ..] => Ok((name, rest)),
+        [
+            Token {
+                kind: TokenKind::NameOpen(name),
+                ..
+            },
+            rest @ ..,
+        ] => Ok((name, rest)),
         _ => Err(Fault::Syntax(tokens.len())),
     }
 }
 
 #[tactic(auto, using(crate::proofs::Arms::bind_is))]
-fn bind(alloc: Global, total: usize, loose: bool, tokens: &[Token]) -> Result<(Bind, &[Token]), Fault>
+fn bind(
+    alloc: Global,
+    total: usize,
+    loose: bool,
+    tokens: &[Token],
+) -> Result<(Bind, &[Token]), Fault>
     requires within { length tokens.now ≤ total }
     requires small { total < 2 ^ 32 }
     ensures shorter { IfOk result (λ x. length x.1.now < length tokens.now) }
@@ -102,7 +170,14 @@ fn bind(alloc: Global, total: usize, loose: bool, tokens: &[Token]) -> Result<(B
 }
 
 // A binding behind its name.
-fn bind_of<'a>(alloc: Global, total: usize, loose: bool, at: u32, name: &Text, tokens: &'a [Token]) -> Result<(Bind, &'a [Token]), Fault>
+fn bind_of<'a>(
+    alloc: Global,
+    total: usize,
+    loose: bool,
+    at: u32,
+    name: &Text,
+    tokens: &'a [Token],
+) -> Result<(Bind, &'a [Token]), Fault>
     requires within { length tokens.now ≤ total }
     requires small { total < 2 ^ 32 }
     ensures shorter { IfOk result (λ x. length x.1.now < length tokens.now) }
@@ -155,13 +230,25 @@ fn param(alloc: Global, total: usize, tokens: &[Token]) -> Result<(Param, &[Toke
     ensures whole { IfOk result (λ x. IsWholeParam x.0) }
 {
     match tokens {
-        [Token { kind: TokenKind::Name(name), .. }, rest @ ..] => {
+        [
+            Token {
+                kind: TokenKind::Name(name),
+                ..
+            },
+            rest @ ..,
+        ] => {
             let at = place(total, tokens);
             let name = Text::from_str(alloc, name.as_str())?;
             let form = ParamForm::Plain;
             Ok((Param { at, name, form }, rest))
         }
-        [Token { kind: TokenKind::Symbol(Symbol::Tilde), .. }, after @ ..] => labelled(alloc, total, after),
+        [
+            Token {
+                kind: TokenKind::Symbol(Symbol::Tilde),
+                ..
+            },
+            after @ ..,
+        ] => labelled(alloc, total, after),
         _ => Err(Fault::Syntax(tokens.len())),
     }
 }
@@ -182,7 +269,13 @@ fn labelled(alloc: Global, total: usize, tokens: &[Token]) -> Result<(Param, &[T
 
 // A parameter behind its `~` and its name.
 #[tactic(auto, unfolding(crate::specs::Reads::label_of))]
-fn label_of<'a>(alloc: Global, total: usize, at: u32, name: &Text, tokens: &'a [Token]) -> Result<(Param, &'a [Token]), Fault>
+fn label_of<'a>(
+    alloc: Global,
+    total: usize,
+    at: u32,
+    name: &Text,
+    tokens: &'a [Token],
+) -> Result<(Param, &'a [Token]), Fault>
     requires within { length tokens.now ≤ total }
     requires small { total < 2 ^ 32 }
     ensures shorter { IfOk result (λ x. length x.1.now ≤ length tokens.now) }
@@ -200,7 +293,13 @@ fn label_of<'a>(alloc: Global, total: usize, at: u32, name: &Text, tokens: &'a [
 }
 
 // The default of a parameter.
-fn default_of<'a>(alloc: Global, total: usize, at: u32, name: &Text, tokens: &'a [Token]) -> Result<(Param, &'a [Token]), Fault>
+fn default_of<'a>(
+    alloc: Global,
+    total: usize,
+    at: u32,
+    name: &Text,
+    tokens: &'a [Token],
+) -> Result<(Param, &'a [Token]), Fault>
     requires within { length tokens.now ≤ total }
     requires small { total < 2 ^ 32 }
     ensures shorter { IfOk result (λ x. length x.1.now < length tokens.now) }
@@ -226,7 +325,11 @@ fn comma_param(alloc: Global, total: usize, tokens: &[Token]) -> Result<(Param, 
 }
 
 // The parameters behind the first.
-fn more_params(alloc: Global, total: usize, tokens: &[Token]) -> Result<(Vec<Param>, &[Token]), Fault>
+fn more_params(
+    alloc: Global,
+    total: usize,
+    tokens: &[Token],
+) -> Result<(Vec<Param>, &[Token]), Fault>
     requires within { length tokens.now ≤ total }
     requires small { total < 2 ^ 32 }
     ensures shorter { IfOk result (λ x. length x.1.now ≤ length tokens.now) }
@@ -262,7 +365,11 @@ fn params(alloc: Global, total: usize, tokens: &[Token]) -> Result<(Vec<Param>, 
 
 // One parameter or several, and the `)` behind them.
 #[tactic(auto, unfolding(script_grammar::specs::Read::chain))]
-fn some_params(alloc: Global, total: usize, tokens: &[Token]) -> Result<(Vec<Param>, &[Token]), Fault>
+fn some_params(
+    alloc: Global,
+    total: usize,
+    tokens: &[Token],
+) -> Result<(Vec<Param>, &[Token]), Fault>
     requires within { length tokens.now ≤ total }
     requires small { total < 2 ^ 32 }
     ensures shorter { IfOk result (λ x. length x.1.now < length tokens.now) }
@@ -304,7 +411,13 @@ fn def(alloc: Global, total: usize, tokens: &[Token]) -> Result<(Def, &[Token]),
 }
 
 // A def behind its name.
-fn def_of<'a>(alloc: Global, total: usize, at: u32, name: &Text, tokens: &'a [Token]) -> Result<(Def, &'a [Token]), Fault>
+fn def_of<'a>(
+    alloc: Global,
+    total: usize,
+    at: u32,
+    name: &Text,
+    tokens: &'a [Token],
+) -> Result<(Def, &'a [Token]), Fault>
     requires within { length tokens.now ≤ total }
     requires small { total < 2 ^ 32 }
     ensures shorter { IfOk result (λ x. length x.1.now < length tokens.now) }
@@ -316,7 +429,17 @@ fn def_of<'a>(alloc: Global, total: usize, at: u32, name: &Text, tokens: &'a [To
     let (equals, rest) = perhaps_assign(rest);
     let (inner, rest) = inners(alloc, total, rest)?;
     let (result, rest) = ended(alloc, total, rest)?;
-    Ok((Def { at, name, params, equals, inner, result }, rest))
+    Ok((
+        Def {
+            at,
+            name,
+            params,
+            equals,
+            inner,
+            result,
+        },
+        rest,
+    ))
 }
 
 fn bind_part(alloc: Global, total: usize, tokens: &[Token]) -> Result<(StmtPart, &[Token]), Fault>
@@ -398,7 +521,11 @@ fn statement(alloc: Global, total: usize, tokens: &[Token]) -> Result<(Stmt, &[T
 }
 
 // All statements, up to the end of the tokens.
-pub fn statements(alloc: Global, total: usize, tokens: &[Token]) -> Result<(Vec<Stmt>, &[Token]), Fault>
+pub fn statements(
+    alloc: Global,
+    total: usize,
+    tokens: &[Token],
+) -> Result<(Vec<Stmt>, &[Token]), Fault>
     requires within { length tokens.now ≤ total }
     requires small { total < 2 ^ 32 }
     ensures gives { Gives (λ x. (listed (map view_stmt x.0.items), kinds x.1.now)) result (many (next is_any) (stmt (places total)) (kinds tokens.now)) }

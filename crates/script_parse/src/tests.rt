@@ -27,7 +27,11 @@ fn spelled(alloc: Global, script: &Script, tokens: &[Token]) -> Result<&'static 
             write!(got, "{kind:?} ")?;
         }
     }
-    Ok(if got == want { "script" } else { "another spelling" })
+    Ok(if got == want {
+        "script"
+    } else {
+        "another spelling"
+    })
 }
 
 // What is answered of a text.
@@ -159,8 +163,14 @@ fn the_longest_script(rt: HostRuntime) -> Result<(), Fail> {
 fn faults_are_printed(rt: HostRuntime) -> Result<(), Fail> {
     let alloc = rt.alloc();
     let rows = [
-        (ParseFault::Syntax(4), "no script begins with the tokens up to token 4"),
-        (ParseFault::TooDeep(202), "more than 200 levels are nested at token 202"),
+        (
+            ParseFault::Syntax(4),
+            "no script begins with the tokens up to token 4",
+        ),
+        (
+            ParseFault::TooDeep(202),
+            "more than 200 levels are nested at token 202",
+        ),
         (ParseFault::Memory, "out of memory"),
     ];
     for (fault, want) in rows {

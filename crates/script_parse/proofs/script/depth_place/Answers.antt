@@ -1,4 +1,4 @@
-use Rattle.std.proofs.Common.{◌≡◌, ◌≤◌, refl, true, false, arith}
+use Rattle.std.proofs.Common.{◌≡◌, refl, true, false, arith}
 use Rattle.script_parse.specs.Places.{opens, closes}
 use Rattle.predicate_parse.specs.Gives.{kind_of}
 use Rattle.script_parse.proofs.Nesting.{counted, at_most_one, still_shallow, deep_here}

@@ -1,8 +1,6 @@
-use Rattle.std.proofs.Common.{◌+◌, take, subst, sym}
+use Rattle.std.proofs.Common.{◌+◌}
 use Rattle.std.proofs.lemmas.List.{take-map}
 use Rattle.predicate_parse.specs.Gives.{kind_of, kinds}
-use Rattle.script_parse.specs.Places.{IsSyntaxPlace}
-use Rattle.script_parse.specs.Answer.{IsParsed}
 use Rattle.script_parse.proofs.Parsed.{deep_by_script, deep_by_place, syntax_first}
 use Rattle.script_parse.proofs.script.front.Goals as goal
 use Rattle.script_parse.proofs.script.front.Goals.{in-Ok, in-Err-Syntax+then-k-d, in-Err-Syntax+else-k-d, in-Err-Memory}
