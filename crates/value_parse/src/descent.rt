@@ -11,13 +11,13 @@ ghost use Rattle.predicate_parse.specs.Gives.{kinds, Gives, places};
 ghost use Rattle.value_parse.specs.Operand.{plain, round_at, list_at, labelled, chosen, branches, otherwise, seen_branches, seen_otherwise};
 
 use crate::atoms::{atom, make_choice};
-use crate::number::{argument_label, copy, digits, expect_if, index, next_op};
+use crate::number::{argument_label, copy, digits, expect_if, next_op, product_sign, sum_sign};
 use liq_base::Text;
 use predicate_parse::Fault;
 use predicate_parse::token::{
     at_added, at_and, at_close_round, at_close_square, at_comma, at_multiplied, at_or, expect_and,
     expect_close_round, expect_close_square, expect_comma, expect_else, expect_end, expect_or,
-    expect_then, perhaps_not,
+    expect_then, perhaps_not, place,
 };
 use script_grammar::make;
 use script_grammar::tree::{
@@ -70,7 +70,7 @@ pub fn full_step(
             after @ ..,
         ] => {
             let (number, rest) = digits(after)?;
-            let at = index(total, tokens);
+            let at = place(total, tokens);
             Ok((Full::Minus { at, number }, rest))
         }
         _ => plain(alloc, total, levels, loose, tokens),
@@ -279,7 +279,7 @@ fn behind_sum(
 {
     match (next_op(tokens), tokens) {
         (Some(op), [_, after @ ..]) => {
-            let at = index(total, tokens);
+            let at = place(total, tokens);
             let (sum, rest) = sum(alloc, total, levels, loose, after)?;
             let right = Some(Compared { at, op, sum });
             Ok((Compare { left, right }, rest))
@@ -333,7 +333,7 @@ fn addeds(
 }
 
 #[cycle(value)]
-#[tactic(auto, unfolding(script_grammar::specs::ReadValue::added))]
+#[tactic(auto, using(crate::proofs::Signs::added_fails, crate::proofs::Signs::added_part_fails, crate::proofs::Signs::added_goes))]
 fn added(
     alloc: Global,
     total: usize,
@@ -347,32 +347,10 @@ fn added(
     ensures gives { Gives (λ x. (view_added x.0, kinds x.1.now)) result (added loose (places total) (full_by levels (places total)) (kinds tokens.now)) }
     ensures whole { IfOk result (λ x. IsWholeAdded x.0) }
 {
-    let at = index(total, tokens);
-    match tokens {
-        [
-            Token {
-                kind: TokenKind::Symbol(Symbol::Plus),
-                ..
-            },
-            after @ ..,
-        ] => {
-            let (product, rest) = product(alloc, total, levels, loose, after)?;
-            let minus = false;
-            Ok((Added { at, minus, product }, rest))
-        }
-        [
-            Token {
-                kind: TokenKind::Symbol(Symbol::Minus),
-                ..
-            },
-            after @ ..,
-        ] => {
-            let (product, rest) = product(alloc, total, levels, loose, after)?;
-            let minus = true;
-            Ok((Added { at, minus, product }, rest))
-        }
-        _ => Err(Fault::Syntax(tokens.len())),
-    }
+    let at = place(total, tokens);
+    let (minus, rest) = sum_sign(tokens)?;
+    let (product, rest) = product(alloc, total, levels, loose, rest)?;
+    Ok((Added { at, minus, product }, rest))
 }
 
 #[cycle(value)]
@@ -420,7 +398,7 @@ fn multiplieds(
 }
 
 #[cycle(value)]
-#[tactic(auto, unfolding(script_grammar::specs::ReadValue::multiplied))]
+#[tactic(auto, using(crate::proofs::Signs::multiplied_fails, crate::proofs::Signs::multiplied_part_fails, crate::proofs::Signs::multiplied_goes))]
 fn multiplied(
     alloc: Global,
     total: usize,
@@ -434,32 +412,10 @@ fn multiplied(
     ensures gives { Gives (λ x. (view_multiplied x.0, kinds x.1.now)) result (multiplied loose (places total) (full_by levels (places total)) (kinds tokens.now)) }
     ensures whole { IfOk result (λ x. IsWholeMultiplied x.0) }
 {
-    let at = index(total, tokens);
-    match tokens {
-        [
-            Token {
-                kind: TokenKind::Symbol(Symbol::Star),
-                ..
-            },
-            after @ ..,
-        ] => {
-            let (prim, rest) = operand(alloc, total, levels, loose, after)?;
-            let divide = false;
-            Ok((Multiplied { at, divide, prim }, rest))
-        }
-        [
-            Token {
-                kind: TokenKind::Symbol(Symbol::Slash),
-                ..
-            },
-            after @ ..,
-        ] => {
-            let (prim, rest) = operand(alloc, total, levels, loose, after)?;
-            let divide = true;
-            Ok((Multiplied { at, divide, prim }, rest))
-        }
-        _ => Err(Fault::Syntax(tokens.len())),
-    }
+    let at = place(total, tokens);
+    let (divide, rest) = product_sign(tokens)?;
+    let (prim, rest) = operand(alloc, total, levels, loose, rest)?;
+    Ok((Multiplied { at, divide, prim }, rest))
 }
 
 #[cycle(value)]
@@ -504,14 +460,14 @@ fn operand(
                 ..
             },
             after @ ..,
-        ] => { round(alloc, total, levels, index(total, tokens), after) }
+        ] => { round(alloc, total, levels, place(total, tokens), after) }
         [
             Token {
                 kind: TokenKind::Symbol(Symbol::OpenSquare),
                 ..
             },
             after @ ..,
-        ] => { list(alloc, total, levels, index(total, tokens), after) }
+        ] => { list(alloc, total, levels, place(total, tokens), after) }
         _ => atom(alloc, total, loose, tokens),
     }
 }
@@ -633,7 +589,7 @@ pub fn call(
             },
             after @ ..,
         ] => {
-            let at = index(total, tokens);
+            let at = place(total, tokens);
             let (args, rest) = args(alloc, total, levels, after)?;
             let name = copy(alloc, name)?;
             Ok((make::call(at, name, args), rest))
@@ -722,7 +678,7 @@ fn arg(
     ensures gives { Gives (λ x. (view_arg x.0, kinds x.1.now)) result (arg (places total) (full_by levels (places total)) (kinds tokens.now)) }
     ensures whole { IfOk result (λ x. IsWholeArg x.0) }
 {
-    let at = index(total, tokens);
+    let at = place(total, tokens);
     let (label, rest) = argument_label(alloc, tokens)?;
     labelled(alloc, total, levels, at, label, rest)
 }
@@ -761,7 +717,7 @@ pub fn choice(
     ensures gives { Gives (λ x. (view_if x.0, kinds x.1.now)) result (choice (places total) (full_by levels (places total)) (kinds tokens.now)) }
     ensures whole { IfOk result (λ x. IsWholeIf x.0) }
 {
-    let at = index(total, tokens);
+    let at = place(total, tokens);
     let ((), rest) = expect_if(tokens)?;
     chosen(alloc, total, levels, at, rest)
 }
