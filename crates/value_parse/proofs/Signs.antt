@@ -1,9 +1,9 @@
 -- A part of a sum or of a product, by its operator.
-use Rattle.std.proofs.Common.{◌≡◌, ℕ, List, [], ◌∷◌, length, Bool, Ok, Err, refl, sym, ap, ◌∙◌}
+use Rattle.std.proofs.Common.{◌≡◌, ℕ, List, [], ◌∷◌, length, Bool, Ok, refl, sym, ap, ◌∙◌}
 use Rattle.script_lex.specs.declared.token.TokenKind.{TokenKind}
 use Rattle.script_lex.specs.declared.token.TokenKind.TheVariants.{Symbol}
 use Rattle.script_lex.specs.declared.token.Symbol.TheVariants as sign
-use Rattle.script_grammar.specs.Tree.{Tree, AFull, AnAdded, AMultiplied, AProduct, APrim, Added, Multiplied}
+use Rattle.script_grammar.specs.Tree.{Tree, AFull, AProduct, APrim, Added, Multiplied}
 use Rattle.script_grammar.specs.Read.{Reader, Read, ◌>>=◌, made}
 use Rattle.script_grammar.specs.ReadValue.{product, added, prim, multiplied}
 use Rattle.predicate_parse.specs.declared.fault.Fault.{Fault}

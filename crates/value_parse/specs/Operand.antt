@@ -1,5 +1,5 @@
 -- What the functions of the descent read, where no definition of the grammar has a name for it.
-use Rattle.std.specs.Prelude.{ℕ, List, [], ◌∷◌, length, Bool, true, false, Option, Some, None, Ok, Err}
+use Rattle.std.specs.Prelude.{ℕ, List, ◌∷◌, length, Bool, true, false, Option, Some, None, Ok, Err}
 use Rattle.script_lex.specs.declared.token.TokenKind.{TokenKind}
 use Rattle.script_lex.specs.declared.token.TokenKind.TheVariants.{Name, NameOpen, Keyword, Symbol}
 use Rattle.script_lex.specs.declared.token.Keyword.TheVariants as word

@@ -1,5 +1,6 @@
-// Values: recursive descent over tokens. Each function reads as the definition of its name does, where `levels` is how
-// deep values may stand in one another.
+// Values: recursive descent over tokens. Each function reads as the definition of its name does in `ReadValue` of
+// `script_grammar`, or in `specs/Operand.antt`. A value counts down `levels`, so that it is the number of
+// `full_by`; a caller gives as many as there are tokens, which is always enough.
 ghost use Rattle.std.specs.Prelude.{◌≡◌, ◌<◌, ◌≤◌, ◌^◌, IfOk, length, map};
 ghost use Rattle.std.specs.List.{All};
 ghost use Rattle.script_grammar.specs.Kinds.{is_or, is_and, is_comma, is_added, is_multiplied};
@@ -46,6 +47,7 @@ fn full(
     }
 }
 
+/// A value, in which others nest at most `levels` deep. Where it is loose, a `(` may stand behind it.
 #[cycle(value)]
 #[tactic(auto, unfolding(script_grammar::specs::ReadValue::full_step))]
 pub fn full_step(
@@ -95,6 +97,7 @@ fn plain(
     Ok((Full::Plain(expr), rest))
 }
 
+/// An expression, likewise.
 #[cycle(value)]
 #[tactic(auto, unfolding(script_grammar::specs::ReadValue::expr, script_grammar::specs::Read::chain))]
 pub fn expr(
@@ -567,6 +570,7 @@ fn comma_full(
     full(alloc, total, levels, rest)
 }
 
+/// A call of a name, whose values nest less than `levels` deep.
 #[cycle(value)]
 #[tactic(auto, unfolding(script_grammar::specs::ReadValue::call))]
 pub fn call(
@@ -703,6 +707,7 @@ fn labelled(
     Ok((Arg { at, label, value }, rest))
 }
 
+/// An `if`, likewise.
 #[cycle(value)]
 #[tactic(auto, using(crate::proofs::Choices::choice_goes, crate::proofs::Choices::choice_fails))]
 pub fn choice(
