@@ -3,7 +3,7 @@ use Rattle.std.proofs.Common.{◌≡◌, ℕ, List, [], ◌∷◌, length, Ok, r
 use Rattle.script_lex.specs.declared.token.TokenKind.{TokenKind}
 use Rattle.script_lex.specs.declared.token.TokenKind.TheVariants.{Keyword}
 use Rattle.script_lex.specs.declared.token.Keyword.TheVariants as word
-use Rattle.script_grammar.specs.Tree.{Tree, AFull, AnIf}
+use Rattle.script_grammar.specs.Tree.{Tree, AFull}
 use Rattle.script_grammar.specs.Read.{Reader, Read, ◌>>=◌, expect}
 use Rattle.script_grammar.specs.ReadValue.{choice}
 use Rattle.predicate_parse.specs.declared.fault.Fault.{Fault}

@@ -1,10 +1,10 @@
 -- An argument, by its label.
-use Rattle.std.proofs.Common.{◌≡◌, ℕ, List, [], ◌∷◌, length, Option, refl, sym, ap, ◌∙◌}
+use Rattle.std.proofs.Common.{◌≡◌, ℕ, List, ◌∷◌, length, Option, refl, sym, ap, ◌∙◌}
 use Rattle.script_lex.specs.declared.token.TokenKind.{TokenKind}
 use Rattle.script_lex.specs.declared.token.TokenKind.TheVariants.{Name, Symbol}
 use Rattle.script_lex.specs.declared.token.Symbol.TheVariants as sign
-use Rattle.script_grammar.specs.Tree.{Tree, AFull, AnArg}
-use Rattle.script_grammar.specs.Read.{Reader, Read}
+use Rattle.script_grammar.specs.Tree.{Tree, AFull}
+use Rattle.script_grammar.specs.Read.{Reader}
 use Rattle.script_grammar.specs.ReadValue.{arg}
 use Rattle.value_parse.specs.Operand.{label_of, labelled}
 

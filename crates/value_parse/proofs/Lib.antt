@@ -2,3 +2,4 @@ pub mod Turns
 pub mod Levels
 pub mod Labels
 pub mod Choices
+pub mod Signs

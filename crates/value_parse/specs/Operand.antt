@@ -1,5 +1,5 @@
 -- What the functions of the descent read, where no definition of the grammar has a name for it.
-use Rattle.std.specs.Prelude.{ℕ, List, [], ◌∷◌, length, Bool, true, false, Option, Some, None, Err}
+use Rattle.std.specs.Prelude.{ℕ, List, ◌∷◌, length, Bool, true, false, Option, Some, None, Ok, Err}
 use Rattle.script_lex.specs.declared.token.TokenKind.{TokenKind}
 use Rattle.script_lex.specs.declared.token.TokenKind.TheVariants.{Name, NameOpen, Keyword, Symbol}
 use Rattle.script_lex.specs.declared.token.Keyword.TheVariants as word
@@ -67,3 +67,14 @@ label_of w = (None, w)
 -- an argument behind its label
 abbrev pub labelled : ℕ → Option (List ℕ) → Reader (Tree AFull) → Reader (Tree AnArg)
 labelled at label full w = full w >>= made (Arg at label)
+
+-- `+` or `-`, where the second is true, and `*` or `/`
+abbrev pub sum_sign : Reader Bool
+sum_sign (Symbol sign.Plus ∷ r) = Ok (false, r)
+sum_sign (Symbol sign.Minus ∷ r) = Ok (true, r)
+sum_sign w = Err (length w)
+
+abbrev pub product_sign : Reader Bool
+product_sign (Symbol sign.Star ∷ r) = Ok (false, r)
+product_sign (Symbol sign.Slash ∷ r) = Ok (true, r)
+product_sign w = Err (length w)

@@ -8,9 +8,9 @@ ghost use Rattle.script_grammar.specs.Whole.{IsWholeFull, IsWholeIf, IsWholePrim
 ghost use Rattle.predicate_parse.specs.Gives.{kinds, Gives, places};
 ghost use Rattle.value_parse.specs.Operand.{braces_at, holds_values, no_value};
 
-use crate::number::{copy, index, wav};
+use crate::number::{copy, wav};
 use liq_base::Memory;
-use predicate_parse::token::expect_close_curly;
+use predicate_parse::token::{expect_close_curly, place};
 use predicate_parse::{Fault, predicate};
 use script_grammar::tree::{self, Full, If, Literal};
 use script_lex::{Keyword, Symbol, Token, TokenKind};
@@ -41,7 +41,7 @@ pub fn atom(
     ensures gives { Gives (λ x. (view_prim x.0, kinds x.1.now)) result (prim loose (places total) no_value (kinds tokens.now)) }
     ensures whole { IfOk result (λ x. IsWholePrim x.0) }
 {
-    let at = index(total, tokens);
+    let at = place(total, tokens);
     match tokens {
         [
             Token {
@@ -130,12 +130,12 @@ pub fn make_choice(
     ensures whole { IfOk result (λ i. IsWholeFull condition → IsWholeFull then_part → IsWholeFull else_part → IsWholeIf i) }
 {
     let condition = Box::new(alloc, condition)?;
-    let then_part = Box::new(alloc, then_part)?;
-    let else_part = Box::new(alloc, else_part)?;
+    let then_box = Box::new(alloc, then_part)?;
+    let else_box = Box::new(alloc, else_part)?;
     Ok(If {
         at,
         condition,
-        then_part,
-        else_part,
+        then_part: then_box,
+        else_part: else_box,
     })
 }

@@ -1,5 +1,6 @@
-// Values: recursive descent over tokens. Each function reads as the definition of its name does, where `levels` is how
-// deep values may stand in one another.
+// Values: recursive descent over tokens. Each function reads as the definition of its name does in `ReadValue` of
+// `script_grammar`, or in `specs/Operand.antt`. A value counts down `levels`, so that it is the number of
+// `full_by`; a caller gives as many as there are tokens, which is always enough.
 ghost use Rattle.std.specs.Prelude.{◌≡◌, ◌<◌, ◌≤◌, ◌^◌, IfOk, length, map};
 ghost use Rattle.std.specs.List.{All};
 ghost use Rattle.script_grammar.specs.Kinds.{is_or, is_and, is_comma, is_added, is_multiplied};
@@ -11,13 +12,13 @@ ghost use Rattle.predicate_parse.specs.Gives.{kinds, Gives, places};
 ghost use Rattle.value_parse.specs.Operand.{plain, round_at, list_at, labelled, chosen, branches, otherwise, seen_branches, seen_otherwise};
 
 use crate::atoms::{atom, make_choice};
-use crate::number::{argument_label, copy, digits, expect_if, index, next_op};
+use crate::number::{argument_label, copy, digits, expect_if, next_op, product_sign, sum_sign};
 use liq_base::Text;
 use predicate_parse::Fault;
 use predicate_parse::token::{
     at_added, at_and, at_close_round, at_close_square, at_comma, at_multiplied, at_or, expect_and,
     expect_close_round, expect_close_square, expect_comma, expect_else, expect_end, expect_or,
-    expect_then, perhaps_not,
+    expect_then, perhaps_not, place,
 };
 use script_grammar::make;
 use script_grammar::tree::{
@@ -46,6 +47,7 @@ fn full(
     }
 }
 
+/// A value, in which others nest at most `levels` deep. Where it is loose, a `(` may stand behind it.
 #[cycle(value)]
 #[tactic(auto, unfolding(script_grammar::specs::ReadValue::full_step))]
 pub fn full_step(
@@ -70,7 +72,7 @@ pub fn full_step(
             after @ ..,
         ] => {
             let (number, rest) = digits(after)?;
-            let at = index(total, tokens);
+            let at = place(total, tokens);
             Ok((Full::Minus { at, number }, rest))
         }
         _ => plain(alloc, total, levels, loose, tokens),
@@ -95,6 +97,7 @@ fn plain(
     Ok((Full::Plain(expr), rest))
 }
 
+/// An expression, likewise.
 #[cycle(value)]
 #[tactic(auto, unfolding(script_grammar::specs::ReadValue::expr, script_grammar::specs::Read::chain))]
 pub fn expr(
@@ -279,7 +282,7 @@ fn behind_sum(
 {
     match (next_op(tokens), tokens) {
         (Some(op), [_, after @ ..]) => {
-            let at = index(total, tokens);
+            let at = place(total, tokens);
             let (sum, rest) = sum(alloc, total, levels, loose, after)?;
             let right = Some(Compared { at, op, sum });
             Ok((Compare { left, right }, rest))
@@ -333,7 +336,7 @@ fn addeds(
 }
 
 #[cycle(value)]
-#[tactic(auto, unfolding(script_grammar::specs::ReadValue::added))]
+#[tactic(auto, using(crate::proofs::Signs::added_fails, crate::proofs::Signs::added_part_fails, crate::proofs::Signs::added_goes))]
 fn added(
     alloc: Global,
     total: usize,
@@ -347,32 +350,10 @@ fn added(
     ensures gives { Gives (λ x. (view_added x.0, kinds x.1.now)) result (added loose (places total) (full_by levels (places total)) (kinds tokens.now)) }
     ensures whole { IfOk result (λ x. IsWholeAdded x.0) }
 {
-    let at = index(total, tokens);
-    match tokens {
-        [
-            Token {
-                kind: TokenKind::Symbol(Symbol::Plus),
-                ..
-            },
-            after @ ..,
-        ] => {
-            let (product, rest) = product(alloc, total, levels, loose, after)?;
-            let minus = false;
-            Ok((Added { at, minus, product }, rest))
-        }
-        [
-            Token {
-                kind: TokenKind::Symbol(Symbol::Minus),
-                ..
-            },
-            after @ ..,
-        ] => {
-            let (product, rest) = product(alloc, total, levels, loose, after)?;
-            let minus = true;
-            Ok((Added { at, minus, product }, rest))
-        }
-        _ => Err(Fault::Syntax(tokens.len())),
-    }
+    let at = place(total, tokens);
+    let (minus, rest) = sum_sign(tokens)?;
+    let (product, rest) = product(alloc, total, levels, loose, rest)?;
+    Ok((Added { at, minus, product }, rest))
 }
 
 #[cycle(value)]
@@ -420,7 +401,7 @@ fn multiplieds(
 }
 
 #[cycle(value)]
-#[tactic(auto, unfolding(script_grammar::specs::ReadValue::multiplied))]
+#[tactic(auto, using(crate::proofs::Signs::multiplied_fails, crate::proofs::Signs::multiplied_part_fails, crate::proofs::Signs::multiplied_goes))]
 fn multiplied(
     alloc: Global,
     total: usize,
@@ -434,32 +415,10 @@ fn multiplied(
     ensures gives { Gives (λ x. (view_multiplied x.0, kinds x.1.now)) result (multiplied loose (places total) (full_by levels (places total)) (kinds tokens.now)) }
     ensures whole { IfOk result (λ x. IsWholeMultiplied x.0) }
 {
-    let at = index(total, tokens);
-    match tokens {
-        [
-            Token {
-                kind: TokenKind::Symbol(Symbol::Star),
-                ..
-            },
-            after @ ..,
-        ] => {
-            let (prim, rest) = operand(alloc, total, levels, loose, after)?;
-            let divide = false;
-            Ok((Multiplied { at, divide, prim }, rest))
-        }
-        [
-            Token {
-                kind: TokenKind::Symbol(Symbol::Slash),
-                ..
-            },
-            after @ ..,
-        ] => {
-            let (prim, rest) = operand(alloc, total, levels, loose, after)?;
-            let divide = true;
-            Ok((Multiplied { at, divide, prim }, rest))
-        }
-        _ => Err(Fault::Syntax(tokens.len())),
-    }
+    let at = place(total, tokens);
+    let (divide, rest) = product_sign(tokens)?;
+    let (prim, rest) = operand(alloc, total, levels, loose, rest)?;
+    Ok((Multiplied { at, divide, prim }, rest))
 }
 
 #[cycle(value)]
@@ -504,14 +463,14 @@ fn operand(
                 ..
             },
             after @ ..,
-        ] => { round(alloc, total, levels, index(total, tokens), after) }
+        ] => { round(alloc, total, levels, place(total, tokens), after) }
         [
             Token {
                 kind: TokenKind::Symbol(Symbol::OpenSquare),
                 ..
             },
             after @ ..,
-        ] => { list(alloc, total, levels, index(total, tokens), after) }
+        ] => { list(alloc, total, levels, place(total, tokens), after) }
         _ => atom(alloc, total, loose, tokens),
     }
 }
@@ -611,6 +570,7 @@ fn comma_full(
     full(alloc, total, levels, rest)
 }
 
+/// A call of a name, whose values nest less than `levels` deep.
 #[cycle(value)]
 #[tactic(auto, unfolding(script_grammar::specs::ReadValue::call))]
 pub fn call(
@@ -633,7 +593,7 @@ pub fn call(
             },
             after @ ..,
         ] => {
-            let at = index(total, tokens);
+            let at = place(total, tokens);
             let (args, rest) = args(alloc, total, levels, after)?;
             let name = copy(alloc, name)?;
             Ok((make::call(at, name, args), rest))
@@ -722,7 +682,7 @@ fn arg(
     ensures gives { Gives (λ x. (view_arg x.0, kinds x.1.now)) result (arg (places total) (full_by levels (places total)) (kinds tokens.now)) }
     ensures whole { IfOk result (λ x. IsWholeArg x.0) }
 {
-    let at = index(total, tokens);
+    let at = place(total, tokens);
     let (label, rest) = argument_label(alloc, tokens)?;
     labelled(alloc, total, levels, at, label, rest)
 }
@@ -747,6 +707,7 @@ fn labelled(
     Ok((Arg { at, label, value }, rest))
 }
 
+/// An `if`, likewise.
 #[cycle(value)]
 #[tactic(auto, using(crate::proofs::Choices::choice_goes, crate::proofs::Choices::choice_fails))]
 pub fn choice(
@@ -761,7 +722,7 @@ pub fn choice(
     ensures gives { Gives (λ x. (view_if x.0, kinds x.1.now)) result (choice (places total) (full_by levels (places total)) (kinds tokens.now)) }
     ensures whole { IfOk result (λ x. IsWholeIf x.0) }
 {
-    let at = index(total, tokens);
+    let at = place(total, tokens);
     let ((), rest) = expect_if(tokens)?;
     chosen(alloc, total, levels, at, rest)
 }

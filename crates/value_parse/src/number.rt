@@ -1,10 +1,10 @@
-// Numbers, operators, and the option of `%wav`.
-ghost use Rattle.std.specs.Prelude.{◌≡◌, ◌<◌, ◌≤◌, ◌^◌, IfOk, length, cond, false};
+// Pieces of a value: numbers, operators, an argument's label, and the option of `%wav`.
+ghost use Rattle.std.specs.Prelude.{◌≡◌, ◌<◌, ◌≤◌, IfOk, length, cond, false};
 ghost use Rattle.script_grammar.specs.Kinds.{op_of};
 ghost use Rattle.script_lex.specs.declared.token.TokenKind.TheVariants.{Symbol as a_symbol};
 ghost use Rattle.script_grammar.specs.ReadValue.{digits, whole_number, the_name, size, wav, takes_option, optional, opens_name, next_op, binds};
-ghost use Rattle.predicate_parse.specs.Gives.{kinds, Gives, places};
-ghost use Rattle.value_parse.specs.Operand.{is_if, label_of};
+ghost use Rattle.predicate_parse.specs.Gives.{kinds, Gives};
+ghost use Rattle.value_parse.specs.Operand.{is_if, label_of, product_sign, sum_sign};
 ghost use Rattle.script_grammar.specs.Read.{expect};
 
 use liq_base::{Memory, Text};
@@ -13,15 +13,6 @@ use predicate_parse::token::{at_open_round, expect_assign, expect_close_round, e
 use script_grammar::tree::{CompareOp, Literal};
 use script_lex::{Keyword, Symbol, Token, TokenKind};
 use std::alloc::Global;
-
-/// The index of the first of these tokens, which are the last of `total`.
-pub fn index(total: usize, tokens: &[Token]) -> u32
-    requires within { length tokens.now ≤ total }
-    requires small { total < 2 ^ 32 }
-    ensures { result ≡ places total (length (kinds tokens.now)) }
-{
-    (total - tokens.len()) as u32
-}
 
 /// The same text once more.
 pub fn copy(alloc: Global, text: &Text) -> Result<Text, Memory>
@@ -231,6 +222,54 @@ pub fn expect_if(tokens: &[Token]) -> Result<((), &[Token]), Fault>
             },
             rest @ ..,
         ] => Ok(((), rest)),
+        _ => Err(Fault::Syntax(tokens.len())),
+    }
+}
+
+/// Whether a sum goes on by `-`, not `+`.
+pub fn sum_sign(tokens: &[Token]) -> Result<(bool, &[Token]), Fault>
+    ensures shorter { IfOk result (λ x. length x.1.now < length tokens.now) }
+    ensures gives { Gives (λ x. (x.0, kinds x.1.now)) result (sum_sign (kinds tokens.now)) }
+{
+    match tokens {
+        [
+            Token {
+                kind: TokenKind::Symbol(Symbol::Plus),
+                ..
+            },
+            rest @ ..,
+        ] => Ok((false, rest)),
+        [
+            Token {
+                kind: TokenKind::Symbol(Symbol::Minus),
+                ..
+            },
+            rest @ ..,
+        ] => Ok((true, rest)),
+        _ => Err(Fault::Syntax(tokens.len())),
+    }
+}
+
+/// Whether a product goes on by `/`, not `*`.
+pub fn product_sign(tokens: &[Token]) -> Result<(bool, &[Token]), Fault>
+    ensures shorter { IfOk result (λ x. length x.1.now < length tokens.now) }
+    ensures gives { Gives (λ x. (x.0, kinds x.1.now)) result (product_sign (kinds tokens.now)) }
+{
+    match tokens {
+        [
+            Token {
+                kind: TokenKind::Symbol(Symbol::Star),
+                ..
+            },
+            rest @ ..,
+        ] => Ok((false, rest)),
+        [
+            Token {
+                kind: TokenKind::Symbol(Symbol::Slash),
+                ..
+            },
+            rest @ ..,
+        ] => Ok((true, rest)),
         _ => Err(Fault::Syntax(tokens.len())),
     }
 }

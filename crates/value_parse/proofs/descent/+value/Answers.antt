@@ -1,4 +1,11 @@
+use Rattle.std.proofs.Common.{ℕ, Bool, Ok, ap}
 use Rattle.value_parse.proofs.Levels.{full_ends, full_turn}
+use Rattle.value_parse.proofs.Signs.{added_goes}
+use Rattle.script_grammar.specs.Tree.{Tree, AnAdded, Added}
+use Rattle.script_grammar.specs.View.{view_product}
+use Rattle.script_grammar.specs.declared.tree.Added as node
+use Rattle.script_grammar.specs.declared.tree.Product.{Product}
+use Rattle.predicate_parse.specs.Gives.{kinds}
 use Rattle.std.proofs.Common.{◌≡◌, [], refl, sym, ◌∙◌, ◌-◌, arith}
 use Rattle.std.proofs.lemmas.List.Elements.{All-nil, All-push}
 use Rattle.std.proofs.lemmas.Result.{err_from_is_err_and}
@@ -136,3 +143,11 @@ full-returns-then-levels-eq0-clause-gives t c = full_ends c.args.levels (places 
 
 pub full-returns-else-levels-eq0-clause-gives : goal.full-returns-else-levels-eq0-clause-gives
 full-returns-else-levels-eq0-clause-gives t c = rw (full_turn c.args.levels (c.args.levels - 1) (places c.args.total) c.args.tokens.now (omega arith)) c.full_step.ensures.gives
+
+added_seen : (at : ℕ) (minus : Bool) (p : Product) → view_added (node.roll-Added (record { at = at; minus = minus; product = p })) ≡ Added at minus (view_product p)
+added_seen at minus p = ap view_added (node.rolls-Added' (record { at = at; minus = minus; product = p }))
+
+pub added-returns-clause-gives : goal.added-returns-clause-gives
+added-returns-clause-gives t c =
+    added_goes c.args.loose (places c.args.total) (full_by c.args.levels (places c.args.total)) (kinds c.args.tokens.now) c.place-at.result c.in_ok-minus.minus (kinds c.in_ok-minus.rest.now) (kinds c.in_ok-product.rest.now) (view_product c.in_ok-product.product) c.place-at.ensures c.in_ok-minus.ensures.gives c.in_ok-product.ensures.gives
+    ∙ ap (λ (x : Tree AnAdded). Ok (x, kinds c.in_ok-product.rest.now)) (sym (added_seen c.place-at.result c.in_ok-minus.minus c.in_ok-product.product))
