@@ -101,15 +101,17 @@ fn front(alloc: Global, tokens: &[Token], d: usize) -> ParseFault
 ///
 /// `Syntax`: the least token such that no script begins with the tokens up to it, or the number of tokens where only more
 /// of them are missing. `TooDeep`: the first token at which 201 brackets are open. The lesser place decides, and at equal
-/// places it is `Syntax`. `Memory`: memory was refused.
+/// places it is `Syntax`. `Memory`: memory was refused, or there are 2^32 tokens and more, whose places have no number.
 pub fn parse(alloc: Global, _text: &[u8], tokens: &[Token]) -> Result<Script, ParseFault>
-    requires small { length tokens.now < 2 ^ 32 }
     ensures spelled { IfOk result (λ s. spelling (view_script s) ≡ kinds tokens.now) }
     ensures placed { IfOk result (λ s. IsPlaced 0 (view_script s)) }
     ensures whole { IfOk result IsWhole }
     ensures shallow { IfOk result (λ s. IsShallow (kinds tokens.now)) }
     ensures fault { IfErr result (IsFault (kinds tokens.now)) }
 {
+    if tokens.len() > u32::MAX as usize {
+        return Err(ParseFault::Memory);
+    }
     match depth_place(tokens) {
         Some(d) => Err(front(alloc, tokens, d)),
         None => match whole(alloc, tokens) {
