@@ -100,34 +100,59 @@ fn no_scripts(rt: HostRuntime) -> Result<(), Fail> {
     Ok(())
 }
 
-// `x = ` and so many brackets, a value, and what stands behind it.
-fn nested(alloc: Global, levels: usize, behind: &str, closed: usize) -> Result<String, AllocError> {
+// So many openings, what stands between, and so many closings.
+fn nested(
+    alloc: Global,
+    open: (&str, usize),
+    between: &str,
+    close: (&str, usize),
+) -> Result<String, AllocError> {
     let mut text = String::from_str(alloc, "x = ")?;
-    for _ in 0..levels {
-        text.push('(')?;
+    for _ in 0..open.1 {
+        text.push_str(open.0)?;
     }
-    text.push_str(behind)?;
-    for _ in 0..closed {
-        text.push(')')?;
+    text.push_str(between)?;
+    for _ in 0..close.1 {
+        text.push_str(close.0)?;
     }
     Ok(text)
 }
 
 #[test]
-fn nesting(rt: HostRuntime) -> Result<(), Fail> {
+fn the_201st_bracket(rt: HostRuntime) -> Result<(), Fail> {
     let alloc = rt.alloc();
     let rows = [
-        (200, "1", 200, "script"),
-        (200, "1", 199, "Syntax(402)"),
-        (201, "1", 201, "TooDeep(202)"),
-        (201, "", 0, "TooDeep(202)"),
-        (200, "+ (1", 201, "Syntax(202)"),
-        (200, "1 (1", 201, "Syntax(203)"),
+        (("(", 200), "1", (")", 199), "Syntax(402)"),
+        (("(", 201), "1", (")", 201), "TooDeep(202)"),
+        (("(", 201), "", (")", 0), "TooDeep(202)"),
+        (("(", 200), "+ (1", (")", 201), "Syntax(202)"),
+        (("(", 200), "1 (1", (")", 201), "Syntax(203)"),
     ];
-    for (levels, behind, closed, want) in rows {
-        let source = nested(alloc, levels, behind, closed)?;
+    for (open, between, close, want) in rows {
+        let source = nested(alloc, open, between, close)?;
         assert_eq!(rt; answer(alloc, source.as_str())?.as_str(), want);
     }
+    Ok(())
+}
+
+#[test]
+fn as_deep_as_brackets_nest(rt: HostRuntime) -> Result<(), Fail> {
+    let alloc = rt.alloc();
+    let rows = [
+        (("(", 200), "1", (")", 200)),
+        (("[", 200), "1", ("]", 200)),
+        (("f(", 200), "1", (")", 200)),
+        (("if ", 200), "a", (" then b else c end", 200)),
+        (("{(", 1), "2h", (")}", 1)),
+    ];
+    for (open, between, close) in rows {
+        let source = nested(alloc, open, between, close)?;
+        assert_eq!(rt; answer(alloc, source.as_str())?.as_str(), "script");
+    }
+    let inside = nested(alloc, ("(", 199), "2h", (")", 199))?;
+    let inside = inside.as_str().trim_start_matches("x = ");
+    let predicate = format!(in alloc; "x = {{{inside}}}")?;
+    assert_eq!(rt; answer(alloc, predicate.as_str())?.as_str(), "script");
     Ok(())
 }
 
