@@ -1,6 +1,6 @@
 //! One token at the front of others, and the tokens behind it.
 ghost use Rattle.std.specs.Prelude.{◌≡◌, ◌<◌, ◌≤◌, ◌^◌, IfOk, Ok, length};
-ghost use Rattle.script_grammar.specs.Kinds.{is_added, is_and, is_any, is_assign, is_close_curly, is_close_round, is_close_square, is_comma, is_else, is_end, is_minus, is_multiplied, is_not, is_open_round, is_or, is_semicolon, is_then};
+ghost use Rattle.script_grammar.specs.Kinds.{is_added, is_and, is_any, is_assign, is_close_curly, is_close_round, is_close_square, is_comma, is_else, is_end, is_multiplied, is_not, is_open_round, is_or, is_semicolon, is_then};
 ghost use Rattle.script_grammar.specs.Read.{next, expect, perhaps};
 ghost use Rattle.predicate_parse.specs.Gives.{kinds, Gives, places};
 
@@ -48,22 +48,6 @@ pub fn at_and(tokens: &[Token]) -> bool
         [
             Token {
                 kind: TokenKind::Keyword(Keyword::And),
-                ..
-            },
-            ..
-        ]
-    )
-}
-
-/// Whether `-` stands first.
-pub fn at_minus(tokens: &[Token]) -> bool
-    ensures { result ≡ next is_minus (kinds tokens.now) }
-{
-    matches!(
-        tokens,
-        [
-            Token {
-                kind: TokenKind::Symbol(Symbol::Minus),
                 ..
             },
             ..
@@ -128,22 +112,6 @@ pub fn at_close_square(tokens: &[Token]) -> bool
         [
             Token {
                 kind: TokenKind::Symbol(Symbol::CloseSquare),
-                ..
-            },
-            ..
-        ]
-    )
-}
-
-/// Whether `end` stands first.
-pub fn at_end(tokens: &[Token]) -> bool
-    ensures { result ≡ next is_end (kinds tokens.now) }
-{
-    matches!(
-        tokens,
-        [
-            Token {
-                kind: TokenKind::Keyword(Keyword::End),
                 ..
             },
             ..
