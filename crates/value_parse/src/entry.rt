@@ -12,8 +12,11 @@ use script_grammar::tree::{Call, Expr, Full, If};
 use script_lex::Token;
 use std::alloc::Global;
 
-/// A value. Where it is loose, a `(` may stand behind it, so that `%wav` takes its option only if
-/// `(samplesize =` stands there. `tokens` are the last of `total`, of which the tree names some by their index.
+/// The value that the tokens begin with, and the tokens behind it. Where it is loose, a `(` may stand behind it, so
+/// that `%wav` takes its option only if `(samplesize =` stands there. The tokens are the last of `total`, and the
+/// tree's fields `at` are indices among all of these. Calls nest as deep as the value does.
+///
+/// A fault counts the tokens from the first one that cannot go on. `Fault::Memory` where memory was refused.
 #[tactic(auto, unfolding(script_grammar::specs::ReadScript::value))]
 pub fn value(
     alloc: Global,
@@ -30,7 +33,7 @@ pub fn value(
     descent::full_step(alloc, total, tokens.len(), loose, tokens)
 }
 
-/// The result of a def: an expression.
+/// The result of a def: an expression, and the tokens behind it. Places and faults are as with `value`.
 #[tactic(auto, unfolding(script_grammar::specs::ReadScript::result))]
 pub fn result(alloc: Global, total: usize, tokens: &[Token]) -> Result<(Expr, &[Token]), Fault>
     requires within { length tokens.now ≤ total }
@@ -42,7 +45,7 @@ pub fn result(alloc: Global, total: usize, tokens: &[Token]) -> Result<(Expr, &[
     descent::expr(alloc, total, tokens.len(), false, tokens)
 }
 
-/// A call of a name.
+/// A call of a name, and the tokens behind it. Places and faults are as with `value`.
 pub fn call(alloc: Global, total: usize, tokens: &[Token]) -> Result<(Call, &[Token]), Fault>
     requires within { length tokens.now ≤ total }
     requires small { total < 2 ^ 32 }
@@ -53,7 +56,7 @@ pub fn call(alloc: Global, total: usize, tokens: &[Token]) -> Result<(Call, &[To
     descent::call(alloc, total, tokens.len(), tokens)
 }
 
-/// An `if`.
+/// An `if`, and the tokens behind its `end`. Places and faults are as with `value`.
 pub fn choice(alloc: Global, total: usize, tokens: &[Token]) -> Result<(If, &[Token]), Fault>
     requires within { length tokens.now ≤ total }
     requires small { total < 2 ^ 32 }
