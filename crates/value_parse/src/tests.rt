@@ -1,4 +1,6 @@
 // Texts that begin with a value, and what is read of them, each by the grammar of `docs/grammar.md`.
+ghost use Rattle.std.specs.Prelude.{◌<◌, length};
+
 use crate::{call, choice, result, value};
 use predicate_parse::Fault;
 use script_grammar::tree::{self, Full, Literal};
@@ -7,9 +9,18 @@ use std::alloc::{AllocError, Global};
 use std::fmt::Write;
 use std::test::Fail;
 
-fn tokens(alloc: Global, source: &[u8]) -> Vec<Token> {
+// The tokens of a short text.
+fn tokens(alloc: Global, source: &[u8]) -> Vec<Token>
+    ensures { length result.items < 1000 }
+{
     match lex(alloc, source) {
-        Ok(tokens) => tokens,
+        Ok(tokens) => {
+            if tokens.len() < 1000 {
+                tokens
+            } else {
+                Vec::new(alloc)
+            }
+        }
         Err(_) => Vec::new(alloc),
     }
 }
