@@ -64,6 +64,7 @@ fn whole(alloc: Global, tokens: &[Token]) -> Result<Script, Fault>
     requires { length tokens.now < 2 ^ 32 }
     ensures { Whole (kinds tokens.now) result }
 {
+    // laws of the crates below, which the proof rests on: these calls do nothing
     reads_again();
     reads_spellings();
     faults_are_steady();
