@@ -1,0 +1,6 @@
+//! Tests of whole calls over shelves in memory, also of such as fail, and of the real adapters over writers and readers
+//! that fail.
+#![tactic(auto)]
+
+#[cfg(test)]
+mod real_files_tests;
