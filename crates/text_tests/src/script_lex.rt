@@ -1,5 +1,5 @@
 // Texts with their tokens, or their fault, each from the rules of `docs/language.md`, "Tokens".
-use crate::{LexFault, Token, TokenKind, lex};
+use script_lex::{LexFault, Token, TokenKind, lex};
 use std::alloc::{AllocError, Global};
 use std::fmt::Write;
 use std::test::Fail;

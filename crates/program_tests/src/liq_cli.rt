@@ -1,6 +1,6 @@
 // Whole calls over a shelf in memory. Expected bytes are worked out by hand from the rules in `docs/formats.md`.
-use crate::liq;
 use liq_base::{FreeGate, MemShelf, MemSink, Memory};
+use liq_cli::liq;
 use std::alloc::{AllocError, Global};
 use std::test::Fail;
 

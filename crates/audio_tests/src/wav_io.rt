@@ -1,10 +1,10 @@
 // Headers against the bytes that the format's fields give, and where a file is plain.
 ghost use Rattle.std.specs.Prelude.{◌≤◌};
 
-use crate::{header, plain};
 use liq_base::Kind;
 use std::alloc::Global;
 use std::test::Fail;
+use wav_io::{header, plain};
 
 #[test]
 fn a_header_has_its_fields(rt: HostRuntime) {

@@ -1,5 +1,7 @@
 // Each call that takes memory, once with ample memory, against its answer; and the printed texts.
-use crate::*;
+use liq_base::{
+    Failed, Fetched, MemShelf, MemSink, Memory, Shelf, ShelfFault, Sink, SureShelf, Text,
+};
 use std::alloc::{AllocError, Global};
 use std::test::Fail;
 

@@ -1,13 +1,13 @@
 // Texts that begin with a value, and what is read of them, each by the grammar of `docs/grammar.md`.
 ghost use Rattle.std.specs.Prelude.{◌<◌, length};
 
-use crate::{call, choice, result, value};
 use predicate_parse::Fault;
 use script_grammar::tree::{self, Full, Literal};
 use script_lex::{Token, lex};
 use std::alloc::{AllocError, Global};
 use std::fmt::Write;
 use std::test::Fail;
+use value_parse::{call, choice, result, value};
 
 // The tokens of a short text.
 fn tokens(alloc: Global, source: &[u8]) -> Vec<Token>

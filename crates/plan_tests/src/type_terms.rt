@@ -1,9 +1,9 @@
 // What no clause says: that the definitions mean what the language's types mean, that calls succeed, and that no depth is too deep.
-use crate::{KindTerm, Subst, Ty, resolved, unify};
 use liq_base::{Kind, Memory};
 use std::alloc::Global;
 use std::process::Abort;
 use std::test::Fail;
+use type_terms::{KindTerm, Subst, Ty, resolved, unify};
 
 fn list(alloc: Global, item: Ty) -> Result<Ty, Memory> {
     Ok(Ty::List(Box::new(alloc, item)?))

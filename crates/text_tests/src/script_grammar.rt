@@ -1,12 +1,12 @@
 // Trees built by hand, and their tokens.
-use crate::predicate::{PAnd, PAtom, PNot, POr};
-use crate::spell;
-use crate::tree::{
+use fixed_text::TimeMark;
+use liq_base::{Memory, Text};
+use script_grammar::predicate::{PAnd, PAtom, PNot, POr};
+use script_grammar::spell;
+use script_grammar::tree::{
     self, And, Arg, Bind, Call, Compare, Expr, Full, Literal, Not, Product, Script, Stmt, StmtPart,
     Sum,
 };
-use fixed_text::TimeMark;
-use liq_base::{Memory, Text};
 use script_lex::{Keyword, Symbol, TokenKind};
 use std::alloc::Global;
 use std::test::Fail;

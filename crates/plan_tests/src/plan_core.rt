@@ -2,9 +2,9 @@
 ghost use Rattle.std.specs.Prelude.{◌≡◌, [], IfOk};
 ghost use Rattle.plan_core.specs.Plans.{IsWellFormed};
 
-use crate::{BufferPlan, Items, Node, Op, Plan, PlanFault, Preds, SinkPlan};
 use fixed_text::Decimal;
 use liq_base::{Kind, Text};
+use plan_core::{BufferPlan, Items, Node, Op, Plan, PlanFault, Preds, SinkPlan};
 use std::alloc::{AllocError, Global};
 use std::test::Fail;
 use time_pred::Pred;

@@ -1,7 +1,7 @@
 //! Texts with the numbers that they write, each from the rules of `docs/language.md`.
 ghost use Rattle.std.specs.Prelude.{◌≡◌, Some, IfOk, IfSome, ℕ, decimal};
 
-use crate::{read_decimal, read_start, read_u64, write_i64, write_u64};
+use fixed_text::{Decimal, read_decimal, read_start, read_u64, write_i64, write_u64};
 use liq_base::Memory;
 use std::alloc::Global;
 use std::test::Fail;
@@ -103,7 +103,7 @@ fn a_time_lasts_whole_samples(rt: HostRuntime) {
             "{text}"
         );
     }
-    let below = crate::Decimal { millionths: -1 };
+    let below = Decimal { millionths: -1 };
     assert_eq!(rt; below.samples(44_100), None);
 }
 

@@ -1,6 +1,6 @@
 // Texts that begin with a predicate, and what is read of them, each by the grammar of `docs/grammar.md`.
-use crate::{Fault, predicate};
 use fixed_text::TimeMark;
+use predicate_parse::{Fault, predicate};
 use script_grammar::predicate::{PAtom, POr};
 use script_lex::{Token, lex};
 use std::alloc::{AllocError, Global};

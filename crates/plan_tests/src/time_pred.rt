@@ -1,9 +1,9 @@
 //! Predicates at seconds of the week, from the rules of `docs/language.md`.
-use crate::Pred;
 use fixed_text::{TimeMark, WeekSecond, read_start};
 use std::alloc::{AllocFailed, Global};
 use std::process::Abort;
 use std::test::Fail;
+use time_pred::Pred;
 
 fn mark(day: Option<u8>, hour: Option<u8>, minute: Option<u8>, second: Option<u8>) -> TimeMark {
     TimeMark {
