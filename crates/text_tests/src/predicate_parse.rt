@@ -45,14 +45,6 @@ fn shown(alloc: Global, pred: &POr) -> Result<String, AllocError> {
     Ok(text)
 }
 
-// What stands in the first parentheses, if these are the first atom.
-fn inside(pred: &POr) -> Option<&POr> {
-    match &pred.parts.first()?.parts.first()?.atom {
-        PAtom::Paren(inside) => Some(inside),
-        _ => None,
-    }
-}
-
 fn tokens(alloc: Global, source: &[u8]) -> Vec<Token> {
     match lex(alloc, source) {
         Ok(tokens) => tokens,
@@ -74,43 +66,25 @@ fn read(alloc: Global, source: &[u8]) -> Result<String, AllocError> {
 }
 
 #[test]
-fn and_binds_before_or(rt: HostRuntime) -> Result<(), Fail> {
-    let alloc = rt.alloc();
-    assert_eq!(rt; read(alloc, b"22h-6h}")?.as_str(), "[ 22h-6h ] 1");
-    assert_eq!(rt;
-        read(alloc, b"2h or not true and 3h-4h or false}")?.as_str(),
-        "[ 2h ][ !true 3h-4h ][ false ] 1"
-    );
-    Ok(())
-}
-
-#[test]
-fn parentheses_hold_a_predicate(rt: HostRuntime) -> Result<(), Fail> {
-    let alloc = rt.alloc();
-    assert_eq!(rt;
-        read(alloc, b"not (2h or true) and 5h")?.as_str(),
-        "[ !() 5h ] 0"
-    );
-    let source = tokens(alloc, b"(2h or true)");
-    let shown = match predicate(alloc, &source) {
-        Ok((pred, _)) => match inside(&pred) {
-            Some(inside) => shown(alloc, inside)?,
-            None => String::new(alloc),
-        },
-        Err(_) => String::new(alloc),
-    };
-    assert_eq!(rt; shown.as_str(), "[ 2h ][ true ]");
-    Ok(())
-}
-
-#[test]
-fn a_fault_is_the_first_token_that_cannot_go_on(rt: HostRuntime) -> Result<(), Fail> {
-    let alloc = rt.alloc();
-    assert_eq!(rt; read(alloc, b"")?.as_str(), "fault 0");
-    assert_eq!(rt; read(alloc, b"2h - 3h or}")?.as_str(), "fault 1");
-    assert_eq!(rt; read(alloc, b"2h - true and 3h")?.as_str(), "fault 3");
-    assert_eq!(rt; read(alloc, b"not not true")?.as_str(), "fault 2");
-    assert_eq!(rt; read(alloc, b"(2h or true")?.as_str(), "fault 0");
-    assert_eq!(rt; read(alloc, b"(2h 3h)")?.as_str(), "fault 2");
+fn and_binds_before_or_and_a_fault_is_the_first_token_that_cannot_go_on(
+    rt: HostRuntime,
+) -> Result<(), Fail> {
+    let rows = [
+        (b"22h-6h}".as_slice(), "[ 22h-6h ] 1"),
+        (
+            b"2h or not true and 3h-4h or false}".as_slice(),
+            "[ 2h ][ !true 3h-4h ][ false ] 1",
+        ),
+        (b"not (2h or true) and 5h".as_slice(), "[ !() 5h ] 0"),
+        (b"".as_slice(), "fault 0"),
+        (b"2h - 3h or}".as_slice(), "fault 1"),
+        (b"2h - true and 3h".as_slice(), "fault 3"),
+        (b"not not true".as_slice(), "fault 2"),
+        (b"(2h or true".as_slice(), "fault 0"),
+        (b"(2h 3h)".as_slice(), "fault 2"),
+    ];
+    for (source, want) in rows {
+        assert_eq!(rt; read(rt.alloc(), source)?.as_str(), want);
+    }
     Ok(())
 }

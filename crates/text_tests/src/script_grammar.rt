@@ -1,13 +1,10 @@
-// Trees built by hand, and their tokens.
-use fixed_text::TimeMark;
+// A tree built by hand, and its tokens.
 use liq_base::{Memory, Text};
-use script_grammar::predicate::{PAnd, PAtom, PNot, POr};
 use script_grammar::spell;
 use script_grammar::tree::{
-    self, And, Arg, Bind, Call, Compare, Expr, Full, Literal, Not, Product, Script, Stmt, StmtPart,
-    Sum,
+    self, And, Arg, Call, Compare, Expr, Full, Literal, Not, Product, Script, Stmt, StmtPart, Sum,
 };
-use script_lex::{Keyword, Symbol, TokenKind};
+use script_lex::{Symbol, TokenKind};
 use std::alloc::Global;
 use std::test::Fail;
 
@@ -55,21 +52,6 @@ fn one(alloc: Global, part: StmtPart, semicolon: bool) -> Result<Script, Memory>
     Ok(Script { statements })
 }
 
-// `x = value`
-fn bound(alloc: Global, value: Full) -> Result<Script, Memory> {
-    let name = Text::from_str(alloc, "x")?;
-    one(alloc, StmtPart::Bind(Bind { at: 0, name, value }), false)
-}
-
-#[test]
-fn an_empty_script_has_no_tokens(rt: HostRuntime) -> Result<(), Fail> {
-    let script = Script {
-        statements: Vec::new(rt.alloc()),
-    };
-    assert!(rt; spell(rt.alloc(), &script)?.is_empty());
-    Ok(())
-}
-
 #[test]
 fn a_call_has_its_labels_and_its_semicolon(rt: HostRuntime) -> Result<(), Fail> {
     let alloc = rt.alloc();
@@ -100,98 +82,6 @@ fn a_call_has_its_labels_and_its_semicolon(rt: HostRuntime) -> Result<(), Fail> 
             TokenKind::Int(7),
             TokenKind::Symbol(Symbol::CloseRound),
             TokenKind::Symbol(Symbol::Semicolon),
-        ]
-    );
-    assert!(rt; right);
-    Ok(())
-}
-
-#[test]
-fn a_tuple_has_commas_between(rt: HostRuntime) -> Result<(), Fail> {
-    let alloc = rt.alloc();
-    let mut parts = Vec::new(alloc);
-    parts.push(int(alloc, 1))?;
-    parts.push(int(alloc, 2))?;
-    parts.push(int(alloc, 3))?;
-    let script = bound(alloc, plain(alloc, tree::Operand::Tuple { at: 2, parts }))?;
-    let kinds = spell(alloc, &script)?;
-    let right = matches!(
-        kinds.as_slice(),
-        [
-            TokenKind::Name(_),
-            TokenKind::Symbol(Symbol::Assign),
-            TokenKind::Symbol(Symbol::OpenRound),
-            TokenKind::Int(1),
-            TokenKind::Symbol(Symbol::Comma),
-            TokenKind::Int(2),
-            TokenKind::Symbol(Symbol::Comma),
-            TokenKind::Int(3),
-            TokenKind::Symbol(Symbol::CloseRound),
-        ]
-    );
-    assert!(rt; right);
-    Ok(())
-}
-
-#[test]
-fn an_option_of_wav_is_spelled_out(rt: HostRuntime) -> Result<(), Fail> {
-    let alloc = rt.alloc();
-    let size = Some(16);
-    let script = bound(alloc, plain(alloc, tree::Operand::Wav { at: 2, size }))?;
-    let kinds = spell(alloc, &script)?;
-    let right = match kinds.as_slice() {
-        [
-            _,
-            _,
-            TokenKind::Wav,
-            TokenKind::Symbol(Symbol::OpenRound),
-            TokenKind::Name(name),
-            TokenKind::Symbol(Symbol::Assign),
-            TokenKind::Int(16),
-            TokenKind::Symbol(Symbol::CloseRound),
-        ] => name.as_str() == "samplesize",
-        _ => false,
-    };
-    assert!(rt; right);
-    Ok(())
-}
-
-#[test]
-fn a_predicate_stands_in_curly_brackets(rt: HostRuntime) -> Result<(), Fail> {
-    let alloc = rt.alloc();
-    let mark = TimeMark {
-        day: None,
-        hour: Some(22),
-        minute: None,
-        second: None,
-    };
-    let mut atoms = Vec::new(alloc);
-    atoms.push(PNot {
-        negated: true,
-        atom: PAtom::Between(mark, mark),
-    })?;
-    atoms.push(PNot {
-        negated: false,
-        atom: PAtom::True,
-    })?;
-    let mut parts = Vec::new(alloc);
-    parts.push(PAnd { parts: atoms })?;
-    let pred = POr { parts };
-    let script = bound(alloc, plain(alloc, tree::Operand::Braces { at: 2, pred }))?;
-    let kinds = spell(alloc, &script)?;
-    let right = matches!(
-        kinds.as_slice(),
-        [
-            _,
-            _,
-            TokenKind::Symbol(Symbol::OpenCurly),
-            TokenKind::Keyword(Keyword::Not),
-            TokenKind::Time(_),
-            TokenKind::Symbol(Symbol::Minus),
-            TokenKind::Time(_),
-            TokenKind::Keyword(Keyword::And),
-            TokenKind::Keyword(Keyword::True),
-            TokenKind::Symbol(Symbol::CloseCurly),
         ]
     );
     assert!(rt; right);
