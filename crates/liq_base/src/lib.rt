@@ -13,8 +13,6 @@ mod shelf;
 mod sink;
 mod sure_shelf;
 mod sure_sink;
-#[cfg(test)]
-mod tests;
 mod text;
 
 pub use gate::{FreeGate, Gate};

@@ -16,6 +16,3 @@ pub use node::{Node, Op};
 pub use plan::{Plan, PlanFault};
 pub use preds::Preds;
 pub use sink::{BufferPlan, SinkPlan};
-
-#[cfg(test)]
-mod tests;

@@ -3,4 +3,6 @@
 #![tactic(auto)]
 
 #[cfg(test)]
+mod liq_cli_tests;
+#[cfg(test)]
 mod real_files_tests;
