@@ -1,7 +1,8 @@
 -- Laws over lists alone.
-use Rattle.std.specs.Prelude.{◌≡◌, ℕ, suc, ◌<◌, ◌≤◌, Bool, true, false, List, [], ◌∷◌, ◌++◌, length, map, drop, Option, Some, None, refl}
+use Rattle.std.specs.Prelude.{◌≡◌, ℕ, suc, ◌+◌, ◌<◌, ◌≤◌, Bool, true, false, List, [], ◌∷◌, ◌++◌, length, map, drop, Option, Some, None, refl}
 use Rattle.std.proofs.Common.{sym, ap, ◌∙◌, subst, arith, append_assoc, length-append, append-nil}
-use Rattle.frame_core.specs.Legal.{Legal}
+use Rattle.frame_core.specs.Frames.{somes}
+use Rattle.frame_core.specs.Legal.{Legal, IsRun}
 use Rattle.frame_core.specs.Legal.Legal.{ended, accepted, full, got, empty}
 use Rattle.frame_core.specs.Order.{Move, puts_of, gots_of, Ordered, last_or, Fits, answers_of, left_by}
 use Rattle.frame_core.specs.Order.Move.{Put, Got}
@@ -174,3 +175,31 @@ module _ {X : Type 0} where
   legal_of_order C r es q bs cs o f g =
       full_first C r q bs (puts_of es) (answers_of cs (gots_of es)) f
       (λ ds z h. empty_first C r q (answers_of ds (puts_of es)) cs (gots_of es) g (λ ts w k. legal_clean C r es q ds ts z w o h k))
+
+  -- what was there and what was put is what was got and what is left
+  pub ordered_sum : (C : ℕ) (es : List (Move X)) (q r : List X) → Ordered C q es r → length q + length (puts_of es) ≡ length r + length (gots_of es)
+  ordered_sum C [] q r e = omega (arith, ap length e)
+  ordered_sum C (Put c n ∷ es) q r o = omega (arith, length-append q (c ∷ []), ordered_sum C es (q ++ c ∷ []) r o.2)
+  ordered_sum C (Got c n ∷ es) q r o = omega (arith, ap length o.1, ordered_sum C es o.0 r o.3)
+
+  -- as many items as there are moves
+  pub length-answers_of : (s d : ℕ) (bs : List Bool) (ms : List (X × ℕ)) → Fits s d bs ms → length (somes (answers_of bs ms)) ≡ length ms
+  length-answers_of s d [] [] f = refl
+  length-answers_of s d [] (m ∷ ms) f = absurd f
+  length-answers_of s d (true ∷ bs) [] f = absurd f
+  length-answers_of s d (true ∷ bs) (m ∷ ms) f = ap suc (length-answers_of s m.1 bs ms f)
+  length-answers_of s d (false ∷ bs) ms f = length-answers_of s d bs ms f.1
+
+  -- the items got, and then what is left, are what was there and then what was accepted
+  pub legal_whole : {C : ℕ} {r q : List X} {puts takes : List (Option X)} → Legal C r q puts takes → q ++ somes puts ≡ somes takes ++ r
+  legal_whole {r = r} ended = append-nil r
+  legal_whole (accepted {queue = q} {x = x} {puts = puts} less rest) = sym (append_assoc q (x ∷ []) (somes puts)) ∙ legal_whole rest
+  legal_whole (full is rest) = legal_whole rest
+  legal_whole (got {x = x} rest) = ap (λ l. x ∷ l) (legal_whole rest)
+  legal_whole (empty rest) = legal_whole rest
+
+  -- one window more
+  pub run_more : (C : ℕ) (q m r : List X) (windows : List (List (Option X) × List (Option X))) (puts takes : List (Option X))
+      → IsRun C q windows m → Legal C r m puts takes → IsRun C q (windows ++ (puts, takes) ∷ []) r
+  run_more C q m r [] puts takes run window = (r, subst (λ (l : List X). Legal C r l puts takes) (sym run) window, refl)
+  run_more C q m r (w ∷ windows) puts takes run window = (run.0, run.1, run_more C run.0 m r windows puts takes run.2 window)
