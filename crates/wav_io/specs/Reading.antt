@@ -1,5 +1,5 @@
 -- What the bytes of a WAV file say: a kind, a rate and blocks, or why there are none. `docs/formats.md` has the rows.
-use Rattle.std.specs.Prelude.{ℕ, ◌+◌, ◌*◌, ◌/◌, ◌&&◌, ◌||◌, List, [], ◌∷◌, length, take, drop, Bool, Option, Some, None, Result, Ok, Err, if◌then◌else◌, nat_eq, nat_le, nat_lt, codes}
+use Rattle.std.specs.Prelude.{◌≡◌, ◌<◌, ℕ, ◌+◌, ◌*◌, ◌/◌, ◌&&◌, ◌||◌, List, [], ◌∷◌, length, take, drop, Bool, Option, Some, None, Result, Ok, Err, if◌then◌else◌, nat_eq, nat_le, nat_lt, codes}
 use Rattle.std.specs.Str.{bytes_eq}
 use Rattle.byteorder.specs.Endian.{little_number}
 use Rattle.liq_base.specs.declared.memory.Kind.{Kind}
@@ -63,6 +63,12 @@ format_in body size =
 -- the whole blocks at the front of a body
 abbrev pub whole_blocks : Kind → List ℕ → List ℕ
 whole_blocks kind body = take (length body / block_size kind * block_size kind) body
+
+-- whole blocks, and at least one
+pub record AreBlocks (kind : Kind) (body : List ℕ) : Type 0 where
+  pub count : ℕ
+  pub some : 0 < count
+  pub whole : length body ≡ count * block_size kind
 
 -- the whole blocks, of which there is at least one
 abbrev pub with_blocks : Format → List ℕ → Result Wave WavFault

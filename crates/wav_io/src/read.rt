@@ -1,6 +1,6 @@
 // WAV files that others wrote.
-ghost use Rattle.std.specs.Prelude.{◌≡◌, ◌≤◌, length, Ok, Err, MatchResult};
-ghost use Rattle.wav_io.specs.Reading.{read_of, is_riff, whole_blocks};
+ghost use Rattle.std.specs.Prelude.{◌≡◌, ◌≤◌, ◌<◌, length, Ok, Err, IfOk, MatchResult};
+ghost use Rattle.wav_io.specs.Reading.{read_of, is_riff, whole_blocks, AreBlocks};
 
 use crate::chunks::{chunk_body, find_data, find_format};
 use crate::fields::block_len;
@@ -11,8 +11,9 @@ use liq_base::Kind;
 /// The kind, the rate in samples a second, and the whole blocks of a WAV file of 16-bit samples, or the first fault of
 /// the table in `docs/formats.md`. It takes no memory, and what lies behind the first `data` chunk is not looked at.
 pub fn read_wav(bytes: &[u8]) -> Result<Wav<'_>, WavFault>
-    ensures { MatchResult result (λ wav. read_of bytes.now ≡ Ok (record { kind = wav.kind; rate = wav.rate; body = wav.body.now }))
+    ensures read { MatchResult result (λ wav. read_of bytes.now ≡ Ok (record { kind = wav.kind; rate = wav.rate; body = wav.body.now }))
         (λ fault. read_of bytes.now ≡ Err fault) }
+    ensures blocks { IfOk result (λ wav. AreBlocks wav.kind wav.body.now) }
 {
     if !begins_as_wave(bytes) {
         return Err(WavFault::NotRiff);
@@ -40,7 +41,8 @@ fn begins_as_wave(bytes: &[u8]) -> bool
 
 /// The whole blocks at the front of a body.
 fn cut_blocks(kind: Kind, body: &[u8]) -> &[u8]
-    ensures { result.now ≡ whole_blocks kind body.now }
+    ensures cut { result.now ≡ whole_blocks kind body.now }
+    ensures blocks { 0 < length result.now → AreBlocks kind result.now }
 {
     let block = usize::from(block_len(kind));
     &body[..body.len() / block * block]
