@@ -1,0 +1,5 @@
+//! Worked rows of the operators and of the engine.
+#![tactic(auto)]
+
+#[cfg(test)]
+mod selection;
