@@ -1,10 +1,13 @@
 -- Blocks of bytes, one behind another.
 use Rattle.std.proofs.Common.{◌≡◌, ◌<◌, ◌≤◌, ◌+◌, ◌∙◌, ◌++◌, ℕ, zero, suc, ℤ, List, [], ◌∷◌, length, take, get_or, set, arith, ap, sym, refl}
-use Rattle.std.specs.List.{concat}
+use Rattle.std.specs.List.{concat, flat_map}
 use Rattle.std.specs.Simd.Lanes.{zip2, put_chunk}
-use Rattle.std.proofs.lemmas.List.{append-nil}
+use Rattle.std.proofs.lemmas.List.{append-nil, take_more}
+use Rattle.std.proofs.lemmas.List.Concat.{flat_map-append}
 use Rattle.std.proofs.lemmas.List.Folds.{concat-append}
 use Rattle.liq_base.specs.declared.memory.Kind.{Kind}
+use Rattle.liq_base.specs.declared.memory.Kind.TheVariants.{Mono}
+use Rattle.frame_core.specs.Bytes.{sample_bytes}
 use Rattle.sample_kernels.specs.Encoded.{block_of, encoded}
 use Rattle.sample_kernels.proofs.Places.{zip2_more}
 
@@ -31,3 +34,16 @@ encoded_more kind left right i d e within same =
     ap concat (zip2_more (block_of kind) left right i d e within same)
     ∙ concat-append (zip2 (block_of kind) (take i left) (take i right)) (block_of kind (get_or left i d) (get_or right i e) ∷ [])
     ∙ ap (λ l. encoded kind (take i left) (take i right) ++ l) (append-nil (block_of kind (get_or left i d) (get_or right i e)))
+
+-- one sample more
+pub samples_more : (samples : List ℤ) (i : ℕ) (d : ℤ) → i < length samples →
+    flat_map sample_bytes (take (i + 1) samples) ≡ flat_map sample_bytes (take i samples) ++ sample_bytes (get_or samples i d)
+samples_more samples i d within =
+    ap (flat_map sample_bytes) (take_more samples i d within)
+    ∙ flat_map-append sample_bytes (take i samples) (get_or samples i d ∷ [])
+    ∙ ap (λ l. flat_map sample_bytes (take i samples) ++ l) (append-nil (sample_bytes (get_or samples i d)))
+
+pub encoded_mono : (left right : List ℤ) → length right ≡ length left → flat_map sample_bytes left ≡ encoded Mono left right
+encoded_mono [] right same = refl
+encoded_mono (l ∷ left) [] same = absurd (omega (arith, same))
+encoded_mono (l ∷ left) (r ∷ right) same = ap (λ bytes. sample_bytes l ++ bytes) (encoded_mono left right (omega (arith, same)))

@@ -57,7 +57,7 @@ faded_fits a b at whole fit_a fit_b less =
     let bounds = sum_bounds a b at whole fit_a fit_b less in
     quotient ((a *ℤ pos (whole - at)) +ℤ (b *ℤ pos at)) whole (omega arith) bounds.0 bounds.1
 
-small_abs : (a : ℤ) → FitsSigned w16 a → unsigned_abs a ≤ 32768
+pub small_abs : (a : ℤ) → FitsSigned w16 a → unsigned_abs a ≤ 32768
 small_abs (pos m) fits = let out = fits_out w16 (pos m) fits in omega (arith, out.0)
 small_abs (negsuc m) fits = let out = fits_out w16 (negsuc m) fits in omega (arith, out.1)
 

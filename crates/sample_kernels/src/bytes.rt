@@ -1,8 +1,9 @@
 // Samples as bytes.
 ghost use Rattle.std.specs.Prelude.{◌≡◌, ◌≤◌, ◌+◌, ◌*◌, length};
+ghost use Rattle.std.specs.List.{flat_map};
 ghost use Rattle.std.specs.Simd.Lanes.{put_chunk};
 ghost use Rattle.liq_base.specs.Kinds.{channels_of};
-ghost use Rattle.liq_base.specs.declared.memory.Kind.TheVariants.{Mono, Stereo};
+ghost use Rattle.liq_base.specs.declared.memory.Kind.TheVariants.{Stereo};
 ghost use Rattle.frame_core.specs.Bytes.{sample_bytes};
 ghost use Rattle.sample_kernels.specs.Encoded.{encoded};
 
@@ -16,19 +17,17 @@ pub fn encode(left: &[i16], right: &[i16], kind: Kind, into: &mut [u8])
     ensures { into.new ≡ encoded kind left.now right.now }
 {
     match kind {
-        Kind::Mono => encode_mono(left, right, into),
+        Kind::Mono => encode_mono(left, into),
         Kind::Stereo => encode_stereo(left, right, into),
     }
 }
 
-// The left samples alone.
-fn encode_mono(left: &[i16], right: &[i16], into: &mut [u8])
-    requires same { length right.now ≡ length left.now }
-    requires room { length into.old ≡ 2 * length left.now }
-    ensures { into.new ≡ encoded Mono left.now right.now }
+// The samples, one behind another.
+fn encode_mono(samples: &[i16], into: &mut [u8])
+    requires { length into.old ≡ 2 * length samples.now }
+    ensures { into.new ≡ flat_map sample_bytes samples.now }
 {
-    let _ = right;
-    for (at, sample) in left.iter().enumerate() {
+    for (at, sample) in samples.iter().enumerate() {
         lay_sample(*sample, 2 * at, into);
     }
 }

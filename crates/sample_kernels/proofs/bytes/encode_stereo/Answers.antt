@@ -1,4 +1,4 @@
-use Rattle.std.proofs.Common.{◌≡◌, ◌∙◌, ◌+◌, ◌*◌, ◌++◌, ℤ, pos, take, length, get_or, arith, ap, sym, w16, FitsSigned, rules, append_assoc}
+use Rattle.std.proofs.Common.{◌≡◌, ◌∙◌, ◌+◌, ◌*◌, ◌++◌, pos, take, length, get_or, arith, ap, sym, w16, FitsSigned, rules, append_assoc}
 use Rattle.std.proofs.lemmas.Int.{to_z-of_z}
 use Rattle.std.specs.Simd.Lanes.{put_chunk}
 use Rattle.std.proofs.lemmas.Simd.{take_more_put_chunk, length-put_chunk}
@@ -28,10 +28,10 @@ loop-at-preserved c =
     ap length second ∙ length-put_chunk (4 * at + 2) between (sample_bytes r) ∙ long_between in (
       long,
       ap (take (4 * (at + 1))) second
-      ∙ take_more_put_chunk (4 * at + 2) between (sample_bytes r) (4 * (at + 1)) (omega arith) (omega (arith, long_between))
-      ∙ ap (λ m. take (4 * at + 2) m ++ sample_bytes r) first
-      ∙ ap (λ m. m ++ sample_bytes r) (take_more_put_chunk (4 * at) into (sample_bytes l) (4 * at + 2) (omega arith) (omega arith))
-      ∙ ap (λ m. (m ++ sample_bytes l) ++ sample_bytes r) c.loop-at.invariant.1
-      ∙ append_assoc (encoded Stereo (take at c.args.left.now) (take at c.args.right.now)) (sample_bytes l) (sample_bytes r)
-      ∙ sym (encoded_more Stereo c.args.left.now c.args.right.now at (pos 0) (pos 0) (omega arith) c.requires.same),
+          ∙ take_more_put_chunk (4 * at + 2) between (sample_bytes r) (4 * (at + 1)) (omega arith) (omega (arith, long_between))
+          ∙ ap (λ m. take (4 * at + 2) m ++ sample_bytes r) first
+          ∙ ap (λ m. m ++ sample_bytes r) (take_more_put_chunk (4 * at) into (sample_bytes l) (4 * at + 2) (omega arith) (omega arith))
+          ∙ ap (λ m. (m ++ sample_bytes l) ++ sample_bytes r) c.loop-at.invariant.1
+          ∙ append_assoc (encoded Stereo (take at c.args.left.now) (take at c.args.right.now)) (sample_bytes l) (sample_bytes r)
+          ∙ sym (encoded_more Stereo c.args.left.now c.args.right.now at (pos 0) (pos 0) (omega arith) c.requires.same),
     )

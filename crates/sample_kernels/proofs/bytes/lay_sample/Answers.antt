@@ -1,4 +1,4 @@
-use Rattle.std.proofs.Common.{◌≡◌, ◌∙◌, ◌+◌, ap, refl, get_or, set, to_z, of_z, w16}
+use Rattle.std.proofs.Common.{◌≡◌, ◌∙◌, ◌+◌, ap, refl, get_or, set, w16}
 use Rattle.std.proofs.lemmas.Int.{to_z-of_z}
 use Rattle.frame_core.specs.Bytes.{sample_bytes}
 use Rattle.sample_kernels.proofs.Blocks.{two_written}

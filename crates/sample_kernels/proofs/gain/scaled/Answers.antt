@@ -1,4 +1,3 @@
-use Rattle.std.proofs.Common.{w16, w64, FitsSigned, arith}
 use Rattle.sample_kernels.proofs.Cuts.{scaled_computed}
 use Rattle.sample_kernels.proofs.gain.scaled.Goals as goal
 

@@ -1,4 +1,4 @@
-use Rattle.std.proofs.Common.{◌≡◌, ◌+ℤ◌, length, take, drop}
+use Rattle.std.proofs.Common.{◌≡◌, ◌+ℤ◌, take, drop}
 use Rattle.std.specs.Simd.Lanes.{zip2}
 use Rattle.sample_kernels.proofs.sums.add_into.Given as goal
 

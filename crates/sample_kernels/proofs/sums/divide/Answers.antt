@@ -1,4 +1,4 @@
-use Rattle.std.proofs.Common.{◌≡◌, ℤ, pos, get_or, w16, w32, FitsSigned, arith, rules, refl}
+use Rattle.std.proofs.Common.{pos, get_or, w16, w32, FitsSigned, arith, rules, refl}
 use Rattle.std.proofs.lemmas.Int.{to_z-of_z}
 use Rattle.sample_kernels.specs.Samples.{IsSumOf, mean_of}
 use Rattle.sample_kernels.proofs.Places.{Each2-at, zip2_written}

@@ -1,6 +1,6 @@
-use Rattle.std.proofs.Common.{◌≡◌, ◌<◌, pos, w16, w32, FitsSigned, arith}
+use Rattle.std.proofs.Common.{pos, w16}
 use Rattle.std.specs.Prelude.{int_div}
-use Rattle.std.proofs.lemmas.Int.{to_z-of_z, ints}
+use Rattle.std.proofs.lemmas.Int.{to_z-of_z}
 use Rattle.sample_kernels.proofs.Means.{mean_fits, mean_computed}
 use Rattle.sample_kernels.proofs.sums.mean_of.Goals as goal
 
