@@ -1,5 +1,5 @@
 -- Remainders, one step further.
-use Rattle.std.proofs.Common.{◌≡◌, ◌<◌, ◌+◌, ◌-◌, ◌*◌, ◌%◌, ◌∙◌, ℕ, zero, suc, min, true, false, nat_eq, if◌then◌else◌, arith, refl, sym, ap, add-one}
+use Rattle.std.proofs.Common.{◌≡◌, ◌<◌, ◌+◌, ◌-◌, ◌*◌, ◌%◌, ◌∙◌, ℕ, zero, suc, not, min, true, false, nat_eq, if◌then◌else◌, arith, refl, sym, ap, add-one}
 use Rattle.std.proofs.Math.Nat.{mod-add-mod, mod-eq_of_lt, mod_self, suc-mul}
 use Rattle.std.proofs.lemmas.Bool.Decides.{nat_tests}
 
@@ -26,3 +26,8 @@ blank-later position track at some short is =
     let place : at ≡ position % track = rw other at is in
     let less : at + 1 < track = omega arith in
     rw other (sym (mod-step position track at place less))
+
+pub begun-later : (position : ℕ) → true ≡ not (nat_eq (suc position) 0)
+begun-later position =
+    let other : nat_eq (suc position) 0 ≡ false = grind (arith, nat_tests) in
+    rw other refl

@@ -1,5 +1,5 @@
 // A square wave.
-ghost use Rattle.std.specs.Prelude.{◌≡◌, ◌<◌, ◌*◌, ℕ, suc};
+ghost use Rattle.std.specs.Prelude.{◌≡◌, ◌<◌, ◌≤◌, ◌*◌, ℕ, suc, unsigned_abs};
 ghost use Rattle.op_leaf.specs.Leaves.{square_cell};
 
 use fixed_text::Decimal;
@@ -78,8 +78,15 @@ impl Square {
         ensures kind { self.new.kind ≡ self.old.kind }
         ensures stands { (p : ℕ) → SquareStandsAt self.old p → SquareStandsAt self.new (suc p) }
     {
-        let step = self.pitch.millionths.unsigned_abs();
-        self.phase = (self.phase + step) % (u64::from(self.rate) * MILLION);
+        self.phase = (self.phase + step_of(self.pitch)) % (u64::from(self.rate) * MILLION);
         self.begun = true;
     }
+}
+
+// How much of a period goes by with each sample, where the rate in millions is a whole one.
+fn step_of(pitch: Decimal) -> u64
+    ensures step { result ≡ unsigned_abs pitch.millionths }
+    ensures bound { result ≤ 1000000000000000 }
+{
+    pitch.millionths.unsigned_abs()
 }

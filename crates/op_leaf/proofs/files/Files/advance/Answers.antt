@@ -1,4 +1,4 @@
-use Rattle.std.proofs.Common.{◌≡◌, ◌<◌, ◌≤◌, ◌+◌, ◌∙◌, ℕ, Option, Some, None, IsSome, ap, sym, subst, length, get_or, arith}
+use Rattle.std.proofs.Common.{◌≡◌, true, false, ◌<◌, ◌≤◌, ◌+◌, ◌∙◌, ℕ, Option, Some, None, IsSome, ap, sym, subst, length, get_or, arith}
 use Rattle.frame_core.specs.declared.cell.Cell.{Cell}
 use Rattle.frame_core.specs.Sounds.{cell_of, length_of}
 use Rattle.frame_core.specs.Library.{no_sound, sound_at, tracks_of}
@@ -10,7 +10,8 @@ pub returns-then-self-tracks-clause-stands : goal.returns-then-self-tracks-claus
 returns-then-self-tracks-clause-stands c p stands some =
     let over : length (tracks_of c.args.library.now c.args.self.now.node) ≤ c.args.self.now.track = omega (arith, c.if-self-tracks.true, c.tracks-tracks.ensures.count) in
     let P : Option Cell → Type 0 = λ slot. IsSome slot in
-    absurd (subst P (files-over _ _ p stands over) some)
+    let clash : false ≡ true = subst P (files-over c.args.library.now c.args.self.now p stands over) some in
+    cc
 
 pub returns-then-self-samples-clause-stands : goal.returns-then-self-samples-clause-stands
 returns-then-self-samples-clause-stands c p stands some =
@@ -24,7 +25,7 @@ pub returns-then-self-samples-clause-stays : goal.returns-then-self-samples-clau
 returns-then-self-samples-clause-stays c p stands none =
     let there : c.args.self.now.track < length (tracks_of c.args.library.now c.args.self.now.node) = omega (arith, c.if-self-tracks.false, c.tracks-tracks.ensures.count) in
     let clash : None ≡ Some (cell_of (sound_at c.args.library.now c.args.self.now.node c.args.self.now.track) c.args.self.now.kind c.args.self.now.at) =
-    sym none ∙ files-here _ _ p c.requires stands there in
+    sym none ∙ files-here c.args.library.now c.args.self.now p c.requires stands there in
     cc
 
 pub returns-else-self-samples-clause-stands : goal.returns-else-self-samples-clause-stands
@@ -45,5 +46,5 @@ pub returns-else-self-samples-clause-stays : goal.returns-else-self-samples-clau
 returns-else-self-samples-clause-stays c p stands none =
     let there : c.args.self.now.track < length (tracks_of c.args.library.now c.args.self.now.node) = omega (arith, c.if-self-tracks.false, c.tracks-tracks.ensures.count) in
     let clash : None ≡ Some (cell_of (sound_at c.args.library.now c.args.self.now.node c.args.self.now.track) c.args.self.now.kind c.args.self.now.at) =
-    sym none ∙ files-here _ _ p c.requires stands there in
+    sym none ∙ files-here c.args.library.now c.args.self.now p c.requires stands there in
     cc
