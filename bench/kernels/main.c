@@ -9,7 +9,8 @@ enum { LENGTH = 1764, PASSES = 20000 };
 static int16_t left[LENGTH], right[LENGTH], into[LENGTH];
 static uint8_t bytes[4 * LENGTH];
 static int32_t sum[LENGTH];
-static uint16_t by[LENGTH];
+static const int32_t eight_sums[8] = {60000, -7, 0, 5, 90000, -98304, 1, 2};
+static const uint16_t eight_by[8] = {2, 3, 3, 7, 3, 3, 1, 2};
 
 static int16_t clamped(int64_t n) { return n < -32768 ? -32768 : n > 32767 ? 32767 : (int16_t)n; }
 
@@ -59,39 +60,38 @@ static int64_t now(void) {
     return (int64_t)t.tv_sec * 1000000000 + t.tv_nsec;
 }
 
-static void tell(const char *name, int64_t start, const int16_t *samples) {
+static void tell(const char *name, int64_t start, const int16_t *samples, size_t n) {
     int64_t picoseconds = (now() - start) * 1000 / ((int64_t)LENGTH * PASSES), total = 0;
-    for (size_t i = 0; i < LENGTH; i++) total += samples[i];
+    for (size_t i = 0; i < n; i++) total += samples[i];
     printf("%s %lld %lld\n", name, (long long)picoseconds, (long long)total);
 }
 
 int main(void) {
     fill(left, 7);
     fill(right, 11);
-    for (size_t i = 0; i < LENGTH; i++) by[i] = 3;
     int64_t start = now();
     for (int pass = 0; pass < PASSES; pass++) scale(700000 + pass, left, into, LENGTH);
-    tell("scale", start, into);
+    tell("scale", start, into, LENGTH);
     start = now();
     for (int pass = 0; pass < PASSES; pass++) halves(left, right, into, LENGTH);
-    tell("halves", start, into);
+    tell("halves", start, into, LENGTH);
     start = now();
     for (int pass = 0; pass < PASSES; pass++) mix(left, right, (uint32_t)pass, 44100, into, LENGTH);
-    tell("mix", start, into);
+    tell("mix", start, into, LENGTH);
     start = now();
     for (int pass = 0; pass < PASSES; pass++) encode(left, right, bytes, LENGTH);
-    tell("encode", start, left);
+    tell("encode", start, left, LENGTH);
     start = now();
-    for (int pass = 0; pass < PASSES; pass++) divide(sum, by, into, LENGTH);
-    tell("divide", start, into);
+    for (int pass = 0; pass < PASSES * 220; pass++) divide(eight_sums, eight_by, into, 8);
+    tell("divide", start, into, 8);
     start = now();
     for (int pass = 0; pass < PASSES; pass++) {
         memset(sum, 0, sizeof sum);
         add_into(sum, left, LENGTH);
     }
-    tell("add_into", start, left);
+    tell("add_into", start, left, LENGTH);
     start = now();
     for (int pass = 0; pass < PASSES; pass++) clamp_all(sum, into, LENGTH);
-    tell("clamp_all", start, into);
+    tell("clamp_all", start, into, LENGTH);
     return 0;
 }

@@ -8,7 +8,7 @@ use liq_base::Memory;
 use std::alloc::Global;
 use std::marker::Model;
 
-/// A queue of cells in one block, which is reserved when it is made.
+/// A queue of cells in one block, which is reserved when it is made. No other call takes memory.
 #[derive(Drop)]
 pub struct CellRing {
     cells: HeapCircularBuffer<Cell>,
@@ -64,7 +64,7 @@ impl CellRing {
         self.cells.pop_front();
     }
 
-    /// Moves the samples of the first cells out, as many as there is room for.
+    /// Moves the samples of the first cells out, as many as the slices are long.
     pub fn take_into(&mut self, left: &mut [i16], right: &mut [i16])
         requires same { length right.old ≡ length left.old }
         requires there { length left.old ≤ length self.old.cells }

@@ -3,4 +3,8 @@
 #![tactic(auto)]
 
 #[cfg(test)]
+mod op_cross_tests;
+#[cfg(test)]
 mod op_select_tests;
+#[cfg(test)]
+mod sample_kernels_tests;

@@ -12,7 +12,8 @@ use sample_kernels::mixed_sample;
 use std::alloc::Global;
 use std::marker::Model;
 
-/// A crossfade, one slot at a time. It keeps what is not settled, and the items that are ready.
+/// A crossfade, one slot at a time. It keeps what is not settled, and the items that are ready: `docs/streams.md`,
+/// "Crossfade". Items are counted from 0, and the state stands at one of them, its item.
 #[derive(Drop)]
 pub struct CrossState {
     overlap: u32,
@@ -35,7 +36,9 @@ impl Model for CrossState {
 }
 
 impl CrossState {
-    /// The state of a crossfade that was fed nothing, whose tracks overlap by at most so many cells.
+    /// The state of a crossfade that was fed nothing, whose tracks overlap by at most so many samples, from 1 to 4194304.
+    /// It reserves room for twice as many cells and one; no other call takes memory. The kind changes nothing, since a
+    /// mono cell has 0 on its right, and so has a mix of such cells.
     pub fn new(alloc: Global, overlap: u32, _kind: Kind) -> Result<CrossState, Memory>
         requires { (0 < overlap) × (overlap ≤ 4194304) }
         ensures overlap { IfOk result (λ state. state.overlap ≡ overlap) }
@@ -53,7 +56,7 @@ impl CrossState {
         })
     }
 
-    /// Whether its item is not settled yet.
+    /// Whether its item is not settled yet: a slot that is still to come may change it.
     pub fn wants(&self) -> bool
         ensures wants { result ≡ wants self.now }
         ensures unsettled { (slots : List Slot) (p : ℕ) → StandsFor self.now slots p → IsTrue result ↔ (length (cross self.now.overlap slots) ≤ p) }
@@ -63,7 +66,7 @@ impl CrossState {
         self.ready == 0 && !self.gap
     }
 
-    /// Takes the next slot.
+    /// Takes the next slot of its source. At most twice the overlap of them settle its item.
     pub fn feed(&mut self, slot: Option<Cell>)
         requires { wants self.old ≡ true }
         ensures overlap { self.new.overlap ≡ self.old.overlap }
@@ -97,7 +100,7 @@ impl CrossState {
         }
     }
 
-    /// Its item.
+    /// Its item: a cell, or nothing.
     pub fn offer(&self) -> Option<Cell>
         requires { wants self.now ≡ false }
         ensures item { (slots : List Slot) (p : ℕ) → StandsFor self.now slots p → result ≡ slot_at (cross self.now.overlap slots) p }
@@ -128,7 +131,7 @@ impl CrossState {
         most.min(run)
     }
 
-    /// Gives so many items as there is room for, of a stretch that is ready, and goes on behind them.
+    /// Gives as many items as the slices are long, of a stretch that is ready, and goes on behind them.
     pub fn copy(&mut self, left: &mut [i16], right: &mut [i16])
         requires same { length right.old ≡ length left.old }
         requires ready { length left.old ≤ ready_stretch self.old }
