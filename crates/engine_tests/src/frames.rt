@@ -10,6 +10,7 @@ const LOUD: Cell = Cell {
     right: 9,
     first: true,
 };
+
 const SOFT: Cell = Cell {
     left: 1,
     right: 0,

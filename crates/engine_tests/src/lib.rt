@@ -2,6 +2,6 @@
 #![tactic(auto)]
 
 #[cfg(test)]
-mod buffer_queue;
+mod buffers;
 #[cfg(test)]
 mod frames;
