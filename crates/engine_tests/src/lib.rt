@@ -1,7 +1,12 @@
 //! Tests of the public calls of the engine: each once with ample memory against its answer, worked rows.
 //! Worked rows of the operators and of the engine.
+//! Worked rows of the operators, of the engine and of its buffers.
 #![tactic(auto)]
 
+#[cfg(test)]
+mod buffers_tests;
+#[cfg(test)]
+mod frames_tests;
 #[cfg(test)]
 mod op_cross_tests;
 #[cfg(test)]
