@@ -16,6 +16,8 @@ mod sure_sink;
 #[cfg(test)]
 mod tests;
 mod text;
+#[cfg(test)]
+mod text_tests;
 
 pub use gate::{FreeGate, Gate};
 pub use mem_shelf::MemShelf;
