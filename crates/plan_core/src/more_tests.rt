@@ -1,8 +1,7 @@
 //! Plans that are being made.
 ghost use Rattle.std.specs.Prelude.{◌≡◌, [], ◌∷◌, IfOk};
-ghost use Rattle.plan_core.specs.Plans.{IsWellFormed};
 
-use crate::{BufferPlan, Draft, Items, Node, Op, PlanFault, SinkPlan};
+use crate::{BufferPlan, Draft, Items, Node, Op, SinkPlan};
 use fixed_text::Decimal;
 use liq_base::{Kind, Text};
 use std::alloc::Global;
