@@ -1,5 +1,6 @@
 #!/bin/sh
-# Runs the proved program with these words in the caller's folder, and ends with its status. It is built first if need be.
-top=$(CDPATH='' cd -- "$(dirname -- "$0")" && pwd) || exit 1
+# Runs the proved program with these words in the caller's folder, and ends with its status. It is built first if need be;
+# where that fails it ends with 126, or 127 where the kit is missing.
+top=$(CDPATH='' cd -- "$(dirname -- "$(readlink -f -- "$0")")" && pwd) || exit 126
 program=$("$top/tests/program") || exit
 exec "$program" "$@"

@@ -1,5 +1,5 @@
 #!/usr/bin/env python3
-"""Makes tone.wav in this folder: one second of a tone of 440 Hz, mono, 16 bits, 44100 samples a second."""
+"""Makes tone.wav in the folder in which it is run: one second of a tone of 440 Hz, mono, 16 bits, 44100 samples a second."""
 import math
 import struct
 import wave

@@ -12,6 +12,3 @@ pub use digits::{are_digits, value_up_to};
 pub use integer::{read_u64, write_i64, write_u64};
 pub use time_mark::TimeMark;
 pub use week::{WeekSecond, read_start};
-
-#[cfg(test)]
-mod tests;

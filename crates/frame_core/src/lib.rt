@@ -1,10 +1,16 @@
-//! Cells, and the audio files that leaves play.
+//! Cells, slots and chunks, the audio files that leaves play, and the buffers as a clock sees them.
 #![tactic(auto)]
 
 mod cell;
+mod chunk;
+mod frame;
 mod library;
+mod taps;
 mod track;
 
 pub use cell::Cell;
+pub use chunk::{Chunk, Gave};
+pub use frame::{Frame, MAX_FRAME};
 pub use library::Library;
+pub use taps::Taps;
 pub use track::Track;

@@ -34,6 +34,15 @@ impl Library {
         Library { files, leaves }
     }
 
+    /// How many files a leaf plays. The library is well formed: each of them has whole blocks and at least one sample.
+    pub fn tracks(&self, leaf: u32) -> u32
+        requires { leaf < length self.now.leaves }
+        ensures count { result ≡ length (tracks_of self.now leaf) }
+        ensures library { IsLibrary self.now }
+    {
+        self.leaves[leaf as usize].len() as u32
+    }
+
     /// How many samples each channel has in a file, which is a leaf's file number `track`: at least 1.
     pub fn samples(&self, leaf: u32, track: u32) -> u64
         requires leaf { leaf < length self.now.leaves }

@@ -13,11 +13,7 @@ mod shelf;
 mod sink;
 mod sure_shelf;
 mod sure_sink;
-#[cfg(test)]
-mod tests;
 mod text;
-#[cfg(test)]
-mod text_tests;
 
 pub use gate::{FreeGate, Gate};
 pub use mem_shelf::MemShelf;

@@ -2,7 +2,7 @@
 ghost use Rattle.std.specs.Prelude.{◌≡◌, ◌≤◌, ◌^◌, [], ◌∷◌, ◌++◌, IfOk, MatchOption, ℕ, List};
 ghost use Rattle.wav_io.specs.Plain.{plain_of};
 ghost use Rattle.frame_core.specs.Bytes.{samples_in};
-ghost use Rattle.frame_core.specs.Sounds.{Sound};
+ghost use Rattle.frame_core.specs.Sounds.{Sound, IsSound};
 ghost use Rattle.liq_cli.specs.Answer.{Refused, wave_step};
 ghost use Rattle.liq_cli.specs.Works.{Opens};
 ghost use Rattle.liq_cli.specs.declared.fault.Fault.TheVariants.{OtherForm};
@@ -61,6 +61,7 @@ fn read_samples(alloc: Global, bytes: &[u8]) -> Result<Vec<i16>, AllocError>
 
 // The library of one leaf that plays one file.
 fn one_leaf(alloc: Global, track: Track) -> Result<Library, AllocError>
+    requires { IsSound track }
     ensures { IfOk result (λ library. library ≡ record { files = track ∷ []; leaves = (0 ∷ []) ∷ [] }) }
 {
     let mut files = Vec::new(alloc);

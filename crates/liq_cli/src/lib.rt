@@ -13,6 +13,3 @@ mod words;
 pub use call::liq;
 pub use fault::Fault;
 use fault::{Halt, RenderFault};
-
-#[cfg(test)]
-mod tests;

@@ -1,18 +1,14 @@
 //! The program: the words after its name, real files, standard output and error, and the status of the call.
 #![tactic(auto)]
 
-mod files;
-mod streams;
-
-use files::FileShelf;
 use liq_base::FreeGate;
 use liq_cli::liq;
+use real_files::{FileShelf, OutSink};
 use std::alloc::Global;
 use std::env;
 use std::io::ErrorKind;
 use std::process::ExitCode;
 use std::rt::Env;
-use streams::OutSink;
 
 /// The status of a call whose words could not be held.
 const NO_MEMORY: u8 = 5;

@@ -20,8 +20,3 @@ pub use node::{Node, Op};
 pub use plan::{Plan, PlanFault};
 pub use preds::Preds;
 pub use sink::{BufferPlan, SinkPlan};
-
-#[cfg(test)]
-mod more_tests;
-#[cfg(test)]
-mod tests;

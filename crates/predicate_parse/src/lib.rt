@@ -3,8 +3,6 @@
 
 mod fault;
 mod predicates;
-#[cfg(test)]
-mod tests;
 pub mod token;
 
 pub use fault::Fault;

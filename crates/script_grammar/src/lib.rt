@@ -7,8 +7,6 @@ pub mod predicate;
 mod spell_predicate;
 mod spell_script;
 mod spell_value;
-#[cfg(test)]
-mod tests;
 pub mod tree;
 
 pub use spell_script::spell;

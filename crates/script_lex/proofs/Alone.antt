@@ -9,7 +9,7 @@ use Rattle.script_lex.specs.Reading.{Found, front, after_name, after_digits, wor
 use Rattle.script_lex.specs.declared.token.Keyword.{Keyword}
 use Rattle.script_lex.specs.declared.token.Symbol.{Symbol}
 use Rattle.script_lex.specs.declared.token.Symbol.TheVariants as symbols
-use Rattle.script_lex.proofs.Digits.{digit_back}
+use Rattle.fixed_text.proofs.Numerals.{digit_back}
 use Rattle.script_lex.proofs.Fronts.{front_is}
 use Rattle.script_lex.proofs.Names.{dotted_eaten}
 use Rattle.script_lex.proofs.Eaten.{digits_eaten, digits_alone, digits_stop, unit_not_digit, numeral_first}

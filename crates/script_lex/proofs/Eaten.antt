@@ -5,7 +5,7 @@ use Rattle.std.specs.Char.{is_ascii_digit}
 use Rattle.std.specs.Str.Parse.{AllDigits, IsNumeral}
 use Rattle.script_lex.specs.Bytes.{is_unit, starts_digit}
 use Rattle.script_lex.specs.Reading.{after_digits, front}
-use Rattle.script_lex.proofs.Digits.{digit_is, digit_back}
+use Rattle.fixed_text.proofs.Numerals.{digit_is, digit_back}
 use Rattle.script_lex.proofs.Fronts.{choose, front_is}
 
 pub digits_more : (b : ℕ) (bs : List ℕ) → is_ascii_digit b ≡ true → after_digits (b ∷ bs) ≡ after_digits bs

@@ -9,7 +9,7 @@ use Rattle.script_lex.specs.Words.{symbol_text}
 use Rattle.script_lex.specs.Spelling.{Shape, AWord, AnOpen, AnInt, ANumber, ATime, AText, AWav, ASymbol, Spells, IsDotted, behind_points, written, IsQuote}
 use Rattle.script_lex.specs.declared.token.Symbol.{Symbol}
 use Rattle.script_lex.specs.declared.token.Symbol.TheVariants as symbols
-use Rattle.script_lex.proofs.Digits.{digit_back}
+use Rattle.fixed_text.proofs.Numerals.{digit_back}
 use Rattle.script_lex.proofs.Fronts.{choose}
 use Rattle.script_lex.proofs.Times.{time_starts}
 

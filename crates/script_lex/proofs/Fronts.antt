@@ -2,7 +2,7 @@
 use Rattle.std.proofs.Common.{◌≡◌, ℕ, suc, ◌-◌, ◌<◌, ◌≤◌, Bool, true, false, List, [], ◌∷◌, ◌++◌, length, get_or, take, refl, ap, ◌∙◌, arith, if◌then◌else◌, length-append}
 use Rattle.std.specs.Str.Parse.{AllDigits}
 use Rattle.std.specs.Char.{is_ascii_digit}
-use Rattle.script_lex.proofs.Digits.{digit_is}
+use Rattle.fixed_text.proofs.Numerals.{digit_is}
 use Rattle.script_lex.specs.Reading.{after_digits, front}
 
 -- the rest is no longer

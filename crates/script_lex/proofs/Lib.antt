@@ -1,5 +1,4 @@
 pub mod Same
-pub mod Digits
 pub mod Fronts
 pub mod Names
 pub mod Ascii

@@ -6,7 +6,7 @@ use Rattle.std.specs.Str.Parse.{AllDigits}
 use Rattle.script_lex.specs.Bytes.{is_unit}
 use Rattle.script_lex.specs.Spelling.{Shape, AnInt, ANumber, ATime, Spells, IsTimeText}
 use Rattle.script_lex.specs.Reading.{after_digits, front, number_from, number_at, time_at}
-use Rattle.script_lex.proofs.Digits.{digit_is, digit_back}
+use Rattle.fixed_text.proofs.Numerals.{digit_is, digit_back}
 use Rattle.script_lex.proofs.Fronts.{choose, front_is, after_digits_le}
 use Rattle.script_lex.proofs.Eaten.{digits_more, digits_stop, digits_eaten, front_digits, unit_not_digit}
 use Rattle.script_lex.proofs.Firsts.{Digit, class, first_of, digit_class}

@@ -14,6 +14,3 @@ mod word;
 
 pub use lexer::lex;
 pub use token::{Keyword, LexFault, Symbol, Token, TokenKind};
-
-#[cfg(test)]
-mod tests;

@@ -1,4 +1,3 @@
-mod Turns
 mod Arms
 mod Exact
 mod Parsed

@@ -4,8 +4,6 @@
 mod fault;
 mod script;
 mod statement;
-#[cfg(test)]
-mod tests;
 
 pub use fault::ParseFault;
 pub use script::parse;

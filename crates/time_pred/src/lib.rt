@@ -5,6 +5,3 @@ mod mark;
 mod pred;
 
 pub use pred::Pred;
-
-#[cfg(test)]
-mod tests;

@@ -12,6 +12,3 @@ mod unifier;
 
 pub use subst::{Subst, resolved, unify};
 pub use ty::{Base, KindTerm, Ty};
-
-#[cfg(test)]
-mod tests;

@@ -5,7 +5,5 @@ mod atoms;
 mod descent;
 mod entry;
 mod number;
-#[cfg(test)]
-mod tests;
 
 pub use entry::{call, choice, result, value};

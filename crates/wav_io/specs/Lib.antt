@@ -1,3 +1,5 @@
 pub mod Header
 pub mod Plain
 pub mod Opened
+pub mod Chunks
+pub mod Reading

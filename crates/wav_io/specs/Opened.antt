@@ -1,17 +1,15 @@
 -- A file opens as plain exactly where it is a header of ours and then blocks.
-use Rattle.std.specs.Prelude.{◌≡◌, ◌≤◌, ◌<◌, ℕ, ◌+◌, ◌-◌, ◌*◌, ◌/◌, ◌%◌, ◌^◌, ◌&&◌, List, [], ◌∷◌, ◌++◌, length, take, drop, Bool, true, false, cond, Option, Some, None, option_map, refl, nat_le, nat_lt, nat_eq, slice_index, if◌then◌else◌}
+use Rattle.std.specs.Prelude.{◌≡◌, ◌≤◌, ℕ, ◌+◌, ◌-◌, ◌*◌, ◌/◌, ◌^◌, ◌&&◌, List, ◌++◌, length, take, drop, Bool, true, false, cond, Option, Some, None, option_map, refl, nat_le, nat_lt, nat_eq, slice_index}
 use Rattle.std.proofs.Common.{sym, ap, ◌∙◌, subst, arith, length-drop, length-append}
 use Rattle.std.proofs.lemmas.Bool.{ltb-true, lt-ltb, eqb-true, eq-eqb, leb-true, le-leb}
 use Rattle.std.proofs.lemmas.Slice.Eq.{bytes_eq-Decides}
 use Rattle.std.proofs.lemmas.List.{take-append-drop}
 use Rattle.std.proofs.Math.Seq.{take-append_seam}
-use Rattle.std.specs.Str.{bytes_eq}
-use Rattle.byteorder.specs.Endian.{little_number, little_bytes}
 use Rattle.byteorder.specs.Numbers.{little_from-bytes}
 use Rattle.liq_base.specs.Kinds.{channels_of}
 use Rattle.liq_base.specs.declared.memory.Kind.{Kind}
 use Rattle.liq_base.specs.declared.memory.Kind.TheVariants.{Mono, Stereo}
-use Rattle.wav_io.specs.Header.{block_size, header_bytes, header_of, four_bytes, two_bytes}
+use Rattle.wav_io.specs.Header.{block_size, header_bytes, header_of}
 use Rattle.wav_io.specs.Plain.{Wave, IsPlain, is_front, rate_in, blocks_in, is_plain_as, plain_kind_of, plain_of}
 
 both : (a b : Bool) → (a && b) ≡ true → (a ≡ true) × (b ≡ true)
@@ -32,15 +30,15 @@ chosen true x y h = cc
 chosen false x y h = absurd (cc)
 
 -- a header is the bytes of its fields
-header_is : (kind : Kind) (rate samples : ℕ) (header : List ℕ) → header_of kind rate samples ≡ Some header → header ≡ header_bytes kind rate samples
+pub header_is : (kind : Kind) (rate samples : ℕ) (header : List ℕ) → header_of kind rate samples ≡ Some header → header ≡ header_bytes kind rate samples
 header_is kind rate samples header h = chosen (nat_lt (36 + samples * block_size kind) (2 ^ 32)) (header_bytes kind rate samples) header h
 
-length_header : (kind : Kind) (rate samples : ℕ) → length (header_bytes kind rate samples) ≡ 44
+pub length_header : (kind : Kind) (rate samples : ℕ) → length (header_bytes kind rate samples) ≡ 44
 unfolding header_bytes
 length_header kind rate samples = refl
 
 -- the rate and the channels stand in the header
-rate_behind : (kind : Kind) (rate samples : ℕ) (body : List ℕ) → rate ≤ 192000 → rate_in (header_bytes kind rate samples ++ body) ≡ rate
+pub rate_behind : (kind : Kind) (rate samples : ℕ) (body : List ℕ) → rate ≤ 192000 → rate_in (header_bytes kind rate samples ++ body) ≡ rate
 unfolding header_bytes
 rate_behind kind rate samples body small =
     little_from-bytes 4 0 rate (drop 28 (header_bytes kind rate samples) ++ body) ∙ (omega arith)
@@ -82,11 +80,11 @@ kinds_differ bytes one other p q =
     ∙ ap (λ (front : List ℕ). slice_index (front ++ other.body) 22) (header_is other.kind other.rate q.samples q.header q.header_is)
     ∙ channels_behind other.kind other.rate q.samples other.body
 
-blocks_are : (kind : Kind) (size samples : ℕ) → size ≡ samples * block_size kind → (44 + size - 44) / block_size kind ≡ samples
+pub blocks_are : (kind : Kind) (size samples : ℕ) → size ≡ samples * block_size kind → (44 + size - 44) / block_size kind ≡ samples
 blocks_are Mono size samples h = omega arith
 blocks_are Stereo size samples h = omega arith
 
-body_behind : (kind : Kind) (rate samples : ℕ) (body : List ℕ) → drop 44 (header_bytes kind rate samples ++ body) ≡ body
+pub body_behind : (kind : Kind) (rate samples : ℕ) (body : List ℕ) → drop 44 (header_bytes kind rate samples ++ body) ≡ body
 unfolding header_bytes
 body_behind kind rate samples body = refl
 

@@ -1,10 +1,16 @@
-//! WAV files: the header that is written, and the files that it opens.
+//! WAV files: the header that is written, and the files that are read.
 #![tactic(auto)]
 
+mod chunks;
+mod fault;
 mod fields;
-#[cfg(test)]
-mod tests;
+mod format;
+mod laws;
+mod read;
 mod wave;
 
+pub use fault::WavFault;
 pub use fields::header;
+pub use laws::{chunks_are_all, own_files_are_read};
+pub use read::read_wav;
 pub use wave::{Wav, plain};

@@ -6,7 +6,7 @@ use Rattle.script_grammar.specs.ReadScript.{inner}
 use Rattle.script_grammar.specs.View.{view_inner}
 use Rattle.script_grammar.specs.Whole.{IsWholeInner}
 use Rattle.predicate_parse.specs.Gives.{places}
-use Rattle.script_parse.proofs.Turns.{begins, goes_on, fails, ends}
+use Rattle.predicate_parse.proofs.Turns.{begins, goes_on, fails, ends}
 use Rattle.script_parse.proofs.statement.inners.Goals as goal
 
 pub turns-init : goal.turns-init

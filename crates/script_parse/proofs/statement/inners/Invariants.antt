@@ -5,7 +5,7 @@ use Rattle.script_grammar.specs.ReadScript.{inner}
 use Rattle.script_grammar.specs.View.{view_inner}
 use Rattle.script_grammar.specs.Whole.{IsWholeInner}
 use Rattle.predicate_parse.specs.Gives.{places}
-use Rattle.script_parse.proofs.Turns.{Turning}
+use Rattle.predicate_parse.proofs.Turns.{Turning}
 use Rattle.script_parse.proofs.statement.inners.Given as goal
 
 abbrev pub invariant-turns : goal.invariant-turns

@@ -7,7 +7,7 @@ use Rattle.script_grammar.specs.ReadScript.{param}
 use Rattle.script_grammar.specs.View.{view_param}
 use Rattle.script_grammar.specs.Whole.{IsWholeParam}
 use Rattle.predicate_parse.specs.Gives.{places}
-use Rattle.script_parse.proofs.Turns.{begins, goes_on, fails, ends}
+use Rattle.predicate_parse.proofs.Turns.{begins, goes_on, fails, ends}
 use Rattle.script_parse.proofs.statement.more_params.Goals as goal
 
 pub turns-init : goal.turns-init

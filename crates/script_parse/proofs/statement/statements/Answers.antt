@@ -7,7 +7,7 @@ use Rattle.script_grammar.specs.ReadScript.{stmt}
 use Rattle.script_grammar.specs.View.{view_stmt}
 use Rattle.script_grammar.specs.Whole.{IsWholeStmt}
 use Rattle.predicate_parse.specs.Gives.{places}
-use Rattle.script_parse.proofs.Turns.{begins, goes_on, fails, ends}
+use Rattle.predicate_parse.proofs.Turns.{begins, goes_on, fails, ends}
 use Rattle.script_parse.proofs.statement.statements.Goals as goal
 
 pub turns-init : goal.turns-init

@@ -1,5 +1,5 @@
 use Rattle.std.proofs.Common.{ℕ, Bool, Ok, ap}
-use Rattle.value_parse.proofs.Levels.{full_ends, full_turn}
+use Rattle.predicate_parse.proofs.Levels.{full_ends, full_turn}
 use Rattle.value_parse.proofs.Signs.{added_goes}
 use Rattle.script_grammar.specs.Tree.{Tree, AnAdded, Added}
 use Rattle.script_grammar.specs.View.{view_product}
@@ -15,7 +15,7 @@ use Rattle.script_grammar.specs.ReadValue.{full_by, and_, not_, added, multiplie
 use Rattle.script_grammar.specs.View.{view_full, view_and, view_not, view_added, view_multiplied, view_arg}
 use Rattle.script_grammar.specs.Whole.{IsWholeFull, IsWholeAnd, IsWholeNot, IsWholeAdded, IsWholeMultiplied, IsWholeArg}
 use Rattle.predicate_parse.specs.Gives.{places}
-use Rattle.value_parse.proofs.Turns.{begins, goes_on, fails, ends}
+use Rattle.predicate_parse.proofs.Turns.{begins, goes_on, fails, ends}
 use Rattle.value_parse.proofs.descent.+value.Goals as goal
 
 pub ands-turns-init : goal.ands-turns-init

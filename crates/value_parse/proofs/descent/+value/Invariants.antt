@@ -6,7 +6,7 @@ use Rattle.script_grammar.specs.ReadValue.{full_by, and_, not_, added, multiplie
 use Rattle.script_grammar.specs.View.{view_full, view_and, view_not, view_added, view_multiplied, view_arg}
 use Rattle.script_grammar.specs.Whole.{IsWholeFull, IsWholeAnd, IsWholeNot, IsWholeAdded, IsWholeMultiplied, IsWholeArg}
 use Rattle.predicate_parse.specs.Gives.{places}
-use Rattle.value_parse.proofs.Turns.{Turning}
+use Rattle.predicate_parse.proofs.Turns.{Turning}
 use Rattle.value_parse.proofs.descent.+value.Given as goal
 
 abbrev pub decreases-call : goal.decreases-call

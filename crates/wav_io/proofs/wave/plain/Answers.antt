@@ -1,7 +1,6 @@
-use Rattle.std.proofs.Common.{rules, arith, ◌≡◌, ◌∙◌, ap, sym, Some, None, drop}
+use Rattle.std.proofs.Common.{rules, ◌≡◌, ◌∙◌, ap, sym, Some, None, drop}
 use Rattle.std.specs.Prelude.{option_map}
-use Rattle.std.proofs.lemmas.Grind.{common_steps}
-use Rattle.wav_io.specs.Plain.{Wave, plain_of, plain_kind_of, rate_in, IsPlain}
+use Rattle.wav_io.specs.Plain.{plain_of, plain_kind_of, rate_in}
 use Rattle.wav_io.specs.Opened.{opened, opens, is_opened}
 use Rattle.wav_io.proofs.wave.plain.Goals as goal
 

@@ -1,0 +1,97 @@
+// The loops of the sample kernels in plain C, timed on the same samples.
+#include <stdint.h>
+#include <stdio.h>
+#include <string.h>
+#include <time.h>
+
+enum { LENGTH = 1764, PASSES = 20000 };
+
+static int16_t left[LENGTH], right[LENGTH], into[LENGTH];
+static uint8_t bytes[4 * LENGTH];
+static int32_t sum[LENGTH];
+static uint16_t by[LENGTH];
+
+static int16_t clamped(int64_t n) { return n < -32768 ? -32768 : n > 32767 ? 32767 : (int16_t)n; }
+
+__attribute__((noinline)) static void scale(int64_t millionths, const int16_t *from, int16_t *to, size_t n) {
+    int64_t most = 32768000000;
+    if (millionths > most) millionths = most;
+    if (millionths < -most) millionths = -most;
+    for (size_t i = 0; i < n; i++) to[i] = clamped(from[i] * millionths / 1000000);
+}
+__attribute__((noinline)) static void halves(const int16_t *l, const int16_t *r, int16_t *to, size_t n) {
+    for (size_t i = 0; i < n; i++) to[i] = (int16_t)((l[i] + r[i]) / 2);
+}
+__attribute__((noinline)) static void mix(const int16_t *a, const int16_t *b, uint32_t start, uint32_t whole, int16_t *to, size_t n) {
+    for (size_t i = 0; i < n; i++) {
+        int64_t at = start + i;
+        to[i] = (int16_t)((a[i] * ((int64_t)whole - at) + b[i] * at) / (int64_t)whole);
+    }
+}
+__attribute__((noinline)) static void encode(const int16_t *l, const int16_t *r, uint8_t *to, size_t n) {
+    for (size_t i = 0; i < n; i++) {
+        to[4 * i] = (uint8_t)l[i];
+        to[4 * i + 1] = (uint8_t)((uint16_t)l[i] >> 8);
+        to[4 * i + 2] = (uint8_t)r[i];
+        to[4 * i + 3] = (uint8_t)((uint16_t)r[i] >> 8);
+    }
+}
+__attribute__((noinline)) static void divide(const int32_t *s, const uint16_t *d, int16_t *to, size_t n) {
+    for (size_t i = 0; i < n; i++) to[i] = (int16_t)(s[i] / d[i]);
+}
+__attribute__((noinline)) static void add_into(int32_t *s, const int16_t *part, size_t n) {
+    for (size_t i = 0; i < n; i++) s[i] += part[i];
+}
+__attribute__((noinline)) static void clamp_all(const int32_t *s, int16_t *to, size_t n) {
+    for (size_t i = 0; i < n; i++) to[i] = clamped(s[i]);
+}
+
+static void fill(int16_t *samples, uint32_t state) {
+    for (size_t i = 0; i < LENGTH; i++) {
+        state = state * 1664525u + 1013904223u;
+        samples[i] = (int16_t)(uint16_t)(state >> 16);
+    }
+}
+
+static int64_t now(void) {
+    struct timespec t;
+    clock_gettime(CLOCK_PROCESS_CPUTIME_ID, &t);
+    return (int64_t)t.tv_sec * 1000000000 + t.tv_nsec;
+}
+
+static void tell(const char *name, int64_t start, const int16_t *samples) {
+    int64_t picoseconds = (now() - start) * 1000 / ((int64_t)LENGTH * PASSES), total = 0;
+    for (size_t i = 0; i < LENGTH; i++) total += samples[i];
+    printf("%s %lld %lld\n", name, (long long)picoseconds, (long long)total);
+}
+
+int main(void) {
+    fill(left, 7);
+    fill(right, 11);
+    for (size_t i = 0; i < LENGTH; i++) by[i] = 3;
+    int64_t start = now();
+    for (int pass = 0; pass < PASSES; pass++) scale(700000 + pass, left, into, LENGTH);
+    tell("scale", start, into);
+    start = now();
+    for (int pass = 0; pass < PASSES; pass++) halves(left, right, into, LENGTH);
+    tell("halves", start, into);
+    start = now();
+    for (int pass = 0; pass < PASSES; pass++) mix(left, right, (uint32_t)pass, 44100, into, LENGTH);
+    tell("mix", start, into);
+    start = now();
+    for (int pass = 0; pass < PASSES; pass++) encode(left, right, bytes, LENGTH);
+    tell("encode", start, left);
+    start = now();
+    for (int pass = 0; pass < PASSES; pass++) divide(sum, by, into, LENGTH);
+    tell("divide", start, into);
+    start = now();
+    for (int pass = 0; pass < PASSES; pass++) {
+        memset(sum, 0, sizeof sum);
+        add_into(sum, left, LENGTH);
+    }
+    tell("add_into", start, left);
+    start = now();
+    for (int pass = 0; pass < PASSES; pass++) clamp_all(sum, into, LENGTH);
+    tell("clamp_all", start, into);
+    return 0;
+}

@@ -1,0 +1,5 @@
+//! Tests of the public calls of audio files and leaves: each once with ample memory against its answer, worked rows.
+#![tactic(auto)]
+
+#[cfg(test)]
+mod wav_io_tests;

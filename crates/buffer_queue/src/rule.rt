@@ -1,0 +1,125 @@
+//! What the passes of a queue know, in proofs alone, and the rule over it.
+ghost use Rattle.std.specs.Prelude.{ℕ};
+
+use crossbeam_queue::RuledArrayQueue;
+use crossbeam_queue::protocol::{Join, Lesson, Outcome, Protocol, Split};
+use frame_core::Chunk;
+use std::collections::LinkedList;
+use std::marker::{Brand, PhantomData};
+
+/// What a pass knows: its roles, the capacity, and of each role the window's opening contents (`opening`, `since`) and each chunk that it moved,
+/// with the number that its step left in the queue.
+/// No value of it is made.
+pub struct View {
+    pub capacity: u64,
+    pub puts: bool,
+    pub takes: bool,
+    pub opening: LinkedList<Chunk>,
+    pub put: LinkedList<(Chunk, u64)>,
+    pub since: LinkedList<Chunk>,
+    pub got: LinkedList<(Chunk, u64)>,
+}
+
+/// Some order of the accepted puts and of the chunks got leads from the opening contents to the contents.
+pub struct OneOrder;
+
+impl Protocol<Chunk, View> for OneOrder {
+    ghost use Rattle.buffer_queue.specs.Rule.{Holds, newcomer};
+
+    ghost holds = { Holds };
+
+    ghost first = { newcomer };
+}
+
+pub type Ruled = RuledArrayQueue<Chunk, View, OneOrder>;
+
+/// How many chunks the queue takes. Each call of a program picks it.
+pub trait Size {
+    ghost capacity: { ℕ };
+}
+
+impl Size for Brand {
+    ghost capacity = { 0 };
+}
+
+/// The first pass is cut into the two ends, which learn the capacity.
+pub struct Ends<K> {
+    of: PhantomData<K>,
+}
+
+impl<K: Size> Split<View> for Ends<K> {
+    ghost use Rattle.buffer_queue.specs.Rule.{putter, taker};
+
+    ghost left = { λ v. putter K.capacity v };
+
+    ghost right = { λ v. taker K.capacity v };
+}
+
+/// A pass with both roles is cut into the two ends, which open the next window.
+pub struct Next;
+
+impl Split<View> for Next {
+    ghost use Rattle.buffer_queue.specs.Rule.{putter, taker};
+
+    ghost left = { λ v. putter v.capacity v };
+
+    ghost right = { λ v. taker v.capacity v };
+}
+
+/// A pass that knows nothing.
+pub struct Spare;
+
+impl Split<View> for Spare {
+    ghost use Rattle.buffer_queue.specs.Rule.{idle};
+
+    ghost left = { λ v. v };
+
+    ghost right = { λ v. idle };
+}
+
+/// The two ends are taken in.
+pub struct Both;
+
+impl Join<View> for Both {
+    ghost use Rattle.buffer_queue.specs.Rule.{both, idle};
+
+    ghost both = { both };
+
+    ghost spent = { idle };
+}
+
+pub struct Puts;
+
+impl Outcome<Chunk, View> for Puts {
+    ghost use Rattle.buffer_queue.specs.Rule.{Put};
+
+    ghost then = { Put };
+}
+
+impl Lesson<Chunk, View> for Puts {
+    ghost use Rattle.buffer_queue.specs.Rule.{Fills};
+
+    ghost fact = { Fills };
+}
+
+pub struct Takes;
+
+impl Outcome<Chunk, View> for Takes {
+    ghost use Rattle.buffer_queue.specs.Rule.{Got};
+
+    ghost then = { Got };
+}
+
+impl Lesson<Chunk, View> for Takes {
+    ghost use Rattle.buffer_queue.specs.Rule.{Drains};
+
+    ghost fact = { Drains };
+}
+
+pub struct WholeWindow;
+
+impl Lesson<Chunk, View> for WholeWindow {
+    ghost use Rattle.buffer_queue.specs.Rule.{Whole};
+
+    ghost fact = { Whole };
+}

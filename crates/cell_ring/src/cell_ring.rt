@@ -1,0 +1,96 @@
+// A ring of cells.
+ghost use Rattle.std.specs.Prelude.{◌≡◌, ◌+◌, ◌<◌, ◌≤◌, ◌^◌, [], ◌∷◌, ◌++◌, length, map, take, drop, slice_get, IfOk};
+ghost use Rattle.cell_ring.specs.Rings.{Ring};
+
+use circular_buffer::HeapCircularBuffer;
+use frame_core::Cell;
+use liq_base::Memory;
+use std::alloc::Global;
+use std::marker::Model;
+
+/// A queue of cells in one block, which is reserved when it is made.
+#[derive(Drop)]
+pub struct CellRing {
+    cells: HeapCircularBuffer<Cell>,
+}
+
+impl Model for CellRing {
+    ghost use Rattle.std.specs.Prelude.{◌<◌, ◌≤◌, ◌^◌, length};
+    ghost use Rattle.cell_ring.specs.Rings.{Ring};
+
+    ghost Value = { Ring };
+
+    ghost view = { λ r. record { cells = r.cells.items; room = r.cells.capacity } };
+
+    ghost invariant = { λ r. (length r.cells.items ≤ r.cells.capacity) × (r.cells.capacity < 2 ^ 32) };
+}
+
+impl CellRing {
+    /// An empty ring, with room for so many cells.
+    pub fn new(alloc: Global, room: u32) -> Result<CellRing, Memory>
+        ensures { IfOk result (λ ring. ring ≡ record { cells = []; room = room }) }
+    {
+        let cells = HeapCircularBuffer::with_capacity(alloc, room as usize)?;
+        Ok(CellRing { cells })
+    }
+
+    /// How many cells it holds.
+    pub fn len(&self) -> u32
+        ensures len { result ≡ length self.now.cells }
+        ensures within { result ≤ self.now.room }
+    {
+        self.cells.len() as u32
+    }
+
+    /// The first cell.
+    pub fn front(&self) -> Option<Cell>
+        ensures { result ≡ slice_get self.now.cells 0 }
+    {
+        self.cells.front().copied()
+    }
+
+    /// Appends a cell.
+    pub fn push(&mut self, cell: Cell)
+        requires { length self.old.cells < self.old.room }
+        ensures { self.new ≡ record { cells = self.old.cells ++ cell ∷ []; room = self.old.room } }
+    {
+        self.cells.push_back(cell);
+    }
+
+    /// Takes the first cell away, if there is one.
+    pub fn pop(&mut self)
+        ensures { self.new ≡ record { cells = drop 1 self.old.cells; room = self.old.room } }
+    {
+        self.cells.pop_front();
+    }
+
+    /// Moves the samples of the first cells out, as many as there is room for.
+    pub fn take_into(&mut self, left: &mut [i16], right: &mut [i16])
+        requires same { length right.old ≡ length left.old }
+        requires there { length left.old ≤ length self.old.cells }
+        ensures left { left.new ≡ map (λ cell. cell.left) (take (length left.old) self.old.cells) }
+        ensures right { right.new ≡ map (λ cell. cell.right) (take (length left.old) self.old.cells) }
+        ensures rest { self.new ≡ record { cells = drop (length left.old) self.old.cells; room = self.old.room } }
+    {
+        let count = left.len();
+        let (front, back) = self.cells.as_slices();
+        let first = front.len().min(count);
+        let (left_front, left_back) = left.split_at_mut(first);
+        let (right_front, right_back) = right.split_at_mut(first);
+        lay(&front[..first], left_front, right_front);
+        lay(&back[..count - first], left_back, right_back);
+        self.cells.truncate_front(self.cells.len() - count);
+    }
+}
+
+// Lays the samples of the cells side by side.
+fn lay(cells: &[Cell], left: &mut [i16], right: &mut [i16])
+    requires same { (length left.old ≡ length cells.now) × (length right.old ≡ length cells.now) }
+    ensures left { left.new ≡ map (λ cell. cell.left) cells.now }
+    ensures right { right.new ≡ map (λ cell. cell.right) cells.now }
+{
+    for at in 0..cells.len() {
+        left[at] = cells[at].left;
+        right[at] = cells[at].right;
+    }
+}

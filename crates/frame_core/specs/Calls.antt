@@ -1,0 +1,37 @@
+-- The calls that a clock makes on its buffers.
+use Rattle.std.specs.Prelude.{◌≡◌, ℕ, ◌==◌, Bool, true, false, List, [], ◌∷◌, ◌++◌, Option, Some, None, if◌then◌else◌}
+use Rattle.frame_core.specs.declared.cell.Cell.{Cell}
+use Rattle.frame_core.specs.declared.chunk.Gave.{Gave}
+use Rattle.frame_core.specs.declared.chunk.Gave.TheVariants.{Accepted, Full}
+
+-- a take of a buffer with its answer; or a give of a chunk to a buffer, true where it was accepted
+pub data Call : Type 0 where
+  Took : ℕ → Option (List Cell) → Call
+  Given : ℕ → List Cell → Bool → Call
+
+-- the answers of the takes of one buffer
+abbrev pub takes_of : ℕ → List Call → List (Option (List Cell))
+takes_of buffer [] = []
+takes_of buffer (Took of answer ∷ calls) = if buffer == of then answer ∷ takes_of buffer calls else takes_of buffer calls
+takes_of buffer (Given to chunk accepted ∷ calls) = takes_of buffer calls
+
+-- the answer of a give: the chunk where it was accepted, nothing where the buffer was full
+abbrev pub put_of : List Cell → Bool → Option (List Cell)
+put_of chunk true = Some chunk
+put_of chunk false = None
+
+-- the answers of the gives to one buffer
+abbrev pub puts_to : ℕ → List Call → List (Option (List Cell))
+puts_to buffer [] = []
+puts_to buffer (Took of answer ∷ calls) = puts_to buffer calls
+puts_to buffer (Given to chunk accepted ∷ calls) =
+    if buffer == to then put_of chunk accepted ∷ puts_to buffer calls else puts_to buffer calls
+
+-- the call that a give was, by what it answered; a full buffer gave the chunk back
+abbrev pub IsGive : ℕ → List Cell → Gave → Call → Type 0
+IsGive buffer chunk Accepted call = call ≡ Given buffer chunk true
+IsGive buffer chunk (Full back) call = (back ≡ chunk) × (call ≡ Given buffer chunk false)
+
+-- whatever list was stood for before, it is stood for afterwards with these calls at its end
+abbrev pub Adds : {T : Type 0} → (T → List Call → Type 0) → T → T → List Call → Type 0
+Adds stands before after more = (calls : List Call) → stands before calls → stands after (calls ++ more)

@@ -1,0 +1,34 @@
+-- The slots of a tick, kept as lists side by side, and the cells among them.
+use Rattle.std.specs.Prelude.{ℤ, Option, Some, None, List, [], ◌∷◌, true, false}
+use Rattle.frame_core.specs.declared.cell.Cell.{Cell}
+use Rattle.frame_core.specs.declared.frame.Mark.{Mark}
+use Rattle.frame_core.specs.declared.frame.Mark.TheVariants.{Absent, Inner, First}
+use Rattle.frame_core.specs.Slots.{Slot}
+
+-- the slot that a mark and two samples stand for
+abbrev pub slot_of : Mark → ℤ → ℤ → Slot
+slot_of Absent left right = None
+slot_of Inner left right = Some (record { left = left; right = right; first = false })
+slot_of First left right = Some (record { left = left; right = right; first = true })
+
+-- the slots that marks and samples stand for, place by place
+abbrev pub slots_in : List Mark → List ℤ → List ℤ → List Slot
+slots_in (mark ∷ marks) (left ∷ lefts) (right ∷ rights) = slot_of mark left right ∷ slots_in marks lefts rights
+slots_in (mark ∷ marks) (left ∷ lefts) [] = []
+slots_in (mark ∷ marks) [] rights = []
+slots_in [] lefts rights = []
+
+-- what is there, in order
+abbrev pub somes : {X : Type 0} → List (Option X) → List X
+somes [] = []
+somes (None ∷ options) = somes options
+somes (Some x ∷ options) = x ∷ somes options
+
+-- a list, or nothing where it is empty
+abbrev pub some_list : {X : Type 0} → List X → Option (List X)
+some_list [] = None
+some_list (x ∷ xs) = Some (x ∷ xs)
+
+-- the chunk of a tick: its cells in order, or none where it has no cell
+abbrev pub chunk_of : List Slot → Option (List Cell)
+chunk_of slots = some_list (somes slots)

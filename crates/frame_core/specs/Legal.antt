@@ -1,0 +1,21 @@
+-- One window of a bounded queue: its puts, its takes and what it leaves; and windows one after another.
+use Rattle.std.specs.Prelude.{◌≡◌, ℕ, ◌<◌, List, [], ◌∷◌, ◌++◌, length, Option, Some, None}
+
+-- The puts (an item that was accepted, or None for full) and the takes (an item, or None for empty) stand in one
+-- order of a queue of so many items, which begins with the items `queue` and ends with `rest`.
+pub data Legal {X : Type 0} (capacity : ℕ) (rest : List X) : List X → List (Option X) → List (Option X) → Type 0 where
+  ended : Legal capacity rest rest [] []
+  accepted : {queue : List X} {x : X} {puts takes : List (Option X)} → length queue < capacity →
+      Legal capacity rest (queue ++ x ∷ []) puts takes → Legal capacity rest queue (Some x ∷ puts) takes
+  full : {queue : List X} {puts takes : List (Option X)} → length queue ≡ capacity →
+      Legal capacity rest queue puts takes → Legal capacity rest queue (None ∷ puts) takes
+  got : {queue : List X} {x : X} {puts takes : List (Option X)} →
+      Legal capacity rest queue puts takes → Legal capacity rest (x ∷ queue) puts (Some x ∷ takes)
+  empty : {puts takes : List (Option X)} →
+      Legal capacity rest [] puts takes → Legal capacity rest [] puts (None ∷ takes)
+
+-- Windows one after another, each legal from what the one before it left: from the items `queue` to `rest`.
+abbrev pub IsRun : {X : Type 0} → ℕ → List X → List (List (Option X) × List (Option X)) → List X → Type 0
+IsRun capacity queue [] rest = queue ≡ rest
+IsRun {X} capacity queue (window ∷ windows) rest =
+    (left : List X) × Legal capacity left queue window.0 window.1 × IsRun capacity left windows rest

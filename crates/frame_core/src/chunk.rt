@@ -1,0 +1,69 @@
+// The cells that a tick gives to a buffer.
+ghost use Rattle.std.specs.Prelude.{◌≡◌, ◌<◌, ◌≤◌, length, slice_get, IfOk, Some};
+ghost use Rattle.frame_core.specs.Frames.{chunk_of};
+
+use crate::frame::MAX_FRAME;
+use crate::{Cell, Frame};
+use liq_base::Memory;
+use std::alloc::Global;
+use std::marker::Model;
+
+/// The cells of one tick, in order: 1 to 65536 of them. Contracts see their list.
+#[derive(Debug, Drop)]
+pub struct Chunk {
+    cells: Vec<Cell>,
+}
+
+impl Model for Chunk {
+    ghost use Rattle.std.specs.Prelude.{◌<◌, ◌≤◌, List, length};
+    ghost use Rattle.frame_core.specs.declared.cell.Cell.{Cell};
+    ghost use Rattle.frame_core.specs.declared.frame.TheConstants.{MAX_FRAME};
+
+    ghost Value = { List Cell };
+
+    ghost view = { λ c. c.cells.items };
+
+    ghost invariant = { λ c. (0 < length c.cells.items) × (length c.cells.items ≤ MAX_FRAME) };
+}
+
+impl Chunk {
+    /// The cells of a frame, in order. `None` comes exactly where it has none.
+    pub fn from_frame(alloc: Global, frame: &Frame) -> Result<Option<Chunk>, Memory>
+        ensures cells { IfOk result (λ chunk. chunk ≡ chunk_of frame.now) }
+    {
+        let mut cells = Vec::new(alloc);
+        for at in 0..frame.len() {
+            if let Some(cell) = frame.slot(at) {
+                cells.push(cell)?;
+            }
+        }
+        if cells.is_empty() {
+            return Ok(None);
+        }
+        Ok(Some(Chunk { cells }))
+    }
+
+    /// How many cells it has, from 1 to 65536.
+    pub fn len(&self) -> u32
+        ensures count { result ≡ length self.now }
+        ensures some { 0 < result }
+        ensures most { result ≤ MAX_FRAME }
+    {
+        self.cells.len() as u32
+    }
+
+    /// The cell at a place, counted from 0.
+    pub fn cell(&self, at: u32) -> Cell
+        requires { at < length self.now }
+        ensures { Some result ≡ slice_get self.now at }
+    {
+        self.cells[at as usize]
+    }
+}
+
+/// What a give of a chunk answers. A full buffer gives the chunk back.
+#[derive(Debug, Drop)]
+pub enum Gave {
+    Accepted,
+    Full(Chunk),
+}

@@ -1,0 +1,11 @@
+pub mod CrossLaws
+pub mod CrossGrows
+pub mod Feeding
+pub mod Standing
+pub mod Fed
+pub mod Longer
+pub mod LeastRuns
+pub mod Stretching
+pub mod Copying
+pub mod PlainStretch
+mod Rows

@@ -1,0 +1,56 @@
+-- The settled items of a crossfade over a list of slots.
+use Rattle.std.specs.Prelude.{Bool, ◌||◌, Some, None, List, [], ◌∷◌, ◌++◌, ℕ, suc, ◌-◌, min, length, take, drop, map, nat_eq, nat_le, if◌then◌else◌}
+use Rattle.frame_core.specs.declared.cell.Cell.{Cell}
+use Rattle.sample_kernels.specs.Mixing.{faded}
+use Rattle.frame_core.specs.Slots.{Slot}
+use Rattle.op_cross.specs.Tracks.{Border, Flag, Gap, Open, Piece, is_closed, pieces_of}
+
+-- cell `at` of a mix over `whole` cells; the first alone is flagged
+abbrev pub mixed_cell : Cell → Cell → ℕ → ℕ → Cell
+mixed_cell a b at whole = record {
+  left = faded a.left b.left at whole;
+  right = faded a.right b.right at whole;
+  first = nat_eq at 0;
+}
+
+-- the mix of two lists of cells, from cell `at` of `whole` on
+abbrev pub mixed_cells : List Cell → List Cell → ℕ → ℕ → List Slot
+mixed_cells [] to at whole = []
+mixed_cells (a ∷ from) [] at whole = []
+mixed_cells (a ∷ from) (b ∷ to) at whole = Some (mixed_cell a b at whole) ∷ mixed_cells from to (suc at) whole
+
+-- how far the track r overlaps the next one
+abbrev pub overlap_of : ℕ → List Cell → List Cell → ℕ
+overlap_of most r next = min most (min (length r) (length next))
+
+-- the next track takes part
+abbrev pub takes_part : ℕ → List Cell → Piece → Bool
+takes_part most r next = is_closed next.border || nat_le (min most (length r)) (length next.cells)
+
+-- what is settled of a track behind which nothing is known
+abbrev pub held_back : ℕ → List Cell → List Slot
+held_back most r = map Some (take (length r - min most (length r)) r)
+
+-- r, but its last o cells, and the mix of these with the first o of the next track
+abbrev pub joined : ℕ → List Cell → List Cell → List Slot
+joined o r next = map Some (take (length r - o) r) ++ mixed_cells (drop (length r - o) r) (take o next) 0 o
+
+-- the settled items from the track r on, which has this border and before these pieces
+abbrev pub settled : ℕ → List Cell → Border → List Piece → List Slot
+settled most r Open pieces = held_back most r
+settled most r Gap [] = map Some r ++ None ∷ []
+settled most r Gap (next ∷ pieces) = map Some r ++ None ∷ settled most next.cells next.border pieces
+settled most r Flag [] = held_back most r
+settled most r Flag (next ∷ pieces) =
+    if takes_part most r next
+    then joined (overlap_of most r next.cells) r next.cells
+    ++ settled most (drop (overlap_of most r next.cells) next.cells) next.border pieces
+    else held_back most r
+
+abbrev pub settled_from : ℕ → List Piece → List Slot
+settled_from most [] = []
+settled_from most (piece ∷ pieces) = settled most piece.cells piece.border pieces
+
+-- the settled items of a list of slots, where tracks overlap by at most so many cells
+abbrev pub cross : ℕ → List Slot → List Slot
+cross most slots = settled_from most (pieces_of slots)

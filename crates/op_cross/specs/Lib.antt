@@ -1,0 +1,5 @@
+pub mod Tracks
+pub mod Crossfade
+pub mod States
+pub mod Runs
+pub mod Stretches

@@ -1,0 +1,101 @@
+-- What a crossfade's state holds, and for which slots and which item it stands.
+use Rattle.std.specs.Prelude.{◌≡◌, ◌<◌, ◌≤◌, ◌+◌, ◌-◌, ◌*◌, Bool, true, false, not, ◌&&◌, Some, None, List, [], ◌∷◌, ◌++◌, ℕ, zero, suc, length, take, drop, map, nat_eq, nat_lt, if◌then◌else◌}
+use Rattle.frame_core.specs.declared.cell.Cell.{Cell}
+use Rattle.frame_core.specs.Slots.{Slot}
+use Rattle.op_cross.specs.Crossfade.{mixed_cells, cross}
+
+pub record Crossing : Type 0 where
+  -- the most cells that overlap
+  pub overlap : ℕ
+  -- the cells of the items that are ready, and behind them those that are held back of a track
+  pub cells : List Cell
+  -- while items are ready: the cells that are to be mixed with the last of theirs. Else: what is there of the next track
+  pub next : List Cell
+  -- how many of the cells are ready
+  pub ready : ℕ
+  -- over how many cells the mix goes
+  pub whole : ℕ
+  -- an empty item is ready behind the cells
+  pub gap : Bool
+
+-- cells that begin no track
+abbrev pub AllInner : List Cell → Type 0
+AllInner [] = Unit {0}
+AllInner (cell ∷ cells) = (cell.first ≡ false) × AllInner cells
+
+-- cells of one track, from some place of it on
+abbrev pub IsTrack : List Cell → Type 0
+IsTrack [] = Unit {0}
+IsTrack (cell ∷ cells) = AllInner cells
+
+-- cells of one track from its beginning on, or none
+abbrev pub BeginsTrack : List Cell → Type 0
+BeginsTrack [] = Unit {0}
+BeginsTrack (cell ∷ cells) = (cell.first ≡ true) × AllInner cells
+
+-- what is held back of a track
+abbrev pub held : Crossing → List Cell
+held state = drop state.ready state.cells
+
+-- the next track, while it may grow
+abbrev pub growing_at : ℕ → List Cell → List Cell
+growing_at zero next = next
+growing_at (suc ready) next = []
+
+abbrev pub growing : Crossing → List Cell
+growing state = growing_at state.ready state.next
+
+-- the cells that are ready: first plain ones, and the mixed ones behind them
+abbrev pub ready_cells : Crossing → List Slot
+ready_cells state =
+    map Some (take (state.ready - length state.next) state.cells)
+    ++ mixed_cells (drop (state.ready - length state.next) (take state.ready state.cells)) state.next (state.whole - length state.next) state.whole
+
+abbrev pub gap_of : Bool → List Slot
+gap_of gap = if gap then None ∷ [] else []
+
+-- the items that are ready
+abbrev pub ready_items : Crossing → List Slot
+ready_items state = ready_cells state ++ gap_of state.gap
+
+-- what is not settled yet, with these slots behind it
+abbrev pub unsettled : Crossing → List Slot → List Slot
+unsettled state more = map Some (held state) ++ (map Some (growing state) ++ more)
+
+-- its item is not settled
+abbrev pub wants : Crossing → Bool
+wants state = nat_eq state.ready 0 && not state.gap
+
+-- a bound on the slots that it asks for before its item is settled
+abbrev pub left : Crossing → ℕ
+left state = if wants state then 2 * state.overlap - length state.cells - length state.next else 0
+
+-- what is true of each state
+pub record IsCrossing (state : Crossing) : Type 0 where
+  pub overlap : (0 < state.overlap) × (state.overlap ≤ 4194304)
+  pub ready : state.ready ≤ length state.cells
+  pub held : length state.cells ≤ state.ready + state.overlap
+  pub growing : state.ready ≡ 0 → 0 < length state.next → length state.next < length state.cells
+  pub mixing : 0 < state.ready → (length state.next ≤ state.ready) × (length state.next ≤ state.whole)
+  pub begun : 0 < length state.next → length state.next < state.ready → state.whole ≡ length state.next
+  pub whole : state.whole ≤ state.overlap
+  pub ended : state.gap ≡ true → length state.cells ≡ state.ready
+
+-- the state stands for the slots that were fed and for item p: the slots' items are p past ones, those that are ready and
+-- whatever comes of what is not settled, with any slots behind it
+pub record StandsFor (state : Crossing) (slots : List Slot) (p : ℕ) : Type 0 where
+  pub past : List Slot
+  pub count : length past ≡ p
+  pub items : (more : List Slot) → cross state.overlap (slots ++ more) ≡ past ++ (ready_items state ++ cross state.overlap (unsettled state more))
+  pub plain : IsTrack (take (state.ready - length state.next) state.cells)
+  pub track : IsTrack (held state)
+  pub next : BeginsTrack (growing state)
+
+-- the item after p, where the item p is given or is empty; else p
+abbrev pub position_after : Bool → Slot → ℕ → ℕ
+position_after gave None p = suc p
+position_after gave (Some cell) p = if gave then suc p else p
+
+-- how many items are ready, from the first on, of which none but it begins a track
+abbrev pub ready_stretch : Crossing → ℕ
+ready_stretch state = if nat_lt (length state.next) state.ready then state.ready - length state.next else state.ready

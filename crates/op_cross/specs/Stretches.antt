@@ -1,0 +1,23 @@
+-- Items that are cells of one track.
+use Rattle.std.specs.Prelude.{Some, None, List, [], ◌∷◌, ℕ, ℤ, pos, suc, if◌then◌else◌}
+use Rattle.frame_core.specs.Slots.{Slot}
+
+-- how many items, from the first on, are cells that begin no track
+abbrev pub inner_run : List Slot → ℕ
+inner_run [] = 0
+inner_run (None ∷ slots) = 0
+inner_run (Some cell ∷ slots) = if cell.first then 0 else suc (inner_run slots)
+
+-- how many items, from the first on, are cells of which none but the first begins a track
+abbrev pub stretch : List Slot → ℕ
+stretch [] = 0
+stretch (None ∷ slots) = 0
+stretch (Some cell ∷ slots) = suc (inner_run slots)
+
+abbrev pub left_of : Slot → ℤ
+left_of None = pos 0
+left_of (Some cell) = cell.left
+
+abbrev pub right_of : Slot → ℤ
+right_of None = pos 0
+right_of (Some cell) = cell.right

@@ -1,0 +1,79 @@
+-- The slot of a leaf at a position: at a position p it gave p cells.
+use Rattle.std.specs.Prelude.{◌<◌, Bool, true, false, Option, Some, None, List, [], ◌∷◌, ℕ, ℤ, pos, negsuc, ◌-◌, ◌*◌, ◌%◌, nat_eq, nat_lt, map, length, sum_by, slice_index_or, if◌then◌else◌, unsigned_abs}
+use Rattle.liq_base.specs.declared.memory.Kind.{Kind}
+use Rattle.liq_base.specs.declared.memory.Kind.TheVariants.{Mono, Stereo}
+use Rattle.fixed_text.specs.declared.decimal.Decimal.{Decimal}
+use Rattle.frame_core.specs.declared.cell.Cell.{Cell}
+use Rattle.frame_core.specs.Slots.{Slot}
+use Rattle.frame_core.specs.Sounds.{Sound, cell_of, length_of}
+use Rattle.frame_core.specs.Library.{Sounds, no_sound, tracks_of}
+use Rattle.op_leaf.specs.declared.leaf.Leaf.{Leaf}
+use Rattle.op_leaf.specs.declared.leaf.Leaf.TheVariants.{Files, Blank, Square, Never}
+
+-- the files of a node
+abbrev pub sounds_of : Sounds → ℕ → List Sound
+sounds_of library node = map (λ file. slice_index_or library.files file no_sound) (tracks_of library node)
+
+-- the samples of all these files
+abbrev pub total_of : List Sound → ℕ
+total_of sounds = sum_by length_of sounds
+
+-- the slot at a position of these files, played one after the other: whole files are left out
+abbrev pub joined_slot : List Sound → Kind → ℕ → Slot
+joined_slot [] kind position = None
+joined_slot (sound ∷ sounds) kind position =
+    if nat_lt position (length_of sound) then Some (cell_of sound kind position)
+    else joined_slot sounds kind (position - length_of sound)
+
+-- the position in a round of the files: they are played again and again, or once
+abbrev pub place_in_round : List Sound → Bool → ℕ → ℕ
+place_in_round sounds true position = position % total_of sounds
+place_in_round sounds false position = position
+
+-- the slot at a position of these files
+abbrev pub files_slot : List Sound → Bool → Kind → ℕ → Slot
+files_slot sounds again kind position = joined_slot sounds kind (place_in_round sounds again position)
+
+-- zero; a track begins at each multiple of its length, or at 0 alone where it is endless
+abbrev pub blank_cell : ℕ → ℕ → Cell
+blank_cell track position =
+    record { left = pos 0; right = pos 0; first = nat_eq (if nat_eq track 0 then position else (position % track)) 0 }
+
+-- the upper value in the first half of each period, and the lower one in the second
+abbrev pub height_at : Decimal → ℕ → ℕ → ℤ
+height_at pitch rate position =
+    if nat_lt (position * unsigned_abs pitch.millionths % (rate * 1000000)) (rate * 500000) then pos 8192 else negsuc 8191
+
+-- the right sample of a source of this kind, where both sides are alike
+abbrev pub on_the_right : Kind → ℤ → ℤ
+on_the_right Mono sample = pos 0
+on_the_right Stereo sample = sample
+
+-- a square wave of this many periods a second, at this many samples a second
+abbrev pub square_cell : Decimal → ℕ → Kind → ℕ → Cell
+square_cell pitch rate kind position = record {
+  left = height_at pitch rate position;
+  right = on_the_right kind (height_at pitch rate position);
+  first = nat_eq position 0;
+}
+
+-- the slot of a leaf at a position
+abbrev pub leaf_slot : Sounds → Leaf → ℕ → Slot
+leaf_slot library (Files node again kind) position = files_slot (sounds_of library node) again kind position
+leaf_slot library (Blank track) position = Some (blank_cell track position)
+leaf_slot library (Square pitch rate kind) position = Some (square_cell pitch rate kind position)
+leaf_slot library Never position = None
+
+-- a square wave has samples
+abbrev pub HasRate : Leaf → Type 0
+HasRate (Files node again kind) = Unit {0}
+HasRate (Blank track) = Unit {0}
+HasRate (Square pitch rate kind) = 0 < rate
+HasRate Never = Unit {0}
+
+-- the library has a list of files for the leaf
+abbrev pub HasTracksOf : Sounds → Leaf → Type 0
+HasTracksOf library (Files node again kind) = node < length library.leaves
+HasTracksOf library (Blank track) = Unit {0}
+HasTracksOf library (Square pitch rate kind) = Unit {0}
+HasTracksOf library Never = Unit {0}

@@ -1,0 +1,51 @@
+// Zeros, cut into tracks.
+ghost use Rattle.std.specs.Prelude.{◌≡◌, ℕ, suc};
+ghost use Rattle.op_leaf.specs.Leaves.{blank_cell};
+ghost use Rattle.op_leaf.specs.Standing.{BlankStandsAt};
+
+use frame_core::Cell;
+
+/// A blank between two instants.
+#[derive(Debug, Drop)]
+pub struct Blank {
+    /// The length of a track in samples; 0 is endless.
+    pub track: u64,
+
+    /// The place in the track; in an endless one 0 at first, and 1 from then on.
+    pub at: u64,
+}
+
+impl Blank {
+    /// At its start.
+    pub fn new(track: u64) -> Blank
+        ensures track { result.track ≡ track }
+        ensures stands { BlankStandsAt result 0 }
+    {
+        Blank { track, at: 0 }
+    }
+
+    /// A zero, which begins a track at each multiple of its length.
+    pub fn offer(&self) -> Cell
+        ensures { (p : ℕ) → BlankStandsAt self.now p → result ≡ blank_cell self.now.track p }
+    {
+        Cell {
+            left: 0,
+            right: 0,
+            first: self.at == 0,
+        }
+    }
+
+    /// Goes on by one sample.
+    pub fn advance(&mut self)
+        ensures track { self.new.track ≡ self.old.track }
+        ensures stands { (p : ℕ) → BlankStandsAt self.old p → BlankStandsAt self.new (suc p) }
+    {
+        if self.track == 0 {
+            self.at = 1;
+        } else if self.at < self.track - 1 {
+            self.at += 1;
+        } else {
+            self.at = 0;
+        }
+    }
+}

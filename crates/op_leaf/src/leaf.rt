@@ -1,0 +1,93 @@
+// What a leaf plays, and where it stands.
+ghost use Rattle.std.specs.Prelude.{◌≡◌, ◌<◌, ℕ, suc, None, IsSome};
+ghost use Rattle.frame_core.specs.Library.{IsLibrary, Sounds};
+ghost use Rattle.op_leaf.specs.Leaves.{leaf_slot, HasRate, HasTracksOf};
+ghost use Rattle.op_leaf.specs.Standing.{leaf_of, IsPlacedIn, StandsAt};
+
+use crate::blank::Blank;
+use crate::files::Files;
+use crate::square::Square;
+use fixed_text::Decimal;
+use frame_core::{Cell, Library};
+use liq_base::Kind;
+
+/// What a node without children plays. `docs/streams.md` has the rules.
+#[derive(Clone, Copy, Debug, PartialEq, Eq)]
+pub enum Leaf {
+    /// The audio files of a node, in a source of this kind: once, or again and again.
+    Files { node: u32, again: bool, kind: Kind },
+
+    /// Zeros in tracks of this many samples; 0 is one track without end.
+    Blank { track: u64 },
+
+    /// A square wave of this many periods a second, at this many samples a second, which is above 0.
+    Square {
+        pitch: Decimal,
+        rate: u32,
+        kind: Kind,
+    },
+
+    /// Nothing.
+    Never,
+}
+
+/// A leaf between two instants: where it stands in its files, in its blank track or in the period of its wave.
+#[derive(Debug, Drop)]
+pub struct LeafState {
+    cursor: Cursor,
+}
+
+#[derive(Debug, Drop)]
+enum Cursor {
+    Track(Files),
+    Silence(Blank),
+    Wave(Square),
+    Nothing,
+}
+
+impl LeafState {
+    /// A leaf that gave nothing yet.
+    pub fn new(leaf: Leaf) -> LeafState
+        requires { HasRate leaf }
+        ensures leaf { leaf_of result ≡ leaf }
+        ensures placed { (library : Sounds) → IsLibrary library → HasTracksOf library leaf → IsPlacedIn library result }
+        ensures stands { (library : Sounds) → StandsAt library result 0 }
+    {
+        let cursor = match leaf {
+            Leaf::Files { node, again, kind } => Cursor::Track(Files::new(node, again, kind)),
+            Leaf::Blank { track } => Cursor::Silence(Blank::new(track)),
+            Leaf::Square { pitch, rate, kind } => Cursor::Wave(Square::new(pitch, rate, kind)),
+            Leaf::Never => Cursor::Nothing,
+        };
+        LeafState { cursor }
+    }
+
+    /// What it offers. All calls on one state are given one library.
+    pub fn offer(&self, library: &Library) -> Option<Cell>
+        requires { IsPlacedIn library.now self.now }
+        ensures offered { (p : ℕ) → StandsAt library.now self.now p → result ≡ leaf_slot library.now (leaf_of self.now) p }
+    {
+        match &self.cursor {
+            Cursor::Track(files) => files.offer(library),
+            Cursor::Silence(blank) => Some(blank.offer()),
+            Cursor::Wave(square) => Some(square.offer()),
+            Cursor::Nothing => None,
+        }
+    }
+
+    /// Goes on by the cell that it offers. Where it offers nothing it stays.
+    pub fn advance(&mut self, library: &Library)
+        requires { IsPlacedIn library.now self.old }
+        ensures leaf { leaf_of self.new ≡ leaf_of self.old }
+        ensures placed { IsPlacedIn library.now self.new }
+        ensures stands { (p : ℕ) → StandsAt library.now self.old p → IsSome (leaf_slot library.now (leaf_of self.old) p) → StandsAt library.now self.new (suc p) }
+        ensures stays { (p : ℕ) → StandsAt library.now self.old p → leaf_slot library.now (leaf_of self.old) p ≡ None → self.new ≡ self.old }
+    {
+        match &mut self.cursor {
+            Cursor::Track(files) => files.advance(library),
+            Cursor::Silence(blank) => blank.advance(),
+            Cursor::Wave(square) => square.advance(),
+            Cursor::Nothing => {}
+        }
+    }
+}

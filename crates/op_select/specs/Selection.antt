@@ -1,0 +1,88 @@
+-- Selection: which child a fallback, a switch or a sequence uses, from what its children offer and from the child
+-- that it used when it last gave. A child is a place of the list of children, so that a node at two places is two.
+use Rattle.std.specs.Prelude.{Bool, true, false, not, ◌&&◌, ◌||◌, Option, Some, None, List, [], ◌∷◌, ℕ, suc, nat_eq, is_some, length, drop, if◌then◌else◌}
+use Rattle.frame_core.specs.declared.cell.Cell.{Cell}
+use Rattle.frame_core.specs.Slots.{Slot, slot_at, is_first}
+use Rattle.op_select.specs.declared.rule.Rule.{Rule}
+use Rattle.op_select.specs.declared.rule.Rule.TheVariants.{First, Turns}
+use Rattle.op_select.specs.declared.rule.Picked.{Picked}
+
+-- what a selection keeps: its rule, how many children it has, and the child that it used last, or none
+pub record Selection : Type 0 where
+  pub rule : Rule
+  pub children : ℕ
+  pub last : Option ℕ
+
+-- the child used at the last of these instants, the latest first
+abbrev pub last_used : List ℕ → Option ℕ
+last_used [] = None
+last_used (child ∷ used) = Some child
+
+-- the child offers a cell
+abbrev pub offers : List Slot → ℕ → Bool
+offers slots child = is_some (slot_at slots child)
+
+-- the child offers a cell that does not begin a track
+abbrev pub goes_on : List Slot → ℕ → Bool
+goes_on slots child = offers slots child && not (is_first (slot_at slots child))
+
+-- the least eligible child that offers, where the first of these slots is that of child `from`
+abbrev pub first_ready : List Slot → List Bool → ℕ → Option ℕ
+first_ready [] eligible from = None
+first_ready (slot ∷ slots) [] from = None
+first_ready (slot ∷ slots) (mark ∷ eligible) from =
+    if mark && is_some slot then Some from else first_ready slots eligible (suc from)
+
+-- the least child that offers, where the first of these slots is that of child `from`
+abbrev pub first_offering : List Slot → ℕ → Option ℕ
+first_offering [] from = None
+first_offering (slot ∷ slots) from = if is_some slot then Some from else first_offering slots (suc from)
+
+-- a fallback or a switch
+--   where it is track-sensitive, and the child used last goes on with its track: that child
+--   otherwise: the least eligible child that offers
+abbrev pub first_pick : Bool → List Slot → List Bool → Option ℕ → Option ℕ
+first_pick true slots eligible (Some last) = if goes_on slots last then Some last else first_ready slots eligible 0
+first_pick true slots eligible None = first_ready slots eligible 0
+first_pick false slots eligible last = first_ready slots eligible 0
+
+-- a sequence
+--   where no child was used: the least that offers
+--   where the child used last is the last of all: that child, if it offers
+--   where the child used last goes on with its track: that child
+--   otherwise: the least child after it that offers
+abbrev pub turn_pick : List Slot → Option ℕ → Option ℕ
+turn_pick slots None = first_offering slots 0
+turn_pick slots (Some last) =
+    if nat_eq (suc last) (length slots) then (if offers slots last then Some last else None)
+    else if goes_on slots last then Some last
+    else first_offering (drop (suc last) slots) (suc last)
+
+-- the child that a selection uses
+abbrev pub pick_of : Rule → List Slot → List Bool → Option ℕ → Option ℕ
+pick_of (First sensitive) slots eligible last = first_pick sensitive slots eligible last
+pick_of Turns slots eligible last = turn_pick slots last
+
+-- this is the child that was used last
+abbrev pub is_last : Option ℕ → ℕ → Bool
+is_last None child = false
+is_last (Some last) child = nat_eq last child
+
+-- the child's cell, flagged where it was, where another child was used last, and where none was
+abbrev pub picked_cell : Option ℕ → ℕ → Cell → Cell
+picked_cell last child cell =
+    record { left = cell.left; right = cell.right; first = cell.first || not (is_last last child) }
+
+-- what a selection offers with this child; nothing without a child
+abbrev pub picked : List Slot → Option ℕ → Option ℕ → Option Picked
+picked slots last None = None
+picked slots last (Some child) = with_cell (slot_at slots child)
+  where
+    with_cell : Slot → Option Picked
+    with_cell None = None
+    with_cell (Some cell) = Some (record { child = child; cell = picked_cell last child cell })
+
+-- what a selection offers over its children's slots and marks
+abbrev pub offered : Selection → List Slot → List Bool → Option Picked
+offered selection slots eligible =
+    picked slots selection.last (pick_of selection.rule slots eligible selection.last)

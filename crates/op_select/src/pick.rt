@@ -1,0 +1,77 @@
+// The child that a selection uses, from the child that it used last.
+ghost use Rattle.std.specs.Prelude.{◌≡◌, ◌<◌, ◌≤◌, ◌^◌, length, drop};
+ghost use Rattle.op_select.specs.Selection.{first_offering, first_pick, first_ready, goes_on, turn_pick};
+
+use frame_core::Cell;
+
+/// The child of a fallback or a switch.
+pub fn pick_first(
+    sensitive: bool,
+    offers: &[Option<Cell>],
+    eligible: &[bool],
+    last: Option<u32>,
+) -> Option<u32>
+    requires marks { length eligible.now ≡ length offers.now }
+    requires children { length offers.now < 2 ^ 32 }
+    ensures { result ≡ first_pick sensitive offers.now eligible.now last }
+{
+    match last {
+        Some(child) if sensitive && plays_on(offers, child) => last,
+        _ => find_ready(offers, eligible),
+    }
+}
+
+/// The child of a sequence.
+pub fn pick_turn(offers: &[Option<Cell>], last: Option<u32>) -> Option<u32>
+    requires { length offers.now < 2 ^ 32 }
+    ensures { result ≡ turn_pick offers.now last }
+{
+    let Some(child) = last else {
+        return find_offering(offers, 0);
+    };
+    let at = child as usize;
+    if at + 1 == offers.len() {
+        if offers[at].is_some() { last } else { None }
+    } else if plays_on(offers, child) {
+        last
+    } else {
+        find_offering(offers, at + 1)
+    }
+}
+
+// Whether the child is in the middle of a track.
+fn plays_on(offers: &[Option<Cell>], child: u32) -> bool
+    ensures { result ≡ goes_on offers.now child }
+{
+    match offers.get(child as usize) {
+        Some(Some(cell)) => !cell.first,
+        _ => false,
+    }
+}
+
+// The first eligible child that offers.
+fn find_ready(offers: &[Option<Cell>], eligible: &[bool]) -> Option<u32>
+    requires marks { length eligible.now ≡ length offers.now }
+    requires children { length offers.now < 2 ^ 32 }
+    ensures { result ≡ first_ready offers.now eligible.now 0 }
+{
+    for child in 0..offers.len() {
+        if eligible[child] && offers[child].is_some() {
+            return Some(child as u32);
+        }
+    }
+    None
+}
+
+// The first child from `start` on that offers.
+fn find_offering(offers: &[Option<Cell>], start: usize) -> Option<u32>
+    requires { length offers.now < 2 ^ 32 }
+    ensures { result ≡ first_offering (drop start offers.now) start }
+{
+    for child in start..offers.len() {
+        if offers[child].is_some() {
+            return Some(child as u32);
+        }
+    }
+    None
+}

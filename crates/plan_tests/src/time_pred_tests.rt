@@ -1,0 +1,202 @@
+//! Predicates at seconds of the week, from the rules of `docs/language.md`.
+use fixed_text::{TimeMark, WeekSecond, read_start};
+use std::alloc::{AllocFailed, Global};
+use std::process::Abort;
+use std::test::Fail;
+use time_pred::Pred;
+
+fn mark(day: Option<u8>, hour: Option<u8>, minute: Option<u8>, second: Option<u8>) -> TimeMark {
+    TimeMark {
+        day,
+        hour,
+        minute,
+        second,
+    }
+}
+
+fn day(day: u8) -> TimeMark {
+    mark(Some(day), None, None, None)
+}
+
+fn hour(hour: u8) -> TimeMark {
+    mark(None, Some(hour), None, None)
+}
+
+fn minute(minute: u8) -> TimeMark {
+    mark(None, None, Some(minute), None)
+}
+
+fn second(second: u8) -> TimeMark {
+    mark(None, None, None, Some(second))
+}
+
+// The predicate at these moments, each a day, an hour, a minute and a second.
+fn check(rt: &impl Abort, name: &str, pred: &Pred, moments: &str, holds: bool) {
+    for text in moments.split_whitespace() {
+        let at = read_start(text.as_bytes()).expect(rt, "a start");
+        assert_eq!(rt; pred.holds(at), holds, "{name} at {text}");
+    }
+}
+
+#[test]
+fn a_predicate_at_seconds_of_the_week(rt: HostRuntime) {
+    // What holds, the moments at which it does, and those at which it does not.
+    let rows = [
+        (
+            "22h-6h",
+            Pred::Between(hour(22), hour(6)),
+            "1:05:59:59 3:22:00:00 7:23:59:59 1:00:00:00",
+            "1:06:00:00 3:21:59:59",
+        ),
+        (
+            "22h-24h",
+            Pred::Between(hour(22), hour(24)),
+            "1:23:59:59",
+            "2:00:00:00 2:21:59:59",
+        ),
+        (
+            "24h-6h",
+            Pred::Between(hour(24), hour(6)),
+            "2:00:00:00",
+            "1:23:59:59 2:06:00:00",
+        ),
+        (
+            "1w2h-3h30m",
+            Pred::Between(
+                mark(Some(1), Some(2), None, None),
+                mark(None, Some(3), Some(30), None),
+            ),
+            "1:02:00:00 1:03:29:59",
+            "1:01:59:59 1:03:30:00 2:02:30:00",
+        ),
+        (
+            "6w-1w",
+            Pred::Between(day(6), day(1)),
+            "6:00:00:00 7:23:59:59",
+            "5:23:59:59 1:00:00:00",
+        ),
+        (
+            "5h-5h",
+            Pred::Between(hour(5), hour(5)),
+            "",
+            "1:04:59:59 1:05:00:00 1:05:00:01",
+        ),
+        (
+            "5s-8s",
+            Pred::Between(second(5), second(8)),
+            "1:00:00:05 1:00:00:07 1:00:01:05",
+            "1:00:00:04 1:00:00:08 1:00:01:04",
+        ),
+        (
+            "7w",
+            Pred::At(day(7)),
+            "7:00:00:00 7:23:59:59",
+            "6:23:59:59 1:00:00:00",
+        ),
+        (
+            "0w",
+            Pred::At(day(0)),
+            "7:00:00:00 7:23:59:59",
+            "6:23:59:59 1:00:00:00",
+        ),
+        (
+            "24h",
+            Pred::At(hour(24)),
+            "1:00:00:00 4:00:59:59",
+            "4:01:00:00 4:23:59:59",
+        ),
+        (
+            "60m",
+            Pred::At(minute(60)),
+            "1:00:00:59 1:07:00:00",
+            "1:07:01:00 1:07:59:59",
+        ),
+        (
+            "60s",
+            Pred::At(second(60)),
+            "1:00:00:00 1:00:01:00",
+            "1:00:00:01",
+        ),
+        (
+            "22h30m",
+            Pred::At(mark(None, Some(22), Some(30), None)),
+            "2:22:30:00 2:22:30:59",
+            "2:22:29:59 2:22:31:00",
+        ),
+        (
+            "7w24h60m60s",
+            Pred::At(mark(Some(7), Some(24), Some(60), Some(60))),
+            "1:01:01:00",
+            "1:01:01:01 1:01:00:59",
+        ),
+    ];
+    for (name, pred, yes, no) in rows {
+        check(&rt, name, &pred, yes, true);
+        check(&rt, name, &pred, no, false);
+    }
+}
+
+// Whether a predicate is always true by its form, and whether it holds at noon and at one o'clock.
+fn check_form(rt: &impl Abort, name: &str, pred: Pred, always: bool, noon: bool, one: bool) {
+    assert_eq!(rt; pred.always(), always, "{name}");
+    check(rt, name, &pred, "3:12:00:00", noon);
+    check(rt, name, &pred, "3:13:00:00", one);
+}
+
+fn noon() -> Pred {
+    Pred::At(hour(12))
+}
+
+fn not(alloc: Global, pred: Pred) -> Result<Pred, AllocFailed<Pred>> {
+    Ok(Pred::Not(Box::new(alloc, pred)?))
+}
+
+fn pair(alloc: Global, left: Pred, right: Pred) -> Result<Vec<Pred>, AllocFailed<Pred>> {
+    let mut parts = Vec::new(alloc);
+    parts.push(left)?;
+    parts.push(right)?;
+    Ok(parts)
+}
+
+fn both(alloc: Global, left: Pred, right: Pred) -> Result<Pred, AllocFailed<Pred>> {
+    Ok(Pred::All(pair(alloc, left, right)?))
+}
+
+fn either(alloc: Global, left: Pred, right: Pred) -> Result<Pred, AllocFailed<Pred>> {
+    Ok(Pred::Any(pair(alloc, left, right)?))
+}
+
+#[test]
+fn not_and_or_by_their_form(rt: HostRuntime) -> Result<(), Fail> {
+    let alloc = rt.alloc();
+    let day = Pred::Between(hour(0), hour(24));
+    check_form(&rt, "0h-24h", day, false, true, true);
+    let pred = not(alloc, Pred::Never)?;
+    check_form(&rt, "not false", pred, true, true, true);
+    let pred = not(alloc, noon())?;
+    check_form(&rt, "not 12h", pred, false, false, true);
+    let pred = both(alloc, Pred::Always, noon())?;
+    check_form(&rt, "true and 12h", pred, false, true, false);
+    let pred = not(alloc, both(alloc, noon(), Pred::Never)?)?;
+    check_form(&rt, "not (12h and false)", pred, true, true, true);
+    let pred = either(alloc, noon(), Pred::Never)?;
+    check_form(&rt, "12h or false", pred, false, true, false);
+    let pred = either(alloc, noon(), Pred::Always)?.copy(alloc)?;
+    check_form(&rt, "12h or true", pred, true, true, true);
+    Ok(())
+}
+
+#[test]
+fn two_hundred_brackets_fit_the_stack(rt: HostRuntime) -> Result<(), Fail> {
+    let mut pred = Pred::Always;
+    for _ in 0..200 {
+        let mut all = Vec::new(rt.alloc());
+        all.push(Pred::Not(Box::new(rt.alloc(), pred)?))?;
+        let mut any = Vec::new(rt.alloc());
+        any.push(Pred::All(all))?;
+        pred = Pred::Any(any);
+    }
+    assert_eq!(rt; pred.always(), true);
+    assert_eq!(rt; pred.holds(WeekSecond { second: 0 }), true);
+    Ok(())
+}

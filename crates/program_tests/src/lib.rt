@@ -1,0 +1,8 @@
+//! Tests of whole calls over shelves in memory, also of such as fail, and of the real adapters over writers and readers
+//! that fail.
+#![tactic(auto)]
+
+#[cfg(test)]
+mod liq_cli_tests;
+#[cfg(test)]
+mod real_files_tests;

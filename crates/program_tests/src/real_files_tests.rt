@@ -1,0 +1,114 @@
+// The real adapters over a writer and a reader that take or give little, are interrupted, and fail in the middle.
+use liq_base::{Fetched, ShelfFault, Sink};
+use real_files::{OutSink, read_rest};
+use std::alloc::Global;
+use std::io;
+use std::io::{ErrorKind, Read, Write};
+use std::test::Fail;
+
+/// A device that hands on three bytes a call, is interrupted at every second call, and fails for good once `left` bytes
+/// went through: with an error, or by taking nothing.
+#[derive(Drop)]
+struct Device {
+    bytes: Vec<u8>,
+    left: usize,
+    interrupted: bool,
+    takes_nothing: bool,
+}
+
+impl Device {
+    fn new(bytes: Vec<u8>, left: usize, takes_nothing: bool) -> Device {
+        Device {
+            bytes,
+            left,
+            interrupted: false,
+            takes_nothing,
+        }
+    }
+
+    fn turn(&mut self, length: usize) -> io::Result<usize> {
+        self.interrupted = !self.interrupted;
+        if self.interrupted {
+            return Err(io::Error::from(ErrorKind::Interrupted));
+        }
+        let count = length.min(3).min(self.left);
+        if count == 0 && length > 0 && !self.takes_nothing {
+            return Err(io::Error::from(ErrorKind::Other));
+        }
+        self.left -= count;
+        Ok(count)
+    }
+}
+
+impl Write for Device {
+    fn write(&mut self, buf: &[u8]) -> io::Result<usize> {
+        let count = self.turn(buf.len())?.min(buf.len());
+        match self.bytes.extend_from_slice(&buf[..count]) {
+            Ok(()) => Ok(count),
+            Err(_) => Err(io::Error::from(ErrorKind::OutOfMemory)),
+        }
+    }
+
+    fn flush(&mut self) -> io::Result<()> {
+        Ok(())
+    }
+}
+
+impl Read for Device {
+    fn read(&mut self, buf: &mut [u8]) -> io::Result<usize> {
+        let count = self.turn(buf.len())?.min(buf.len());
+        for slot in &mut buf[..count] {
+            *slot = 7;
+        }
+        Ok(count)
+    }
+}
+
+#[test]
+fn a_piece_is_handed_on_whatever_a_write_takes(rt: HostRuntime) -> Result<(), Fail> {
+    let alloc = rt.alloc();
+    let mut sink = OutSink::new(Device::new(Vec::new(alloc), 1000, false));
+    assert!(rt; sink.append(b"a piece of some length").is_ok());
+    assert!(rt; sink.append(b"").is_ok());
+    assert!(rt; sink.append(b", and one more").is_ok());
+    assert_eq!(rt; sink.faults(), 0);
+    assert_eq!(rt;
+        sink.into_writer().bytes.as_slice(),
+        b"a piece of some length, and one more".as_slice()
+    );
+    Ok(())
+}
+
+#[test]
+fn a_failed_write_leaves_the_front_of_the_piece(rt: HostRuntime) -> Result<(), Fail> {
+    let alloc = rt.alloc();
+    for takes_nothing in [false, true] {
+        let mut sink = OutSink::new(Device::new(Vec::new(alloc), 10, takes_nothing));
+        assert!(rt; sink.append(b"12345").is_ok());
+        assert!(rt; sink.append(b"67890abc").is_err());
+        assert_eq!(rt; sink.faults(), 1);
+        assert_eq!(rt;
+            sink.into_writer().bytes.as_slice(),
+            b"1234567890".as_slice()
+        );
+    }
+    Ok(())
+}
+
+#[test]
+fn a_read_that_fails_in_the_middle_is_no_end(rt: HostRuntime) -> Result<(), Fail> {
+    let alloc = rt.alloc();
+    let rows = [
+        (true, 100, Ok(Fetched::Found), 11),
+        (true, 11, Ok(Fetched::Found), 11),
+        (true, 10, Ok(Fetched::TooLarge), 9),
+        (false, 100, Err(ShelfFault::Failed), 11),
+    ];
+    for (ends, most, answer, length) in rows {
+        let mut device = Device::new(Vec::new(alloc), 11, ends);
+        let mut bytes: Vec<u8> = Vec::new(alloc);
+        assert!(rt; read_rest(&mut device, &mut bytes, most) == answer);
+        assert_eq!(rt; bytes.len(), length);
+    }
+    Ok(())
+}

@@ -1,0 +1,91 @@
+// Real files as a shelf. It tells no files; it counts its failures.
+ghost use Rattle.std.specs.Prelude.{◌≡◌, ◌≤◌, ◌+◌, vec_len, Ok};
+ghost use Rattle.real_files.specs.Reading.{Extends};
+
+use crate::outputs::FileSink;
+use crate::reading::read_rest;
+use liq_base::{Failed, Fetched, Shelf, ShelfFault};
+use std::alloc::Global;
+use std::fs::File;
+use std::io::ErrorKind;
+use std::rt::Files;
+
+/// The files of the system, by their paths.
+#[derive(Drop)]
+pub struct FileShelf<'a, R: Files<File = File> + Alloc<A = Global>> {
+    rt: &'a R,
+    read_faults: u64,
+    write_faults: u64,
+}
+
+impl<'a, R: Files<File = File> + Alloc<A = Global>> FileShelf<'a, R> {
+    /// The files, without a failure so far.
+    pub fn new(rt: &'a R) -> FileShelf<'a, R>
+        ensures reads { result.read_faults ≡ 0 }
+        ensures writes { result.write_faults ≡ 0 }
+    {
+        FileShelf {
+            rt,
+            read_faults: 0,
+            write_faults: 0,
+        }
+    }
+}
+
+impl<'a, R: Files<File = File> + Alloc<A = Global>> Shelf for FileShelf<'a, R> {
+    type Out = FileSink<File>;
+
+    ghost use Rattle.std.specs.Prelude.{None};
+
+    ghost files = { λ s. None };
+
+    ghost read_count = { λ s. s.read_faults };
+
+    ghost write_count = { λ s. s.write_faults };
+
+    fn read(&mut self, name: &str, into: &mut Vec<u8>, most: u64) -> Result<Fetched, ShelfFault> {
+        let before = into.len();
+        let fetched = read_file(self.rt, name, into, most);
+        match fetched {
+            Ok(Fetched::Found) => return Ok(Fetched::Found),
+            Err(ShelfFault::Failed) => self.read_faults = self.read_faults.saturating_add(1),
+            Ok(_) | Err(ShelfFault::Memory) => {}
+        }
+        into.truncate(before);
+        fetched
+    }
+
+    fn create(&mut self, name: &str, _room: u64) -> Result<FileSink<File>, ShelfFault> {
+        let created = FileSink::create(self.rt, self.rt.alloc(), name);
+        if let Err(ShelfFault::Failed) = created {
+            self.write_faults = self.write_faults.saturating_add(1);
+        }
+        created
+    }
+
+    fn close(&mut self, out: FileSink<File>) -> Result<(), Failed> {
+        let whole = out.faults() == 0;
+        let closed = out.close(self.rt);
+        if !whole || closed.is_err() {
+            self.write_faults = self.write_faults.saturating_add(1);
+        }
+        closed
+    }
+}
+
+// Adds the bytes of a file that has at most `most`.
+fn read_file<R: Files<File = File>>(
+    rt: &R,
+    name: &str,
+    into: &mut Vec<u8>,
+    most: u64,
+) -> Result<Fetched, ShelfFault>
+    ensures extends { Extends into.old.items into.new.items }
+    ensures fits { result ≡ Ok Fetched.Found → vec_len into.new ≤ vec_len into.old + most }
+{
+    match File::open(rt, name) {
+        Ok(mut file) => read_rest(&mut file, into, most),
+        Err(error) if error.kind() == ErrorKind::NotFound => Ok(Fetched::Missing),
+        Err(_) => Err(ShelfFault::Failed),
+    }
+}

@@ -1,0 +1,12 @@
+//! Real files and streams as the shelf and the sinks of `liq_base`: the edge to the system.
+#![tactic(auto)]
+
+mod files;
+mod outputs;
+mod reading;
+mod streams;
+
+pub use files::FileShelf;
+pub use outputs::FileSink;
+pub use reading::read_rest;
+pub use streams::OutSink;

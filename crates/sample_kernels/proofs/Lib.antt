@@ -1,0 +1,6 @@
+pub mod Bounds
+pub mod Mixes
+pub mod Places
+pub mod Blocks
+pub mod Cuts
+pub mod Means

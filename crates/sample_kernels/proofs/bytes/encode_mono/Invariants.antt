@@ -1,0 +1,7 @@
+use Rattle.std.proofs.Common.{◌≡◌, ◌*◌, length, take}
+use Rattle.std.specs.List.{flat_map}
+use Rattle.frame_core.specs.Bytes.{sample_bytes}
+use Rattle.sample_kernels.proofs.bytes.encode_mono.Given as goal
+
+abbrev pub invariant-loop-at : goal.invariant-loop-at
+invariant-loop-at l = (length l.into ≡ 2 * length l.samples) × (take (2 * l.at) l.into ≡ flat_map sample_bytes (take l.at l.samples))

@@ -1,0 +1,16 @@
+-- Samples as the bytes of a file.
+use Rattle.std.specs.Prelude.{ℕ, ℤ, List, ◌++◌}
+use Rattle.std.specs.List.{concat}
+use Rattle.std.specs.Simd.Lanes.{zip2}
+use Rattle.liq_base.specs.declared.memory.Kind.{Kind}
+use Rattle.liq_base.specs.declared.memory.Kind.TheVariants.{Mono, Stereo}
+use Rattle.frame_core.specs.Bytes.{sample_bytes}
+
+-- the block of an instant: its left sample, and behind it the right one where there are two
+abbrev pub block_of : Kind → ℤ → ℤ → List ℕ
+block_of Mono left right = sample_bytes left
+block_of Stereo left right = sample_bytes left ++ sample_bytes right
+
+-- the blocks, one behind another
+abbrev pub encoded : Kind → List ℤ → List ℤ → List ℕ
+encoded kind left right = concat (zip2 (block_of kind) left right)

@@ -1,0 +1,107 @@
+// Each call that takes memory, once with ample memory, against its answer; and the printed texts.
+use liq_base::{
+    Failed, Fetched, MemShelf, MemSink, Memory, Shelf, ShelfFault, Sink, SureShelf, Text,
+};
+use std::alloc::{AllocError, Global};
+use std::test::Fail;
+
+#[test]
+fn a_text_keeps_its_bytes(rt: HostRuntime) -> Result<(), Fail> {
+    let text = Text::from_str(rt.alloc(), "Grüße")?;
+    assert_eq!(rt; text.as_str(), "Grüße");
+    Ok(())
+}
+
+#[test]
+fn a_sink_fails_where_it_is_told_to(rt: HostRuntime) -> Result<(), Fail> {
+    let alloc = rt.alloc();
+    let fails = vec![in alloc; (1, 1), (3, 9), (3, 0)]?;
+    let mut sink = MemSink::new(alloc, 5, fails)?;
+    // A piece past the room takes nothing; a listed stop past the piece takes all of it.
+    for (piece, answer, held) in [
+        ("ab", Ok(()), "ab"),
+        ("cd", Err(Failed), "abc"),
+        ("def", Err(Failed), "abc"),
+        ("d", Err(Failed), "abcd"),
+        ("e", Ok(()), "abcde"),
+        ("", Ok(()), "abcde"),
+        ("f", Err(Failed), "abcde"),
+    ] {
+        assert_eq!(rt; sink.append(piece.as_bytes()), answer, "at {piece}");
+        assert_eq!(rt; sink.held(), held.as_bytes(), "after {piece}");
+    }
+    Ok(())
+}
+
+#[test]
+fn a_shelf_reads_creates_and_closes(rt: HostRuntime) -> Result<(), Fail> {
+    let alloc = rt.alloc();
+    let mut shelf = MemShelf::new(alloc, shelf_files(alloc)?);
+    shelf.fail_read(1)?;
+    shelf.fail_create(1)?;
+    shelf.fail_close(1)?;
+    shelf.fail_append(2, 0, 1)?;
+
+    let mut into = Vec::new(alloc);
+    for (name, most, answer, len) in [
+        ("b", 3, Ok(Fetched::Found), 3),
+        ("b", 3, Err(ShelfFault::Failed), 3),
+        ("c", 3, Ok(Fetched::Missing), 3),
+        ("b", 2, Ok(Fetched::TooLarge), 3),
+        ("b", 3, Ok(Fetched::Found), 6),
+    ] {
+        assert_eq!(rt; shelf.read(name, &mut into, most), answer, "at {name}");
+        assert_eq!(rt; into.len(), len);
+    }
+
+    // The creation of number 1 fails, and makes no sink; the closing of number 1 keeps the file;
+    // the sink of creation 2 fails after one byte, and its closing tells so by the count alone.
+    let first = shelf.create("a", 4)?;
+    assert!(rt; shelf.close(first) == Ok(()));
+    assert!(rt; matches!(shelf.create("a", 4), Err(ShelfFault::Failed)));
+    let mut second = shelf.create("b", 4)?;
+    assert!(rt; second.append(b"xyz") == Err(Failed));
+    assert!(rt; shelf.close(second) == Err(Failed));
+    assert_eq!(rt; shelf.get("a"), Some(&b""[..]));
+    assert_eq!(rt; shelf.get("b"), Some(&b"123"[..]));
+    Ok(())
+}
+
+#[test]
+fn a_sure_shelf_never_fails(rt: HostRuntime) -> Result<(), Fail> {
+    let alloc = rt.alloc();
+    let mut shelf = SureShelf::new(alloc, shelf_files(alloc)?);
+    let mut into = Vec::new(alloc);
+    assert_eq!(rt; shelf.read("b", &mut into, 3), Ok(Fetched::Found));
+    assert_eq!(rt; into.as_slice(), b"123".as_slice());
+    let mut sink = shelf.create("b", 4)?;
+    assert!(rt; sink.append(b"xyz") == Ok(()));
+    assert_eq!(rt; shelf.get("b"), Some(&b"123"[..]));
+    assert!(rt; shelf.close(sink) == Ok(()));
+    assert_eq!(rt; shelf.get("b"), Some(&b"xyz"[..]));
+    assert_eq!(rt; shelf.get("a"), None);
+    Ok(())
+}
+
+/// One file, `b`, that holds `123`.
+fn shelf_files(alloc: Global) -> Result<Vec<(String, Vec<u8>)>, AllocError> {
+    let name = String::from_str(alloc, "b")?;
+    let bytes = Vec::from_slice(alloc, b"123")?;
+    Ok(vec![in alloc; (name, bytes)]?)
+}
+
+#[test]
+fn faults_are_printed(rt: HostRuntime) -> Result<(), Fail> {
+    let alloc = rt.alloc();
+    assert_eq!(rt;
+        format!(in alloc; "{Memory}, {Failed}")?.as_str(),
+        "out of memory, a device failed"
+    );
+    for (fault, text) in [
+        (ShelfFault::Memory, "out of memory"),
+        (ShelfFault::Failed, "a device failed"),
+    ] {
+        assert_eq!(rt; format!(in alloc; "{fault}")?.as_str(), text);
+    }
+    Ok(())
+}

@@ -1,0 +1,90 @@
+// Texts that begin with a predicate, and what is read of them, each by the grammar of `docs/grammar.md`.
+use fixed_text::TimeMark;
+use predicate_parse::{Fault, predicate};
+use script_grammar::predicate::{PAtom, POr};
+use script_lex::{Token, lex};
+use std::alloc::{AllocError, Global};
+use std::fmt::Write;
+use std::test::Fail;
+
+// An hour as the text that it is read from.
+fn hour(alloc: Global, mark: TimeMark) -> Result<String, AllocError> {
+    match mark.hour {
+        Some(hour) => format!(in alloc; "{hour}h"),
+        None => String::from_str(alloc, "?"),
+    }
+}
+
+// What stands in parentheses is left out.
+fn atom(alloc: Global, atom: &PAtom) -> Result<String, AllocError> {
+    match atom {
+        PAtom::True => String::from_str(alloc, "true"),
+        PAtom::False => String::from_str(alloc, "false"),
+        PAtom::At(at) => hour(alloc, *at),
+        PAtom::Between(from, to) => {
+            let from = hour(alloc, *from)?;
+            let to = hour(alloc, *to)?;
+            format!(in alloc; "{from}-{to}")
+        }
+        PAtom::Paren(_) => String::from_str(alloc, "()"),
+    }
+}
+
+// Each part of `or` in square brackets.
+fn shown(alloc: Global, pred: &POr) -> Result<String, AllocError> {
+    let mut text = String::new(alloc);
+    for part in &pred.parts {
+        write!(text, "[")?;
+        for item in &part.parts {
+            let sign = if item.negated { "!" } else { "" };
+            let atom = atom(alloc, &item.atom)?;
+            write!(text, " {sign}{atom}")?;
+        }
+        write!(text, " ]")?;
+    }
+    Ok(text)
+}
+
+fn tokens(alloc: Global, source: &[u8]) -> Vec<Token> {
+    match lex(alloc, source) {
+        Ok(tokens) => tokens,
+        Err(_) => Vec::new(alloc),
+    }
+}
+
+// The predicate and how many tokens are left, or the fault.
+fn read(alloc: Global, source: &[u8]) -> Result<String, AllocError> {
+    match predicate(alloc, &tokens(alloc, source)) {
+        Ok((pred, rest)) => {
+            let left = rest.len();
+            let pred = shown(alloc, &pred)?;
+            format!(in alloc; "{pred} {left}")
+        }
+        Err(Fault::Syntax(left)) => format!(in alloc; "fault {left}"),
+        Err(Fault::Memory) => String::from_str(alloc, "out of memory"),
+    }
+}
+
+#[test]
+fn and_binds_before_or_and_a_fault_is_the_first_token_that_cannot_go_on(
+    rt: HostRuntime,
+) -> Result<(), Fail> {
+    let rows = [
+        (b"22h-6h}".as_slice(), "[ 22h-6h ] 1"),
+        (
+            b"2h or not true and 3h-4h or false}".as_slice(),
+            "[ 2h ][ !true 3h-4h ][ false ] 1",
+        ),
+        (b"not (2h or true) and 5h".as_slice(), "[ !() 5h ] 0"),
+        (b"".as_slice(), "fault 0"),
+        (b"2h - 3h or}".as_slice(), "fault 1"),
+        (b"2h - true and 3h".as_slice(), "fault 3"),
+        (b"not not true".as_slice(), "fault 2"),
+        (b"(2h or true".as_slice(), "fault 0"),
+        (b"(2h 3h)".as_slice(), "fault 2"),
+    ];
+    for (source, want) in rows {
+        assert_eq!(rt; read(rt.alloc(), source)?.as_str(), want);
+    }
+    Ok(())
+}

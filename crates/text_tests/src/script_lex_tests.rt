@@ -1,0 +1,239 @@
+// Texts with their tokens, or their fault, each from the rules of `docs/language.md`, "Tokens".
+use script_lex::{LexFault, Token, TokenKind, lex};
+use std::alloc::{AllocError, Global};
+use std::fmt::Write;
+use std::test::Fail;
+
+fn part(alloc: Global, value: Option<u8>) -> Result<String, AllocError> {
+    match value {
+        Some(value) => format!(in alloc; "{value}"),
+        None => String::from_str(alloc, "-"),
+    }
+}
+
+fn kind(alloc: Global, kind: &TokenKind) -> Result<String, AllocError> {
+    match kind {
+        TokenKind::Name(name) => {
+            let name = name.as_str();
+            format!(in alloc; "Name({name})")
+        }
+        TokenKind::NameOpen(name) => {
+            let name = name.as_str();
+            format!(in alloc; "NameOpen({name})")
+        }
+        TokenKind::Int(value) => format!(in alloc; "Int({value})"),
+        TokenKind::Number(value) => {
+            let millionths = value.millionths;
+            format!(in alloc; "Number({millionths})")
+        }
+        TokenKind::Str(text) => {
+            let text = text.as_str();
+            format!(in alloc; "Str({text})")
+        }
+        TokenKind::Time(mark) => {
+            let day = part(alloc, mark.day)?;
+            let hour = part(alloc, mark.hour)?;
+            let minute = part(alloc, mark.minute)?;
+            let second = part(alloc, mark.second)?;
+            format!(in alloc; "Time({day},{hour},{minute},{second})")
+        }
+        TokenKind::Keyword(keyword) => format!(in alloc; "{keyword:?}"),
+        TokenKind::Wav => String::from_str(alloc, "Wav"),
+        TokenKind::Symbol(symbol) => format!(in alloc; "{symbol:?}"),
+    }
+}
+
+// Each token as its kind and its place, or the fault.
+fn lexed(alloc: Global, source: &[u8]) -> Result<String, AllocError> {
+    match lex(alloc, source) {
+        Ok(tokens) => {
+            let mut shown = String::new(alloc);
+            for token in &tokens {
+                let kind = kind(alloc, &token.kind)?;
+                let Token { start, end, .. } = token;
+                write!(shown, "{kind}@{start}..{end} ")?;
+            }
+            Ok(shown)
+        }
+        Err(fault) => format!(in alloc; "{fault:?}"),
+    }
+}
+
+#[test]
+fn words_and_signs(rt: HostRuntime) -> Result<(), Fail> {
+    let rows = [
+        ("", ""),
+        ("a.b(", "NameOpen(a.b)@0..4 "),
+        ("a (", "Name(a)@0..1 OpenRound@2..3 "),
+        ("_a1.B_2", "Name(_a1.B_2)@0..7 "),
+        ("a.", "BadByte(1)"),
+        ("a.1", "BadByte(1)"),
+        ("a..b", "BadByte(1)"),
+        (".5", "BadByte(0)"),
+        ("if(", "If@0..2 OpenRound@2..3 "),
+        ("end.x", "Name(end.x)@0..5 "),
+        ("ends Def", "Name(ends)@0..4 Name(Def)@5..8 "),
+        (
+            "def end if then else true false and or not",
+            "Def@0..3 End@4..7 If@8..10 Then@11..15 Else@16..20 True@21..25 False@26..31 And@32..35 Or@36..38 Not@39..42 ",
+        ),
+        (
+            "= == != < <= > >=",
+            "Assign@0..1 Equal@2..4 Differs@5..7 Less@8..9 AtMost@10..12 Greater@13..14 AtLeast@15..17 ",
+        ),
+        (
+            "+-*/()[]{},;~",
+            "Plus@0..1 Minus@1..2 Star@2..3 Slash@3..4 OpenRound@4..5 CloseRound@5..6 OpenSquare@6..7 CloseSquare@7..8 OpenCurly@8..9 CloseCurly@9..10 Comma@10..11 Semicolon@11..12 Tilde@12..13 ",
+        ),
+        ("=>", "Assign@0..1 Greater@1..2 "),
+        ("===", "Equal@0..2 Assign@2..3 "),
+        ("x!", "BadByte(1)"),
+        ("%wave", "Wav@0..4 Name(e)@4..5 "),
+        ("%wav(", "Wav@0..4 OpenRound@4..5 "),
+        (" %wa", "BadByte(1)"),
+        ("é", "BadByte(0)"),
+    ];
+    for (source, tokens) in rows {
+        assert_eq!(rt;
+            lexed(rt.alloc(), source.as_bytes())?.as_str(),
+            tokens,
+            "{source}"
+        );
+    }
+    Ok(())
+}
+
+#[test]
+fn numbers_and_times(rt: HostRuntime) -> Result<(), Fail> {
+    let rows = [
+        ("0 007", "Int(0)@0..1 Int(7)@2..5 "),
+        ("9223372036854775807", "Int(9223372036854775807)@0..19 "),
+        ("-9223372036854775808", "NumberTooLarge(1)"),
+        ("12.", "Number(12000000)@0..3 "),
+        ("1..", "BadByte(2)"),
+        ("1.2.3", "BadByte(3)"),
+        ("0.000001", "Number(1)@0..8 "),
+        ("1.0000000", "NumberTooLarge(0)"),
+        ("999999999.999999", "Number(999999999999999)@0..16 "),
+        ("1000000000.", "Number(1000000000000000)@0..11 "),
+        ("x 1000000000.000001", "NumberTooLarge(2)"),
+        ("1.5h", "Number(1500000)@0..3 Name(h)@3..4 "),
+        ("5x", "Int(5)@0..1 Name(x)@1..2 "),
+        ("22h30", "Time(-,22,30,-)@0..5 "),
+        ("22h30m", "Time(-,22,30,-)@0..6 "),
+        ("22h30s", "Time(-,22,-,30)@0..6 "),
+        ("22h30m15", "Time(-,22,30,-)@0..6 Int(15)@6..8 "),
+        ("22h30x", "Time(-,22,30,-)@0..5 Name(x)@5..6 "),
+        ("22h30.5", "BadByte(5)"),
+        ("1w2h", "Time(1,2,-,-)@0..4 "),
+        ("2h1w", "Time(-,2,1,-)@0..3 Name(w)@3..4 "),
+        ("7w24h60m60s", "Time(7,24,60,60)@0..11 "),
+        ("0w00h0m000s", "Time(0,0,0,0)@0..11 "),
+        ("8w", "NumberTooLarge(0)"),
+        ("25h", "NumberTooLarge(0)"),
+        ("61m", "NumberTooLarge(0)"),
+        ("1w61s", "NumberTooLarge(0)"),
+        ("22h61", "NumberTooLarge(0)"),
+        ("300h", "NumberTooLarge(0)"),
+        ("5h-7h", "Time(-,5,-,-)@0..2 Minus@2..3 Time(-,7,-,-)@3..5 "),
+        ("5m30", "Time(-,-,5,-)@0..2 Int(30)@2..4 "),
+        ("5s3m", "Time(-,-,-,5)@0..2 Time(-,-,3,-)@2..4 "),
+        ("1w1w", "Time(1,-,-,-)@0..2 Time(1,-,-,-)@2..4 "),
+        ("1w2", "Time(1,-,-,-)@0..2 Int(2)@2..3 "),
+    ];
+    for (source, tokens) in rows {
+        assert_eq!(rt;
+            lexed(rt.alloc(), source.as_bytes())?.as_str(),
+            tokens,
+            "{source}"
+        );
+    }
+    Ok(())
+}
+
+#[test]
+fn texts_blanks_and_comments(rt: HostRuntime) -> Result<(), Fail> {
+    let rows = [
+        (b"\"ab\" ''".as_slice(), "Str(ab)@0..4 Str()@5..7 "),
+        (
+            b"\"a'b\"'c\"d'".as_slice(),
+            "Str(a'b)@0..5 Str(c\"d)@5..10 ",
+        ),
+        (b"\"\\\"\\'\\\\\"".as_slice(), "Str(\"'\\)@0..8 "),
+        (b"\"#x\"#y".as_slice(), "Str(#x)@0..4 "),
+        (b"\"\xc3\xa9\xf0\x9f\x98\x80\"".as_slice(), "Str(é😀)@0..8 "),
+        (b"\"\\x\"".as_slice(), "BadByte(1)"),
+        (b"\"\\\xc3\xa9\"".as_slice(), "BadByte(1)"),
+        (b" \"ab".as_slice(), "UnclosedString(1)"),
+        (b"\"ab\\".as_slice(), "UnclosedString(0)"),
+        (b"\"ab\\\"".as_slice(), "UnclosedString(0)"),
+        (b"\"ab'".as_slice(), "UnclosedString(0)"),
+        (b"\"a\nb".as_slice(), "BadByte(2)"),
+        (b"\"\t\"".as_slice(), "BadByte(1)"),
+        (b"\"\x7f\"".as_slice(), "BadByte(1)"),
+        (b"\"\xc3".as_slice(), "BadByte(1)"),
+        (b"\"\xe2\x82\"".as_slice(), "BadByte(1)"),
+        (b"\"\x80\"".as_slice(), "BadByte(1)"),
+        (b"\"\xc0\xaf\"".as_slice(), "BadByte(1)"),
+        (b"\"a\xed\xa0\x80\"".as_slice(), "BadByte(2)"),
+        (b"\"\xf5\x80\x80\x80\"".as_slice(), "BadByte(1)"),
+        (b"\"\xf4\x90\x80\x80\"".as_slice(), "BadByte(1)"),
+        (b" \t\r\n".as_slice(), ""),
+        (
+            b"a\r\nb\tc".as_slice(),
+            "Name(a)@0..1 Name(b)@3..4 Name(c)@5..6 ",
+        ),
+        (b"a # c \xff\"\nb".as_slice(), "Name(a)@0..1 Name(b)@9..10 "),
+        (b"#\n#\n1# \xc3(".as_slice(), "Int(1)@4..5 "),
+        (b"a\x0b".as_slice(), "BadByte(1)"),
+        (b"1.0000000 $ \"".as_slice(), "NumberTooLarge(0)"),
+    ];
+    for (source, tokens) in rows {
+        assert_eq!(rt; lexed(rt.alloc(), source)?.as_str(), tokens, "{source:?}");
+    }
+    Ok(())
+}
+
+fn filled(alloc: Global, byte: u8, count: usize) -> Result<Vec<u8>, AllocError> {
+    let mut made = Vec::new(alloc);
+    made.resize(count, byte)?;
+    Ok(made)
+}
+
+#[test]
+fn long_digits_and_long_scripts(rt: HostRuntime) -> Result<(), Fail> {
+    let rows = [
+        (b'0', 400, "Int(0)@0..400 "),
+        (b'9', 400, "NumberTooLarge(0)"),
+        (b' ', 1_048_576, ""),
+        (b'$', 1_048_576, "BadByte(0)"),
+        (b'$', 1_048_577, "TextTooLong"),
+    ];
+    for (byte, count, tokens) in rows {
+        let source = filled(rt.alloc(), byte, count)?;
+        assert_eq!(rt;
+            lexed(rt.alloc(), &source)?.as_str(),
+            tokens,
+            "{count} of {byte}"
+        );
+    }
+    Ok(())
+}
+
+#[test]
+fn faults_are_printed(rt: HostRuntime) -> Result<(), Fail> {
+    let rows = [
+        (LexFault::BadByte(3), "a byte that may not stand here, at 3"),
+        (
+            LexFault::UnclosedString(0),
+            "a text without its closing quote, at 0",
+        ),
+        (LexFault::NumberTooLarge(7), "a number past its bound, at 7"),
+        (LexFault::TextTooLong, "a script of more than 1048576 bytes"),
+        (LexFault::Memory, "out of memory"),
+    ];
+    for (fault, text) in rows {
+        assert_eq!(rt; format!(in rt.alloc(); "{fault}")?.as_str(), text);
+    }
+    Ok(())
+}

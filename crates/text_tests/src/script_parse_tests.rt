@@ -1,0 +1,174 @@
+// Texts that are scripts or not, each by the grammar of `docs/grammar.md`.
+use script_grammar::spell;
+use script_grammar::tree::{Script, StmtPart};
+use script_lex::{Token, lex};
+use script_parse::{ParseFault, parse};
+use std::alloc::{AllocError, Global};
+use std::fmt::Write;
+use std::test::Fail;
+
+fn tokens(alloc: Global, source: &[u8]) -> Vec<Token> {
+    match lex(alloc, source) {
+        Ok(tokens) => tokens,
+        Err(_) => Vec::new(alloc),
+    }
+}
+
+// Whether the script is spelled by the tokens.
+fn spelled(alloc: Global, script: &Script, tokens: &[Token]) -> Result<&'static str, AllocError> {
+    let mut want = String::new(alloc);
+    for token in tokens {
+        let kind = &token.kind;
+        write!(want, "{kind:?} ")?;
+    }
+    let mut got = String::new(alloc);
+    if let Ok(kinds) = spell(alloc, script) {
+        for kind in &kinds {
+            write!(got, "{kind:?} ")?;
+        }
+    }
+    Ok(if got == want {
+        "script"
+    } else {
+        "another spelling"
+    })
+}
+
+// What is answered of a text.
+fn answer(alloc: Global, source: &str) -> Result<String, AllocError> {
+    let tokens = tokens(alloc, source.as_bytes());
+    match parse(alloc, source.as_bytes(), &tokens) {
+        Ok(script) => String::from_str(alloc, spelled(alloc, &script, &tokens)?),
+        Err(fault) => format!(in alloc; "{fault:?}"),
+    }
+}
+
+#[test]
+fn scripts_and_no_scripts(rt: HostRuntime) -> Result<(), Fail> {
+    let rows = [
+        ("", "script"),
+        ("x = -3", "script"),
+        ("x = 1.", "script"),
+        ("x = (1, 2)", "script"),
+        ("x = ()", "script"),
+        ("f(a = 1, b)", "script"),
+        ("f(a == 1)", "script"),
+        ("x = {not (2h or 3h-4h and true)}", "script"),
+        ("def f(~a, ~b=1, c) = x = 1; y = x; y end", "script"),
+        ("def f(~a, ~b=1, c) x = 1 y = x y end", "script"),
+        ("x = if a then b else c end", "script"),
+        ("if a then b else c end", "script"),
+        ("x = %wav(samplesize=16)", "script"),
+        ("def f() = x = %wav (1, 2) end", "script"),
+        ("def f() = x = %wav(samplesize) end", "script"),
+        ("def f() = x = %wav (samplesize = 16) y end", "script"),
+        ("x = 1 y = 2; f(x)", "script"),
+        ("x = [1, -2, \"a\"] and not true or false", "script"),
+        ("x = 1 + 2 * 3 - 4 / 5 <= 6", "script"),
+        ("x = 1 - -2", "Syntax(4)"),
+        ("x =", "Syntax(2)"),
+        ("x = (1", "Syntax(4)"),
+        ("x = (1,)", "Syntax(5)"),
+        ("x = {2h - 3h or}", "Syntax(7)"),
+        ("x = %wav(other=16)", "Syntax(4)"),
+        ("x = %wav (y)", "Syntax(4)"),
+        ("def f() = x = %wav (1 +)", "Syntax(10)"),
+        ("x = not not a", "Syntax(3)"),
+        ("x = a < b < c", "Syntax(5)"),
+        ("x = 1;; y = 2", "Syntax(4)"),
+        ("def f() = -1 end", "Syntax(4)"),
+        ("x = -3 * 2", "Syntax(4)"),
+        ("f(1) + 2", "Syntax(3)"),
+    ];
+    for (source, want) in rows {
+        assert_eq!(rt; answer(rt.alloc(), source)?.as_str(), want, "{source}");
+    }
+    Ok(())
+}
+
+// So many openings, what stands between, and so many closings.
+fn nested(
+    alloc: Global,
+    open: (&str, usize),
+    between: &str,
+    close: (&str, usize),
+) -> Result<String, AllocError> {
+    let mut text = String::from_str(alloc, "x = ")?;
+    for _ in 0..open.1 {
+        text.push_str(open.0)?;
+    }
+    text.push_str(between)?;
+    for _ in 0..close.1 {
+        text.push_str(close.0)?;
+    }
+    Ok(text)
+}
+
+#[test]
+fn two_hundred_levels_and_no_more(rt: HostRuntime) -> Result<(), Fail> {
+    let alloc = rt.alloc();
+    let rows = [
+        (("(", 200), "1", (")", 200), "script"),
+        (("[", 200), "1", ("]", 200), "script"),
+        (("f(", 200), "1", (")", 200), "script"),
+        (("if ", 200), "a", (" then b else c end", 200), "script"),
+        (("(", 200), "1", (")", 199), "Syntax(402)"),
+        (("(", 201), "1", (")", 201), "TooDeep(202)"),
+        (("(", 201), "", (")", 0), "TooDeep(202)"),
+        (("(", 200), "+ (1", (")", 201), "Syntax(202)"),
+        (("(", 200), "1 (1", (")", 201), "Syntax(203)"),
+    ];
+    for (open, between, close, want) in rows {
+        let source = nested(alloc, open, between, close)?;
+        assert_eq!(rt; answer(alloc, source.as_str())?.as_str(), want);
+    }
+    Ok(())
+}
+
+// How many statements a script of so many times `x=1;` has, and the place of the last one's name.
+fn last_of_many(alloc: Global, times: usize) -> Result<(usize, u32), AllocError> {
+    let mut source = String::new(alloc);
+    for _ in 0..times {
+        source.push_str("x=1;")?;
+    }
+    let tokens = tokens(alloc, source.as_bytes());
+    match parse(alloc, source.as_bytes(), &tokens) {
+        Ok(script) => {
+            let place = match script.statements.last() {
+                Some(last) => match &last.part {
+                    StmtPart::Bind(bind) => bind.at,
+                    _ => 0,
+                },
+                None => 0,
+            };
+            Ok((script.statements.len(), place))
+        }
+        Err(_) => Ok((0, 0)),
+    }
+}
+
+#[test]
+fn the_longest_script(rt: HostRuntime) -> Result<(), Fail> {
+    assert_eq!(rt; last_of_many(rt.alloc(), 262_144)?, (262_144, 1_048_572));
+    Ok(())
+}
+
+#[test]
+fn faults_are_printed(rt: HostRuntime) -> Result<(), Fail> {
+    let alloc = rt.alloc();
+    let rows = [
+        (
+            ParseFault::Syntax(4),
+            "no script begins with the tokens up to token 4",
+        ),
+        (
+            ParseFault::TooDeep(202),
+            "more than 200 levels are nested at token 202",
+        ),
+        (ParseFault::Memory, "out of memory"),
+    ];
+    for (fault, want) in rows {
+        assert_eq!(rt; format!(in alloc; "{fault}")?.as_str(), want);
+    }
+    Ok(())
+}

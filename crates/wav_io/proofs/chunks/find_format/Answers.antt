@@ -1,0 +1,31 @@
+use Rattle.std.proofs.Common.{rules, arith, ◌≡◌, ◌<◌, ◌+◌, ◌∙◌, length, sym, ap, codes, true, false}
+use Rattle.std.specs.Str.{bytes_eq}
+use Rattle.wav_io.specs.declared.chunks.Chunk.{Chunk}
+use Rattle.wav_io.proofs.Steps.{format_ends, format_here, format_later, format_never}
+use Rattle.wav_io.proofs.chunks.find_format.Goals as goal
+
+pub returns-then-eq-clause-first : goal.returns-then-eq-clause-first
+returns-then-eq-clause-first c =
+    let named : bytes_eq c.in-Some.chunk.name (codes "data") ≡ true = search rules in
+    sym (c.loop-chunk.invariant.1 ∙ format_ends _ _ _ c.in-Some.ensures.0 c.in-Some.ensures.1 named)
+
+pub returns-then-eq-2-clause-first : goal.returns-then-eq-2-clause-first
+returns-then-eq-2-clause-first c =
+    let other : bytes_eq c.in-Some.chunk.name (codes "data") ≡ false = search rules in
+    let named : bytes_eq c.in-Some.chunk.name (codes "fmt ") ≡ true = search rules in
+    sym (c.loop-chunk.invariant.1 ∙ format_here _ _ _ c.in-Some.ensures.0 c.in-Some.ensures.1 other named)
+
+pub loop-chunk-preserved : goal.loop-chunk-preserved
+loop-chunk-preserved c =
+    let other : bytes_eq c.in-Some.chunk.name (codes "data") ≡ false = search rules in
+    let no_format : bytes_eq c.in-Some.chunk.name (codes "fmt ") ≡ false = search rules in
+    let long = c.in-Some.ensures.0 in
+    let is = c.in-Some.ensures.1 in
+    let later = format_later _ _ _ long is other no_format in
+    let placed : c.in-Some.chunk.place ≡ c.loop-chunk.place = ap (λ (chunk : Chunk). chunk.place) is in
+    (omega arith, rw c.next_place-place.ensures.behind (c.loop-chunk.invariant.1 ∙ later))
+
+pub returns-clause-first : goal.returns-clause-first
+returns-clause-first c =
+    let short : length c.args.bytes.now < c.loop-chunk.place + 8 = omega arith in
+    sym (c.loop-chunk.invariant.1 ∙ format_never _ _ short)

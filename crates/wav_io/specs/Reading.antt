@@ -1,0 +1,91 @@
+-- What the bytes of a WAV file say: a kind, a rate and blocks, or why there are none. `docs/formats.md` has the rows.
+use Rattle.std.specs.Prelude.{◌≡◌, ◌<◌, ℕ, ◌+◌, ◌*◌, ◌/◌, ◌&&◌, ◌||◌, List, [], ◌∷◌, length, take, drop, Bool, Option, Some, None, Result, Ok, Err, if◌then◌else◌, nat_eq, nat_le, nat_lt, codes}
+use Rattle.std.specs.Str.{bytes_eq}
+use Rattle.byteorder.specs.Endian.{little_number}
+use Rattle.liq_base.specs.declared.memory.Kind.{Kind}
+use Rattle.liq_base.specs.declared.memory.Kind.TheVariants.{Mono, Stereo}
+use Rattle.wav_io.specs.Header.{block_size}
+use Rattle.wav_io.specs.Plain.{Wave}
+use Rattle.wav_io.specs.Chunks.{chunks_of, first_named, before_named}
+use Rattle.wav_io.specs.declared.chunks.Chunk.{Chunk}
+use Rattle.wav_io.specs.declared.format.Format.{Format}
+use Rattle.wav_io.specs.declared.fault.WavFault.{WavFault}
+use Rattle.wav_io.specs.declared.fault.WavFault.TheVariants.{NotRiff, NoFormat, BadFormat, NotPcm16, NoData, Empty}
+
+-- `RIFF`, four bytes that are not looked at, and `WAVE`
+abbrev pub is_riff : List ℕ → Bool
+is_riff bytes = nat_le 12 (length bytes) && bytes_eq (take 4 bytes) (codes "RIFF") && bytes_eq (take 4 (drop 8 bytes)) (codes "WAVE")
+
+-- the first `fmt ` chunk, unless a `data` stands before it
+abbrev pub format_chunk : List Chunk → Option Chunk
+format_chunk chunks = first_named (codes "fmt ") (before_named (codes "data") chunks)
+
+-- the bytes of a chunk's body that stand in the file
+abbrev pub body_of : List ℕ → Chunk → List ℕ
+body_of bytes chunk = take chunk.size (drop (chunk.place + 8) bytes)
+
+-- a body of 16, 18 or 40 bytes that is not cut
+abbrev pub is_format_body : List ℕ → ℕ → Bool
+is_format_body body size = (nat_eq size 16 || nat_eq size 18 || nat_eq size 40) && nat_eq (length body) size
+
+-- the number in so many bytes from a place of a body
+abbrev pub field : List ℕ → ℕ → ℕ → ℕ
+field body place width = little_number width (drop place body)
+
+-- the last 16 of 40 bytes, where they say that the samples are plain numbers
+abbrev pub pcm_guid : List ℕ
+pcm_guid = 0x01 ∷ 0x00 ∷ 0x00 ∷ 0x00 ∷ 0x00 ∷ 0x00 ∷ 0x10 ∷ 0x00 ∷ 0x80 ∷ 0x00 ∷ 0x00 ∷ 0xaa ∷ 0x00 ∷ 0x38 ∷ 0x9b ∷ 0x71 ∷ []
+
+abbrev pub has_pcm_guid : List ℕ → Bool
+has_pcm_guid body = nat_eq (length body) 40 && bytes_eq (drop 24 body) pcm_guid
+
+-- the tag 1, or the tag of the extensible form and its GUID
+abbrev pub is_pcm : List ℕ → Bool
+is_pcm body = nat_eq (field body 0 2) 1 || (nat_eq (field body 0 2) 0xFFFE && has_pcm_guid body)
+
+-- one channel or two
+abbrev pub kind_of : ℕ → Option Kind
+kind_of channels = if nat_eq channels 1 then Some Mono else if nat_eq channels 2 then Some Stereo else None
+
+-- a kind and a rate, with the bytes of a block beside them, which are two for each channel
+abbrev pub checked_format : Option Kind → ℕ → ℕ → Result Format WavFault
+checked_format None rate block = Err BadFormat
+checked_format (Some kind) rate block = if nat_lt 0 rate && nat_eq block (block_size kind) then Ok (record { kind = kind; rate = rate }) else Err BadFormat
+
+-- what the body of a `fmt ` chunk of this size says
+abbrev pub format_in : List ℕ → ℕ → Result Format WavFault
+format_in body size =
+    if is_format_body body size then
+    if nat_eq (field body 14 2) 16 && is_pcm body then checked_format (kind_of (field body 2 2)) (field body 4 4) (field body 12 2)
+    else Err NotPcm16
+    else Err BadFormat
+
+-- the whole blocks at the front of a body
+abbrev pub whole_blocks : Kind → List ℕ → List ℕ
+whole_blocks kind body = take (length body / block_size kind * block_size kind) body
+
+-- whole blocks, and at least one
+pub record AreBlocks (kind : Kind) (body : List ℕ) : Type 0 where
+  pub count : ℕ
+  pub some : 0 < count
+  pub whole : length body ≡ count * block_size kind
+
+-- the whole blocks, of which there is at least one
+abbrev pub with_blocks : Format → List ℕ → Result Wave WavFault
+with_blocks format blocks = if nat_eq (length blocks) 0 then Err Empty else Ok (record { kind = format.kind; rate = format.rate; body = blocks })
+
+abbrev pub data_step : List ℕ → Format → Option Chunk → Result Wave WavFault
+data_step bytes format None = Err NoData
+data_step bytes format (Some chunk) = with_blocks format (whole_blocks format.kind (body_of bytes chunk))
+
+abbrev pub format_step : List ℕ → Result Format WavFault → Option Chunk → Result Wave WavFault
+format_step bytes (Err fault) samples = Err fault
+format_step bytes (Ok format) samples = data_step bytes format samples
+
+abbrev pub chunk_step : List ℕ → Option Chunk → Option Chunk → Result Wave WavFault
+chunk_step bytes None samples = Err NoFormat
+chunk_step bytes (Some chunk) samples = format_step bytes (format_in (body_of bytes chunk) chunk.size) samples
+
+-- the file, or the first fault that it has
+abbrev pub read_of : List ℕ → Result Wave WavFault
+read_of bytes = if is_riff bytes then chunk_step bytes (format_chunk (chunks_of bytes)) (first_named (codes "data") (chunks_of bytes)) else Err NotRiff

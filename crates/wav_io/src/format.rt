@@ -1,0 +1,95 @@
+// The body of a `fmt ` chunk.
+ghost use Rattle.std.specs.Prelude.{◌≡◌, ◌≤◌, length, IsTrue};
+ghost use Rattle.wav_io.specs.Reading.{format_in, is_pcm, has_pcm_guid, kind_of, checked_format, is_format_body};
+
+use crate::WavFault;
+use crate::fields::block_len;
+use byteorder::{ByteOrder, LittleEndian};
+use liq_base::Kind;
+
+/// The size of a body of the extensible form.
+const EXTENSIBLE_BYTES: usize = 40;
+
+/// The tag of samples that are whole numbers, and the tag of the extensible form.
+const PCM_TAG: u16 = 1;
+
+const EXTENSIBLE_TAG: u16 = 0xFFFE;
+
+/// The bytes of an extensible body that say that its samples are whole numbers, and where they stand in it.
+const PCM_GUID: [u8; 16] = [
+    0x01, 0x00, 0x00, 0x00, 0x00, 0x00, 0x10, 0x00, 0x80, 0x00, 0x00, 0xaa, 0x00, 0x38, 0x9b, 0x71,
+];
+
+const GUID_PLACE: usize = 24;
+
+/// What a `fmt ` chunk says: how many channels there are, and the samples a second.
+#[derive(Clone, Copy, Debug)]
+pub struct Format {
+    pub kind: Kind,
+    pub rate: u32,
+}
+
+/// The format that the body of a `fmt ` chunk of this size gives.
+pub fn read_format(body: &[u8], size: u32) -> Result<Format, WavFault>
+    ensures { result ≡ format_in body.now size }
+{
+    if !is_sized(body, size) {
+        return Err(WavFault::BadFormat);
+    }
+    if LittleEndian::read_u16(&body[14..]) != 16 || !is_whole_numbers(body) {
+        return Err(WavFault::NotPcm16);
+    }
+    let channels = LittleEndian::read_u16(&body[2..]);
+    let rate = LittleEndian::read_u32(&body[4..]);
+    let block = LittleEndian::read_u16(&body[12..]);
+    checked(kind_from(channels), rate, block)
+}
+
+/// Whether the size is one of those that are read, and the body is not cut.
+fn is_sized(body: &[u8], size: u32) -> bool
+    ensures sized { result ≡ is_format_body body.now size }
+    ensures long { IsTrue result → 16 ≤ length body.now }
+{
+    (size == 16 || size == 18 || size == 40) && body.len() == size as usize
+}
+
+/// Whether the tag is that of whole numbers, or that of the extensible form with the GUID of whole numbers.
+fn is_whole_numbers(body: &[u8]) -> bool
+    requires { 16 ≤ length body.now }
+    ensures { result ≡ is_pcm body.now }
+{
+    let tag = LittleEndian::read_u16(body);
+    tag == PCM_TAG || (tag == EXTENSIBLE_TAG && has_guid(body))
+}
+
+/// Whether this is an extensible body with the GUID of whole numbers.
+fn has_guid(body: &[u8]) -> bool
+    ensures { result ≡ has_pcm_guid body.now }
+{
+    if body.len() != EXTENSIBLE_BYTES {
+        return false;
+    }
+    let (_, guid) = body.split_at(GUID_PLACE);
+    guid == PCM_GUID.as_slice()
+}
+
+/// The kind of so many channels, of which there are one or two.
+fn kind_from(channels: u16) -> Option<Kind>
+    ensures { result ≡ kind_of channels }
+{
+    match channels {
+        1 => Some(Kind::Mono),
+        2 => Some(Kind::Stereo),
+        _ => None,
+    }
+}
+
+/// A kind and a rate, beside the bytes of a block, which are two for each channel.
+fn checked(kind: Option<Kind>, rate: u32, block: u16) -> Result<Format, WavFault>
+    ensures { result ≡ checked_format kind rate block }
+{
+    match kind {
+        Some(kind) if rate > 0 && block == block_len(kind) => Ok(Format { kind, rate }),
+        _ => Err(WavFault::BadFormat),
+    }
+}

@@ -1,0 +1,18 @@
+// Laws of reading, for whatever rests on it. Each is a contract of a function that does nothing.
+ghost use Rattle.liq_base.specs.declared.memory.Kind.{Kind};
+ghost use Rattle.std.specs.Prelude.{◌≡◌, ◌<◌, ◌≤◌, ◌*◌, ◌++◌, ℕ, List, length, Some, Ok};
+ghost use Rattle.wav_io.specs.Chunks.{AreChunks, chunks_of};
+ghost use Rattle.wav_io.specs.Header.{block_size, header_of};
+ghost use Rattle.wav_io.specs.Reading.{read_of};
+
+/// The chunks of a file are all those that stand in it, one behind the other.
+pub fn chunks_are_all()
+    ensures { (bytes : List ℕ) → AreChunks bytes 12 (chunks_of bytes) }
+{}
+
+/// A header of ours for a rate above 0 and at least one sample, and its data, are read as what they were written for.
+pub fn own_files_are_read()
+    ensures { (kind : Kind) (rate samples : ℕ) (header data_bytes : List ℕ) → 0 < rate → rate ≤ 192000 → 0 < samples
+        → header_of kind rate samples ≡ Some header → length data_bytes ≡ samples * block_size kind
+        → read_of (header ++ data_bytes) ≡ Ok (record { kind = kind; rate = rate; body = data_bytes }) }
+{}

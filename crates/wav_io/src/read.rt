@@ -1,0 +1,49 @@
+// WAV files that others wrote.
+ghost use Rattle.std.specs.Prelude.{◌≡◌, ◌≤◌, ◌<◌, length, Ok, Err, IfOk, MatchResult};
+ghost use Rattle.wav_io.specs.Reading.{read_of, is_riff, whole_blocks, AreBlocks};
+
+use crate::chunks::{chunk_body, find_data, find_format};
+use crate::fields::block_len;
+use crate::format::read_format;
+use crate::{Wav, WavFault};
+use liq_base::Kind;
+
+/// The kind, the rate in samples a second, and the whole blocks of a WAV file of 16-bit samples, or the first fault of
+/// the table in `docs/formats.md`. It takes no memory, and what lies behind the first `data` chunk is not looked at.
+pub fn read_wav(bytes: &[u8]) -> Result<Wav<'_>, WavFault>
+    ensures read { MatchResult result (λ wav. read_of bytes.now ≡ Ok (record { kind = wav.kind; rate = wav.rate; body = wav.body.now }))
+        (λ fault. read_of bytes.now ≡ Err fault) }
+    ensures blocks { IfOk result (λ wav. AreBlocks wav.kind wav.body.now) }
+{
+    if !begins_as_wave(bytes) {
+        return Err(WavFault::NotRiff);
+    }
+    let chunk = find_format(bytes).ok_or(WavFault::NoFormat)?;
+    let format = read_format(chunk_body(bytes, &chunk), chunk.size)?;
+    let data = find_data(bytes).ok_or(WavFault::NoData)?;
+    let body = cut_blocks(format.kind, chunk_body(bytes, &data));
+    if body.is_empty() {
+        return Err(WavFault::Empty);
+    }
+    Ok(Wav {
+        kind: format.kind,
+        rate: format.rate,
+        body,
+    })
+}
+
+/// Whether `RIFF` and `WAVE` stand at their places.
+fn begins_as_wave(bytes: &[u8]) -> bool
+    ensures { result ≡ is_riff bytes.now }
+{
+    bytes.len() >= 12 && &bytes[..4] == b"RIFF".as_slice() && &bytes[8..12] == b"WAVE".as_slice()
+}
+
+/// The whole blocks at the front of a body.
+fn cut_blocks(kind: Kind, body: &[u8]) -> &[u8]
+    ensures cut { result.now ≡ whole_blocks kind body.now }
+    ensures blocks { 0 < length result.now → AreBlocks kind result.now }
+{
+    let block = usize::from(block_len(kind));
+    &body[..body.len() / block * block]
+}
