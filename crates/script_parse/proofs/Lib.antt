@@ -2,4 +2,4 @@ mod Arms
 mod Exact
 mod Parsed
 mod Nesting
-pub mod Only
+mod Only
