@@ -12,6 +12,15 @@ pub const MAX_WORK: u32 = 999_999;
 /// Calls of defs that run at one time.
 pub const MAX_CALLS: u32 = 16;
 
+/// The least rate of a script, in samples a second.
+pub const MIN_RATE: u32 = 8000;
+
+/// The greatest rate of a script, in samples a second.
+pub const MAX_RATE: u32 = 192_000;
+
+/// Samples of a tick.
+pub const MAX_FRAME: u32 = 65_536;
+
 /// Nodes of a plan.
 pub const MAX_NODES: u32 = 4096;
 
@@ -41,6 +50,9 @@ pub const MAX_LIST_BYTES: u64 = 1_048_576;
 
 /// Bytes of all audio files of a script.
 pub const MAX_ALL_BYTES: u64 = 4_294_967_296;
+
+/// Bytes of the header before the samples of an output.
+pub const HEADER_BYTES: usize = 44;
 
 /// Clocks that run.
 pub const MAX_CLOCKS: u32 = 64;

@@ -1,3 +1,5 @@
 pub mod Lists
 pub mod Counts
 pub mod Paths
+pub mod Grown
+pub mod Drafts

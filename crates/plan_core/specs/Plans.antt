@@ -1,12 +1,14 @@
 -- Well-formed plans.
-use Rattle.std.specs.Prelude.{◌≡◌, ℕ, ◌+◌, ◌^◌, ◌<◌, ◌≤◌, ◌<ℤ◌, pos, ⊤, Some, List, [], ◌∷◌, ◌++◌, length, map, take, max, slice_get, slice_index, Bool, false, ◌==◌, All, Contains, count_by}
+use Rattle.std.specs.Prelude.{◌≡◌, ◌≢◌, ℕ, ◌+◌, ◌^◌, ◌<◌, ◌≤◌, ◌<ℤ◌, pos, ⊤, Some, List, [], ◌∷◌, ◌++◌, length, map, take, max, slice_get, slice_index, Bool, All, Contains}
 use Rattle.std.specs.Option.{option_map_or}
+use Rattle.liq_base.specs.declared.limits.TheConstants.{MIN_RATE, MAX_RATE, MAX_FRAME, MAX_NODES, MAX_CHILDREN, MAX_CROSSFADES, MAX_OVERLAP, MAX_PREFILL, MAX_CAPACITY}
 use Rattle.liq_base.specs.declared.memory.Kind.{Kind}
 use Rattle.liq_base.specs.declared.memory.Kind.TheVariants.{Mono, Stereo as Both}
 use Rattle.plan_core.specs.declared.node.Node.{Node}
 use Rattle.plan_core.specs.declared.node.Op.{Op}
 use Rattle.plan_core.specs.declared.node.Op.TheVariants.{Single, Playlist, Blank, Square, Fail, Fallback, Switch, Sequence, Add, Amplify, Mean, Stereo, Crossfade, Buffer, Clock}
 use Rattle.plan_core.specs.declared.plan.Plan.{Plan}
+use Rattle.plan_core.specs.declared.sink.BufferPlan.{BufferPlan}
 use Rattle.plan_core.specs.declared.sink.SinkPlan.{SinkPlan}
 use Rattle.plan_core.specs.declared.sink.SinkPlan.TheVariants.{Output, Feed}
 
@@ -47,7 +49,7 @@ HasKind (Crossfade overlap) children kind = kind ≡ children
 HasKind (Buffer number) children kind = kind ≡ children
 HasKind (Clock id) children kind = kind ≡ children
 
--- a pitch is above 0, and an overlap from 1 to 4194304 samples
+-- a pitch is above 0, and an overlap has at least a sample
 abbrev pub IsInRange : Op → Type 0
 IsInRange (Single file) = ⊤
 IsInRange (Playlist file again) = ⊤
@@ -61,7 +63,7 @@ IsInRange (Add normalize) = ⊤
 IsInRange (Amplify factor) = ⊤
 IsInRange Mean = ⊤
 IsInRange Stereo = ⊤
-IsInRange (Crossfade overlap) = (1 ≤ overlap) × (overlap ≤ 4194304)
+IsInRange (Crossfade overlap) = (1 ≤ overlap) × (overlap ≤ MAX_OVERLAP)
 IsInRange (Buffer number) = ⊤
 IsInRange (Clock id) = ⊤
 
@@ -83,28 +85,9 @@ own_crossfades (Crossfade overlap) = 1
 own_crossfades (Buffer number) = 0
 own_crossfades (Clock id) = 0
 
--- whether this is the reader of a buffer
-abbrev pub reads : ℕ → Op → Bool
-reads b (Single file) = false
-reads b (Playlist file again) = false
-reads b (Blank track) = false
-reads b (Square pitch) = false
-reads b Fail = false
-reads b (Fallback sensitive) = false
-reads b (Switch sensitive preds) = false
-reads b Sequence = false
-reads b (Add normalize) = false
-reads b (Amplify factor) = false
-reads b Mean = false
-reads b Stereo = false
-reads b (Crossfade overlap) = false
-reads b (Buffer number) = number == b
-reads b (Clock id) = false
-
--- whether this is the feed of a buffer
-abbrev pub feeds : ℕ → SinkPlan → Bool
-feeds b (Output name node fallible) = false
-feeds b (Feed buffer node) = buffer == b
+-- this is no reader of a buffer
+abbrev pub IsNoReader : Op → Type 0
+IsNoReader op = (buffer : ℕ) → op ≢ Buffer buffer
 
 -- the node of a sink
 abbrev pub sink_node : SinkPlan → ℕ
@@ -135,37 +118,74 @@ crossfades_from nodes node = crossfades_over (crossfade_counts nodes) node
 -- what a node over these nodes has to meet
 pub record IsNodeOver (below : List Node) (node : Node) : Type 0 where
   pub children : All (λ child. child < length below) node.children
-  pub few : length node.children ≤ 65535
+  pub few : length node.children ≤ MAX_CHILDREN
   pub number : HasChildren node.op (length node.children)
   pub kinds : (number : ℕ) (child : Node) → Contains node.children number → slice_get below number ≡ Some child
       → HasKind node.op child.kind node.kind
   pub range : IsInRange node.op
-  pub crossfades : crossfades_from below node ≤ 4
+  pub crossfades : crossfades_from below node ≤ MAX_CROSSFADES
 
 -- each node stands over the ones before it
 abbrev pub AreNodes : List Node → Type 0
 AreNodes nodes = (i : ℕ) (node : Node) → slice_get nodes i ≡ Some node → IsNodeOver (take i nodes) node
 
+-- sink i feeds the buffer from this node
+abbrev pub FeedsFrom : Plan → (buffer i node : ℕ) → Type 0
+FeedsFrom plan buffer i node = slice_get plan.sinks i ≡ Some (Feed buffer node)
+
+-- sink i feeds the buffer, from some node
+abbrev pub FeedsBuffer : Plan → (buffer i : ℕ) → Type 0
+FeedsBuffer plan buffer i = (node : ℕ) × FeedsFrom plan buffer i node
+
+-- node i reads the buffer
+abbrev pub ReadsBuffer : Plan → (buffer i : ℕ) → Type 0
+ReadsBuffer plan buffer i = (reader : Node) × (slice_get plan.nodes i ≡ Some reader) × (reader.op ≡ Buffer buffer)
+
+-- exactly one number is such
+abbrev pub IsOfOne : (ℕ → Type 0) → Type 0
+IsOfOne such = (i : ℕ) × such i × ((j : ℕ) → such j → j ≡ i)
+
 -- a reader has the kind of its feed's node
 abbrev pub ReadersHaveKind : Plan → Type 0
-ReadersHaveKind plan = (reader source : Node) (buffer node : ℕ) → Contains plan.nodes reader → reader.op ≡ Buffer buffer
-    → Contains plan.sinks (Feed buffer node) → slice_get plan.nodes node ≡ Some source → reader.kind ≡ source.kind
+ReadersHaveKind plan = (buffer i j node : ℕ) (reader source : Node) → slice_get plan.nodes i ≡ Some reader
+    → reader.op ≡ Buffer buffer → FeedsFrom plan buffer j node → slice_get plan.nodes node ≡ Some source
+    → reader.kind ≡ source.kind
+
+-- what a buffer has to meet
+abbrev pub IsBuffer : BufferPlan → Type 0
+IsBuffer buffer = (buffer.pre ≤ MAX_PREFILL) × (1 ≤ buffer.capacity) × (buffer.capacity ≤ MAX_CAPACITY)
 
 -- what every call that takes a plan may rely on
 pub record IsWellFormed (plan : Plan) : Type 0 where
-  pub rate : (8000 ≤ plan.rate) × (plan.rate ≤ 192000)
-  pub frame : (1 ≤ plan.frame) × (plan.frame ≤ 65536)
-  pub few_nodes : length plan.nodes ≤ 4096
+  pub rate : (MIN_RATE ≤ plan.rate) × (plan.rate ≤ MAX_RATE)
+  pub frame : (1 ≤ plan.frame) × (plan.frame ≤ MAX_FRAME)
+  pub few_nodes : length plan.nodes ≤ MAX_NODES
   pub few_sinks : length plan.sinks < 2 ^ 32
   pub nodes : AreNodes plan.nodes
   pub sinks : All (λ sink. sink_node sink < length plan.nodes) plan.sinks
-  pub fed : (buffer node : ℕ) → Contains plan.sinks (Feed buffer node) → buffer < length plan.buffers
-  pub read : (reader : Node) (buffer : ℕ) → Contains plan.nodes reader → reader.op ≡ Buffer buffer
-      → buffer < length plan.buffers
-  pub buffers : All (λ buffer. (buffer.pre ≤ 4194304) × (1 ≤ buffer.capacity) × (buffer.capacity ≤ 65536)) plan.buffers
-  pub one_feed : (buffer : ℕ) → buffer < length plan.buffers → count_by (λ sink. feeds buffer sink) plan.sinks ≡ 1
-  pub one_reader : (buffer : ℕ) → buffer < length plan.buffers → count_by (λ node. reads buffer node.op) plan.nodes ≡ 1
+  pub buffers : All IsBuffer plan.buffers
+  pub fed : (buffer i : ℕ) → FeedsBuffer plan buffer i → buffer < length plan.buffers
+  pub read : (buffer i : ℕ) → ReadsBuffer plan buffer i → buffer < length plan.buffers
+  pub one_feed : (buffer : ℕ) → buffer < length plan.buffers → IsOfOne (FeedsBuffer plan buffer)
+  pub one_reader : (buffer : ℕ) → buffer < length plan.buffers → IsOfOne (ReadsBuffer plan buffer)
   pub readers : ReadersHaveKind plan
+
+-- a plan with one node, one output, or one buffer more; a buffer comes with its reader and its feed
+abbrev pub with_node : Plan → Node → Plan
+with_node plan node = record plan { nodes = plan.nodes ++ node ∷ [] }
+
+abbrev pub with_output : Plan → (name : List ℕ) (node : ℕ) (fallible : Bool) → Plan
+with_output plan name node fallible = record plan { sinks = plan.sinks ++ Output name node fallible ∷ [] }
+
+abbrev pub reader_of : (buffer : ℕ) → Kind → Node
+reader_of buffer kind = record { op = Buffer buffer; kind = kind; children = [] }
+
+abbrev pub with_buffer : Plan → (source : ℕ) → Kind → BufferPlan → Plan
+with_buffer plan source kind buffer = record plan {
+  nodes = plan.nodes ++ reader_of (length plan.buffers) kind ∷ [];
+  sinks = plan.sinks ++ Feed (length plan.buffers) source ∷ [];
+  buffers = plan.buffers ++ buffer ∷ [];
+}
 
 -- a path down from a node: a child of it, a child of that one, and so on
 abbrev pub IsPathDown : List Node → ℕ → List ℕ → Type 0

@@ -1,5 +1,5 @@
 // A list of a plan.
-ghost use Rattle.std.specs.Prelude.{◌≡◌, List, [], ◌∷◌, ◌++◌, length, OnOk, OnErr};
+ghost use Rattle.std.specs.Prelude.{◌≡◌, List, [], ◌∷◌, ◌++◌, length, take, OnOk, OnErr};
 
 use liq_base::Memory;
 use std::alloc::Global;
@@ -64,5 +64,12 @@ impl<T: Drop> Items<T> {
     {
         self.items.push(item)?;
         Ok(())
+    }
+
+    /// Keeps the first `keep` items alone.
+    pub fn truncate(&mut self, keep: usize)
+        ensures { self.new ≡ take keep self.old }
+    {
+        self.items.truncate(keep);
     }
 }

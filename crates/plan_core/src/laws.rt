@@ -1,7 +1,11 @@
 // Laws of plans, for whatever goes over one. Each is a contract of a function that does nothing.
-ghost use Rattle.std.specs.Prelude.{◌≡◌, ℕ, ◌<◌, ◌≤◌, List, length, take, slice_get, slice_index, Some, Contains};
+ghost use Rattle.std.specs.Prelude.{◌≡◌, ℕ, ◌+◌, ◌^◌, ◌<◌, ◌≤◌, Bool, List, [], length, take, slice_get, slice_index, Some, Contains};
 ghost use Rattle.plan_core.specs.declared.node.Node.{Node};
-ghost use Rattle.plan_core.specs.Plans.{AreNodes, IsPathDown, crossfade_counts, crossfades_from, crossfades_on};
+ghost use Rattle.plan_core.specs.declared.plan.Plan.{Plan};
+ghost use Rattle.plan_core.specs.declared.sink.BufferPlan.{BufferPlan};
+ghost use Rattle.plan_core.specs.Plans.{AreNodes, IsPathDown, IsBuffer, IsNodeOver, IsNoReader, IsWellFormed, crossfade_counts, crossfades_from, crossfades_on, own_crossfades, with_buffer, with_node, with_output};
+
+use liq_base::limits::{MAX_CROSSFADES, MAX_FRAME, MAX_NODES, MAX_RATE, MIN_RATE};
 
 /// The children of a node are there, and have smaller numbers.
 pub fn children_are_below()
@@ -28,5 +32,37 @@ pub fn crossfades_on_paths()
         → (path : List ℕ) × IsPathDown nodes i path
         × (crossfades_on nodes i path ≡ slice_index (crossfade_counts nodes) i) }
     ensures four { (nodes : List Node) (i : ℕ) (path : List ℕ) → AreNodes nodes → IsPathDown nodes i path
-        → crossfades_on nodes i path ≤ 4 }
+        → crossfades_on nodes i path ≤ MAX_CROSSFADES }
+{}
+
+/// A well-formed plan stays so with one more node that is no reader and stands over the others.
+pub fn a_node_keeps_plans()
+    ensures { (plan : Plan) (node : Node) → IsWellFormed plan → length plan.nodes < MAX_NODES
+        → IsNodeOver plan.nodes node → IsNoReader node.op → IsWellFormed (with_node plan node) }
+{}
+
+/// A well-formed plan stays so with one more output of a node that is there.
+pub fn an_output_keeps_plans()
+    ensures { (plan : Plan) (name : List ℕ) (node : ℕ) (fallible : Bool) → IsWellFormed plan
+        → length plan.sinks + 1 < 2 ^ 32 → node < length plan.nodes → IsWellFormed (with_output plan name node fallible) }
+{}
+
+/// A well-formed plan stays so with one more buffer, its feed from a node that is there, and its reader of that node's
+/// kind.
+pub fn a_buffer_keeps_plans()
+    ensures { (plan : Plan) (source : ℕ) (from : Node) (buffer : BufferPlan) → IsWellFormed plan
+        → length plan.nodes < MAX_NODES → length plan.sinks + 1 < 2 ^ 32 → IsBuffer buffer
+        → slice_get plan.nodes source ≡ Some from → IsWellFormed (with_buffer plan source from.kind buffer) }
+{}
+
+/// A plan without nodes is well formed where its rate and its tick are in range.
+pub fn an_empty_plan_is_well_formed()
+    ensures { (rate frame : ℕ) → MIN_RATE ≤ rate → rate ≤ MAX_RATE → 1 ≤ frame → frame ≤ MAX_FRAME
+        → IsWellFormed (record { rate = rate; frame = frame; nodes = []; sinks = []; buffers = [] }) }
+{}
+
+/// A node that is no crossfade has no more crossfades on a path down than one of its children has.
+pub fn only_crossfades_add_crossfades()
+    ensures { (nodes : List Node) (node : Node) → AreNodes nodes → own_crossfades node.op ≡ 0
+        → crossfades_from nodes node ≤ MAX_CROSSFADES }
 {}

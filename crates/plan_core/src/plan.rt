@@ -1,10 +1,10 @@
 // Plans, and how a node is added.
-ghost use Rattle.std.specs.Prelude.{◌≡◌, ◌<◌, ◌≤◌, ◌↔◌, ◌++◌, ◌∷◌, [], length, All, IfOk, OnOk, OnErr, IsErrOf};
-ghost use Rattle.plan_core.specs.Plans.{crossfades_from, AreNodes, IsNodeOver};
+ghost use Rattle.std.specs.Prelude.{◌≡◌, ◌+◌, ◌^◌, ◌<◌, ◌≤◌, ◌↔◌, ◌++◌, ◌∷◌, [], length, All, IfOk, OnOk, OnErr, IsErrOf};
+ghost use Rattle.plan_core.specs.Plans.{crossfades_from, AreNodes, IsNodeOver, IsNoReader, IsWellFormed};
 
 use crate::{BufferPlan, Items, Node, SinkPlan};
 use liq_base::Memory;
-use liq_base::limits::MAX_NODES;
+use liq_base::limits::{MAX_CHILDREN, MAX_CROSSFADES, MAX_NODES};
 use std::fmt;
 
 /// What a script stands for: nodes, of which each has smaller numbers below it, sinks and buffers, each counted from 0.
@@ -63,14 +63,16 @@ impl Plan {
     /// unchanged after that, and where memory is refused.
     pub fn push_node(&mut self, node: Node) -> Result<u32, PlanFault>
         requires children { All (λ child. child < length self.old.nodes) node.children }
-        requires few { length node.children ≤ 65535 }
-        requires crossfades { crossfades_from self.old.nodes node ≤ 4 }
+        requires few { length node.children ≤ MAX_CHILDREN }
+        requires crossfades { crossfades_from self.old.nodes node ≤ MAX_CROSSFADES }
         ensures number { IfOk result (λ number. number ≡ length self.old.nodes) }
         ensures added { OnOk result (self.new ≡ record self.old { nodes = self.old.nodes ++ node ∷ [] }) }
-        ensures room { OnOk result (length self.old.nodes < 4096) }
+        ensures room { OnOk result (length self.old.nodes < MAX_NODES) }
         ensures kept { OnOk result
             (AreNodes self.old.nodes → IsNodeOver self.old.nodes node → AreNodes self.new.nodes) }
-        ensures full { IsErrOf result PlanFault.TooManySources ↔ (4096 ≤ length self.old.nodes) }
+        ensures well_formed { OnOk result (IsWellFormed self.old → IsNodeOver self.old.nodes node → IsNoReader node.op
+            → IsWellFormed self.new) }
+        ensures full { IsErrOf result PlanFault.TooManySources ↔ (MAX_NODES ≤ length self.old.nodes) }
         ensures unchanged { OnErr result (self.new ≡ self.old) }
     {
         let number = self.nodes.len();
@@ -79,5 +81,34 @@ impl Plan {
         }
         self.nodes.push(node)?;
         Ok(number as u32)
+    }
+
+    /// Adds a buffer and its feed, and answers the buffer's number. Where there is no room for both, the plan is as it
+    /// was.
+    pub(crate) fn push_fed(&mut self, source: u32, buffer: BufferPlan) -> Result<u32, Memory>
+        ensures number { IfOk result (λ number. number ≡ length self.old.buffers) }
+        ensures added { OnOk result (self.new ≡ record self.old {
+          sinks = self.old.sinks ++ SinkPlan.Feed (length self.old.buffers) source ∷ [];
+          buffers = self.old.buffers ++ buffer ∷ [];
+        }) }
+        ensures room { OnOk result (length self.old.sinks + 1 < 2 ^ 32) }
+        ensures unchanged { OnErr result (self.new ≡ self.old) }
+    {
+        let number = u32::try_from(self.buffers.len()).map_err(|_| Memory)?;
+        if self.sinks.len() >= u32::MAX as usize {
+            return Err(Memory);
+        }
+        self.buffers.push(buffer)?;
+        let feed = SinkPlan::Feed {
+            buffer: number,
+            node: source,
+        };
+        match self.sinks.push(feed) {
+            Ok(()) => Ok(number),
+            Err(refused) => {
+                self.buffers.truncate(number as usize);
+                Err(refused)
+            }
+        }
     }
 }

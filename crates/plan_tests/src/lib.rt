@@ -2,6 +2,8 @@
 #![tactic(auto)]
 
 #[cfg(test)]
+mod draft_tests;
+#[cfg(test)]
 mod plan_core_tests;
 #[cfg(test)]
 mod time_pred_tests;

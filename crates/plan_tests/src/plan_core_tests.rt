@@ -1,11 +1,9 @@
-//! Adding nodes, and a plan that is well formed.
-ghost use Rattle.std.specs.Prelude.{◌≡◌, [], IfOk};
-ghost use Rattle.plan_core.specs.Plans.{IsWellFormed};
+//! Adding nodes.
+ghost use Rattle.std.specs.Prelude.{◌≡◌, []};
 
-use fixed_text::Decimal;
-use liq_base::{Kind, Text};
-use plan_core::{BufferPlan, Items, Node, Op, Plan, PlanFault, Preds, SinkPlan};
-use std::alloc::{AllocError, Global};
+use liq_base::Kind;
+use plan_core::{Items, Node, Op, Plan, PlanFault, Preds};
+use std::alloc::Global;
 use std::test::Fail;
 use time_pred::Pred;
 
@@ -44,57 +42,6 @@ fn the_4097th_node_is_refused(rt: HostRuntime) -> Result<(), Fail> {
     );
     assert_eq!(rt; plan.nodes.len(), 4096);
     assert_eq!(rt; plan.rate, 44_100);
-    Ok(())
-}
-
-// A tone that is fed to a buffer, and the reader of the buffer, faded.
-fn buffered_tone(alloc: Global) -> Result<Plan, AllocError>
-    ensures { IfOk result IsWellFormed }
-{
-    let tone = Node {
-        op: Op::Square {
-            pitch: Decimal {
-                millionths: 440_000_000,
-            },
-        },
-        kind: Kind::Mono,
-        children: Items::new(alloc),
-    };
-    let reader = Node {
-        op: Op::Buffer(0),
-        kind: Kind::Mono,
-        children: Items::new(alloc),
-    };
-    let faded = Node {
-        op: Op::Crossfade { overlap: 4410 },
-        kind: Kind::Mono,
-        children: Items::from_vec(vec![in alloc; 1]?),
-    };
-    let feed = SinkPlan::Feed { buffer: 0, node: 0 };
-    let output = SinkPlan::Output {
-        name: Text::from_string(String::new(alloc)),
-        node: 2,
-        fallible: true,
-    };
-    let buffer = BufferPlan {
-        pre: 44_100,
-        capacity: 250,
-    };
-    Ok(Plan {
-        rate: 44_100,
-        frame: 1764,
-        nodes: Items::from_vec(vec![in alloc; tone, reader, faded]?),
-        sinks: Items::from_vec(vec![in alloc; feed, output]?),
-        buffers: Items::from_vec(vec![in alloc; buffer]?),
-    })
-}
-
-#[test]
-fn some_plan_is_well_formed(rt: HostRuntime) -> Result<(), Fail> {
-    let plan = buffered_tone(rt.alloc())?;
-    assert_eq!(rt; plan.nodes.len(), 3);
-    assert_eq!(rt; plan.sinks.len(), 2);
-    assert_eq!(rt; plan.buffers.len(), 1);
     Ok(())
 }
 

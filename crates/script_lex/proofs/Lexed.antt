@@ -1,5 +1,6 @@
 -- What is told of a text.
 use Rattle.std.proofs.Common.{◌≡◌, ◌≢◌, ℕ, ◌≤◌, List, length, refl, sym, ap, ◌∙◌, arith, Option, Some, None, ◌⊎◌, inl, inr}
+use Rattle.liq_base.specs.declared.limits.TheConstants.{MAX_SCRIPT_BYTES}
 use Rattle.script_lex.specs.Spelling.{Fault, Bad, Open, Large}
 use Rattle.script_lex.specs.Tokens.{Runs, AreTokens, HasFault, StandsIn, told}
 use Rattle.script_lex.specs.Gives.{IfFault, RunsInto, told_as}
@@ -17,7 +18,7 @@ some_is : (f g : Fault) → let x : Option Fault = Some f in x ≡ Some g → f 
 some_is f g is = cc
 
 -- a text with tokens has no fault
-pub no_fault : (text : List ℕ) (ts : List Token) (f : LexFault) → length text ≤ 1048576 → Runs text ts None → HasFault text f → ⊥
+pub no_fault : (text : List ℕ) (ts : List Token) (f : LexFault) → length text ≤ MAX_SCRIPT_BYTES → Runs text ts None → HasFault text f → ⊥
 no_fault text ts f short run fault = by_fault f fault
   where
     stands : (f : LexFault) → StandsIn text f → ⊥
@@ -34,7 +35,7 @@ no_tokens : (text : List ℕ) (f : Fault) (ts : List Token) → RunsInto text f 
 no_tokens text f ts fault run = none_some f (runs_one text ts fault.0 None (Some f) run fault.1).1
 
 -- a refusal is told as the fault of the text
-pub told_fault : (text : List ℕ) (e : Refusal) → length text ≤ 1048576 → IfFault e (RunsInto text) → told_as (length text) e ≢ faults.Memory → HasFault text (told_as (length text) e)
+pub told_fault : (text : List ℕ) (e : Refusal) → length text ≤ MAX_SCRIPT_BYTES → IfFault e (RunsInto text) → told_as (length text) e ≢ faults.Memory → HasFault text (told_as (length text) e)
 told_fault text refusals.Memory short h some = absurd (some refl)
 told_fault text (refusals.BadByte n) short h some = (short, (h.0, Bad n, h.1, refl))
 told_fault text (refusals.UnclosedString n) short h some = (short, (h.0, Open n, h.1, refl))
@@ -47,7 +48,7 @@ told_memory text (refusals.BadByte n) ts h are = absurd (no_tokens text (Bad n) 
 told_memory text (refusals.UnclosedString n) ts h are = absurd (no_tokens text (Open n) ts h are.1)
 told_memory text (refusals.NumberTooLarge n) ts h are = absurd (no_tokens text (Large n) ts h are.1)
 
-one_told : (text : List ℕ) (x : Fault) (f : LexFault) → length text ≤ 1048576 → RunsInto text x → HasFault text f → told (length text) x ≡ f
+one_told : (text : List ℕ) (x : Fault) (f : LexFault) → length text ≤ MAX_SCRIPT_BYTES → RunsInto text x → HasFault text f → told (length text) x ≡ f
 one_told text x f short run fault = by_fault f fault
   where
     stands : (f : LexFault) → StandsIn text f → told (length text) x ≡ f
@@ -61,7 +62,7 @@ one_told text x f short run fault = by_fault f fault
     by_fault (faults.NumberTooLarge n) h = stands (faults.NumberTooLarge n) h
 
 -- where the text has a fault, it is told, or want of memory
-pub told_only : (text : List ℕ) (e : Refusal) (f : LexFault) → length text ≤ 1048576 → IfFault e (RunsInto text) → HasFault text f → (told_as (length text) e ≡ f) ⊎ (told_as (length text) e ≡ faults.Memory)
+pub told_only : (text : List ℕ) (e : Refusal) (f : LexFault) → length text ≤ MAX_SCRIPT_BYTES → IfFault e (RunsInto text) → HasFault text f → (told_as (length text) e ≡ f) ⊎ (told_as (length text) e ≡ faults.Memory)
 told_only text refusals.Memory f short h fault = inr refl
 told_only text (refusals.BadByte n) f short h fault = inl (one_told text (Bad n) f short h fault)
 told_only text (refusals.UnclosedString n) f short h fault = inl (one_told text (Open n) f short h fault)

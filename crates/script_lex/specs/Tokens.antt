@@ -1,5 +1,6 @@
 -- The tokens of a text, and its fault.
 use Rattle.std.specs.Prelude.{◌≡◌, ℕ, ◌-◌, ◌<◌, ◌≤◌, Bool, true, false, ◌==◌, List, [], ◌∷◌, length, Option, Some, None, if◌then◌else◌}
+use Rattle.liq_base.specs.declared.limits.TheConstants.{MAX_SCRIPT_BYTES}
 use Rattle.script_lex.specs.Bytes.{is_blank}
 use Rattle.script_lex.specs.Spelling.{IsToken, Fault, Bad, Open, Large, FaultAt}
 use Rattle.script_lex.specs.declared.token.Token.{Token}
@@ -35,15 +36,15 @@ told total (Large left) = faults.NumberTooLarge (total - left)
 
 -- a fault stands behind some tokens, at its place
 abbrev pub StandsIn : List ℕ → LexFault → Type 0
-StandsIn text fault = (length text ≤ 1048576) × ((ts : List Token) × (stop : Fault) × Runs text ts (Some stop) × (fault ≡ told (length text) stop))
+StandsIn text fault = (length text ≤ MAX_SCRIPT_BYTES) × ((ts : List Token) × (stop : Fault) × Runs text ts (Some stop) × (fault ≡ told (length text) stop))
 
 -- the tokens of a text
 abbrev pub AreTokens : List ℕ → List Token → Type 0
-AreTokens text ts = (length text ≤ 1048576) × Runs text ts None
+AreTokens text ts = (length text ≤ MAX_SCRIPT_BYTES) × Runs text ts None
 
 -- the fault of a text: it is too long, or the fault is the first that stands in it
 abbrev pub HasFault : List ℕ → LexFault → Type 0
-HasFault text faults.TextTooLong = 1048576 < length text
+HasFault text faults.TextTooLong = MAX_SCRIPT_BYTES < length text
 HasFault text faults.Memory = ⊥
 HasFault text (faults.BadByte at) = StandsIn text (faults.BadByte at)
 HasFault text (faults.UnclosedString at) = StandsIn text (faults.UnclosedString at)

@@ -16,7 +16,7 @@ use std::alloc::Global;
 // Where the rest of a text begins.
 fn place(text: &[u8], rest: &[u8]) -> u32
     requires within { length rest.now ≤ length text.now }
-    requires small { length text.now ≤ 1048576 }
+    requires small { length text.now ≤ MAX_SCRIPT_BYTES }
     ensures { result ≡ length text.now - length rest.now }
 {
     (text.len() - rest.len()) as u32
@@ -25,7 +25,7 @@ fn place(text: &[u8], rest: &[u8]) -> u32
 // The fault, with its place from the text's start.
 fn told_as(total: usize, refusal: Refusal) -> LexFault
     requires within { left_of refusal ≤ total }
-    requires small { total ≤ 1048576 }
+    requires small { total ≤ MAX_SCRIPT_BYTES }
     ensures { result ≡ told_as total refusal }
 {
     match refusal {
@@ -38,7 +38,7 @@ fn told_as(total: usize, refusal: Refusal) -> LexFault
 
 // The tokens of a text that is not too long.
 fn tokens(alloc: Global, text: &[u8]) -> Result<Vec<Token>, Refusal>
-    requires { length text.now ≤ 1048576 }
+    requires { length text.now ≤ MAX_SCRIPT_BYTES }
     ensures tokens { IfOk result (λ v. Runs text.now v.items None) }
     ensures fault { IfErr result (λ e. IfFault e (RunsInto text.now)) }
     ensures within { IfErr result (λ e. left_of e ≤ length text.now) }

@@ -12,6 +12,7 @@ use crate::sign::sign_at;
 use crate::spans::{front, is_letter, is_quote, tail};
 use crate::token::TokenKind;
 use crate::word::word_at;
+use liq_base::limits::MAX_SCRIPT_BYTES;
 use liq_base::{Memory, Text};
 use std::alloc::Global;
 
@@ -51,7 +52,7 @@ fn text_from<'a>(
 // The text whose opening quote stands before these bytes.
 fn text_at(alloc: Global, quote: u8, bytes: &[u8]) -> Result<(TokenKind, &[u8]), Refusal>
     requires quote { is_quote quote ≡ true }
-    requires small { length bytes.now < 1048576 }
+    requires small { length bytes.now < MAX_SCRIPT_BYTES }
     ensures within { IfErr result (λ e. left_of e ≤ length bytes.now + 1) }
     ensures gives { Gives (λ x. x.0) (λ x. x.1.now) (text_at quote bytes.now) (length bytes.now + 1) result }
 {
@@ -66,7 +67,7 @@ fn text_at(alloc: Global, quote: u8, bytes: &[u8]) -> Result<(TokenKind, &[u8]),
 /// The token at the front.
 #[tactic(auto, unfolding(crate::specs::Reading::shape_at))]
 pub fn token_at(alloc: Global, bytes: &[u8]) -> Result<(TokenKind, &[u8]), Refusal>
-    requires { length bytes.now ≤ 1048576 }
+    requires { length bytes.now ≤ MAX_SCRIPT_BYTES }
     ensures within { IfErr result (λ e. left_of e ≤ length bytes.now) }
     ensures gives { Gives (λ x. x.0) (λ x. x.1.now) (shape_at bytes.now) (length bytes.now) result }
 {

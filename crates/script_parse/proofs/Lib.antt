@@ -2,3 +2,4 @@ mod Arms
 mod Exact
 mod Parsed
 mod Nesting
+mod Only

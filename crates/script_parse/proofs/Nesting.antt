@@ -5,6 +5,7 @@ use Rattle.std.specs.List.{count_by}
 use Rattle.std.proofs.lemmas.Bool.{cases_lt}
 use Rattle.std.proofs.lemmas.List.{get_or-map, length-map}
 use Rattle.std.proofs.lemmas.List.Sums.{count_by_more_yes, count_by_more_no}
+use Rattle.liq_base.specs.declared.limits.TheConstants.{MAX_NESTING}
 use Rattle.script_lex.specs.declared.token.Token.{Token}
 use Rattle.script_lex.specs.declared.token.TokenKind.{TokenKind}
 use Rattle.predicate_parse.specs.Gives.{kind_of, kinds}
@@ -32,14 +33,14 @@ at_most_one true n one zero = omega (arith, one refl)
 at_most_one false n one zero = omega (arith, zero refl)
 
 -- no token up to i nests too deep
-pub still_shallow : (ts : List Token) (i opened closed : ℕ) → opened ≡ count_by opens (take (i + 1) (kinds ts)) → closed ≡ count_by closes (take (i + 1) (kinds ts)) → opened ≤ closed + 200 → ((j : ℕ) → j < i → IsDeepAt (kinds ts) j → ⊥) → (j : ℕ) → j < i + 1 → IsDeepAt (kinds ts) j → ⊥
+pub still_shallow : (ts : List Token) (i opened closed : ℕ) → opened ≡ count_by opens (take (i + 1) (kinds ts)) → closed ≡ count_by closes (take (i + 1) (kinds ts)) → opened ≤ closed + MAX_NESTING → ((j : ℕ) → j < i → IsDeepAt (kinds ts) j → ⊥) → (j : ℕ) → j < i + 1 → IsDeepAt (kinds ts) j → ⊥
 still_shallow ts i opened closed o c le before j lt deep = elim (cases_lt j i) [
   | inl less ↦ before j less deep
   | inr more ↦
       let same : j ≡ i = omega (arith, lt, more) in
-      let here : 201 + count_by closes (take (i + 1) (kinds ts)) ≤ count_by opens (take (i + 1) (kinds ts)) = subst (λ (k : ℕ). IsDeepAt (kinds ts) k) same deep in
+      let here : count_by closes (take (i + 1) (kinds ts)) + MAX_NESTING < count_by opens (take (i + 1) (kinds ts)) = subst (λ (k : ℕ). IsDeepAt (kinds ts) k) same deep in
       absurd (omega (arith, here, o, c, le))
 ]
 
-pub deep_here : (ts : List Token) (i opened closed : ℕ) → i < length ts → opened ≡ count_by opens (take (i + 1) (kinds ts)) → closed ≡ count_by closes (take (i + 1) (kinds ts)) → closed + 200 < opened → ((j : ℕ) → j < i → IsDeepAt (kinds ts) j → ⊥) → IsDepthPlace (kinds ts) i
+pub deep_here : (ts : List Token) (i opened closed : ℕ) → i < length ts → opened ≡ count_by opens (take (i + 1) (kinds ts)) → closed ≡ count_by closes (take (i + 1) (kinds ts)) → closed + MAX_NESTING < opened → ((j : ℕ) → j < i → IsDeepAt (kinds ts) j → ⊥) → IsDepthPlace (kinds ts) i
 deep_here ts i opened closed lt o c more before = record { within = omega (arith, lt, length-map ts kind_of); here = omega (arith, o, c, more); first = before }

@@ -30,6 +30,6 @@ Whole tokens (Err (faults.Syntax k)) = IsSyntaxPlace tokens k
 
 -- why there is no script: the lesser place decides, and at equal places it is that of syntax
 abbrev pub IsFault : List TokenKind → ParseFault → Type 0
-IsFault tokens answers.Memory = Unit {0}
+IsFault tokens answers.Memory = ⊥
 IsFault tokens (answers.Syntax k) = IsSyntaxPlace tokens k × ((d : ℕ) → d < k → IsDeepAt tokens d → ⊥)
 IsFault tokens (answers.TooDeep d) = IsDepthPlace tokens d × ((k : ℕ) → IsSyntaxPlace tokens k → d < k)

@@ -1,5 +1,6 @@
 -- The places at which tokens are no script: where syntax ends, and where brackets nest too deep.
 use Rattle.std.specs.Prelude.{◌≡◌, ℕ, ◌+◌, ◌<◌, ◌≤◌, List, ◌++◌, length, take, count_by, Bool, true, false}
+use Rattle.liq_base.specs.declared.limits.TheConstants.{MAX_NESTING}
 use Rattle.script_lex.specs.declared.token.TokenKind.{TokenKind}
 use Rattle.script_lex.specs.declared.token.TokenKind.TheVariants.{NameOpen, Keyword, Symbol}
 use Rattle.script_lex.specs.declared.token.Keyword.TheVariants as word
@@ -34,9 +35,9 @@ closes (Symbol sign.CloseCurly) = true
 closes (Keyword word.End) = true
 closes k = false
 
--- the nesting at token k, what is opened less what is closed among tokens 0 to k, is at least 201
+-- the nesting at token k, what is opened less what is closed among tokens 0 to k, is more than may be
 abbrev pub IsDeepAt : List TokenKind → ℕ → Type 0
-IsDeepAt tokens k = 201 + count_by closes (take (k + 1) tokens) ≤ count_by opens (take (k + 1) tokens)
+IsDeepAt tokens k = count_by closes (take (k + 1) tokens) + MAX_NESTING < count_by opens (take (k + 1) tokens)
 
 -- and at no token before
 pub record IsDepthPlace (tokens : List TokenKind) (k : ℕ) : Type 0 where

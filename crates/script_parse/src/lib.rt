@@ -2,6 +2,7 @@
 #![tactic(auto)]
 
 mod fault;
+pub mod law;
 mod script;
 mod statement;
 

@@ -1,24 +1,24 @@
 // A script, or the first place that rules one out.
-ghost use Rattle.std.specs.Prelude.{◌≡◌, ℕ, ◌<◌, ◌^◌, length, IfOk, IfErr, IfSome, IfNone};
+ghost use Rattle.std.specs.Prelude.{◌≡◌, ◌≢◌, ℕ, ◌<◌, ◌^◌, ◌⊎◌, length, Err, IfOk, IfErr, IfSome, IfNone, IsOkUnless};
+ghost use Rattle.script_grammar.specs.Tree.{Script as PlainScript};
 ghost use Rattle.script_grammar.specs.Spelling.{spelling};
 ghost use Rattle.script_grammar.specs.Placed.{IsPlaced};
 ghost use Rattle.script_grammar.specs.View.{view_script};
 ghost use Rattle.script_grammar.specs.Whole.{IsWhole};
 ghost use Rattle.predicate_parse.specs.Gives.{kinds};
 ghost use Rattle.script_parse.specs.Places.{opens, closes, IsDeepAt, IsDepthPlace};
+ghost use Rattle.script_parse.specs.declared.fault.ParseFault.{ParseFault as FaultOfTokens};
 ghost use Rattle.script_parse.specs.Answer.{Whole, IsParsed, IsShallow, IsFault};
 
 use crate::fault::ParseFault;
 use crate::statement::statements;
+use liq_base::limits::MAX_NESTING;
 use predicate_parse::Fault;
-use script_grammar::law::reads_again;
+use script_grammar::law::{one_placed_script, reads_again};
 use script_grammar::tree::Script;
 use script_lex::{Keyword, Symbol, Token, TokenKind};
 use script_reading::law::{faults_are_steady, reads_spellings};
 use std::alloc::Global;
-
-// The levels that brackets may nest.
-const MAX_NESTING: usize = 200;
 
 fn opens(kind: &TokenKind) -> bool
     ensures { result ≡ opens kind.now }
@@ -52,7 +52,7 @@ fn depth_place(tokens: &[Token]) -> Option<usize>
     for (i, token) in tokens.iter().enumerate() {
         opened += usize::from(opens(&token.kind));
         closed += usize::from(closes(&token.kind));
-        if opened > closed + MAX_NESTING {
+        if opened > closed + MAX_NESTING as usize {
             return Some(i);
         }
     }
@@ -79,7 +79,7 @@ fn whole(alloc: Global, tokens: &[Token]) -> Result<Script, Fault>
 fn front(alloc: Global, tokens: &[Token], d: usize) -> ParseFault
     requires small { length tokens.now < 2 ^ 32 }
     requires deep { IsDepthPlace (kinds tokens.now) d }
-    ensures { IsFault (kinds tokens.now) result }
+    ensures { result ≢ ParseFault.Memory → IsFault (kinds tokens.now) result }
 {
     match whole(alloc, &tokens[..d + 1]) {
         Ok(_) => ParseFault::TooDeep(d as u32),
@@ -94,21 +94,13 @@ fn front(alloc: Global, tokens: &[Token], d: usize) -> ParseFault
     }
 }
 
-/// The script that the tokens spell, those of a text (`docs/grammar.md`). It answers the script exactly where there is
-/// one and brackets nest at most 200 deep, each field `at` being the index of its token; and else the first fault.
-/// The text itself is not read: tokens hold all that a script's tree is made of.
-///
-/// # Errors
-///
-/// `Syntax`: the least token such that no script begins with the tokens up to it, or the number of tokens where only more
-/// of them are missing. `TooDeep`: the first token at which 201 brackets are open. The lesser place decides, and at equal
-/// places it is `Syntax`. `Memory`: memory was refused, or there are 2^32 tokens and more, whose places have no number.
-pub fn parse(alloc: Global, _text: &[u8], tokens: &[Token]) -> Result<Script, ParseFault>
+// The script, or the fault.
+fn answer(alloc: Global, tokens: &[Token]) -> Result<Script, ParseFault>
     ensures spelled { IfOk result (λ s. spelling (view_script s) ≡ kinds tokens.now) }
     ensures placed { IfOk result (λ s. IsPlaced 0 (view_script s)) }
     ensures whole { IfOk result IsWhole }
     ensures shallow { IfOk result (λ s. IsShallow (kinds tokens.now)) }
-    ensures fault { IfErr result (IsFault (kinds tokens.now)) }
+    ensures fault { IfErr result (λ e. e ≢ ParseFault.Memory → IsFault (kinds tokens.now) e) }
 {
     if tokens.len() > u32::MAX as usize {
         return Err(ParseFault::Memory);
@@ -121,4 +113,30 @@ pub fn parse(alloc: Global, _text: &[u8], tokens: &[Token]) -> Result<Script, Pa
             Err(Fault::Memory) => Err(ParseFault::Memory),
         },
     }
+}
+
+/// The script that the tokens spell, those of a text (`docs/grammar.md`). It answers the script exactly where there is
+/// one and brackets nest at most `MAX_NESTING` deep, each field `at` being the index of its token; and else the first
+/// fault; only want of memory may come in place of either. The text itself is not read: tokens hold all that a script's
+/// tree is made of.
+///
+/// # Errors
+///
+/// `Syntax`: the least token such that no script begins with the tokens up to it, or the number of tokens where only more
+/// of them are missing. `TooDeep`: the first token at which more brackets are open. The lesser place decides, and at equal
+/// places it is `Syntax`. `Memory`: memory was refused, or there are 2^32 tokens and more, whose places have no number.
+pub fn parse(alloc: Global, _text: &[u8], tokens: &[Token]) -> Result<Script, ParseFault>
+    ensures spelled { IfOk result (λ s. spelling (view_script s) ≡ kinds tokens.now) }
+    ensures placed { IfOk result (λ s. IsPlaced 0 (view_script s)) }
+    ensures whole { IfOk result IsWhole }
+    ensures shallow { IfOk result (λ s. IsShallow (kinds tokens.now)) }
+    ensures only { (s : PlainScript) → spelling s ≡ kinds tokens.now → IsPlaced 0 s → IsShallow (kinds tokens.now)
+        → IsOkUnless result ParseFault.Memory × IfOk result (λ found. view_script found ≡ s) }
+    ensures fault { IfErr result (λ e. e ≢ ParseFault.Memory → IsFault (kinds tokens.now) e) }
+    ensures only_fault { (e : FaultOfTokens) → IsFault (kinds tokens.now) e
+        → (result ≡ Err e) ⊎ (result ≡ Err ParseFault.Memory) }
+{
+    // a law of the grammar, which the proof rests on: this call does nothing
+    one_placed_script();
+    answer(alloc, tokens)
 }

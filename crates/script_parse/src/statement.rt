@@ -184,7 +184,7 @@ fn bind_of<'a>(
     ensures gives { Gives (λ x. (view_bind x.0, kinds x.1.now)) result (bind_of loose (places total) at name.now (kinds tokens.now)) }
     ensures whole { IfOk result (λ x. IsWholeBind x.0) }
 {
-    let name = Text::from_str(alloc, name.as_str())?;
+    let name = name.copy(alloc)?;
     let (_assign, rest) = expect_assign(tokens)?;
     let (value, rest) = value(alloc, total, loose, rest)?;
     Ok((Bind { at, name, value }, rest))
@@ -238,7 +238,7 @@ fn param(alloc: Global, total: usize, tokens: &[Token]) -> Result<(Param, &[Toke
             rest @ ..,
         ] => {
             let at = place(total, tokens);
-            let name = Text::from_str(alloc, name.as_str())?;
+            let name = name.copy(alloc)?;
             let form = ParamForm::Plain;
             Ok((Param { at, name, form }, rest))
         }
@@ -286,7 +286,7 @@ fn label_of<'a>(
     if assign {
         default_of(alloc, total, at, name, rest)
     } else {
-        let name = Text::from_str(alloc, name.as_str())?;
+        let name = name.copy(alloc)?;
         let form = ParamForm::Labelled;
         Ok((Param { at, name, form }, rest))
     }
@@ -306,7 +306,7 @@ fn default_of<'a>(
     ensures gives { Gives (λ x. (view_param x.0, kinds x.1.now)) result (default_of (places total) at name.now (kinds tokens.now)) }
     ensures whole { IfOk result (λ x. IsWholeParam x.0) }
 {
-    let name = Text::from_str(alloc, name.as_str())?;
+    let name = name.copy(alloc)?;
     let (default, rest) = value(alloc, total, false, tokens)?;
     let form = ParamForm::Optional(default);
     Ok((Param { at, name, form }, rest))
@@ -424,7 +424,7 @@ fn def_of<'a>(
     ensures gives { Gives (λ x. (view_def x.0, kinds x.1.now)) result (def_of (places total) at name.now (kinds tokens.now)) }
     ensures whole { IfOk result (λ x. IsWholeDef x.0) }
 {
-    let name = Text::from_str(alloc, name.as_str())?;
+    let name = name.copy(alloc)?;
     let (params, rest) = params(alloc, total, tokens)?;
     let (equals, rest) = perhaps_assign(rest);
     let (inner, rest) = inners(alloc, total, rest)?;

@@ -14,4 +14,6 @@ mod script_lex_tests;
 #[cfg(test)]
 mod script_parse_tests;
 #[cfg(test)]
+mod text_key_tests;
+#[cfg(test)]
 mod value_parse_tests;

@@ -11,8 +11,8 @@ returns c =
     let d = c.args.d in
     let front = take-map kind_of (d + 1) c.args.tokens.now in
     elim c.match-whole.branch [
-      | in-Ok x ↦ rw x.result-is (deep_by_script w d x.in-Ok.field-0 c.requires.deep (rw front x.in-Ok.ensures))
-      | in-Err-Syntax+then-k-d x ↦ rw x.result-is (syntax_first w d x.in-Err-Syntax.k c.requires.deep x.if-k-d.true (rw front (rw x.in-Err-Syntax.field-0-is at x.in-Err-Syntax.ensures)))
-      | in-Err-Syntax+else-k-d x ↦ rw x.result-is (deep_by_place w d x.in-Err-Syntax.k c.requires.deep x.if-k-d.false (rw front (rw x.in-Err-Syntax.field-0-is at x.in-Err-Syntax.ensures)))
-      | in-Err-Memory x ↦ rw x.result-is tt
+      | in-Ok x ↦ λ some. rw x.result-is (deep_by_script w d x.in-Ok.field-0 c.requires.deep (rw front x.in-Ok.ensures))
+      | in-Err-Syntax+then-k-d x ↦ λ some. rw x.result-is (syntax_first w d x.in-Err-Syntax.k c.requires.deep x.if-k-d.true (rw front (rw x.in-Err-Syntax.field-0-is at x.in-Err-Syntax.ensures)))
+      | in-Err-Syntax+else-k-d x ↦ λ some. rw x.result-is (deep_by_place w d x.in-Err-Syntax.k c.requires.deep x.if-k-d.false (rw front (rw x.in-Err-Syntax.field-0-is at x.in-Err-Syntax.ensures)))
+      | in-Err-Memory x ↦ λ some. absurd (some x.result-is)
     ]
