@@ -1,6 +1,5 @@
-//! Tests of the public calls of the engine: each once with ample memory against its answer, worked rows.
-//! Worked rows of the operators and of the engine.
-//! Worked rows of the operators, of the engine and of its buffers.
+//! Tests of the public calls of operators, of the engine and of its buffers: each once with ample memory against its
+//! answer, worked rows.
 #![tactic(auto)]
 
 #[cfg(test)]
