@@ -2,8 +2,8 @@
 #![tactic(auto)]
 
 #[cfg(test)]
-mod plan_core;
+mod plan_core_calls;
 #[cfg(test)]
-mod time_pred;
+mod time_pred_calls;
 #[cfg(test)]
-mod type_terms;
+mod type_terms_calls;

@@ -2,4 +2,4 @@
 #![tactic(auto)]
 
 #[cfg(test)]
-mod liq_cli;
+mod liq_cli_calls;

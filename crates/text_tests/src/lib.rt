@@ -2,16 +2,16 @@
 #![tactic(auto)]
 
 #[cfg(test)]
-mod fixed_text;
+mod fixed_text_calls;
 #[cfg(test)]
-mod liq_base;
+mod liq_base_calls;
 #[cfg(test)]
-mod predicate_parse;
+mod predicate_parse_calls;
 #[cfg(test)]
-mod script_grammar;
+mod script_grammar_calls;
 #[cfg(test)]
-mod script_lex;
+mod script_lex_calls;
 #[cfg(test)]
-mod script_parse;
+mod script_parse_calls;
 #[cfg(test)]
-mod value_parse;
+mod value_parse_calls;
