@@ -1,0 +1,5 @@
+//! Worked rows of audio files and leaves.
+#![tactic(auto)]
+
+#[cfg(test)]
+mod op_leaf_tests;
