@@ -126,7 +126,12 @@ fn a_square_of_2000_at_8000_changes_every_two_samples(rt: HostRuntime) -> Result
     });
     let low = inner(-8192, -8192);
     let high = inner(8192, 8192);
-    check(&rt, &mut leaf, &library, &[first(8192, 8192), high, low, low]);
+    check(
+        &rt,
+        &mut leaf,
+        &library,
+        &[first(8192, 8192), high, low, low],
+    );
     check(&rt, &mut leaf, &library, &[high, high, low, low]);
     Ok(())
 }
@@ -139,7 +144,20 @@ fn a_blank_of_12_samples_begins_at_each_twelfth(rt: HostRuntime) -> Result<(), F
     assert_eq!(rt; track, 12);
     let mut leaf = LeafState::new(Leaf::Blank { track });
     let zero = inner(0, 0);
-    let round = [first(0, 0), zero, zero, zero, zero, zero, zero, zero, zero, zero, zero, zero];
+    let round = [
+        first(0, 0),
+        zero,
+        zero,
+        zero,
+        zero,
+        zero,
+        zero,
+        zero,
+        zero,
+        zero,
+        zero,
+        zero,
+    ];
     check(&rt, &mut leaf, &library, &round);
     check(&rt, &mut leaf, &library, &round);
     check(&rt, &mut leaf, &library, &[first(0, 0), zero]);
