@@ -1,0 +1,5 @@
+//! Tests of the crates that look a plan over.
+#![tactic(auto)]
+
+#[cfg(test)]
+mod clock_infer;
