@@ -115,14 +115,26 @@ fn each_in_the_other(alloc: Global) -> Result<Plan, AllocError>
     })
 }
 
-// A blank under the clock "a" is fed to a buffer, whose reader is written under the clock "b".
+// A blank is fed to a buffer, whose reader is written under the clock "b".
 fn fed(alloc: Global) -> Result<Plan, AllocError>
     ensures { IfOk result IsWellFormed }
 {
-    let a = mono(clock(alloc, "a")?, vec![in alloc; 0]?);
-    let reader = mono(Op::Buffer(0), Vec::new(alloc));
-    let b = mono(clock(alloc, "b")?, vec![in alloc; 2]?);
-    let feed = SinkPlan::Feed { buffer: 0, node: 1 };
+    let blank = Node {
+        op: Op::Blank { track: 0 },
+        kind: Kind::Mono,
+        children: Items::new(alloc),
+    };
+    let reader = Node {
+        op: Op::Buffer(0),
+        kind: Kind::Mono,
+        children: Items::new(alloc),
+    };
+    let b = Node {
+        op: clock(alloc, "b")?,
+        kind: Kind::Mono,
+        children: Items::from_vec(vec![in alloc; 1]?),
+    };
+    let feed = SinkPlan::Feed { buffer: 0, node: 0 };
     let buffer = BufferPlan {
         pre: 88,
         capacity: 1,
@@ -130,8 +142,8 @@ fn fed(alloc: Global) -> Result<Plan, AllocError>
     Ok(Plan {
         rate: 44_100,
         frame: 1764,
-        nodes: Items::from_vec(vec![in alloc; blank(alloc), a, reader, b]?),
-        sinks: Items::from_vec(vec![in alloc; feed, output(alloc, 3)]?),
+        nodes: Items::from_vec(vec![in alloc; blank, reader, b]?),
+        sinks: Items::from_vec(vec![in alloc; feed, output(alloc, 2)]?),
         buffers: Items::from_vec(vec![in alloc; buffer]?),
     })
 }
@@ -225,7 +237,7 @@ fn feeds_number_clocks_like_outputs(rt: HostRuntime) -> Result<(), Fail> {
     let alloc = rt.alloc();
     assert_eq!(rt;
         told(alloc, assign(alloc, &fed(alloc)?))?.as_str(),
-        "a b 2 run: 0 0 1 1"
+        "main b 2 run: 0 1 1"
     );
     Ok(())
 }
