@@ -1,14 +1,14 @@
 -- Each step keeps the rule.
-use Rattle.std.proofs.Common.{◌≡◌, ◌≢◌, ℕ, zero, suc, ◌<◌, ◌≤◌, Bool, true, false, true≢false, List, [], ◌∷◌, ◌++◌, length, map, drop, set, sym, refl, ap, ◌∙◌, subst, ⊎_elim, arith}
+use Rattle.std.proofs.Common.{◌≡◌, ◌≢◌, ℕ, zero, suc, ◌≤◌, true, false, true≢false, List, [], ◌∷◌, ◌++◌, length, set, sym, refl, ap, ◌∙◌, subst, ⊎_elim, arith}
 use mathlib.Core.Option.{some, some-ne-none, some-injective}
 use lib.ListN.{get_elem?}
 use Rattle.crossbeam_queue.specs.Fifo.{Pushes, Pops, Forks, Merges, Learns}
 use Rattle.crossbeam_queue.proofs.Lists.{at_set, at_snoc}
-use Rattle.frame_core.specs.Order.{Move, puts_of, gots_of, Ordered, last_or, left_by}
+use Rattle.frame_core.specs.Order.{Move, left_by}
 use Rattle.frame_core.specs.Order.Move.{Put, Got}
-use Rattle.frame_core.proofs.Laws.{puts_of-put, puts_of-got, gots_of-put, gots_of-got, ordered_put, ordered_got, ordered_most, full_left, empty_left, ordered_left, no_moves}
+use Rattle.frame_core.proofs.Laws.{puts_of-put, puts_of-got, gots_of-put, gots_of-got, ordered_put, ordered_got, ordered_most, full_left, empty_left, ordered_left, ordered_sum}
 use Rattle.buffer_queue.specs.declared.rule.View.{View}
-use Rattle.buffer_queue.specs.Rule.{Samples, idle, newcomer, contents_of, putter, taker, both, FitsView, Holds, Put, Got, Fills, Drains, Whole}
+use Rattle.buffer_queue.specs.Rule.{Cells, idle, newcomer, contents_of, putter, taker, both, FitsView, Holds, IsPut, IsGot, Fills, Drains, Whole}
 
 at_end : (l : List View) (a b : View) (j : ℕ) → get_elem? l j ≢ some b → get_elem? (l ++ a ∷ []) j ≡ some b → j ≡ length l
 at_end [] a b zero n e = refl
@@ -30,13 +30,13 @@ begins = (0, 0, 0, [], [], omega arith, refl, λ port v e. begin port v e)
     begin zero v e = let is : newcomer ≡ v = some-injective newcomer v e in subst (λ (u : View). FitsView 0 0 0 [] [] 0 u) is ((λ _. (refl, refl, refl, refl)), λ _. (refl, refl, refl, refl))
     begin (suc port) v e = absurd (some-ne-none v (sym e))
 
-pub puts : (n port : ℕ) (v : View) (x : Samples) → v.puts ≡ true → v.capacity ≡ n → v.takes ≡ false → Pushes Holds n port v x (Put v x)
+pub puts : (n port : ℕ) (v : View) (x : Cells) → v.puts ≡ true → v.capacity ≡ n → v.takes ≡ false → Pushes Holds n port v x (IsPut v x)
 puts n port v x may cap not items views room h at =
     let C = h.0 in let writer = h.1 in let reader = h.2 in let q = h.3 in let es = h.4 in let all = h.7 in
     let mine = (all port v at).0 may in
     let k : ℕ = length (items ++ x ∷ []) in
     let w : View = record v { put = v.put ++ (x, k) ∷ [] } in
-    let es' : List (Move Samples) = es ++ put x k ∷ [] in (
+    let es' : List (Move Cells) = es ++ Put x k ∷ [] in (
       w,
       (
         C,
@@ -53,13 +53,13 @@ puts n port v x may cap not items views room h at =
       (k, refl),
     )
 
-pub takes : (port : ℕ) (v : View) → v.takes ≡ true → v.puts ≡ false → Pops Holds port v (Got v)
+pub takes : (port : ℕ) (v : View) → v.takes ≡ true → v.puts ≡ false → Pops Holds port v (IsGot v)
 takes port v may not x items views h at =
     let C = h.0 in let writer = h.1 in let reader = h.2 in let q = h.3 in let es = h.4 in let all = h.7 in
     let mine = (all port v at).1 may in
     let k : ℕ = length items in
     let w : View = record v { got = v.got ++ (x, k) ∷ [] } in
-    let es' : List (Move Samples) = es ++ got x k ∷ [] in (
+    let es' : List (Move Cells) = es ++ Got x k ∷ [] in (
       w,
       (
         C,
@@ -80,13 +80,13 @@ pub fills : (port : ℕ) (v : View) → v.puts ≡ true → Learns Holds port v 
 fills port v may items views h at e =
     let mine = (h.7 port v at).0 may in
     let r = full_left h.0 h.4 h.3 items h.5 h.6 (e ∙ mine.1) in
-    rw (mine.1, mine.2, mine.3) r
+    rw (mine.1, mine.2, mine.3) (r, omega (arith, ordered_sum h.0 h.4 h.3 items h.6, e, mine.1))
 
 pub drains : (port : ℕ) (v : View) → v.takes ≡ true → Learns Holds port v (Drains v)
 drains port v may items views h at e =
     let mine = (h.7 port v at).1 may in
     let r = empty_left h.0 h.4 h.3 items h.6 e in
-    rw (mine.2, mine.3) r
+    rw (mine.2, mine.3) (r, omega (arith, ordered_sum h.0 h.4 h.3 items h.6, e))
 
 pub whole : (port : ℕ) (v : View) → v.puts ≡ true → v.takes ≡ true → Learns Holds port v (Whole v)
 whole port v a b items views h at =
@@ -115,7 +115,7 @@ merges port v other u a b items views h at two at' =
     )
 
 -- what a pass with both roles knows of the contents
-pub contents : (v : View) (items : List Samples) → Whole v items → items ≡ contents_of v
+pub contents : (v : View) (items : List Cells) → Whole v items → items ≡ contents_of v
 contents v items w = ordered_left v.capacity w.0 v.opening items w.2 ∙ (λ i. left_by v.opening (w.3 i) (w.4 i))
 
 pub opens : (port : ℕ) (v : View) (n : ℕ) → v.puts ≡ true → v.takes ≡ true → v.capacity ≤ n → Forks Holds port v (putter n v) (taker n v)
@@ -161,5 +161,5 @@ spares port v items views h at =
     )
 
 -- what was learned holds of the contents
-pub known : (v : View) → (items : List Samples) × Whole v items → Whole v (contents_of v)
-known v k = subst (λ (l : List Samples). Whole v l) (contents v k.0 k.1) k.1
+pub known : (v : View) → (items : List Cells) × Whole v items → Whole v (contents_of v)
+known v k = subst (λ (l : List Cells). Whole v l) (contents v k.0 k.1) k.1

@@ -1,12 +1,14 @@
 -- What the two passes of a queue know, and the rule over them.
-use Rattle.std.specs.Prelude.{◌≡◌, ℕ, ◌≤◌, Bool, true, false, List, [], ◌∷◌, ◌++◌, length, map, drop}
+use Rattle.std.specs.Prelude.{◌≡◌, ℕ, ◌+◌, ◌≤◌, true, false, List, [], ◌∷◌, ◌++◌, length}
 use mathlib.Core.Option.{some}
 use lib.ListN.{get_elem?}
+use Rattle.frame_core.specs.declared.cell.Cell.{Cell}
 use Rattle.frame_core.specs.Order.{Move, puts_of, gots_of, Ordered, last_or, left_by}
 use Rattle.buffer_queue.specs.declared.rule.View.{View}
 
-abbrev pub Samples : Type 0
-Samples = List ℕ
+-- the cells of a chunk
+abbrev pub Cells : Type 0
+Cells = List Cell
 
 -- a pass with neither role knows nothing
 abbrev pub idle : View
@@ -17,46 +19,53 @@ abbrev pub newcomer : View
 newcomer = record { capacity = 0; puts = true; takes = true; opening = []; put = []; since = []; got = [] }
 
 -- what the queue holds, as a pass with both roles knows it
-abbrev pub contents_of : View → List Samples
+abbrev pub contents_of : View → List Cells
 contents_of v = left_by v.opening v.put v.got
 
--- the next window: it opens with the contents. `putter` has the puts, `taker` the takes
+-- the two passes of the next window, which opens with the contents: one has the puts, the other the takes
 abbrev pub putter : ℕ → View → View
 putter n v = record { capacity = n; puts = true; takes = false; opening = contents_of v; put = []; since = []; got = [] }
 
 abbrev pub taker : ℕ → View → View
 taker n v = record { capacity = n; puts = false; takes = true; opening = []; put = []; since = contents_of v; got = [] }
 
+-- both roles in one pass
 abbrev pub both : View → View → View
 both v w = record { capacity = v.capacity; puts = true; takes = true; opening = v.opening; put = v.put; since = w.since; got = w.got }
 
 -- the pass of each role is the only one, and knows the capacity, the window's opening contents and the moves of its role
-abbrev pub FitsView : ℕ → ℕ → ℕ → List Samples → List (Move Samples) → ℕ → View → Type 0
-FitsView C writer reader q es port v =
-    (v.puts ≡ true → (port ≡ writer) × (v.capacity ≡ C) × (v.opening ≡ q) × (v.put ≡ puts_of es))
-    × (v.takes ≡ true → (port ≡ reader) × (v.capacity ≡ C) × (v.since ≡ q) × (v.got ≡ gots_of es))
+abbrev pub FitsView : ℕ → ℕ → ℕ → List Cells → List (Move Cells) → ℕ → View → Type 0
+FitsView capacity writer reader queue moves port v =
+    (v.puts ≡ true → (port ≡ writer) × (v.capacity ≡ capacity) × (v.opening ≡ queue) × (v.put ≡ puts_of moves))
+    × (v.takes ≡ true → (port ≡ reader) × (v.capacity ≡ capacity) × (v.since ≡ queue) × (v.got ≡ gots_of moves))
 
--- Some order of the accepted puts and of the chunks got leads from the opening contents to the contents, and the numbers are those of this order
-abbrev pub Holds : List Samples → List View → Type 0
+-- The rule: some order of the accepted puts and of the chunks got leads from the window's opening contents to the
+-- contents, and the numbers that the passes know are those of this order.
+abbrev pub Holds : List Cells → List View → Type 0
 Holds items views =
-    (C : ℕ) × (writer : ℕ) × (reader : ℕ) × (q : List Samples) × (es : List (Move Samples)) × (length q ≤ C) × Ordered C q es items
-    × ((port : ℕ) (v : View) → get_elem? views port ≡ some v → FitsView C writer reader q es port v)
+    (capacity : ℕ) × (writer : ℕ) × (reader : ℕ) × (queue : List Cells) × (moves : List (Move Cells))
+    × (length queue ≤ capacity) × Ordered capacity queue moves items
+    × ((port : ℕ) (v : View) → get_elem? views port ≡ some v → FitsView capacity writer reader queue moves port v)
 
--- what a step tells: of the view before, the chunk and the view after
-abbrev pub Put : View → Samples → View → Type 0
-Put v x w = (n : ℕ) × (w ≡ record v { put = v.put ++ (x, n) ∷ [] })
+-- what a step tells, of the view before, the chunk and the view after
+abbrev pub IsPut : View → Cells → View → Type 0
+IsPut v x w = (n : ℕ) × (w ≡ record v { put = v.put ++ (x, n) ∷ [] })
 
-abbrev pub Got : View → Samples → View → Type 0
-Got v x w = (n : ℕ) × (w ≡ record v { got = v.got ++ (x, n) ∷ [] })
+abbrev pub IsGot : View → Cells → View → Type 0
+IsGot v x w = (n : ℕ) × (w ≡ record v { got = v.got ++ (x, n) ∷ [] })
 
--- of a queue that is full: the last accepted put, or the opening, left as many chunks as it holds
-abbrev pub Fills : View → List Samples → Type 0
-Fills v items = length items ≡ v.capacity → last_or (length v.opening) v.put ≡ v.capacity
+-- Of a full queue: the last accepted put, or the opening, left as many chunks as the queue may hold, and so many were
+-- there or put.
+abbrev pub Fills : View → List Cells → Type 0
+Fills v items =
+    length items ≡ v.capacity → (last_or (length v.opening) v.put ≡ v.capacity) × (v.capacity ≤ length v.opening + length v.put)
 
--- of a queue that is empty: the last chunk got, or the opening, left none
-abbrev pub Drains : View → List Samples → Type 0
-Drains v items = length items ≡ 0 → last_or (length v.since) v.got ≡ 0
+-- of an empty queue: the last chunk got, or the opening, left none, and all that was there was got
+abbrev pub Drains : View → List Cells → Type 0
+Drains v items = length items ≡ 0 → (last_or (length v.since) v.got ≡ 0) × (length v.since ≤ length v.got)
 
 -- of a pass with both roles: the whole window
-abbrev pub Whole : View → List Samples → Type 0
-Whole v items = (es : List (Move Samples)) × (length v.opening ≤ v.capacity) × Ordered v.capacity v.opening es items × (puts_of es ≡ v.put) × (gots_of es ≡ v.got) × (v.since ≡ v.opening)
+abbrev pub Whole : View → List Cells → Type 0
+Whole v items =
+    (moves : List (Move Cells)) × (length v.opening ≤ v.capacity) × Ordered v.capacity v.opening moves items
+    × (puts_of moves ≡ v.put) × (gots_of moves ≡ v.got) × (v.since ≡ v.opening)

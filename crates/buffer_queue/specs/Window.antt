@@ -1,50 +1,84 @@
--- What a clause sees of a queue's end: the window that is open.
-use Rattle.std.specs.Prelude.{◌≡◌, ℕ, Bool, true, false, List, [], ◌∷◌, ◌++◌, length, map, Option, Some, None, refl}
-use Rattle.std.specs.Coded.{Coded, code_by, coded×, coded_ℕ, coded_list, coded_option}
+-- What a clause sees of a queue and of its ends: which queue it is, and the window that is open.
+use Rattle.std.specs.Prelude.{◌≡◌, ℕ, ◌+◌, ◌≤◌, ℤ, Bool, true, false, List, [], ◌∷◌, ◌++◌, length, Option, Some, None, refl}
+use Rattle.std.specs.Coded.{Coded, code_by, coded×, coded_ℕ, coded_ℤ, coded_bool, coded_list, coded_option}
 use Rattle.atomic_table.specs.Seated.{TableId, table_id_coded}
-use Rattle.frame_core.specs.declared.Gave.{Gave}
-use Rattle.frame_core.specs.declared.Gave.TheVariants.{Accepted, Full}
+use Rattle.frame_core.specs.declared.cell.Cell.{Cell}
+use Rattle.frame_core.specs.declared.chunk.Gave.{Gave}
+use Rattle.frame_core.specs.declared.chunk.Gave.TheVariants.{Accepted, Full}
+use Rattle.frame_core.specs.Frames.{somes}
 use Rattle.frame_core.specs.Legal.{Legal}
 
--- which queue it is of, the chunks with which the window opened, how many chunks the last move of this end left in the queue, or else the opening,
--- and the answers so far: a chunk that was moved, or None
+-- The window of one end: of which queue, the chunks with which it opened, how many chunks the last move of this end
+-- left in the queue, or else the opening, and the answers so far, each a chunk that was moved or None.
 pub record Window : Type 0 where
   pub queue : TableId
-  pub opening : List (List ℕ)
+  pub opening : List (List Cell)
   pub left : ℕ
-  pub answers : List (Option (List ℕ))
+  pub answers : List (Option (List Cell))
+
+abbrev cell_coded : Coded Cell
+cell_coded =
+    code_by (ℤ × (ℤ × Bool)) (coded× coded_ℤ (coded× coded_ℤ coded_bool))
+    (λ c. (c.left, (c.right, c.first))) (λ p. record { left = p.0; right = p.1.0; first = p.1.1 }) (λ _. refl)
 
 abbrev pub window_coded : Coded Window
 window_coded =
-    code_by (TableId × (List (List ℕ) × (ℕ × List (Option (List ℕ)))))
-    (coded× table_id_coded (coded× (coded_list (coded_list coded_ℕ)) (coded× coded_ℕ (coded_list (coded_option (coded_list coded_ℕ))))))
+    code_by (TableId × (List (List Cell) × (ℕ × List (Option (List Cell)))))
+    (coded× table_id_coded (coded× (coded_list (coded_list cell_coded)) (coded× coded_ℕ (coded_list (coded_option (coded_list cell_coded))))))
     (λ w. (w.queue, (w.opening, (w.left, w.answers)))) (λ p. record { queue = p.0; opening = p.1.0; left = p.1.1.0; answers = p.1.1.1 }) (λ _. refl)
 
+-- how many chunks a queue may hold
 abbrev pub capacity_of : TableId → ℕ
-capacity_of t = t.slots
+capacity_of queue = queue.slots
 
 -- an end whose window has just opened with these chunks
-abbrev pub opened : TableId → List (List ℕ) → Window
-opened t q = record { queue = t; opening = q; left = length q; answers = [] }
+abbrev pub opened : TableId → List (List Cell) → Window
+opened queue chunks = record { queue = queue; opening = chunks; left = length chunks; answers = [] }
 
-abbrev pub is_chunk : Option (List ℕ) → Bool
-is_chunk (Some c) = true
+-- true for an answer that moved a chunk
+abbrev pub is_chunk : Option (List Cell) → Bool
+is_chunk (Some chunk) = true
 is_chunk None = false
 
--- the window after a move of this chunk
-abbrev pub Moves : Window → List ℕ → Window → Type 0
-Moves v c w = (w.queue ≡ v.queue) × (w.opening ≡ v.opening) × (w.answers ≡ v.answers ++ Some c ∷ [])
+-- the window after an answer that moved this chunk
+pub record Moves (before : Window) (chunk : List Cell) (after : Window) : Type 0 where
+  pub queue : after.queue ≡ before.queue
+  pub opening : after.opening ≡ before.opening
+  pub answers : after.answers ≡ before.answers ++ Some chunk ∷ []
 
--- the window after an answer that moved nothing, which may come only where `stop` chunks were left
-abbrev pub Stops : ℕ → Window → Window → Type 0
-Stops stop v w = (v.left ≡ stop) × (w.left ≡ v.left) × (w.queue ≡ v.queue) × (w.opening ≡ v.opening) × (w.answers ≡ v.answers ++ None ∷ [])
+-- the window after an answer that moved nothing
+pub record Stays (before after : Window) : Type 0 where
+  pub queue : after.queue ≡ before.queue
+  pub opening : after.opening ≡ before.opening
+  pub left : after.left ≡ before.left
+  pub answers : after.answers ≡ before.answers ++ None ∷ []
 
-abbrev pub Gives : Window → List ℕ → Window → Gave → Type 0
-Gives v c w Accepted = Moves v c w
-Gives v c w (Full d) = (d ≡ c) × Stops (capacity_of v.queue) v w
+-- The last accepted put of the window, or its opening, left as many chunks as the capacity, and the opening and the
+-- accepted chunks together are no fewer.
+pub record IsFull (window : Window) : Type 0 where
+  pub left : window.left ≡ capacity_of window.queue
+  pub many : capacity_of window.queue ≤ length window.opening + length (somes window.answers)
 
--- both ends' windows are one legal window of the queue, and both ends open the next one with what it left
-abbrev pub Closes : Window → Window → TableId → Window → Window → Type 0
-Closes p t queue p' t' =
-    (r : List (List ℕ)) × Legal (capacity_of p.queue) r p.opening p.answers t.answers × (t.opening ≡ p.opening)
-    × (p' ≡ opened queue r) × (t' ≡ opened queue r) × (capacity_of queue ≡ capacity_of p.queue)
+-- The last chunk got in the window, or its opening, left none, and every chunk of the opening was got.
+pub record IsEmpty (window : Window) : Type 0 where
+  pub left : window.left ≡ 0
+  pub taken : length window.opening ≤ length (somes window.answers)
+
+-- the answers of a put of this chunk, with the window before and after it
+abbrev pub Puts : Window → List Cell → Window → Gave → Type 0
+Puts before chunk after Accepted = Moves before chunk after
+Puts before chunk after (Full back) = (back ≡ chunk) × IsFull before × Stays before after
+
+-- the answers of a take
+abbrev pub Takes : Window → Window → Option (List Cell) → Type 0
+Takes before after None = IsEmpty before × Stays before after
+Takes before after (Some chunk) = Moves before chunk after
+
+-- both ends' answers are one legal window of the queue, and both ends open the next one with what it left
+pub record Closes (put take : Window) (queue : TableId) (next_put next_take : Window) : Type 0 where
+  pub rest : List (List Cell)
+  pub legal : Legal (capacity_of put.queue) rest put.opening put.answers take.answers
+  pub opening : take.opening ≡ put.opening
+  pub puts_next : next_put ≡ opened queue rest
+  pub takes_next : next_take ≡ opened queue rest
+  pub capacity : capacity_of queue ≡ capacity_of put.queue

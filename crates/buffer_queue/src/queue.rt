@@ -1,23 +1,19 @@
-//! A bounded queue of chunks with one end to put and one to take, whose use is told window by window.
-#![tactic(auto)]
-
-ghost use Rattle.std.specs.Prelude.{◌≡◌, ℕ, ◌<◌, ◌≤◌, [], ◌∷◌, ◌++◌, length, map, true, false, IfOk, IfErr, OnOk, OnErr, MatchResult, MatchOption, List};
+// The queue and its two ends.
+ghost use Rattle.std.specs.Prelude.{◌≡◌, ℕ, ◌<◌, [], map, true, IfOk, IfErr, OnErr, IsOk};
 ghost use Rattle.crossbeam_queue.specs.Passes.{view, IsPassOf, ruled_capacity};
-ghost use Rattle.frame_core.specs.Order.{Fits};
 ghost use Rattle.buffer_queue.specs.Rule.{putter, taker, both, newcomer, contents_of, Whole};
-ghost use Rattle.buffer_queue.specs.Window.{opened, capacity_of, is_chunk, Gives, Moves, Stops, Closes};
+ghost use Rattle.buffer_queue.specs.Window.{opened, capacity_of, is_chunk, Puts, Takes, Closes};
 
+use crate::rule::{Both, Ends, Next, PutStep, Ruled, Size, Spare, TakeStep, View, WholeWindow};
 use crossbeam_queue::Pass;
-use frame_core::{Chunk, Gave, Memory};
+use frame_core::{Chunk, Gave};
+use liq_base::Memory;
 use std::alloc::{AllocError, Global};
 use std::marker::{Brand, Model};
 use std::mem;
 use std::sync::Wait;
 
-pub mod rule;
-
-use rule::{Both, Ends, Next, Puts, Ruled, Size, Spare, Takes, View, WholeWindow};
-
+// A queue of so many chunks with the passes of its two ends.
 fn opened_at<K: Size>(
     alloc: Global,
     capacity: u32,
@@ -32,12 +28,13 @@ fn opened_at<K: Size>(
     Ok((queue, put, take))
 }
 
-/// Takes both ends in, and hands both out again with what the queue holds as their opening contents.
+// Takes both passes in, and hands both out again with what the queue holds as their opening contents.
 fn turn(queue: &Ruled, put: &mut Pass<Chunk, View>, take: &mut Pass<Chunk, View>)
     requires queue { IsPassOf queue.now put.old × IsPassOf queue.now take.old }
     requires roles { ((view put.old).puts ≡ true) × ((view take.old).takes ≡ true) }
     ensures queue { IsPassOf queue.now put.new × IsPassOf queue.now take.new }
-    ensures views { let v = both (view put.old) (view take.old) in (view put.new ≡ putter v.capacity v) × (view take.new ≡ taker v.capacity v) }
+    ensures views { let v = both (view put.old) (view take.old) in
+        (view put.new ≡ putter v.capacity v) × (view take.new ≡ taker v.capacity v) }
     ensures whole { Whole (both (view put.old) (view take.old)) (contents_of (both (view put.old) (view take.old))) }
 {
     let spare = queue.another::<Spare>(put);
@@ -47,7 +44,8 @@ fn turn(queue: &Ruled, put: &mut Pass<Chunk, View>, take: &mut Pass<Chunk, View>
     *take = queue.another::<Next>(put);
 }
 
-/// A queue of at most so many chunks. Contracts see which queue it is, which tells the capacity.
+/// A queue of at most so many chunks, which two threads share. Contracts see which queue it is, and that tells its
+/// capacity.
 #[derive(Drop)]
 pub struct BufferQueue {
     queue: Ruled,
@@ -63,7 +61,7 @@ impl Model for BufferQueue {
     ghost view = { λ q. q.queue.table.shared.table_id };
 }
 
-/// The end that puts, with the window's answers. Contracts see the window.
+/// The end that puts, with its answers in the open window. Contracts see that window.
 #[derive(Drop)]
 pub struct PutPass {
     pass: Pass<Chunk, View>,
@@ -80,13 +78,19 @@ impl Model for PutPass {
 
     ghost coded = { window_coded };
 
-    ghost view = { λ p. record { queue = p.pass.table_id; opening = (view_of p.pass).opening; left = last_or (length (view_of p.pass).opening) (view_of p.pass).put; answers = answers_of p.answers.items (view_of p.pass).put } };
+    ghost view = { λ p. record {
+      queue = p.pass.table_id;
+      opening = (view_of p.pass).opening;
+      left = last_or (length (view_of p.pass).opening) (view_of p.pass).put;
+      answers = answers_of p.answers.items (view_of p.pass).put;
+    } };
 
-    ghost invariant = { λ p. (p.pass.me.1 ≡ []) × ((view_of p.pass).puts ≡ true) × ((view_of p.pass).takes ≡ false) × ((view_of p.pass).capacity ≡ p.pass.table_id.slots)
+    ghost invariant = { λ p. (p.pass.me.1 ≡ []) × ((view_of p.pass).puts ≡ true) × ((view_of p.pass).takes ≡ false)
+        × ((view_of p.pass).capacity ≡ p.pass.table_id.slots)
         × Fits p.pass.table_id.slots (length (view_of p.pass).opening) p.answers.items (view_of p.pass).put };
 }
 
-/// The end that takes, with the window's answers. Contracts see the window.
+/// The end that takes, with its answers in the open window. Contracts see that window.
 #[derive(Drop)]
 pub struct TakePass {
     pass: Pass<Chunk, View>,
@@ -103,14 +107,20 @@ impl Model for TakePass {
 
     ghost coded = { window_coded };
 
-    ghost view = { λ p. record { queue = p.pass.table_id; opening = (view_of p.pass).since; left = last_or (length (view_of p.pass).since) (view_of p.pass).got; answers = answers_of p.answers.items (view_of p.pass).got } };
+    ghost view = { λ p. record {
+      queue = p.pass.table_id;
+      opening = (view_of p.pass).since;
+      left = last_or (length (view_of p.pass).since) (view_of p.pass).got;
+      answers = answers_of p.answers.items (view_of p.pass).got;
+    } };
 
-    ghost invariant = { λ p. (p.pass.me.1 ≡ []) × ((view_of p.pass).takes ≡ true) × ((view_of p.pass).puts ≡ false) × ((view_of p.pass).capacity ≡ p.pass.table_id.slots)
+    ghost invariant = { λ p. (p.pass.me.1 ≡ []) × ((view_of p.pass).takes ≡ true) × ((view_of p.pass).puts ≡ false)
+        × ((view_of p.pass).capacity ≡ p.pass.table_id.slots)
         × Fits 0 (length (view_of p.pass).since) p.answers.items (view_of p.pass).got };
 }
 
 impl PutPass {
-    /// The window's answers: true for accepted.
+    /// The window's answers so far: true for an accepted chunk, false where the queue was full.
     pub fn answers(&self) -> &[bool]
         ensures { result.now ≡ map is_chunk self.now.answers }
     {
@@ -119,7 +129,7 @@ impl PutPass {
 }
 
 impl TakePass {
-    /// The window's answers: true for a chunk.
+    /// The window's answers so far: true for a chunk, false where the queue was empty.
     pub fn answers(&self) -> &[bool]
         ensures { result.now ≡ map is_chunk self.now.answers }
     {
@@ -128,14 +138,14 @@ impl TakePass {
 }
 
 impl BufferQueue {
+    /// An empty queue of at most so many chunks, with its two ends.
     pub fn new(alloc: Global, capacity: u32) -> Result<(BufferQueue, PutPass, TakePass), Memory>
         requires { 0 < capacity }
         ensures capacity { IfOk result (λ r. capacity_of r.0 ≡ capacity) }
-        ensures ends { IfOk result (λ r. (r.1 ≡ opened r.0 []) × (r.2 ≡ opened r.0 [])) }
+        ensures put { IfOk result (λ r. r.1 ≡ opened r.0 []) }
+        ensures take { IfOk result (λ r. r.2 ≡ opened r.0 []) }
     {
-        let Ok((queue, put, take)) = opened_at::<Brand>(alloc, capacity) else {
-            return Err(Memory);
-        };
+        let (queue, put, take) = opened_at::<Brand>(alloc, capacity)?;
         let put = PutPass {
             pass: put,
             answers: Vec::new(alloc),
@@ -147,7 +157,8 @@ impl BufferQueue {
         Ok((BufferQueue { queue }, put, take))
     }
 
-    /// The chunk comes back where the queue was full. Where memory is refused nothing was done.
+    /// Puts a chunk at the back. It comes back where the queue is full, and where memory is refused; then nothing was
+    /// done. May wait for the other end's step.
     pub fn put<R: Wait>(
         &self,
         rt: &R,
@@ -156,12 +167,13 @@ impl BufferQueue {
     ) -> Result<Gave, (Chunk, Memory)>
         requires { pass.old.queue ≡ self.now }
         ensures same { (pass.new.queue ≡ pass.old.queue) × (pass.new.opening ≡ pass.old.opening) }
-        ensures answer { MatchResult result (Gives pass.old chunk pass.new) (λ e. (e.0 ≡ chunk) × (pass.new ≡ pass.old)) }
+        ensures answer { IfOk result (Puts pass.old chunk pass.new) }
+        ensures memory { IfErr result (λ e. (e.0 ≡ chunk) × (pass.new ≡ pass.old)) }
     {
         if pass.answers.reserve(1).is_err() {
             return Err((chunk, Memory));
         }
-        match self.queue.push_as::<Puts, R>(rt, &mut pass.pass, chunk) {
+        match self.queue.push_as::<PutStep, R>(rt, &mut pass.pass, chunk) {
             Ok(()) => {
                 pass.answers.push_reserved(true);
                 Ok(Gave::Accepted)
@@ -173,16 +185,18 @@ impl BufferQueue {
         }
     }
 
-    /// Where memory is refused nothing was done.
+    /// Takes the chunk at the front, or nothing where the queue is empty. Where memory is refused nothing was done. May
+    /// wait for the other end's step.
     pub fn take<R: Wait>(&self, rt: &R, pass: &mut TakePass) -> Result<Option<Chunk>, Memory>
         requires { pass.old.queue ≡ self.now }
         ensures same { (pass.new.queue ≡ pass.old.queue) × (pass.new.opening ≡ pass.old.opening) }
-        ensures answer { MatchResult result (λ o. MatchOption o (Stops 0 pass.old pass.new) (λ c. Moves pass.old c pass.new)) (λ _. pass.new ≡ pass.old) }
+        ensures answer { IfOk result (Takes pass.old pass.new) }
+        ensures memory { OnErr result (pass.new ≡ pass.old) }
     {
         if pass.answers.reserve(1).is_err() {
             return Err(Memory);
         }
-        match self.queue.pop_as::<Takes, R>(rt, &mut pass.pass) {
+        match self.queue.pop_as::<TakeStep, R>(rt, &mut pass.pass) {
             Some(chunk) => {
                 pass.answers.push_reserved(true);
                 Ok(Some(chunk))
@@ -194,17 +208,20 @@ impl BufferQueue {
         }
     }
 
-    /// Ends the window, hands out its answers and opens the next.
+    /// Ends the window, hands out its two lists of answers, true for accepted and got, and opens the next one with what
+    /// the queue holds. Neither waits nor takes memory.
     pub fn close_window(
         &mut self,
         alloc: Global,
         put: &mut PutPass,
         take: &mut TakePass,
     ) -> Result<(Vec<bool>, Vec<bool>), Memory>
-        requires { (put.old.queue ≡ self.old) × (take.old.queue ≡ self.old) }
-        ensures closes { OnOk result (Closes put.old take.old self.new put.new take.new) }
-        ensures answers { IfOk result (λ r. (r.0.items ≡ map is_chunk put.old.answers) × (r.1.items ≡ map is_chunk take.old.answers)) }
-        ensures err { OnErr result ((self.new ≡ self.old) × (put.new ≡ put.old) × (take.new ≡ take.old)) }
+        requires put { put.old.queue ≡ self.old }
+        requires take { take.old.queue ≡ self.old }
+        ensures closes { Closes put.old take.old self.new put.new take.new }
+        ensures puts { IfOk result (λ r. r.0.items ≡ map is_chunk put.old.answers) }
+        ensures takes { IfOk result (λ r. r.1.items ≡ map is_chunk take.old.answers) }
+        ensures done { IsOk result }
     {
         turn(&self.queue, &mut put.pass, &mut take.pass);
         let puts = mem::replace(&mut put.answers, Vec::new(alloc));
@@ -212,6 +229,3 @@ impl BufferQueue {
         Ok((puts, takes))
     }
 }
-
-#[cfg(test)]
-mod tests;

@@ -1,4 +1,4 @@
-//! What the passes of a queue know, in proofs alone, and the rule over it.
+// What the passes of a queue know, in proofs alone, and the rule over it.
 ghost use Rattle.std.specs.Prelude.{ℕ};
 
 use crossbeam_queue::RuledArrayQueue;
@@ -7,9 +7,8 @@ use frame_core::Chunk;
 use std::collections::LinkedList;
 use std::marker::{Brand, PhantomData};
 
-/// What a pass knows: its roles, the capacity, and of each role the window's opening contents (`opening`, `since`) and each chunk that it moved,
-/// with the number that its step left in the queue.
-/// No value of it is made.
+/// What a pass knows: its roles, the capacity, and of each role the window's opening contents (`opening`, `since`) and
+/// each chunk that it moved, with the number of chunks that this step left in the queue. No value of it is made.
 pub struct View {
     pub capacity: u64,
     pub puts: bool,
@@ -31,6 +30,7 @@ impl Protocol<Chunk, View> for OneOrder {
     ghost first = { newcomer };
 }
 
+/// The queue under this rule.
 pub type Ruled = RuledArrayQueue<Chunk, View, OneOrder>;
 
 /// How many chunks the queue takes. Each call of a program picks it.
@@ -88,34 +88,37 @@ impl Join<View> for Both {
     ghost spent = { idle };
 }
 
-pub struct Puts;
+/// A put, and what a full queue teaches.
+pub struct PutStep;
 
-impl Outcome<Chunk, View> for Puts {
-    ghost use Rattle.buffer_queue.specs.Rule.{Put};
+impl Outcome<Chunk, View> for PutStep {
+    ghost use Rattle.buffer_queue.specs.Rule.{IsPut};
 
-    ghost then = { Put };
+    ghost then = { IsPut };
 }
 
-impl Lesson<Chunk, View> for Puts {
+impl Lesson<Chunk, View> for PutStep {
     ghost use Rattle.buffer_queue.specs.Rule.{Fills};
 
     ghost fact = { Fills };
 }
 
-pub struct Takes;
+/// A take, and what an empty queue teaches.
+pub struct TakeStep;
 
-impl Outcome<Chunk, View> for Takes {
-    ghost use Rattle.buffer_queue.specs.Rule.{Got};
+impl Outcome<Chunk, View> for TakeStep {
+    ghost use Rattle.buffer_queue.specs.Rule.{IsGot};
 
-    ghost then = { Got };
+    ghost then = { IsGot };
 }
 
-impl Lesson<Chunk, View> for Takes {
+impl Lesson<Chunk, View> for TakeStep {
     ghost use Rattle.buffer_queue.specs.Rule.{Drains};
 
     ghost fact = { Drains };
 }
 
+/// The order of the whole window, which a pass with both roles may learn.
 pub struct WholeWindow;
 
 impl Lesson<Chunk, View> for WholeWindow {

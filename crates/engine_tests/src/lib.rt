@@ -1,5 +1,9 @@
-//! Worked rows of the operators and of the engine.
+//! Worked rows of the operators, of the engine and of its buffers.
 #![tactic(auto)]
 
+#[cfg(test)]
+mod buffers;
+#[cfg(test)]
+mod frames;
 #[cfg(test)]
 mod op_select_tests;

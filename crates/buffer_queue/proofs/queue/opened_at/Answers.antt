@@ -1,4 +1,4 @@
-use Rattle.std.proofs.Common.{rules, ◌≤◌, ap, subst, sym, arith}
+use Rattle.std.proofs.Common.{rules, ap, arith}
 use Rattle.buffer_queue.proofs.Keeps.{begins, opens}
 use Rattle.buffer_queue.proofs.queue.opened_at.Goals as goal
 

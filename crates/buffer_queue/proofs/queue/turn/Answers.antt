@@ -1,4 +1,4 @@
-use Rattle.std.proofs.Common.{◌≡◌, ap, ◌∙◌, ◌≤◌, subst, arith, true}
+use Rattle.std.proofs.Common.{◌≡◌, ap, ◌∙◌, subst, arith}
 use Rattle.crossbeam_queue.specs.Passes.{view}
 use Rattle.buffer_queue.specs.declared.rule.View.{View}
 use Rattle.buffer_queue.specs.Rule.{both, Whole, contents_of}

@@ -25,7 +25,7 @@ invariant_of-pass-in-Err g c =
     let id = ap (λ (w : Window). w.queue) c.pass.view_is ∙ c.requires ∙ sym c.self.view_is in
     let k = put_no c.pass.inside.pass.table_id c.push_as.new.pass.table_id (view c.pass.inside.pass) (view c.push_as.new.pass) c.pass.inside.answers.items c.push_reserved-in-Err.new.self.items
     e.queue.0 e.rule.1 (c.push_reserved-in-Err.ensures.items ∙ ap (λ l. l ++ false ∷ []) c.reserve.ensures.items)
-    (full_there (ruled_capacity c.self.inside.queue) c.pass.inside.pass.table_id (view c.pass.inside.pass) (sym (ap (λ t. t.slots) id ∙ c.self.inside.queue.sized.1)) i.3 e.rule.2) (i.1, i.2, i.3, i.4) in
+    ((full_there (ruled_capacity c.self.inside.queue) c.pass.inside.pass.table_id (view c.pass.inside.pass) (sym (ap (λ t. t.slots) id ∙ c.self.inside.queue.sized.1)) i.3 e.rule.2).0) (i.1, i.2, i.3, i.4) in
     (e.queue.2 ∙ i.0, k.0, k.1, k.2, k.3)
 
 pub returns-in-Ok-clause-answer : goal.returns-in-Ok-clause-answer
@@ -41,4 +41,4 @@ returns-in-Err-clause-answer g c =
     let h = put_stops c.pass.inside.pass.table_id c.push_as.new.pass.table_id (view c.pass.inside.pass) (view c.push_as.new.pass) c.pass.inside.answers.items c.push_reserved-in-Err.new.self.items c.args.pass.now
     c.pass.view_is e.queue.0 e.rule.1 (c.push_reserved-in-Err.ensures.items ∙ ap (λ l. l ++ false ∷ []) c.reserve.ensures.items)
     (full_there (ruled_capacity c.self.inside.queue) c.pass.inside.pass.table_id (view c.pass.inside.pass) (sym (ap (λ t. t.slots) id ∙ c.self.inside.queue.sized.1)) i.3 e.rule.2) (i.1, i.2, i.3, i.4) in
-    (e.rule.0, h)
+    (e.rule.0, h.0, h.1)

@@ -1,4 +1,4 @@
-use Rattle.std.proofs.Common.{◌≡◌, true, false, [], ◌∷◌, ◌++◌, ap, sym, ◌∙◌}
+use Rattle.std.proofs.Common.{true, false, [], ◌∷◌, ◌++◌, ap, ◌∙◌}
 use Rattle.crossbeam_queue.specs.Passes.{view}
 use Rattle.buffer_queue.proofs.Keeps.{takes, drains}
 use Rattle.buffer_queue.proofs.Ends.{take_yes, take_no, take_moves, take_stops, empty_there}
@@ -21,7 +21,7 @@ invariant_of-pass-in-None g c =
     let i = c.pass.invariant in let e = c.in-None.ensures in
     let k = take_no c.pass.inside.pass.table_id c.pop_as.new.pass.table_id (view c.pass.inside.pass) (view c.pop_as.new.pass) c.pass.inside.answers.items c.push_reserved-in-None.new.self.items
     e.queue.0 e.rule.0 (c.push_reserved-in-None.ensures.items ∙ ap (λ l. l ++ false ∷ []) c.reserve.ensures.items)
-    (empty_there (view c.pass.inside.pass) e.rule.1) (i.1, i.2, i.3, i.4) in
+    ((empty_there (view c.pass.inside.pass) e.rule.1).0) (i.1, i.2, i.3, i.4) in
     (e.queue.2 ∙ i.0, k.0, k.1, k.2, k.3)
 
 pub returns-in-Some-clause-answer : goal.returns-in-Some-clause-answer
