@@ -1,5 +1,5 @@
 -- The stream of a `single` leaf.
-use Rattle.std.proofs.Common.{◌≡◌, ℕ, zero, suc, ◌+◌, ◌%◌, length, refl, ◌∙◌, ap, arith}
+use Rattle.std.proofs.Common.{◌≡◌, ℕ, zero, suc, ◌%◌, length, refl, ◌∙◌, ap, arith}
 use Rattle.std.specs.Prelude.{Some}
 use Rattle.liq_base.specs.declared.memory.Kind.{Kind}
 use Rattle.wav_io.specs.Header.{header_bytes}
