@@ -1,12 +1,12 @@
 -- What is noted of names: those that stand for something, and the fault that is told.
 use Rattle.std.specs.Prelude.{ℕ, List, [], ◌∷◌, ◌++◌, Option, Some, None, cond, map, Bool, true, false}
 use Rattle.std.specs.List.{flat_map}
-use Rattle.script_grammar.specs.Tree.{Sort, Tree, Many, AnExpr, AnInner, APart, Stmt}
+use Rattle.script_grammar.specs.Tree.{Sort, Tree, Many, AnExpr, AnInner}
 use Rattle.typing_rules.specs.declared.fault.NameFault.{NameFault}
 use Rattle.typing_rules.specs.declared.fault.NameFault.TheVariants.{Extra}
 use Rattle.typing_rules.specs.declared.uses.Target.{Target}
 use Rattle.typing_rules.specs.Arguments.{Parameter, Given, first_missing, is_needed, left_over}
-use Rattle.typing_rules.specs.NameFaults.{faults_as, is_before, missing_at, repeats_in}
+use Rattle.typing_rules.specs.NameFaults.{faults_as, is_before, missing_at}
 use Rattle.typing_rules.specs.Scoping.{Meaning, Name, Scope, inner_names, names, target_of, with_inners}
 use Rattle.name_scope.specs.declared.notes.Notes.{Notes}
 use Rattle.name_scope.specs.declared.notes.Resolved.{Resolved}
@@ -55,10 +55,6 @@ resolved r = (r.at, Some r.target)
 
 abbrev pub noted : Notes → Noted
 noted n = record { found = map resolved n.found.items; fault = n.fault }
-
--- with the parameters that a def repeats
-abbrev pub with_repeats : Noted → Tree APart → Noted
-with_repeats n part = record { found = n.found; fault = all_sooner n.fault (repeats_in (Stmt part false)) }
 
 -- the names of a def's inner bindings and of its result, in the scope of its parameters
 abbrev pub body_names : Scope → Tree (Many AnInner) → Tree AnExpr → List Name

@@ -1,5 +1,5 @@
 // Which parameter takes which argument.
-ghost use Rattle.std.specs.Prelude.{◌≡◌, ◌++◌, [], ◌∷◌, map, option_map, is_some, IfOk};
+ghost use Rattle.std.specs.Prelude.{◌≡◌, map, is_some, IfOk};
 ghost use Rattle.script_grammar.specs.View.{listed, view_arg, view_param};
 ghost use Rattle.typing_rules.specs.Arguments.{argument, first_missing, is_label as the_same_label, is_needed as is_wanted, label_of as the_label_of, left_over, others as the_others, parameters_of};
 ghost use Rattle.typing_rules.specs.Scoping.{tokens_given};

@@ -1,7 +1,7 @@
 // The names in scope.
-ghost use Rattle.std.specs.Prelude.{◌≡◌, ◌++◌, ◌∷◌, [], OnOk, option_map};
+ghost use Rattle.std.specs.Prelude.{◌≡◌, ◌∷◌, [], OnOk, option_map};
 ghost use Rattle.typing_rules.specs.Scoping.{bound as the_bound};
-ghost use Rattle.name_scope.specs.Seen.{seen_bound, in_scope, newest_first, both_scopes};
+ghost use Rattle.name_scope.specs.Seen.{seen_bound, in_scope, both_scopes};
 
 use crate::parameter::Parameter;
 use liq_base::Memory;

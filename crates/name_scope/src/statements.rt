@@ -1,17 +1,15 @@
-// The names that statements use, and those that they bind.
-ghost use Rattle.std.specs.Prelude.{◌≡◌, ◌++◌, false, OnOk, map};
-ghost use Rattle.script_grammar.specs.Tree.{Stmt as a_statement};
-ghost use Rattle.script_grammar.specs.View.{listed, view_def, view_expr, view_inner, view_param, view_part};
-ghost use Rattle.typing_rules.specs.Scoping.{inner_names, names, with_inners, with_params, with_statement};
-ghost use Rattle.name_scope.specs.Noted.{body_names, names_each, noted, with_names, with_repeats};
+// The names that the texts of defs use, and the names that they bind.
+ghost use Rattle.std.specs.Prelude.{◌≡◌, ◌++◌, OnOk, map};
+ghost use Rattle.script_grammar.specs.View.{listed, view_def, view_expr, view_inner, view_param};
+ghost use Rattle.typing_rules.specs.Scoping.{inner_names, names, with_inners, with_params};
+ghost use Rattle.name_scope.specs.Noted.{body_names, names_each, noted, with_names};
 ghost use Rattle.name_scope.specs.Seen.{both_scopes, in_scope};
 
-use crate::arguments::parameters;
 use crate::notes::Notes;
 use crate::scope::{Bound, Scope, Scopes};
-use crate::values::{note_call, note_choice, note_expr, note_full};
+use crate::values::{note_expr, note_full};
 use liq_base::Memory;
-use script_grammar::tree::{Def, Inner, Param, ParamForm, StmtPart};
+use script_grammar::tree::{Def, Inner, Param, ParamForm};
 use std::alloc::Global;
 
 /// The names that the default of a parameter uses, if it has one.

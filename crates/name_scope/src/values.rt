@@ -13,6 +13,7 @@ use script_grammar::tree::{
 };
 use std::alloc::Global;
 
+/// The names that a full value uses. It fails only where memory is refused.
 #[cycle(value)]
 pub fn note_full(
     alloc: Global,
@@ -28,6 +29,7 @@ pub fn note_full(
     }
 }
 
+/// The names that an expression uses. It fails only where memory is refused.
 #[cycle(value)]
 pub fn note_expr(
     alloc: Global,
@@ -239,6 +241,7 @@ fn note_fulls(
     Ok(())
 }
 
+/// The name of a call and the names that its arguments use. It fails only where memory is refused.
 #[cycle(value)]
 pub fn note_call(
     alloc: Global,
@@ -280,6 +283,7 @@ fn note_arg(
     note_full(alloc, scopes, notes, &arg.value)
 }
 
+/// The names that an `if` uses, in the order of its parts. It fails only where memory is refused.
 #[cycle(value)]
 pub fn note_choice(
     alloc: Global,
