@@ -3,7 +3,7 @@ use Rattle.std.proofs.Common.{◌≡◌, refl, sym, subst, ap, ◌∙◌, ℕ, L
 use Rattle.std.specs.Prelude.{codes}
 use Rattle.liq_base.specs.declared.memory.Kind.{Kind}
 use Rattle.liq_base.specs.declared.memory.Kind.TheVariants.{Mono, Stereo}
-use Rattle.script_grammar.specs.Tree.{Tree, none, Def, Listed, Named, Optional, Param}
+use Rattle.script_grammar.specs.Tree.{none, Def, Listed, Named, Optional, Param}
 use Rattle.type_terms.specs.Ground.{Ground, Assignment, base_type, list, source, tuple}
 use Rattle.type_terms.specs.Ground as ground
 use Rattle.typing_rules.specs.declared.uses.Target.{Target}
@@ -12,9 +12,9 @@ use Rattle.type_terms.specs.declared.ty.Base.TheVariants as base
 use Rattle.typing_rules.specs.declared.uses.Builtin.TheVariants as builtin
 use Rattle.typing_rules.specs.declared.form.Form.TheVariants.{InPlace, Perhaps}
 use Rattle.typing_rules.specs.Arguments.{Given, Matched}
-use Rattle.typing_rules.specs.Table.{IsCallOf, params_of, signature}
-use Rattle.typing_rules.specs.Typing.{DefaultsHave, Has, NameHas, Types, type_at}
-use Rattle.typing_rules.specs.Scripts.{HasTyping, IsClash, Places, Targets, calls_of, first_of, sight, value, function}
+use Rattle.typing_rules.specs.Table.{IsCallOf, params_of}
+use Rattle.typing_rules.specs.Typing.{DefaultsHave, NameHas, Types, type_at}
+use Rattle.typing_rules.specs.Scripts.{HasTyping, Places, Targets, calls_of, first_of, sight, value, function}
 use Rattle.typing_rules.specs.Scoping.{target_in, meanings_of}
 use Rattle.typing_rules.specs.Answers.{IsTypeClash, IsTypeFault}
 use Rattle.typing_rules.specs.declared.fault.TypeFault.TheVariants as fault

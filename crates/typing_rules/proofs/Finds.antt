@@ -1,17 +1,14 @@
 -- A call of a def leads to the one def whose name stands at its token, and to what stood before it.
-use Rattle.std.proofs.Common.{◌≡◌, ◌≢◌, ◌⊎◌, inl, inr, refl, sym, subst, ap, ◌∙◌, ℕ, ◌+◌, ◌<◌, ◌≤◌, List, [], ◌∷◌, length, Option, Some, None, Bool, true, false, nat_eq, eq-eqb, ne_eqb, arith}
+use Rattle.std.proofs.Common.{◌≡◌, ◌≢◌, ◌⊎◌, inl, inr, refl, subst, ap, ◌∙◌, ℕ, ◌+◌, ◌<◌, List, [], ◌∷◌, length, Some, Bool, true, false, nat_eq, eq-eqb, ne_eqb, arith}
 use Rattle.std.proofs.lemmas.Bool.{eqb-true}
 use Rattle.script_grammar.specs.Placed.{IsPlaced}
 use Rattle.script_grammar.specs.Spelling.{spell}
-use Rattle.script_grammar.specs.Tree.{Tree, Many, ADef, AStmt, none, more, Stmt, BindPart, DefPart, CallPart, IfPart, Bind, Def, Script}
+use Rattle.script_grammar.specs.Tree.{Tree, ADef, none, more, Stmt, BindPart, DefPart, CallPart, IfPart, Bind, Def, Script}
 use Rattle.type_terms.specs.Ground.{Ground}
-use Rattle.typing_rules.specs.declared.uses.Use.{Use}
-use Rattle.typing_rules.specs.declared.uses.Target.{Target}
-use Rattle.typing_rules.specs.Uses.{use_at}
 use Rattle.typing_rules.specs.Arguments.{Given, Matched}
 use Rattle.typing_rules.specs.Typing.{DefHas}
 use Rattle.typing_rules.specs.Scripts.{Entry, value, function, Targets, Places, IsTypedTo, calls_of, def_token, params_of, sight}
-use Rattle.typing_rules.specs.Kinds.{Stands, target_at}
+use Rattle.typing_rules.specs.Kinds.{Stands}
 use Rattle.typing_rules.specs.Defs.{IsDefOf, def_at, Leads}
 
 abbrev CallIs : Targets → Places → List Entry → Tree ADef → List ℕ → ℕ → ℕ → List (Given Ground) → Ground → Bool → Type 0

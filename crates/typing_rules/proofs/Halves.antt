@@ -1,5 +1,5 @@
 -- def half(~by=0.5, s) = amplify(by, s) end, output "A" of half(blank()), output "C" of half(mean(blank()), by=1.): the whole contract of inference, with any decimals.
-use Rattle.std.proofs.Common.{◌≡◌, refl, sym, subst, ap, ◌∙◌, ℕ, ◌+◌, List, [], ◌∷◌, Option, Some, None, true, false, length}
+use Rattle.std.proofs.Common.{◌≡◌, refl, ℕ, ◌+◌, List, [], ◌∷◌, Some, None, true, false}
 use Rattle.std.specs.Prelude.{codes}
 use Rattle.fixed_text.specs.declared.decimal.Decimal.{Decimal}
 use Rattle.liq_base.specs.declared.memory.Kind.{Kind}
@@ -7,7 +7,7 @@ use Rattle.liq_base.specs.declared.memory.Kind.TheVariants.{Mono, Stereo}
 use Rattle.script_grammar.specs.declared.tree.Literal.TheVariants as literal
 use Rattle.script_grammar.specs.Placed.{IsPlaced}
 use Rattle.script_grammar.specs.Tree.{Tree, AStmt, ADef, APrim, none, more, Stmt, DefPart, Def, Param, Optional, Constant, Named, Quoted, Format, Script}
-use Rattle.type_terms.specs.Ground.{Ground, Assignment, base_type, list, source}
+use Rattle.type_terms.specs.Ground.{base_type, source}
 use Rattle.type_terms.specs.declared.ty.Base.TheVariants as base
 use Rattle.typing_rules.specs.declared.uses.Use.{Use}
 use Rattle.typing_rules.specs.declared.uses.KindOf.{KindOf}
@@ -19,7 +19,7 @@ use Rattle.typing_rules.specs.Table.{IsCallOf}
 use Rattle.typing_rules.specs.Scoping.{meanings_of}
 use Rattle.typing_rules.specs.NameFaults.{first_fault}
 use Rattle.typing_rules.specs.Typing.{DefHas}
-use Rattle.typing_rules.specs.Scripts.{Entry, Places, value, function, calls_of, sight, IsTypedTo}
+use Rattle.typing_rules.specs.Scripts.{Entry, Places, function, sight, IsTypedTo}
 use Rattle.typing_rules.specs.Kinds.{said, target_at, read, blocks, open_kinds, IsNumbered}
 use Rattle.typing_rules.proofs.Samples.{full, lone, one, two, called, calls, plain, by}
 use Rattle.typing_rules.proofs.ClashChecks.{always, blank_call}

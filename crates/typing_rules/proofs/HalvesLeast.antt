@@ -1,12 +1,11 @@
 -- The kinds of the uses of `half` are the least, and the whole contract of inference holds of them.
-use Rattle.std.proofs.Common.{◌≡◌, ◌⊎◌, inl, inr, refl, sym, subst, ap, ◌∙◌, ℕ, List, [], ◌∷◌, ◌++◌, Option, Some, None}
+use Rattle.std.proofs.Common.{◌≡◌, inl, inr, refl, sym, subst, ap, ◌∙◌, ℕ, List, [], ◌∷◌, ◌++◌, Option, Some, None}
 use Rattle.std.specs.Prelude.{codes}
 use Rattle.fixed_text.specs.declared.decimal.Decimal.{Decimal}
 use Rattle.liq_base.specs.declared.memory.Kind.{Kind}
 use Rattle.liq_base.specs.declared.memory.Kind.TheVariants.{Mono, Stereo}
 use Rattle.type_terms.specs.Ground.{Ground, base_type, source}
 use Rattle.type_terms.specs.declared.ty.Base.TheVariants as base
-use Rattle.typing_rules.specs.declared.uses.Builtin.{Builtin}
 use Rattle.typing_rules.specs.declared.uses.Builtin.TheVariants as builtin
 use Rattle.typing_rules.specs.declared.uses.Target.TheVariants as target
 use Rattle.typing_rules.specs.declared.form.Form.TheVariants.{InPlace, Perhaps}
@@ -15,7 +14,7 @@ use Rattle.typing_rules.specs.Table.{IsCallOf, params_of}
 use Rattle.typing_rules.specs.Scoping.{Name, target_of}
 use Rattle.typing_rules.specs.Typing.{DefHas, Types, type_at}
 use Rattle.typing_rules.specs.Scripts.{Entry, Places, function, sight, IsTypedTo}
-use Rattle.typing_rules.specs.Kinds.{Block, IsLess, IsOneOf, IsPlace, IsUsedIn, MonoOnly, MonoWhere, blocks, read, target_at}
+use Rattle.typing_rules.specs.Kinds.{Block, IsLess, IsUsedIn, MonoOnly, blocks, read, target_at}
 use Rattle.typing_rules.specs.Answers.{IsTyped}
 use Rattle.typing_rules.proofs.Halves.{half, halves, uses, typed, numbered}
 use Rattle.typing_rules.proofs.HalvesOpen.{All, first_names, one_of, in_def, opened}

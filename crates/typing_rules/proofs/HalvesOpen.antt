@@ -1,11 +1,10 @@
 -- The def `half` is open in its one kind.
-use Rattle.std.proofs.Common.{◌≡◌, ◌⊎◌, inl, inr, refl, sym, subst, ap, ◌∙◌, ℕ, suc, arith, List, [], ◌∷◌, Option, Some, None, length}
+use Rattle.std.proofs.Common.{◌≡◌, inl, inr, refl, sym, subst, ap, ◌∙◌, ℕ, suc, arith, List, [], ◌∷◌, Some, None, length}
 use Rattle.fixed_text.specs.declared.decimal.Decimal.{Decimal}
 use Rattle.liq_base.specs.declared.memory.Kind.{Kind}
 use Rattle.script_grammar.specs.Tree.{Tree, ADef}
 use Rattle.type_terms.specs.Ground.{Ground, base_type, source}
 use Rattle.type_terms.specs.declared.ty.Base.TheVariants as base
-use Rattle.typing_rules.specs.declared.uses.Builtin.{Builtin}
 use Rattle.typing_rules.specs.declared.uses.Builtin.TheVariants as builtin
 use Rattle.typing_rules.specs.declared.uses.Target.TheVariants as target
 use Rattle.typing_rules.specs.Table.{IsCallOf}

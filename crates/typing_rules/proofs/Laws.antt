@@ -1,5 +1,5 @@
 -- A script with a typing has no fault; and what a call of a def may be.
-use Rattle.std.proofs.Common.{◌≡◌, refl, sym, subst, ap, ◌∙◌, ℕ, zero, suc, List, [], ◌∷◌, Option, Some, None, Bool, true, false, map, eq-eqb}
+use Rattle.std.proofs.Common.{◌≡◌, refl, sym, subst, ap, ◌∙◌, ℕ, zero, suc, List, [], ◌∷◌, Some, None, Bool, true, false, eq-eqb}
 use Rattle.std.proofs.Math.Path.{transport, transport⁻¹}
 use Rattle.script_grammar.specs.Tree.{Tree, ADef, none, more, Stmt, BindPart, DefPart, CallPart, IfPart, Bind, Script}
 use Rattle.type_terms.specs.Ground.{Ground}
@@ -7,12 +7,10 @@ use Rattle.typing_rules.specs.declared.uses.Use.{Use}
 use Rattle.typing_rules.specs.declared.fault.TypeFault.{TypeFault}
 use Rattle.typing_rules.specs.declared.fault.TypeFault.TheVariants as fault
 use Rattle.typing_rules.specs.Arguments.{Given, Matched}
-use Rattle.typing_rules.specs.Scoping.{target_in, meanings_of}
-use Rattle.typing_rules.specs.declared.fault.NameFault.{NameFault}
-use Rattle.typing_rules.specs.NameFaults.{first_fault}
+use Rattle.typing_rules.specs.Scoping.{target_in}
 use Rattle.typing_rules.specs.Typing.{DefHas}
 use Rattle.typing_rules.specs.Scripts.{Entry, value, function, Targets, Places, HasTyping, IsTypedTo, calls_of, def_token, first_of, params_of, sight}
-use Rattle.typing_rules.specs.Kinds.{said, target_at, read}
+use Rattle.typing_rules.specs.Kinds.{target_at, read}
 use Rattle.typing_rules.specs.Answers.{IsTyped, IsTypeFault, IsNameFault}
 
 -- the first statements of a script with a typing have it too

@@ -4,7 +4,6 @@ use Rattle.std.specs.Prelude.{codes}
 use Rattle.typing_rules.specs.declared.fault.NameFault.TheVariants.{Unknown, Missing, Extra, Repeated}
 use Rattle.typing_rules.specs.NameFaults.{first_fault}
 use Rattle.typing_rules.specs.declared.uses.Target.TheVariants as target
-use Rattle.typing_rules.specs.declared.uses.Builtin.TheVariants as builtin
 use Rattle.typing_rules.specs.Scoping.{meanings_of}
 use Rattle.typing_rules.specs.Scripts.{Places}
 use Rattle.typing_rules.specs.Answers.{IsTypeFault}

@@ -1,6 +1,6 @@
 -- A script has at most one fault beside want of memory.
-use Rattle.std.proofs.Common.{◌≡◌, ◌⊎◌, inl, inr, refl, sym, subst, ap, ◌∙◌, ℕ, zero, suc, ◌+◌, ◌-◌, ◌<◌, ◌≤◌, List, [], ◌∷◌, Option, Some, None, arith}
-use Rattle.script_grammar.specs.Tree.{Tree, none, more, Stmt, BindPart, DefPart, CallPart, IfPart, Bind, Script}
+use Rattle.std.proofs.Common.{◌≡◌, ◌⊎◌, inl, inr, refl, sym, ap, ◌∙◌, ℕ, zero, suc, ◌+◌, ◌-◌, ◌<◌, ◌≤◌, List, [], ◌∷◌, Option, Some, None, arith}
+use Rattle.script_grammar.specs.Tree.{none, more, Stmt, BindPart, DefPart, CallPart, IfPart, Bind, Script}
 use Rattle.typing_rules.specs.declared.fault.TypeFault.{TypeFault}
 use Rattle.typing_rules.specs.declared.fault.TypeFault.TheVariants as fault
 use Rattle.typing_rules.specs.Scoping.{Scope, target_in, meanings_of, with_statement}

@@ -1,5 +1,4 @@
 -- The numbers at of the samples are those of their tokens.
-use Rattle.std.proofs.Common.{refl}
 use Rattle.script_grammar.specs.Placed.{IsPlaced}
 use Rattle.typing_rules.proofs.Samples.{same_parameters, blank_of_one, only_y, mean_of_mono, amplified_by_int, amplified_by_nothing, hidden_builtin, def_as_value, missing_before_unknown, unknown_before_extra, label_of_plain, label_twice, recursion, hides_parameter, restricted, at_two_types, default_of_other_type}
 

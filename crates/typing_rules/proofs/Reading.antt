@@ -1,5 +1,5 @@
 -- What evaluation looks up is what typing reads.
-use Rattle.std.proofs.Common.{◌≡◌, refl, ap, ℕ, List, [], ◌∷◌, Option, Some, None, cond, Bool, true, false, nat_eq}
+use Rattle.std.proofs.Common.{◌≡◌, refl, ap, ℕ, List, [], ◌∷◌, Option, Some, cond, Bool, true, false, nat_eq}
 use Rattle.std.specs.Prelude.{option_and_then}
 use Rattle.liq_base.specs.declared.memory.Kind.{Kind}
 use Rattle.typing_rules.specs.declared.uses.Use.{Use}

@@ -1,5 +1,5 @@
 -- A def's text behind a chain of calls is its text by itself, with the places renamed.
-use Rattle.std.proofs.Common.{◌≡◌, refl, sym, ap, ◌∙◌, ℕ, List, [], ◌∷◌, ◌++◌, Some, Bool, true, false, nat_eq}
+use Rattle.std.proofs.Common.{◌≡◌, refl, ap, ℕ, List, [], ◌∷◌, ◌++◌, Some, true, false, nat_eq}
 use Rattle.std.proofs.Math.Path.{transport, transport⁻¹}
 use Rattle.std.specs.Prelude.{option_and_then}
 use Rattle.liq_base.specs.declared.memory.Kind.{Kind}
@@ -9,7 +9,7 @@ use Rattle.typing_rules.specs.Kinds.{around, kinds_in}
 use Rattle.script_grammar.specs.Tree.{Tree, ADef}
 use Rattle.type_terms.specs.Ground.{Ground}
 use Rattle.typing_rules.specs.Arguments.{Given, Matched}
-use Rattle.typing_rules.specs.Typing.{Sight, DefHas}
+use Rattle.typing_rules.specs.Typing.{DefHas}
 use Rattle.typing_rules.specs.Scripts.{behind, Entry, value, function, Targets, Places, calls_of, def_token, params_of, sight, types_of}
 
 pub shift : (ts : Targets) (kinds : Places) (es : List Entry) (chain c : List ℕ) (at t : ℕ) (gs : List (Given Ground)) (g : Ground) → calls_of ts kinds es (c ++ chain) at t gs g ≡ calls_of ts (behind chain kinds) es c at t gs g

@@ -1,5 +1,5 @@
 -- The answers of inference: the uses of a script that has a typing, or the first fault.
-use Rattle.std.specs.Prelude.{◌≡◌, ℕ, ◌-◌, List, [], ◌∷◌, Option, Some, None, map, ⊤}
+use Rattle.std.specs.Prelude.{◌≡◌, ℕ, ◌-◌, List, [], Some, None, map, ⊤}
 use Rattle.script_grammar.specs.Tree.{Script, Tree, ADef}
 use Rattle.typing_rules.specs.declared.uses.Use.{Use}
 use Rattle.typing_rules.specs.declared.fault.TypeFault.{TypeFault}

@@ -1,5 +1,5 @@
 -- The defs of a script by the tokens of their names, and what a call of one leads to.
-use Rattle.std.specs.Prelude.{◌≡◌, ◌⊎◌, ℕ, List, ◌∷◌, Option, Some, None, Bool, true, false, nat_eq}
+use Rattle.std.specs.Prelude.{◌≡◌, ◌⊎◌, ℕ, List, ◌∷◌, Option, Some, None, true, false, nat_eq}
 use Rattle.script_grammar.specs.Tree.{Tree, ADef, none, more, Stmt, BindPart, DefPart, CallPart, IfPart, Script}
 use Rattle.type_terms.specs.Ground.{Ground}
 use Rattle.typing_rules.specs.Arguments.{Given, Matched}

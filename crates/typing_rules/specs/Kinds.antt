@@ -1,9 +1,9 @@
 -- The kinds of the uses, read along the calls: they are a typing's, the least one's, and a def is open in exactly its open kinds.
-use Rattle.std.specs.Prelude.{◌≡◌, ◌⊎◌, ℕ, suc, List, [], ◌∷◌, ◌++◌, length, map, Option, Some, None, option_map, option_and_then, Bool, false, cond, nat_eq, nat_lt, slice_get, find}
+use Rattle.std.specs.Prelude.{◌≡◌, ◌⊎◌, ℕ, suc, List, [], ◌∷◌, length, map, Option, Some, None, option_map, option_and_then, Bool, false, cond, nat_eq, nat_lt, slice_get, find}
 use Rattle.std.specs.List.{flat_map}
 use Rattle.liq_base.specs.declared.memory.Kind.{Kind}
-use Rattle.liq_base.specs.declared.memory.Kind.TheVariants.{Mono, Stereo}
-use Rattle.script_grammar.specs.Tree.{Tree, Many, ADef, AStmt, none, more, Stmt, BindPart, DefPart, CallPart, IfPart, Script}
+use Rattle.liq_base.specs.declared.memory.Kind.TheVariants.{Mono}
+use Rattle.script_grammar.specs.Tree.{Tree, ADef, AStmt, none, more, Stmt, BindPart, DefPart, CallPart, IfPart, Script}
 use Rattle.type_terms.specs.Ground.{Ground}
 use Rattle.typing_rules.specs.declared.uses.Use.{Use}
 use Rattle.typing_rules.specs.declared.uses.KindOf.{KindOf}
@@ -15,7 +15,7 @@ use Rattle.typing_rules.specs.Uses.{use_at}
 use Rattle.typing_rules.specs.Table.{signature}
 use Rattle.typing_rules.specs.Scoping.{Name, Scope, names, with_statement, Meaning, target_in, target_of}
 use Rattle.typing_rules.specs.Typing.{DefHas}
-use Rattle.typing_rules.specs.Scripts.{Entry, value, function, Targets, Places, def_token, sight, IsTypedTo}
+use Rattle.typing_rules.specs.Scripts.{Entry, function, Targets, Places, def_token, sight}
 
 -- the kinds of a use, where the def around has these
 abbrev pub kind_at : List Kind → KindOf → Option Kind

@@ -1,5 +1,5 @@
 -- The faults of names and arguments, and which of them is told.
-use Rattle.std.specs.Prelude.{◌≡◌, ℕ, ◌+◌, List, [], ◌∷◌, ◌++◌, map, Option, Some, None, option_map, cond, Bool, true, false, bytes_eq, nat_eq, nat_le, Contains}
+use Rattle.std.specs.Prelude.{ℕ, ◌+◌, List, [], ◌∷◌, ◌++◌, map, Option, Some, None, option_map, cond, Bool, true, false, bytes_eq, nat_eq, nat_le}
 use Rattle.script_grammar.specs.Tree.{Tree, Many, none, more, AParam, AStmt, Param, Labelled, Optional, Stmt, BindPart, DefPart, CallPart, IfPart, Def, Script}
 use Rattle.typing_rules.specs.declared.uses.Target.{Target}
 use Rattle.typing_rules.specs.declared.fault.NameFault.{NameFault}

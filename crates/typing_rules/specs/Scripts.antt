@@ -1,7 +1,7 @@
 -- Typings of scripts: each bound name has one type for all its uses, and each call of a def types its text anew.
-use Rattle.std.specs.Prelude.{◌≡◌, ℕ, zero, suc, ◌+◌, ◌-◌, ◌<◌, ◌≤◌, List, [], ◌∷◌, ◌++◌, Option, Some, None, nat_eq, Bool, true, false}
+use Rattle.std.specs.Prelude.{◌≡◌, ℕ, zero, suc, ◌+◌, ◌-◌, ◌<◌, ◌≤◌, List, [], ◌∷◌, ◌++◌, Option, nat_eq, true, false}
 use Rattle.liq_base.specs.declared.memory.Kind.{Kind}
-use Rattle.script_grammar.specs.Tree.{Tree, Many, ADef, none, more, Stmt, BindPart, DefPart, CallPart, IfPart, Bind, Def, Script}
+use Rattle.script_grammar.specs.Tree.{Tree, ADef, none, more, Stmt, BindPart, DefPart, CallPart, IfPart, Bind, Def, Script}
 use Rattle.type_terms.specs.Ground.{Ground}
 use Rattle.typing_rules.specs.declared.uses.Target.{Target}
 use Rattle.typing_rules.specs.Arguments.{Parameter, Given, Matched, parameters_of}

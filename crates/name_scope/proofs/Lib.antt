@@ -1,0 +1,4 @@
+pub mod Searches
+pub mod Matching
+pub mod Rows
+pub mod Bindings

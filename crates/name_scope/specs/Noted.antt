@@ -1,0 +1,61 @@
+-- What is noted of names: those that stand for something, and the fault that is told.
+use Rattle.std.specs.Prelude.{ℕ, List, [], ◌∷◌, ◌++◌, Option, Some, None, cond, map, Bool, true, false}
+use Rattle.std.specs.List.{flat_map}
+use Rattle.script_grammar.specs.Tree.{Sort, Tree, Many, AnExpr, AnInner}
+use Rattle.typing_rules.specs.declared.fault.NameFault.{NameFault}
+use Rattle.typing_rules.specs.declared.fault.NameFault.TheVariants.{Extra}
+use Rattle.typing_rules.specs.declared.uses.Target.{Target}
+use Rattle.typing_rules.specs.Arguments.{Parameter, Given, first_missing, is_needed, left_over}
+use Rattle.typing_rules.specs.NameFaults.{faults_as, is_before, missing_at}
+use Rattle.typing_rules.specs.Scoping.{Meaning, Name, Scope, inner_names, names, target_of, with_inners}
+use Rattle.name_scope.specs.declared.notes.Notes.{Notes}
+use Rattle.name_scope.specs.declared.notes.Resolved.{Resolved}
+
+-- the first missing parameter, where one is known or none, and one more parameter takes an argument or none
+abbrev pub missing_with : Option (List ℕ) → Parameter → Bool → Option (List ℕ)
+missing_with (Some m) p taken = Some m
+missing_with None p true = None
+missing_with None p false = cond (is_needed p.form) (Some p.name) None
+
+-- the fault that is told of one known and one more
+abbrev pub sooner : Option NameFault → NameFault → Option NameFault
+sooner None f = Some f
+sooner (Some g) f = cond (is_before g f) (Some g) (Some f)
+
+abbrev pub all_sooner : Option NameFault → List NameFault → Option NameFault
+all_sooner o [] = o
+all_sooner o (f ∷ fs) = all_sooner (sooner o f) fs
+
+-- the faults of a call of something with these parameters
+abbrev pub mismatches : ℕ → List Parameter → List (Given ℕ) → List NameFault
+mismatches at ps gs = missing_at at (first_missing ps gs) ++ map (λ g. Extra g.1) (left_over ps gs)
+
+pub record Noted : Type 0 where
+  pub found : List Meaning
+  pub fault : Option NameFault
+
+abbrev pub meaning_at : ℕ → Option Target → List Meaning
+meaning_at at None = []
+meaning_at at (Some t) = (at, Some t) ∷ []
+
+-- with one more name that is used, and with more of them
+abbrev pub with_name : Noted → Name → Noted
+with_name n x = record { found = n.found ++ meaning_at x.at (target_of x.meant); fault = all_sooner n.fault (faults_as x.at x.meant x.given) }
+
+abbrev pub with_names : Noted → List Name → Noted
+with_names n [] = n
+with_names n (x ∷ xs) = with_names (with_name n x) xs
+
+-- the names that trees use, one after another
+abbrev pub names_each : {s : Sort} → Scope → List (Tree s) → List Name
+names_each sc ts = flat_map (names sc) ts
+
+abbrev pub resolved : Resolved → Meaning
+resolved r = (r.at, Some r.target)
+
+abbrev pub noted : Notes → Noted
+noted n = record { found = map resolved n.found.items; fault = n.fault }
+
+-- the names of a def's inner bindings and of its result, in the scope of its parameters
+abbrev pub body_names : Scope → Tree (Many AnInner) → Tree AnExpr → List Name
+body_names sc is e = inner_names sc is ++ names (with_inners is sc) e

@@ -1,0 +1,51 @@
+-- What the program's values stand for.
+use Rattle.std.specs.Prelude.{ℕ, List, [], ◌∷◌, ◌++◌, Option, map, option_map}
+use Rattle.typing_rules.specs.declared.uses.Builtin.{Builtin}
+use Rattle.typing_rules.specs.Arguments.{Parameter, Given}
+use Rattle.typing_rules.specs.Scoping.{Bound, Scope, value, function}
+use Rattle.typing_rules.specs.declared.form.Form.{Form}
+use Rattle.typing_rules.specs.declared.form.Form.TheVariants.{InPlace, ByLabel, Perhaps}
+use Rattle.script_grammar.specs.declared.tree.ParamForm.{ParamForm}
+use Rattle.script_grammar.specs.declared.tree.ParamForm.TheVariants as form
+use Rattle.name_scope.specs.declared.parameter.Parameter.{Parameter as AParameter}
+use Rattle.name_scope.specs.declared.parameter.Given.{Given as AGiven}
+use Rattle.name_scope.specs.declared.scope.Bound.{Bound as ABound}
+use Rattle.name_scope.specs.declared.scope.Bound.TheVariants as bound
+use Rattle.name_scope.specs.declared.scope.Binding.{Binding}
+use Rattle.name_scope.specs.declared.scope.Scope.{Scope as AScope}
+use Rattle.name_scope.specs.declared.scope.Scopes.{Scopes}
+use Rattle.std.specs.Borrow.{Bor}
+
+abbrev pub seen_parameter : AParameter → Parameter
+seen_parameter p = record { name = p.name.now; form = p.form }
+
+abbrev pub seen_label : Option (Bor (List ℕ)) → Option (List ℕ)
+seen_label l = option_map (λ s. s.now) l
+
+abbrev pub seen_given : AGiven → Given ℕ
+seen_given g = (seen_label g.label, g.at)
+
+abbrev pub seen_bound : ABound → Bound
+seen_bound (bound.Value t) = value t
+seen_bound (bound.Function t ps) = function t (map seen_parameter ps.items)
+
+-- a row of the table of builtins
+abbrev pub seen_row : Bor (List ℕ) × Builtin → List ℕ × Builtin
+seen_row r = (r.0.now, r.1)
+
+-- the newest binding first
+abbrev pub newest_first : List Binding → Scope
+newest_first [] = []
+newest_first (b ∷ bs) = newest_first bs ++ (b.name.now, seen_bound b.bound) ∷ []
+
+abbrev pub in_scope : AScope → Scope
+in_scope s = newest_first s.bindings.items
+
+abbrev pub both_scopes : Scopes → Scope
+both_scopes s = in_scope s.inner.now ++ in_scope s.outer.now
+
+-- the form of a def's parameter
+abbrev pub form_seen : ParamForm → Form
+form_seen form.Plain = InPlace
+form_seen form.Labelled = ByLabel
+form_seen (form.Optional f) = Perhaps

@@ -1,0 +1,18 @@
+//! What the names of a tree stand for, and the faults of names and arguments.
+#![tactic(auto)]
+
+mod arguments;
+mod builtins;
+mod notes;
+mod parameter;
+mod scope;
+mod statements;
+mod values;
+
+pub use arguments::{given_arguments, match_arguments, parameters};
+pub use builtins::{builtin_named, builtin_params};
+pub use notes::{Notes, Resolved};
+pub use parameter::{Given, Parameter};
+pub use scope::{Binding, Bound, Scope, Scopes};
+pub use statements::note_def;
+pub use values::{note_call, note_choice, note_expr, note_full};

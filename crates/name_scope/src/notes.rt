@@ -1,0 +1,235 @@
+// What is known of the names of a script so far.
+ghost use Rattle.std.specs.Prelude.{◌≡◌, ◌++◌, ◌∷◌, [], None, OnOk, map};
+ghost use Rattle.script_grammar.specs.View.{listed, view_arg, view_param};
+ghost use Rattle.typing_rules.specs.NameFaults.{is_among as is_one_of, is_before as is_told_before, missing_at, number as the_number, repeated_at, repeats, token as the_token};
+ghost use Rattle.typing_rules.specs.Scoping.{bound, call_meant, no_parameters, tokens_given, value_meant};
+ghost use Rattle.typing_rules.specs.declared.fault.NameFault.TheVariants.{Extra};
+ghost use Rattle.name_scope.specs.Seen.{both_scopes, seen_label, seen_parameter};
+ghost use Rattle.name_scope.specs.Noted.{all_sooner, mismatches, noted, sooner, with_name};
+
+use crate::arguments::{given_arguments, match_arguments};
+use crate::builtins::{builtin_named, builtin_params};
+use crate::parameter::{Given, Parameter};
+use crate::scope::{Bound, Scopes};
+use liq_base::{Memory, Text};
+use script_grammar::tree::{Arg, Param};
+use std::alloc::Global;
+use typing_rules::{NameFault, Target};
+
+/// A name that a script uses, by its token, and what it stands for.
+#[derive(Clone, Copy, Debug, PartialEq, Eq)]
+pub struct Resolved {
+    pub at: u32,
+    pub target: Target,
+}
+
+/// The names that were found, in the order of their tokens, and of the faults the one that is told.
+#[derive(Drop)]
+pub struct Notes {
+    pub found: Vec<Resolved>,
+    pub fault: Option<NameFault>,
+}
+
+fn token(fault: &NameFault) -> u32
+    ensures same { result ≡ the_token fault.now }
+{
+    match fault {
+        NameFault::Unknown { at } => *at,
+        NameFault::Missing { at, label: _ } => *at,
+        NameFault::Extra { at } => *at,
+        NameFault::Repeated { at } => *at,
+    }
+}
+
+fn number(fault: &NameFault) -> u32
+    ensures same { result ≡ the_number fault.now }
+{
+    match fault {
+        NameFault::Unknown { at: _ } => 1,
+        NameFault::Missing { at: _, label: _ } => 2,
+        NameFault::Extra { at: _ } => 3,
+        NameFault::Repeated { at: _ } => 4,
+    }
+}
+
+/// Whether the first is told before the second: by the token, then by the number.
+fn is_before(first: &NameFault, second: &NameFault) -> bool
+    ensures same { result ≡ is_told_before first.now second.now }
+{
+    if token(first) == token(second) {
+        number(first) <= number(second)
+    } else {
+        token(first) <= token(second)
+    }
+}
+
+/// Whether one of the parameters has this name.
+fn is_among(name: &Text, params: &[Param]) -> bool
+    ensures same { result ≡ is_one_of name.now (map (λ p. p.name) params.now) }
+{
+    for param in params {
+        if name.as_str() == param.name.as_str() {
+            return true;
+        }
+    }
+    false
+}
+
+impl Notes {
+    /// No names yet. It takes no memory.
+    pub fn new(alloc: Global) -> Notes
+        ensures found { result.found.items ≡ [] }
+        ensures fault { result.fault ≡ None }
+    {
+        Notes {
+            found: Vec::new(alloc),
+            fault: None,
+        }
+    }
+
+    /// Keeps of two faults the one that is told.
+    fn add_fault(&mut self, fault: NameFault)
+        ensures fault { self.new.fault ≡ sooner self.old.fault fault }
+        ensures found { self.new.found ≡ self.old.found }
+    {
+        let keeps = match &self.fault {
+            None => false,
+            Some(known) => is_before(known, &fault),
+        };
+        if !keeps {
+            self.fault = Some(fault);
+        }
+    }
+
+    /// Adds a name that stands for something.
+    fn add_found(&mut self, at: u32, target: Target) -> Result<(), Memory>
+        ensures found { OnOk result (self.new.found.items ≡ self.old.found.items ++ record { at = at; target = target } ∷ []) }
+        ensures fault { self.new.fault ≡ self.old.fault }
+    {
+        self.found.push(Resolved { at, target })?;
+        Ok(())
+    }
+
+    /// Adds the faults of a call's arguments.
+    fn add_mismatches(
+        &mut self,
+        alloc: Global,
+        at: u32,
+        params: &[Parameter<'_>],
+        args: &[Arg],
+    ) -> Result<(), Memory>
+        ensures fault { OnOk result (self.new.fault ≡ all_sooner self.old.fault (mismatches at (map seen_parameter params.now) (tokens_given (listed (map view_arg args.now))))) }
+        ensures found { OnOk result (self.new.found ≡ self.old.found) }
+    {
+        let mut given = given_arguments(alloc, args)?;
+        let missing = match_arguments(params, &mut given);
+        self.add_missing(alloc, at, missing)?;
+        self.add_extra(&given);
+        Ok(())
+    }
+
+    /// Adds the first missing argument of a call, if there is one.
+    fn add_missing(&mut self, alloc: Global, at: u32, missing: Option<&str>) -> Result<(), Memory>
+        ensures fault { OnOk result (self.new.fault ≡ all_sooner self.old.fault (missing_at at (seen_label missing.entry))) }
+        ensures found { OnOk result (self.new.found ≡ self.old.found) }
+    {
+        match missing {
+            None => Ok(()),
+            Some(name) => {
+                let label = Text::from_str(alloc, name)?;
+                self.add_fault(NameFault::Missing { at, label });
+                Ok(())
+            }
+        }
+    }
+
+    /// Adds the arguments that no parameter takes.
+    fn add_extra(&mut self, given: &[Given<'_>])
+        ensures fault { self.new.fault ≡ all_sooner self.old.fault (map (λ g. Extra g.at) given.now) }
+        ensures found { self.new.found ≡ self.old.found }
+    {
+        for one in given {
+            self.add_fault(NameFault::Extra { at: one.at });
+        }
+    }
+
+    /// Adds a parameter whose name an earlier one has, if it has.
+    fn add_repeated(&mut self, repeats: bool, at: u32)
+        ensures fault { self.new.fault ≡ all_sooner self.old.fault (repeated_at at repeats) }
+        ensures found { self.new.found ≡ self.old.found }
+    {
+        if repeats {
+            self.add_fault(NameFault::Repeated { at });
+        }
+    }
+
+    /// Adds the parameters of a def whose names earlier ones have.
+    pub fn add_repeats(&mut self, params: &[Param])
+        ensures fault { self.new.fault ≡ all_sooner self.old.fault (repeats [] (listed (map view_param params.now))) }
+        ensures found { self.new.found ≡ self.old.found }
+    {
+        for index in 0..params.len() {
+            let repeats = is_among(&params[index].name, &params[..index]);
+            self.add_repeated(repeats, params[index].at);
+        }
+    }
+
+    /// Adds a name outside a call.
+    pub fn add_value(&mut self, scopes: Scopes<'_, '_>, at: u32, name: &Text) -> Result<(), Memory>
+        ensures added { OnOk result (noted self.new ≡ with_name (noted self.old) (record { at = at; meant = no_parameters (value_meant (bound name.now (both_scopes scopes.entry))); given = [] })) }
+    {
+        match scopes.find(name.as_str()) {
+            Some(Bound::Value(token)) => self.add_found(at, Target::Slot(*token)),
+            Some(Bound::Function(_, _)) | None => {
+                self.add_fault(NameFault::Unknown { at });
+                Ok(())
+            }
+        }
+    }
+
+    /// Adds the name of a call, with how its arguments match.
+    pub fn add_call(
+        &mut self,
+        alloc: Global,
+        scopes: Scopes<'_, '_>,
+        at: u32,
+        name: &Text,
+        args: &[Arg],
+    ) -> Result<(), Memory>
+        ensures added { OnOk result (noted self.new ≡ with_name (noted self.old) (record { at = at; meant = call_meant name.now (bound name.now (both_scopes scopes.entry)); given = tokens_given (listed (map view_arg args.now)) })) }
+    {
+        match scopes.find(name.as_str()) {
+            Some(Bound::Value(_)) => {
+                self.add_fault(NameFault::Unknown { at });
+                Ok(())
+            }
+            Some(Bound::Function(token, params)) => {
+                self.add_found(at, Target::Def(*token))?;
+                self.add_mismatches(alloc, at, params, args)
+            }
+            None => self.add_outer_call(alloc, at, name, args),
+        }
+    }
+
+    /// Adds the name of a call that nothing in scope has.
+    fn add_outer_call(
+        &mut self,
+        alloc: Global,
+        at: u32,
+        name: &Text,
+        args: &[Arg],
+    ) -> Result<(), Memory>
+        ensures added { OnOk result (noted self.new ≡ with_name (noted self.old) (record { at = at; meant = call_meant name.now None; given = tokens_given (listed (map view_arg args.now)) })) }
+    {
+        match builtin_named(name.as_str()) {
+            None => {
+                self.add_fault(NameFault::Unknown { at });
+                Ok(())
+            }
+            Some(builtin) => {
+                self.add_found(at, Target::Builtin(builtin))?;
+                self.add_mismatches(alloc, at, builtin_params(builtin), args)
+            }
+        }
+    }
+}

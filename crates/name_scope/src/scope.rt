@@ -1,0 +1,81 @@
+// The names in scope.
+ghost use Rattle.std.specs.Prelude.{◌≡◌, ◌∷◌, [], OnOk, option_map};
+ghost use Rattle.typing_rules.specs.Scoping.{bound as the_bound};
+ghost use Rattle.name_scope.specs.Seen.{seen_bound, in_scope, both_scopes};
+
+use crate::parameter::Parameter;
+use liq_base::Memory;
+use std::alloc::Global;
+
+/// What a name is bound to, by the token of the name that is bound: a value, or a def with its parameters.
+#[derive(Drop)]
+pub enum Bound<'a> {
+    Value(u32),
+    Function(u32, Vec<Parameter<'a>>),
+}
+
+/// A name and what it is bound to.
+#[derive(Drop)]
+pub struct Binding<'a> {
+    pub name: &'a str,
+    pub bound: Bound<'a>,
+}
+
+/// The names that statements bind, or those of one def's parameters and inner bindings; the newest last.
+#[derive(Drop)]
+pub struct Scope<'a> {
+    pub bindings: Vec<Binding<'a>>,
+}
+
+impl<'a> Scope<'a> {
+    /// No names. It takes no memory.
+    pub fn new(alloc: Global) -> Scope<'a>
+        ensures empty { in_scope result ≡ [] }
+    {
+        Scope {
+            bindings: Vec::new(alloc),
+        }
+    }
+
+    /// Binds a name, which hides an older one.
+    pub fn bind(&mut self, name: &'a str, bound: Bound<'a>) -> Result<(), Memory>
+        ensures bound { OnOk result (in_scope self.new ≡ (name.entry.now, seen_bound bound.entry) ∷ in_scope self.old) }
+    {
+        self.bindings.push(Binding { name, bound })?;
+        Ok(())
+    }
+
+    /// What a name is bound to by the newest binding of it.
+    pub fn find(&self, name: &str) -> Option<&Bound<'a>>
+        ensures found { option_map (λ b. seen_bound b.now) result ≡ the_bound name.now (in_scope self.now) }
+    {
+        let mut left = self.bindings.len();
+        while left > 0 {
+            left -= 1;
+            let binding = &self.bindings[left];
+            if name == binding.name {
+                return Some(&binding.bound);
+            }
+        }
+        None
+    }
+}
+
+/// The names that are seen in a def's body, or those of statements alone: the inner ones hide the outer ones.
+#[derive(Clone, Copy)]
+pub struct Scopes<'s, 'a> {
+    pub inner: &'s Scope<'a>,
+    pub outer: &'s Scope<'a>,
+}
+
+impl<'s, 'a> Scopes<'s, 'a> {
+    /// What a name is bound to by the newest binding of it.
+    pub fn find(&self, name: &str) -> Option<&'s Bound<'a>>
+        ensures found { option_map (λ b. seen_bound b.now) result ≡ the_bound name.now (both_scopes self.now) }
+    {
+        match self.inner.find(name) {
+            Some(bound) => Some(bound),
+            None => self.outer.find(name),
+        }
+    }
+}
