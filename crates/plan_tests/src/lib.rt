@@ -3,3 +3,5 @@
 
 #[cfg(test)]
 mod clocks;
+#[cfg(test)]
+mod gaps;
