@@ -3,9 +3,13 @@
 #![tactic(auto)]
 
 #[cfg(test)]
+mod clocks;
+#[cfg(test)]
 mod clocks_tests;
 #[cfg(test)]
 mod draft_tests;
+#[cfg(test)]
+mod gaps_tests;
 #[cfg(test)]
 mod plan_core_tests;
 #[cfg(test)]
