@@ -1,5 +1,4 @@
 //! Tests of the public calls of audio files and leaves: each once with ample memory against its answer, worked rows.
-//! Worked rows of audio files and leaves.
 #![tactic(auto)]
 
 #[cfg(test)]

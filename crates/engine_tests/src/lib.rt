@@ -1,14 +1,9 @@
 //! Tests of the public calls of operators, of the engine and of its buffers: each once with ample memory against its
 //! answer, worked rows.
-//! Worked rows of the operators, of the engine and of its buffers.
 #![tactic(auto)]
 
 #[cfg(test)]
-mod buffers;
-#[cfg(test)]
 mod buffers_tests;
-#[cfg(test)]
-mod frames;
 #[cfg(test)]
 mod frames_tests;
 #[cfg(test)]

@@ -1,9 +1,6 @@
 //! Tests of the public calls of times, types and plans: each once with ample memory against its answer, worked rows.
-//! Tests of the crates that look a plan over.
 #![tactic(auto)]
 
-#[cfg(test)]
-mod clocks;
 #[cfg(test)]
 mod clocks_tests;
 #[cfg(test)]
