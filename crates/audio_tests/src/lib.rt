@@ -2,6 +2,6 @@
 #![tactic(auto)]
 
 #[cfg(test)]
-mod read_wav;
+mod audio_files;
 #[cfg(test)]
-mod track_library;
+mod read_wav;
