@@ -1,0 +1,33 @@
+-- The steps of the walk, one entry and one node after another.
+use Rattle.std.proofs.Common.{◌≡◌, ◌≤◌, ◌<◌, ℕ, zero, suc, ◌+◌, ◌∷◌, ◌++◌, [], List, length, drop, get_or, refl, sym, ap, ◌∙◌, arith}
+use Rattle.std.specs.Prelude.{Result, Ok, Err}
+use Rattle.std.proofs.Math.Seq.{drop-cons}
+use Rattle.liq_base.specs.Files.{Files}
+use Rattle.plan_core.specs.declared.node.Node.{Node}
+use Rattle.track_library.specs.Walk.{Heard, Walked, use_audio, entries_played, entry_played, entry_next, nodes_walked, node_next, leaf_added, leaf_of}
+use Rattle.track_library.specs.declared.rules.Rules.{Rules}
+use Rattle.track_library.specs.declared.fault.LoadFault.{LoadFault}
+
+pub entries_end : (rules : Rules) (files : Files) (names : List (List ℕ)) (e : LoadFault) → entries_played rules files names (Err e) ≡ Err e
+entries_end rules files [] e = refl
+entries_end rules files (name ∷ names) e = entries_end rules files names e
+
+pub next_entry : (rules : Rules) (files : Files) (names : List (List ℕ)) (at : ℕ) (heard : Heard) (leaf : List ℕ) (d : List ℕ) → at < length names
+    → entries_played rules files (drop at names) (Ok (heard, leaf))
+    ≡ entries_played rules files (drop (at + 1) names) (entry_played leaf (use_audio rules files heard (get_or names at d)))
+next_entry rules files names at heard leaf d below =
+    let next : suc at ≡ at + 1 = omega arith in
+    ap (λ l. entries_played rules files l (Ok (heard, leaf))) (drop-cons names at d below)
+    ∙ ap (λ n. entries_played rules files (drop n names) (entry_played leaf (use_audio rules files heard (get_or names at d)))) next
+
+pub nodes_end : (rules : Rules) (files : Files) (nodes : List Node) (e : LoadFault) → nodes_walked rules files nodes (Err e) ≡ Err e
+nodes_end rules files [] e = refl
+nodes_end rules files (node ∷ nodes) e = nodes_end rules files nodes e
+
+pub next_node : (rules : Rules) (files : Files) (nodes : List Node) (at : ℕ) (walked : Walked) (leaves : List (List ℕ)) (d : Node) → at < length nodes
+    → nodes_walked rules files (drop at nodes) (Ok (walked, leaves))
+    ≡ nodes_walked rules files (drop (at + 1) nodes) (leaf_added leaves (leaf_of rules files (get_or nodes at d).op walked))
+next_node rules files nodes at walked leaves d below =
+    let next : suc at ≡ at + 1 = omega arith in
+    ap (λ l. nodes_walked rules files l (Ok (walked, leaves))) (drop-cons nodes at d below)
+    ∙ ap (λ n. nodes_walked rules files (drop n nodes) (leaf_added leaves (leaf_of rules files (get_or nodes at d).op walked))) next
