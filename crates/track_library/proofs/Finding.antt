@@ -33,8 +33,8 @@ keep_finds heard name audio h s =
     record {
       heard = record {
         numbers =
-          All-push (λ (e : List ℕ × Result ℕ Unusable). IfOk e.1 (λ number. number < length (heard.sounds ++ audio.0 ∷ []))) heard.names (name, Ok (length heard.sounds))
-          (λ k d b. more_below (length heard.sounds) (length (heard.sounds ++ audio.0 ∷ [])) (slice_index_or heard.names k d).1 (omega arith) (h.numbers k d b)) (omega arith);
+            All-push (λ (e : List ℕ × Result ℕ Unusable). IfOk e.1 (λ number. number < length (heard.sounds ++ audio.0 ∷ []))) heard.names (name, Ok (length heard.sounds))
+            (λ k d b. more_below (length heard.sounds) (length (heard.sounds ++ audio.0 ∷ [])) (slice_index_or heard.names k d).1 (omega arith) (h.numbers k d b)) (omega arith);
         sounds = All-push IsSound heard.sounds audio.0 h.sounds s;
       };
       grew = omega arith;

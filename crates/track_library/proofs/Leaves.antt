@@ -18,7 +18,7 @@ pub one_leaf_more : (old new : Heard) (leaves : List (List ℕ)) (leaf : List �
 one_leaf_more old new leaves leaf so_far p = record {
   is_heard = p.heard;
   below =
-    All-push (All (λ number. number < length new.sounds)) leaves leaf
-    (λ k d within. all_more (length old.sounds) (length new.sounds) (slice_index_or leaves k d) p.grew (so_far.below k d within)) p.below;
+      All-push (All (λ number. number < length new.sounds)) leaves leaf
+      (λ k d within. all_more (length old.sounds) (length new.sounds) (slice_index_or leaves k d) p.grew (so_far.below k d within)) p.below;
   few = All-push (λ (l : List ℕ). length l < 2 ^ 32) leaves leaf so_far.few p.few;
 }

@@ -86,8 +86,8 @@ pub fresh_list : (files : Files) (lists : List (List ℕ × List (List ℕ))) (n
 fresh_list files lists name bytes names after at none read is added last =
     let all : lists ++ (name, names_of bytes) ∷ [] ≡ after = ap (λ (l : List (List ℕ)). lists ++ (name, l) ∷ []) (sym is) ∙ sym added in
     let value : names_of bytes ≡ names_at after at =
-      sym is ∙ sym (ap (λ (p : List ℕ × List (List ℕ)). p.1) (last_at lists (name, names) ([], [])))
-      ∙ ap (λ (n : ℕ). names_at (lists ++ (name, names) ∷ []) n) (sym last) ∙ ap (λ (l : List (List ℕ × List (List ℕ))). names_at l at) (sym added) in
+    sym is ∙ sym (ap (λ (p : List ℕ × List (List ℕ)). p.1) (last_at lists (name, names) ([], [])))
+    ∙ ap (λ (n : ℕ). names_at (lists ++ (name, names) ∷ []) n) (sym last) ∙ ap (λ (l : List (List ℕ × List (List ℕ))). names_at l at) (sym added) in
     ap (λ o. list_of lists name o (list_in name (bytes_in (2 ^ 20) (file_at files name)))) none
     ∙ ap (λ b. first_list lists name (list_in name b)) read
     ∙ (λ i. Ok (all i, value i))

@@ -71,7 +71,7 @@ abbrev pub first_use : ℕ → Heard → List ℕ → Result Audio Unusable → 
 first_use all heard name (Err fault) = Ok (record { names = heard.names ++ (name, Err fault) ∷ []; sounds = heard.sounds; bytes = heard.bytes }, Err fault)
 first_use all heard name (Ok audio) =
     if nat_le (heard.bytes + audio.1) all then
-      Ok (record { names = heard.names ++ (name, Ok (length heard.sounds)) ∷ []; sounds = heard.sounds ++ audio.0 ∷ []; bytes = heard.bytes + audio.1 }, Ok (length heard.sounds))
+    Ok (record { names = heard.names ++ (name, Ok (length heard.sounds)) ∷ []; sounds = heard.sounds ++ audio.0 ∷ []; bytes = heard.bytes + audio.1 }, Ok (length heard.sounds))
     else Err AllTooLarge
 
 -- what a name is: a name that was met before is what it was

@@ -1,4 +1,4 @@
-//! The audio files that a plan plays: lists of names, and samples.
+//! The audio files that a plan plays.
 #![tactic(auto)]
 
 mod audio;

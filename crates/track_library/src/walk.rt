@@ -136,7 +136,11 @@ impl Walk {
         ensures { result ≡ record { files = self.audio.tracks.items; leaves = map (λ leaf. leaf.items) leaves.items } }
     {
         let Walk { lists: _, audio } = self;
-        let AudioFiles { names: _, tracks, bytes: _ } = audio;
+        let AudioFiles {
+            names: _,
+            tracks,
+            bytes: _,
+        } = audio;
         Library::new(tracks, leaves)
     }
 }

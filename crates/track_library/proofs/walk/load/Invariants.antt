@@ -13,4 +13,4 @@ invariant-loop-node g l =
     × (g.S.Shelf.read_count l.fn.shelf ≤ g.S.Shelf.read_count l.shelf) × (g.S.Shelf.write_count l.fn.shelf ≤ g.S.Shelf.write_count l.shelf)
     × LeavesSoFar (heard_of l.walk.audio) (map (λ leaf. leaf.items) l.leaves.items)
     × ForSome (g.S.Shelf.files l.fn.shelf) (λ files. nodes_walked l.rules files l.plan.nodes (Ok (nothing_met, []))
-      ≡ nodes_walked l.rules files (drop l.node-index l.plan.nodes) (Ok (walked_of l.walk, map (λ leaf. leaf.items) l.leaves.items)))
+    ≡ nodes_walked l.rules files (drop l.node-index l.plan.nodes) (Ok (walked_of l.walk, map (λ leaf. leaf.items) l.leaves.items)))

@@ -13,4 +13,4 @@ invariant-loop-name g l =
     × (g.S.Shelf.read_count l.fn.shelf ≤ g.S.Shelf.read_count l.shelf) × (g.S.Shelf.write_count l.fn.shelf ≤ g.S.Shelf.write_count l.shelf)
     × PlaysSoFar (heard_of l.fn.audio) (heard_of l.audio) l.leaf.items
     × ForSome (g.S.Shelf.files l.fn.shelf) (λ files. entries_played l.rules files l.names (Ok (heard_of l.fn.audio, []))
-      ≡ entries_played l.rules files (drop l.name-index l.names) (Ok (heard_of l.audio, l.leaf.items)))
+    ≡ entries_played l.rules files (drop l.name-index l.names) (Ok (heard_of l.audio, l.leaf.items)))

@@ -29,5 +29,5 @@ returns-in_ok-fault_of-in-Err-clause-fault g c =
     told_ends _ _ _ (λ files. use_list files (lists_of c.args.self.now) c.args.name.now) c.args.name.now c.in-Err.fault c.in_ok-fault_of-in-Err.field-0
     c.in_ok-fault_of-in-Err.ensures
     (λ files told. failed_list files (lists_of c.args.self.now) c.args.name.now c.in-Err.fault
-      (absent_list c.args.self.now.lists.entries c.args.name.now (sym c.in_default.ensures.found))
-      (c.in_ok-bytes.ensures.fetched files told ∙ ap items_of c.in-Err.is))
+    (absent_list c.args.self.now.lists.entries c.args.name.now (sym c.in_default.ensures.found))
+    (c.in_ok-bytes.ensures.fetched files told ∙ ap items_of c.in-Err.is))
