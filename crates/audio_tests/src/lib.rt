@@ -2,6 +2,10 @@
 #![tactic(auto)]
 
 #[cfg(test)]
+mod audio_files_tests;
+#[cfg(test)]
 mod op_leaf_tests;
+#[cfg(test)]
+mod read_wav_tests;
 #[cfg(test)]
 mod wav_io_tests;

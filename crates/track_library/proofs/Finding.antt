@@ -1,0 +1,68 @@
+-- What a name is found to be keeps the numbers below the sounds.
+use Rattle.std.proofs.Common.{◌≡◌, ◌≤◌, ◌<◌, ℕ, suc, ◌+◌, Bool, true, false, cond, List, [], ◌∷◌, ◌++◌, length, Some, None, Option, refl, sym, ap, ◌∙◌, subst, arith, length-append}
+use Rattle.std.specs.Prelude.{Result, Ok, Err, IfOk, nat_le, slice_index_or}
+use Rattle.std.specs.Str.{bytes_eq}
+use Rattle.std.specs.List.{All}
+use Rattle.std.proofs.lemmas.List.Elements.{All-push}
+use Rattle.frame_core.specs.Sounds.{Sound, IsSound}
+use Rattle.track_library.specs.Walk.{Heard, Audio, first_use, value_of}
+use Rattle.track_library.specs.States.{IsHeard, Finds}
+use Rattle.track_library.specs.declared.fault.LoadFault.{LoadFault}
+use Rattle.track_library.specs.declared.fault.LoadFault.TheVariants.{AllTooLarge}
+use Rattle.track_library.specs.declared.fault.Unusable.{Unusable}
+
+more_below : (a b : ℕ) (r : Result ℕ Unusable) → a ≤ b → IfOk r (λ n. n < a) → IfOk r (λ n. n < b)
+more_below a b (Ok n) le h = omega arith
+more_below a b (Err fault) le h = h
+
+note_finds : (heard : Heard) (name : List ℕ) (fault : Unusable) → IsHeard heard
+    → Finds heard (record { names = heard.names ++ (name, Err fault) ∷ []; sounds = heard.sounds; bytes = heard.bytes }) (Err fault)
+note_finds heard name fault h = record {
+  heard = record {
+    numbers = All-push (λ (e : List ℕ × Result ℕ Unusable). IfOk e.1 (λ number. number < length heard.sounds)) heard.names (name, Err fault) h.numbers tt;
+    sounds = h.sounds;
+  };
+  grew = omega arith;
+  number = tt;
+}
+
+keep_finds : (heard : Heard) (name : List ℕ) (audio : Audio) → IsHeard heard → IsSound audio.0
+    → Finds heard (record { names = heard.names ++ (name, Ok (length heard.sounds)) ∷ []; sounds = heard.sounds ++ audio.0 ∷ []; bytes = heard.bytes + audio.1 }) (Ok (length heard.sounds))
+keep_finds heard name audio h s =
+    let long : length (heard.sounds ++ audio.0 ∷ []) ≡ length heard.sounds + 1 = length-append heard.sounds (audio.0 ∷ []) in
+    record {
+      heard = record {
+        numbers =
+            All-push (λ (e : List ℕ × Result ℕ Unusable). IfOk e.1 (λ number. number < length (heard.sounds ++ audio.0 ∷ []))) heard.names (name, Ok (length heard.sounds))
+            (λ k d b. more_below (length heard.sounds) (length (heard.sounds ++ audio.0 ∷ [])) (slice_index_or heard.names k d).1 (omega arith) (h.numbers k d b)) (omega arith);
+        sounds = All-push IsSound heard.sounds audio.0 h.sounds s;
+      };
+      grew = omega arith;
+      number = omega arith;
+    }
+
+abbrev outcome : Bool → Heard × Result ℕ Unusable → LoadFault → Result (Heard × Result ℕ Unusable) LoadFault
+outcome b x fault = cond b (Ok x) (Err fault)
+
+chosen : (b : Bool) (heard : Heard) (x : Heard × Result ℕ Unusable) (y : Heard × Result ℕ Unusable) (fault : LoadFault) → Finds heard x.0 x.1
+    → outcome b x fault ≡ Ok y → Finds heard y.0 y.1
+chosen true heard x y fault f e = (let same : x ≡ y = (cc) in subst (λ (z : Heard × Result ℕ Unusable). Finds heard z.0 z.1) same f)
+chosen false heard x y fault f e = absurd (cc)
+
+pub first_finds : (all : ℕ) (heard : Heard) (name : List ℕ) (found : Result Audio Unusable) (after : Heard) (number : Result ℕ Unusable)
+    → IsHeard heard → IfOk found (λ audio. IsSound audio.0) → first_use all heard name found ≡ Ok (after, number) → Finds heard after number
+first_finds all heard name (Err fault) after number h s e = chosen true heard _ (after, number) AllTooLarge (note_finds heard name fault h) e
+first_finds all heard name (Ok audio) after number h s e =
+    chosen (nat_le (heard.bytes + audio.1) all) heard _ (after, number) AllTooLarge (keep_finds heard name audio h s) e
+
+named_below : (n : ℕ) (names : List (List ℕ × Result ℕ Unusable)) (name : List ℕ) (found : Result ℕ Unusable)
+    → All (λ e. IfOk e.1 (λ number. number < n)) names → value_of name names ≡ Some found → IfOk found (λ number. number < n)
+named_below n [] name found all there = absurd (cc)
+named_below n (e ∷ es) name found all there = at_test (bytes_eq name e.0) there (named_below n es name found (λ k d b. all (suc k) d (omega arith))) where
+  at_test : (b : Bool) → cond b (Some e.1) (value_of name es) ≡ Some found → (value_of name es ≡ Some found → IfOk found (λ number. number < n)) → IfOk found (λ number. number < n)
+  at_test true h more = (let same : e.1 ≡ found = (cc) in subst (λ r. IfOk r (λ number. number < n)) same (all 0 e (omega arith)))
+  at_test false h more = more h
+
+-- a name that was met before
+pub known_finds : (heard : Heard) (name : List ℕ) (found : Result ℕ Unusable) → IsHeard heard → value_of name heard.names ≡ Some found → Finds heard heard found
+known_finds heard name found h there = record { heard = h; grew = omega arith; number = named_below _ heard.names name found h.numbers there }

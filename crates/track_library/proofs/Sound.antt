@@ -1,0 +1,26 @@
+-- Whole blocks of bytes are a sound.
+use Rattle.std.proofs.Common.{◌≡◌, ◌≤◌, ◌<◌, ℕ, ℤ, suc, ◌+◌, ◌*◌, ◌/◌, ◌%◌, ◌∷◌, [], List, length, refl, sym, ap, ◌∙◌, subst, arith}
+use Rattle.std.specs.Prelude.{Result, Ok, Err, IfOk}
+use Rattle.liq_base.specs.declared.memory.Kind.{Kind}
+use Rattle.liq_base.specs.declared.memory.Kind.TheVariants.{Mono, Stereo}
+use Rattle.frame_core.specs.Bytes.{samples_in}
+use Rattle.frame_core.specs.Sounds.{Sound, IsSound}
+use Rattle.wav_io.specs.Reading.{AreBlocks}
+
+-- two bytes a sample
+pub samples_long : (bytes : List ℕ) → length (samples_in bytes) ≡ length bytes / 2
+samples_long [] = refl
+samples_long (low ∷ []) = refl
+samples_long (low ∷ high ∷ bytes) = let rest = samples_long bytes in omega arith
+
+pub blocks_sound : (kind : Kind) (bytes : List ℕ) → AreBlocks kind bytes → IsSound (record { kind = kind; samples = samples_in bytes })
+blocks_sound Mono bytes blocks =
+    let long = samples_long bytes in
+    let count = blocks.count in
+    let half : length (samples_in bytes) ≡ count = omega (arith, blocks.whole) in
+    record { whole_blocks = omega arith; some = omega (arith, blocks.some) }
+blocks_sound Stereo bytes blocks =
+    let long = samples_long bytes in
+    let count = blocks.count in
+    let half : length (samples_in bytes) ≡ 2 * count = omega (arith, blocks.whole) in
+    record { whole_blocks = omega arith; some = omega (arith, blocks.some) }

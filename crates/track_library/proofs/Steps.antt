@@ -1,0 +1,58 @@
+-- The steps of the walk, one entry and one node after another.
+use Rattle.std.proofs.Common.{◌≡◌, ◌≤◌, ◌<◌, ℕ, zero, suc, ◌+◌, ◌∷◌, ◌++◌, [], List, length, drop, get_or, map, refl, subst, sym, ap, ◌∙◌, arith}
+use Rattle.std.specs.Prelude.{Result, Ok, Err, Vec}
+use Rattle.std.specs.declared.alloc.Global.{Global}
+use Rattle.std.proofs.Math.Seq.{drop-cons}
+use Rattle.liq_base.specs.Files.{Files}
+use Rattle.plan_core.specs.declared.node.Node.{Node}
+use Rattle.track_library.specs.Walk.{Heard, Walked, use_audio, entries_played, entry_played, entry_next, nodes_walked, node_next, leaf_added, leaf_of}
+use Rattle.track_library.specs.declared.rules.Rules.{Rules}
+use Rattle.track_library.specs.declared.fault.LoadFault.{LoadFault}
+
+pub entries_end : (rules : Rules) (files : Files) (names : List (List ℕ)) (e : LoadFault) → entries_played rules files names (Err e) ≡ Err e
+entries_end rules files [] e = refl
+entries_end rules files (name ∷ names) e = entries_end rules files names e
+
+pub next_entry : (rules : Rules) (files : Files) (names : List (List ℕ)) (at : ℕ) (heard : Heard) (leaf : List ℕ) (d : List ℕ) → at < length names
+    → entries_played rules files (drop at names) (Ok (heard, leaf))
+    ≡ entries_played rules files (drop (at + 1) names) (entry_played leaf (use_audio rules files heard (get_or names at d)))
+next_entry rules files names at heard leaf d below =
+    let next : suc at ≡ at + 1 = omega arith in
+    ap (λ l. entries_played rules files l (Ok (heard, leaf))) (drop-cons names at d below)
+    ∙ ap (λ n. entries_played rules files (drop n names) (entry_played leaf (use_audio rules files heard (get_or names at d)))) next
+
+pub nodes_end : (rules : Rules) (files : Files) (nodes : List Node) (e : LoadFault) → nodes_walked rules files nodes (Err e) ≡ Err e
+nodes_end rules files [] e = refl
+nodes_end rules files (node ∷ nodes) e = nodes_end rules files nodes e
+
+pub next_node : (rules : Rules) (files : Files) (nodes : List Node) (at : ℕ) (walked : Walked) (leaves : List (List ℕ)) (d : Node) → at < length nodes
+    → nodes_walked rules files (drop at nodes) (Ok (walked, leaves))
+    ≡ nodes_walked rules files (drop (at + 1) nodes) (leaf_added leaves (leaf_of rules files (get_or nodes at d).op walked))
+next_node rules files nodes at walked leaves d below =
+    let next : suc at ≡ at + 1 = omega arith in
+    ap (λ l. nodes_walked rules files l (Ok (walked, leaves))) (drop-cons nodes at d below)
+    ∙ ap (λ n. nodes_walked rules files (drop n nodes) (leaf_added leaves (leaf_of rules files (get_or nodes at d).op walked))) next
+
+pub next_entry_of : (rules : Rules) (files : Files) (names : List (List ℕ)) (at : ℕ) (heard : Heard) (leaf : List ℕ) (item name : List ℕ) → at < length names
+    → item ≡ get_or names at item → name ≡ item
+    → entries_played rules files (drop at names) (Ok (heard, leaf)) ≡ entries_played rules files (drop (at + 1) names) (entry_played leaf (use_audio rules files heard name))
+next_entry_of rules files names at heard leaf item name below is same =
+    next_entry rules files names at heard leaf item below
+    ∙ ap (λ (n : List ℕ). entries_played rules files (drop (at + 1) names) (entry_played leaf (use_audio rules files heard n))) (sym is ∙ sym same)
+
+pub next_node_of : (rules : Rules) (files : Files) (slice nodes : List Node) (at : ℕ) (walked : Walked) (leaves : List (List ℕ)) (node : Node)
+    → slice ≡ nodes → at < length slice → node ≡ get_or slice at node
+    → nodes_walked rules files (drop at nodes) (Ok (walked, leaves))
+    ≡ nodes_walked rules files (drop (at + 1) nodes) (leaf_added leaves (leaf_of rules files node.op walked))
+next_node_of rules files slice nodes at walked leaves node same below is =
+    let b : at < length nodes = subst (λ (s : List Node). at < length s) same below in
+    let e : node ≡ get_or nodes at node = is ∙ ap (λ (s : List Node). get_or s at node) same in
+    next_node rules files nodes at walked leaves node b
+    ∙ ap (λ (n : Node). nodes_walked rules files (drop (at + 1) nodes) (leaf_added leaves (leaf_of rules files n.op walked))) (sym e)
+
+pub items_pushed : (old new : List (Vec ℕ Global)) (leaf : Vec ℕ Global) → new ≡ old ++ leaf ∷ []
+    → map (λ (v : Vec ℕ Global). v.items) new ≡ map (λ (v : Vec ℕ Global). v.items) old ++ leaf.items ∷ []
+items_pushed old new leaf e = ap (map (λ (v : Vec ℕ Global). v.items)) e ∙ pushed old where
+  pushed : (l : List (Vec ℕ Global)) → map (λ (v : Vec ℕ Global). v.items) (l ++ leaf ∷ []) ≡ map (λ (v : Vec ℕ Global). v.items) l ++ leaf.items ∷ []
+  pushed [] = refl
+  pushed (v ∷ vs) = ap (λ ls. v.items ∷ ls) (pushed vs)

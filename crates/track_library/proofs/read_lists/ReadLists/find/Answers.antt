@@ -1,0 +1,33 @@
+use Rattle.std.proofs.Common.{◌≡◌, ◌∙◌, ap, sym}
+use Rattle.std.specs.Prelude.{Ok, Err, ◌^◌, None}
+use Rattle.liq_base.specs.Files.{file_at}
+use Rattle.track_library.specs.Walk.{value_of, list_of, list_in, bytes_in, items_of, use_list}
+use Rattle.track_library.specs.Lists.{names_of}
+use Rattle.track_library.specs.States.{lists_of, listed}
+use Rattle.track_library.proofs.Names.{found_list, absent_list, fresh_list, failed_list}
+use Rattle.track_library.proofs.Ending.{told_ends}
+use Rattle.track_library.proofs.read_lists.ReadLists.find.Goals as goal
+
+pub returns-in-Some-clause-used : goal.returns-in-Some-clause-used
+returns-in-Some-clause-used g c = λ files told.
+    ap (λ o. list_of (lists_of c.args.self.now) c.args.name.now o (list_in c.args.name.now (bytes_in (2 ^ 20) (file_at files c.args.name.now))))
+    (found_list c.args.self.now.lists.entries c.args.name.now c.in-Some.at c.in-Some.ensures.value (sym c.in-Some.ensures.found))
+
+pub add-requires : goal.add-requires
+add-requires g c = absent_list c.args.self.now.lists.entries c.args.name.now (sym c.in_default.ensures.found)
+
+pub returns-in_ok-add-in-Ok-clause-used : goal.returns-in_ok-add-in-Ok-clause-used
+returns-in_ok-add-in-Ok-clause-used g c = λ files told.
+    fresh_list files (lists_of c.args.self.now) c.args.name.now c.in-Ok.bytes.items c.in_ok-names-in-Ok.names.items (lists_of c.add.new.self) c.in_ok-add-in-Ok.field-0
+    (absent_list c.args.self.now.lists.entries c.args.name.now (sym c.in_default.ensures.found))
+    (c.in_ok-bytes.ensures.fetched files told ∙ ap items_of c.in-Ok.is)
+    (c.in_ok-names-in-Ok.ensures.names ∙ ap names_of c.deref.ensures.value)
+    c.in_ok-add-in-Ok.ensures.added c.in_ok-add-in-Ok.ensures.at
+
+pub returns-in_ok-fault_of-in-Err-clause-fault : goal.returns-in_ok-fault_of-in-Err-clause-fault
+returns-in_ok-fault_of-in-Err-clause-fault g c =
+    told_ends _ _ _ (λ files. use_list files (lists_of c.args.self.now) c.args.name.now) c.args.name.now c.in-Err.fault c.in_ok-fault_of-in-Err.field-0
+    c.in_ok-fault_of-in-Err.ensures
+    (λ files told. failed_list files (lists_of c.args.self.now) c.args.name.now c.in-Err.fault
+    (absent_list c.args.self.now.lists.entries c.args.name.now (sym c.in_default.ensures.found))
+    (c.in_ok-bytes.ensures.fetched files told ∙ ap items_of c.in-Err.is))

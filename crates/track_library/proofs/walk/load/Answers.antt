@@ -1,0 +1,50 @@
+use Rattle.std.proofs.Common.{rules, arith, ◌≡◌, ◌∙◌, ◌+◌, ◌∷◌, ◌++◌, [], List, ℕ, ap, sym, subst, drop, map}
+use Rattle.std.specs.Prelude.{Ok, Vec}
+use Rattle.std.specs.declared.alloc.Global.{Global}
+use Rattle.track_library.specs.Walk.{Ends, load_of, leaf_of, leaf_added, nodes_walked, sounds_of}
+use Rattle.track_library.specs.States.{heard_of, walked_of}
+use Rattle.track_library.specs.declared.rules.Rules.{Rules}
+use Rattle.track_library.proofs.Ending.{ends_through}
+use Rattle.track_library.proofs.Leaves.{LeavesSoFar, one_leaf_more}
+use Rattle.track_library.proofs.Steps.{next_node_of, nodes_end, items_pushed}
+use Rattle.track_library.proofs.walk.load.Goals as goal
+
+pub returns-in_err-leaf-clause-fault : goal.returns-in_err-leaf-clause-fault
+returns-in_err-leaf-clause-fault g c =
+    let by : Rules = record { rate = c.args.plan.now.rate; file = c.args.sizes.file; all = c.args.sizes.all } in
+    let leaves = map (λ (v : Vec ℕ Global). v.items) c.loop-node.leaves.items in
+    let ends : Ends (g.S.Shelf.files c.args.shelf.now) (g.S.Shelf.read_count c.args.shelf.now) (g.S.Shelf.read_count c.find_leaf.new.shelf)
+    (λ files. load_of by files c.args.plan.now.nodes) c.in_err-leaf.field-0.0 =
+    ends_through (g.S.Shelf.files c.args.shelf.now) (g.S.Shelf.files c.loop-node.shelf) (g.S.Shelf.read_count c.args.shelf.now) (g.S.Shelf.read_count c.loop-node.shelf)
+    (g.S.Shelf.read_count c.find_leaf.new.shelf) (g.S.Shelf.read_count c.find_leaf.new.shelf)
+    (λ files. leaf_of by files c.node-item.result.op (walked_of c.loop-node.walk))
+    (λ files. load_of by files c.args.plan.now.nodes) c.in_err-leaf.field-0.0
+    c.loop-node.invariant.0 c.loop-node.invariant.1 (omega arith)
+    (λ files t e h.
+    ap sounds_of
+    (c.loop-node.invariant.4 files t
+    ∙ next_node_of by files c.as_slice-node-items.result.now c.args.plan.now.nodes c.loop-node.node-index (walked_of c.loop-node.walk) leaves c.node-item.result
+    c.as_slice-node-items.ensures c.loop-node-test.true c.node-item.is
+    ∙ ap (λ r. nodes_walked by files (drop (c.loop-node.node-index + 1) c.args.plan.now.nodes) (leaf_added leaves r)) h
+    ∙ nodes_end by files (drop (c.loop-node.node-index + 1) c.args.plan.now.nodes) e))
+    c.in_err-leaf.ensures.fault in
+    search rules
+
+pub loop-node-preserved : goal.loop-node-preserved
+loop-node-preserved g c =
+    let by : Rules = record { rate = c.args.plan.now.rate; file = c.args.sizes.file; all = c.args.sizes.all } in
+    let leaves = map (λ (v : Vec ℕ Global). v.items) c.loop-node.leaves.items in
+    let pushed : map (λ (v : Vec ℕ Global). v.items) c.push.new.self.items ≡ leaves ++ c.in_ok-leaf.leaf.items ∷ [] =
+    items_pushed c.loop-node.leaves.items c.push.new.self.items c.in_ok-leaf.leaf c.in_ok-push.ensures.items in (
+      c.in_ok-leaf.ensures.files ∙ c.loop-node.invariant.0,
+      omega arith,
+      omega arith,
+      subst (λ (ls : List (List ℕ)). LeavesSoFar (heard_of c.find_leaf.new.self.audio) ls) (sym pushed)
+          (one_leaf_more (heard_of c.loop-node.walk.audio) (heard_of c.find_leaf.new.self.audio) leaves c.in_ok-leaf.leaf.items c.loop-node.invariant.3 c.in_ok-leaf.ensures.plays),
+      λ files t.
+          c.loop-node.invariant.4 files t
+          ∙ next_node_of by files c.as_slice-node-items.result.now c.args.plan.now.nodes c.loop-node.node-index (walked_of c.loop-node.walk) leaves c.node-item.result
+          c.as_slice-node-items.ensures c.loop-node-test.true c.node-item.is
+          ∙ ap (λ r. nodes_walked by files (drop (c.loop-node.node-index + 1) c.args.plan.now.nodes) (leaf_added leaves r)) (c.in_ok-leaf.ensures.leaf files (c.loop-node.invariant.0 ∙ t))
+          ∙ ap (λ (ls : List (List ℕ)). nodes_walked by files (drop (c.loop-node.node-index + 1) c.args.plan.now.nodes) (Ok (walked_of c.find_leaf.new.self, ls))) (sym pushed),
+    )

@@ -1,0 +1,16 @@
+use Rattle.std.proofs.Common.{◌≡◌, ◌≤◌, [], drop}
+use Rattle.std.specs.Prelude.{Ok}
+use Rattle.std.specs.Option.{ForSome}
+use Rattle.track_library.specs.Walk.{entries_played}
+use Rattle.track_library.specs.States.{heard_of}
+use Rattle.track_library.proofs.Played.{PlaysSoFar}
+use Rattle.track_library.proofs.walk.play_entries.Given as goal
+
+-- what was played and the entries that are left make the whole
+abbrev pub invariant-loop-name : goal.invariant-loop-name
+invariant-loop-name g l =
+    (g.S.Shelf.files l.shelf ≡ g.S.Shelf.files l.fn.shelf)
+    × (g.S.Shelf.read_count l.fn.shelf ≤ g.S.Shelf.read_count l.shelf) × (g.S.Shelf.write_count l.fn.shelf ≤ g.S.Shelf.write_count l.shelf)
+    × PlaysSoFar (heard_of l.fn.audio) (heard_of l.audio) l.leaf.items
+    × ForSome (g.S.Shelf.files l.fn.shelf) (λ files. entries_played l.rules files l.names (Ok (heard_of l.fn.audio, []))
+    ≡ entries_played l.rules files (drop l.name-index l.names) (Ok (heard_of l.audio, l.leaf.items)))

@@ -1,0 +1,34 @@
+-- The names in a list of audio files. `docs/formats.md` has the rules.
+use Rattle.std.specs.Prelude.{ℕ, ◌-◌, ◌&&◌, Bool, not, List, [], ◌∷◌, length, take, drop, if◌then◌else◌, nat_eq, slice_index}
+use Rattle.std.specs.Str.{bytes_eq, is_utf8}
+
+-- a byte at the front of the first line
+abbrev pub with_first : ℕ → List (List ℕ) → List (List ℕ)
+with_first byte [] = (byte ∷ []) ∷ []
+with_first byte (line ∷ lines) = (byte ∷ line) ∷ lines
+
+-- the lines of some bytes: each ends before an LF, which is no part of it, or where the bytes end
+abbrev pub lines : List ℕ → List (List ℕ)
+lines [] = []
+lines (byte ∷ bytes) = if nat_eq byte 10 then [] ∷ lines bytes else with_first byte (lines bytes)
+
+-- the bytes without the byte order mark at their start
+abbrev pub without_mark : List ℕ → List ℕ
+without_mark bytes = if bytes_eq (take 3 bytes) (0xEF ∷ 0xBB ∷ 0xBF ∷ []) then drop 3 bytes else bytes
+
+-- a line without the CR at its end
+abbrev pub without_cr : List ℕ → List ℕ
+without_cr line = if bytes_eq (drop (length line - 1) line) (13 ∷ []) then take (length line - 1) line else line
+
+-- UTF-8 that is not empty, and does not begin with `#`
+abbrev pub is_name : List ℕ → Bool
+is_name line = not (nat_eq (length line) 0) && not (nat_eq (slice_index line 0) 35) && is_utf8 line
+
+-- the names among these lines
+abbrev pub names_in : List (List ℕ) → List (List ℕ)
+names_in [] = []
+names_in (line ∷ lines) = if is_name (without_cr line) then without_cr line ∷ names_in lines else names_in lines
+
+-- the names in a list
+abbrev pub names_of : List ℕ → List (List ℕ)
+names_of bytes = names_in (lines (without_mark bytes))

@@ -1,0 +1,55 @@
+-- What contracts see of the audio files that were met and of the lists that were read.
+use Rattle.std.specs.Prelude.{◌≡◌, ◌≤◌, ◌<◌, ◌^◌, ℕ, [], ◌∷◌, ◌++◌, List, length, map, Option, Some, None, Result, Ok, Err, IfOk, string_bytes, String, Vec, slice_index_or}
+use Rattle.std.specs.List.{All}
+use Rattle.std.specs.declared.alloc.Global.{Global}
+use Rattle.frame_core.specs.Sounds.{IsSound}
+use Rattle.track_library.specs.Walk.{Heard, Walked}
+use Rattle.track_library.specs.declared.walk.Walk.{Walk}
+use Rattle.track_library.specs.declared.audio.AudioFiles.{AudioFiles}
+use Rattle.track_library.specs.declared.read_lists.ReadLists.{ReadLists}
+use Rattle.track_library.specs.declared.fault.Unusable.{Unusable}
+
+-- values under names, in the order of a map
+abbrev pub named : {V : Type 0} → List (String Global × V) → List (List ℕ × V)
+named entries = map (λ e. (string_bytes e.0, e.1)) entries
+
+-- lists under names
+abbrev pub listed : List (String Global × Vec (List ℕ) Global) → List (List ℕ × List (List ℕ))
+listed entries = map (λ e. (string_bytes e.0, e.1.items)) entries
+
+abbrev pub heard_of : AudioFiles → Heard
+heard_of audio = record { names = named audio.names.entries; sounds = audio.tracks.items; bytes = audio.bytes }
+
+abbrev pub lists_of : ReadLists → List (List ℕ × List (List ℕ))
+lists_of read = listed read.lists.entries
+
+-- the names of the list at a place
+abbrev pub names_at : List (List ℕ × List (List ℕ)) → ℕ → List (List ℕ)
+names_at lists at = (slice_index_or lists at ([], [])).1
+
+-- each number that a name has is that of a sound, and each sound has whole blocks, and at least one
+pub record IsHeard (heard : Heard) : Type 0 where
+  pub numbers : All (λ e. IfOk e.1 (λ number. number < length heard.sounds)) heard.names
+  pub sounds : All IsSound heard.sounds
+
+-- what a name was found to be, between two states: sounds were added alone, and its number is that of a sound
+pub record Finds (old new : Heard) (found : Result ℕ Unusable) : Type 0 where
+  pub heard : IsHeard new
+  pub grew : length old.sounds ≤ length new.sounds
+  pub number : IfOk found (λ number. number < length new.sounds)
+
+-- what a leaf plays, between two states: sounds were added alone, and its numbers, fewer than 2^32, are those of sounds
+pub record Plays (old new : Heard) (leaf : List ℕ) : Type 0 where
+  pub heard : IsHeard new
+  pub grew : length old.sounds ≤ length new.sounds
+  pub below : All (λ number. number < length new.sounds) leaf
+  pub few : length leaf < 2 ^ 32
+
+-- a leaf and what an entry was found to be
+abbrev pub with_found : List ℕ → Result ℕ Unusable → List ℕ
+with_found leaf (Ok number) = leaf ++ number ∷ []
+with_found leaf (Err fault) = leaf
+
+-- what was read on the walk so far
+abbrev pub walked_of : Walk → Walked
+walked_of walk = record { lists = lists_of walk.lists; heard = heard_of walk.audio }

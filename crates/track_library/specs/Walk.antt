@@ -1,0 +1,218 @@
+-- The walk over the nodes of a plan that finds the audio files that they play. `docs/formats.md` has the rules.
+use Rattle.std.specs.Prelude.{◌≡◌, ◌≤◌, ◌<◌, ℕ, ◌+◌, ◌^◌, ⊤, List, [], ◌∷◌, ◌++◌, length, map, Option, Some, None, Result, Ok, Err, IfOk, if◌then◌else◌, nat_eq, nat_le, string_bytes, String, Vec}
+use Rattle.std.specs.declared.alloc.Global.{Global}
+use Rattle.std.specs.List.{All}
+use Rattle.std.specs.Option.{ForSome}
+use Rattle.std.specs.Str.{bytes_eq}
+use Rattle.liq_base.specs.Counts.{Rose}
+use Rattle.liq_base.specs.Files.{Files, file_at}
+use Rattle.plan_core.specs.declared.node.Node.{Node}
+use Rattle.plan_core.specs.declared.node.Op.{Op}
+use Rattle.plan_core.specs.declared.node.Op.TheVariants.{Single, Playlist, Blank, Square, Fail, Fallback, Switch, Sequence, Add, Amplify, Mean, Stereo, Crossfade, Buffer, Clock}
+use Rattle.plan_core.specs.declared.plan.Plan.{Plan}
+use Rattle.wav_io.specs.Plain.{Wave}
+use Rattle.wav_io.specs.Reading.{read_of}
+use Rattle.frame_core.specs.Bytes.{samples_in}
+use Rattle.frame_core.specs.Library.{Sounds}
+use Rattle.frame_core.specs.Sounds.{Sound, IsSound}
+use Rattle.wav_io.specs.declared.fault.WavFault.{WavFault}
+use Rattle.track_library.specs.Lists.{names_of}
+use Rattle.track_library.specs.declared.rules.Rules.{Rules}
+use Rattle.track_library.specs.declared.fault.LoadFault.{LoadFault}
+use Rattle.track_library.specs.declared.fault.LoadFault.TheVariants.{Missing, BadAudio, OtherRate, FileTooLarge, AllTooLarge, ReadFault, Memory}
+use Rattle.track_library.specs.declared.fault.Unusable.{Unusable}
+use Rattle.track_library.specs.declared.fault.Unusable.TheVariants.{NotThere, NotWav, AnotherRate, TooLong}
+
+-- the bytes of a file that is there and has at most so many
+abbrev pub bytes_in : ℕ → Option (List ℕ) → Result (List ℕ) Unusable
+bytes_in most None = Err NotThere
+bytes_in most (Some bytes) = if nat_le (length bytes) most then Ok bytes else Err TooLong
+
+-- the bytes of a list that was read
+abbrev pub items_of : Result (Vec ℕ Global) Unusable → Result (List ℕ) Unusable
+items_of (Err fault) = Err fault
+items_of (Ok bytes) = Ok bytes.items
+
+-- the sound of what was read, at the rate of the script
+abbrev pub sound_in : ℕ → Result Wave WavFault → Result Sound Unusable
+sound_in rate (Err fault) = Err (NotWav fault)
+sound_in rate (Ok wave) = if nat_eq wave.rate rate then Ok (record { kind = wave.kind; samples = samples_in wave.body }) else Err AnotherRate
+
+-- the sound of an audio file, and how many bytes the file has
+abbrev pub Audio : Type 0
+Audio = Sound × ℕ
+
+abbrev pub sized : ℕ → Result Sound Unusable → Result Audio Unusable
+sized size (Err fault) = Err fault
+sized size (Ok sound) = Ok (sound, size)
+
+abbrev pub opened : ℕ → Result (List ℕ) Unusable → Result Audio Unusable
+opened rate (Err fault) = Err fault
+opened rate (Ok bytes) = sized (length bytes) (sound_in rate (read_of bytes))
+
+-- an audio file that can be used: it is there, not too long, a WAV file, and at the rate of the script; else what it breaks first
+abbrev pub audio_at : Rules → Files → List ℕ → Result Audio Unusable
+audio_at rules files name = opened rules.rate (bytes_in rules.file (file_at files name))
+
+-- what stands first under a name
+abbrev pub value_of : {V : Type 0} → List ℕ → List (List ℕ × V) → Option V
+value_of name [] = None
+value_of name (entry ∷ entries) = if bytes_eq name entry.0 then Some entry.1 else value_of name entries
+
+-- the audio files that were met: what each name is, which is the number of a sound or a fault; the sounds that are
+-- used, in the order in which they were met; and the bytes of their files
+pub record Heard : Type 0 where
+  pub names : List (List ℕ × Result ℕ Unusable)
+  pub sounds : List Sound
+  pub bytes : ℕ
+
+-- a name that was not met before: a sound is used, if the bytes of its file fit beside those of the others
+abbrev pub first_use : ℕ → Heard → List ℕ → Result Audio Unusable → Result (Heard × Result ℕ Unusable) LoadFault
+first_use all heard name (Err fault) = Ok (record { names = heard.names ++ (name, Err fault) ∷ []; sounds = heard.sounds; bytes = heard.bytes }, Err fault)
+first_use all heard name (Ok audio) =
+    if nat_le (heard.bytes + audio.1) all then
+    Ok (record { names = heard.names ++ (name, Ok (length heard.sounds)) ∷ []; sounds = heard.sounds ++ audio.0 ∷ []; bytes = heard.bytes + audio.1 }, Ok (length heard.sounds))
+    else Err AllTooLarge
+
+-- what a name is: a name that was met before is what it was
+abbrev pub use_of : ℕ → Heard → List ℕ → Option (Result ℕ Unusable) → Result Audio Unusable → Result (Heard × Result ℕ Unusable) LoadFault
+use_of all heard name (Some found) audio = Ok (heard, found)
+use_of all heard name None audio = first_use all heard name audio
+
+abbrev pub use_audio : Rules → Files → Heard → List ℕ → Result (Heard × Result ℕ Unusable) LoadFault
+use_audio rules files heard name = use_of rules.all heard name (value_of name heard.names) (audio_at rules files name)
+
+-- the fault that is told of a file that cannot be used
+abbrev pub told_fault : List ℕ → Unusable → LoadFault
+told_fault name NotThere = Missing name
+told_fault name (NotWav fault) = BadAudio name fault
+told_fault name AnotherRate = OtherRate name
+told_fault name TooLong = FileTooLarge name
+
+-- a `single` plays its file
+abbrev pub single_leaf : List ℕ → Result (Heard × Result ℕ Unusable) LoadFault → Result (Heard × List ℕ) LoadFault
+single_leaf name (Err fault) = Err fault
+single_leaf name (Ok (heard, Err fault)) = Err (told_fault name fault)
+single_leaf name (Ok (heard, Ok number)) = Ok (heard, number ∷ [])
+
+-- an entry of a list is played behind those before it, if it can be used
+abbrev pub entry_played : List ℕ → Result (Heard × Result ℕ Unusable) LoadFault → Result (Heard × List ℕ) LoadFault
+entry_played leaf (Err fault) = Err fault
+entry_played leaf (Ok (heard, Err fault)) = Ok (heard, leaf)
+entry_played leaf (Ok (heard, Ok number)) = Ok (heard, leaf ++ number ∷ [])
+
+abbrev pub entry_next : Rules → Files → List ℕ → Result (Heard × List ℕ) LoadFault → Result (Heard × List ℕ) LoadFault
+entry_next rules files name (Err fault) = Err fault
+entry_next rules files name (Ok (heard, leaf)) = entry_played leaf (use_audio rules files heard name)
+
+-- the entries of a list, one after another
+abbrev pub entries_played : Rules → Files → List (List ℕ) → Result (Heard × List ℕ) LoadFault → Result (Heard × List ℕ) LoadFault
+entries_played rules files [] played = played
+entries_played rules files (name ∷ names) played = entries_played rules files names (entry_next rules files name played)
+
+-- the names of a list, which is there and has at most 1048576 bytes
+abbrev pub list_in : List ℕ → Result (List ℕ) Unusable → Result (List (List ℕ)) LoadFault
+list_in name (Err fault) = Err (told_fault name fault)
+list_in name (Ok bytes) = Ok (names_of bytes)
+
+-- the lists that were read, and the audio files that were met
+pub record Walked : Type 0 where
+  pub lists : List (List ℕ × List (List ℕ))
+  pub heard : Heard
+
+-- a list that was not read before
+abbrev pub first_list : List (List ℕ × List (List ℕ)) → List ℕ → Result (List (List ℕ)) LoadFault
+    → Result (List (List ℕ × List (List ℕ)) × List (List ℕ)) LoadFault
+first_list lists name (Err fault) = Err fault
+first_list lists name (Ok names) = Ok (lists ++ (name, names) ∷ [], names)
+
+-- the names of a list: a list that was read before is what it was
+abbrev pub list_of : List (List ℕ × List (List ℕ)) → List ℕ → Option (List (List ℕ)) → Result (List (List ℕ)) LoadFault
+    → Result (List (List ℕ × List (List ℕ)) × List (List ℕ)) LoadFault
+list_of lists name (Some names) fresh = Ok (lists, names)
+list_of lists name None fresh = first_list lists name fresh
+
+abbrev pub use_list : Files → List (List ℕ × List (List ℕ)) → List ℕ → Result (List (List ℕ × List (List ℕ)) × List (List ℕ)) LoadFault
+use_list files lists name = list_of lists name (value_of name lists) (list_in name (bytes_in (2 ^ 20) (file_at files name)))
+
+abbrev pub with_lists : List (List ℕ × List (List ℕ)) → Result (Heard × List ℕ) LoadFault → Result (Walked × List ℕ) LoadFault
+with_lists lists (Err fault) = Err fault
+with_lists lists (Ok (heard, leaf)) = Ok (record { lists = lists; heard = heard }, leaf)
+
+-- a `playlist` plays those entries of its list that can be used
+abbrev pub playlist_leaf : Rules → Files → Heard → Result (List (List ℕ × List (List ℕ)) × List (List ℕ)) LoadFault → Result (Walked × List ℕ) LoadFault
+playlist_leaf rules files heard (Err fault) = Err fault
+playlist_leaf rules files heard (Ok (lists, names)) = with_lists lists (entries_played rules files names (Ok (heard, [])))
+
+-- the files that a node plays
+abbrev pub leaf_of : Rules → Files → Op → Walked → Result (Walked × List ℕ) LoadFault
+leaf_of rules files (Single name) walked = with_lists walked.lists (single_leaf name (use_audio rules files walked.heard name))
+leaf_of rules files (Playlist name again) walked = playlist_leaf rules files walked.heard (use_list files walked.lists name)
+leaf_of rules files (Blank track) walked = Ok (walked, [])
+leaf_of rules files (Square pitch) walked = Ok (walked, [])
+leaf_of rules files Fail walked = Ok (walked, [])
+leaf_of rules files (Fallback sensitive) walked = Ok (walked, [])
+leaf_of rules files (Switch sensitive preds) walked = Ok (walked, [])
+leaf_of rules files Sequence walked = Ok (walked, [])
+leaf_of rules files (Add normalize) walked = Ok (walked, [])
+leaf_of rules files (Amplify factor) walked = Ok (walked, [])
+leaf_of rules files Mean walked = Ok (walked, [])
+leaf_of rules files Stereo walked = Ok (walked, [])
+leaf_of rules files (Crossfade overlap) walked = Ok (walked, [])
+leaf_of rules files (Buffer number) walked = Ok (walked, [])
+leaf_of rules files (Clock id) walked = Ok (walked, [])
+
+abbrev pub leaf_added : List (List ℕ) → Result (Walked × List ℕ) LoadFault → Result (Walked × List (List ℕ)) LoadFault
+leaf_added leaves (Err fault) = Err fault
+leaf_added leaves (Ok (walked, leaf)) = Ok (walked, leaves ++ leaf ∷ [])
+
+abbrev pub node_next : Rules → Files → Node → Result (Walked × List (List ℕ)) LoadFault → Result (Walked × List (List ℕ)) LoadFault
+node_next rules files node (Err fault) = Err fault
+node_next rules files node (Ok (walked, leaves)) = leaf_added leaves (leaf_of rules files node.op walked)
+
+-- the nodes, one after another
+abbrev pub nodes_walked : Rules → Files → List Node → Result (Walked × List (List ℕ)) LoadFault → Result (Walked × List (List ℕ)) LoadFault
+nodes_walked rules files [] walked = walked
+nodes_walked rules files (node ∷ nodes) walked = nodes_walked rules files nodes (node_next rules files node walked)
+
+abbrev pub sounds_of : Result (Walked × List (List ℕ)) LoadFault → Result Sounds LoadFault
+sounds_of (Err fault) = Err fault
+sounds_of (Ok (walked, leaves)) = Ok (record { files = walked.heard.sounds; leaves = leaves })
+
+abbrev pub nothing_met : Walked
+nothing_met = record { lists = []; heard = record { names = []; sounds = []; bytes = 0 } }
+
+-- the library of a plan, or the first fault of the walk
+abbrev pub load_of : Rules → Files → List Node → Result Sounds LoadFault
+load_of rules files nodes = sounds_of (nodes_walked rules files nodes (Ok (nothing_met, [])))
+
+-- why a step ends with this fault: a read that failed let the count of failed reads rise; memory may be refused
+-- anywhere; every other fault is the one of the files, where they are told
+abbrev pub Ends : {X : Type 0} → Option Files → ℕ → ℕ → (Files → Result X LoadFault) → LoadFault → Type 0
+Ends told before after step (Missing name) = ForSome told (λ files. step files ≡ Err (Missing name))
+Ends told before after step (BadAudio name fault) = ForSome told (λ files. step files ≡ Err (BadAudio name fault))
+Ends told before after step (OtherRate name) = ForSome told (λ files. step files ≡ Err (OtherRate name))
+Ends told before after step (FileTooLarge name) = ForSome told (λ files. step files ≡ Err (FileTooLarge name))
+Ends told before after step AllTooLarge = ForSome told (λ files. step files ≡ Err AllTooLarge)
+Ends told before after step (ReadFault name) = Rose before after
+Ends told before after step Memory = ⊤
+
+-- a read ends with these faults alone
+abbrev pub IsReading : ℕ → ℕ → LoadFault → Type 0
+IsReading before after (Missing name) = ⊥
+IsReading before after (BadAudio name fault) = ⊥
+IsReading before after (OtherRate name) = ⊥
+IsReading before after (FileTooLarge name) = ⊥
+IsReading before after AllTooLarge = ⊥
+IsReading before after (ReadFault name) = Rose before after
+IsReading before after Memory = ⊤
+
+-- a step that reads nothing ends with its fault, or for want of memory
+abbrev pub EndsAt : {X : Type 0} → Result X LoadFault → LoadFault → Type 0
+EndsAt step (Missing name) = step ≡ Err (Missing name)
+EndsAt step (BadAudio name fault) = step ≡ Err (BadAudio name fault)
+EndsAt step (OtherRate name) = step ≡ Err (OtherRate name)
+EndsAt step (FileTooLarge name) = step ≡ Err (FileTooLarge name)
+EndsAt step AllTooLarge = step ≡ Err AllTooLarge
+EndsAt step (ReadFault name) = ⊥
+EndsAt step Memory = ⊤

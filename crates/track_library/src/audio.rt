@@ -1,0 +1,117 @@
+// The audio files that were met on the walk.
+ghost use Rattle.std.specs.Prelude.{◌≡◌, ◌≤◌, ◌<◌, ◌+◌, ◌++◌, ◌∷◌, [], length, Ok, Err, None, Some, IfOk, IfErr, OnOk};
+ghost use Rattle.std.specs.Option.{ForSome};
+ghost use Rattle.frame_core.specs.Sounds.{IsSound};
+ghost use Rattle.track_library.specs.Walk.{Ends, EndsAt, first_use, use_audio, value_of};
+ghost use Rattle.track_library.specs.States.{heard_of, Finds, IsHeard};
+
+use crate::fault::{LoadFault, Unusable};
+use crate::reading::read_audio;
+use crate::rules::Rules;
+use frame_core::Track;
+use indexmap::IndexMap;
+use liq_base::{Memory, Shelf};
+use std::alloc::Global;
+
+/// The audio files that were met: what each name is, and the sounds of those that are used.
+#[derive(Drop)]
+pub struct AudioFiles {
+    /// Each name's number among the sounds, or why its file cannot be used.
+    pub names: IndexMap<String, Result<u32, Unusable>>,
+
+    /// The sounds, in the order in which they were met.
+    pub tracks: Vec<Track>,
+
+    /// The bytes of the files of all sounds.
+    pub bytes: u64,
+}
+
+impl AudioFiles {
+    /// What this name is, if it was met before.
+    fn known(&self, name: &str) -> Option<Result<u32, Unusable>>
+        ensures { result ≡ value_of name.now (heard_of self.now).names }
+    {
+        self.names.get(name).copied()
+    }
+
+    /// Notes what a name is that was not met before.
+    fn note(
+        &mut self,
+        alloc: Global,
+        name: &str,
+        found: Result<u32, Unusable>,
+    ) -> Result<(), Memory>
+        requires { value_of name.now (heard_of self.old).names ≡ None }
+        ensures { OnOk result (heard_of self.new ≡ record (heard_of self.old) { names = (heard_of self.old).names ++ (name.now, found) ∷ [] }) }
+    {
+        self.names.insert(String::from_str(alloc, name)?, found)?;
+        Ok(())
+    }
+
+    /// Keeps a sound, and answers its number.
+    fn keep(&mut self, track: Track) -> Result<u32, Memory>
+        ensures number { IfOk result (λ number. number ≡ length (heard_of self.old).sounds) }
+        ensures kept { OnOk result (heard_of self.new ≡ record (heard_of self.old) { sounds = (heard_of self.old).sounds ++ track ∷ [] }) }
+    {
+        let Ok(number) = u32::try_from(self.tracks.len()) else {
+            return Err(Memory);
+        };
+        self.tracks.push(track)?;
+        Ok(number)
+    }
+
+    /// Uses an audio file that was not met before, if its bytes fit beside those of the others.
+    fn add(
+        &mut self,
+        alloc: Global,
+        name: &str,
+        found: Result<(Track, u64), Unusable>,
+        all: u64,
+    ) -> Result<Result<u32, Unusable>, LoadFault>
+        requires heard { IsHeard (heard_of self.old) }
+        requires sound { IfOk found (λ audio. IsSound audio.0) }
+        requires unknown { value_of name.now (heard_of self.old).names ≡ None }
+        ensures used { IfOk result (λ number. first_use all (heard_of self.old) name.now found ≡ Ok (heard_of self.new, number)) }
+        ensures finds { IfOk result (λ number. Finds (heard_of self.old) (heard_of self.new) number) }
+        ensures fault { IfErr result (EndsAt (first_use all (heard_of self.old) name.now found)) }
+    {
+        let (track, size) = match found {
+            Ok(audio) => audio,
+            Err(fault) => {
+                self.note(alloc, name, Err(fault))?;
+                return Ok(Err(fault));
+            }
+        };
+        let bytes = match self.bytes.checked_add(size) {
+            Some(bytes) if bytes <= all => bytes,
+            _ => return Err(LoadFault::AllTooLarge),
+        };
+        let number = self.keep(track)?;
+        self.bytes = bytes;
+        self.note(alloc, name, Ok(number))?;
+        Ok(Ok(number))
+    }
+
+    /// What a name is as an audio file; it is read where it was not met before.
+    pub fn find<S: Shelf>(
+        &mut self,
+        alloc: Global,
+        shelf: &mut S,
+        name: &str,
+        rules: Rules,
+    ) -> Result<Result<u32, Unusable>, LoadFault>
+        requires { IsHeard (heard_of self.old) }
+        ensures used { IfOk result (λ found. ForSome (S.files shelf.old) (λ files. use_audio rules files (heard_of self.old) name.now ≡ Ok (heard_of self.new, found))) }
+        ensures finds { IfOk result (λ found. Finds (heard_of self.old) (heard_of self.new) found) }
+        ensures fault { IfErr result (Ends (S.files shelf.old) (S.read_count shelf.old) (S.read_count shelf.new) (λ files. use_audio rules files (heard_of self.old) name.now)) }
+        ensures files { S.files shelf.new ≡ S.files shelf.old }
+        ensures reads { S.read_count shelf.old ≤ S.read_count shelf.new }
+        ensures writes { S.write_count shelf.old ≤ S.write_count shelf.new }
+    {
+        if let Some(found) = self.known(name) {
+            return Ok(found);
+        }
+        let found = read_audio(alloc, shelf, name, rules)?;
+        self.add(alloc, name, found, rules.all)
+    }
+}

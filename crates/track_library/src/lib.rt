@@ -1,0 +1,17 @@
+//! The audio files that a plan plays.
+#![tactic(auto)]
+
+mod audio;
+mod fault;
+mod list;
+mod read_lists;
+mod reading;
+mod rules;
+mod samples;
+mod walk;
+
+pub use fault::LoadFault;
+pub use list::read_list;
+pub use rules::Sizes;
+pub use samples::read_samples;
+pub use walk::load;

@@ -1,0 +1,175 @@
+// The walk over the nodes of a plan.
+ghost use Rattle.std.specs.Prelude.{◌≡◌, ◌≤◌, ◌<◌, ◌^◌, [], length, map, Ok, IfOk, IfErr, OnOk};
+ghost use Rattle.std.specs.List.{All};
+ghost use Rattle.std.specs.Option.{ForSome};
+ghost use Rattle.track_library.specs.Walk.{Ends, entries_played, leaf_of, load_of, nothing_met, single_leaf, use_audio};
+ghost use Rattle.track_library.specs.States.{heard_of, IsHeard, Plays, walked_of, with_found};
+
+use crate::audio::AudioFiles;
+use crate::fault::{LoadFault, Unusable, fault_of};
+use crate::read_lists::ReadLists;
+use crate::rules::{Rules, Sizes};
+use frame_core::Library;
+use indexmap::IndexMap;
+use liq_base::{Memory, Shelf, Text};
+use plan_core::{Op, Plan};
+use std::alloc::Global;
+
+/// What was read on the walk so far.
+#[derive(Drop)]
+pub struct Walk {
+    pub lists: ReadLists,
+    pub audio: AudioFiles,
+}
+
+/// The files that a `single` plays.
+fn find_single<S: Shelf>(
+    alloc: Global,
+    shelf: &mut S,
+    audio: &mut AudioFiles,
+    name: &str,
+    rules: Rules,
+) -> Result<Vec<u32>, LoadFault>
+    requires { IsHeard (heard_of audio.old) }
+    ensures leaf { IfOk result (λ leaf. ForSome (S.files shelf.old) (λ files. single_leaf name.now (use_audio rules files (heard_of audio.old) name.now) ≡ Ok (heard_of audio.new, leaf.items))) }
+    ensures fault { IfErr result (Ends (S.files shelf.old) (S.read_count shelf.old) (S.read_count shelf.new) (λ files. single_leaf name.now (use_audio rules files (heard_of audio.old) name.now))) }
+    ensures plays { IfOk result (λ leaf. Plays (heard_of audio.old) (heard_of audio.new) leaf.items) }
+    ensures files { S.files shelf.new ≡ S.files shelf.old }
+    ensures reads { S.read_count shelf.old ≤ S.read_count shelf.new }
+    ensures writes { S.write_count shelf.old ≤ S.write_count shelf.new }
+{
+    match audio.find(alloc, shelf, name, rules)? {
+        Ok(number) => {
+            let mut leaf = Vec::new(alloc);
+            leaf.push(number)?;
+            Ok(leaf)
+        }
+        Err(fault) => Err(fault_of(alloc, name, fault)?),
+    }
+}
+
+/// Adds the number of a file that can be used.
+fn push_found(leaf: &mut Vec<u32>, found: Result<u32, Unusable>) -> Result<(), Memory>
+    ensures { OnOk result (leaf.new.items ≡ with_found leaf.old.items found) }
+{
+    if let Ok(number) = found {
+        leaf.push(number)?;
+    }
+    Ok(())
+}
+
+/// The files of a list's entries that can be used.
+fn play_entries<S: Shelf>(
+    alloc: Global,
+    shelf: &mut S,
+    audio: &mut AudioFiles,
+    names: &[Text],
+    rules: Rules,
+) -> Result<Vec<u32>, LoadFault>
+    requires { IsHeard (heard_of audio.old) }
+    ensures leaf { IfOk result (λ leaf. ForSome (S.files shelf.old) (λ files. entries_played rules files names.now (Ok (heard_of audio.old, [])) ≡ Ok (heard_of audio.new, leaf.items))) }
+    ensures fault { IfErr result (Ends (S.files shelf.old) (S.read_count shelf.old) (S.read_count shelf.new) (λ files. entries_played rules files names.now (Ok (heard_of audio.old, [])))) }
+    ensures plays { IfOk result (λ leaf. Plays (heard_of audio.old) (heard_of audio.new) leaf.items) }
+    ensures files { S.files shelf.new ≡ S.files shelf.old }
+    ensures reads { S.read_count shelf.old ≤ S.read_count shelf.new }
+    ensures writes { S.write_count shelf.old ≤ S.write_count shelf.new }
+{
+    let mut leaf = Vec::new(alloc);
+    for name in names {
+        let found = audio.find(alloc, shelf, name.as_str(), rules)?;
+        push_found(&mut leaf, found)?;
+    }
+    match u32::try_from(leaf.len()) {
+        Ok(_) => Ok(leaf),
+        Err(_) => Err(LoadFault::Memory),
+    }
+}
+
+impl Walk {
+    /// A walk that has read nothing.
+    fn new(alloc: Global) -> Walk
+        ensures { walked_of result ≡ nothing_met }
+    {
+        Walk {
+            lists: ReadLists {
+                lists: IndexMap::new(alloc),
+            },
+            audio: AudioFiles {
+                names: IndexMap::new(alloc),
+                tracks: Vec::new(alloc),
+                bytes: 0,
+            },
+        }
+    }
+
+    /// The files that a node plays.
+    fn find_leaf<S: Shelf>(
+        &mut self,
+        alloc: Global,
+        shelf: &mut S,
+        op: &Op,
+        rules: Rules,
+    ) -> Result<Vec<u32>, LoadFault>
+        requires { IsHeard (heard_of self.old.audio) }
+        ensures leaf { IfOk result (λ leaf. ForSome (S.files shelf.old) (λ files. leaf_of rules files op.now (walked_of self.old) ≡ Ok (walked_of self.new, leaf.items))) }
+        ensures fault { IfErr result (Ends (S.files shelf.old) (S.read_count shelf.old) (S.read_count shelf.new) (λ files. leaf_of rules files op.now (walked_of self.old))) }
+        ensures plays { IfOk result (λ leaf. Plays (heard_of self.old.audio) (heard_of self.new.audio) leaf.items) }
+        ensures files { S.files shelf.new ≡ S.files shelf.old }
+        ensures reads { S.read_count shelf.old ≤ S.read_count shelf.new }
+        ensures writes { S.write_count shelf.old ≤ S.write_count shelf.new }
+    {
+        match op {
+            Op::Single(name) => find_single(alloc, shelf, &mut self.audio, name.as_str(), rules),
+            Op::Playlist { file, again: _ } => {
+                let at = self.lists.find(alloc, shelf, file.as_str())?;
+                play_entries(alloc, shelf, &mut self.audio, self.lists.names(at), rules)
+            }
+            _ => Ok(Vec::new(alloc)),
+        }
+    }
+
+    /// The library of the files that were used.
+    fn into_library(self, leaves: Vec<Vec<u32>>) -> Library
+        requires heard { IsHeard (heard_of self.audio) }
+        requires below { All (All (λ number. number < length self.audio.tracks.items)) (map (λ leaf. leaf.items) leaves.items) }
+        requires few { All (λ leaf. length leaf < 2 ^ 32) (map (λ leaf. leaf.items) leaves.items) }
+        ensures { result ≡ record { files = self.audio.tracks.items; leaves = map (λ leaf. leaf.items) leaves.items } }
+    {
+        let Walk { lists: _, audio } = self;
+        let AudioFiles {
+            names: _,
+            tracks,
+            bytes: _,
+        } = audio;
+        Library::new(tracks, leaves)
+    }
+}
+
+/// The audio files of a plan: for each of its nodes those that it plays, each of them once.
+pub fn load<S: Shelf>(
+    alloc: Global,
+    plan: &Plan,
+    shelf: &mut S,
+    sizes: Sizes,
+) -> Result<Library, LoadFault>
+    requires { sizes.file ≤ 268435456 }
+    ensures loaded { IfOk result (λ library. ForSome (S.files shelf.old) (λ files. load_of (record { rate = plan.now.rate; file = sizes.file; all = sizes.all }) files plan.now.nodes ≡ Ok library)) }
+    ensures fault { IfErr result (Ends (S.files shelf.old) (S.read_count shelf.old) (S.read_count shelf.new)
+        (λ files. load_of (record { rate = plan.now.rate; file = sizes.file; all = sizes.all }) files plan.now.nodes)) }
+    ensures files { S.files shelf.new ≡ S.files shelf.old }
+    ensures reads { S.read_count shelf.old ≤ S.read_count shelf.new }
+    ensures writes { S.write_count shelf.old ≤ S.write_count shelf.new }
+{
+    let rules = Rules {
+        rate: plan.rate,
+        file: sizes.file,
+        all: sizes.all,
+    };
+    let mut walk = Walk::new(alloc);
+    let mut leaves = Vec::new(alloc);
+    for node in plan.nodes.as_slice() {
+        let leaf = walk.find_leaf(alloc, shelf, &node.op, rules)?;
+        leaves.push(leaf)?;
+    }
+    Ok(walk.into_library(leaves))
+}
