@@ -1,6 +1,6 @@
 -- A step ends with the fault of its part.
-use Rattle.std.proofs.Common.{◌≡◌, ◌≤◌, ℕ, List, Option, Some, None, ◌∙◌, arith, sym, subst}
-use Rattle.std.specs.Prelude.{Result, Ok, Err}
+use Rattle.std.proofs.Common.{◌≡◌, ◌≤◌, ℕ, List, Option, Some, ◌∙◌, arith, sym, subst}
+use Rattle.std.specs.Prelude.{Result, Err}
 use Rattle.liq_base.specs.Files.{Files}
 use Rattle.std.specs.Option.{ForSome}
 use Rattle.track_library.specs.Walk.{Ends, EndsAt, IsReading, told_fault}

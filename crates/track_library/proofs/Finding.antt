@@ -1,10 +1,10 @@
 -- What a name is found to be keeps the numbers below the sounds.
-use Rattle.std.proofs.Common.{◌≡◌, ◌≤◌, ◌<◌, ℕ, suc, ◌+◌, Bool, true, false, cond, List, [], ◌∷◌, ◌++◌, length, Some, None, Option, refl, sym, ap, ◌∙◌, subst, arith, length-append}
+use Rattle.std.proofs.Common.{◌≡◌, ◌≤◌, ◌<◌, ℕ, suc, ◌+◌, Bool, true, false, cond, List, [], ◌∷◌, ◌++◌, length, Some, subst, arith, length-append}
 use Rattle.std.specs.Prelude.{Result, Ok, Err, IfOk, nat_le, slice_index_or}
 use Rattle.std.specs.Str.{bytes_eq}
 use Rattle.std.specs.List.{All}
 use Rattle.std.proofs.lemmas.List.Elements.{All-push}
-use Rattle.frame_core.specs.Sounds.{Sound, IsSound}
+use Rattle.frame_core.specs.Sounds.{IsSound}
 use Rattle.track_library.specs.Walk.{Heard, Audio, first_use, value_of}
 use Rattle.track_library.specs.States.{IsHeard, Finds}
 use Rattle.track_library.specs.declared.fault.LoadFault.{LoadFault}

@@ -1,5 +1,5 @@
 -- The leaves of a plan so far.
-use Rattle.std.proofs.Common.{◌≡◌, ◌≤◌, ◌<◌, ℕ, ◌^◌, ◌∷◌, ◌++◌, [], List, length, arith}
+use Rattle.std.proofs.Common.{◌≤◌, ◌<◌, ℕ, ◌^◌, ◌∷◌, ◌++◌, [], List, length, arith}
 use Rattle.std.specs.Prelude.{slice_index_or}
 use Rattle.std.specs.List.{All}
 use Rattle.std.proofs.lemmas.List.Elements.{All-push}

@@ -1,6 +1,6 @@
 -- Values under names, looked up and added.
 use Rattle.std.proofs.Common.{◌≡◌, ℕ, zero, suc, Bool, true, false, cond, List, [], ◌∷◌, ◌++◌, map, length, Some, None, Option, refl, sym, ap, ◌∙◌}
-use Rattle.std.specs.Prelude.{String, Vec, string_bytes, string_eq, Result, Ok, Err, is_some, ◌^◌, slice_get, slice_index_or}
+use Rattle.std.specs.Prelude.{String, Vec, string_bytes, string_eq, Ok, Err, is_some, ◌^◌, slice_get, slice_index_or}
 use Rattle.std.specs.Str.{bytes_eq}
 use Rattle.std.specs.Map.{lookup}
 use Rattle.std.specs.Option.{option_map}

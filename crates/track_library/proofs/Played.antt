@@ -1,10 +1,9 @@
 -- What a leaf plays so far.
 use Rattle.std.proofs.Common.{◌≡◌, ◌≤◌, ◌<◌, ℕ, ◌∷◌, ◌++◌, [], List, length, refl, arith}
-use Rattle.std.specs.Prelude.{Result, Ok, Err, IfOk, slice_index_or}
+use Rattle.std.specs.Prelude.{Result, Ok, Err, slice_index_or}
 use Rattle.std.specs.List.{All}
 use Rattle.std.proofs.lemmas.List.Elements.{All-push}
 use Rattle.track_library.specs.Walk.{Heard, entry_played}
-use Rattle.track_library.specs.declared.fault.LoadFault.{LoadFault}
 use Rattle.track_library.specs.States.{IsHeard, Finds, with_found}
 use Rattle.track_library.specs.declared.fault.Unusable.{Unusable}
 

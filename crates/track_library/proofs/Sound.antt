@@ -1,10 +1,9 @@
 -- Whole blocks of bytes are a sound.
-use Rattle.std.proofs.Common.{◌≡◌, ◌≤◌, ◌<◌, ℕ, ℤ, suc, ◌+◌, ◌*◌, ◌/◌, ◌%◌, ◌∷◌, [], List, length, refl, sym, ap, ◌∙◌, subst, arith}
-use Rattle.std.specs.Prelude.{Result, Ok, Err, IfOk}
+use Rattle.std.proofs.Common.{◌≡◌, ℕ, ◌*◌, ◌/◌, ◌∷◌, [], List, length, refl, arith}
 use Rattle.liq_base.specs.declared.memory.Kind.{Kind}
 use Rattle.liq_base.specs.declared.memory.Kind.TheVariants.{Mono, Stereo}
 use Rattle.frame_core.specs.Bytes.{samples_in}
-use Rattle.frame_core.specs.Sounds.{Sound, IsSound}
+use Rattle.frame_core.specs.Sounds.{IsSound}
 use Rattle.wav_io.specs.Reading.{AreBlocks}
 
 -- two bytes a sample

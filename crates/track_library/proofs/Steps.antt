@@ -1,11 +1,11 @@
 -- The steps of the walk, one entry and one node after another.
-use Rattle.std.proofs.Common.{◌≡◌, ◌≤◌, ◌<◌, ℕ, zero, suc, ◌+◌, ◌∷◌, ◌++◌, [], List, length, drop, get_or, map, refl, subst, sym, ap, ◌∙◌, arith}
-use Rattle.std.specs.Prelude.{Result, Ok, Err, Vec}
+use Rattle.std.proofs.Common.{◌≡◌, ◌<◌, ℕ, suc, ◌+◌, ◌∷◌, ◌++◌, [], List, length, drop, get_or, map, refl, subst, sym, ap, ◌∙◌, arith}
+use Rattle.std.specs.Prelude.{Ok, Err, Vec}
 use Rattle.std.specs.declared.alloc.Global.{Global}
 use Rattle.std.proofs.Math.Seq.{drop-cons}
 use Rattle.liq_base.specs.Files.{Files}
 use Rattle.plan_core.specs.declared.node.Node.{Node}
-use Rattle.track_library.specs.Walk.{Heard, Walked, use_audio, entries_played, entry_played, entry_next, nodes_walked, node_next, leaf_added, leaf_of}
+use Rattle.track_library.specs.Walk.{Heard, Walked, use_audio, entries_played, entry_played, nodes_walked, leaf_added, leaf_of}
 use Rattle.track_library.specs.declared.rules.Rules.{Rules}
 use Rattle.track_library.specs.declared.fault.LoadFault.{LoadFault}
 

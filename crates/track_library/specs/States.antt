@@ -1,5 +1,5 @@
 -- What contracts see of the audio files that were met and of the lists that were read.
-use Rattle.std.specs.Prelude.{◌≡◌, ◌≤◌, ◌<◌, ◌^◌, ℕ, [], ◌∷◌, ◌++◌, List, length, map, Option, Some, None, Result, Ok, Err, IfOk, string_bytes, String, Vec, slice_index_or}
+use Rattle.std.specs.Prelude.{◌≤◌, ◌<◌, ◌^◌, ℕ, [], ◌∷◌, ◌++◌, List, length, map, Result, Ok, Err, IfOk, string_bytes, String, Vec, slice_index_or}
 use Rattle.std.specs.List.{All}
 use Rattle.std.specs.declared.alloc.Global.{Global}
 use Rattle.frame_core.specs.Sounds.{IsSound}

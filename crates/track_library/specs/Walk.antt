@@ -1,7 +1,6 @@
 -- The walk over the nodes of a plan that finds the audio files that they play. `docs/formats.md` has the rules.
-use Rattle.std.specs.Prelude.{◌≡◌, ◌≤◌, ◌<◌, ℕ, ◌+◌, ◌^◌, ⊤, List, [], ◌∷◌, ◌++◌, length, map, Option, Some, None, Result, Ok, Err, IfOk, if◌then◌else◌, nat_eq, nat_le, string_bytes, String, Vec}
+use Rattle.std.specs.Prelude.{◌≡◌, ℕ, ◌+◌, ◌^◌, ⊤, List, [], ◌∷◌, ◌++◌, length, Option, Some, None, Result, Ok, Err, if◌then◌else◌, nat_eq, nat_le, Vec}
 use Rattle.std.specs.declared.alloc.Global.{Global}
-use Rattle.std.specs.List.{All}
 use Rattle.std.specs.Option.{ForSome}
 use Rattle.std.specs.Str.{bytes_eq}
 use Rattle.liq_base.specs.Counts.{Rose}
@@ -9,12 +8,11 @@ use Rattle.liq_base.specs.Files.{Files, file_at}
 use Rattle.plan_core.specs.declared.node.Node.{Node}
 use Rattle.plan_core.specs.declared.node.Op.{Op}
 use Rattle.plan_core.specs.declared.node.Op.TheVariants.{Single, Playlist, Blank, Square, Fail, Fallback, Switch, Sequence, Add, Amplify, Mean, Stereo, Crossfade, Buffer, Clock}
-use Rattle.plan_core.specs.declared.plan.Plan.{Plan}
 use Rattle.wav_io.specs.Plain.{Wave}
 use Rattle.wav_io.specs.Reading.{read_of}
 use Rattle.frame_core.specs.Bytes.{samples_in}
 use Rattle.frame_core.specs.Library.{Sounds}
-use Rattle.frame_core.specs.Sounds.{Sound, IsSound}
+use Rattle.frame_core.specs.Sounds.{Sound}
 use Rattle.wav_io.specs.declared.fault.WavFault.{WavFault}
 use Rattle.track_library.specs.Lists.{names_of}
 use Rattle.track_library.specs.declared.rules.Rules.{Rules}

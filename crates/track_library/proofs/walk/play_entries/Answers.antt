@@ -1,4 +1,4 @@
-use Rattle.std.proofs.Common.{rules, arith, ◌≡◌, ◌∙◌, ◌+◌, [], List, ℕ, ap, sym, subst, drop, get_or}
+use Rattle.std.proofs.Common.{rules, arith, ◌∙◌, ◌+◌, [], List, ℕ, ap, sym, subst, drop}
 use Rattle.std.specs.Prelude.{Ok}
 use Rattle.track_library.specs.Walk.{Ends, entries_played, entry_played, use_audio}
 use Rattle.track_library.specs.States.{heard_of}

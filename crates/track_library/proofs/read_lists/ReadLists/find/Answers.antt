@@ -1,9 +1,9 @@
-use Rattle.std.proofs.Common.{◌≡◌, ◌∙◌, ap, sym}
-use Rattle.std.specs.Prelude.{Ok, Err, ◌^◌, None}
+use Rattle.std.proofs.Common.{◌∙◌, ap, sym}
+use Rattle.std.specs.Prelude.{◌^◌}
 use Rattle.liq_base.specs.Files.{file_at}
-use Rattle.track_library.specs.Walk.{value_of, list_of, list_in, bytes_in, items_of, use_list}
+use Rattle.track_library.specs.Walk.{list_of, list_in, bytes_in, items_of, use_list}
 use Rattle.track_library.specs.Lists.{names_of}
-use Rattle.track_library.specs.States.{lists_of, listed}
+use Rattle.track_library.specs.States.{lists_of}
 use Rattle.track_library.proofs.Names.{found_list, absent_list, fresh_list, failed_list}
 use Rattle.track_library.proofs.Ending.{told_ends}
 use Rattle.track_library.proofs.read_lists.ReadLists.find.Goals as goal
