@@ -85,8 +85,8 @@ mutual
   within i (more x xs) p =
       let n = length-append (spell x) (spell xs) in
       both i (length (spell x ++ spell xs)) (ats x) (ats xs)
-        (wider i (length (spell x)) i (length (spell x ++ spell xs)) (ats x) (omega arith) (omega arith) (within i x p.0))
-        (wider (i + length (spell x)) (length (spell xs)) i (length (spell x ++ spell xs)) (ats xs) (omega arith) (omega arith) (within (i + length (spell x)) xs p.1))
+      (wider i (length (spell x)) i (length (spell x ++ spell xs)) (ats x) (omega arith) (omega arith) (within i x p.0))
+      (wider (i + length (spell x)) (length (spell xs)) i (length (spell x ++ spell xs)) (ats xs) (omega arith) (omega arith) (within (i + length (spell x)) xs p.1))
   within i (Stmt part semicolon) p =
       let n0 = length-append (spell part) (token_if (Symbol sign.Semicolon) semicolon) in
       wider (i) (length (spell part)) i (length (spell (Stmt part semicolon))) (ats part) (omega (arith, n0)) (omega (arith, n0)) (within (i) part p)
@@ -191,13 +191,13 @@ mutual
   within_behind k i (more x xs) p =
       let n = length-append (spell x) (behind k xs) in
       both i (length (behind k (more x xs))) (ats x) (ats xs)
-        (wider (i + 1) (length (spell x)) i (length (behind k (more x xs))) (ats x) (omega arith) (omega arith) (within (i + 1) x p.0))
-        (wider (i + 1 + length (spell x)) (length (behind k xs)) i (length (behind k (more x xs))) (ats xs) (omega arith) (omega arith) (within_behind k (i + 1 + length (spell x)) xs p.1))
+      (wider (i + 1) (length (spell x)) i (length (behind k (more x xs))) (ats x) (omega arith) (omega arith) (within (i + 1) x p.0))
+      (wider (i + 1 + length (spell x)) (length (behind k xs)) i (length (behind k (more x xs))) (ats xs) (omega arith) (omega arith) (within_behind k (i + 1 + length (spell x)) xs p.1))
 
   within_apart : {s : Sort} (i : ℕ) (ts : Tree (Many s)) → IsApart i ts → Lie i (length (with_commas ts)) (ats ts)
   within_apart i none p = no_one i 0
   within_apart i (more x xs) p =
       let n = length-append (spell x) (behind (Symbol sign.Comma) xs) in
       both i (length (with_commas (more x xs))) (ats x) (ats xs)
-        (wider i (length (spell x)) i (length (with_commas (more x xs))) (ats x) (omega arith) (omega arith) (within i x p.0))
-        (wider (i + length (spell x)) (length (behind (Symbol sign.Comma) xs)) i (length (with_commas (more x xs))) (ats xs) (omega arith) (omega arith) (within_behind (Symbol sign.Comma) (i + length (spell x)) xs p.1))
+      (wider i (length (spell x)) i (length (with_commas (more x xs))) (ats x) (omega arith) (omega arith) (within i x p.0))
+      (wider (i + length (spell x)) (length (behind (Symbol sign.Comma) xs)) i (length (with_commas (more x xs))) (ats xs) (omega arith) (omega arith) (within_behind (Symbol sign.Comma) (i + length (spell x)) xs p.1))
