@@ -9,4 +9,5 @@ pub mod ReadPredicate
 pub mod ReadValue
 pub mod ReadScript
 pub mod Placed
+pub mod Ats
 pub mod Whole

@@ -3,7 +3,7 @@ use Rattle.std.specs.Prelude.{◌≡◌, ℕ, ◌+◌, length}
 use Rattle.script_lex.specs.declared.token.TokenKind.TheVariants.{Keyword, Symbol}
 use Rattle.script_lex.specs.declared.token.Keyword.TheVariants as word
 use Rattle.script_lex.specs.declared.token.Symbol.TheVariants as sign
-use Rattle.script_grammar.specs.Tree.{Sort, Tree, Many, none, more, Stmt, BindPart, DefPart, CallPart, IfPart, Bind, Def, Inner, Param, Labelled, Optional, Negative, Plain, Expr, And, Not, Alone, Compared, Sum, Added, Product, Multiplied, Constant, Quoted, Truth, Named, Called, Chosen, Nothing, Paren, Tuple, Listed, Braces, Format, Call, Arg, If}
+use Rattle.script_grammar.specs.Tree.{Sort, Tree, Many, none, more, Stmt, BindPart, DefPart, CallPart, IfPart, Bind, Def, Inner, Param, Labelled, Optional, Negative, Plain, Expr, And, Not, Alone, Compared, Sum, Added, Product, Multiplied, Constant, Quoted, Truth, Named, Called, Chosen, Nothing, Paren, Tuple, Listed, Braces, Format, Call, Arg, If, POr, PAnd, PNot, Always, Never, Mark, Between, Grouped}
 use Rattle.script_grammar.specs.Spelling.{spell, with_commas, token_if, label}
 
 -- a tree; a list of trees, each behind a token; and with commas between. A list's trees alone stand one after another.
@@ -55,7 +55,14 @@ abbrev mutual
   -- "if" condition "then" value "else" value "end"
   IsPlaced i (If at c t e) = (at ≡ i) × IsPlaced (i + 1) c × IsPlaced (i + 2 + length (spell c)) t × IsPlaced (i + 3 + length (spell c) + length (spell t)) e
   -- a predicate has no such number
-  IsPlaced i t = Unit {0}
+  IsPlaced i (POr first rest) = Unit {0}
+  IsPlaced i (PAnd first rest) = Unit {0}
+  IsPlaced i (PNot negated atom) = Unit {0}
+  IsPlaced i Always = Unit {0}
+  IsPlaced i Never = Unit {0}
+  IsPlaced i (Mark a) = Unit {0}
+  IsPlaced i (Between a b) = Unit {0}
+  IsPlaced i (Grouped p) = Unit {0}
 
   pub IsBehind : {s : Sort} → ℕ → Tree (Many s) → Type 0
   IsBehind i none = Unit {0}

@@ -1,7 +1,8 @@
 // What the grammar promises of all scripts.
-ghost use Rattle.std.specs.Prelude.{◌≡◌, Ok, []};
-ghost use Rattle.script_grammar.specs.Tree.{Script};
-ghost use Rattle.script_grammar.specs.Spelling.{spelling};
+ghost use Rattle.std.specs.Prelude.{◌≡◌, ℕ, ◌+◌, ◌<◌, ◌≤◌, Ok, [], length, All};
+ghost use Rattle.script_grammar.specs.Tree.{Sort, Tree, AStmt, Script};
+ghost use Rattle.script_grammar.specs.Ats.{ats};
+ghost use Rattle.script_grammar.specs.Spelling.{spell, spelling};
 ghost use Rattle.script_grammar.specs.Bare.{bare};
 ghost use Rattle.script_grammar.specs.Placed.{IsPlaced};
 ghost use Rattle.script_grammar.specs.ReadScript.{no_place, script};
@@ -19,4 +20,15 @@ pub fn one_placed_script()
 /// Reading gives back each script from its spelling, but for its fields `at`.
 pub fn reads_again()
     ensures again { (s : Script) → script no_place (spelling s) ≡ Ok (bare s, []) }
+{}
+
+/// Each statement has a token.
+pub fn statements_have_tokens()
+    ensures some { (statement : Tree AStmt) → 0 < length (spell statement) }
+{}
+
+/// Each field `at` of a tree whose fields are right is the index of a token of that tree.
+pub fn ats_are_within()
+    ensures within { (s : Sort) (i : ℕ) (t : Tree s) → IsPlaced i t
+        → All (λ at. (i ≤ at) × (at < i + length (spell t))) (ats t) }
 {}

@@ -5,7 +5,7 @@ ghost use Rattle.script_grammar.specs.Pieces.{each, between_commas, def_head, de
 ghost use Rattle.script_grammar.specs.View.{view_expr, view_bind, view_inner, view_param, view_def, view_part, view_stmt, view_script};
 
 use crate::spell_predicate::put_if;
-use crate::spell_value::{copy, put_call, put_choice, put_expr, put_full};
+use crate::spell_value::{put_call, put_choice, put_expr, put_full};
 use crate::tree::{Bind, Def, Expr, Inner, Param, ParamForm, Script, Stmt, StmtPart};
 use liq_base::{Memory, Text};
 use script_lex::{Keyword, Symbol, TokenKind};
@@ -14,7 +14,7 @@ use std::alloc::Global;
 fn put_bind(alloc: Global, out: &mut Vec<TokenKind>, bind: &Bind) -> Result<(), Memory>
     ensures { OnOk result (out.new.items ≡ out.old.items ++ spell (view_bind bind.now)) }
 {
-    out.push(TokenKind::Name(copy(alloc, &bind.name)?))?;
+    out.push(TokenKind::Name(bind.name.copy(alloc)?))?;
     out.push(TokenKind::Symbol(Symbol::Assign))?;
     put_full(alloc, out, &bind.value)
 }
@@ -40,17 +40,17 @@ fn put_param(alloc: Global, out: &mut Vec<TokenKind>, param: &Param) -> Result<(
 {
     match &param.form {
         ParamForm::Plain => {
-            out.push(TokenKind::Name(copy(alloc, &param.name)?))?;
+            out.push(TokenKind::Name(param.name.copy(alloc)?))?;
             Ok(())
         }
         ParamForm::Labelled => {
             out.push(TokenKind::Symbol(Symbol::Tilde))?;
-            out.push(TokenKind::Name(copy(alloc, &param.name)?))?;
+            out.push(TokenKind::Name(param.name.copy(alloc)?))?;
             Ok(())
         }
         ParamForm::Optional(value) => {
             out.push(TokenKind::Symbol(Symbol::Tilde))?;
-            out.push(TokenKind::Name(copy(alloc, &param.name)?))?;
+            out.push(TokenKind::Name(param.name.copy(alloc)?))?;
             out.push(TokenKind::Symbol(Symbol::Assign))?;
             put_full(alloc, out, value)
         }
@@ -84,7 +84,7 @@ fn put_head(
     ensures { OnOk result (out.new.items ≡ out.old.items ++ def_head name.now (map view_param params.now)) }
 {
     out.push(TokenKind::Keyword(Keyword::Def))?;
-    out.push(TokenKind::NameOpen(copy(alloc, name)?))?;
+    out.push(TokenKind::NameOpen(name.copy(alloc)?))?;
     put_params(alloc, out, params)?;
     out.push(TokenKind::Symbol(Symbol::CloseRound))?;
     Ok(())

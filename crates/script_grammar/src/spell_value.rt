@@ -68,13 +68,6 @@ fn multiplied_token(divide: bool) -> TokenKind
     }
 }
 
-// The same text once more.
-pub fn copy(alloc: Global, text: &Text) -> Result<Text, Memory>
-    ensures { IfOk result (λ t. t ≡ text.now) }
-{
-    Text::from_str(alloc, text.as_str())
-}
-
 #[cycle(value)]
 pub fn put_full(alloc: Global, out: &mut Vec<TokenKind>, full: &Full) -> Result<(), Memory>
     ensures { OnOk result (out.new.items ≡ out.old.items ++ spell (view_full full.now)) }
@@ -223,7 +216,7 @@ fn put_prim(alloc: Global, out: &mut Vec<TokenKind>, prim: &tree::Operand) -> Re
             Ok(())
         }
         tree::Operand::Str { at: _, text } => {
-            out.push(TokenKind::Str(copy(alloc, text)?))?;
+            out.push(TokenKind::Str(text.copy(alloc)?))?;
             Ok(())
         }
         tree::Operand::Bool { at: _, value } => {
@@ -231,7 +224,7 @@ fn put_prim(alloc: Global, out: &mut Vec<TokenKind>, prim: &tree::Operand) -> Re
             Ok(())
         }
         tree::Operand::Name { at: _, name } => {
-            out.push(TokenKind::Name(copy(alloc, name)?))?;
+            out.push(TokenKind::Name(name.copy(alloc)?))?;
             Ok(())
         }
         tree::Operand::Call(call) => put_call(alloc, out, call),
@@ -322,7 +315,7 @@ fn put_fulls(alloc: Global, out: &mut Vec<TokenKind>, parts: &[Full]) -> Result<
 pub fn put_call(alloc: Global, out: &mut Vec<TokenKind>, call: &Call) -> Result<(), Memory>
     ensures { OnOk result (out.new.items ≡ out.old.items ++ spell (view_call call.now)) }
 {
-    out.push(TokenKind::NameOpen(copy(alloc, &call.name)?))?;
+    out.push(TokenKind::NameOpen(call.name.copy(alloc)?))?;
     put_args(alloc, out, &call.args)?;
     out.push(TokenKind::Symbol(Symbol::CloseRound))?;
     Ok(())
@@ -360,7 +353,7 @@ fn put_label(alloc: Global, out: &mut Vec<TokenKind>, name: &Option<Text>) -> Re
     match name {
         None => Ok(()),
         Some(name) => {
-            out.push(TokenKind::Name(copy(alloc, name)?))?;
+            out.push(TokenKind::Name(name.copy(alloc)?))?;
             out.push(TokenKind::Symbol(Symbol::Assign))?;
             Ok(())
         }

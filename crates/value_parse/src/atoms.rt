@@ -8,7 +8,7 @@ ghost use Rattle.script_grammar.specs.Whole.{IsWholeFull, IsWholeIf, IsWholePrim
 ghost use Rattle.predicate_parse.specs.Gives.{kinds, Gives, places};
 ghost use Rattle.value_parse.specs.Operand.{braces_at, holds_values, no_value};
 
-use crate::number::{copy, wav};
+use crate::number::wav;
 use liq_base::Memory;
 use predicate_parse::token::{expect_close_curly, place};
 use predicate_parse::{Fault, predicate};
@@ -70,7 +70,7 @@ pub fn atom(
             },
             rest @ ..,
         ] => {
-            let text = copy(alloc, text)?;
+            let text = text.copy(alloc)?;
             Ok((tree::Operand::Str { at, text }, rest))
         }
         [
@@ -80,7 +80,7 @@ pub fn atom(
             },
             rest @ ..,
         ] => {
-            let name = copy(alloc, name)?;
+            let name = name.copy(alloc)?;
             Ok((tree::Operand::Name { at, name }, rest))
         }
         [

@@ -12,7 +12,7 @@ ghost use Rattle.predicate_parse.specs.Gives.{kinds, Gives, places};
 ghost use Rattle.value_parse.specs.Operand.{plain, round_at, list_at, labelled, chosen, branches, otherwise, seen_branches, seen_otherwise};
 
 use crate::atoms::{atom, make_choice};
-use crate::number::{argument_label, copy, digits, expect_if, next_op, product_sign, sum_sign};
+use crate::number::{argument_label, digits, expect_if, next_op, product_sign, sum_sign};
 use liq_base::Text;
 use predicate_parse::Fault;
 use predicate_parse::token::{
@@ -595,7 +595,7 @@ pub fn call(
         ] => {
             let at = place(total, tokens);
             let (args, rest) = args(alloc, total, levels, after)?;
-            let name = copy(alloc, name)?;
+            let name = name.copy(alloc)?;
             Ok((make::call(at, name, args), rest))
         }
         _ => Err(Fault::Syntax(tokens.len())),

@@ -14,13 +14,6 @@ use script_grammar::tree::{CompareOp, Literal};
 use script_lex::{Keyword, Symbol, Token, TokenKind};
 use std::alloc::Global;
 
-/// The same text once more.
-pub fn copy(alloc: Global, text: &Text) -> Result<Text, Memory>
-    ensures { IfOk result (λ t. t ≡ text.now) }
-{
-    Text::from_str(alloc, text.as_str())
-}
-
 /// A number.
 #[tactic(auto, unfolding(script_grammar::specs::ReadValue::digits))]
 pub fn digits(tokens: &[Token]) -> Result<(Literal, &[Token]), Fault>
@@ -204,7 +197,7 @@ pub fn argument_label(alloc: Global, tokens: &[Token]) -> Result<(Option<Text>, 
                 ..
             },
             rest @ ..,
-        ] => Ok((Some(copy(alloc, name)?), rest)),
+        ] => Ok((Some(name.copy(alloc)?), rest)),
         _ => Ok((None, tokens)),
     }
 }
