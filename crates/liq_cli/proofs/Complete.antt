@@ -12,12 +12,12 @@ no_write old new calm (inr (inl o)) = calm.out o
 no_write old new calm (inr (inr w)) = calm.writes w
 
 done_is_accepted : (a : Answer) (files : Files) (old new : Moment) → IsDone a files old new → Completes a 0
-done_is_accepted (Accepted plan) files old new done = inl refl
+done_is_accepted (Accepted station) files old new done = inl refl
 done_is_accepted (Refused fault) files old new done = absurd done.rendered
 done_is_accepted Usage files old new done = absurd done.rendered
 
 told_is_refused : (a : Answer) (old new : Moment) → Told a old new → Completes a 1
-told_is_refused (Accepted plan) old new told = absurd told
+told_is_refused (Accepted station) old new told = absurd told
 told_is_refused (Refused fault) old new told = inl refl
 told_is_refused Usage old new told = absurd told
 
@@ -25,7 +25,7 @@ usage_answer : (words : List (List ℕ)) (files : Files) → asked_by words ≡ 
 usage_answer words files none = ap (asked_step files) none
 
 starved_is_free : (a : Answer) (cause : Type 0) (files : Files) (after : Option Files) → Starved a cause files after → Completes a 5
-starved_is_free (Accepted plan) cause files after starved = inr refl
+starved_is_free (Accepted station) cause files after starved = inr refl
 starved_is_free (Refused fault) cause files after starved = inr refl
 starved_is_free Usage cause files after starved = absurd starved
 

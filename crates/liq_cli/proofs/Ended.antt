@@ -5,7 +5,7 @@ use Rattle.std.specs.Option.{ForSome}
 use Rattle.liq_base.specs.Counts.{Rose}
 use Rattle.liq_base.specs.Pieces.{IsPrefix, grown, TookPart}
 use Rattle.liq_base.specs.Files.{Files, file_at}
-use Rattle.liq_cli.specs.Answer.{Answer, Usage, Refused, Accepted, Plan, answer, asked_step, script_step, line_of, bytes_of, outputs_of, report_of, no_buffers}
+use Rattle.liq_cli.specs.Answer.{Answer, Usage, Refused, Accepted, Station, answer, asked_step, script_step, line_of, bytes_of, outputs_of, report_of, no_buffers}
 use Rattle.liq_cli.specs.Call.{Moment, GrewPart, Rendered, Broken, Starved, IsDone, ReportBroke, OutputBroke, Told, Broke, WriteFailed, Ends}
 use Rattle.liq_cli.specs.Words.{Asked, asked_by}
 use Rattle.liq_cli.specs.declared.fault.Fault.{Fault}
@@ -20,41 +20,41 @@ grew_part held room piece line old new is part = record { part = part.taken; is_
 pub kept_is_starved : (a : Answer) (cause : Type 0) (files : Files) (before after : Option Files) → ((a ≡ Usage) → ⊥) → before ≡ Some files → after ≡ before → Starved a cause files after
 kept_is_starved Usage cause files before after form told same = absurd (form refl)
 kept_is_starved (Refused fault) cause files before after form told same = same ∙ told
-kept_is_starved (Accepted plan) cause files before after form told same =
-    record { run = no_buffers; begun = refl; parts = none_created cause (outputs_of plan no_buffers) before after same files told }
+kept_is_starved (Accepted station) cause files before after form told same =
+    record { run = no_buffers; begun = refl; parts = none_created cause (outputs_of station no_buffers) before after same files told }
 
 -- what a rendering leaves, where the answer accepts
-pub accepted_broken : (a : Answer) (plan : Plan) (before between after : ℕ) (files : Files) (left : Option Files) → a ≡ Accepted plan → before ≤ between
-    → IsSomeAnd left (HoldsSome (Rose between after) files (outputs_of plan no_buffers)) → Broken a (Rose before after) files left
-accepted_broken a plan before between after files left is le parts =
+pub accepted_broken : (a : Answer) (station : Station) (before between after : ℕ) (files : Files) (left : Option Files) → a ≡ Accepted station → before ≤ between
+    → IsSomeAnd left (HoldsSome (Rose between after) files (outputs_of station no_buffers)) → Broken a (Rose before after) files left
+accepted_broken a station before between after files left is le parts =
     subst (λ a. Broken a (Rose before after) files left) (sym is)
-    (record { run = no_buffers; begun = refl; parts = some_later (Rose between after) (Rose before after) (λ rose. omega arith) files (outputs_of plan no_buffers) left parts })
+    (record { run = no_buffers; begun = refl; parts = some_later (Rose between after) (Rose before after) (λ rose. omega arith) files (outputs_of station no_buffers) left parts })
 
-pub accepted_starved : (a : Answer) (plan : Plan) (before between after : ℕ) (files : Files) (left : Option Files) → a ≡ Accepted plan → before ≤ between
-    → IsSomeAnd left (HoldsSome (Rose between after) files (outputs_of plan no_buffers)) → Starved a (Rose before after) files left
-accepted_starved a plan before between after files left is le parts =
+pub accepted_starved : (a : Answer) (station : Station) (before between after : ℕ) (files : Files) (left : Option Files) → a ≡ Accepted station → before ≤ between
+    → IsSomeAnd left (HoldsSome (Rose between after) files (outputs_of station no_buffers)) → Starved a (Rose before after) files left
+accepted_starved a station before between after files left is le parts =
     subst (λ a. Starved a (Rose before after) files left) (sym is)
-    (record { run = no_buffers; begun = refl; parts = some_later (Rose between after) (Rose before after) (λ rose. omega arith) files (outputs_of plan no_buffers) left parts })
+    (record { run = no_buffers; begun = refl; parts = some_later (Rose between after) (Rose before after) (λ rose. omega arith) files (outputs_of station no_buffers) left parts })
 
-pub written_starved : (a : Answer) (plan : Plan) (cause : Type 0) (files : Files) (left : Option Files) → a ≡ Accepted plan
-    → left ≡ Some (with_outputs files (outputs_of plan no_buffers)) → Starved a cause files left
-written_starved a plan cause files left is written =
+pub written_starved : (a : Answer) (station : Station) (cause : Type 0) (files : Files) (left : Option Files) → a ≡ Accepted station
+    → left ≡ Some (with_outputs files (outputs_of station no_buffers)) → Starved a cause files left
+written_starved a station cause files left is written =
     subst (λ a. Starved a cause files left) (sym is)
-    (record { run = no_buffers; begun = refl; parts = whole_created cause left files (record { name = plan.output; bytes = bytes_of plan no_buffers }) written })
+    (record { run = no_buffers; begun = refl; parts = whole_created cause left files (record { name = station.output; bytes = bytes_of station no_buffers }) written })
 
-pub accepted_rendered : (a : Answer) (plan : Plan) (files : Files) (left : Option Files) (report : List ℕ) → a ≡ Accepted plan
-    → left ≡ Some (with_outputs files (outputs_of plan no_buffers)) → report ≡ report_of plan no_buffers → Rendered a files left report
-accepted_rendered a plan files left report is written told =
+pub accepted_rendered : (a : Answer) (station : Station) (files : Files) (left : Option Files) (report : List ℕ) → a ≡ Accepted station
+    → left ≡ Some (with_outputs files (outputs_of station no_buffers)) → report ≡ report_of station no_buffers → Rendered a files left report
+accepted_rendered a station files left report is written told =
     subst (λ a. Rendered a files left report) (sym is) (record { run = no_buffers; lawful = refl; written = written; report_is = told })
 
 -- a rendering has an accepted answer
 broke_report : (a : Answer) (files : Files) (old new : Moment) → ReportBroke a files old new → new.err ≡ old.err → Broke a files old new
-broke_report (Accepted plan) files old new broke same = (inl broke, same)
+broke_report (Accepted station) files old new broke same = (inl broke, same)
 broke_report (Refused fault) files old new broke same = absurd broke.rendered
 broke_report Usage files old new broke same = absurd broke.rendered
 
 broke_output : (a : Answer) (files : Files) (old new : Moment) → OutputBroke a files old new → new.err ≡ old.err → Broke a files old new
-broke_output (Accepted plan) files old new broke same = (inr broke, same)
+broke_output (Accepted station) files old new broke same = (inr broke, same)
 broke_output (Refused fault) files old new broke same = absurd broke.broken
 broke_output Usage files old new broke same = absurd broke.broken
 

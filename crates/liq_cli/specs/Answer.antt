@@ -4,6 +4,7 @@ use Rattle.liq_base.specs.Files.{Files, file_at}
 use Rattle.liq_base.specs.declared.memory.Kind.TheVariants.{Stereo}
 use Rattle.wav_io.specs.Header.{header_bytes, header_of}
 use Rattle.wav_io.specs.Plain.{Wave, plain_of}
+use Rattle.frame_core.specs.declared.cell.Cell.{Cell}
 use Rattle.frame_core.specs.Bytes.{samples_in}
 use Rattle.frame_core.specs.Sounds.{Sound}
 use Rattle.liq_cli.specs.Outputs.{Output}
@@ -22,7 +23,7 @@ abbrev pub F : ℕ
 F = 1764
 
 -- what an accepted script renders: one output over one `single` leaf, for so many ticks
-pub record Plan : Type 0 where
+pub record Station : Type 0 where
   pub output : List ℕ
   pub sound : Sound
   pub ticks : ℕ
@@ -30,7 +31,7 @@ pub record Plan : Type 0 where
 pub data Answer : Type 0 where
   Usage : Answer
   Refused : Fault → Answer
-  Accepted : Plan → Answer
+  Accepted : Station → Answer
 
 -- the line of a fault
 abbrev pub line_of : Fault → List ℕ
@@ -41,35 +42,41 @@ line_of (MissingFile name) = codes "E20 missing file " ++ name ++ codes "\n"
 abbrev pub usage_line : List ℕ
 usage_line = codes "usage: check FILE | render FILE N [--one-thread] [--window=W] [--start=D:HH:MM:SS] [--trace=NAME] | make SEED SIZE\n"
 
--- What the buffers of a plan answered in a run, which no plan determines: for each buffer the answers of its puts, true where the chunk was accepted.
+-- One window of a buffer: its puts, each the chunk or nothing where the buffer was full, and its takes, each a chunk or
+-- nothing where it was empty.
+abbrev pub Window : Type 0
+Window = List (Option (List Cell)) × List (Option (List Cell))
+
+-- What the buffers of a station answered in a run, which no station determines: for each buffer its windows, one after
+-- another.
 pub record Run : Type 0 where
-  pub buffers : List (List Bool)
+  pub buffers : List (List Window)
 
--- the run is one of this plan's, to its end or as far as it came; such a plan has no buffer
-abbrev pub IsLawful : Plan → Run → Type 0
-IsLawful plan run = run.buffers ≡ []
+-- the run is one of this station's, to its end or as far as it came; such a station has no buffer
+abbrev pub IsLawful : Station → Run → Type 0
+IsLawful station run = run.buffers ≡ []
 
-abbrev pub IsBegun : Plan → Run → Type 0
-IsBegun plan run = run.buffers ≡ []
+abbrev pub IsBegun : Station → Run → Type 0
+IsBegun station run = run.buffers ≡ []
 
 abbrev pub no_buffers : Run
 no_buffers = record { buffers = [] }
 
 -- the stream of the output, and all the bytes of its file in a run
-abbrev pub stream_of : Plan → Run → Stream
-stream_of plan run = single plan.sound Stereo
+abbrev pub stream_of : Station → Run → Stream
+stream_of station run = single station.sound Stereo
 
-abbrev pub bytes_of : Plan → Run → List ℕ
-bytes_of plan run = header_bytes Stereo rate (plan.ticks * F) ++ ticks_bytes Stereo (stream_of plan run) F plan.ticks
+abbrev pub bytes_of : Station → Run → List ℕ
+bytes_of station run = header_bytes Stereo rate (station.ticks * F) ++ ticks_bytes Stereo (stream_of station run) F station.ticks
 
-abbrev pub outputs_of : Plan → Run → List Output
-outputs_of plan run = record { name = plan.output; bytes = bytes_of plan run } ∷ []
+abbrev pub outputs_of : Station → Run → List Output
+outputs_of station run = record { name = station.output; bytes = bytes_of station run } ∷ []
 
 -- the report of a run
-abbrev pub report_of : Plan → Run → List ℕ
-report_of plan run =
-    codes "output " ++ plan.output ++ codes " samples " ++ decimal (plan.ticks * F)
-    ++ codes " gaps " ++ decimal (gaps (stream_of plan run) (plan.ticks * F)) ++ codes "\n"
+abbrev pub report_of : Station → Run → List ℕ
+report_of station run =
+    codes "output " ++ station.output ++ codes " samples " ++ decimal (station.ticks * F)
+    ++ codes " gaps " ++ decimal (gaps (stream_of station run) (station.ticks * F)) ++ codes "\n"
 
 -- the steps, each by what the one before it found
 abbrev pub header_step : ℕ → List ℕ → Wave → Option (List ℕ) → Answer

@@ -6,7 +6,7 @@ use Rattle.liq_base.specs.Pieces.{IsPrefix, grown}
 use Rattle.liq_base.specs.Files.{Files}
 use Rattle.liq_cli.specs.Outputs.{with_outputs, HoldsSome}
 use Rattle.liq_cli.specs.Words.{asked_by}
-use Rattle.liq_cli.specs.Answer.{Answer, Usage, Refused, Accepted, answer, Plan, Run, IsLawful, IsBegun, outputs_of, report_of, line_of, usage_line}
+use Rattle.liq_cli.specs.Answer.{Answer, Usage, Refused, Accepted, answer, Station, Run, IsLawful, IsBegun, outputs_of, report_of, line_of, usage_line}
 
 -- what the shelf, `out` and `err` tell at one moment, and how often they failed
 pub record Moment : Type 0 where
@@ -25,31 +25,31 @@ pub record GrewPart (line : List ℕ) (old new : Option (List ℕ)) : Type 0 whe
   pub grew : new ≡ grown part old
 
 -- a run wrote all outputs, and this is its report
-pub record Wrote (plan : Plan) (files : Files) (after : Option Files) (report : List ℕ) : Type 0 where
+pub record Wrote (station : Station) (files : Files) (after : Option Files) (report : List ℕ) : Type 0 where
   pub run : Run
-  pub lawful : IsLawful plan run
-  pub written : after ≡ Some (with_outputs files (outputs_of plan run))
-  pub report_is : report ≡ report_of plan run
+  pub lawful : IsLawful station run
+  pub written : after ≡ Some (with_outputs files (outputs_of station run))
+  pub report_is : report ≡ report_of station run
 
 -- a run was broken off: the outputs that were created hold a part, or, for this cause, what they held
-pub record WrotePart (plan : Plan) (cause : Type 0) (files : Files) (after : Option Files) : Type 0 where
+pub record WrotePart (station : Station) (cause : Type 0) (files : Files) (after : Option Files) : Type 0 where
   pub run : Run
-  pub begun : IsBegun plan run
-  pub parts : IsSomeAnd after (HoldsSome cause files (outputs_of plan run))
+  pub begun : IsBegun station run
+  pub parts : IsSomeAnd after (HoldsSome cause files (outputs_of station run))
 
 abbrev pub Rendered : Answer → Files → Option Files → List ℕ → Type 0
-Rendered (Accepted plan) files after report = Wrote plan files after report
+Rendered (Accepted station) files after report = Wrote station files after report
 Rendered (Refused fault) files after report = ⊥
 Rendered Usage files after report = ⊥
 
 abbrev pub Broken : Answer → Type 0 → Files → Option Files → Type 0
-Broken (Accepted plan) cause files after = WrotePart plan cause files after
+Broken (Accepted station) cause files after = WrotePart station cause files after
 Broken (Refused fault) cause files after = ⊥
 Broken Usage cause files after = ⊥
 
 -- memory was refused, maybe before anything was created
 abbrev pub Starved : Answer → Type 0 → Files → Option Files → Type 0
-Starved (Accepted plan) cause files after = WrotePart plan cause files after
+Starved (Accepted station) cause files after = WrotePart station cause files after
 Starved (Refused fault) cause files after = after ≡ Some files
 Starved Usage cause files after = ⊥
 
@@ -81,11 +81,11 @@ pub record LineBroke (line : List ℕ) (old new : Moment) : Type 0 where
 -- what status 1 and 4 say, by the answer
 abbrev pub Told : Answer → Moment → Moment → Type 0
 Told (Refused fault) old new = new.err ≡ grown (line_of fault) old.err
-Told (Accepted plan) old new = ⊥
+Told (Accepted station) old new = ⊥
 Told Usage old new = ⊥
 
 abbrev pub Broke : Answer → Files → Moment → Moment → Type 0
-Broke (Accepted plan) files old new = (ReportBroke (Accepted plan) files old new ⊎ OutputBroke (Accepted plan) files old new) × (new.err ≡ old.err)
+Broke (Accepted station) files old new = (ReportBroke (Accepted station) files old new ⊎ OutputBroke (Accepted station) files old new) × (new.err ≡ old.err)
 Broke (Refused fault) files old new = LineBroke (line_of fault) old new
 Broke Usage files old new = LineBroke usage_line old new
 
@@ -111,7 +111,7 @@ pub record Calm (old new : Moment) : Type 0 where
   pub err : Rose old.err_faults new.err_faults → ⊥
 
 abbrev pub Completes : Answer → ℕ → Type 0
-Completes (Accepted plan) status = (status ≡ 0) ⊎ (status ≡ 5)
+Completes (Accepted station) status = (status ≡ 0) ⊎ (status ≡ 5)
 Completes (Refused fault) status = (status ≡ 1) ⊎ (status ≡ 5)
 Completes Usage status = status ≡ 2
 

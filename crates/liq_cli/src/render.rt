@@ -1,4 +1,4 @@
-// A plan is rendered into the file of its output.
+// A station is rendered into the file of its output.
 ghost use Rattle.std.specs.Prelude.{◌≡◌, ◌≤◌, ◌+◌, ◌*◌, ◌<◌, ◌^◌, [], ◌∷◌, ◌++◌, length, IfOk, OnOk, OnErr, IsErrOf, Some, IsSomeAnd};
 ghost use Rattle.std.specs.Option.{ForSome};
 ghost use Rattle.liq_base.specs.Counts.{Rose};
@@ -9,7 +9,7 @@ ghost use Rattle.liq_cli.specs.Answer.{F, no_buffers, bytes_of, outputs_of};
 ghost use Rattle.liq_cli.specs.Outputs.{with_outputs, HoldsSome};
 ghost use Rattle.frame_core.specs.Streams.{block_of, tick_bytes};
 ghost use Rattle.liq_cli.specs.Streams.{single};
-ghost use Rattle.liq_cli.specs.Works.{IsReady, plan_of};
+ghost use Rattle.liq_cli.specs.Works.{IsReady, station_of};
 
 use crate::RenderFault;
 use crate::prepare::{HEADER_BYTES, TICK, Work};
@@ -23,9 +23,9 @@ const BLOCK: u64 = 4;
 /// Renders the work into a file. Its sink is closed, whatever happens once it is created.
 pub fn render<S: Shelf>(alloc: Global, work: &Work, shelf: &mut S) -> Result<(), RenderFault>
     requires { IsReady work.now }
-    ensures done { OnOk result (ForSome (S.files shelf.old) (λ files. S.files shelf.new ≡ Some (with_outputs files (outputs_of (plan_of work.now) no_buffers)))) }
+    ensures done { OnOk result (ForSome (S.files shelf.old) (λ files. S.files shelf.new ≡ Some (with_outputs files (outputs_of (station_of work.now) no_buffers)))) }
     ensures part { OnErr result (ForSome (S.files shelf.old) (λ files. IsSomeAnd (S.files shelf.new)
-        (HoldsSome (Rose (S.write_count shelf.old) (S.write_count shelf.new)) files (outputs_of (plan_of work.now) no_buffers)))) }
+        (HoldsSome (Rose (S.write_count shelf.old) (S.write_count shelf.new)) files (outputs_of (station_of work.now) no_buffers)))) }
     ensures cause { IsErrOf result RenderFault.Write → Rose (S.write_count shelf.old) (S.write_count shelf.new) }
     ensures reads { S.read_count shelf.old ≤ S.read_count shelf.new }
     ensures writes { S.write_count shelf.old ≤ S.write_count shelf.new }
@@ -43,8 +43,8 @@ pub fn render<S: Shelf>(alloc: Global, work: &Work, shelf: &mut S) -> Result<(),
 fn write_output<O: Sink>(alloc: Global, work: &Work, sink: &mut O) -> Result<(), RenderFault>
     requires room { HasRoom (O.room sink.old) (44 + work.now.ticks * F * 4) }
     requires ready { IsReady work.now }
-    ensures whole { OnOk result (Took O.held O.room (bytes_of (plan_of work.now) no_buffers) sink.old sink.new) }
-    ensures part { OnErr result (TookPart O.held O.room (bytes_of (plan_of work.now) no_buffers) sink.old sink.new) }
+    ensures whole { OnOk result (Took O.held O.room (bytes_of (station_of work.now) no_buffers) sink.old sink.new) }
+    ensures part { OnErr result (TookPart O.held O.room (bytes_of (station_of work.now) no_buffers) sink.old sink.new) }
     ensures name { O.name sink.new ≡ O.name sink.old }
     ensures faults { O.faults sink.old ≤ O.faults sink.new }
     ensures cause { IsErrOf result RenderFault.Write → Rose (O.faults sink.old) (O.faults sink.new) }
