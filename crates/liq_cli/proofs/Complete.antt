@@ -2,7 +2,8 @@
 use Rattle.std.proofs.Common.{◌≡◌, ℕ, zero, suc, List, sym, subst, ap, refl, inl, inr, arith}
 use Rattle.std.specs.Prelude.{Option, None}
 use Rattle.liq_base.specs.Files.{Files}
-use Rattle.liq_cli.specs.Answer.{Answer, Usage, Refused, Accepted, answer, asked_step}
+use Rattle.liq_cli.specs.Answer.{Answer, Usage, Refused, Accepted}
+use Rattle.liq_cli.specs.Steps.{answer, asked_step}
 use Rattle.liq_cli.specs.Call.{Moment, Ends, IsDone, Told, Calm, Completes, IsComplete, Starved, WriteFailed}
 use Rattle.liq_cli.specs.Words.{asked_by}
 

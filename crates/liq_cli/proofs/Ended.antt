@@ -5,7 +5,8 @@ use Rattle.std.specs.Option.{ForSome}
 use Rattle.liq_base.specs.Counts.{Rose}
 use Rattle.liq_base.specs.Pieces.{IsPrefix, grown, TookPart}
 use Rattle.liq_base.specs.Files.{Files, file_at}
-use Rattle.liq_cli.specs.Answer.{Answer, Usage, Refused, Accepted, Station, answer, asked_step, script_step, line_of, bytes_of, outputs_of, report_of, no_buffers}
+use Rattle.liq_cli.specs.Answer.{Answer, Usage, Refused, Accepted, Station, line_of, bytes_of, outputs_of, report_of, no_buffers}
+use Rattle.liq_cli.specs.Steps.{answer, asked_step, script_step}
 use Rattle.liq_cli.specs.Call.{Moment, GrewPart, Rendered, Broken, Starved, IsDone, ReportBroke, OutputBroke, Told, Broke, WriteFailed, Ends}
 use Rattle.liq_cli.specs.Words.{Asked, asked_by}
 use Rattle.liq_cli.specs.declared.fault.Fault.{Fault}

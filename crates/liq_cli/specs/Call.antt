@@ -6,7 +6,8 @@ use Rattle.liq_base.specs.Pieces.{IsPrefix, grown}
 use Rattle.liq_base.specs.Files.{Files}
 use Rattle.liq_cli.specs.Outputs.{with_outputs, HoldsSome}
 use Rattle.liq_cli.specs.Words.{asked_by}
-use Rattle.liq_cli.specs.Answer.{Answer, Usage, Refused, Accepted, answer, Station, Run, IsLawful, IsBegun, outputs_of, report_of, line_of, usage_line}
+use Rattle.liq_cli.specs.Answer.{Answer, Usage, Refused, Accepted, Station, Run, IsLawful, IsBegun, outputs_of, report_of, line_of, usage_line}
+use Rattle.liq_cli.specs.Steps.{answer}
 
 -- what the shelf, `out` and `err` tell at one moment, and how often they failed
 pub record Moment : Type 0 where

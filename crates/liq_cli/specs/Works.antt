@@ -4,7 +4,8 @@ use Rattle.liq_base.specs.declared.memory.Kind.TheVariants.{Stereo}
 use Rattle.wav_io.specs.Header.{header_bytes}
 use Rattle.frame_core.specs.Library.{sound_at}
 use Rattle.wav_io.specs.Plain.{Wave}
-use Rattle.liq_cli.specs.Answer.{F, rate, Station, Accepted, wave_step}
+use Rattle.liq_cli.specs.Answer.{F, rate, Station, Accepted}
+use Rattle.liq_cli.specs.Steps.{wave_step}
 use Rattle.liq_cli.specs.declared.audio.Audio.{Audio}
 use Rattle.liq_cli.specs.declared.prepare.Work.{Work}
 

@@ -3,7 +3,8 @@ ghost use Rattle.std.specs.Prelude.{◌≡◌, ◌≤◌, ◌^◌, IfOk, IsErrOf
 ghost use Rattle.std.specs.Option.{ForSome};
 ghost use Rattle.liq_base.specs.Counts.{Rose};
 ghost use Rattle.liq_base.specs.Files.{file_at};
-ghost use Rattle.liq_cli.specs.Answer.{Refused, script_step};
+ghost use Rattle.liq_cli.specs.Answer.{Refused};
+ghost use Rattle.liq_cli.specs.Steps.{script_step};
 ghost use Rattle.liq_cli.specs.Call.{Ends, IsComplete, Rendered, Broken, Starved};
 ghost use Rattle.liq_cli.specs.Halts.{refused_for};
 ghost use Rattle.liq_cli.specs.Words.{texts};

@@ -3,7 +3,8 @@ ghost use Rattle.std.specs.Prelude.{◌≡◌, ◌≤◌, ◌^◌, IfOk, OnErr, 
 ghost use Rattle.std.specs.Option.{ForSome};
 ghost use Rattle.liq_base.specs.Files.{file_at};
 ghost use Rattle.wav_io.specs.Plain.{plain_of};
-ghost use Rattle.liq_cli.specs.Answer.{Accepted, file_step, names_step, script_step, wave_step};
+ghost use Rattle.liq_cli.specs.Answer.{Accepted};
+ghost use Rattle.liq_cli.specs.Steps.{file_step, names_step, script_step, wave_step};
 ghost use Rattle.liq_cli.specs.Prepared.{EndsFor, OnlyRead};
 ghost use Rattle.liq_cli.specs.Script.{names_of};
 ghost use Rattle.liq_cli.specs.Works.{IsReady, station_of};

@@ -1,7 +1,7 @@
 use Rattle.std.proofs.Common.{◌∙◌}
 use Rattle.liq_base.specs.Counts.{Rose}
 use Rattle.liq_base.specs.Files.{file_at}
-use Rattle.liq_cli.specs.Answer.{script_step}
+use Rattle.liq_cli.specs.Steps.{script_step}
 use Rattle.liq_cli.specs.Works.{station_of}
 use Rattle.std.proofs.lemmas.Result.{err_from_is_err_and}
 use Rattle.liq_cli.proofs.Ended.{kept_is_starved, accepted_broken, accepted_starved, accepted_rendered, written_starved}
