@@ -5,12 +5,13 @@ use Rattle.std.specs.Option.{ForSome}
 use Rattle.liq_base.specs.Counts.{Rose}
 use Rattle.liq_base.specs.Pieces.{IsPrefix, grown, TookPart}
 use Rattle.liq_base.specs.Files.{Files, file_at}
-use Rattle.liq_cli.specs.Answer.{Answer, Usage, Refused, Accepted, Station, line_of, bytes_of, outputs_of, report_of, no_buffers}
+use Rattle.liq_cli.specs.Answer.{Answer, Usage, Refused, Accepted, Station, line_of, usage_line, bytes_of, outputs_of, report_of, no_buffers}
 use Rattle.liq_cli.specs.Steps.{answer, asked_step, script_step}
-use Rattle.liq_cli.specs.Call.{Moment, GrewPart, Rendered, Broken, Starved, IsDone, ReportBroke, OutputBroke, Told, Broke, WriteFailed, Ends}
+use Rattle.liq_cli.specs.Call.{Moment, GrewPart, Rendered, Broken, Starved, IsDone, ReportBroke, OutputBroke, Told, LineBroke, Broke, WriteFailed, Ends}
 use Rattle.liq_cli.specs.Words.{Asked, asked_by}
 use Rattle.liq_cli.specs.declared.fault.Fault.{Fault}
 use Rattle.liq_cli.specs.Outputs.{HoldsSome, with_outputs}
+use Rattle.liq_cli.proofs.OneAnswer.{for_answer, for_usage}
 use Rattle.liq_cli.proofs.Parts.{none_created, some_later, whole_created}
 
 -- a prefix of the piece is one of the line
@@ -72,7 +73,7 @@ module _ (words : List (List ℕ)) (old new : Moment) (asked : Asked) (has_form 
   pub ended_done : ForSome old.files (λ files. IsDone (step files) files old new) → new.err ≡ old.err → Ends words old new 0
   ended_done told same = record {
     is_status = lit≤ tt;
-    done = λ at. ((λ files f. subst (λ a. IsDone a files old new) (by_steps files) (told files f)), same);
+    done = λ at. ((λ files f. for_answer words files (λ a. IsDone a files old new) (subst (λ a. IsDone a files old new) (by_steps files) (told files f))), same);
     refused = λ at. absurd (omega arith);
     usage = λ at. absurd (omega arith);
     read_fault = λ at. absurd (omega arith);
@@ -86,7 +87,7 @@ module _ (words : List (List ℕ)) (old new : Moment) (asked : Asked) (has_form 
   ended_refused fault told files_same out_same line = record {
     is_status = lit≤ tt;
     done = λ at. absurd (omega arith);
-    refused = λ at. ((λ files f. subst (λ a. Told a old new) (sym (told files f) ∙ by_steps files) line), files_same, out_same);
+    refused = λ at. ((λ files f. for_answer words files (λ a. Told a old new) (subst (λ a. Told a old new) (sym (told files f) ∙ by_steps files) line)), files_same, out_same);
     usage = λ at. absurd (omega arith);
     read_fault = λ at. absurd (omega arith);
     write_fault = λ at. absurd (omega arith);
@@ -113,7 +114,7 @@ module _ (words : List (List ℕ)) (old new : Moment) (asked : Asked) (has_form 
     refused = λ at. absurd (omega arith);
     usage = λ at. absurd (omega arith);
     read_fault = λ at. absurd (omega arith);
-    write_fault = λ at. ((λ files f. subst (λ a. Broke a files old new) (by_steps files) (told files f)), cause);
+    write_fault = λ at. ((λ files f. for_answer words files (λ a. Broke a files old new) (subst (λ a. Broke a files old new) (by_steps files) (told files f))), cause);
     memory = λ at. absurd (omega arith);
     no_form = λ none. form_there none;
   }
@@ -147,7 +148,7 @@ module _ (words : List (List ℕ)) (old new : Moment) (asked : Asked) (has_form 
     usage = λ at. absurd (omega arith);
     read_fault = λ at. absurd (omega arith);
     write_fault = λ at. absurd (omega arith);
-    memory = λ at. ((λ files f. subst (λ a. Starved a (Rose old.writes new.writes) files new.files) (by_steps files) (told files f)), out_same, err_same);
+    memory = λ at. ((λ files f. for_answer words files (λ a. Starved a (Rose old.writes new.writes) files new.files) (subst (λ a. Starved a (Rose old.writes new.writes) files new.files) (by_steps files) (told files f))), out_same, err_same);
     no_form = λ none. form_there none;
   }
 
@@ -155,3 +156,31 @@ module _ (words : List (List ℕ)) (old new : Moment) (asked : Asked) (has_form 
   pub ended_unsaid : (fault : Fault) → ForSome old.files (λ files. step files ≡ Refused fault) → new.files ≡ old.files → new.out ≡ old.out → new.err ≡ old.err → Ends words old new 5
   ended_unsaid fault told files_same out_same err_same =
       ended_starved (λ files f. subst (λ a. Starved a (Rose old.writes new.writes) files new.files) (sym (told files f)) (files_same ∙ f)) out_same err_same
+
+-- words of no form
+module _ (words : List (List ℕ)) (old new : Moment) (none : asked_by words ≡ None) where
+  pub ended_usage : new.err ≡ grown usage_line old.err → new.files ≡ old.files → new.out ≡ old.out → Ends words old new 2
+  ended_usage line files_same out_same = record {
+    is_status = lit≤ tt;
+    done = λ at. absurd (omega arith);
+    refused = λ at. absurd (omega arith);
+    usage = λ at. (none, line, files_same, out_same);
+    read_fault = λ at. absurd (omega arith);
+    write_fault = λ at. absurd (omega arith);
+    memory = λ at. absurd (omega arith);
+    no_form = λ at. inl refl;
+  }
+
+  pub broken_usage : new.files ≡ old.files → new.out ≡ old.out → GrewPart usage_line old.err new.err → Rose old.err_faults new.err_faults → Ends words old new 4
+  broken_usage files_same out_same part rose =
+      let broke : LineBroke usage_line old new = record { files_kept = files_same; out_kept = out_same; written = part; cause = rose } in
+      record {
+        is_status = lit≤ tt;
+        done = λ at. absurd (omega arith);
+        refused = λ at. absurd (omega arith);
+        usage = λ at. absurd (omega arith);
+        read_fault = λ at. absurd (omega arith);
+        write_fault = λ at. ((λ files f. for_usage words files (λ a. Broke a files old new) none broke), inl rose);
+        memory = λ at. absurd (omega arith);
+        no_form = λ at. inr (refl, broke);
+      }

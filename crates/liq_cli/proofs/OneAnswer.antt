@@ -194,7 +194,7 @@ answer_only words files (Accepted station) is =
     let (asked, form, accepted) = some_at (asked_by words) _ is in
     only_found files asked (Accepted station) accepted ∙ sym (ap (asked_step files) form)
 
--- words and files have one answer
+-- two answers to the same words over the same files are one
 pub one_answer : (words : List (List ℕ)) (files : Files) (a b : Answer) → IsAnswer words files a → IsAnswer words files b → a ≡ b
 one_answer words files a b is other = answer_only words files a is ∙ sym (answer_only words files b other)
 
@@ -202,3 +202,12 @@ one_answer words files a b is other = answer_only words files a is ∙ sym (answ
 pub for_answer : (words : List (List ℕ)) (files : Files) (P : Answer → Type 0) → P (answer words files) → ForAnswer words files P
 for_answer words files P holds =
     record { answer = answer words files; is_answer = answer_is words files; only = answer_only words files; holds = holds }
+
+-- and so does what follows from it
+pub for_more : (words : List (List ℕ)) (files : Files) (P Q : Answer → Type 0) → ((a : Answer) → P a → Q a) → ForAnswer words files P → ForAnswer words files Q
+for_more words files P Q f for =
+    record { answer = for.answer; is_answer = for.is_answer; only = for.only; holds = f for.answer for.holds }
+
+-- words of no form are answered by the usage line
+pub for_usage : (words : List (List ℕ)) (files : Files) (P : Answer → Type 0) → asked_by words ≡ None → P Usage → ForAnswer words files P
+for_usage words files P none holds = for_answer words files P (subst P (sym (ap (asked_step files) none)) holds)

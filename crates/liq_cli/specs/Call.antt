@@ -6,8 +6,7 @@ use Rattle.liq_base.specs.Pieces.{IsPrefix, grown}
 use Rattle.liq_base.specs.Files.{Files}
 use Rattle.liq_cli.specs.Outputs.{with_outputs, HoldsSome}
 use Rattle.liq_cli.specs.Words.{asked_by}
-use Rattle.liq_cli.specs.Answer.{Answer, Usage, Refused, Accepted, Station, Run, IsLawful, IsBegun, outputs_of, report_of, line_of, usage_line}
-use Rattle.liq_cli.specs.Steps.{answer}
+use Rattle.liq_cli.specs.Answer.{Answer, Usage, Refused, Accepted, ForAnswer, Station, Run, IsLawful, IsBegun, outputs_of, report_of, line_of, usage_line}
 
 -- what the shelf, `out` and `err` tell at one moment, and how often they failed
 pub record Moment : Type 0 where
@@ -18,6 +17,10 @@ pub record Moment : Type 0 where
   pub writes : ℕ
   pub out_faults : ℕ
   pub err_faults : ℕ
+
+abbrev pub moment_of : {S O E : Type 0} → (S → Option Files) → (S → ℕ) → (S → ℕ) → (O → Option (List ℕ)) → (O → ℕ) → (E → Option (List ℕ)) → (E → ℕ) → S → O → E → Moment
+moment_of files reads writes out_held out_faults err_held err_faults shelf out err =
+    record { files = files shelf; out = out_held out; err = err_held err; reads = reads shelf; writes = writes shelf; out_faults = out_faults out; err_faults = err_faults err }
 
 -- a prefix of the line was written
 pub record GrewPart (line : List ℕ) (old new : Option (List ℕ)) : Type 0 where
@@ -96,13 +99,13 @@ WriteFailed old new = Rose old.err_faults new.err_faults ⊎ Rose old.out_faults
 -- by status
 pub record Ends (words : List (List ℕ)) (old new : Moment) (status : ℕ) : Type 0 where
   pub is_status : status ≤ 5
-  pub done : status ≡ 0 → ForSome old.files (λ files. IsDone (answer words files) files old new) × (new.err ≡ old.err)
-  pub refused : status ≡ 1 → ForSome old.files (λ files. Told (answer words files) old new) × (new.files ≡ old.files) × (new.out ≡ old.out)
+  pub done : status ≡ 0 → ForSome old.files (λ files. ForAnswer words files (λ answer. IsDone answer files old new)) × (new.err ≡ old.err)
+  pub refused : status ≡ 1 → ForSome old.files (λ files. ForAnswer words files (λ answer. Told answer old new)) × (new.files ≡ old.files) × (new.out ≡ old.out)
   pub usage : status ≡ 2 → (asked_by words ≡ None) × (new.err ≡ grown usage_line old.err) × (new.files ≡ old.files) × (new.out ≡ old.out)
   pub read_fault : status ≡ 3 → Rose old.reads new.reads × (new.files ≡ old.files) × (new.out ≡ old.out) × (new.err ≡ old.err)
-  pub write_fault : status ≡ 4 → ForSome old.files (λ files. Broke (answer words files) files old new) × WriteFailed old new
-  pub memory : status ≡ 5 → ForSome old.files (λ files. Starved (answer words files) (Rose old.writes new.writes) files new.files) × (new.out ≡ old.out) × (new.err ≡ old.err)
-  pub no_form : asked_by words ≡ None → (status ≡ 2) ⊎ ((status ≡ 4) × Rose old.err_faults new.err_faults)
+  pub write_fault : status ≡ 4 → ForSome old.files (λ files. ForAnswer words files (λ answer. Broke answer files old new)) × WriteFailed old new
+  pub memory : status ≡ 5 → ForSome old.files (λ files. ForAnswer words files (λ answer. Starved answer (Rose old.writes new.writes) files new.files)) × (new.out ≡ old.out) × (new.err ≡ old.err)
+  pub no_form : asked_by words ≡ None → (status ≡ 2) ⊎ ((status ≡ 4) × LineBroke usage_line old new)
 
 -- no count rose
 pub record Calm (old new : Moment) : Type 0 where
@@ -118,4 +121,4 @@ Completes Usage status = status ≡ 2
 
 -- where no count rose, the answer is the status, or memory was refused
 abbrev pub IsComplete : List (List ℕ) → Moment → Moment → ℕ → Type 0
-IsComplete words old new status = Calm old new → ForSome old.files (λ files. Completes (answer words files) status)
+IsComplete words old new status = Calm old new → ForSome old.files (λ files. ForAnswer words files (λ answer. Completes answer status))
