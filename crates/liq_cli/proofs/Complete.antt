@@ -1,12 +1,11 @@
 -- Where no count rose, the answer is the status: it follows from the rows by status.
-use Rattle.std.proofs.Common.{◌≡◌, ℕ, zero, suc, List, sym, subst, ap, refl, inl, inr, arith}
-use Rattle.std.specs.Prelude.{Option, None}
+use Rattle.std.proofs.Common.{ℕ, zero, suc, List, refl, inl, inr, arith}
+use Rattle.std.specs.Prelude.{Option}
 use Rattle.liq_base.specs.Files.{Files}
 use Rattle.liq_cli.specs.Answer.{Answer, Usage, Refused, Accepted}
 use Rattle.liq_base.specs.Counts.{Rose}
 use Rattle.liq_cli.proofs.OneAnswer.{for_more, for_usage}
 use Rattle.liq_cli.specs.Call.{Moment, Ends, IsDone, Told, Calm, Completes, IsComplete, Starved, WriteFailed}
-use Rattle.liq_cli.specs.Words.{asked_by}
 
 no_write : (old new : Moment) → Calm old new → WriteFailed old new → ⊥
 no_write old new calm (inl e) = calm.err e

@@ -12,7 +12,6 @@ use Rattle.frame_core.specs.Sounds.{Sound}
 use Rattle.liq_cli.specs.Answer.{F, rate, Answer, Usage, Refused, Accepted, IsShortScript, IsAudio, HasScript, HasAudio, IsOther, other_script, other_audio, no_header, IsFault, IsAccepted, IsAnswer, ForAnswer}
 use Rattle.liq_cli.specs.Script.{Names, names_of}
 use Rattle.liq_cli.specs.Words.{Asked, asked_by}
-use Rattle.liq_cli.specs.declared.fault.Fault.{Fault}
 use Rattle.liq_cli.specs.declared.fault.Fault.TheVariants.{NoScript, OtherForm, MissingFile}
 use Rattle.liq_cli.proofs.Forms.{names_found, names_only}
 use Rattle.liq_cli.specs.Steps.{header_step, wave_step, file_step, names_step, script_step, asked_step, answer}
@@ -193,10 +192,6 @@ answer_only words files (Refused fault) is =
 answer_only words files (Accepted station) is =
     let (asked, form, accepted) = some_at (asked_by words) _ is in
     only_found files asked (Accepted station) accepted ∙ sym (ap (asked_step files) form)
-
--- two answers to the same words over the same files are one
-pub one_answer : (words : List (List ℕ)) (files : Files) (a b : Answer) → IsAnswer words files a → IsAnswer words files b → a ≡ b
-one_answer words files a b is other = answer_only words files a is ∙ sym (answer_only words files b other)
 
 -- what holds of the answer that is found holds of the answer
 pub for_answer : (words : List (List ℕ)) (files : Files) (P : Answer → Type 0) → P (answer words files) → ForAnswer words files P

@@ -1,5 +1,5 @@
 -- What a call answers, by its words and the files.
-use Rattle.std.specs.Prelude.{◌≡◌, ◌≤◌, ℕ, ◌*◌, ◌^◌, List, [], ◌∷◌, ◌++◌, length, Option, Some, None, IsSome, IsSomeAnd, codes, decimal}
+use Rattle.std.specs.Prelude.{◌≡◌, ◌≤◌, ℕ, ◌*◌, ◌^◌, List, [], ◌∷◌, ◌++◌, length, Option, None, IsSome, IsSomeAnd, codes, decimal}
 use Rattle.liq_base.specs.Files.{Files, file_at}
 use Rattle.liq_base.specs.declared.memory.Kind.TheVariants.{Stereo}
 use Rattle.wav_io.specs.Header.{header_bytes, header_of}
@@ -112,7 +112,7 @@ Window = List (Option (List Cell)) × List (Option (List Cell))
 pub record Run : Type 0 where
   pub buffers : List (List Window)
 
--- the run is one of this station's, to its end or as far as it came; such a station has no buffer
+-- the run is one of this station, to its end or as far as it came; such a station has no buffer
 abbrev pub IsLawful : Station → Run → Type 0
 IsLawful station run = run.buffers ≡ []
 

@@ -18,6 +18,7 @@ pub record Moment : Type 0 where
   pub out_faults : ℕ
   pub err_faults : ℕ
 
+-- the moment at which a shelf, `out` and `err` are these
 abbrev pub moment_of : {S O E : Type 0} → (S → Option Files) → (S → ℕ) → (S → ℕ) → (O → Option (List ℕ)) → (O → ℕ) → (E → Option (List ℕ)) → (E → ℕ) → S → O → E → Moment
 moment_of files reads writes out_held out_faults err_held err_faults shelf out err =
     record { files = files shelf; out = out_held out; err = err_held err; reads = reads shelf; writes = writes shelf; out_faults = out_faults out; err_faults = err_faults err }
@@ -35,7 +36,9 @@ pub record Wrote (station : Station) (files : Files) (after : Option Files) (rep
   pub written : after ≡ Some (with_outputs files (outputs_of station run))
   pub report_is : report ≡ report_of station run
 
--- a run was broken off: the outputs that were created hold a part, or, for this cause, what they held
+-- A run was broken off: each output holds a prefix of its bytes, or what it held. That a name keeps what it held only
+-- where its own creation or closing failed is not said here, where one count stands for all outputs; the clause `part`
+-- of `fill` in `src/render.rt` says it of one.
 pub record WrotePart (station : Station) (cause : Type 0) (files : Files) (after : Option Files) : Type 0 where
   pub run : Run
   pub begun : IsBegun station run

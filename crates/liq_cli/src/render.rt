@@ -1,4 +1,4 @@
-// A station is rendered into the file of its output.
+// The work is rendered into the file of its output.
 ghost use Rattle.std.specs.Prelude.{◌≡◌, ◌≤◌, ◌+◌, ◌*◌, ◌<◌, ◌^◌, [], ◌∷◌, ◌++◌, length, IfOk, OnOk, OnErr, IsErrOf, Some, IsSome, IsSomeAnd};
 ghost use Rattle.std.specs.Option.{ForSome};
 ghost use Rattle.liq_base.specs.Counts.{Rose};
