@@ -6,7 +6,8 @@ use Rattle.liq_base.specs.Files.{Files, file_at}
 use Rattle.liq_cli.specs.declared.fault.Fault.{Fault}
 use Rattle.liq_cli.specs.declared.fault.Halt.{Halt}
 use Rattle.liq_cli.specs.declared.fault.Halt.TheVariants.{Refused as refused_for}
-use Rattle.liq_cli.specs.Answer.{Answer, Refused, names_step, file_step}
+use Rattle.liq_cli.specs.Answer.{Answer, Refused}
+use Rattle.liq_cli.specs.Steps.{names_step, file_step}
 use Rattle.liq_cli.specs.Prepared.{EndsFor}
 use Rattle.liq_cli.specs.Script.{Names, names_of}
 

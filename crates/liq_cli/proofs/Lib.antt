@@ -1,6 +1,7 @@
 pub mod Conjunctions
 pub mod Numbers
 pub mod Blocks
+pub mod OneAnswer
 pub mod Results
 pub mod Parts
 pub mod Names

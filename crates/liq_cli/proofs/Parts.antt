@@ -1,6 +1,6 @@
 -- What is left of the one output.
 use Rattle.std.proofs.Common.{◌∙◌, ◌≡◌, ℕ, List, [], ◌∷◌, sym, append-nil, refl, subst, inr}
-use Rattle.std.specs.Prelude.{Option, Some, None, IsSomeAnd}
+use Rattle.std.specs.Prelude.{Option, Some, None, IsSomeAnd, Result, Ok, Err, OnErr}
 use Rattle.std.specs.Option.{ForSome}
 use Rattle.liq_base.specs.Pieces.{IsPrefix}
 use Rattle.liq_base.specs.Files.{Files, with_file}
@@ -12,9 +12,18 @@ one_created : (cause : Type 0) (after : Option Files) (files : Files) (output : 
 one_created cause None files output part = part
 one_created cause (Some all) files output part = record { created = output ∷ []; others = []; outputs_are = refl; parts = (all, part, refl) }
 
-pub some_created : (cause : Type 0) (before after : Option Files) (name bytes : List ℕ) → ForSome before (λ files. IsSomeAnd after (HoldsPartOr cause files name bytes))
-    → ForSome before (λ files. IsSomeAnd after (HoldsSome cause files (record { name = name; bytes = bytes } ∷ [])))
-some_created cause before after name bytes part files told = one_created cause after files (record { name = name; bytes = bytes }) (part files told)
+later_part : (cause more : Type 0) → (cause → more) → (files : Files) (name bytes : List ℕ) (after : Option Files)
+    → IsSomeAnd after (HoldsPartOr cause files name bytes) → IsSomeAnd after (HoldsPartOr more files name bytes)
+later_part cause more f files name bytes None part = part
+later_part cause more f files name bytes (Some after) part = later_cause cause more files name bytes after f part
+
+-- so the one output is told from before its creation
+pub some_created : {E : Type 0} (r : Result (Unit {0}) E) (cause more : Type 0) (before created after : Option Files) (name bytes : List ℕ)
+    → OnErr r (ForSome created (λ files. IsSomeAnd after (HoldsPartOr cause files name bytes))) → created ≡ before → (cause → more)
+    → OnErr r (ForSome before (λ files. IsSomeAnd after (HoldsSome more files (record { name = name; bytes = bytes } ∷ []))))
+some_created (Ok x) cause more before created after name bytes part same f = tt
+some_created (Err x) cause more before created after name bytes part same f = λ files told.
+    one_created more after files (record { name = name; bytes = bytes }) (later_part cause more f files name bytes after (part files (same ∙ told)))
 
 whole_prefix : (bytes : List ℕ) → IsPrefix bytes bytes
 whole_prefix bytes = record { rest = []; whole_is = sym (append-nil bytes) }

@@ -5,7 +5,8 @@ use Rattle.liq_base.specs.Files.{Files, file_at}
 use Rattle.liq_base.specs.declared.memory.Kind.TheVariants.{Stereo}
 use Rattle.wav_io.specs.Header.{header_of}
 use Rattle.wav_io.specs.Plain.{Wave, plain_of}
-use Rattle.liq_cli.specs.Answer.{Answer, Usage, Refused, F, rate, header_step, wave_step, file_step, names_step, script_step}
+use Rattle.liq_cli.specs.Answer.{Answer, Usage, Refused, F, rate}
+use Rattle.liq_cli.specs.Steps.{header_step, wave_step, file_step, names_step, script_step}
 use Rattle.liq_cli.specs.Script.{Names, names_of}
 use Rattle.liq_cli.specs.declared.fault.Fault.TheVariants.{OtherForm}
 

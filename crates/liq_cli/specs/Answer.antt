@@ -1,14 +1,15 @@
--- What a call answers, as a function of its words and of the files.
-use Rattle.std.specs.Prelude.{◌≡◌, ℕ, ◌*◌, ◌^◌, List, [], ◌∷◌, ◌++◌, length, Bool, Option, Some, None, if◌then◌else◌, nat_le, nat_eq, codes, decimal}
+-- What a call answers, by its words and the files.
+use Rattle.std.specs.Prelude.{◌≡◌, ◌≤◌, ℕ, ◌*◌, ◌^◌, List, [], ◌∷◌, ◌++◌, length, Option, None, IsSome, IsSomeAnd, codes, decimal}
 use Rattle.liq_base.specs.Files.{Files, file_at}
 use Rattle.liq_base.specs.declared.memory.Kind.TheVariants.{Stereo}
 use Rattle.wav_io.specs.Header.{header_bytes, header_of}
-use Rattle.wav_io.specs.Plain.{Wave, plain_of}
+use Rattle.wav_io.specs.Plain.{Wave, IsPlain}
+use Rattle.frame_core.specs.declared.cell.Cell.{Cell}
 use Rattle.frame_core.specs.Bytes.{samples_in}
 use Rattle.frame_core.specs.Sounds.{Sound}
 use Rattle.liq_cli.specs.Outputs.{Output}
 use Rattle.liq_cli.specs.Words.{Asked, asked_by}
-use Rattle.liq_cli.specs.Script.{Names, names_of}
+use Rattle.liq_cli.specs.Script.{Names, IsScript}
 use Rattle.frame_core.specs.Streams.{Stream, ticks_bytes, gaps}
 use Rattle.liq_cli.specs.Streams.{single}
 use Rattle.liq_cli.specs.declared.fault.Fault.{Fault}
@@ -22,7 +23,7 @@ abbrev pub F : ℕ
 F = 1764
 
 -- what an accepted script renders: one output over one `single` leaf, for so many ticks
-pub record Plan : Type 0 where
+pub record Station : Type 0 where
   pub output : List ℕ
   pub sound : Sound
   pub ticks : ℕ
@@ -30,7 +31,7 @@ pub record Plan : Type 0 where
 pub data Answer : Type 0 where
   Usage : Answer
   Refused : Fault → Answer
-  Accepted : Plan → Answer
+  Accepted : Station → Answer
 
 -- the line of a fault
 abbrev pub line_of : Fault → List ℕ
@@ -41,65 +42,98 @@ line_of (MissingFile name) = codes "E20 missing file " ++ name ++ codes "\n"
 abbrev pub usage_line : List ℕ
 usage_line = codes "usage: check FILE | render FILE N [--one-thread] [--window=W] [--start=D:HH:MM:SS] [--trace=NAME] | make SEED SIZE\n"
 
--- What the buffers of a plan answered in a run, which no plan determines: for each buffer the answers of its puts, true where the chunk was accepted.
+-- a script of at most 2^20 bytes, of the form that is rendered, with these names
+pub record IsShortScript (script : List ℕ) (names : Names) : Type 0 where
+  pub short : length script ≤ 2 ^ 20
+  pub is_script : IsScript script names
+
+-- a plain audio file of at most 2^28 bytes, at the rate of the outputs, which holds this sound
+pub record IsAudio (bytes : List ℕ) (sound : Sound) : Type 0 where
+  pub short : length bytes ≤ 2 ^ 28
+  pub wave : Wave
+  pub is_plain : IsPlain bytes wave
+  pub at_rate : wave.rate ≡ rate
+  pub sound_is : sound ≡ record { kind = wave.kind; samples = samples_in wave.body }
+
+-- the file of this name is there, and is such a script; such an audio file; nothing of this kind
+abbrev pub HasScript : Files → List ℕ → Names → Type 0
+HasScript files name names = IsSomeAnd (file_at files name) (λ bytes. IsShortScript bytes names)
+
+abbrev pub HasAudio : Files → List ℕ → Sound → Type 0
+HasAudio files name sound = IsSomeAnd (file_at files name) (λ bytes. IsAudio bytes sound)
+
+abbrev pub HasOther : Files → List ℕ → (List ℕ → Type 0) → Type 0
+HasOther files name May = IsSomeAnd (file_at files name) (λ bytes. May bytes → ⊥)
+
+-- The script, its audio file and the length of the output are such as are rendered, and this is the station.
+pub record IsAccepted (files : Files) (station : Station) (asked : Asked) : Type 0 where
+  pub names : Names
+  pub sound : Sound
+  pub script : HasScript files asked.file names
+  pub audio : HasAudio files names.file sound
+  pub header : IsSome (header_of Stereo rate (asked.ticks * F))
+  pub station_is : station ≡ record { output = names.output; sound = sound; ticks = asked.ticks }
+
+-- The script is there, and it, its audio file or the length of the output is not such as is rendered.
+pub data IsOther (files : Files) (asked : Asked) : Type 0 where
+  other_script : HasOther files asked.file (λ bytes. (names : Names) × IsShortScript bytes names) → IsOther files asked
+  other_audio : (names : Names) → HasScript files asked.file names
+      → HasOther files names.file (λ bytes. (sound : Sound) × IsAudio bytes sound) → IsOther files asked
+  no_header : (names : Names) (sound : Sound) → HasScript files asked.file names → HasAudio files names.file sound
+      → header_of Stereo rate (asked.ticks * F) ≡ None → IsOther files asked
+
+-- what stands against the rendering that is asked for
+abbrev pub IsFault : Files → Fault → Asked → Type 0
+IsFault files NoScript asked = file_at files asked.file ≡ None
+IsFault files OtherForm asked = IsOther files asked
+IsFault files (MissingFile name) asked =
+    (names : Names) × HasScript files asked.file names × (names.file ≡ name) × (file_at files name ≡ None)
+
+-- this is the answer to these words over these files
+abbrev pub IsAnswer : List (List ℕ) → Files → Answer → Type 0
+IsAnswer words files Usage = asked_by words ≡ None
+IsAnswer words files (Refused fault) = IsSomeAnd (asked_by words) (IsFault files fault)
+IsAnswer words files (Accepted station) = IsSomeAnd (asked_by words) (IsAccepted files station)
+
+-- words and files have one answer, and this holds of it
+pub record ForAnswer (words : List (List ℕ)) (files : Files) (P : Answer → Type 0) : Type 0 where
+  pub answer : Answer
+  pub is_answer : IsAnswer words files answer
+  pub only : (other : Answer) → IsAnswer words files other → other ≡ answer
+  pub holds : P answer
+
+-- One window of a buffer: its puts, each the chunk or nothing where the buffer was full, and its takes, each a chunk or
+-- nothing where it was empty.
+abbrev pub Window : Type 0
+Window = List (Option (List Cell)) × List (Option (List Cell))
+
+-- What the buffers of a station answered in a run, which no station determines: for each buffer its windows, one after
+-- another.
 pub record Run : Type 0 where
-  pub buffers : List (List Bool)
+  pub buffers : List (List Window)
 
--- the run is one of this plan's, to its end or as far as it came; such a plan has no buffer
-abbrev pub IsLawful : Plan → Run → Type 0
-IsLawful plan run = run.buffers ≡ []
+-- the run is one of this station, to its end or as far as it came; such a station has no buffer
+abbrev pub IsLawful : Station → Run → Type 0
+IsLawful station run = run.buffers ≡ []
 
-abbrev pub IsBegun : Plan → Run → Type 0
-IsBegun plan run = run.buffers ≡ []
+abbrev pub IsBegun : Station → Run → Type 0
+IsBegun station run = run.buffers ≡ []
 
 abbrev pub no_buffers : Run
 no_buffers = record { buffers = [] }
 
 -- the stream of the output, and all the bytes of its file in a run
-abbrev pub stream_of : Plan → Run → Stream
-stream_of plan run = single plan.sound Stereo
+abbrev pub stream_of : Station → Run → Stream
+stream_of station run = single station.sound Stereo
 
-abbrev pub bytes_of : Plan → Run → List ℕ
-bytes_of plan run = header_bytes Stereo rate (plan.ticks * F) ++ ticks_bytes Stereo (stream_of plan run) F plan.ticks
+abbrev pub bytes_of : Station → Run → List ℕ
+bytes_of station run = header_bytes Stereo rate (station.ticks * F) ++ ticks_bytes Stereo (stream_of station run) F station.ticks
 
-abbrev pub outputs_of : Plan → Run → List Output
-outputs_of plan run = record { name = plan.output; bytes = bytes_of plan run } ∷ []
+abbrev pub outputs_of : Station → Run → List Output
+outputs_of station run = record { name = station.output; bytes = bytes_of station run } ∷ []
 
 -- the report of a run
-abbrev pub report_of : Plan → Run → List ℕ
-report_of plan run =
-    codes "output " ++ plan.output ++ codes " samples " ++ decimal (plan.ticks * F)
-    ++ codes " gaps " ++ decimal (gaps (stream_of plan run) (plan.ticks * F)) ++ codes "\n"
-
--- the steps, each by what the one before it found
-abbrev pub header_step : ℕ → List ℕ → Wave → Option (List ℕ) → Answer
-header_step ticks output wave None = Refused OtherForm
-header_step ticks output wave (Some header) =
-    Accepted (record { output = output; sound = record { kind = wave.kind; samples = samples_in wave.body }; ticks = ticks })
-
-abbrev pub wave_step : ℕ → List ℕ → Option Wave → Answer
-wave_step ticks output None = Refused OtherForm
-wave_step ticks output (Some wave) =
-    if nat_eq wave.rate rate then header_step ticks output wave (header_of Stereo rate (ticks * F)) else Refused OtherForm
-
-abbrev pub file_step : ℕ → Names → Option (List ℕ) → Answer
-file_step ticks names None = Refused (MissingFile names.file)
-file_step ticks names (Some bytes) =
-    if nat_le (length bytes) (2 ^ 28) then wave_step ticks names.output (plain_of bytes) else Refused OtherForm
-
-abbrev pub names_step : ℕ → Files → Option Names → Answer
-names_step ticks files None = Refused OtherForm
-names_step ticks files (Some names) = file_step ticks names (file_at files names.file)
-
-abbrev pub script_step : ℕ → Files → Option (List ℕ) → Answer
-script_step ticks files None = Refused NoScript
-script_step ticks files (Some script) =
-    if nat_le (length script) (2 ^ 20) then names_step ticks files (names_of script) else Refused OtherForm
-
-abbrev pub asked_step : Files → Option Asked → Answer
-asked_step files None = Usage
-asked_step files (Some asked) = script_step asked.ticks files (file_at files asked.file)
-
--- words and files to the answer
-abbrev pub answer : List (List ℕ) → Files → Answer
-answer words files = asked_step files (asked_by words)
+abbrev pub report_of : Station → Run → List ℕ
+report_of station run =
+    codes "output " ++ station.output ++ codes " samples " ++ decimal (station.ticks * F)
+    ++ codes " gaps " ++ decimal (gaps (stream_of station run) (station.ticks * F)) ++ codes "\n"

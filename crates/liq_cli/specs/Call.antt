@@ -6,7 +6,7 @@ use Rattle.liq_base.specs.Pieces.{IsPrefix, grown}
 use Rattle.liq_base.specs.Files.{Files}
 use Rattle.liq_cli.specs.Outputs.{with_outputs, HoldsSome}
 use Rattle.liq_cli.specs.Words.{asked_by}
-use Rattle.liq_cli.specs.Answer.{Answer, Usage, Refused, Accepted, answer, Plan, Run, IsLawful, IsBegun, outputs_of, report_of, line_of, usage_line}
+use Rattle.liq_cli.specs.Answer.{Answer, Usage, Refused, Accepted, ForAnswer, Station, Run, IsLawful, IsBegun, outputs_of, report_of, line_of, usage_line}
 
 -- what the shelf, `out` and `err` tell at one moment, and how often they failed
 pub record Moment : Type 0 where
@@ -18,6 +18,11 @@ pub record Moment : Type 0 where
   pub out_faults : ℕ
   pub err_faults : ℕ
 
+-- the moment at which a shelf, `out` and `err` are these
+abbrev pub moment_of : {S O E : Type 0} → (S → Option Files) → (S → ℕ) → (S → ℕ) → (O → Option (List ℕ)) → (O → ℕ) → (E → Option (List ℕ)) → (E → ℕ) → S → O → E → Moment
+moment_of files reads writes out_held out_faults err_held err_faults shelf out err =
+    record { files = files shelf; out = out_held out; err = err_held err; reads = reads shelf; writes = writes shelf; out_faults = out_faults out; err_faults = err_faults err }
+
 -- a prefix of the line was written
 pub record GrewPart (line : List ℕ) (old new : Option (List ℕ)) : Type 0 where
   pub part : List ℕ
@@ -25,31 +30,33 @@ pub record GrewPart (line : List ℕ) (old new : Option (List ℕ)) : Type 0 whe
   pub grew : new ≡ grown part old
 
 -- a run wrote all outputs, and this is its report
-pub record Wrote (plan : Plan) (files : Files) (after : Option Files) (report : List ℕ) : Type 0 where
+pub record Wrote (station : Station) (files : Files) (after : Option Files) (report : List ℕ) : Type 0 where
   pub run : Run
-  pub lawful : IsLawful plan run
-  pub written : after ≡ Some (with_outputs files (outputs_of plan run))
-  pub report_is : report ≡ report_of plan run
+  pub lawful : IsLawful station run
+  pub written : after ≡ Some (with_outputs files (outputs_of station run))
+  pub report_is : report ≡ report_of station run
 
--- a run was broken off: the outputs that were created hold a part, or, for this cause, what they held
-pub record WrotePart (plan : Plan) (cause : Type 0) (files : Files) (after : Option Files) : Type 0 where
+-- A run was broken off: each output holds a prefix of its bytes, or what it held. That a name keeps what it held only
+-- where its own creation or closing failed is not said here, where one count stands for all outputs; the clause `part`
+-- of `fill` in `src/render.rt` says it of one.
+pub record WrotePart (station : Station) (cause : Type 0) (files : Files) (after : Option Files) : Type 0 where
   pub run : Run
-  pub begun : IsBegun plan run
-  pub parts : IsSomeAnd after (HoldsSome cause files (outputs_of plan run))
+  pub begun : IsBegun station run
+  pub parts : IsSomeAnd after (HoldsSome cause files (outputs_of station run))
 
 abbrev pub Rendered : Answer → Files → Option Files → List ℕ → Type 0
-Rendered (Accepted plan) files after report = Wrote plan files after report
+Rendered (Accepted station) files after report = Wrote station files after report
 Rendered (Refused fault) files after report = ⊥
 Rendered Usage files after report = ⊥
 
 abbrev pub Broken : Answer → Type 0 → Files → Option Files → Type 0
-Broken (Accepted plan) cause files after = WrotePart plan cause files after
+Broken (Accepted station) cause files after = WrotePart station cause files after
 Broken (Refused fault) cause files after = ⊥
 Broken Usage cause files after = ⊥
 
 -- memory was refused, maybe before anything was created
 abbrev pub Starved : Answer → Type 0 → Files → Option Files → Type 0
-Starved (Accepted plan) cause files after = WrotePart plan cause files after
+Starved (Accepted station) cause files after = WrotePart station cause files after
 Starved (Refused fault) cause files after = after ≡ Some files
 Starved Usage cause files after = ⊥
 
@@ -81,11 +88,11 @@ pub record LineBroke (line : List ℕ) (old new : Moment) : Type 0 where
 -- what status 1 and 4 say, by the answer
 abbrev pub Told : Answer → Moment → Moment → Type 0
 Told (Refused fault) old new = new.err ≡ grown (line_of fault) old.err
-Told (Accepted plan) old new = ⊥
+Told (Accepted station) old new = ⊥
 Told Usage old new = ⊥
 
 abbrev pub Broke : Answer → Files → Moment → Moment → Type 0
-Broke (Accepted plan) files old new = (ReportBroke (Accepted plan) files old new ⊎ OutputBroke (Accepted plan) files old new) × (new.err ≡ old.err)
+Broke (Accepted station) files old new = (ReportBroke (Accepted station) files old new ⊎ OutputBroke (Accepted station) files old new) × (new.err ≡ old.err)
 Broke (Refused fault) files old new = LineBroke (line_of fault) old new
 Broke Usage files old new = LineBroke usage_line old new
 
@@ -95,13 +102,13 @@ WriteFailed old new = Rose old.err_faults new.err_faults ⊎ Rose old.out_faults
 -- by status
 pub record Ends (words : List (List ℕ)) (old new : Moment) (status : ℕ) : Type 0 where
   pub is_status : status ≤ 5
-  pub done : status ≡ 0 → ForSome old.files (λ files. IsDone (answer words files) files old new) × (new.err ≡ old.err)
-  pub refused : status ≡ 1 → ForSome old.files (λ files. Told (answer words files) old new) × (new.files ≡ old.files) × (new.out ≡ old.out)
+  pub done : status ≡ 0 → ForSome old.files (λ files. ForAnswer words files (λ answer. IsDone answer files old new)) × (new.err ≡ old.err)
+  pub refused : status ≡ 1 → ForSome old.files (λ files. ForAnswer words files (λ answer. Told answer old new)) × (new.files ≡ old.files) × (new.out ≡ old.out)
   pub usage : status ≡ 2 → (asked_by words ≡ None) × (new.err ≡ grown usage_line old.err) × (new.files ≡ old.files) × (new.out ≡ old.out)
   pub read_fault : status ≡ 3 → Rose old.reads new.reads × (new.files ≡ old.files) × (new.out ≡ old.out) × (new.err ≡ old.err)
-  pub write_fault : status ≡ 4 → ForSome old.files (λ files. Broke (answer words files) files old new) × WriteFailed old new
-  pub memory : status ≡ 5 → ForSome old.files (λ files. Starved (answer words files) (Rose old.writes new.writes) files new.files) × (new.out ≡ old.out) × (new.err ≡ old.err)
-  pub no_form : asked_by words ≡ None → (status ≡ 2) ⊎ ((status ≡ 4) × Rose old.err_faults new.err_faults)
+  pub write_fault : status ≡ 4 → ForSome old.files (λ files. ForAnswer words files (λ answer. Broke answer files old new)) × WriteFailed old new
+  pub memory : status ≡ 5 → ForSome old.files (λ files. ForAnswer words files (λ answer. Starved answer (Rose old.writes new.writes) files new.files)) × (new.out ≡ old.out) × (new.err ≡ old.err)
+  pub no_form : asked_by words ≡ None → (status ≡ 2) ⊎ ((status ≡ 4) × LineBroke usage_line old new)
 
 -- no count rose
 pub record Calm (old new : Moment) : Type 0 where
@@ -111,10 +118,10 @@ pub record Calm (old new : Moment) : Type 0 where
   pub err : Rose old.err_faults new.err_faults → ⊥
 
 abbrev pub Completes : Answer → ℕ → Type 0
-Completes (Accepted plan) status = (status ≡ 0) ⊎ (status ≡ 5)
+Completes (Accepted station) status = (status ≡ 0) ⊎ (status ≡ 5)
 Completes (Refused fault) status = (status ≡ 1) ⊎ (status ≡ 5)
 Completes Usage status = status ≡ 2
 
 -- where no count rose, the answer is the status, or memory was refused
 abbrev pub IsComplete : List (List ℕ) → Moment → Moment → ℕ → Type 0
-IsComplete words old new status = Calm old new → ForSome old.files (λ files. Completes (answer words files) status)
+IsComplete words old new status = Calm old new → ForSome old.files (λ files. ForAnswer words files (λ answer. Completes answer status))

@@ -3,6 +3,7 @@ pub mod Script
 pub mod Streams
 pub mod Outputs
 pub mod Answer
+pub mod Steps
 pub mod Call
 pub mod Halts
 pub mod Prepared

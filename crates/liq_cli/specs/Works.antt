@@ -1,16 +1,17 @@
--- What the program prepared, as the plan that it stands for.
+-- What the program prepared, as the station that it stands for.
 use Rattle.std.specs.Prelude.{◌≡◌, ◌<◌, ℕ, ◌+◌, ◌*◌, ◌^◌, List, [], ◌∷◌, Option}
 use Rattle.liq_base.specs.declared.memory.Kind.TheVariants.{Stereo}
 use Rattle.wav_io.specs.Header.{header_bytes}
 use Rattle.frame_core.specs.Library.{sound_at}
 use Rattle.wav_io.specs.Plain.{Wave}
-use Rattle.liq_cli.specs.Answer.{F, rate, Plan, Accepted, wave_step}
+use Rattle.liq_cli.specs.Answer.{F, rate, Station, Accepted}
+use Rattle.liq_cli.specs.Steps.{wave_step}
 use Rattle.liq_cli.specs.declared.audio.Audio.{Audio}
 use Rattle.liq_cli.specs.declared.prepare.Work.{Work}
 
--- the work stands for this plan
-abbrev pub plan_of : Work → Plan
-plan_of work = record { output = work.output; sound = sound_at work.audio.library 0 0; ticks = work.ticks }
+-- the work stands for this station
+abbrev pub station_of : Work → Station
+station_of work = record { output = work.output; sound = sound_at work.audio.library 0 0; ticks = work.ticks }
 
 -- the work is whole: its one leaf plays the one file, and the header is that of the output
 pub record IsReady (work : Work) : Type 0 where

@@ -3,7 +3,8 @@ ghost use Rattle.std.specs.Prelude.{◌≡◌, ◌≤◌, ◌^◌, [], ◌∷◌
 ghost use Rattle.wav_io.specs.Plain.{plain_of};
 ghost use Rattle.frame_core.specs.Bytes.{samples_in};
 ghost use Rattle.frame_core.specs.Sounds.{Sound, IsSound};
-ghost use Rattle.liq_cli.specs.Answer.{Refused, wave_step};
+ghost use Rattle.liq_cli.specs.Answer.{Refused};
+ghost use Rattle.liq_cli.specs.Steps.{wave_step};
 ghost use Rattle.liq_cli.specs.Works.{Opens};
 ghost use Rattle.liq_cli.specs.declared.fault.Fault.TheVariants.{OtherForm};
 

@@ -3,8 +3,9 @@ ghost use Rattle.std.specs.Prelude.{◌≡◌, ◌≤◌, ◌^◌, IfOk, IsErrOf
 ghost use Rattle.std.specs.Option.{ForSome};
 ghost use Rattle.liq_base.specs.Counts.{Rose};
 ghost use Rattle.liq_base.specs.Files.{file_at};
-ghost use Rattle.liq_cli.specs.Answer.{Refused, script_step};
-ghost use Rattle.liq_cli.specs.Call.{Ends, IsComplete, Rendered, Broken, Starved};
+ghost use Rattle.liq_cli.specs.Answer.{Refused};
+ghost use Rattle.liq_cli.specs.Steps.{script_step};
+ghost use Rattle.liq_cli.specs.Call.{Ends, IsComplete, moment_of, Rendered, Broken, Starved};
 ghost use Rattle.liq_cli.specs.Halts.{refused_for};
 ghost use Rattle.liq_cli.specs.Words.{texts};
 ghost use Rattle.liq_cli.specs.declared.fault.Fault.{Fault};
@@ -51,12 +52,12 @@ pub fn liq<S: Shelf, O: Sink, E: Sink, G: Gate + Sync>(
     requires out_room { O.room out.old ≡ None }
     requires err_room { E.room err.old ≡ None }
     ensures ends { Ends (texts words.now)
-        (record { files = S.files shelf.old; out = O.held out.old; err = E.held err.old; reads = S.read_count shelf.old; writes = S.write_count shelf.old; out_faults = O.faults out.old; err_faults = E.faults err.old })
-        (record { files = S.files shelf.new; out = O.held out.new; err = E.held err.new; reads = S.read_count shelf.new; writes = S.write_count shelf.new; out_faults = O.faults out.new; err_faults = E.faults err.new })
+        (moment_of S.files S.read_count S.write_count O.held O.faults E.held E.faults shelf.old out.old err.old)
+        (moment_of S.files S.read_count S.write_count O.held O.faults E.held E.faults shelf.new out.new err.new)
         result }
     ensures complete { IsComplete (texts words.now)
-        (record { files = S.files shelf.old; out = O.held out.old; err = E.held err.old; reads = S.read_count shelf.old; writes = S.write_count shelf.old; out_faults = O.faults out.old; err_faults = E.faults err.old })
-        (record { files = S.files shelf.new; out = O.held out.new; err = E.held err.new; reads = S.read_count shelf.new; writes = S.write_count shelf.new; out_faults = O.faults out.new; err_faults = E.faults err.new })
+        (moment_of S.files S.read_count S.write_count O.held O.faults E.held E.faults shelf.old out.old err.old)
+        (moment_of S.files S.read_count S.write_count O.held O.faults E.held E.faults shelf.new out.new err.new)
         result }
 {
     run(alloc, words, shelf, out, err)
@@ -73,8 +74,8 @@ fn run<S: Shelf, O: Sink, E: Sink>(
     requires out_room { O.room out.old ≡ None }
     requires err_room { E.room err.old ≡ None }
     ensures { Ends (texts words.now)
-        (record { files = S.files shelf.old; out = O.held out.old; err = E.held err.old; reads = S.read_count shelf.old; writes = S.write_count shelf.old; out_faults = O.faults out.old; err_faults = E.faults err.old })
-        (record { files = S.files shelf.new; out = O.held out.new; err = E.held err.new; reads = S.read_count shelf.new; writes = S.write_count shelf.new; out_faults = O.faults out.new; err_faults = E.faults err.new })
+        (moment_of S.files S.read_count S.write_count O.held O.faults E.held E.faults shelf.old out.old err.old)
+        (moment_of S.files S.read_count S.write_count O.held O.faults E.held E.faults shelf.new out.new err.new)
         result }
 {
     let Some(form) = read_words(words) else {

@@ -3,10 +3,11 @@ ghost use Rattle.std.specs.Prelude.{◌≡◌, ◌≤◌, ◌^◌, IfOk, OnErr, 
 ghost use Rattle.std.specs.Option.{ForSome};
 ghost use Rattle.liq_base.specs.Files.{file_at};
 ghost use Rattle.wav_io.specs.Plain.{plain_of};
-ghost use Rattle.liq_cli.specs.Answer.{Accepted, file_step, names_step, script_step, wave_step};
+ghost use Rattle.liq_cli.specs.Answer.{Accepted};
+ghost use Rattle.liq_cli.specs.Steps.{file_step, names_step, script_step, wave_step};
 ghost use Rattle.liq_cli.specs.Prepared.{EndsFor, OnlyRead};
 ghost use Rattle.liq_cli.specs.Script.{names_of};
-ghost use Rattle.liq_cli.specs.Works.{IsReady, plan_of};
+ghost use Rattle.liq_cli.specs.Works.{IsReady, station_of};
 
 use crate::audio::{Audio, open_audio};
 use crate::script::read_names;
@@ -39,7 +40,7 @@ pub struct Work {
 pub fn prepare<S: Shelf>(alloc: Global, form: Form<'_>, shelf: &mut S) -> Result<Work, Halt>
     requires { form.ticks ≤ 10 ^ 9 }
     ensures accepted { IfOk result (λ work. ForSome (S.files shelf.old) (λ files.
-        script_step form.entry.ticks files (file_at files form.entry.file.now) ≡ Accepted (plan_of work))) }
+        script_step form.entry.ticks files (file_at files form.entry.file.now) ≡ Accepted (station_of work))) }
     ensures ready { IfOk result IsReady }
     ensures refused { EndsFor (S.files shelf.old) (λ files. script_step form.entry.ticks files (file_at files form.entry.file.now)) (S.read_count shelf.old) (S.read_count shelf.new) result }
     ensures shelf { OnlyRead S.files S.read_count S.write_count shelf.old shelf.new }

@@ -1,7 +1,8 @@
-// A plan is rendered into the file of its output.
-ghost use Rattle.std.specs.Prelude.{◌≡◌, ◌≤◌, ◌+◌, ◌*◌, ◌<◌, ◌^◌, [], ◌∷◌, ◌++◌, length, IfOk, OnOk, OnErr, IsErrOf, Some, IsSomeAnd};
+// The work is rendered into the file of its output.
+ghost use Rattle.std.specs.Prelude.{◌≡◌, ◌≤◌, ◌+◌, ◌*◌, ◌<◌, ◌^◌, [], ◌∷◌, ◌++◌, length, IfOk, OnOk, OnErr, IsErrOf, Some, IsSome, IsSomeAnd};
 ghost use Rattle.std.specs.Option.{ForSome};
 ghost use Rattle.liq_base.specs.Counts.{Rose};
+ghost use Rattle.liq_base.specs.Kept.{HoldsPartOr};
 ghost use Rattle.liq_base.specs.Pieces.{HasRoom, Took, TookPart};
 ghost use Rattle.liq_base.specs.declared.memory.Kind.TheVariants.{Stereo};
 ghost use Rattle.frame_core.specs.Library.{Sounds, sound_at};
@@ -9,7 +10,7 @@ ghost use Rattle.liq_cli.specs.Answer.{F, no_buffers, bytes_of, outputs_of};
 ghost use Rattle.liq_cli.specs.Outputs.{with_outputs, HoldsSome};
 ghost use Rattle.frame_core.specs.Streams.{block_of, tick_bytes};
 ghost use Rattle.liq_cli.specs.Streams.{single};
-ghost use Rattle.liq_cli.specs.Works.{IsReady, plan_of};
+ghost use Rattle.liq_cli.specs.Works.{IsReady, station_of};
 
 use crate::RenderFault;
 use crate::prepare::{HEADER_BYTES, TICK, Work};
@@ -23,15 +24,39 @@ const BLOCK: u64 = 4;
 /// Renders the work into a file. Its sink is closed, whatever happens once it is created.
 pub fn render<S: Shelf>(alloc: Global, work: &Work, shelf: &mut S) -> Result<(), RenderFault>
     requires { IsReady work.now }
-    ensures done { OnOk result (ForSome (S.files shelf.old) (λ files. S.files shelf.new ≡ Some (with_outputs files (outputs_of (plan_of work.now) no_buffers)))) }
+    ensures done { OnOk result (ForSome (S.files shelf.old) (λ files. S.files shelf.new ≡ Some (with_outputs files (outputs_of (station_of work.now) no_buffers)))) }
     ensures part { OnErr result (ForSome (S.files shelf.old) (λ files. IsSomeAnd (S.files shelf.new)
-        (HoldsSome (Rose (S.write_count shelf.old) (S.write_count shelf.new)) files (outputs_of (plan_of work.now) no_buffers)))) }
+        (HoldsSome (Rose (S.write_count shelf.old) (S.write_count shelf.new)) files (outputs_of (station_of work.now) no_buffers)))) }
     ensures cause { IsErrOf result RenderFault.Write → Rose (S.write_count shelf.old) (S.write_count shelf.new) }
     ensures reads { S.read_count shelf.old ≤ S.read_count shelf.new }
     ensures writes { S.write_count shelf.old ≤ S.write_count shelf.new }
 {
     let room = HEADER_BYTES + work.ticks * TICK * BLOCK;
-    let mut sink = shelf.create(work.output.as_str(), room)?;
+    let sink = shelf.create(work.output.as_str(), room)?;
+    fill(alloc, work, sink, shelf)
+}
+
+/// Writes the output into its new sink, which is then closed, whatever happened. If this fails, the name holds a prefix
+/// of the output, or what it held, and this only where the shelf's write count rose here, after the creation: so only
+/// where a piece or the closing failed.
+fn fill<S: Shelf>(
+    alloc: Global,
+    work: &Work,
+    mut sink: S::Out,
+    shelf: &mut S,
+) -> Result<(), RenderFault>
+    requires ready { IsReady work.now }
+    requires room { HasRoom (S.Out.room sink) (44 + work.now.ticks * F * 4) }
+    requires name { ForSome (S.Out.name sink) (λ told. told ≡ work.now.output) }
+    requires held { ForSome (S.Out.held sink) (λ told. told ≡ []) }
+    requires tells { IsSome (S.files shelf.old) → IsSome (S.Out.name sink) × IsSome (S.Out.held sink) }
+    ensures done { OnOk result (ForSome (S.files shelf.old) (λ files. S.files shelf.new ≡ Some (with_outputs files (outputs_of (station_of work.now) no_buffers)))) }
+    ensures part { OnErr result (ForSome (S.files shelf.old) (λ files. IsSomeAnd (S.files shelf.new)
+        (HoldsPartOr (Rose (S.write_count shelf.old) (S.write_count shelf.new)) files work.now.output (bytes_of (station_of work.now) no_buffers)))) }
+    ensures cause { IsErrOf result RenderFault.Write → Rose (S.write_count shelf.old) (S.write_count shelf.new) }
+    ensures reads { S.read_count shelf.old ≤ S.read_count shelf.new }
+    ensures writes { S.write_count shelf.old ≤ S.write_count shelf.new }
+{
     let wrote = write_output(alloc, work, &mut sink);
     let closed = shelf.close(sink);
     wrote?;
@@ -43,8 +68,8 @@ pub fn render<S: Shelf>(alloc: Global, work: &Work, shelf: &mut S) -> Result<(),
 fn write_output<O: Sink>(alloc: Global, work: &Work, sink: &mut O) -> Result<(), RenderFault>
     requires room { HasRoom (O.room sink.old) (44 + work.now.ticks * F * 4) }
     requires ready { IsReady work.now }
-    ensures whole { OnOk result (Took O.held O.room (bytes_of (plan_of work.now) no_buffers) sink.old sink.new) }
-    ensures part { OnErr result (TookPart O.held O.room (bytes_of (plan_of work.now) no_buffers) sink.old sink.new) }
+    ensures whole { OnOk result (Took O.held O.room (bytes_of (station_of work.now) no_buffers) sink.old sink.new) }
+    ensures part { OnErr result (TookPart O.held O.room (bytes_of (station_of work.now) no_buffers) sink.old sink.new) }
     ensures name { O.name sink.new ≡ O.name sink.old }
     ensures faults { O.faults sink.old ≤ O.faults sink.new }
     ensures cause { IsErrOf result RenderFault.Write → Rose (O.faults sink.old) (O.faults sink.new) }

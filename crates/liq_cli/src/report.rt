@@ -1,7 +1,7 @@
 // The report of a rendering.
 ghost use Rattle.std.specs.Prelude.{◌≡◌, ◌≤◌, ◌^◌, IfOk, string_bytes};
 ghost use Rattle.liq_cli.specs.Answer.{no_buffers, report_of};
-ghost use Rattle.liq_cli.specs.Works.{IsReady, plan_of};
+ghost use Rattle.liq_cli.specs.Works.{IsReady, station_of};
 
 use crate::prepare::{TICK, Work};
 use liq_base::Memory;
@@ -11,7 +11,7 @@ use std::alloc::Global;
 #[tactic(auto, using(crate::proofs::Blocks::gaps_single))]
 pub fn report(alloc: Global, work: &Work) -> Result<String, Memory>
     requires { IsReady work.now }
-    ensures { IfOk result (λ text. string_bytes text ≡ report_of (plan_of work.now) no_buffers) }
+    ensures { IfOk result (λ text. string_bytes text ≡ report_of (station_of work.now) no_buffers) }
 {
     let samples = work.ticks * TICK;
     let mut text = String::from_str(alloc, "output ")?;

@@ -149,27 +149,39 @@ fn each_refusal_has_its_line(rt: HostRuntime) -> Result<(), Fail> {
     Ok(())
 }
 
-/// Which device fails, in the call `render f 1`.
+/// Which call of a device fails.
 #[derive(Clone, Copy)]
 enum Failing {
     ReadOfScript,
     ReadOfAudio,
     Creation,
-    SecondAppend,
+    FirstTick,
+    SecondTick,
     Closing,
     Report,
+    ThirdRead,
+    SecondCreation,
+    AppendBehindAll,
+    SecondClosing,
+    SecondReport,
 }
 
 #[test]
-fn a_failed_device_leaves_a_prefix(rt: HostRuntime) -> Result<(), Fail> {
+fn a_failing_call_leaves_a_prefix_and_others_are_not_made(rt: HostRuntime) -> Result<(), Fail> {
     let alloc = rt.alloc();
-    for (failing, status, held, out) in [
-        (Failing::ReadOfScript, 3, None, ""),
-        (Failing::ReadOfAudio, 3, None, ""),
-        (Failing::Creation, 4, None, ""),
-        (Failing::SecondAppend, 4, Some(49), ""),
-        (Failing::Closing, 4, None, ""),
-        (Failing::Report, 4, Some(7100), "outp"),
+    for (failing, words, status, held, out) in [
+        (Failing::ReadOfScript, "render f 1", 3, None, ""),
+        (Failing::ReadOfAudio, "render f 1", 3, None, ""),
+        (Failing::Creation, "render f 1", 4, None, ""),
+        (Failing::FirstTick, "render f 1", 4, Some(49), ""),
+        (Failing::SecondTick, "render f 2", 4, Some(7106), ""),
+        (Failing::Closing, "render f 1", 4, None, ""),
+        (Failing::Report, "render f 1", 4, Some(7100), "outp"),
+        (Failing::ThirdRead, "render f 1", 0, Some(7100), REPORT),
+        (Failing::SecondCreation, "render f 1", 0, Some(7100), REPORT),
+        (Failing::AppendBehindAll, "render f 1", 0, Some(7100), REPORT),
+        (Failing::SecondClosing, "render f 1", 0, Some(7100), REPORT),
+        (Failing::SecondReport, "render f 1", 0, Some(7100), REPORT),
     ] {
         let mut shelf = shelf(alloc, Some(SCRIPT), Some(ONE_TWO_THREE))?;
         let mut fails = Vec::new(alloc);
@@ -177,11 +189,17 @@ fn a_failed_device_leaves_a_prefix(rt: HostRuntime) -> Result<(), Fail> {
             Failing::ReadOfScript => shelf.fail_read(0)?,
             Failing::ReadOfAudio => shelf.fail_read(1)?,
             Failing::Creation => shelf.fail_create(0)?,
-            Failing::SecondAppend => shelf.fail_append(0, 1, 5)?,
+            Failing::FirstTick => shelf.fail_append(0, 1, 5)?,
+            Failing::SecondTick => shelf.fail_append(0, 2, 6)?,
             Failing::Closing => shelf.fail_close(0)?,
             Failing::Report => fails.push((0, 4))?,
+            Failing::ThirdRead => shelf.fail_read(2)?,
+            Failing::SecondCreation => shelf.fail_create(1)?,
+            Failing::AppendBehindAll => shelf.fail_append(0, 2, 0)?,
+            Failing::SecondClosing => shelf.fail_close(1)?,
+            Failing::SecondReport => fails.push((1, 0))?,
         }
-        let called = call(alloc, "render f 1", &mut shelf, fails)?;
+        let called = call(alloc, words, &mut shelf, fails)?;
         assert_eq!(rt; called.status, status);
         assert_eq!(rt; shelf.get("A").map(|bytes| bytes.len()), held);
         assert_eq!(rt; called.out.held(), out.as_bytes());

@@ -6,26 +6,26 @@ use Rattle.wav_io.specs.Header.{header_bytes}
 use Rattle.liq_cli.specs.Answer.{F, rate, no_buffers, stream_of}
 use Rattle.frame_core.specs.Streams.{ticks_bytes, tick_bytes}
 use Rattle.frame_core.proofs.Blocks.{no_ticks, rest_of_ticks, length_ticks, after_tick, before_rest}
-use Rattle.liq_cli.specs.Works.{plan_of}
+use Rattle.liq_cli.specs.Works.{station_of}
 use Rattle.liq_cli.proofs.Blocks.{length_header}
 use Rattle.liq_cli.proofs.Results.{on_err}
 use Rattle.liq_cli.proofs.render.write_output.Goals as goal
 
 pub returns-in_err-append-clause-part : goal.returns-in_err-append-clause-part
 returns-in_err-append-clause-part g c =
-    on_err _ (part_of_more g.O.Sink.held g.O.Sink.room _ (ticks_bytes Stereo (stream_of (plan_of c.args.work.now) no_buffers) F c.args.work.now.ticks) _ _ _
-    (ap (λ h. h ++ ticks_bytes Stereo (stream_of (plan_of c.args.work.now) no_buffers) F c.args.work.now.ticks) (sym c.requires.ready.header)) c.in_err-append.ensures.part)
+    on_err _ (part_of_more g.O.Sink.held g.O.Sink.room _ (ticks_bytes Stereo (stream_of (station_of c.args.work.now) no_buffers) F c.args.work.now.ticks) _ _ _
+    (ap (λ h. h ++ ticks_bytes Stereo (stream_of (station_of c.args.work.now) no_buffers) F c.args.work.now.ticks) (sym c.requires.ready.header)) c.in_err-append.ensures.part)
 
 pub loop-tick-init : goal.loop-tick-init
 loop-tick-init g c =
-    let stream = stream_of (plan_of c.args.work.now) no_buffers in
+    let stream = stream_of (station_of c.args.work.now) no_buffers in
     rw (no_ticks Stereo stream F, append-nil (header_bytes Stereo rate (c.args.work.now.ticks * F)))
     (record { took = rw c.requires.ready.header at c.in_ok-append.ensures.took; name = c.append.ensures.name; faults = c.append.ensures.faults })
 
 pub returns-in_err-piece-clause-part : goal.returns-in_err-piece-clause-part
 returns-in_err-piece-clause-part g c =
     let le : c.loop-tick.tick ≤ c.args.work.now.ticks = omega arith in
-    let stream = stream_of (plan_of c.args.work.now) no_buffers in
+    let stream = stream_of (station_of c.args.work.now) no_buffers in
     let rest = rest_of_ticks Stereo stream F c.loop-tick.tick c.args.work.now.ticks le in
     on_err _ (took_is_part g.O.Sink.held g.O.Sink.room _ rest.0 _ _ _
     (ap (λ v. header_bytes Stereo rate (c.args.work.now.ticks * F) ++ v) rest.1 ∙ sym (append_assoc (header_bytes Stereo rate (c.args.work.now.ticks * F)) (ticks_bytes Stereo stream F c.loop-tick.tick) rest.0))
@@ -33,7 +33,7 @@ returns-in_err-piece-clause-part g c =
 
 pub append-requires-in-loop-tick : goal.append-requires-in-loop-tick
 append-requires-in-loop-tick g c =
-    let stream = stream_of (plan_of c.args.work.now) no_buffers in
+    let stream = stream_of (station_of c.args.work.now) no_buffers in
     let head = header_bytes Stereo rate (c.args.work.now.ticks * F) in
     let rest = before_rest Stereo stream F head c.loop-tick.tick c.args.work.now.ticks (omega arith) in
     let piece : c.deref.result.now ≡ tick_bytes Stereo stream F c.loop-tick.tick = search rules in
@@ -44,7 +44,7 @@ append-requires-in-loop-tick g c =
 
 pub returns-in_err-append-2-clause-part : goal.returns-in_err-append-2-clause-part
 returns-in_err-append-2-clause-part g c =
-    let stream = stream_of (plan_of c.args.work.now) no_buffers in
+    let stream = stream_of (station_of c.args.work.now) no_buffers in
     let head = header_bytes Stereo rate (c.args.work.now.ticks * F) in
     let rest = before_rest Stereo stream F head c.loop-tick.tick c.args.work.now.ticks (omega arith) in
     let piece : c.deref.result.now ≡ tick_bytes Stereo stream F c.loop-tick.tick = search rules in
@@ -52,7 +52,7 @@ returns-in_err-append-2-clause-part g c =
 
 pub loop-tick-preserved : goal.loop-tick-preserved
 loop-tick-preserved g c =
-    let stream = stream_of (plan_of c.args.work.now) no_buffers in
+    let stream = stream_of (station_of c.args.work.now) no_buffers in
     let head = header_bytes Stereo rate (c.args.work.now.ticks * F) in
     let piece : c.deref.result.now ≡ tick_bytes Stereo stream F c.loop-tick.tick = search rules in
     record {
