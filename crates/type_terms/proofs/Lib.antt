@@ -8,6 +8,7 @@ pub mod KindLemmas
 pub mod Lookups
 pub mod Parts
 pub mod Ranks
+pub mod Renaming
 pub mod Settled
 pub mod Settling
 pub mod Solutions
