@@ -232,7 +232,7 @@ fn push_parts<'a>(
 }
 
 /// Puts the parts of two lists or two tuples on the stack; `false` where the two are not of one such shape.
-fn push_split<'a>(work: &mut Vec<(&'a Ty, &'a Ty)>, s: &'a Ty, t: &'a Ty) -> Result<bool, Memory>
+pub fn push_split<'a>(work: &mut Vec<(&'a Ty, &'a Ty)>, s: &'a Ty, t: &'a Ty) -> Result<bool, Memory>
     ensures yes { IfOk result (λ b. OnTrue b (IsSplit (term_of s.now) (term_of t.now) × (pairs work.new.items ≡ pairs work.old.items ++ parts_of (term_of s.now) (term_of t.now)))) }
     ensures no { IfOk result (λ b. OnFalse b (pairs work.new.items ≡ pairs work.old.items)) }
     ensures unsplit { IfOk result (λ b. OnFalse b (IsSplit (term_of s.now) (term_of t.now) → ⊥)) }
