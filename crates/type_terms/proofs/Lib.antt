@@ -6,6 +6,7 @@ pub mod Defaults
 pub mod Fresh
 pub mod KindLemmas
 pub mod Lookups
+pub mod Numbers
 pub mod Parts
 pub mod Ranks
 pub mod Renaming

@@ -32,9 +32,9 @@ next_gathered f base now new ps i p h e before here =
     here ∙ ap (λ ns. ns ++ f (term_of p)) before
     ∙ append_assoc base (gathered f (map term_of (take i ps))) (f (term_of p))
     ∙ ap (λ ns. base ++ ns)
-        (sym (gathered_last f (map term_of (take i ps)) (term_of p))
-        ∙ ap (λ q. gathered f (map term_of (take i ps) ++ (term_of q ∷ []))) e
-        ∙ ap (gathered f) (sym (map_take_next ps i p h)))
+    (sym (gathered_last f (map term_of (take i ps)) (term_of p))
+    ∙ ap (λ q. gathered f (map term_of (take i ps) ++ (term_of q ∷ []))) e
+    ∙ ap (gathered f) (sym (map_take_next ps i p h)))
 
 map_last : (ps : List Ty) (p : Ty) → map term_of (ps ++ (p ∷ [])) ≡ map term_of ps ++ (term_of p ∷ [])
 map_last [] p = refl

@@ -57,10 +57,7 @@ pub fn variables(alloc: Global, ty: &Ty) -> Result<VariableNumbers, Memory>
     let mut types = Vec::new(alloc);
     let mut kinds = Vec::new(alloc);
     push_variables(&mut types, &mut kinds, ty, MOST_LEVELS)?;
-    Ok(VariableNumbers {
-        types,
-        kinds,
-    })
+    Ok(VariableNumbers { types, kinds })
 }
 
 /// A variable's new number.

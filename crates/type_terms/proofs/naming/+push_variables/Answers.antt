@@ -15,14 +15,14 @@ pub returns-after-loop-part-clause-types : goal.returns-after-loop-part-clause-t
 returns-after-loop-part-clause-types t c =
     c.loop-part.invariant.types
     ∙ ap (λ ns. c.args.types.now.items ++ ns)
-        (ap (λ ps. gathered type_variables (map term_of ps)) (take_all _ _ c.loop-part-test.false)
-        ∙ gathered_types (map term_of c.deref-part-items.result.now)
-        ∙ ap type_variables (sym (tuple_is _ _ _ c.in-Tuple.is c.deref-part-items.ensures.value)))
+    (ap (λ ps. gathered type_variables (map term_of ps)) (take_all _ _ c.loop-part-test.false)
+    ∙ gathered_types (map term_of c.deref-part-items.result.now)
+    ∙ ap type_variables (sym (tuple_is _ _ _ c.in-Tuple.is c.deref-part-items.ensures.value)))
 
 pub returns-after-loop-part-clause-kinds : goal.returns-after-loop-part-clause-kinds
 returns-after-loop-part-clause-kinds t c =
     c.loop-part.invariant.kinds
     ∙ ap (λ ns. c.args.kinds.now.items ++ ns)
-        (ap (λ ps. gathered kind_variables (map term_of ps)) (take_all _ _ c.loop-part-test.false)
-        ∙ gathered_kinds (map term_of c.deref-part-items.result.now)
-        ∙ ap kind_variables (sym (tuple_is _ _ _ c.in-Tuple.is c.deref-part-items.ensures.value)))
+    (ap (λ ps. gathered kind_variables (map term_of ps)) (take_all _ _ c.loop-part-test.false)
+    ∙ gathered_kinds (map term_of c.deref-part-items.result.now)
+    ∙ ap kind_variables (sym (tuple_is _ _ _ c.in-Tuple.is c.deref-part-items.ensures.value)))
