@@ -3,7 +3,7 @@ use liq_base::{Kind, Memory};
 use std::alloc::Global;
 use std::process::Abort;
 use std::test::Fail;
-use type_terms::{KindTerm, Subst, Ty, resolved, unify};
+use type_terms::{KindTerm, Subst, Ty, renamed, resolved, unify, variables};
 
 fn list(alloc: Global, item: Ty) -> Result<Ty, Memory> {
     Ok(Ty::List(Box::new(alloc, item)?))
@@ -137,7 +137,8 @@ fn types_that_can_be_made_equal_and_not(rt: HostRuntime) -> Result<(), Fail> {
         (Ty::Bool, Ty::Bool, "Bool"),
         (Ty::Pred, Ty::Bool, ""),
         (Ty::Var(0), Ty::Var(0), "Var(0)"),
-        (Ty::Var(0), Ty::Var(1), "Var(1)"),
+        (Ty::Var(0), Ty::Var(1), "Var(0)"),
+        (Ty::Var(1), Ty::Var(0), "Var(0)"),
         (Ty::Var(0), Ty::Format, "Format"),
         (Ty::Var(2), Ty::Int, "Int"),
         (Ty::Decimal, Ty::Var(2), "Decimal"),
@@ -294,5 +295,38 @@ fn a_thousand_levels_are_bound_and_no_more(rt: HostRuntime) -> Result<(), Fail> 
     let refused = unified(&rt, rt.alloc(), &mut subst, &Ty::Var(1), &deep);
     assert_eq!(rt; refused, Err(Memory));
     assert!(rt; subst.bound(1).is_none());
+    Ok(())
+}
+
+#[test]
+fn free_variables_against_ints(rt: HostRuntime) -> Result<(), Fail> {
+    let mut subst = Subst::new(rt.alloc())?;
+    let mut free = Vec::new(rt.alloc());
+    let mut ints = Vec::new(rt.alloc());
+    for _part in 0..4000 {
+        free.push(subst.fresh(false)?)?;
+        ints.push(Ty::Int)?;
+    }
+    let free = Ty::Tuple(free);
+    let ints = Ty::Tuple(ints);
+    let yes = unified(&rt, rt.alloc(), &mut subst, &free, &ints)?;
+    assert!(rt; yes);
+    Ok(())
+}
+
+#[test]
+fn the_variables_of_a_type_and_an_instance(rt: HostRuntime) -> Result<(), Fail> {
+    let inner = pair(rt.alloc(), Ty::Var(1), open_source(0))?;
+    let ty = pair(rt.alloc(), inner, Ty::Var(0))?;
+    let found = variables(rt.alloc(), &ty)?;
+    assert_eq!(rt;
+        format!(in rt.alloc(); "{found:?}")?.as_str(),
+        "VariableNumbers { types: [1, 0], kinds: [0] }"
+    );
+    let other = renamed(rt.alloc(), &ty, &[5], &[7])?;
+    assert_eq!(rt;
+        format!(in rt.alloc(); "{other:?}")?.as_str(),
+        "Tuple([Tuple([Var(1), Source(Var(7))]), Var(5)])"
+    );
     Ok(())
 }

@@ -6,8 +6,10 @@ pub mod Defaults
 pub mod Fresh
 pub mod KindLemmas
 pub mod Lookups
+pub mod Numbers
 pub mod Parts
 pub mod Ranks
+pub mod Renaming
 pub mod Settled
 pub mod Settling
 pub mod Solutions

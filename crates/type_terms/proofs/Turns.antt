@@ -1,11 +1,12 @@
 -- The comparison of two types with a stack of pairs that are still to be compared.
-use Rattle.std.proofs.Common.{◌≡◌, ◌∙◌, sym, ap, subst, List, [], ◌∷◌, ◌++◌}
+use Rattle.std.proofs.Common.{◌≡◌, ◌∙◌, sym, ap, subst, length, List, [], ◌∷◌, ◌++◌}
 use Rattle.std.specs.Borrow.{Bor}
 use Rattle.type_terms.specs.Ground.{Assignment}
 use Rattle.type_terms.specs.Term.{Term, term_of, meaning}
 use Rattle.type_terms.specs.Table.{Table, Solves, IsOver, MeetsBindings}
 use Rattle.type_terms.specs.declared.ty.Ty.{Ty}
 use Rattle.type_terms.specs.Pairs.{pairs, AllEqual, AllOver, parts_of, IsSplit}
+use Rattle.type_terms.proofs.Bindings.{over_after}
 use Rattle.type_terms.proofs.Stack.{pairs-append, equal_left, equal_right, equal_both, over_left, over_right, over_both, split_equal, equal_split, split_over}
 
 -- at a solution the two types are equal exactly where all pairs of the stack are
@@ -63,3 +64,19 @@ module _ (s : Table) (left right l r : Term) (rest stack : List (Term × Term)) 
 -- a popped stack
 pub popped_pair : (work rest : List (Bor Ty × Bor Ty)) (p : Bor Ty × Bor Ty) → work ≡ rest ++ (p ∷ []) → pairs work ≡ pairs rest ++ ((term_of p.0.now, term_of p.1.now) ∷ [])
 popped_pair work rest p e = ap pairs e ∙ pairs-append rest (p ∷ [])
+
+-- a later table that solves no more has the same comparison
+pub narrowed : (s s' : Table) (left right : Term) (stack : List (Term × Term)) → length s'.types ≡ length s.types → length s'.kinds ≡ length s.kinds → ((a : Assignment) → Solves a s' → Solves a s) → IsComparison s left right stack → IsComparison s' left right stack
+narrowed s s' left right stack l m n h = record {
+  over = all_over_after s s' l m stack h.over;
+  needed = λ a d. h.needed a (n a d);
+  enough = λ a d. h.enough a (n a d);
+}
+  where
+    all_over_after : (s s' : Table) → length s'.types ≡ length s.types → length s'.kinds ≡ length s.kinds → (ps : List (Term × Term)) → AllOver s ps → AllOver s' ps
+    all_over_after s s' l m [] o = tt
+    all_over_after s s' l m (p ∷ ps) o = ((over_after s s' l m p.0 o.0.0, over_after s s' l m p.1 o.0.1), all_over_after s s' l m ps o.1)
+
+-- the pair on top is solved in a later table
+pub top_solved : (s s' : Table) (left right l r : Term) (rest stack stack' : List (Term × Term)) → stack ≡ rest ++ ((l, r) ∷ []) → IsComparison s left right stack → length s'.types ≡ length s.types → length s'.kinds ≡ length s.kinds → ((a : Assignment) → Solves a s' → Solves a s) → stack' ≡ rest → ((a : Assignment) → Solves a s' → meaning a l ≡ meaning a r) → IsComparison s' left right stack'
+top_solved s s' left right l r rest stack stack' is h n m d is' e = top_equal s' left right l r rest stack is (narrowed s s' left right stack n m d h) stack' is' e

@@ -3,6 +3,7 @@ pub mod Codes
 pub mod Differ
 pub mod Extends
 pub mod Ground
+pub mod Naming
 pub mod Nested
 pub mod Pairs
 pub mod Rank

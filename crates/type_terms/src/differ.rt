@@ -1,11 +1,11 @@
 // The first difference of two types under a substitution.
-ghost use Rattle.std.specs.Prelude.{◌≡◌, ◌+◌, ◌<◌, ◌≤◌, ◌++◌, ℕ, Bool, None, Option, List, length, map, IfOk, OnOk};
+ghost use Rattle.std.specs.Prelude.{◌≡◌, ◌+◌, ◌<◌, ◌≤◌, ◌++◌, ℕ, Bool, None, Option, List, length, map, true, IfOk, OnOk};
 ghost use Rattle.std.specs.Bool.{OnTrue, OnFalse};
 ghost use Rattle.type_terms.specs.Differ.{Settles, is_number_base};
 ghost use Rattle.type_terms.specs.Ground.{Assignment};
 ghost use Rattle.type_terms.specs.Nested.{AreMarked};
 ghost use Rattle.type_terms.specs.Pairs.{IsSplit, pairs, parts_of, zipped};
-ghost use Rattle.type_terms.specs.Table.{table, IsOver, IsSound, IsTriangular, bound_at, kind_at, extra, FallsByNumber, MeetsKinds};
+ghost use Rattle.type_terms.specs.Table.{table, IsOver, IsSound, IsTriangular, bound_at, kind_at, number_at, extra, FallsByNumber, MeetsKinds};
 ghost use Rattle.type_terms.specs.Term.{InTerm, InKind, base_of, term_of, terms_of, variable, kind_meaning, source_term};
 ghost use Rattle.type_terms.specs.Variables.{Variable};
 ghost use Rattle.type_terms.specs.declared.ty.KindTerm.{KindTerm};
@@ -120,6 +120,26 @@ fn differ_from_variable<'a>(
     }
 }
 
+/// Whether `x` stays free where it is made equal to `y`: a number variable rather than another, else the one of lesser number.
+///
+/// So variables that are made equal in the order of their numbers, from whichever side, lead to the first of them in one step.
+fn stays_free(types: &[TypeVariable], x: u64, y: u64) -> bool
+    requires inside { x < length types.now }
+    requires inside_too { y < length types.now }
+    ensures yes { OnTrue result (number_at types.now y ≡ true → number_at types.now x ≡ true) }
+    ensures no { OnFalse result (number_at types.now x ≡ true → number_at types.now y ≡ true) }
+{
+    let left = &types[x as usize];
+    let right = &types[y as usize];
+    let left_number = left.is_number();
+    let right_number = right.is_number();
+    if left_number == right_number {
+        x < y
+    } else {
+        left_number
+    }
+}
+
 /// The difference of two free variables.
 fn differ_variables<'a>(
     types: &[TypeVariable],
@@ -139,8 +159,7 @@ fn differ_variables<'a>(
     if x == y {
         return Difference::Same;
     }
-    let variable = &types[x as usize];
-    if variable.is_number() {
+    if stays_free(types, x, y) {
         Difference::Bind(y, left)
     } else {
         Difference::Bind(x, right)
@@ -232,7 +251,11 @@ fn push_parts<'a>(
 }
 
 /// Puts the parts of two lists or two tuples on the stack; `false` where the two are not of one such shape.
-fn push_split<'a>(work: &mut Vec<(&'a Ty, &'a Ty)>, s: &'a Ty, t: &'a Ty) -> Result<bool, Memory>
+pub fn push_split<'a>(
+    work: &mut Vec<(&'a Ty, &'a Ty)>,
+    s: &'a Ty,
+    t: &'a Ty,
+) -> Result<bool, Memory>
     ensures yes { IfOk result (λ b. OnTrue b (IsSplit (term_of s.now) (term_of t.now) × (pairs work.new.items ≡ pairs work.old.items ++ parts_of (term_of s.now) (term_of t.now)))) }
     ensures no { IfOk result (λ b. OnFalse b (pairs work.new.items ≡ pairs work.old.items)) }
     ensures unsplit { IfOk result (λ b. OnFalse b (IsSplit (term_of s.now) (term_of t.now) → ⊥)) }

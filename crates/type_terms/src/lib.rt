@@ -3,6 +3,7 @@
 
 mod copying;
 mod differ;
+mod naming;
 mod occurs;
 mod resolving;
 mod subst;
@@ -10,5 +11,6 @@ mod ty;
 mod type_variable;
 mod unifier;
 
+pub use naming::{VariableNumbers, renamed, variables};
 pub use subst::{Subst, resolved, unify};
 pub use ty::{Base, KindTerm, Ty};

@@ -11,8 +11,8 @@ ghost use Rattle.type_terms.specs.Variables.{Variable};
 ghost use Rattle.type_terms.specs.declared.ty.KindTerm.{KindTerm};
 
 use crate::copying::{MOST_LEVELS, copy};
-use crate::differ::{Difference, differ};
-use crate::occurs::mark;
+use crate::differ::{Difference, differ, push_split};
+use crate::occurs::{MOST_STEPS, mark};
 use crate::ty::{KindTerm, Ty};
 use crate::type_variable::TypeVariable;
 use liq_base::Memory;
@@ -74,7 +74,52 @@ fn free_kinds(kinds: &mut [Option<KindTerm>], trail: &[u64])
     }
 }
 
+/// Binds variables until the two types are the same, or differ in shape. It begins again behind each binding. The trails tell which were bound.
+fn solve_pair(
+    alloc: Global,
+    types: &mut [TypeVariable],
+    kinds: &mut [Option<KindTerm>],
+    nested: &mut [bool],
+    type_trail: &mut Vec<u64>,
+    kind_trail: &mut Vec<u64>,
+    left: &Ty,
+    right: &Ty,
+) -> Result<bool, Memory>
+    requires sound { IsSound (table types.old kinds.old) }
+    requires marked { AreMarked types.old nested.old }
+    requires left { IsOver (table types.old kinds.old) (term_of left.now) }
+    requires right { IsOver (table types.old kinds.old) (term_of right.now) }
+    ensures sound { IsSound (table types.new kinds.new) }
+    ensures marked { AreMarked types.new nested.new }
+    ensures marks_kept { (k : ℕ) → mark_at nested.old k ≡ true → mark_at nested.new k ≡ true }
+    ensures type_trail { (vs : List Variable) → IsTrail type_trail.old.items vs types.old → IsTrail type_trail.new.items vs types.new }
+    ensures kind_trail { (ks : List (Option KindTerm)) → IsKindTrail kind_trail.old.items ks kinds.old → IsKindTrail kind_trail.new.items ks kinds.new }
+    ensures narrower { (a : Assignment) → Solves a (table types.new kinds.new) → Solves a (table types.old kinds.old) }
+    ensures kept { (a : Assignment) → Solves a (table types.old kinds.old) → meaning a (term_of left.now) ≡ meaning a (term_of right.now) → Solves a (table types.new kinds.new) }
+    ensures same { IfOk result (λ yes. OnTrue yes ((a : Assignment) → Solves a (table types.new kinds.new) → meaning a (term_of left.now) ≡ meaning a (term_of right.now))) }
+    ensures clash { IfOk result (λ yes. OnFalse yes ((a : Assignment) → Solves a (table types.new kinds.new) → meaning a (term_of left.now) ≢ meaning a (term_of right.now))) }
+{
+    loop {
+        match differ(alloc, types, kinds, nested, left, right)? {
+            Difference::Same => return Ok(true),
+            Difference::Clash => return Ok(false),
+            Difference::Bind(x, t) => {
+                let t = copy(alloc, t, MOST_LEVELS)?;
+                type_trail.push(x)?;
+                mark(nested, &t);
+                bind_type(types, x, t);
+            }
+            Difference::BindKind(x, k) => {
+                kind_trail.push(x)?;
+                bind_kind(kinds, x, k);
+            }
+        }
+    }
+}
+
 /// Binds variables until the two types are the same, or differ in shape. The trails tell which were bound.
+///
+/// The two types are taken apart with a stack of pairs, so that what one pair binds is not looked for again in the others.
 fn solve(
     alloc: Global,
     types: &mut [TypeVariable],
@@ -101,22 +146,22 @@ fn solve(
     ensures same { IfOk result (λ yes. OnTrue yes ((a : Assignment) → Solves a (table types.new kinds.new) → meaning a (term_of left.now) ≡ meaning a (term_of right.now))) }
     ensures clash { IfOk result (λ yes. OnFalse yes ((a : Assignment) → Solves a (table types.new kinds.new) → meaning a (term_of left.now) ≢ meaning a (term_of right.now))) }
 {
-    loop {
-        match differ(alloc, types, kinds, nested, left, right)? {
-            Difference::Same => return Ok(true),
-            Difference::Clash => return Ok(false),
-            Difference::Bind(x, t) => {
-                let t = copy(alloc, t, MOST_LEVELS)?;
-                type_trail.push(x)?;
-                mark(nested, &t);
-                bind_type(types, x, t);
-            }
-            Difference::BindKind(x, k) => {
-                kind_trail.push(x)?;
-                bind_kind(kinds, x, k);
-            }
+    let mut work: Vec<(&Ty, &Ty)> = Vec::new(alloc);
+    work.push((left, right))?;
+    for _step in 0..MOST_STEPS {
+        let Some(next) = work.pop() else {
+            return Ok(true);
+        };
+        if push_split(&mut work, next.0, next.1)? {
+            continue;
+        }
+        if !solve_pair(
+            alloc, types, kinds, nested, type_trail, kind_trail, next.0, next.1,
+        )? {
+            return Ok(false);
         }
     }
+    Err(Memory)
 }
 
 /// Binds as `solve` does, and frees again what was bound where the types differ in shape or memory runs out.

@@ -1,70 +1,70 @@
-use Rattle.std.proofs.Common.{sym, subst, refl, ◌<◌, length, arith}
-use Rattle.type_terms.specs.Term.{InTerm, term_of}
+use Rattle.std.proofs.Common.{◌∙◌, sym, refl}
+use Rattle.type_terms.specs.Pairs.{pairs}
 use Rattle.type_terms.specs.Table.{table}
-use Rattle.type_terms.specs.Table.{Binds}
-use Rattle.type_terms.specs.Nested.{IsMarked}
-use Rattle.type_terms.specs.Undo.{IsTrail, IsKindTrail}
-use Rattle.type_terms.proofs.Counts.{count_bind, count_le, kind_count_bind, kind_count_le}
-use Rattle.type_terms.proofs.Trails.{trail_push, kind_trail_push}
-use Rattle.type_terms.proofs.Bindings.{sound_bind, sound_bind_kind, solves_before, solves_after, solves_before_kind, solves_after_kind, over_after, marked_bind, over_marks}
+use Rattle.type_terms.specs.Term.{term_of}
+use Rattle.type_terms.proofs.Basics.{on_false, on_true}
+use Rattle.type_terms.proofs.Turns.{popped_pair, top_needed, top_over, top_solved, turn_split}
 use Rattle.type_terms.proofs.unifier.solve.Goals as goal
 
-pub loop-x-smaller-in-Bind : goal.loop-x-smaller-in-Bind
-loop-x-smaller-in-Bind c =
-    let b = count_bind _ _ _ _ c.bind_type.ensures in
-    let l = count_le c.bind_type.new.types in
-    let s = c.bind_type.ensures.same_length in
-    let m = count_le c.loop-x.types in
-    omega arith
-
-pub loop-x-preserved-in-Bind : goal.loop-x-preserved-in-Bind
-loop-x-preserved-in-Bind c =
-    let f = rw c.in-Bind.is at c.in_ok-differ.ensures in
-    let b : Binds c.in-Bind.x (term_of c.in-Bind.t.now) c.loop-x.types c.bind_type.new.types = subst (λ u. Binds c.in-Bind.x u c.loop-x.types c.bind_type.new.types) c.in_ok-t-in-Bind.ensures c.bind_type.ensures in
-    let s = table c.loop-x.types c.loop-x.kinds in
-    let s' = table c.bind_type.new.types c.loop-x.kinds in
-    let h = c.loop-x.invariant in
+pub loop-step-preserved-then-branch : goal.loop-step-preserved-then-branch
+loop-step-preserved-then-branch c =
+    let y = on_true _ (rw c.if-branch.true at c.in_ok-push_split.ensures.yes) in
+    let h = c.loop-step.invariant in
+    let o = top_over (table c.loop-step.types c.loop-step.kinds) (term_of c.args.left.now) (term_of c.args.right.now) (term_of c.in-Some.next.0.now) (term_of c.in-Some.next.1.now) (pairs c.pop.new.self.items) (pairs c.loop-step.work.items) (popped_pair _ _ _ c.in-Some.ensures.items) h.stack in
     record {
-      marked = marked_bind c.in-Bind.x (term_of c.in-Bind.t.now) c.loop-x.types c.bind_type.new.types c.loop-x.nested c.mark.new.nested b h.marked c.mark.auto.nested c.mark.ensures.kept (subst (λ u. IsMarked c.mark.new.nested u) c.in_ok-t-in-Bind.ensures c.mark.ensures.marked);
-      marks_kept = λ k e. c.mark.ensures.kept k (h.marks_kept k e);
-      sound = sound_bind s s' c.in-Bind.x (term_of c.in-Bind.t.now) b refl f.avoids f.over f.number h.sound;
-      type_trail = subst (λ xs. IsTrail xs c.args.types.now c.bind_type.new.types) (sym c.in_ok-push-in-Bind.ensures.items) (trail_push c.in-Bind.x _ c.loop-x.type_trail.items c.args.types.now c.loop-x.types c.bind_type.new.types f.inside h.type_trail b);
-      kind_trail = h.kind_trail;
-      narrower = λ a m. h.narrower a (solves_before s s' c.in-Bind.x _ b refl a m);
-      kept = λ a m e. solves_after s s' c.in-Bind.x _ b refl a (h.kept a m e) (f.forced a (h.kept a m e) e);
-      left = over_after s s' b.same_length refl (term_of c.args.left.now) h.left;
-      right = over_after s s' b.same_length refl (term_of c.args.right.now) h.right;
-    }
-
-pub loop-x-smaller : goal.loop-x-smaller
-loop-x-smaller c =
-    let b = kind_count_bind _ _ _ _ c.bind_kind.ensures in
-    let l = kind_count_le c.bind_kind.new.kinds in
-    let s = c.bind_kind.ensures.same_length in
-    let m = kind_count_le c.loop-x.kinds in
-    omega arith
-
-pub loop-x-preserved : goal.loop-x-preserved
-loop-x-preserved c =
-    let f = rw c.in-BindKind.is at c.in_ok-differ.ensures in
-    let b = c.bind_kind.ensures in
-    let s = table c.loop-x.types c.loop-x.kinds in
-    let s' = table c.loop-x.types c.bind_kind.new.kinds in
-    let h = c.loop-x.invariant in
-    record {
+      sound = h.sound;
       marked = h.marked;
       marks_kept = h.marks_kept;
-      sound = sound_bind_kind s s' c.in-BindKind.x c.in-BindKind.k b refl f.lower h.sound;
       type_trail = h.type_trail;
-      kind_trail = subst (λ xs. IsKindTrail xs c.args.kinds.now c.bind_kind.new.kinds) (sym c.in_ok-push-in-BindKind.ensures.items) (kind_trail_push c.in-BindKind.x _ c.loop-x.kind_trail.items c.args.kinds.now c.loop-x.kinds c.bind_kind.new.kinds f.inside h.kind_trail b);
-      narrower = λ a m. h.narrower a (solves_before_kind s s' c.in-BindKind.x _ b refl a m);
-      kept = λ a m e. solves_after_kind s s' c.in-BindKind.x _ b refl a (h.kept a m e) (f.forced a (h.kept a m e) e);
-      left = over_after s s' refl b.same_length (term_of c.args.left.now) h.left;
-      right = over_after s s' refl b.same_length (term_of c.args.right.now) h.right;
+      kind_trail = h.kind_trail;
+      narrower = h.narrower;
+      kept = h.kept;
+      stack = turn_split (table c.loop-step.types c.loop-step.kinds) (term_of c.args.left.now) (term_of c.args.right.now) (term_of c.in-Some.next.0.now) (term_of c.in-Some.next.1.now) (pairs c.pop.new.self.items) (pairs c.loop-step.work.items) (popped_pair _ _ _ c.in-Some.ensures.items) h.stack (term_of c.in-Some.next.0.now) (term_of c.in-Some.next.1.now) (λ a m. refl) (λ a m. refl) (pairs c.push_split.new.work.items) y.0 y.1 o.0 o.1;
     }
 
-pub mark-requires : goal.mark-requires
-mark-requires c =
-    let f = rw c.in-Bind.is at c.in_ok-differ.ensures in
-    subst (λ u. InTerm (λ n. n < length c.loop-x.nested) (λ _. Unit {0}) u) (sym c.in_ok-t-in-Bind.ensures)
-    (over_marks (table c.loop-x.types c.loop-x.kinds) c.loop-x.nested c.loop-x.invariant.marked (term_of c.in-Bind.t.now) f.over)
+pub solve_pair-requires-clause-left : goal.solve_pair-requires-clause-left
+solve_pair-requires-clause-left c =
+    (top_over (table c.loop-step.types c.loop-step.kinds) (term_of c.args.left.now) (term_of c.args.right.now) (term_of c.in-Some.next.0.now) (term_of c.in-Some.next.1.now) (pairs c.pop.new.self.items) (pairs c.loop-step.work.items) (popped_pair _ _ _ c.in-Some.ensures.items) c.loop-step.invariant.stack).0
+
+pub solve_pair-requires-clause-right : goal.solve_pair-requires-clause-right
+solve_pair-requires-clause-right c =
+    (top_over (table c.loop-step.types c.loop-step.kinds) (term_of c.args.left.now) (term_of c.args.right.now) (term_of c.in-Some.next.0.now) (term_of c.in-Some.next.1.now) (pairs c.pop.new.self.items) (pairs c.loop-step.work.items) (popped_pair _ _ _ c.in-Some.ensures.items) c.loop-step.invariant.stack).1
+
+pub returns-in_err-solve_pair-clause-kept : goal.returns-in_err-solve_pair-clause-kept
+returns-in_err-solve_pair-clause-kept c a m e =
+    let h = c.loop-step.invariant in
+    let n = h.kept a m e in
+    c.solve_pair.ensures.kept a n (top_needed (table c.loop-step.types c.loop-step.kinds) (term_of c.args.left.now) (term_of c.args.right.now) (term_of c.in-Some.next.0.now) (term_of c.in-Some.next.1.now) (pairs c.pop.new.self.items) (pairs c.loop-step.work.items) (popped_pair _ _ _ c.in-Some.ensures.items) h.stack a n e)
+
+pub returns-then-not-branch-clause-kept : goal.returns-then-not-branch-clause-kept
+returns-then-not-branch-clause-kept c a m e =
+    let h = c.loop-step.invariant in
+    let n = h.kept a m e in
+    c.solve_pair.ensures.kept a n (top_needed (table c.loop-step.types c.loop-step.kinds) (term_of c.args.left.now) (term_of c.args.right.now) (term_of c.in-Some.next.0.now) (term_of c.in-Some.next.1.now) (pairs c.pop.new.self.items) (pairs c.loop-step.work.items) (popped_pair _ _ _ c.in-Some.ensures.items) h.stack a n e)
+
+pub returns-then-not-branch-clause-clash : goal.returns-then-not-branch-clause-clash
+returns-then-not-branch-clause-clash c a m e =
+    let h = c.loop-step.invariant in
+    let d = on_false _ (rw c.if-not-branch.true at c.in_ok-solve_pair.ensures.clash) in
+    d a m (top_needed (table c.loop-step.types c.loop-step.kinds) (term_of c.args.left.now) (term_of c.args.right.now) (term_of c.in-Some.next.0.now) (term_of c.in-Some.next.1.now) (pairs c.pop.new.self.items) (pairs c.loop-step.work.items) (popped_pair _ _ _ c.in-Some.ensures.items) h.stack a (c.solve_pair.ensures.narrower a m) e)
+
+pub loop-step-preserved : goal.loop-step-preserved
+loop-step-preserved c =
+    let s = table c.loop-step.types c.loop-step.kinds in
+    let s' = table c.solve_pair.new.types c.solve_pair.new.kinds in
+    let h = c.loop-step.invariant in
+    let f = c.solve_pair.ensures in
+    let u = f.type_trail c.args.types.now h.type_trail in
+    let v = f.kind_trail c.args.kinds.now h.kind_trail in
+    let n = on_false _ (rw c.if-branch.false at c.in_ok-push_split.ensures.no) in
+    let e = on_true _ (rw c.if-not-branch.false at c.in_ok-solve_pair.ensures.same) in
+    record {
+      sound = f.sound;
+      marked = f.marked;
+      marks_kept = λ k i. f.marks_kept k (h.marks_kept k i);
+      type_trail = u;
+      kind_trail = v;
+      narrower = λ a m. h.narrower a (f.narrower a m);
+      kept = λ a m d. f.kept a (h.kept a m d) (top_needed s (term_of c.args.left.now) (term_of c.args.right.now) (term_of c.in-Some.next.0.now) (term_of c.in-Some.next.1.now) (pairs c.pop.new.self.items) (pairs c.loop-step.work.items) (popped_pair _ _ _ c.in-Some.ensures.items) h.stack a (h.kept a m d) d);
+      stack = top_solved s s' (term_of c.args.left.now) (term_of c.args.right.now) (term_of c.in-Some.next.0.now) (term_of c.in-Some.next.1.now) (pairs c.pop.new.self.items) (pairs c.loop-step.work.items) (pairs c.push_split.new.work.items) (popped_pair _ _ _ c.in-Some.ensures.items) h.stack (u.same_length ∙ sym h.type_trail.same_length) (v.same_length ∙ sym h.kind_trail.same_length) f.narrower n e;
+    }

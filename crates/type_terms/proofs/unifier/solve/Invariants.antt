@@ -1,16 +1,16 @@
-use Rattle.std.proofs.Common.{◌≡◌, ◌+◌, ◌-◌, ℕ, true, length}
+use Rattle.std.proofs.Common.{◌≡◌, ℕ, true}
 use Rattle.type_terms.specs.Ground.{Assignment}
+use Rattle.type_terms.specs.Pairs.{pairs}
 use Rattle.type_terms.specs.Table.{table}
-use Rattle.type_terms.specs.Table.{IsOver, IsSound, Solves}
+use Rattle.type_terms.specs.Table.{IsSound, Solves}
 use Rattle.type_terms.specs.Term.{meaning, term_of}
 use Rattle.type_terms.specs.Nested.{AreMarked, mark_at}
 use Rattle.type_terms.specs.Undo.{IsTrail, IsKindTrail}
-use Rattle.type_terms.specs.Rank.{bound_count}
-use Rattle.type_terms.proofs.Counts.{kind_count}
+use Rattle.type_terms.proofs.Turns.{IsComparison}
 use Rattle.type_terms.proofs.unifier.solve.Given as goal
 
-abbrev pub invariant-loop-x : goal.invariant-loop-x
-invariant-loop-x l = record {
+abbrev pub invariant-loop-step : goal.invariant-loop-step
+invariant-loop-step l = record {
   sound : IsSound (table l.types l.kinds);
   marked : AreMarked l.types l.nested;
   marks_kept : (k : ℕ) → mark_at l.initial.nested k ≡ true → mark_at l.nested k ≡ true;
@@ -18,9 +18,5 @@ invariant-loop-x l = record {
   kind_trail : IsKindTrail l.kind_trail.items l.initial.kinds l.kinds;
   narrower : (a : Assignment) → Solves a (table l.types l.kinds) → Solves a (table l.initial.types l.initial.kinds);
   kept : (a : Assignment) → Solves a (table l.initial.types l.initial.kinds) → meaning a (term_of l.left) ≡ meaning a (term_of l.right) → Solves a (table l.types l.kinds);
-  left : IsOver (table l.types l.kinds) (term_of l.left);
-  right : IsOver (table l.types l.kinds) (term_of l.right);
+  stack : IsComparison (table l.types l.kinds) (term_of l.left) (term_of l.right) (pairs l.work.items);
 }
-
-abbrev pub decreases-loop-x : goal.decreases-loop-x
-decreases-loop-x l = (length l.types - bound_count l.types) + (length l.kinds - kind_count l.kinds)

@@ -1,0 +1,65 @@
+-- Which variables stand in a type, and a type with other variables in their places.
+use Rattle.std.specs.Prelude.{ℕ, List, [], ◌∷◌, ◌++◌, Option, Some, None, slice_get}
+use Rattle.type_terms.specs.Ground.{Assignment}
+use Rattle.type_terms.specs.Term.{Term, Terms, base_term, list_term, tuple_term, source_term, variable, no_terms, one_more}
+use Rattle.type_terms.specs.declared.ty.KindTerm.{KindTerm}
+use Rattle.type_terms.specs.declared.ty.KindTerm.TheVariants.{Fixed, Var}
+
+abbrev mutual
+  -- the type variables of a type, in the order in which they stand and as often
+  pub type_variables : Term → List ℕ
+  type_variables (base_term b) = []
+  type_variables (list_term t) = type_variables t
+  type_variables (tuple_term ts) = all_type_variables ts
+  type_variables (source_term k) = []
+  type_variables (variable n) = n ∷ []
+
+  pub all_type_variables : Terms → List ℕ
+  all_type_variables no_terms = []
+  all_type_variables (one_more t ts) = type_variables t ++ all_type_variables ts
+
+abbrev pub variable_of_kind : KindTerm → List ℕ
+variable_of_kind (Fixed k) = []
+variable_of_kind (Var n) = n ∷ []
+
+abbrev mutual
+  -- the same of its kind variables
+  pub kind_variables : Term → List ℕ
+  kind_variables (base_term b) = []
+  kind_variables (list_term t) = kind_variables t
+  kind_variables (tuple_term ts) = all_kind_variables ts
+  kind_variables (source_term k) = variable_of_kind k
+  kind_variables (variable n) = []
+
+  pub all_kind_variables : Terms → List ℕ
+  all_kind_variables no_terms = []
+  all_kind_variables (one_more t ts) = kind_variables t ++ all_kind_variables ts
+
+abbrev pub number_or : ℕ → Option ℕ → ℕ
+number_or n None = n
+number_or n (Some m) = m
+
+-- variable n's new number: entry n of the list, and n itself where there is no such entry
+abbrev pub new_number : List ℕ → ℕ → ℕ
+new_number news n = number_or n (slice_get news n)
+
+abbrev pub kind_instance : List ℕ → KindTerm → KindTerm
+kind_instance news (Fixed k) = Fixed k
+kind_instance news (Var n) = Var (new_number news n)
+
+abbrev mutual
+  -- the type in which each variable has its new number
+  pub instance : List ℕ → List ℕ → Term → Term
+  instance types kinds (base_term b) = base_term b
+  instance types kinds (list_term t) = list_term (instance types kinds t)
+  instance types kinds (tuple_term ts) = tuple_term (instances types kinds ts)
+  instance types kinds (source_term k) = source_term (kind_instance kinds k)
+  instance types kinds (variable n) = variable (new_number types n)
+
+  pub instances : List ℕ → List ℕ → Terms → Terms
+  instances types kinds no_terms = no_terms
+  instances types kinds (one_more t ts) = one_more (instance types kinds t) (instances types kinds ts)
+
+-- each variable is what `a` makes of its new number
+abbrev pub behind : List ℕ → List ℕ → Assignment → Assignment
+behind types kinds a = record { type_of = λ n. a.type_of (new_number types n); kind_of = λ n. a.kind_of (new_number kinds n) }
