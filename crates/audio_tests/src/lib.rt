@@ -3,3 +3,8 @@
 
 #[cfg(test)]
 mod wav_io_tests;
+//! Worked rows of audio files and leaves.
+#![tactic(auto)]
+
+#[cfg(test)]
+mod op_leaf_tests;

@@ -1,3 +1,4 @@
 pub mod Positions
 pub mod Cursors
 pub mod Turns
+pub mod Holding

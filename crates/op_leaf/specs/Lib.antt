@@ -1,2 +1,4 @@
 pub mod Leaves
 pub mod Standing
+pub mod Readers
+pub mod Stores

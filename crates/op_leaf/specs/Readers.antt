@@ -1,0 +1,80 @@
+-- The reader of a buffer: the cells that it holds, and whether it plays.
+use Rattle.std.specs.Prelude.{Bool, true, false, not, Option, Some, None, List, [], ◌∷◌, ◌++◌, ℕ, ◌-◌, length, drop, nat_lt, nat_le, if◌then◌else◌}
+use Rattle.frame_core.specs.declared.cell.Cell.{Cell}
+use Rattle.frame_core.specs.Slots.{Slot}
+
+-- the cells in their order; the samples that it holds before it plays, at least 1; and the samples of a tick
+pub record Reader : Type 0 where
+  pub cells : List Cell
+  pub playing : Bool
+  pub prefill : ℕ
+  pub frame : ℕ
+
+-- how many cells it is to hold after the takes of a tick
+abbrev pub wanted : Reader → ℕ
+wanted reader = if reader.playing then reader.frame else reader.prefill
+
+-- it holds fewer
+abbrev pub wants : Reader → Bool
+wants reader = nat_lt (length reader.cells) (wanted reader)
+
+-- how many are missing: each take lowers it
+abbrev pub missing : Reader → ℕ
+missing reader = wanted reader - length reader.cells
+
+-- the cells with a track's begin at the front
+abbrev pub flag_front : List Cell → List Cell
+flag_front [] = []
+flag_front (cell ∷ cells) = record { left = cell.left; right = cell.right; first = true } ∷ cells
+
+abbrev pub holds_some : List Cell → Bool
+holds_some [] = false
+holds_some (cell ∷ cells) = true
+
+-- after the takes of a tick
+--   where it played: it plays on where it holds a cell, else it stops
+--   where it did not, and holds its prefill: it begins to play, and its front cell begins a track
+--   otherwise: it stays as it is
+abbrev pub begun : Reader → Reader
+begun reader = from reader.playing
+  where
+    from : Bool → Reader
+    from true = record reader { playing = holds_some reader.cells }
+    from false =
+        if nat_le reader.prefill (length reader.cells)
+        then record reader { cells = flag_front reader.cells; playing = true }
+        else reader
+
+-- what it offers: while it plays, the front cell
+abbrev pub reader_slot : Reader → Slot
+reader_slot reader = if reader.playing then front reader.cells else None
+  where
+    front : List Cell → Slot
+    front [] = None
+    front (cell ∷ cells) = Some cell
+
+-- after a cell was given
+abbrev pub after_cell : Reader → Reader
+after_cell reader = if reader.playing then record reader { cells = drop 1 reader.cells } else reader
+
+-- an answer of the buffer: a chunk, or empty
+abbrev pub Answer : Type 0
+Answer = Option (List Cell)
+
+-- after the takes of a tick: the next answers while it wants, up to and with the first empty one
+abbrev pub after_takes : List Answer → Reader → Reader
+after_takes [] reader = reader
+after_takes (None ∷ answers) reader = reader
+after_takes (Some chunk ∷ answers) reader =
+    if wants reader then after_takes answers (record reader { cells = reader.cells ++ chunk }) else reader
+
+-- these takes
+abbrev pub takes_of : List Answer → Reader → List Answer
+takes_of [] reader = if wants reader then None ∷ [] else []
+takes_of (None ∷ answers) reader = if wants reader then None ∷ [] else []
+takes_of (Some chunk ∷ answers) reader =
+    if wants reader then Some chunk ∷ takes_of answers (record reader { cells = reader.cells ++ chunk }) else []
+
+-- the reader at a tick's start, over the answers that come next; past their end an answer is empty
+abbrev pub at_start : List Answer → Reader → Reader
+at_start answers reader = begun (after_takes answers reader)

@@ -1,0 +1,17 @@
+-- How a reader keeps its cells.
+use Rattle.std.specs.Prelude.{◌≡◌, ◌<◌, ◌≤◌, Bool, true, false, List, ℕ, ◌+◌, length, max}
+use Rattle.frame_core.specs.declared.cell.Cell.{Cell}
+use Rattle.cell_ring.specs.Rings.{Ring}
+use Rattle.op_leaf.specs.Readers.{flag_front}
+
+-- the cells of the ring, of which the first begins a track where the reader has just begun
+abbrev pub shown : Bool → List Cell → List Cell
+shown true cells = flag_front cells
+shown false cells = cells
+
+-- the ring has room for a chunk of any length wherever the reader wants one; a reader that has just begun plays and holds a cell
+pub record IsStore (ring : Ring) (prefill frame : ℕ) (playing fresh : Bool) : Type 0 where
+  pub fits : max prefill frame + 65535 ≤ ring.room
+  pub some : 0 < prefill
+  pub plays : fresh ≡ true → playing ≡ true
+  pub holds : fresh ≡ true → 0 < length ring.cells

@@ -1,0 +1,115 @@
+// The reader of a buffer.
+ghost use Rattle.std.specs.Prelude.{◌≡◌, ◌<◌, ◌≤◌, ◌+◌, ◌++◌, [], true, false, length, max, IfOk};
+ghost use Rattle.cell_ring.specs.Rings.{Ring};
+ghost use Rattle.op_leaf.specs.Readers.{after_cell, begun, missing, Reader, reader_slot, wants};
+
+use cell_ring::CellRing;
+use frame_core::{Cell, Chunk, MAX_FRAME};
+use liq_base::Memory;
+use std::alloc::Global;
+use std::marker::Model;
+
+/// The reader of a buffer: it takes chunks at a tick's start, and plays their cells once it holds enough of them.
+/// `docs/streams.md` has the rules.
+#[derive(Drop)]
+pub struct ReaderState {
+    ring: CellRing,
+    prefill: u32,
+    frame: u32,
+    playing: bool,
+    // Whether a track begins at the front cell, whatever its own mark.
+    fresh: bool,
+}
+
+impl Model for ReaderState {
+    ghost use Rattle.op_leaf.specs.Readers.{Reader};
+    ghost use Rattle.op_leaf.specs.Stores.{IsStore, shown};
+
+    ghost Value = { Reader };
+
+    ghost view = { λ r. record { cells = shown r.fresh r.ring.cells; playing = r.playing; prefill = r.prefill; frame = r.frame } };
+
+    ghost invariant = { λ r. IsStore r.ring r.prefill r.frame r.playing r.fresh };
+}
+
+impl ReaderState {
+    /// A reader that holds nothing and does not play, with room for what it may hold. It plays once it holds `pre`
+    /// samples, and at least one; `frame` is the samples of a tick.
+    pub fn new(alloc: Global, pre: u64, frame: u32) -> Result<ReaderState, Memory>
+        ensures { IfOk result (λ reader. reader ≡ record { cells = []; playing = false; prefill = max 1 pre; frame = frame }) }
+    {
+        let prefill = u32::try_from(pre.max(1)).map_err(|_| Memory)?;
+        let room = prefill.max(frame).checked_add(MAX_FRAME - 1).ok_or(Memory)?;
+        let ring = CellRing::new(alloc, room)?;
+        Ok(ReaderState {
+            ring,
+            prefill,
+            frame,
+            playing: false,
+            fresh: false,
+        })
+    }
+
+    /// Whether it is to take once more in this tick. Each chunk lowers what is missing.
+    pub fn wants(&self) -> bool
+        ensures wants { result ≡ wants self.now }
+        ensures ends { result ≡ true → 0 < missing self.now }
+    {
+        let wanted = if self.playing { self.frame } else { self.prefill };
+        self.ring.len() < wanted
+    }
+
+    /// Holds the cells of a chunk too. It takes no memory.
+    pub fn accept(&mut self, chunk: Chunk)
+        requires { wants self.old ≡ true }
+        ensures accepted { self.new ≡ record self.old { cells = self.old.cells ++ chunk } }
+        ensures less { missing self.new < missing self.old }
+    {
+        push_all(&mut self.ring, &chunk);
+    }
+
+    /// After the takes of a tick: begins to play where it holds enough, and stops where it holds nothing.
+    pub fn begin(&mut self)
+        ensures { self.new ≡ begun self.old }
+    {
+        let held = self.ring.len();
+        if self.playing {
+            self.playing = held > 0;
+        } else if held >= self.prefill {
+            self.playing = true;
+            self.fresh = true;
+        }
+    }
+
+    /// The cell that it offers: the front one, while it plays.
+    pub fn offer(&self) -> Option<Cell>
+        ensures { result ≡ reader_slot self.now }
+    {
+        if !self.playing {
+            return None;
+        }
+        let cell = self.ring.front()?;
+        let first = cell.first || self.fresh;
+        Some(Cell { first, ..cell })
+    }
+
+    /// Goes on by the cell that it offers. Where it offers nothing it stays.
+    pub fn advance(&mut self)
+        ensures { self.new ≡ after_cell self.old }
+    {
+        if self.playing {
+            self.ring.pop();
+            self.fresh = false;
+        }
+    }
+}
+
+// Appends the cells of a chunk.
+fn push_all(ring: &mut CellRing, chunk: &Chunk)
+    requires { length ring.old.cells + length chunk.now ≤ ring.old.room }
+    ensures { ring.new ≡ record { cells = ring.old.cells ++ chunk.now; room = ring.old.room } }
+{
+    for at in 0..chunk.len() {
+        ring.push(chunk.cell(at));
+    }
+}
