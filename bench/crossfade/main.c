@@ -89,6 +89,6 @@ int main(void) {
             advance();
         }
     }
-    printf("crossfade %lld %lld\n", (long long)((now() - start) * 1000 / items), (long long)sum);
+    printf("crossfade\t%lld\titems, sum %lld\t%lld\n", (long long)items, (long long)sum, (long long)(now() - start));
     return 0;
 }

@@ -4,7 +4,7 @@
 #include <string.h>
 #include <time.h>
 
-enum { LENGTH = 1764, PASSES = 20000 };
+enum { LENGTH = 1764, PASSES = 20000, SAMPLES = 35280000, EIGHTS = 4400000 };
 
 static int16_t left[LENGTH], right[LENGTH], into[LENGTH];
 static uint8_t bytes[4 * LENGTH];
@@ -60,10 +60,10 @@ static int64_t now(void) {
     return (int64_t)t.tv_sec * 1000000000 + t.tv_nsec;
 }
 
-static void tell(const char *name, int64_t start, const int16_t *samples, size_t n) {
-    int64_t picoseconds = (now() - start) * 1000 / ((int64_t)LENGTH * PASSES), total = 0;
+static void tell(const char *name, int64_t start, int64_t count, const int16_t *samples, size_t n) {
+    int64_t taken = now() - start, total = 0;
     for (size_t i = 0; i < n; i++) total += samples[i];
-    printf("%s %lld %lld\n", name, (long long)picoseconds, (long long)total);
+    printf("%s\t%lld\tsamples, sum %lld\t%lld\n", name, (long long)count, (long long)total, (long long)taken);
 }
 
 int main(void) {
@@ -71,27 +71,27 @@ int main(void) {
     fill(right, 11);
     int64_t start = now();
     for (int pass = 0; pass < PASSES; pass++) scale(700000 + pass, left, into, LENGTH);
-    tell("scale", start, into, LENGTH);
+    tell("scale", start, SAMPLES, into, LENGTH);
     start = now();
     for (int pass = 0; pass < PASSES; pass++) halves(left, right, into, LENGTH);
-    tell("halves", start, into, LENGTH);
+    tell("halves", start, SAMPLES, into, LENGTH);
     start = now();
     for (int pass = 0; pass < PASSES; pass++) mix(left, right, (uint32_t)pass, 44100, into, LENGTH);
-    tell("mix", start, into, LENGTH);
+    tell("mix", start, SAMPLES, into, LENGTH);
     start = now();
     for (int pass = 0; pass < PASSES; pass++) encode(left, right, bytes, LENGTH);
-    tell("encode", start, left, LENGTH);
+    tell("encode", start, SAMPLES, left, LENGTH);
     start = now();
-    for (int pass = 0; pass < PASSES * 220; pass++) divide(eight_sums, eight_by, into, 8);
-    tell("divide", start, into, 8);
+    for (int pass = 0; pass < EIGHTS; pass++) divide(eight_sums, eight_by, into, 8);
+    tell("divide", start, EIGHTS * 8LL, into, 8);
     start = now();
     for (int pass = 0; pass < PASSES; pass++) {
         memset(sum, 0, sizeof sum);
         add_into(sum, left, LENGTH);
     }
-    tell("add_into", start, left, LENGTH);
+    tell("add_into", start, SAMPLES, left, LENGTH);
     start = now();
     for (int pass = 0; pass < PASSES; pass++) clamp_all(sum, into, LENGTH);
-    tell("clamp_all", start, into, LENGTH);
+    tell("clamp_all", start, SAMPLES, into, LENGTH);
     return 0;
 }

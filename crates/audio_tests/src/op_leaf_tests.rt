@@ -37,18 +37,12 @@ fn library_of(alloc: Global, kind: Kind, one: &[i16], two: &[i16]) -> Result<Lib
     ensures library { IfOk result (λ library. IsLibrary library) }
     ensures leaves { IfOk result (λ library. length library.leaves ≡ 3) }
 {
-    let mut files = Vec::new(alloc);
-    files.push(Track::new(kind, Vec::from_slice(alloc, one)?))?;
-    files.push(Track::new(kind, Vec::from_slice(alloc, two)?))?;
-    let mut first = Vec::new(alloc);
-    first.push(0)?;
-    let mut both = Vec::new(alloc);
-    both.push(0)?;
-    both.push(1)?;
-    let mut leaves = Vec::new(alloc);
-    leaves.push(first)?;
-    leaves.push(both)?;
-    leaves.push(Vec::new(alloc))?;
+    let one = Track::new(kind, Vec::from_slice(alloc, one)?);
+    let two = Track::new(kind, Vec::from_slice(alloc, two)?);
+    let files = Vec::from_array(alloc, [one, two])?;
+    let alone = Vec::from_slice(alloc, &[0])?;
+    let both = Vec::from_slice(alloc, &[0, 1])?;
+    let leaves = Vec::from_array(alloc, [alone, both, Vec::new(alloc)])?;
     Ok(Library::new(files, leaves))
 }
 
@@ -132,7 +126,12 @@ fn a_square_of_2000_at_8000_changes_every_two_samples(rt: HostRuntime) -> Result
     });
     let low = inner(-8192, -8192);
     let high = inner(8192, 8192);
-    check(&rt, &mut leaf, &library, &[first(8192, 8192), high, low, low]);
+    check(
+        &rt,
+        &mut leaf,
+        &library,
+        &[first(8192, 8192), high, low, low],
+    );
     check(&rt, &mut leaf, &library, &[high, high, low, low]);
     Ok(())
 }
@@ -144,22 +143,31 @@ fn a_blank_of_12_samples_begins_at_each_twelfth(rt: HostRuntime) -> Result<(), F
     let track = duration.samples(8000).ok_or("samples")?;
     assert_eq!(rt; track, 12);
     let mut leaf = LeafState::new(Leaf::Blank { track });
-    for at in 0..30 {
-        let slot = if at % 12 == 0 { first(0, 0) } else { inner(0, 0) };
-        assert_eq!(rt; leaf.offer(&library), slot);
-        leaf.advance(&library);
-    }
+    let zero = inner(0, 0);
+    let round = [
+        first(0, 0),
+        zero,
+        zero,
+        zero,
+        zero,
+        zero,
+        zero,
+        zero,
+        zero,
+        zero,
+        zero,
+        zero,
+    ];
+    check(&rt, &mut leaf, &library, &round);
+    check(&rt, &mut leaf, &library, &round);
+    check(&rt, &mut leaf, &library, &[first(0, 0), zero]);
     Ok(())
 }
 
-// A chunk of these cells.
-fn chunk_of(alloc: Global, cells: &[Cell]) -> Result<Option<Chunk>, Memory>
-    requires { length cells.now ≤ 8 }
-{
-    let mut frame = Frame::new(alloc, cells.len() as u32)?;
-    for (at, cell) in cells.iter().enumerate() {
-        frame.set(at as u32, Some(*cell));
-    }
+// A chunk of this cell alone.
+fn chunk_of(alloc: Global, cell: Cell) -> Result<Option<Chunk>, Memory> {
+    let mut frame = Frame::new(alloc, 1)?;
+    frame.set(0, Some(cell));
     Chunk::from_frame(alloc, &frame)
 }
 
@@ -172,12 +180,12 @@ fn a_reader_plays_once_it_holds_its_prefill(rt: HostRuntime) -> Result<(), Fail>
         first: false,
     };
     assert!(rt; reader.wants());
-    reader.accept(chunk_of(rt.alloc(), &[cell])?.ok_or("a chunk")?);
+    reader.accept(chunk_of(rt.alloc(), cell)?.ok_or("a chunk")?);
     assert!(rt; reader.wants());
     reader.begin();
     assert_eq!(rt; reader.offer(), None);
     assert!(rt; reader.wants());
-    reader.accept(chunk_of(rt.alloc(), &[cell])?.ok_or("a chunk")?);
+    reader.accept(chunk_of(rt.alloc(), cell)?.ok_or("a chunk")?);
     assert!(rt; !reader.wants());
     reader.begin();
     assert_eq!(rt; reader.offer(), first(7, 7));

@@ -1,20 +1,23 @@
 -- Markings.
-use Rattle.std.proofs.Common.{◌≡◌, ℕ, ◌-◌, ◌+◌, ◌<◌, ◌≤◌, zero, suc, Bool, true, false, ◌&&◌, ◌||◌, Option, Some, None, List, [], ◌∷◌, ◌++◌, length, get_or, take, map, sym, refl, ap, ◌∙◌, subst, inl, inr, arith, slice_get, All}
+use Rattle.std.proofs.Common.{◌≡◌, ℕ, ◌-◌, ◌+◌, ◌<◌, ◌≤◌, zero, suc, Bool, true, false, ◌&&◌, ◌||◌, Option, Some, None, List, [], ◌∷◌, ◌++◌, length, get_or, take, sym, refl, ap, ◌∙◌, subst, inl, inr, arith, slice_get, All}
 use Rattle.std.specs.List.{list_any, zip}
 use Rattle.std.specs.Option.{option_map_or}
-use Rattle.std.proofs.lemmas.Bool.{cases_eq, cases_lt}
-use Rattle.std.proofs.lemmas.List.{get_or_append_left, length-append, length-take-le}
+use Rattle.std.proofs.lemmas.Bool.{cases_eq}
+use Rattle.std.proofs.lemmas.List.{get_or_append_left, length-append, length-take-le, take_all}
+use Rattle.std.proofs.lemmas.List.Folds.{list_any_at, list_any_more}
+use Rattle.std.proofs.lemmas.Slice.Zip.{get_or-zip}
+use Rattle.std.specs.Prelude.{◌⊎◌}
 use Rattle.std.proofs.lemmas.List.Elements.{All-head, All-tail, All-weaker}
-use Rattle.std.proofs.lemmas.Option.{slice_get_within, slice_get-get_or, slice_get_read}
+use Rattle.std.proofs.lemmas.Option.{slice_get_within}
 use Rattle.std.proofs.Math.Seq.{get_or-append_seam}
 use Rattle.time_pred.specs.Predicates.{Predicate, is_always}
 use Rattle.plan_core.specs.declared.node.Node.{Node}
 use Rattle.plan_core.specs.declared.node.Op.{Op}
 use Rattle.plan_core.specs.declared.node.Op.TheVariants.{Single, Playlist, Blank, Square, Fail, Fallback, Switch, Sequence, Add, Amplify, Mean, Stereo, Crossfade, Buffer, Clock}
-use Rattle.plan_core.specs.Plans.{AreNodes}
+use Rattle.plan_core.specs.Plans.{AreNodes, HasChildren}
 use Rattle.fallible_infer.specs.Infallible.{mark_at, last_of, infallible_by, IsMarking}
 
-some_same : {A : Type 0} {x y : A} {o : Option A} → o ≡ Some x → o ≡ Some y → x ≡ y
+pub some_same : {A : Type 0} {x y : A} {o : Option A} → o ≡ Some x → o ≡ Some y → x ≡ y
 some_same e f = cc
 
 -- marks that are the same for the children give the same
@@ -104,11 +107,11 @@ marked_more nodes marks n node mark well so_far there is =
       size = length-append marks (mark ∷ []) ∙ ap (λ (k : ℕ). k + 1) so_far.size;
       each = λ i one h at. elim (cases_eq i n) [
         | inl e ↦ (let P : ℕ → Type 0 = λ k. slice_get nodes k ≡ Some one in
-          let same : one ≡ node = some_same (subst P e at) there in
-          ap (mark_at more) e ∙ last ∙ is ∙ by_same (mark_at marks) (mark_at more) n kept node.op node.children (children_below nodes n node well there)
-          ∙ ap (λ (x : Node). infallible_by (mark_at more) x.op x.children) (sym same))
+            let same : one ≡ node = some_same (subst P e at) there in
+            ap (mark_at more) e ∙ last ∙ is ∙ by_same (mark_at marks) (mark_at more) n kept node.op node.children (children_below nodes n node well there)
+            ∙ ap (λ (x : Node). infallible_by (mark_at more) x.op x.children) (sym same))
         | inr apart ↦ (let less : i < n = omega (arith, apart) in
-          sym (kept i less) ∙ so_far.each i one less at ∙ by_same (mark_at marks) (mark_at more) i (λ j below. kept j (omega arith)) one.op one.children (children_below nodes i one well at))
+            sym (kept i less) ∙ so_far.each i one less at ∙ by_same (mark_at marks) (mark_at more) i (λ j below. kept j (omega arith)) one.op one.children (children_below nodes i one well at))
       ];
     }
 
@@ -120,3 +123,55 @@ marked_all nodes marks n all done i node at = let h : i < length nodes = slice_g
 
 pub children_within : (nodes : List Node) (i n : ℕ) (node : Node) → AreNodes nodes → slice_get nodes i ≡ Some node → n ≡ i → All (λ c. c < n) node.children
 children_within nodes i n node well there e = All-weaker (λ c. c < i) (λ c. c < n) (λ x h. omega arith) node.children (children_below nodes i node well there)
+
+-- a switch's predicates with its children
+pub pair_at : (preds : List Predicate) (children : List ℕ) (k : ℕ) (p d : Predicate) (e : ℕ) → k < length preds → length children ≡ length preds → get_or (zip preds children) k (d, e) ≡ (get_or preds k d, get_or children k e)
+pair_at preds children k p d e h size = get_or-zip preds children k (d, e) h (omega arith)
+
+pub pairs_size : (preds : List Predicate) (children : List ℕ) → length children ≡ length preds → length (zip preds children) ≡ length preds
+pairs_size [] children size = refl
+pairs_size (p ∷ ps) [] size = absurd (omega arith)
+pairs_size (p ∷ ps) (c ∷ cs) size = ap suc (pairs_size ps cs (omega arith))
+
+and_false : (b : Bool) → b && false ≡ false
+and_false true = refl
+and_false false = refl
+
+pub pairs_found : (mark : ℕ → Bool) (preds : List Predicate) (children : List ℕ) (k : ℕ) (p : Predicate) → k < length preds → length children ≡ length preds
+    → p ≡ get_or preds k p → is_always p ≡ true → mark (get_or children k 0) ≡ true
+    → true ≡ list_any (λ pair. is_always pair.0 && mark pair.1) (zip preds children)
+pairs_found mark preds children k p h size is always on =
+    let test : Predicate × ℕ → Bool = λ pair. is_always pair.0 && mark pair.1 in
+    let at : get_or (zip preds children) k (p, 0) ≡ (get_or preds k p, get_or children k 0) = pair_at preds children k p p 0 h size in
+    let long : length (zip preds children) ≡ length preds = pairs_size preds children size in
+    let here : test (get_or (zip preds children) k (p, 0)) ≡ true =
+    ap test at ∙ ap (λ (q : Predicate). is_always q && mark (get_or children k 0)) (sym is) ∙ ap (λ (b : Bool). b && mark (get_or children k 0)) always ∙ on in
+    sym (list_any_at test (zip preds children) k (p, 0) (omega arith) here)
+
+pub pairs_more : (mark : ℕ → Bool) (preds : List Predicate) (children : List ℕ) (k : ℕ) (p : Predicate) → k < length preds → length children ≡ length preds
+    → p ≡ get_or preds k p → list_any (λ pair. is_always pair.0 && mark pair.1) (take k (zip preds children)) ≡ false
+    → (is_always p ≡ false) ⊎ (mark (get_or children k 0) ≡ false)
+    → list_any (λ pair. is_always pair.0 && mark pair.1) (take (k + 1) (zip preds children)) ≡ false
+pairs_more mark preds children k p h size is none which =
+    let test : Predicate × ℕ → Bool = λ pair. is_always pair.0 && mark pair.1 in
+    let at : get_or (zip preds children) k (p, 0) ≡ (get_or preds k p, get_or children k 0) = pair_at preds children k p p 0 h size in
+    let long : length (zip preds children) ≡ length preds = pairs_size preds children size in
+    let here : test (get_or (zip preds children) k (p, 0)) ≡ (is_always p && mark (get_or children k 0)) =
+    ap test at ∙ ap (λ (q : Predicate). is_always q && mark (get_or children k 0)) (sym is) in
+    let fails : (is_always p && mark (get_or children k 0)) ≡ false = elim which [
+      | inl never ↦ ap (λ (b : Bool). b && mark (get_or children k 0)) never
+      | inr fallible ↦ ap (λ (b : Bool). is_always p && b) fallible ∙ and_false (is_always p)
+    ] in
+    list_any_more test (zip preds children) k (p, 0) (omega arith) ∙ ap (λ (b : Bool). b || test (get_or (zip preds children) k (p, 0))) none ∙ here ∙ fails
+
+pub pairs_done : (mark : ℕ → Bool) (preds : List Predicate) (children : List ℕ) (k : ℕ) → length preds ≤ k → length children ≡ length preds
+    → list_any (λ pair. is_always pair.0 && mark pair.1) (take k (zip preds children)) ≡ false → false ≡ list_any (λ pair. is_always pair.0 && mark pair.1) (zip preds children)
+pairs_done mark preds children k h size none =
+    let long : length (zip preds children) ≡ length preds = pairs_size preds children size in
+    sym (ap (list_any (λ pair. is_always pair.0 && mark pair.1)) (sym (take_all k (zip preds children) (omega arith))) ∙ none)
+
+pub any_done : (mark : ℕ → Bool) (children : List ℕ) (k : ℕ) → length children ≤ k → list_any mark (take k children) ≡ false → false ≡ list_any mark children
+any_done mark children k h none = sym (ap (list_any mark) (sym (take_all k children h)) ∙ none)
+
+pub number_at : (nodes : List Node) (i : ℕ) (node : Node) → AreNodes nodes → slice_get nodes i ≡ Some node → HasChildren node.op (length node.children)
+number_at nodes i node well there = (well i node there).number

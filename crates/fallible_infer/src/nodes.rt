@@ -1,5 +1,5 @@
 // Nodes that offer a cell at each instant.
-ghost use Rattle.std.specs.Prelude.{◌≡◌, ◌&&◌, ◌<◌, length, map, All, IfOk};
+ghost use Rattle.std.specs.Prelude.{◌≡◌, ◌&&◌, ◌<◌, false, length, map, All, IfOk};
 ghost use Rattle.std.specs.List.{list_any, zip};
 ghost use Rattle.std.specs.Option.{option_map_or};
 ghost use Rattle.plan_core.specs.Plans.{IsWellFormed, HasChildren};

@@ -9,7 +9,8 @@ use Rattle.frame_core.specs.Sounds.{Sound}
 use Rattle.liq_cli.specs.Outputs.{Output}
 use Rattle.liq_cli.specs.Words.{Asked, asked_by}
 use Rattle.liq_cli.specs.Script.{Names, names_of}
-use Rattle.liq_cli.specs.Streams.{Stream, single, ticks_bytes, gaps}
+use Rattle.frame_core.specs.Streams.{Stream, ticks_bytes, gaps}
+use Rattle.liq_cli.specs.Streams.{single}
 use Rattle.liq_cli.specs.declared.fault.Fault.{Fault}
 use Rattle.liq_cli.specs.declared.fault.Fault.TheVariants.{NoScript, OtherForm, MissingFile}
 
@@ -59,7 +60,7 @@ abbrev pub stream_of : Plan → Run → Stream
 stream_of plan run = single plan.sound Stereo
 
 abbrev pub bytes_of : Plan → Run → List ℕ
-bytes_of plan run = header_bytes Stereo rate (plan.ticks * F) ++ ticks_bytes (stream_of plan run) F plan.ticks
+bytes_of plan run = header_bytes Stereo rate (plan.ticks * F) ++ ticks_bytes Stereo (stream_of plan run) F plan.ticks
 
 abbrev pub outputs_of : Plan → Run → List Output
 outputs_of plan run = record { name = plan.output; bytes = bytes_of plan run } ∷ []

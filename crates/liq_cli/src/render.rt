@@ -7,7 +7,8 @@ ghost use Rattle.liq_base.specs.declared.memory.Kind.TheVariants.{Stereo};
 ghost use Rattle.frame_core.specs.Library.{Sounds, sound_at};
 ghost use Rattle.liq_cli.specs.Answer.{F, no_buffers, bytes_of, outputs_of};
 ghost use Rattle.liq_cli.specs.Outputs.{with_outputs, HoldsSome};
-ghost use Rattle.liq_cli.specs.Streams.{block_of, single, tick_bytes};
+ghost use Rattle.frame_core.specs.Streams.{block_of, tick_bytes};
+ghost use Rattle.liq_cli.specs.Streams.{single};
 ghost use Rattle.liq_cli.specs.Works.{IsReady, plan_of};
 
 use crate::RenderFault;
@@ -60,7 +61,7 @@ fn write_output<O: Sink>(alloc: Global, work: &Work, sink: &mut O) -> Result<(),
 fn tick_piece(alloc: Global, library: &Library, tick: u64) -> Result<Vec<u8>, AllocError>
     requires leaf { library.now.leaves ≡ (0 ∷ []) ∷ [] }
     requires tick { tick < 2 ^ 32 }
-    ensures { IfOk result (λ piece. piece.items ≡ tick_bytes (single (sound_at library.now 0 0) Stereo) F tick) }
+    ensures { IfOk result (λ piece. piece.items ≡ tick_bytes Stereo (single (sound_at library.now 0 0) Stereo) F tick) }
 {
     let samples = library.samples(0, 0);
     let mut piece = Vec::with_capacity(alloc, (TICK * BLOCK) as usize)?;
@@ -73,7 +74,7 @@ fn tick_piece(alloc: Global, library: &Library, tick: u64) -> Result<Vec<u8>, Al
 
 /// Appends the block of a cell: left before right.
 fn push_block(piece: &mut Vec<u8>, cell: Cell) -> Result<(), AllocError>
-    ensures { OnOk result (piece.new.items ≡ piece.old.items ++ block_of (Some cell)) }
+    ensures { OnOk result (piece.new.items ≡ piece.old.items ++ block_of Stereo (Some cell)) }
 {
     let [left_low, left_high] = cell.left.to_le_bytes();
     let [right_low, right_high] = cell.right.to_le_bytes();

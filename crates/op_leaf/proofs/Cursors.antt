@@ -1,15 +1,14 @@
 -- A cursor over files: what it offers, and where it stands after one cell more.
-use Rattle.std.proofs.Common.{◌≡◌, ◌<◌, ◌≤◌, ◌+◌, ◌-◌, ◌%◌, ◌∙◌, ◌&&◌, ℕ, zero, suc, Bool, true, false, Some, None, List, [], ◌∷◌, length, get_or, map, take, nat_eq, if◌then◌else◌, arith, refl, sym, ap, subst}
+use Rattle.std.proofs.Common.{◌≡◌, ◌<◌, ◌≤◌, ◌+◌, ◌%◌, ◌∙◌, ◌&&◌, ℕ, zero, suc, Bool, true, false, Some, None, List, [], ◌∷◌, length, get_or, take, nat_eq, if◌then◌else◌, arith, refl, sym, ap, subst}
 use Rattle.std.proofs.lemmas.Bool.Decides.{nat_tests}
 use Rattle.std.proofs.lemmas.List.{get_or-map, length-map}
 use Rattle.std.proofs.lemmas.List.Elements.{All-get_or}
 use Rattle.std.proofs.lemmas.List.Sums.{sum_by_more, sum_by_more_le}
 use Rattle.std.specs.List.{All}
-use Rattle.liq_base.specs.declared.memory.Kind.{Kind}
 use Rattle.frame_core.specs.Sounds.{Sound, IsSound, cell_of, length_of}
 use Rattle.frame_core.specs.Library.{Sounds, IsLibrary, no_sound, sound_at, tracks_of}
 use Rattle.op_leaf.specs.declared.files.Files.{Files}
-use Rattle.op_leaf.specs.Leaves.{files_slot, joined_slot, place_in_round, sounds_of, total_of}
+use Rattle.op_leaf.specs.Leaves.{files_slot, place_in_round, sounds_of, total_of}
 use Rattle.op_leaf.specs.Standing.{FilesArePlacedIn, FilesStandAt}
 use Rattle.op_leaf.proofs.Positions.{joined-within, joined-past}
 use Rattle.op_leaf.proofs.Turns.{mod-step, mod-round}
@@ -38,7 +37,7 @@ files-here library files position placed stands there =
     let sounds = sounds_of library files.node in
     let in_sounds : files.track < length (sounds_of library files.node) = omega (arith, there, length-sounds library files.node) in
     let within : files.at < length_of (get_or (sounds_of library files.node) files.track no_sound) =
-        subst (λ (sound : Sound). files.at < length_of sound) (sym (sounds-at library files.node files.track there)) (placed.within there) in
+    subst (λ (sound : Sound). files.at < length_of sound) (sym (sounds-at library files.node files.track there)) (placed.within there) in
     joined-within (sounds_of library files.node) files.kind files.track files.at
     (place_in_round (sounds_of library files.node) files.again position) in_sounds within (sym stands)
     ∙ ap (λ (sound : Sound). Some (cell_of sound files.kind files.at)) (sounds-at library files.node files.track there)
@@ -55,9 +54,9 @@ pub files-over : (library : Sounds) (files : Files) (position : ℕ) → FilesSt
     files_slot (sounds_of library files.node) files.again files.kind position ≡ None
 files-over library files position stands over =
     let all : take files.track (sounds_of library files.node) ≡ sounds_of library files.node =
-        take-whole (sounds_of library files.node) files.track (omega (arith, over, length-sounds library files.node)) in
+    take-whole (sounds_of library files.node) files.track (omega (arith, over, length-sounds library files.node)) in
     let past : total_of (sounds_of library files.node) ≤ place_in_round (sounds_of library files.node) files.again position =
-        omega (arith, stands, ap total_of all) in
+    omega (arith, stands, ap total_of all) in
     joined-past (sounds_of library files.node) files.kind (place_in_round (sounds_of library files.node) files.again position) past
 
 -- one cell more within a file

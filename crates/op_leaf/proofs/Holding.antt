@@ -1,9 +1,8 @@
 -- What a reader holds, one cell or one chunk more.
-use Rattle.std.proofs.Common.{◌≡◌, ◌<◌, ◌≤◌, ◌+◌, ◌++◌, ◌∙◌, ℕ, Bool, true, false, Option, Some, None, List, [], ◌∷◌, length, get_or, slice_get, take, drop, suc, arith, refl, sym, ap, add-one, append_assoc}
+use Rattle.std.proofs.Common.{◌≡◌, ◌<◌, ◌+◌, ◌++◌, ◌∙◌, ℕ, Bool, true, false, Some, List, [], ◌∷◌, length, get_or, slice_get, take, drop, arith, refl, sym, ap, add-one, append_assoc}
 use Rattle.std.proofs.Math.Seq.{take-suc}
 use Rattle.std.proofs.lemmas.Option.{slice_get-get_or}
 use Rattle.frame_core.specs.declared.cell.Cell.{Cell}
-use Rattle.op_leaf.specs.Readers.{flag_front}
 use Rattle.op_leaf.specs.Stores.{shown}
 
 -- a cell more of a chunk

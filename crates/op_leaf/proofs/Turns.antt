@@ -1,5 +1,5 @@
 -- Remainders, one step further.
-use Rattle.std.proofs.Common.{◌≡◌, ◌<◌, ◌+◌, ◌-◌, ◌*◌, ◌%◌, ◌∙◌, ℕ, zero, suc, not, min, true, false, nat_eq, if◌then◌else◌, arith, refl, sym, ap, add-one}
+use Rattle.std.proofs.Common.{◌≡◌, ◌<◌, ◌+◌, ◌-◌, ◌*◌, ◌%◌, ◌∙◌, ℕ, suc, not, min, true, false, nat_eq, if◌then◌else◌, arith, refl, sym, ap}
 use Rattle.std.proofs.Math.Nat.{mod-add-mod, mod-eq_of_lt, mod_self, suc-mul}
 use Rattle.std.proofs.lemmas.Bool.Decides.{nat_tests}
 

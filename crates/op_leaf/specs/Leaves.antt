@@ -1,5 +1,5 @@
 -- The slot of a leaf at a position: at a position p it gave p cells.
-use Rattle.std.specs.Prelude.{◌<◌, Bool, true, false, Option, Some, None, List, [], ◌∷◌, ℕ, ℤ, pos, negsuc, ◌-◌, ◌*◌, ◌%◌, nat_eq, nat_lt, map, length, sum_by, slice_index_or, if◌then◌else◌, unsigned_abs}
+use Rattle.std.specs.Prelude.{◌<◌, Bool, true, false, Some, None, List, [], ◌∷◌, ℕ, ℤ, pos, negsuc, ◌-◌, ◌*◌, ◌%◌, nat_eq, nat_lt, map, length, sum_by, slice_index_or, if◌then◌else◌, unsigned_abs}
 use Rattle.liq_base.specs.declared.memory.Kind.{Kind}
 use Rattle.liq_base.specs.declared.memory.Kind.TheVariants.{Mono, Stereo}
 use Rattle.fixed_text.specs.declared.decimal.Decimal.{Decimal}

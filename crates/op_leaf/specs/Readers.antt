@@ -1,5 +1,5 @@
 -- The reader of a buffer: the cells that it holds, and whether it plays.
-use Rattle.std.specs.Prelude.{Bool, true, false, not, Option, Some, None, List, [], ◌∷◌, ◌++◌, ℕ, ◌-◌, length, drop, nat_lt, nat_le, if◌then◌else◌}
+use Rattle.std.specs.Prelude.{Bool, true, false, Option, Some, None, List, [], ◌∷◌, ◌++◌, ℕ, ◌-◌, length, drop, nat_lt, nat_le, if◌then◌else◌}
 use Rattle.frame_core.specs.declared.cell.Cell.{Cell}
 use Rattle.frame_core.specs.Slots.{Slot}
 

@@ -1,6 +1,6 @@
 -- The position that a leaf's state stands for. No position is kept: it may grow without end.
-use Rattle.std.specs.Prelude.{◌≡◌, ◌<◌, ◌≤◌, Bool, true, false, not, ℕ, List, ◌+◌, ◌*◌, ◌%◌, min, nat_eq, length, take, slice_index_or, if◌then◌else◌, unsigned_abs}
-use Rattle.frame_core.specs.Sounds.{Sound, length_of}
+use Rattle.std.specs.Prelude.{◌≡◌, ◌<◌, not, ℕ, ◌+◌, ◌*◌, ◌%◌, min, nat_eq, length, take, if◌then◌else◌, unsigned_abs}
+use Rattle.frame_core.specs.Sounds.{length_of}
 use Rattle.frame_core.specs.Library.{Sounds, tracks_of, sound_at}
 use Rattle.op_leaf.specs.declared.files.Files.{Files}
 use Rattle.op_leaf.specs.declared.blank.Blank.{Blank}

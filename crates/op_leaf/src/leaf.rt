@@ -15,10 +15,16 @@ use liq_base::Kind;
 #[derive(Clone, Copy, Debug, PartialEq, Eq)]
 pub enum Leaf {
     /// The audio files of a node, in a source of this kind: once, or again and again.
-    Files { node: u32, again: bool, kind: Kind },
+    Files {
+        node: u32,
+        again: bool,
+        kind: Kind,
+    },
 
     /// Zeros in tracks of this many samples; 0 is one track without end.
-    Blank { track: u64 },
+    Blank {
+        track: u64,
+    },
 
     /// A square wave of this many periods a second, at this many samples a second, which is above 0.
     Square {

@@ -55,7 +55,11 @@ impl ReaderState {
         ensures wants { result ≡ wants self.now }
         ensures ends { result ≡ true → 0 < missing self.now }
     {
-        let wanted = if self.playing { self.frame } else { self.prefill };
+        let wanted = if self.playing {
+            self.frame
+        } else {
+            self.prefill
+        };
         self.ring.len() < wanted
     }
 

@@ -7,6 +7,7 @@ use frame_core::Cell;
 use liq_base::Kind;
 
 const HEIGHT: i16 = 8192;
+
 const MILLION: u64 = 1_000_000;
 
 /// A square wave between two instants.

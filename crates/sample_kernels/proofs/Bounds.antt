@@ -9,7 +9,7 @@ use borrow.Author.Differences.{up, down, fits_out}
 use mir.Val.{to_z, of_z}
 use lib.Signed.{◌<ℤ◌}
 
-neg_parts : (k : ℕ) → (up (neg_ℤ (pos k)) ≡ 0) × (down (neg_ℤ (pos k)) ≡ k)
+pub neg_parts : (k : ℕ) → (up (neg_ℤ (pos k)) ≡ 0) × (down (neg_ℤ (pos k)) ≡ k)
 neg_parts zero = (refl, refl)
 neg_parts (suc k) = (refl, refl)
 

@@ -1,15 +1,10 @@
 -- The mean of samples is a sample.
-use Rattle.std.proofs.Common.{zero, suc, refl, ◌≡◌, ◌<◌, ◌*◌, ℕ, ℤ, pos, ◌+ℤ◌, neg_ℤ, arith, w16, w32, Fits, FitsSigned, to_z, of_z}
+use Rattle.std.proofs.Common.{◌≡◌, ◌<◌, ◌*◌, ℕ, ℤ, pos, ◌+ℤ◌, arith, w16, w32, Fits, FitsSigned, to_z, of_z}
 use Rattle.std.specs.Prelude.{int_div}
 use Rattle.std.proofs.lemmas.Int.{quot_is, quot_fits, ints}
 use Rattle.sample_kernels.specs.Samples.{IsSumOf}
-use Rattle.sample_kernels.proofs.Bounds.{quotient}
-use borrow.Author.Differences.{up, down}
+use Rattle.sample_kernels.proofs.Bounds.{neg_parts, quotient}
 use lib.Signed.{◌<ℤ◌}
-
-neg_parts : (k : ℕ) → (up (neg_ℤ (pos k)) ≡ 0) × (down (neg_ℤ (pos k)) ≡ k)
-neg_parts zero = (refl, refl)
-neg_parts (suc k) = (refl, refl)
 
 pub mean_fits : (sum : ℤ) (parts : ℕ) → 0 < parts → IsSumOf parts sum → FitsSigned w16 (int_div sum (pos parts))
 mean_fits sum parts some is =

@@ -25,10 +25,10 @@ depth_unique w j k p q =
     elim (cases_lt j k) [
       | inl less ↦ absurd (q.first j less p.here)
       | inr most ↦
-        elim (cases_lt k j) [
-          | inl less ↦ absurd (p.first k less q.here)
-          | inr least ↦ omega (arith, most, least)
-        ]
+          elim (cases_lt k j) [
+            | inl less ↦ absurd (p.first k less q.here)
+            | inr least ↦ omega (arith, most, least)
+          ]
     ]
 
 -- there is one fault

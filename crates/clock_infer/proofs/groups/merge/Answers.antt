@@ -1,4 +1,4 @@
-use Rattle.std.proofs.Common.{◌≡◌, ◌≤◌, ℕ, arith}
+use Rattle.std.proofs.Common.{◌≤◌, arith}
 use Rattle.clock_infer.proofs.Merging.{renamed_part, merged_first, merged_second, renamed_own}
 use Rattle.std.specs.Prelude.{slice_index}
 use Rattle.clock_infer.proofs.groups.merge.Goals as goal

@@ -1,4 +1,4 @@
-use Rattle.std.proofs.Common.{◌≡◌, List, ℕ, take, sym, subst}
+use Rattle.std.proofs.Common.{List, ℕ, take, sym, subst}
 use Rattle.clock_infer.specs.Groups.{AreBelow}
 use Rattle.clock_infer.proofs.Merging.{merged_all_below}
 use Rattle.clock_infer.proofs.groups.merge_children.Goals as goal

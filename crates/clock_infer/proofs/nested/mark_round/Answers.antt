@@ -1,5 +1,5 @@
-use Rattle.std.proofs.Common.{◌≡◌, ℕ, length, Some, None, sym, ap, ◌∙◌, rules, arith}
-use Rattle.clock_infer.specs.Walks.{up_at, mark_at}
+use Rattle.std.proofs.Common.{rules, arith}
+use Rattle.clock_infer.specs.Walks.{up_at}
 use Rattle.clock_infer.proofs.Climbing.{rounding_more}
 use Rattle.clock_infer.proofs.nested.mark_round.Goals as goal
 

@@ -1,4 +1,4 @@
-use Rattle.std.proofs.Common.{◌≡◌, ◌<◌, ℕ, length}
+use Rattle.std.proofs.Common.{◌<◌, length}
 use Rattle.std.specs.List.{count_by}
 use Rattle.clock_infer.specs.Walks.{up_at, IsRounding, is_open}
 use Rattle.clock_infer.proofs.nested.mark_round.Given as goal

@@ -2,4 +2,4 @@ use Rattle.script_parse.proofs.Only.{fault_unique}
 use Rattle.script_parse.proofs.law.one_fault.Goals as goal
 
 pub returns : goal.returns
-returns c = fault_unique
+returns c = record { one = fault_unique }

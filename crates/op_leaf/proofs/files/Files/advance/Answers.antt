@@ -1,8 +1,8 @@
-use Rattle.std.proofs.Common.{◌≡◌, true, false, ◌<◌, ◌≤◌, ◌+◌, ◌∙◌, ℕ, Option, Some, None, IsSome, ap, sym, subst, length, get_or, arith}
+use Rattle.std.proofs.Common.{◌≡◌, true, false, ◌<◌, ◌≤◌, ◌+◌, ◌∙◌, Option, Some, None, IsSome, ap, sym, subst, length, get_or, arith}
 use Rattle.frame_core.specs.declared.cell.Cell.{Cell}
 use Rattle.frame_core.specs.Sounds.{cell_of, length_of}
 use Rattle.frame_core.specs.Library.{no_sound, sound_at, tracks_of}
-use Rattle.op_leaf.specs.Leaves.{files_slot, sounds_of}
+use Rattle.op_leaf.specs.Leaves.{sounds_of}
 use Rattle.op_leaf.proofs.Cursors.{files-here, files-over, later-here, later-next, length-sounds, some_samples, sounds-at}
 use Rattle.op_leaf.proofs.files.Files.advance.Goals as goal
 

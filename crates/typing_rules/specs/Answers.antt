@@ -1,0 +1,49 @@
+-- The answers of inference: the uses of a script that has a typing, or the first fault.
+use Rattle.std.specs.Prelude.{◌≡◌, ℕ, ◌-◌, List, [], ◌∷◌, Option, Some, None, map, ⊤}
+use Rattle.script_grammar.specs.Tree.{Script, Tree, ADef}
+use Rattle.typing_rules.specs.declared.uses.Use.{Use}
+use Rattle.typing_rules.specs.declared.fault.TypeFault.{TypeFault}
+use Rattle.typing_rules.specs.declared.fault.TypeFault.TheVariants as fault
+use Rattle.typing_rules.specs.Scoping.{target_in, meanings_of}
+use Rattle.typing_rules.specs.declared.fault.NameFault.{NameFault}
+use Rattle.typing_rules.specs.NameFaults.{first_fault, in_statement}
+use Rattle.typing_rules.specs.Scripts.{Entry, Places, IsTypedTo, HasTyping, IsClash, first_of}
+use Rattle.typing_rules.specs.Kinds.{said, target_at, read, blocks, IsLess, IsNumbered, IsOpen, Stands}
+
+-- a typing with what the uses say, which is what evaluation needs
+abbrev pub IsTypedScript : Script → List Use → Type 0
+IsTypedScript script uses = (es : List Entry) × IsTypedTo (target_at uses) (read [] uses) [] script es
+
+pub record IsTyped (script : Script) (uses : List Use) : Type 0 where
+  -- all names and arguments match, and there is one use for each name, in the order of the tokens
+  pub names : first_fault 1 [] script ≡ None
+  pub targets : map said uses ≡ meanings_of script
+  -- the kinds of the uses are those of a typing, and the least
+  pub entries : List Entry
+  pub typing : IsTypedTo (target_at uses) (read [] uses) [] script entries
+  pub least : (kinds : Places) (es : List Entry) → IsTypedTo (target_at uses) kinds [] script es → IsLess (blocks [] script) (read [] uses) kinds
+  -- the open kinds of defs
+  pub numbered : IsNumbered (blocks [] script) uses
+  pub opened : (d : Tree ADef) (before : List Entry) → Stands entries d before → IsOpen (blocks [] script) uses before d
+
+-- a fault of names, in the first statement that has any fault
+pub record IsNameFault (script : Script) (f : TypeFault) : Type 0 where
+  pub stmt : ℕ
+  pub inside : NameFault
+  pub first : first_fault 1 [] script ≡ Some (stmt, inside)
+  pub told : f ≡ in_statement stmt inside
+  pub before : HasTyping (target_in (meanings_of script)) (first_of (stmt - 1) script)
+
+-- a clash of types, in the first statement that has any fault
+pub record IsTypeClash (script : Script) (n : ℕ) : Type 0 where
+  pub names : first_fault 1 [] (first_of n script) ≡ None
+  pub clash : IsClash script n
+
+abbrev pub IsTypeFault : Script → TypeFault → Type 0
+IsTypeFault script (fault.UnknownName n at) = IsNameFault script (fault.UnknownName n at)
+IsTypeFault script (fault.MissingArgument n at label) = IsNameFault script (fault.MissingArgument n at label)
+IsTypeFault script (fault.ExtraArgument n at) = IsNameFault script (fault.ExtraArgument n at)
+IsTypeFault script (fault.RepeatedName n at) = IsNameFault script (fault.RepeatedName n at)
+IsTypeFault script (fault.TypeClash n) = IsTypeClash script n
+-- memory may be refused at any script
+IsTypeFault script fault.Memory = ⊤

@@ -1,0 +1,87 @@
+-- Parameters, and which of them takes which argument.
+use Rattle.std.specs.Prelude.{◌≡◌, ℕ, List, [], ◌∷◌, Option, Some, None, option_map, ⊤, cond, Bool, true, false, bytes_eq}
+use Rattle.typing_rules.specs.declared.form.Form.{Form}
+use Rattle.typing_rules.specs.declared.form.Form.TheVariants.{InPlace, ByLabel, Perhaps}
+use Rattle.script_grammar.specs.Tree.{Tree, Many, none, more, AParam, Param, Labelled, Optional}
+
+pub record Parameter : Type 0 where
+  pub name : List ℕ
+  pub form : Form
+
+-- an argument as its label and what is known of it: its token, its type or its value
+abbrev pub Given : Type 0 → Type 0
+Given T = Option (List ℕ) × T
+
+abbrev pub label_by : List ℕ → Form → Option (List ℕ)
+label_by name InPlace = None
+label_by name ByLabel = Some name
+label_by name Perhaps = Some name
+
+-- the label of a parameter's argument, if it has one
+abbrev pub label_of : Parameter → Option (List ℕ)
+label_of p = label_by p.name p.form
+
+abbrev pub is_label : Option (List ℕ) → Option (List ℕ) → Bool
+is_label None None = true
+is_label None (Some b) = false
+is_label (Some a) None = false
+is_label (Some a) (Some b) = bytes_eq a b
+
+abbrev pub after : {T : Type 0} → Given T → Option (T × List (Given T)) → Option (T × List (Given T))
+after g None = None
+after g (Some x) = Some (x.0, g ∷ x.1)
+
+-- the first argument with this label, or the first without one, and the others
+abbrev pub argument : {T : Type 0} → Option (List ℕ) → List (Given T) → Option (T × List (Given T))
+argument label [] = None
+argument label (g ∷ gs) = cond (is_label label g.0) (Some (g.1, gs)) (after g (argument label gs))
+
+abbrev pub others : {T : Type 0} → List (Given T) → Option (T × List (Given T)) → List (Given T)
+others gs None = gs
+others gs (Some x) = x.1
+
+-- the arguments that no parameter takes
+abbrev pub left_over : {T : Type 0} → List Parameter → List (Given T) → List (Given T)
+left_over [] gs = gs
+left_over (p ∷ ps) gs = left_over ps (others gs (argument (label_of p) gs))
+
+abbrev pub is_needed : Form → Bool
+is_needed InPlace = true
+is_needed ByLabel = true
+is_needed Perhaps = false
+
+abbrev pub missing_or : {T : Type 0} → Parameter → Option (T × List (Given T)) → Option (List ℕ) → Option (List ℕ)
+missing_or p (Some x) later = later
+missing_or p None later = cond (is_needed p.form) (Some p.name) later
+
+-- the first parameter that must have an argument and finds none
+abbrev pub first_missing : {T : Type 0} → List Parameter → List (Given T) → Option (List ℕ)
+first_missing [] gs = None
+first_missing (p ∷ ps) gs = missing_or p (argument (label_of p) gs) (first_missing ps (others gs (argument (label_of p) gs)))
+
+-- what each parameter takes, if it takes an argument
+abbrev pub taken : {T : Type 0} → List Parameter → List (Given T) → List (Option T)
+taken [] gs = []
+taken (p ∷ ps) gs = option_map (λ x. x.0) (argument (label_of p) gs) ∷ taken ps (others gs (argument (label_of p) gs))
+
+-- what is taken is what stands in its place; what is not may be any
+abbrev pub Fits : {T : Type 0} → List (Option T) → List T → Type 0
+Fits [] [] = ⊤
+Fits [] (t ∷ ts) = ⊥
+Fits (o ∷ os) [] = ⊥
+Fits (None ∷ os) (t ∷ ts) = Fits os ts
+Fits (Some x ∷ os) (t ∷ ts) = (x ≡ t) × Fits os ts
+
+-- Arguments match parameters that stand for these: none is missing, and none is left over.
+abbrev pub Matched : {T : Type 0} → List Parameter → List (Given T) → List T → Type 0
+Matched ps gs ts = (first_missing ps gs ≡ None) × (left_over ps gs ≡ []) × Fits (taken ps gs) ts
+
+-- the parameters of a def
+abbrev pub parameter_of : Tree AParam → Parameter
+parameter_of (Param at name) = record { name = name; form = InPlace }
+parameter_of (Labelled at name) = record { name = name; form = ByLabel }
+parameter_of (Optional at name default) = record { name = name; form = Perhaps }
+
+abbrev pub parameters_of : Tree (Many AParam) → List Parameter
+parameters_of none = []
+parameters_of (more p ps) = parameter_of p ∷ parameters_of ps

@@ -1,0 +1,10 @@
+pub mod Uses
+pub mod Arguments
+pub mod Table
+pub mod Scoping
+pub mod NameFaults
+pub mod Typing
+pub mod Scripts
+pub mod Kinds
+pub mod Answers
+pub mod Defs

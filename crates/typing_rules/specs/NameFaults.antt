@@ -1,0 +1,101 @@
+-- The faults of names and arguments, and which of them is told.
+use Rattle.std.specs.Prelude.{◌≡◌, ℕ, ◌+◌, List, [], ◌∷◌, ◌++◌, map, Option, Some, None, option_map, cond, Bool, true, false, bytes_eq, nat_eq, nat_le, Contains}
+use Rattle.script_grammar.specs.Tree.{Tree, Many, none, more, AParam, AStmt, Param, Labelled, Optional, Stmt, BindPart, DefPart, CallPart, IfPart, Def, Script}
+use Rattle.typing_rules.specs.declared.uses.Target.{Target}
+use Rattle.typing_rules.specs.declared.fault.NameFault.{NameFault}
+use Rattle.typing_rules.specs.declared.fault.NameFault.TheVariants.{Unknown, Missing, Extra, Repeated}
+use Rattle.typing_rules.specs.declared.fault.TypeFault.{TypeFault}
+use Rattle.typing_rules.specs.declared.fault.TypeFault.TheVariants as fault
+use Rattle.typing_rules.specs.Arguments.{Parameter, Given, left_over, first_missing}
+use Rattle.typing_rules.specs.Scoping.{Name, Scope, names, with_statement}
+
+-- what orders the faults of a statement
+abbrev pub token : NameFault → ℕ
+token (Unknown at) = at
+token (Missing at label) = at
+token (Extra at) = at
+token (Repeated at) = at
+
+abbrev pub number : NameFault → ℕ
+number (Unknown at) = 1
+number (Missing at label) = 2
+number (Extra at) = 3
+number (Repeated at) = 4
+
+abbrev pub missing_at : ℕ → Option (List ℕ) → List NameFault
+missing_at at None = []
+missing_at at (Some label) = Missing at label ∷ []
+
+-- the faults of one name that is used
+abbrev pub faults_as : ℕ → Option (Target × List Parameter) → List (Given ℕ) → List NameFault
+faults_as at None given = Unknown at ∷ []
+faults_as at (Some x) given = missing_at at (first_missing x.1 given) ++ map (λ g. Extra g.1) (left_over x.1 given)
+
+abbrev pub all_faults : List Name → List NameFault
+all_faults [] = []
+all_faults (n ∷ ns) = faults_as n.at n.meant n.given ++ all_faults ns
+
+-- parameters of a name that an earlier parameter has
+abbrev pub name_of : Tree AParam → List ℕ
+name_of (Param at name) = name
+name_of (Labelled at name) = name
+name_of (Optional at name d) = name
+
+abbrev pub token_of : Tree AParam → ℕ
+token_of (Param at name) = at
+token_of (Labelled at name) = at
+token_of (Optional at name d) = at
+
+abbrev pub is_among : List ℕ → List (List ℕ) → Bool
+is_among name [] = false
+is_among name (n ∷ ns) = cond (bytes_eq name n) true (is_among name ns)
+
+abbrev pub repeated_at : ℕ → Bool → List NameFault
+repeated_at at true = Repeated at ∷ []
+repeated_at at false = []
+
+abbrev pub repeats : List (List ℕ) → Tree (Many AParam) → List NameFault
+repeats earlier none = []
+repeats earlier (more p ps) = repeated_at (token_of p) (is_among (name_of p) earlier) ++ repeats (earlier ++ name_of p ∷ []) ps
+
+abbrev pub repeats_in : Tree AStmt → List NameFault
+repeats_in (Stmt (DefPart (Def at name ps equals is e)) semicolon) = repeats [] ps
+repeats_in (Stmt (BindPart b) semicolon) = []
+repeats_in (Stmt (CallPart c) semicolon) = []
+repeats_in (Stmt (IfPart i) semicolon) = []
+
+-- all faults of names in a statement
+abbrev pub faults_in : Scope → Tree AStmt → List NameFault
+faults_in sc s = repeats_in s ++ all_faults (names sc s)
+
+-- by the token, then by the number
+abbrev pub is_before : NameFault → NameFault → Bool
+is_before f g = cond (nat_eq (token f) (token g)) (nat_le (number f) (number g)) (nat_le (token f) (token g))
+
+abbrev pub earlier : NameFault → Option NameFault → NameFault
+earlier f None = f
+earlier f (Some g) = cond (is_before f g) f g
+
+-- the one that is told
+abbrev pub told : List NameFault → Option NameFault
+told [] = None
+told (f ∷ fs) = Some (earlier f (told fs))
+
+abbrev pub in_statement : ℕ → NameFault → TypeFault
+in_statement n (Unknown at) = fault.UnknownName n at
+in_statement n (Missing at label) = fault.MissingArgument n at label
+in_statement n (Extra at) = fault.ExtraArgument n at
+in_statement n (Repeated at) = fault.RepeatedName n at
+
+abbrev pub or_later : ℕ → Option NameFault → Option (ℕ × NameFault) → Option (ℕ × NameFault)
+or_later n None later = later
+or_later n (Some f) later = Some (n, f)
+
+-- the first statement that has such a fault, and the one that is told, where the first statement has this number
+abbrev pub first_fault : ℕ → Scope → Script → Option (ℕ × NameFault)
+first_fault n sc none = None
+first_fault n sc (more s rest) = or_later n (told (faults_in sc s)) (first_fault (n + 1) (with_statement s sc) rest)
+
+-- the first fault of names of a script, as it is told
+abbrev pub first_told : Script → Option TypeFault
+first_told script = option_map (λ x. in_statement x.0 x.1) (first_fault 1 [] script)

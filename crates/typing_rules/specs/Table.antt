@@ -1,0 +1,114 @@
+-- The builtins, as one table: the parameters with their types, and the type of a call.
+use Rattle.std.specs.Prelude.{◌≡◌, ℕ, zero, suc, List, [], ◌∷◌, ◌++◌, map, Option, Some, None, cond, bytes_eq, codes}
+use Rattle.liq_base.specs.declared.memory.Kind.{Kind}
+use Rattle.liq_base.specs.declared.memory.Kind.TheVariants.{Mono, Stereo}
+use Rattle.type_terms.specs.Ground.{Ground, Assignment}
+use Rattle.type_terms.specs.Term.{Term, base_term, list_term, tuple_term, source_term, variable, no_terms, one_more, meaning}
+use Rattle.type_terms.specs.declared.ty.Base.TheVariants as base
+use Rattle.type_terms.specs.declared.ty.KindTerm.TheVariants.{Fixed, Var}
+use Rattle.typing_rules.specs.declared.uses.Builtin.{Builtin}
+use Rattle.typing_rules.specs.declared.uses.Builtin.TheVariants as builtin
+use Rattle.typing_rules.specs.declared.form.Form.TheVariants.{InPlace, Perhaps}
+use Rattle.typing_rules.specs.Arguments.{Parameter, Given, Matched}
+
+-- a parameter and its type
+abbrev pub TypedParameter : Type 0
+TypedParameter = Parameter × Term
+
+-- The types are over variables of the row's own, from 0: so many type variables, and so many kind variables, which are the open kinds.
+pub record Signature : Type 0 where
+  pub params : List TypedParameter
+  pub result : Term
+  pub types : ℕ
+  pub kinds : ℕ
+
+abbrev pub plain : List ℕ → Term → TypedParameter
+plain name t = (record { name = name; form = InPlace }, t)
+
+abbrev pub labelled : List ℕ → Term → TypedParameter
+labelled name t = (record { name = name; form = Perhaps }, t)
+
+abbrev pub text : Term
+text = base_term base.Text
+
+abbrev pub bool : Term
+bool = base_term base.Bool
+
+abbrev pub decimal : Term
+decimal = base_term base.Decimal
+
+abbrev pub unit : Term
+unit = base_term base.Unit
+
+-- a source of the open kind
+abbrev pub source_k : Term
+source_k = source_term (Var 0)
+
+abbrev pub id_param : TypedParameter
+id_param = labelled (codes "id") text
+
+-- a source call with one open kind
+abbrev pub source_call : List TypedParameter → Signature
+source_call params = record { params = id_param ∷ params; result = source_k; types = 0; kinds = 1 }
+
+abbrev pub sources_param : TypedParameter
+sources_param = plain (codes "sources") (list_term source_k)
+
+abbrev pub source_param : TypedParameter
+source_param = plain (codes "s") source_k
+
+abbrev pub pair : Term → Term → Term
+pair t u = tuple_term (one_more t (one_more u no_terms))
+
+abbrev pub signature : Builtin → Signature
+signature builtin.OutputFile = record { params = id_param ∷ labelled (codes "fallible") bool ∷ plain (codes "format") (base_term base.Format) ∷ plain (codes "name") text ∷ source_param ∷ []; result = unit; types = 0; kinds = 1 }
+signature builtin.Set = record { params = plain (codes "key") text ∷ plain (codes "value") (variable 0) ∷ []; result = unit; types = 1; kinds = 0 }
+signature builtin.Single = source_call (plain (codes "file") text ∷ [])
+signature builtin.Playlist = source_call (labelled (codes "loop") bool ∷ labelled (codes "mode") text ∷ plain (codes "file") text ∷ [])
+signature builtin.Blank = source_call (labelled (codes "duration") decimal ∷ [])
+signature builtin.Square = source_call (plain (codes "f") decimal ∷ [])
+signature builtin.Fail = source_call []
+signature builtin.Fallback = source_call (labelled (codes "track_sensitive") bool ∷ sources_param ∷ [])
+signature builtin.Switch = source_call (labelled (codes "track_sensitive") bool ∷ plain (codes "pairs") (list_term (pair (base_term base.Pred) source_k)) ∷ [])
+signature builtin.Sequence = source_call (sources_param ∷ [])
+signature builtin.Add = source_call (labelled (codes "normalize") bool ∷ sources_param ∷ [])
+signature builtin.Amplify = source_call (plain (codes "k") decimal ∷ source_param ∷ [])
+signature builtin.Mean = record { params = id_param ∷ plain (codes "s") (source_term (Fixed Stereo)) ∷ []; result = source_term (Fixed Mono); types = 0; kinds = 0 }
+signature builtin.Stereo = record { params = id_param ∷ plain (codes "s") (source_term (Fixed Mono)) ∷ []; result = source_term (Fixed Stereo); types = 0; kinds = 0 }
+signature builtin.Crossfade = source_call (labelled (codes "duration") decimal ∷ source_param ∷ [])
+signature builtin.Mksafe = source_call (source_param ∷ [])
+signature builtin.Buffer = source_call (labelled (codes "buffer") decimal ∷ labelled (codes "max") decimal ∷ source_param ∷ [])
+signature builtin.Clock = source_call (source_param ∷ [])
+
+-- the builtins by their names
+abbrev pub builtin_names : List (List ℕ × Builtin)
+builtin_names =
+    (codes "output.file", builtin.OutputFile) ∷ (codes "set", builtin.Set) ∷ (codes "single", builtin.Single)
+    ∷ (codes "playlist", builtin.Playlist) ∷ (codes "blank", builtin.Blank) ∷ (codes "square", builtin.Square)
+    ∷ (codes "fail", builtin.Fail) ∷ (codes "fallback", builtin.Fallback) ∷ (codes "switch", builtin.Switch)
+    ∷ (codes "sequence", builtin.Sequence) ∷ (codes "add", builtin.Add) ∷ (codes "amplify", builtin.Amplify)
+    ∷ (codes "mean", builtin.Mean) ∷ (codes "stereo", builtin.Stereo) ∷ (codes "crossfade", builtin.Crossfade)
+    ∷ (codes "mksafe", builtin.Mksafe) ∷ (codes "buffer", builtin.Buffer) ∷ (codes "clock", builtin.Clock) ∷ []
+
+abbrev pub named_in : List ℕ → List (List ℕ × Builtin) → Option Builtin
+named_in name [] = None
+named_in name (b ∷ bs) = cond (bytes_eq name b.0) (Some b.1) (named_in name bs)
+
+abbrev pub builtin_named : List ℕ → Option Builtin
+builtin_named name = named_in name builtin_names
+
+abbrev pub params_of : Builtin → List Parameter
+params_of b = map (λ p. p.0) (signature b).params
+
+abbrev pub first_kinds : (ℕ → Kind) → ℕ → List Kind
+first_kinds f zero = []
+first_kinds f (suc n) = first_kinds f n ++ f n ∷ []
+
+-- A call of the builtin with arguments of these types and with these open kinds may have the type g. Each call may read the row's variables anew.
+pub record IsCallOf (b : Builtin) (gs : List (Given Ground)) (ks : List Kind) (g : Ground) : Type 0 where
+  pub types : List Ground
+  pub matched : Matched (params_of b) gs types
+  pub at : Assignment
+  pub params : map (λ p. meaning at p.1) (signature b).params ≡ types
+  pub result : meaning at (signature b).result ≡ g
+  pub kinds : first_kinds at.kind_of (signature b).kinds ≡ ks

@@ -1,0 +1,135 @@
+-- Which types without variables an expression may have, by cases on the tree. Names and calls are read by their tokens.
+use Rattle.std.specs.Prelude.{◌≡◌, ℕ, List, [], ◌∷◌, ◌++◌, Bool, true, false, Option, Some, None, cond, nat_eq, ⊤}
+use Rattle.liq_base.specs.declared.memory.Kind.{Kind}
+use Rattle.script_grammar.specs.declared.tree.Literal.{Literal}
+use Rattle.script_grammar.specs.declared.tree.Literal.TheVariants as literal
+use Rattle.script_grammar.specs.Tree.{Sort, Tree, Many, AParam, AnInner, AnArg, AFull, ADef, none, more, Bind, Def, Inner, Param, Labelled, Optional, Negative, Plain, Expr, And, Not, Alone, Compared, Sum, Added, Product, Multiplied, Constant, Quoted, Truth, Named, Called, Chosen, Nothing, Paren, Tuple, Listed, Braces, Format, Call, Arg, If}
+use Rattle.type_terms.specs.Ground.{Ground, Grounds, base_type, list, tuple, source, IsNumber}
+use Rattle.type_terms.specs.Ground as ground
+use Rattle.type_terms.specs.declared.ty.Base.TheVariants as base
+use Rattle.typing_rules.specs.declared.uses.Builtin.{Builtin}
+use Rattle.typing_rules.specs.declared.uses.Target.{Target}
+use Rattle.typing_rules.specs.declared.uses.Target.TheVariants as target
+use Rattle.typing_rules.specs.Arguments.{Given}
+use Rattle.typing_rules.specs.Table.{IsCallOf}
+
+-- types of bindings by their tokens
+abbrev pub Types : Type 0
+Types = List (ℕ × Ground)
+
+-- What is known where an expression stands: what the name at a token means, the type of the binding at a token, the kinds
+-- of the use at a token, and what a call may be: the token of the call, that of the def, the arguments' types and the result's.
+pub record Sight : Type 1 where
+  pub target : ℕ → Option Target
+  pub types : Types
+  pub kinds : ℕ → Option (List Kind)
+  pub call : ℕ → ℕ → List (Given Ground) → Ground → Type 0
+
+abbrev pub truth : Ground
+truth = base_type base.Bool
+
+abbrev pub literal_type : Literal → Ground
+literal_type (literal.Int n) = base_type base.Int
+literal_type (literal.Number d) = base_type base.Decimal
+
+abbrev pub type_at : ℕ → Types → Option Ground
+type_at t [] = None
+type_at t (b ∷ bs) = cond (nat_eq b.0 t) (Some b.1) (type_at t bs)
+
+-- a name outside a call
+abbrev pub NameHas : Sight → Option Target → Ground → Type 0
+NameHas s (Some (target.Slot t)) g = type_at t s.types ≡ Some g
+NameHas s (Some (target.Def t)) g = ⊥
+NameHas s (Some (target.Builtin b)) g = ⊥
+NameHas s None g = ⊥
+
+-- a call of what its name means, at a token
+abbrev pub Applied : Sight → ℕ → Option Target → List (Given Ground) → Ground → Type 0
+Applied s at (Some (target.Slot t)) gs g = ⊥
+Applied s at (Some (target.Def t)) gs g = (ks : List Kind) × (s.kinds at ≡ Some ks) × s.call at t gs g
+Applied s at (Some (target.Builtin b)) gs g = (ks : List Kind) × (s.kinds at ≡ Some ks) × IsCallOf b gs ks g
+Applied s at None gs g = ⊥
+
+-- where there are further operands
+abbrev pub IfAny : {s : Sort} → Tree (Many s) → Type 0 → Type 0
+IfAny none P = ⊤
+IfAny (more x xs) P = P
+
+-- a tree has a type; each of a list has one type; each has its own; arguments have types
+abbrev mutual
+  pub Has : {s : Sort} → Sight → Tree s → Ground → Type 0
+  Has s (Negative at n) g = g ≡ literal_type n
+  Has s (Plain e) g = Has s e g
+  Has s (Expr first rest) g = Has s first g × EachHas s rest g × IfAny rest (g ≡ truth)
+  Has s (And first rest) g = Has s first g × EachHas s rest g × IfAny rest (g ≡ truth)
+  Has s (Not true inner) g = (g ≡ truth) × Has s inner truth
+  Has s (Not false inner) g = Has s inner g
+  Has s (Alone left) g = Has s left g
+  Has s (Compared left at o right) g = (g ≡ truth) × ((h : Ground) × IsNumber h × Has s left h × Has s right h)
+  Has s (Sum first rest) g = Has s first g × EachHas s rest g × IfAny rest (IsNumber g)
+  Has s (Added at minus p) g = Has s p g
+  Has s (Product first rest) g = Has s first g × EachHas s rest g × IfAny rest (IsNumber g)
+  Has s (Multiplied at divide p) g = Has s p g
+  Has s (Constant at n) g = g ≡ literal_type n
+  Has s (Quoted at text) g = g ≡ base_type base.Text
+  Has s (Truth at b) g = g ≡ truth
+  Has s (Named at name) g = NameHas s (s.target at) g
+  Has s (Called c) g = Has s c g
+  Has s (Chosen i) g = Has s i g
+  Has s (Nothing at) g = g ≡ base_type base.Unit
+  Has s (Paren f) g = Has s f g
+  Has s (Tuple at f h rest) g = (t : Ground) × (u : Ground) × (ts : Grounds) × (g ≡ tuple (ground.more t (ground.more u ts))) × Has s f t × Has s h u × HaveAll s rest ts
+  Has s (Listed at parts) g = (t : Ground) × (g ≡ list t) × EachHas s parts t
+  Has s (Braces at pred) g = g ≡ base_type base.Pred
+  Has s (Format at size) g = g ≡ base_type base.Format
+  Has s (Call at name args) g = (gs : List (Given Ground)) × AreGiven s args gs × Applied s at (s.target at) gs g
+  Has s (If at c t e) g = Has s c truth × Has s t g × Has s e g
+  -- nothing else is an expression
+  Has s t g = ⊥
+
+  pub EachHas : {s : Sort} → Sight → Tree (Many s) → Ground → Type 0
+  EachHas s none g = ⊤
+  EachHas s (more x xs) g = Has s x g × EachHas s xs g
+
+  pub HaveAll : Sight → Tree (Many AFull) → Grounds → Type 0
+  HaveAll s none ts = ts ≡ ground.no_more
+  HaveAll s (more f rest) ts = (t : Ground) × (us : Grounds) × (ts ≡ ground.more t us) × Has s f t × HaveAll s rest us
+
+  pub AreGiven : Sight → Tree (Many AnArg) → List (Given Ground) → Type 0
+  AreGiven s none gs = gs ≡ []
+  AreGiven s (more (Arg at label f) rest) gs = (t : Ground) × (us : List (Given Ground)) × (gs ≡ (label, t) ∷ us) × Has s f t × AreGiven s rest us
+
+-- the same with bindings of a def before the others
+abbrev pub within : Types → Sight → Sight
+within us s = record s { types = us ++ s.types }
+
+-- the parameters' types by their tokens
+abbrev pub token_of : Tree AParam → ℕ
+token_of (Param at name) = at
+token_of (Labelled at name) = at
+token_of (Optional at name d) = at
+
+abbrev pub typed_params : Tree (Many AParam) → List Ground → Types
+typed_params none ts = []
+typed_params (more p ps) [] = []
+typed_params (more p ps) (t ∷ ts) = (token_of p, t) ∷ typed_params ps ts
+
+-- each parameter has a type, and each default has that of its parameter
+abbrev pub DefaultHas : Sight → Tree AParam → Ground → Type 0
+DefaultHas s (Param at name) t = ⊤
+DefaultHas s (Labelled at name) t = ⊤
+DefaultHas s (Optional at name d) t = Has s d t
+
+abbrev pub DefaultsHave : Sight → Tree (Many AParam) → List Ground → Type 0
+DefaultsHave s none ts = ts ≡ []
+DefaultsHave s (more p ps) [] = ⊥
+DefaultsHave s (more p ps) (t ∷ ts) = DefaultHas s p t × DefaultsHave s ps ts
+
+-- inner bindings, each behind the ones before it
+abbrev pub InnersHave : Sight → Tree (Many AnInner) → Types → Types → Type 0
+InnersHave s none us vs = vs ≡ us
+InnersHave s (more (Inner (Bind at name f) semicolon) is) us vs = (t : Ground) × Has (within us s) f t × InnersHave s is (us ++ (at, t) ∷ []) vs
+
+-- A def with parameters of these types has the type g. Its defaults are seen without its bindings.
+abbrev pub DefHas : Sight → Tree ADef → List Ground → Ground → Type 0
+DefHas s (Def at name ps equals is e) ts g = DefaultsHave s ps ts × ((us : Types) × InnersHave s is (typed_params ps ts) us × Has (within us s) e g)

@@ -1,0 +1,64 @@
+// The uses of the names of a script.
+ghost use Rattle.std.specs.Prelude.{◌≡◌, option_map};
+ghost use Rattle.typing_rules.specs.Uses.{use_at};
+
+use crate::use_kinds::UseKinds;
+use liq_base::Kind;
+
+/// What a name token stands for, and the kinds that its use fixes.
+#[derive(Drop)]
+pub struct Use {
+    pub at: u32,
+    pub target: Target,
+    pub kinds: UseKinds,
+}
+
+/// A binding or a def by the token of the name that it binds, or a builtin.
+#[derive(Clone, Copy, Debug, PartialEq, Eq)]
+pub enum Target {
+    Slot(u32),
+    Def(u32),
+    Builtin(Builtin),
+}
+
+/// A kind, or an open kind of the def around the use.
+#[derive(Clone, Copy, Debug, PartialEq, Eq)]
+pub enum KindOf {
+    Fixed(Kind),
+    Given(u64),
+}
+
+/// The builtin calls.
+#[derive(Clone, Copy, Debug, PartialEq, Eq)]
+pub enum Builtin {
+    OutputFile,
+    Set,
+    Single,
+    Playlist,
+    Blank,
+    Square,
+    Fail,
+    Fallback,
+    Switch,
+    Sequence,
+    Add,
+    Amplify,
+    Mean,
+    Stereo,
+    Crossfade,
+    Mksafe,
+    Buffer,
+    Clock,
+}
+
+/// The use that stands for the name at this token.
+pub fn use_at(uses: &[Use], at: u32) -> Option<&Use>
+    ensures { option_map (λ u. u.now) result ≡ use_at at uses.now }
+{
+    for one in uses {
+        if one.at == at {
+            return Some(one);
+        }
+    }
+    None
+}
