@@ -13,7 +13,7 @@ use Rattle.frame_core.specs.Slots.{Slot}
 use Rattle.op_cross.specs.Runs.{item_of}
 use Rattle.op_leaf.specs.Leaves.{leaf_slot}
 use Rattle.op_leaf.specs.Readers.{Answer, Reader, after_cell, at_start, reader_slot, takes_of}
-use Rattle.op_select.specs.declared.picked.Picked.{Picked}
+use Rattle.op_select.specs.declared.rule.Picked.{Picked}
 use Rattle.op_select.specs.Selection.{pick_of, picked}
 use Rattle.stream_meaning.specs.Arithmetic.{mix_slot}
 use Rattle.stream_meaning.specs.Operators.{Work, Plays, Picks, Mixes, Fades, Reads, work_of, marks_at}
