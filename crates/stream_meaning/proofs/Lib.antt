@@ -1,3 +1,8 @@
 pub mod Ranks
 pub mod Existence
 pub mod Calling
+pub mod Marks
+pub mod Choosing
+pub mod Crossed
+pub mod Offering
+pub mod Unfailing
