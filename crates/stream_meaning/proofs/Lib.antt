@@ -6,3 +6,6 @@ pub mod Choosing
 pub mod Crossed
 pub mod Offering
 pub mod Unfailing
+mod Plans
+mod Rows
+mod CallRows
