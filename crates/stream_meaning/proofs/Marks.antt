@@ -1,5 +1,5 @@
 -- What the marks of children say of their slots.
-use Rattle.std.proofs.Common.{◌≡◌, ◌<◌, ◌-◌, ℕ, zero, suc, Some, None, List, [], ◌∷◌, length, map, slice_get, Bool, true, false, arith, refl, ap}
+use Rattle.std.proofs.Common.{◌≡◌, ◌<◌, ◌-◌, ℕ, zero, suc, Some, None, List, [], ◌∷◌, length, map, slice_get, Bool, true, false, arith, refl}
 use Rattle.std.specs.Prelude.{IsSome, ⊤, slice_index_or, ◌&&◌, ◌||◌, replicate}
 use Rattle.std.specs.List.{list_any, zip}
 use Rattle.std.specs.Option.{option_map_or}

@@ -49,7 +49,7 @@ length_mapped f (x ∷ xs) = ap suc (length_mapped f xs)
 pub op_offers : (setting : Setting) (sub : ℕ → ℕ → List Slot) (past : List Moment) (i : ℕ) (kind : Kind) (op : Op) (children : List ℕ) (mark : ℕ → Bool) (slot : ℕ → Slot)
     → Offered setting sub past i op children mark slot → infallible_by mark op children ≡ true
     → IsSome (part_by setting sub past i (work_of setting.plan.rate i kind op) (map slot children)).slot
-op_offers setting sub past i kind (Single file) children mark slot is so = 
+op_offers setting sub past i kind (Single file) children mark slot is so =
     let one = is.single file refl in
     let count = length-sounds setting.library i in
     single_some (sounds_of setting.library i) kind _ (omega (arith, one.0, count))
