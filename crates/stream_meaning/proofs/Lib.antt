@@ -1,0 +1,11 @@
+pub mod Ranks
+pub mod Existence
+pub mod Calling
+pub mod Marks
+pub mod Choosing
+pub mod Crossed
+pub mod Offering
+pub mod Unfailing
+mod Plans
+mod Rows
+mod CallRows

@@ -1,0 +1,110 @@
+-- The calls that a tick of a main clock makes of its buffers.
+use Rattle.std.specs.Prelude.{Bool, true, false, Option, Some, None, List, [], ◌∷◌, ◌++◌, ℕ, zero, suc, ◌+◌, ◌-◌, ◌*◌, ◌%◌, length, map, nat_eq, slice_get, if◌then◌else◌}
+use Rattle.std.specs.List.{flat_map}
+use Rattle.frame_core.specs.declared.cell.Cell.{Cell}
+use Rattle.plan_core.specs.declared.node.Node.{Node}
+use Rattle.plan_core.specs.declared.sink.SinkPlan.{SinkPlan}
+use Rattle.plan_core.specs.declared.sink.SinkPlan.TheVariants.{Output, Feed}
+use Rattle.clock_infer.specs.declared.clock_map.NodeClock.{NodeClock}
+use Rattle.clock_infer.specs.declared.clock_map.NodeClock.TheVariants.{Main, Sub}
+use Rattle.frame_core.specs.Slots.{Slot}
+use Rattle.frame_core.specs.Calls.{Call, Took, Given}
+use Rattle.op_cross.specs.Runs.{run_of}
+use Rattle.op_leaf.specs.Readers.{Answer, takes_of}
+use Rattle.stream_meaning.specs.Operators.{Work, Plays, Picks, Mixes, Fades, Reads}
+use Rattle.stream_meaning.specs.Instants.{Setting, Moment, lies_in, position, next_answers, reading_after, work_at, history, sub_of}
+use Rattle.stream_meaning.specs.Sinks.{feed_cells}
+
+-- the calls of 0 to n - 1, one after another
+abbrev pub joined_upto : (ℕ → List Call) → ℕ → List Call
+joined_upto calls zero = []
+joined_upto calls (suc n) = joined_upto calls n ++ calls n
+
+-- those of `from` to `to - 1`
+abbrev pub joined_between : (ℕ → List Call) → (from to : ℕ) → List Call
+joined_between calls from to = joined_upto (λ j. calls (from + j)) (to - from)
+
+-- what a reader takes where its clock begins a tick after these instants
+abbrev pub takes_by : Setting → List Moment → ℕ → Work → List Call
+takes_by setting past i (Plays leaf) = []
+takes_by setting past i (Picks rule eligible) = []
+takes_by setting past i (Mixes mixing) = []
+takes_by setting past i (Fades overlap) = []
+takes_by setting past i (Reads buffer) =
+    let reading = reading_after setting i buffer past in
+    map (Took buffer) (takes_of (next_answers (setting.answers buffer) reading) reading.reader)
+
+abbrev pub takes_in : Setting → Bool → List Moment → ℕ → Option Node → List Call
+takes_in setting inside past i None = []
+takes_in setting false past i (Some node) = []
+takes_in setting true past i (Some node) = takes_by setting past i (work_at setting i node)
+
+-- the takes of a clock's readers before the instant after these, in node order
+abbrev pub takes_at : Setting → NodeClock → List Moment → List Call
+takes_at setting clock past =
+    if nat_eq (length past % setting.plan.frame) 0
+    then joined_upto (λ i. takes_in setting (lies_in setting clock i) past i (slice_get setting.plan.nodes i)) (length setting.plan.nodes)
+    else []
+
+-- how many instants the sub-clock of crossfade k has made by the end of these instants of its clock
+abbrev pub ran_by : (sub : ℕ → ℕ → List Slot) → (k overlap : ℕ) → List Moment → ℕ
+ran_by sub k overlap [] = 0
+ran_by sub k overlap (moment ∷ past) = run_of overlap (sub k) (position past k)
+
+-- the calls of the instants that a crossfade's sub-clock makes at the instant after these; `below k m` are those of its instant m
+abbrev pub fades_by : (sub : ℕ → ℕ → List Slot) → (below : ℕ → ℕ → List Call) → List Moment → ℕ → Work → List Call
+fades_by sub below past k (Plays leaf) = []
+fades_by sub below past k (Picks rule eligible) = []
+fades_by sub below past k (Mixes mixing) = []
+fades_by sub below past k (Fades overlap) = joined_between (below k) (ran_by sub k overlap past) (run_of overlap (sub k) (position past k))
+fades_by sub below past k (Reads buffer) = []
+
+abbrev pub fades_in : Setting → (sub : ℕ → ℕ → List Slot) → (below : ℕ → ℕ → List Call) → Bool → List Moment → ℕ → Option Node → List Call
+fades_in setting sub below inside past k None = []
+fades_in setting sub below false past k (Some node) = []
+fades_in setting sub below true past k (Some node) = fades_by sub below past k (work_at setting k node)
+
+-- the calls of the instant of a clock after these: the takes of its readers, and then for each of its crossfades in node order
+-- those of the instants of its sub-clock, where sub-clocks nest less deep than this
+abbrev pub calls_at : Setting → (sub : ℕ → ℕ → List Slot) → (depth : ℕ) → NodeClock → List Moment → List Call
+calls_at setting sub zero clock past = []
+calls_at setting sub (suc depth) clock past =
+    takes_at setting clock past
+    ++ joined_upto (λ k. fades_in setting sub (λ j m. calls_at setting sub depth (Sub j) (history setting sub (Sub j) m))
+    (lies_in setting clock k) past k (slice_get setting.plan.nodes k)) (length setting.plan.nodes)
+
+-- the calls of the instant of a clock after these: sub-clocks nest no deeper than there are nodes
+abbrev pub calls_of : Setting → (sub : ℕ → ℕ → List Slot) → NodeClock → List Moment → List Call
+calls_of setting sub clock past = calls_at setting sub (suc (length setting.plan.nodes)) clock past
+
+abbrev pub given : (buffer : ℕ) → List Cell → Bool → List Call
+given buffer [] accepted = []
+given buffer (cell ∷ cells) accepted = Given buffer (cell ∷ cells) accepted ∷ []
+
+-- what a sink gives at the end of tick t of main clock m, where `accepted b` is the answer of buffer b
+abbrev pub give_by : Setting → (accepted : ℕ → Bool) → (m t : ℕ) → SinkPlan → List Call
+give_by setting accepted m t (Output name node fallible) = []
+give_by setting accepted m t (Feed buffer node) =
+    if lies_in setting (Main m) node then given buffer (feed_cells setting node t) (accepted buffer) else []
+
+abbrev pub gives_of_tick : Setting → (accepted : ℕ → Bool) → (m t : ℕ) → List Call
+gives_of_tick setting accepted m t = flat_map (give_by setting accepted m t) setting.plan.sinks
+
+abbrev pub takes_of_tick : Setting → (m t : ℕ) → List Call
+takes_of_tick setting m t = joined_upto
+    (λ j. calls_of setting (sub_of setting) (Main m) (history setting (sub_of setting) (Main m) (t * setting.plan.frame + j)))
+    setting.plan.frame
+
+-- the calls of tick t of main clock m
+abbrev pub calls_of_tick : Setting → (accepted : ℕ → Bool) → (m t : ℕ) → List Call
+calls_of_tick setting accepted m t = takes_of_tick setting m t ++ gives_of_tick setting accepted m t
+
+-- the answers that were got for a buffer in these calls
+abbrev pub answers_in : ℕ → List Call → List Answer
+answers_in buffer [] = []
+answers_in buffer (Took other answer ∷ calls) = if nat_eq other buffer then answer ∷ answers_in buffer calls else answers_in buffer calls
+answers_in buffer (Given other cells accepted ∷ calls) = answers_in buffer calls
+
+-- answers, and behind them those of these calls
+abbrev pub after_calls : (ℕ → List Answer) → List Call → ℕ → List Answer
+after_calls answers calls buffer = answers buffer ++ answers_in buffer calls

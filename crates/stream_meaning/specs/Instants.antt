@@ -1,0 +1,254 @@
+-- The instants of a clock: what each of its nodes offers and uses, which nodes are demanded, which give. An instant is made
+-- from those before it, the latest first, and from the slots of the sub-clocks of its crossfades.
+use Rattle.std.specs.Prelude.{◌≡◌, Bool, true, false, not, ◌&&◌, ◌||◌, Option, Some, None, List, [], ◌∷◌, ◌++◌, ℕ, zero, suc, ◌+◌, ◌/◌, ◌%◌, length, map, max, drop, nat_eq, is_some, if◌then◌else◌, slice_get, slice_index_or}
+use Rattle.std.specs.List.{list_any}
+use Rattle.std.specs.Option.{option_map_or}
+use Rattle.frame_core.specs.Library.{Sounds}
+use Rattle.plan_core.specs.declared.node.Node.{Node}
+use Rattle.plan_core.specs.declared.plan.Plan.{Plan}
+use Rattle.plan_core.specs.Plans.{sink_node}
+use Rattle.clock_infer.specs.declared.clock_map.NodeClock.{NodeClock}
+use Rattle.clock_infer.specs.declared.clock_map.NodeClock.TheVariants.{Main, Sub}
+use Rattle.frame_core.specs.Slots.{Slot}
+use Rattle.op_cross.specs.Runs.{item_of}
+use Rattle.op_leaf.specs.Leaves.{leaf_slot}
+use Rattle.op_leaf.specs.Readers.{Answer, Reader, after_cell, at_start, reader_slot, takes_of}
+use Rattle.op_select.specs.declared.rule.Picked.{Picked}
+use Rattle.op_select.specs.Selection.{pick_of, picked}
+use Rattle.stream_meaning.specs.Arithmetic.{mix_slot}
+use Rattle.stream_meaning.specs.Operators.{Work, Plays, Picks, Mixes, Fades, Reads, work_of, marks_at}
+
+-- what is the same at all instants: the plan, its audio files, the clock of each node, the start second, and the answers
+-- that are given for each buffer
+pub record Setting : Type 0 where
+  pub plan : Plan
+  pub library : Sounds
+  pub clocks : List NodeClock
+  pub start : ℕ
+  pub answers : ℕ → List Answer
+
+-- the same with other answers
+abbrev pub answered : Setting → (ℕ → List Answer) → Setting
+answered setting answers = record { plan = setting.plan; library = setting.library; clocks = setting.clocks; start = setting.start; answers = answers }
+
+abbrev pub clock_of : Setting → ℕ → NodeClock
+clock_of setting i = slice_index_or setting.clocks i (Main 0)
+
+abbrev pub same_clock : NodeClock → NodeClock → Bool
+same_clock (Main m) (Main n) = nat_eq m n
+same_clock (Main m) (Sub k) = false
+same_clock (Sub j) (Main m) = false
+same_clock (Sub j) (Sub k) = nat_eq j k
+
+abbrev pub lies_in : Setting → NodeClock → ℕ → Bool
+lies_in setting clock i = same_clock (clock_of setting i) clock
+
+-- the second of the week of an instant
+abbrev pub second_at : Setting → ℕ → ℕ
+second_at setting n = (setting.start + n / setting.plan.rate) % 604800
+
+abbrev pub prefill : Setting → ℕ → ℕ
+prefill setting buffer = option_map_or (λ plan. plan.pre) (slice_get setting.plan.buffers buffer) 0
+
+-- what a node does at an instant: its slot, and the place of the child that it uses, where it selects
+pub record Part : Type 0 where
+  pub slot : Slot
+  pub pick : Option ℕ
+
+-- a reader, and how many answers of its buffer it has taken
+pub record Reading : Type 0 where
+  pub reader : Reader
+  pub taken : ℕ
+
+-- one instant of a clock: each node's part, and whether it is demanded
+pub record Moment : Type 0 where
+  pub parts : List Part
+  pub demands : List Bool
+
+abbrev pub silent : Part
+silent = record { slot = None; pick = None }
+
+abbrev pub part_at : List Part → ℕ → Part
+part_at parts i = slice_index_or parts i silent
+
+-- what node i offers at an instant
+abbrev pub offer : Moment → ℕ → Slot
+offer moment i = (part_at moment.parts i).slot
+
+-- a sink, a crossfade or a demanded parent uses node i
+abbrev pub demanded : Moment → ℕ → Bool
+demanded moment i = slice_index_or moment.demands i false
+
+-- it is demanded and offers a cell
+abbrev pub gives : Moment → ℕ → Bool
+gives moment i = demanded moment i && is_some (offer moment i)
+
+-- at how many of these instants node i gave
+abbrev pub count : List Moment → ℕ → ℕ
+count [] i = 0
+count (moment ∷ past) i = if gives moment i then suc (count past i) else count past i
+
+-- the child that a selection used when it last gave
+abbrev pub last_pick : List Moment → ℕ → Option ℕ
+last_pick [] i = None
+last_pick (moment ∷ past) i = if gives moment i then (part_at moment.parts i).pick else last_pick past i
+
+-- the item of crossfade i: it has gone on where it gave, and where its item was empty
+abbrev pub position : List Moment → ℕ → ℕ
+position [] i = 0
+position (moment ∷ past) i = if gives moment i || not (is_some (offer moment i)) then suc (position past i) else position past i
+
+-- a reader before the first instant of its clock
+abbrev pub new_reading : Setting → (buffer : ℕ) → Reading
+new_reading setting buffer = record {
+  reader = record { cells = []; playing = false; prefill = max 1 (prefill setting buffer); frame = setting.plan.frame };
+  taken = 0;
+}
+
+-- the answers that are its next ones
+abbrev pub next_answers : List Answer → Reading → List Answer
+next_answers answers reading = drop reading.taken answers
+
+-- a reader at the start of a tick
+abbrev pub started : List Answer → Reading → Reading
+started answers reading = record {
+  reader = at_start (next_answers answers reading) reading.reader;
+  taken = reading.taken + length (takes_of (next_answers answers reading) reading.reader);
+}
+
+-- a reader at an instant, where `before` is the reader that the instant before left
+abbrev pub reading_at : Setting → (buffer instant : ℕ) → Reading → Reading
+reading_at setting buffer instant before =
+    if nat_eq (instant % setting.plan.frame) 0 then started (setting.answers buffer) before else before
+
+-- a reader behind an instant at which it gave, or did not
+abbrev pub read_on : Bool → Reading → Reading
+read_on gave reading = if gave then record reading { reader = after_cell reading.reader } else reading
+
+-- a reader after these instants
+abbrev pub reading_after : Setting → (i buffer : ℕ) → List Moment → Reading
+reading_after setting i buffer [] = new_reading setting buffer
+reading_after setting i buffer (moment ∷ past) =
+    read_on (gives moment i) (reading_at setting buffer (length past) (reading_after setting i buffer past))
+
+abbrev pub slots_at : List Part → List ℕ → List Slot
+slots_at parts children = map (λ child. (part_at parts child).slot) children
+
+abbrev pub unpicked : Slot → Part
+unpicked slot = record { slot = slot; pick = None }
+
+-- the cell that a selection picked, and its child
+abbrev pub picked_part : Option Picked → Part
+picked_part None = silent
+picked_part (Some picked) = record { slot = Some picked.cell; pick = Some picked.child }
+
+-- what node i offers and picks, over its children's slots; `sub k m` are the first m slots of crossfade k's child
+abbrev pub part_by : Setting → (sub : ℕ → ℕ → List Slot) → List Moment → ℕ → Work → List Slot → Part
+part_by setting sub past i (Plays leaf) slots = unpicked (leaf_slot setting.library leaf (count past i))
+part_by setting sub past i (Picks rule eligible) slots =
+    picked_part (picked slots (last_pick past i)
+    (pick_of rule slots (marks_at eligible (second_at setting (length past)) (length slots)) (last_pick past i)))
+part_by setting sub past i (Mixes mixing) slots = unpicked (mix_slot mixing slots)
+part_by setting sub past i (Fades overlap) slots = unpicked (item_of overlap (sub i) (position past i))
+part_by setting sub past i (Reads buffer) slots =
+    unpicked (reader_slot (reading_at setting buffer (length past) (reading_after setting i buffer past)).reader)
+
+abbrev pub work_at : Setting → ℕ → Node → Work
+work_at setting i node = work_of setting.plan.rate i node.kind node.op
+
+-- the part of node i, over those of the nodes before it; a node outside the clock offers nothing
+abbrev pub part_in : Setting → (sub : ℕ → ℕ → List Slot) → Bool → List Moment → ℕ → Option Node → List Part → Part
+part_in setting sub inside past i None before = silent
+part_in setting sub false past i (Some node) before = silent
+part_in setting sub true past i (Some node) before = part_by setting sub past i (work_at setting i node) (slots_at before node.children)
+
+-- the parts of the first n nodes
+abbrev pub parts_upto : Setting → (sub : ℕ → ℕ → List Slot) → NodeClock → List Moment → ℕ → List Part
+parts_upto setting sub clock past zero = []
+parts_upto setting sub clock past (suc i) =
+    let before = parts_upto setting sub clock past i in
+    before ++ part_in setting sub (lies_in setting clock i) past i (slice_get setting.plan.nodes i) before ∷ []
+
+-- the child at a place
+abbrev pub child_at : List ℕ → Option ℕ → List ℕ
+child_at children None = []
+child_at children (Some place) = option_map_or (λ child. child ∷ []) (slice_get children place) []
+
+-- the children that offer
+abbrev pub offering : List Part → List ℕ → List ℕ
+offering parts [] = []
+offering parts (child ∷ children) =
+    if is_some (part_at parts child).slot then child ∷ offering parts children else offering parts children
+
+-- the children that a node uses
+abbrev pub uses_by : List Part → Work → List ℕ → (pick : Option ℕ) → List ℕ
+uses_by parts (Plays leaf) children pick = []
+uses_by parts (Picks rule eligible) children pick = child_at children pick
+uses_by parts (Mixes mixing) children pick = offering parts children
+uses_by parts (Fades overlap) children pick = []
+uses_by parts (Reads buffer) children pick = []
+
+-- what each of these nodes uses, from node i on
+abbrev pub uses_from : Setting → List Part → ℕ → List Node → List (List ℕ)
+uses_from setting parts i [] = []
+uses_from setting parts i (node ∷ nodes) =
+    uses_by parts (work_at setting i node) node.children (part_at parts i).pick ∷ uses_from setting parts (suc i) nodes
+
+-- one of these nodes is demanded and uses node i
+abbrev pub is_used : List Bool → List (List ℕ) → ℕ → Bool
+is_used [] uses i = false
+is_used (demand ∷ demands) [] i = false
+is_used (demand ∷ demands) (used ∷ uses) i = (demand && list_any (nat_eq i) used) || is_used demands uses i
+
+-- of these nodes, from node i on, those that are demanded: the roots, and what a later one that is demanded uses
+abbrev pub demands_from : (ℕ → Bool) → ℕ → List (List ℕ) → List Bool
+demands_from roots i [] = []
+demands_from roots i (used ∷ uses) =
+    let later = demands_from roots (suc i) uses in (roots i || is_used later uses i) ∷ later
+
+-- the child of a crossfade
+abbrev pub crossfaded : List Node → ℕ → ℕ
+crossfaded nodes k = option_map_or (λ node. slice_index_or node.children 0 0) (slice_get nodes k) 0
+
+-- demanded of itself: in a main clock the node of a sink, in a sub-clock the crossfade's child
+abbrev pub is_root : Setting → NodeClock → ℕ → Bool
+is_root setting (Main m) i = list_any (λ sink. nat_eq (sink_node sink) i) setting.plan.sinks
+is_root setting (Sub k) i = nat_eq (crossfaded setting.plan.nodes k) i
+
+abbrev pub moment_of : Setting → NodeClock → List Part → Moment
+moment_of setting clock parts = record {
+  parts = parts;
+  demands = demands_from (λ i. lies_in setting clock i && is_root setting clock i) 0 (uses_from setting parts 0 setting.plan.nodes);
+}
+
+-- the instant of a clock after these
+abbrev pub moment_after : Setting → (sub : ℕ → ℕ → List Slot) → NodeClock → List Moment → Moment
+moment_after setting sub clock past = moment_of setting clock (parts_upto setting sub clock past (length setting.plan.nodes))
+
+-- the first n instants of a clock, the latest first
+abbrev pub history : Setting → (sub : ℕ → ℕ → List Slot) → NodeClock → ℕ → List Moment
+history setting sub clock zero = []
+history setting sub clock (suc n) =
+    let past = history setting sub clock n in moment_after setting sub clock past ∷ past
+
+-- the slots of node i at these instants, the earliest first
+abbrev pub slots_of : List Moment → ℕ → List Slot
+slots_of [] i = []
+slots_of (moment ∷ past) i = slots_of past i ++ offer moment i ∷ []
+
+-- `sub` is the meaning of the sub-clocks: the first m slots of each crossfade's child in the crossfade's own sub-clock
+abbrev pub IsMeaning : Setting → (sub : ℕ → ℕ → List Slot) → Type 0
+IsMeaning setting sub = (k m : ℕ) → sub k m ≡ slots_of (history setting sub (Sub k) m) (crossfaded setting.plan.nodes k)
+
+-- these slots, for sub-clocks that nest no deeper than this
+abbrev pub sub_within : Setting → (depth : ℕ) → ℕ → ℕ → List Slot
+sub_within setting zero k m = []
+sub_within setting (suc depth) k m = slots_of (history setting (sub_within setting depth) (Sub k) m) (crossfaded setting.plan.nodes k)
+
+-- the slots of the sub-clocks: they nest no deeper than there are nodes
+abbrev pub sub_of : Setting → ℕ → ℕ → List Slot
+sub_of setting = sub_within setting (suc (length setting.plan.nodes))
+
+-- the slot of node i at instant n of its clock
+abbrev pub stream_of : Setting → ℕ → ℕ → Slot
+stream_of setting i n = offer (moment_after setting (sub_of setting) (clock_of setting i) (history setting (sub_of setting) (clock_of setting i) n)) i

@@ -1,0 +1,20 @@
+-- A plan with all that its streams rest on.
+use Rattle.std.specs.Prelude.{◌≡◌, ◌<◌, Some, List, ℕ, length, slice_get}
+use Rattle.plan_core.specs.declared.node.Node.{Node}
+use Rattle.plan_core.specs.declared.node.Op.TheVariants.{Single}
+use Rattle.plan_core.specs.Plans.{IsWellFormed}
+use Rattle.frame_core.specs.Library.{IsLibrary, tracks_of}
+use Rattle.clock_infer.specs.declared.clock_map.ClockMap.{ClockMap}
+use Rattle.clock_infer.specs.Answers.{IsClockMap}
+use Rattle.stream_meaning.specs.Instants.{Setting}
+
+-- a well-formed plan with its clocks and its audio files: each `single` has one file
+pub record IsSetting (setting : Setting) (clocks : ClockMap) : Type 0 where
+  pub plan : IsWellFormed setting.plan
+  pub map : IsClockMap setting.plan clocks
+  pub each : setting.clocks ≡ clocks.of
+  pub library : IsLibrary setting.library
+  pub leaves : length setting.library.leaves ≡ length setting.plan.nodes
+  pub singles : (i : ℕ) (node : Node) (file : List ℕ) → slice_get setting.plan.nodes i ≡ Some node → node.op ≡ Single file
+      → length (tracks_of setting.library i) ≡ 1
+  pub start : setting.start < 604800

@@ -1,0 +1,34 @@
+// Laws of the meaning. Each is a contract of a function that does nothing.
+ghost use Rattle.std.specs.Prelude.{◌≡◌, ℕ, ◌<◌, ◌++◌, Bool, List, true, IsSome, length, slice_get};
+ghost use Rattle.clock_infer.specs.declared.clock_map.ClockMap.{ClockMap as Map};
+ghost use Rattle.clock_infer.specs.declared.clock_map.NodeClock.{NodeClock as Clock};
+ghost use Rattle.clock_infer.specs.declared.clock_map.NodeClock.TheVariants.{Sub as InSub};
+ghost use Rattle.fallible_infer.specs.Infallible.{IsMarking};
+ghost use Rattle.frame_core.specs.Slots.{Slot as TheSlot};
+ghost use Rattle.stream_meaning.specs.Instants.{Setting, Moment, IsMeaning, sub_of, stream_of, history, lies_in};
+ghost use Rattle.stream_meaning.specs.Calls.{calls_of, fades_in, joined_upto, takes_at};
+ghost use Rattle.stream_meaning.specs.Settings.{IsSetting};
+ghost use Rattle.stream_meaning.specs.Sinks.{gaps};
+
+/// The slots of the sub-clocks are there, however deep they nest.
+pub fn sub_clocks_have_slots()
+    ensures { (setting : Setting) (clocks : Map) → IsSetting setting clocks → IsMeaning setting (sub_of setting) }
+{}
+
+/// Whatever answers are given, an infallible node offers a cell at every instant of its clock, so an output of it has no
+/// gap.
+pub fn infallible_nodes_offer()
+    ensures cells { (setting : Setting) (clocks : Map) (mark : ℕ → Bool) (i n : ℕ) → IsSetting setting clocks
+        → IsMarking setting.plan.nodes mark → i < length setting.plan.nodes → mark i ≡ true
+        → IsSome (stream_of setting i n) }
+    ensures gaps { (setting : Setting) (clocks : Map) (mark : ℕ → Bool) (i ticks : ℕ) → IsSetting setting clocks
+        → IsMarking setting.plan.nodes mark → i < length setting.plan.nodes → mark i ≡ true
+        → gaps setting i ticks ≡ 0 }
+{}
+
+/// The calls of an instant are the takes of its clock's readers, and then those of the instants that its sub-clocks make.
+pub fn calls_go_by_sub_clocks()
+    ensures { (setting : Setting) (clocks : Map) → IsSetting setting clocks
+        → (sub : ℕ → ℕ → List TheSlot) (clock : Clock) (past : List Moment)
+        → calls_of setting sub clock past ≡ takes_at setting clock past ++ joined_upto (λ k. fades_in setting sub (λ j m. calls_of setting sub (InSub j) (history setting sub (InSub j) m)) (lies_in setting clock k) past k (slice_get setting.plan.nodes k)) (length setting.plan.nodes) }
+{}
