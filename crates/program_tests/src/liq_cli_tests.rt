@@ -179,7 +179,13 @@ fn a_failing_call_leaves_a_prefix_and_others_are_not_made(rt: HostRuntime) -> Re
         (Failing::Report, "render f 1", 4, Some(7100), "outp"),
         (Failing::ThirdRead, "render f 1", 0, Some(7100), REPORT),
         (Failing::SecondCreation, "render f 1", 0, Some(7100), REPORT),
-        (Failing::AppendBehindAll, "render f 1", 0, Some(7100), REPORT),
+        (
+            Failing::AppendBehindAll,
+            "render f 1",
+            0,
+            Some(7100),
+            REPORT,
+        ),
         (Failing::SecondClosing, "render f 1", 0, Some(7100), REPORT),
         (Failing::SecondReport, "render f 1", 0, Some(7100), REPORT),
     ] {
