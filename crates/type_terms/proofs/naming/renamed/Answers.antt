@@ -1,7 +1,4 @@
-use Rattle.std.proofs.Common.{◌∙◌, ap, IfOk}
-use Rattle.type_terms.specs.Ground.{Assignment}
-use Rattle.type_terms.specs.Naming.{behind, instance}
-use Rattle.type_terms.specs.Term.{meaning, term_of}
+use Rattle.type_terms.specs.Term.{term_of}
 use Rattle.type_terms.proofs.Renaming.{means_behind}
 use Rattle.type_terms.proofs.naming.renamed.Goals as goal
 
