@@ -4,6 +4,8 @@
 #[cfg(test)]
 mod audio_files_tests;
 #[cfg(test)]
+mod loading_tests;
+#[cfg(test)]
 mod op_leaf_tests;
 #[cfg(test)]
 mod read_wav_tests;

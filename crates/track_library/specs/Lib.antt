@@ -1,3 +1,4 @@
 pub mod Lists
 pub mod Walk
+pub mod Reads
 pub mod States

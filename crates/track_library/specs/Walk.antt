@@ -184,26 +184,26 @@ nothing_met = record { lists = []; heard = record { names = []; sounds = []; byt
 abbrev pub load_of : Rules → Files → List Node → Result Sounds LoadFault
 load_of rules files nodes = sounds_of (nodes_walked rules files nodes (Ok (nothing_met, [])))
 
--- why a step ends with this fault: a read that failed let the count of failed reads rise; memory may be refused
--- anywhere; every other fault is the one of the files, where they are told
-abbrev pub Ends : {X : Type 0} → Option Files → ℕ → ℕ → (Files → Result X LoadFault) → LoadFault → Type 0
-Ends told before after step (Missing name) = ForSome told (λ files. step files ≡ Err (Missing name))
-Ends told before after step (BadAudio name fault) = ForSome told (λ files. step files ≡ Err (BadAudio name fault))
-Ends told before after step (OtherRate name) = ForSome told (λ files. step files ≡ Err (OtherRate name))
-Ends told before after step (FileTooLarge name) = ForSome told (λ files. step files ≡ Err (FileTooLarge name))
-Ends told before after step AllTooLarge = ForSome told (λ files. step files ≡ Err AllTooLarge)
-Ends told before after step (ReadFault name) = Rose before after
-Ends told before after step Memory = ⊤
+-- why a step ends with this fault: a read that failed let the count of failed reads rise, and is one of those of the
+-- step; memory may be refused anywhere; every other fault is the one of the files, where they are told
+abbrev pub Ends : {X : Type 0} → Option Files → ℕ → ℕ → (Files → List ℕ → Type 0) → (Files → Result X LoadFault) → LoadFault → Type 0
+Ends told before after reads step (Missing name) = ForSome told (λ files. step files ≡ Err (Missing name))
+Ends told before after reads step (BadAudio name fault) = ForSome told (λ files. step files ≡ Err (BadAudio name fault))
+Ends told before after reads step (OtherRate name) = ForSome told (λ files. step files ≡ Err (OtherRate name))
+Ends told before after reads step (FileTooLarge name) = ForSome told (λ files. step files ≡ Err (FileTooLarge name))
+Ends told before after reads step AllTooLarge = ForSome told (λ files. step files ≡ Err AllTooLarge)
+Ends told before after reads step (ReadFault name) = Rose before after × ForSome told (λ files. reads files name)
+Ends told before after reads step Memory = ⊤
 
--- a read ends with these faults alone
-abbrev pub IsReading : ℕ → ℕ → LoadFault → Type 0
-IsReading before after (Missing name) = ⊥
-IsReading before after (BadAudio name fault) = ⊥
-IsReading before after (OtherRate name) = ⊥
-IsReading before after (FileTooLarge name) = ⊥
-IsReading before after AllTooLarge = ⊥
-IsReading before after (ReadFault name) = Rose before after
-IsReading before after Memory = ⊤
+-- the reading of a file ends with these faults alone
+abbrev pub IsReading : List ℕ → ℕ → ℕ → LoadFault → Type 0
+IsReading file before after (Missing name) = ⊥
+IsReading file before after (BadAudio name fault) = ⊥
+IsReading file before after (OtherRate name) = ⊥
+IsReading file before after (FileTooLarge name) = ⊥
+IsReading file before after AllTooLarge = ⊥
+IsReading file before after (ReadFault name) = Rose before after × (name ≡ file)
+IsReading file before after Memory = ⊤
 
 -- a step that reads nothing ends with its fault, or for want of memory
 abbrev pub EndsAt : {X : Type 0} → Result X LoadFault → LoadFault → Type 0

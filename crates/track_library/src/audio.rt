@@ -3,6 +3,7 @@ ghost use Rattle.std.specs.Prelude.{◌≡◌, ◌≤◌, ◌<◌, ◌+◌, ◌+
 ghost use Rattle.std.specs.Option.{ForSome};
 ghost use Rattle.frame_core.specs.Sounds.{IsSound};
 ghost use Rattle.track_library.specs.Walk.{Ends, EndsAt, first_use, use_audio, value_of};
+ghost use Rattle.track_library.specs.Reads.{FirstRead};
 ghost use Rattle.track_library.specs.States.{heard_of, Finds, IsHeard};
 
 use crate::fault::{LoadFault, Unusable};
@@ -103,7 +104,7 @@ impl AudioFiles {
         requires { IsHeard (heard_of self.old) }
         ensures used { IfOk result (λ found. ForSome (S.files shelf.old) (λ files. use_audio rules files (heard_of self.old) name.now ≡ Ok (heard_of self.new, found))) }
         ensures finds { IfOk result (λ found. Finds (heard_of self.old) (heard_of self.new) found) }
-        ensures fault { IfErr result (Ends (S.files shelf.old) (S.read_count shelf.old) (S.read_count shelf.new) (λ files. use_audio rules files (heard_of self.old) name.now)) }
+        ensures fault { IfErr result (Ends (S.files shelf.old) (S.read_count shelf.old) (S.read_count shelf.new) (λ _. FirstRead (heard_of self.old).names name.now) (λ files. use_audio rules files (heard_of self.old) name.now)) }
         ensures files { S.files shelf.new ≡ S.files shelf.old }
         ensures reads { S.read_count shelf.old ≤ S.read_count shelf.new }
         ensures writes { S.write_count shelf.old ≤ S.write_count shelf.new }

@@ -5,30 +5,38 @@ ghost use Rattle.track_library.specs.declared.fault.LoadFault.TheVariants as fau
 
 use liq_base::{Memory, Text};
 use std::alloc::{AllocError, AllocFailed, Global};
+use thiserror::Error;
 use wav_io::WavFault;
 
 /// Why the audio files of a plan are not loaded. The faults are numbered as they stand, and carry the name of a file.
-#[derive(Debug, Drop)]
+#[derive(Debug, Drop, Error)]
 pub enum LoadFault {
     /// Fault 1: the file is not there.
+    #[error("missing file {}", .0.as_str())]
     Missing(Text),
 
     /// Fault 2: the file is no WAV file that can be read.
+    #[error("bad audio {}: {}", .0.as_str(), .1)]
     BadAudio(Text, WavFault),
 
     /// Fault 3: the file's rate is not that of the script.
+    #[error("other rate {}", .0.as_str())]
     OtherRate(Text),
 
     /// Fault 4: the file, or the list, is longer than one may be.
+    #[error("too large {}", .0.as_str())]
     FileTooLarge(Text),
 
     /// Fault 5: the file does not fit beside the others.
+    #[error("too many bytes in all audio files")]
     AllTooLarge,
 
     /// The file could not be read.
+    #[error("failed to read {}", .0.as_str())]
     ReadFault(Text),
 
     /// Memory was refused.
+    #[error("out of memory")]
     Memory,
 }
 

@@ -2,6 +2,7 @@
 ghost use Rattle.std.specs.Prelude.{◌≡◌, ◌≤◌, ◌<◌, ◌++◌, ◌∷◌, [], length, Ok, None, IfOk, IfErr, OnOk};
 ghost use Rattle.std.specs.Option.{ForSome};
 ghost use Rattle.track_library.specs.Walk.{Ends, use_list, value_of};
+ghost use Rattle.track_library.specs.Reads.{FirstRead};
 ghost use Rattle.track_library.specs.States.{lists_of, names_at};
 
 use crate::fault::{LoadFault, fault_of};
@@ -28,7 +29,7 @@ impl ReadLists {
     ) -> Result<usize, LoadFault>
         ensures used { IfOk result (λ at. ForSome (S.files shelf.old) (λ files. use_list files (lists_of self.old) name.now ≡ Ok (lists_of self.new, names_at (lists_of self.new) at))) }
         ensures within { IfOk result (λ at. at < length (lists_of self.new)) }
-        ensures fault { IfErr result (Ends (S.files shelf.old) (S.read_count shelf.old) (S.read_count shelf.new) (λ files. use_list files (lists_of self.old) name.now)) }
+        ensures fault { IfErr result (Ends (S.files shelf.old) (S.read_count shelf.old) (S.read_count shelf.new) (λ _. FirstRead (lists_of self.old) name.now) (λ files. use_list files (lists_of self.old) name.now)) }
         ensures files { S.files shelf.new ≡ S.files shelf.old }
         ensures reads { S.read_count shelf.old ≤ S.read_count shelf.new }
         ensures writes { S.write_count shelf.old ≤ S.write_count shelf.new }

@@ -22,7 +22,7 @@ pub fn fetch<S: Shelf>(
     most: u64,
 ) -> Result<Result<Vec<u8>, Unusable>, LoadFault>
     ensures fetched { IfOk result (λ found. ForSome (S.files shelf.old) (λ files. bytes_in most (file_at files name.now) ≡ items_of found)) }
-    ensures fault { IfErr result (λ fault. IsReading (S.read_count shelf.old) (S.read_count shelf.new) fault) }
+    ensures fault { IfErr result (λ fault. IsReading name.now (S.read_count shelf.old) (S.read_count shelf.new) fault) }
     ensures files { S.files shelf.new ≡ S.files shelf.old }
     ensures reads { S.read_count shelf.old ≤ S.read_count shelf.new }
     ensures writes { S.write_count shelf.old ≤ S.write_count shelf.new }
@@ -67,7 +67,7 @@ pub fn read_audio<S: Shelf>(
 ) -> Result<Result<(Track, u64), Unusable>, LoadFault>
     ensures audio { IfOk result (λ found. ForSome (S.files shelf.old) (λ files. audio_at rules files name.now ≡ found)) }
     ensures sound { IfOk result (λ found. IfOk found (λ audio. IsSound audio.0)) }
-    ensures fault { IfErr result (λ fault. IsReading (S.read_count shelf.old) (S.read_count shelf.new) fault) }
+    ensures fault { IfErr result (λ fault. IsReading name.now (S.read_count shelf.old) (S.read_count shelf.new) fault) }
     ensures files { S.files shelf.new ≡ S.files shelf.old }
     ensures reads { S.read_count shelf.old ≤ S.read_count shelf.new }
     ensures writes { S.write_count shelf.old ≤ S.write_count shelf.new }

@@ -3,6 +3,7 @@ ghost use Rattle.std.specs.Prelude.{◌≡◌, ◌≤◌, ◌<◌, ◌^◌, [], 
 ghost use Rattle.std.specs.List.{All};
 ghost use Rattle.std.specs.Option.{ForSome};
 ghost use Rattle.track_library.specs.Walk.{Ends, entries_played, leaf_of, load_of, nothing_met, single_leaf, use_audio};
+ghost use Rattle.track_library.specs.Reads.{EntriesRead, FirstRead, LeafReads, LoadReads};
 ghost use Rattle.track_library.specs.States.{heard_of, IsHeard, Plays, walked_of, with_found};
 
 use crate::audio::AudioFiles;
@@ -32,7 +33,7 @@ fn find_single<S: Shelf>(
 ) -> Result<Vec<u32>, LoadFault>
     requires { IsHeard (heard_of audio.old) }
     ensures leaf { IfOk result (λ leaf. ForSome (S.files shelf.old) (λ files. single_leaf name.now (use_audio rules files (heard_of audio.old) name.now) ≡ Ok (heard_of audio.new, leaf.items))) }
-    ensures fault { IfErr result (Ends (S.files shelf.old) (S.read_count shelf.old) (S.read_count shelf.new) (λ files. single_leaf name.now (use_audio rules files (heard_of audio.old) name.now))) }
+    ensures fault { IfErr result (Ends (S.files shelf.old) (S.read_count shelf.old) (S.read_count shelf.new) (λ _. FirstRead (heard_of audio.old).names name.now) (λ files. single_leaf name.now (use_audio rules files (heard_of audio.old) name.now))) }
     ensures plays { IfOk result (λ leaf. Plays (heard_of audio.old) (heard_of audio.new) leaf.items) }
     ensures files { S.files shelf.new ≡ S.files shelf.old }
     ensures reads { S.read_count shelf.old ≤ S.read_count shelf.new }
@@ -68,7 +69,7 @@ fn play_entries<S: Shelf>(
 ) -> Result<Vec<u32>, LoadFault>
     requires { IsHeard (heard_of audio.old) }
     ensures leaf { IfOk result (λ leaf. ForSome (S.files shelf.old) (λ files. entries_played rules files names.now (Ok (heard_of audio.old, [])) ≡ Ok (heard_of audio.new, leaf.items))) }
-    ensures fault { IfErr result (Ends (S.files shelf.old) (S.read_count shelf.old) (S.read_count shelf.new) (λ files. entries_played rules files names.now (Ok (heard_of audio.old, [])))) }
+    ensures fault { IfErr result (Ends (S.files shelf.old) (S.read_count shelf.old) (S.read_count shelf.new) (λ files. EntriesRead rules files names.now (Ok (heard_of audio.old, []))) (λ files. entries_played rules files names.now (Ok (heard_of audio.old, [])))) }
     ensures plays { IfOk result (λ leaf. Plays (heard_of audio.old) (heard_of audio.new) leaf.items) }
     ensures files { S.files shelf.new ≡ S.files shelf.old }
     ensures reads { S.read_count shelf.old ≤ S.read_count shelf.new }
@@ -112,7 +113,7 @@ impl Walk {
     ) -> Result<Vec<u32>, LoadFault>
         requires { IsHeard (heard_of self.old.audio) }
         ensures leaf { IfOk result (λ leaf. ForSome (S.files shelf.old) (λ files. leaf_of rules files op.now (walked_of self.old) ≡ Ok (walked_of self.new, leaf.items))) }
-        ensures fault { IfErr result (Ends (S.files shelf.old) (S.read_count shelf.old) (S.read_count shelf.new) (λ files. leaf_of rules files op.now (walked_of self.old))) }
+        ensures fault { IfErr result (Ends (S.files shelf.old) (S.read_count shelf.old) (S.read_count shelf.new) (λ files. LeafReads rules files op.now (walked_of self.old)) (λ files. leaf_of rules files op.now (walked_of self.old))) }
         ensures plays { IfOk result (λ leaf. Plays (heard_of self.old.audio) (heard_of self.new.audio) leaf.items) }
         ensures files { S.files shelf.new ≡ S.files shelf.old }
         ensures reads { S.read_count shelf.old ≤ S.read_count shelf.new }
@@ -154,7 +155,9 @@ pub fn load<S: Shelf>(
 ) -> Result<Library, LoadFault>
     requires { sizes.file ≤ 268435456 }
     ensures loaded { IfOk result (λ library. ForSome (S.files shelf.old) (λ files. load_of (record { rate = plan.now.rate; file = sizes.file; all = sizes.all }) files plan.now.nodes ≡ Ok library)) }
+    ensures leaves { IfOk result (λ library. length library.leaves ≡ length plan.now.nodes) }
     ensures fault { IfErr result (Ends (S.files shelf.old) (S.read_count shelf.old) (S.read_count shelf.new)
+        (λ files. LoadReads (record { rate = plan.now.rate; file = sizes.file; all = sizes.all }) files plan.now.nodes)
         (λ files. load_of (record { rate = plan.now.rate; file = sizes.file; all = sizes.all }) files plan.now.nodes)) }
     ensures files { S.files shelf.new ≡ S.files shelf.old }
     ensures reads { S.read_count shelf.old ≤ S.read_count shelf.new }

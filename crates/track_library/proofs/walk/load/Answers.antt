@@ -1,12 +1,13 @@
-use Rattle.std.proofs.Common.{rules, arith, ◌≡◌, ◌∙◌, ◌+◌, ◌∷◌, ◌++◌, [], List, ℕ, ap, sym, subst, drop, map}
+use Rattle.std.proofs.Common.{rules, arith, length, length-append, ◌≡◌, ◌∙◌, ◌+◌, ◌∷◌, ◌++◌, [], List, ℕ, ap, sym, subst, drop, map}
 use Rattle.std.specs.Prelude.{Ok, Vec}
 use Rattle.std.specs.declared.alloc.Global.{Global}
 use Rattle.track_library.specs.Walk.{Ends, load_of, leaf_of, leaf_added, nodes_walked, sounds_of}
+use Rattle.track_library.specs.Reads.{LeafReads, LoadReads}
 use Rattle.track_library.specs.States.{heard_of, walked_of}
 use Rattle.track_library.specs.declared.rules.Rules.{Rules}
 use Rattle.track_library.proofs.Ending.{ends_through}
 use Rattle.track_library.proofs.Leaves.{LeavesSoFar, one_leaf_more}
-use Rattle.track_library.proofs.Steps.{next_node_of, nodes_end, items_pushed}
+use Rattle.track_library.proofs.Steps.{next_node_of, nodes_end, items_pushed, next_node_reads, later_node_reads}
 use Rattle.track_library.proofs.walk.load.Goals as goal
 
 pub returns-in_err-leaf-clause-fault : goal.returns-in_err-leaf-clause-fault
@@ -14,9 +15,12 @@ returns-in_err-leaf-clause-fault g c =
     let by : Rules = record { rate = c.args.plan.now.rate; file = c.args.sizes.file; all = c.args.sizes.all } in
     let leaves = map (λ (v : Vec ℕ Global). v.items) c.loop-node.leaves.items in
     let ends : Ends (g.S.Shelf.files c.args.shelf.now) (g.S.Shelf.read_count c.args.shelf.now) (g.S.Shelf.read_count c.find_leaf.new.shelf)
+    (λ files. LoadReads by files c.args.plan.now.nodes)
     (λ files. load_of by files c.args.plan.now.nodes) c.in_err-leaf.field-0.0 =
     ends_through (g.S.Shelf.files c.args.shelf.now) (g.S.Shelf.files c.loop-node.shelf) (g.S.Shelf.read_count c.args.shelf.now) (g.S.Shelf.read_count c.loop-node.shelf)
     (g.S.Shelf.read_count c.find_leaf.new.shelf) (g.S.Shelf.read_count c.find_leaf.new.shelf)
+    (λ files. LeafReads by files c.node-item.result.op (walked_of c.loop-node.walk))
+    (λ files. LoadReads by files c.args.plan.now.nodes)
     (λ files. leaf_of by files c.node-item.result.op (walked_of c.loop-node.walk))
     (λ files. load_of by files c.args.plan.now.nodes) c.in_err-leaf.field-0.0
     c.loop-node.invariant.0 c.loop-node.invariant.1 (omega arith)
@@ -27,6 +31,9 @@ returns-in_err-leaf-clause-fault g c =
     c.as_slice-node-items.ensures c.loop-node-test.true c.node-item.is
     ∙ ap (λ r. nodes_walked by files (drop (c.loop-node.node-index + 1) c.args.plan.now.nodes) (leaf_added leaves r)) h
     ∙ nodes_end by files (drop (c.loop-node.node-index + 1) c.args.plan.now.nodes) e))
+    (λ files t read h. c.loop-node.invariant.5 files t read
+    (next_node_reads by files c.as_slice-node-items.result.now c.args.plan.now.nodes c.loop-node.node-index (walked_of c.loop-node.walk) leaves c.node-item.result read
+    c.as_slice-node-items.ensures c.loop-node-test.true c.node-item.is h))
     c.in_err-leaf.ensures.fault in
     search rules
 
@@ -35,7 +42,8 @@ loop-node-preserved g c =
     let by : Rules = record { rate = c.args.plan.now.rate; file = c.args.sizes.file; all = c.args.sizes.all } in
     let leaves = map (λ (v : Vec ℕ Global). v.items) c.loop-node.leaves.items in
     let pushed : map (λ (v : Vec ℕ Global). v.items) c.push.new.self.items ≡ leaves ++ c.in_ok-leaf.leaf.items ∷ [] =
-    items_pushed c.loop-node.leaves.items c.push.new.self.items c.in_ok-leaf.leaf c.in_ok-push.ensures.items in (
+    items_pushed c.loop-node.leaves.items c.push.new.self.items c.in_ok-leaf.leaf c.in_ok-push.ensures.items in
+    let many : length (map (λ (v : Vec ℕ Global). v.items) c.push.new.self.items) ≡ length leaves + 1 = ap length pushed ∙ length-append leaves (c.in_ok-leaf.leaf.items ∷ []) in (
       c.in_ok-leaf.ensures.files ∙ c.loop-node.invariant.0,
       omega arith,
       omega arith,
@@ -47,4 +55,11 @@ loop-node-preserved g c =
           c.as_slice-node-items.ensures c.loop-node-test.true c.node-item.is
           ∙ ap (λ r. nodes_walked by files (drop (c.loop-node.node-index + 1) c.args.plan.now.nodes) (leaf_added leaves r)) (c.in_ok-leaf.ensures.leaf files (c.loop-node.invariant.0 ∙ t))
           ∙ ap (λ (ls : List (List ℕ)). nodes_walked by files (drop (c.loop-node.node-index + 1) c.args.plan.now.nodes) (Ok (walked_of c.find_leaf.new.self, ls))) (sym pushed),
+      λ files t read h.
+          c.loop-node.invariant.5 files t read
+          (later_node_reads by files c.as_slice-node-items.result.now c.args.plan.now.nodes c.loop-node.node-index (walked_of c.loop-node.walk) leaves c.node-item.result read
+          (Ok (walked_of c.find_leaf.new.self, map (λ (v : Vec ℕ Global). v.items) c.push.new.self.items))
+          c.as_slice-node-items.ensures c.loop-node-test.true c.node-item.is
+          (ap (leaf_added leaves) (c.in_ok-leaf.ensures.leaf files (c.loop-node.invariant.0 ∙ t)) ∙ ap (λ (ls : List (List ℕ)). Ok (walked_of c.find_leaf.new.self, ls)) (sym pushed)) h),
+      omega (arith, many),
     )

@@ -1,7 +1,8 @@
-use Rattle.std.proofs.Common.{◌≡◌, ◌≤◌, [], drop, map}
+use Rattle.std.proofs.Common.{◌≡◌, ◌≤◌, ℕ, List, [], drop, length, map}
 use Rattle.std.specs.Prelude.{Ok}
 use Rattle.std.specs.Option.{ForSome}
 use Rattle.track_library.specs.Walk.{nodes_walked, nothing_met}
+use Rattle.track_library.specs.Reads.{LoadReads, NodesRead}
 use Rattle.track_library.specs.States.{heard_of, walked_of}
 use Rattle.track_library.proofs.Leaves.{LeavesSoFar}
 use Rattle.track_library.proofs.walk.load.Given as goal
@@ -14,3 +15,7 @@ invariant-loop-node g l =
     × LeavesSoFar (heard_of l.walk.audio) (map (λ leaf. leaf.items) l.leaves.items)
     × ForSome (g.S.Shelf.files l.fn.shelf) (λ files. nodes_walked l.rules files l.plan.nodes (Ok (nothing_met, []))
     ≡ nodes_walked l.rules files (drop l.node-index l.plan.nodes) (Ok (walked_of l.walk, map (λ leaf. leaf.items) l.leaves.items)))
+    × ForSome (g.S.Shelf.files l.fn.shelf) (λ files. (read : List ℕ)
+    → NodesRead l.rules files (drop l.node-index l.plan.nodes) (Ok (walked_of l.walk, map (λ leaf. leaf.items) l.leaves.items)) read
+    → LoadReads l.rules files l.plan.nodes read)
+    × (length (map (λ leaf. leaf.items) l.leaves.items) ≡ l.node-index)

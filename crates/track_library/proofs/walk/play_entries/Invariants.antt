@@ -1,7 +1,8 @@
-use Rattle.std.proofs.Common.{◌≡◌, ◌≤◌, [], drop}
+use Rattle.std.proofs.Common.{◌≡◌, ◌≤◌, ℕ, List, [], drop}
 use Rattle.std.specs.Prelude.{Ok}
 use Rattle.std.specs.Option.{ForSome}
 use Rattle.track_library.specs.Walk.{entries_played}
+use Rattle.track_library.specs.Reads.{EntriesRead}
 use Rattle.track_library.specs.States.{heard_of}
 use Rattle.track_library.proofs.Played.{PlaysSoFar}
 use Rattle.track_library.proofs.walk.play_entries.Given as goal
@@ -14,3 +15,5 @@ invariant-loop-name g l =
     × PlaysSoFar (heard_of l.fn.audio) (heard_of l.audio) l.leaf.items
     × ForSome (g.S.Shelf.files l.fn.shelf) (λ files. entries_played l.rules files l.names (Ok (heard_of l.fn.audio, []))
     ≡ entries_played l.rules files (drop l.name-index l.names) (Ok (heard_of l.audio, l.leaf.items)))
+    × ForSome (g.S.Shelf.files l.fn.shelf) (λ files. (read : List ℕ) → EntriesRead l.rules files (drop l.name-index l.names) (Ok (heard_of l.audio, l.leaf.items)) read
+    → EntriesRead l.rules files l.names (Ok (heard_of l.fn.audio, [])) read)

@@ -1,17 +1,29 @@
-use Rattle.std.proofs.Common.{◌∙◌, ap, sym}
-use Rattle.std.specs.Prelude.{◌^◌}
+use Rattle.std.proofs.Common.{rules, ◌≡◌, ◌∙◌, ap, sym}
+use Rattle.std.specs.Prelude.{◌^◌, None}
 use Rattle.liq_base.specs.Files.{file_at}
-use Rattle.track_library.specs.Walk.{list_of, list_in, bytes_in, items_of, use_list}
+use Rattle.track_library.specs.Walk.{Ends, list_of, list_in, bytes_in, items_of, use_list, value_of}
+use Rattle.track_library.specs.Reads.{FirstRead}
 use Rattle.track_library.specs.Lists.{names_of}
 use Rattle.track_library.specs.States.{lists_of}
 use Rattle.track_library.proofs.Names.{found_list, absent_list, fresh_list, failed_list}
-use Rattle.track_library.proofs.Ending.{told_ends}
+use Rattle.track_library.proofs.Ending.{read_ends, told_ends}
 use Rattle.track_library.proofs.read_lists.ReadLists.find.Goals as goal
 
 pub returns-in-Some-clause-used : goal.returns-in-Some-clause-used
 returns-in-Some-clause-used g c = λ files told.
     ap (λ o. list_of (lists_of c.args.self.now) c.args.name.now o (list_in c.args.name.now (bytes_in (2 ^ 20) (file_at files c.args.name.now))))
     (found_list c.args.self.now.lists.entries c.args.name.now c.in-Some.at c.in-Some.ensures.value (sym c.in-Some.ensures.found))
+
+pub returns-in_err-bytes-clause-fault : goal.returns-in_err-bytes-clause-fault
+returns-in_err-bytes-clause-fault g c =
+    let none : value_of c.args.name.now (lists_of c.args.self.now) ≡ None =
+    absent_list c.args.self.now.lists.entries c.args.name.now (sym c.in_default.ensures.found) in
+    let ends : Ends (g.S.Shelf.files c.args.shelf.now) (g.S.Shelf.read_count c.args.shelf.now) (g.S.Shelf.read_count c.fetch.new.shelf)
+    (λ _. FirstRead (lists_of c.args.self.now) c.args.name.now) (λ files. use_list files (lists_of c.args.self.now) c.args.name.now) c.in_err-bytes.field-0.0 =
+    read_ends (g.S.Shelf.files c.args.shelf.now) c.args.name.now (g.S.Shelf.read_count c.args.shelf.now) (g.S.Shelf.read_count c.fetch.new.shelf)
+    (λ _. FirstRead (lists_of c.args.self.now) c.args.name.now) (λ files. use_list files (lists_of c.args.self.now) c.args.name.now) c.in_err-bytes.field-0.0
+    (λ files t name same. (same, none)) c.in_err-bytes.ensures.fault in
+    search rules
 
 pub add-requires : goal.add-requires
 add-requires g c = absent_list c.args.self.now.lists.entries c.args.name.now (sym c.in_default.ensures.found)
@@ -26,7 +38,7 @@ returns-in_ok-add-in-Ok-clause-used g c = λ files told.
 
 pub returns-in_ok-fault_of-in-Err-clause-fault : goal.returns-in_ok-fault_of-in-Err-clause-fault
 returns-in_ok-fault_of-in-Err-clause-fault g c =
-    told_ends _ _ _ (λ files. use_list files (lists_of c.args.self.now) c.args.name.now) c.args.name.now c.in-Err.fault c.in_ok-fault_of-in-Err.field-0
+    told_ends _ _ _ _ (λ files. use_list files (lists_of c.args.self.now) c.args.name.now) c.args.name.now c.in-Err.fault c.in_ok-fault_of-in-Err.field-0
     c.in_ok-fault_of-in-Err.ensures
     (λ files told. failed_list files (lists_of c.args.self.now) c.args.name.now c.in-Err.fault
     (absent_list c.args.self.now.lists.entries c.args.name.now (sym c.in_default.ensures.found))

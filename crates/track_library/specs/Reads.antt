@@ -1,0 +1,54 @@
+-- The files that a walk reads, as far as it goes: those before its first fault, and the one that has it.
+use Rattle.std.specs.Prelude.{◌≡◌, ◌⊎◌, ℕ, List, [], ◌∷◌, None, Result, Ok, Err}
+use Rattle.liq_base.specs.Files.{Files}
+use Rattle.plan_core.specs.declared.node.Node.{Node}
+use Rattle.plan_core.specs.declared.node.Op.{Op}
+use Rattle.plan_core.specs.declared.node.Op.TheVariants.{Single, Playlist, Blank, Square, Fail, Fallback, Switch, Sequence, Add, Amplify, Mean, Stereo, Crossfade, Buffer, Clock}
+use Rattle.track_library.specs.declared.rules.Rules.{Rules}
+use Rattle.track_library.specs.declared.fault.LoadFault.{LoadFault}
+use Rattle.track_library.specs.Walk.{Heard, Walked, entry_next, node_next, nothing_met, use_list, value_of}
+
+-- a name that was not met before is read
+abbrev pub FirstRead : {V : Type 0} → List (List ℕ × V) → List ℕ → List ℕ → Type 0
+FirstRead met name read = (read ≡ name) × (value_of name met ≡ None)
+
+-- the entries of a list: the next one is read, or one behind it, where the next one has no fault
+abbrev pub EntriesRead : Rules → Files → List (List ℕ) → Result (Heard × List ℕ) LoadFault → List ℕ → Type 0
+EntriesRead rules files [] played read = ⊥
+EntriesRead rules files (name ∷ names) (Err fault) read = ⊥
+EntriesRead rules files (name ∷ names) (Ok (heard, leaf)) read =
+    FirstRead heard.names name read ⊎ EntriesRead rules files names (entry_next rules files name (Ok (heard, leaf))) read
+
+abbrev pub PlaylistReads : Rules → Files → Heard → Result (List (List ℕ × List (List ℕ)) × List (List ℕ)) LoadFault → List ℕ → Type 0
+PlaylistReads rules files heard (Err fault) read = ⊥
+PlaylistReads rules files heard (Ok (lists, names)) read = EntriesRead rules files names (Ok (heard, [])) read
+
+-- a `single` reads its file; a `playlist` its list, then the entries
+abbrev pub LeafReads : Rules → Files → Op → Walked → List ℕ → Type 0
+LeafReads rules files (Single name) walked read = FirstRead walked.heard.names name read
+LeafReads rules files (Playlist name again) walked read =
+    FirstRead walked.lists name read ⊎ PlaylistReads rules files walked.heard (use_list files walked.lists name) read
+LeafReads rules files (Blank track) walked read = ⊥
+LeafReads rules files (Square pitch) walked read = ⊥
+LeafReads rules files Fail walked read = ⊥
+LeafReads rules files (Fallback sensitive) walked read = ⊥
+LeafReads rules files (Switch sensitive preds) walked read = ⊥
+LeafReads rules files Sequence walked read = ⊥
+LeafReads rules files (Add normalize) walked read = ⊥
+LeafReads rules files (Amplify factor) walked read = ⊥
+LeafReads rules files Mean walked read = ⊥
+LeafReads rules files Stereo walked read = ⊥
+LeafReads rules files (Crossfade overlap) walked read = ⊥
+LeafReads rules files (Buffer number) walked read = ⊥
+LeafReads rules files (Clock id) walked read = ⊥
+
+-- the nodes: the next one reads the file, or one behind it, where the next one has no fault
+abbrev pub NodesRead : Rules → Files → List Node → Result (Walked × List (List ℕ)) LoadFault → List ℕ → Type 0
+NodesRead rules files [] walked read = ⊥
+NodesRead rules files (node ∷ nodes) (Err fault) read = ⊥
+NodesRead rules files (node ∷ nodes) (Ok (walked, leaves)) read =
+    LeafReads rules files node.op walked read ⊎ NodesRead rules files nodes (node_next rules files node (Ok (walked, leaves))) read
+
+-- loading a plan reads the file of this name
+abbrev pub LoadReads : Rules → Files → List Node → List ℕ → Type 0
+LoadReads rules files nodes read = NodesRead rules files nodes (Ok (nothing_met, [])) read
