@@ -2,3 +2,4 @@ pub mod Searches
 pub mod Matching
 pub mod Rows
 pub mod Bindings
+pub mod Telling

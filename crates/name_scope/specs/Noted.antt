@@ -1,12 +1,12 @@
 -- What is noted of names: those that stand for something, and the fault that is told.
 use Rattle.std.specs.Prelude.{ℕ, List, [], ◌∷◌, ◌++◌, Option, Some, None, cond, map, Bool, true, false}
 use Rattle.std.specs.List.{flat_map}
-use Rattle.script_grammar.specs.Tree.{Sort, Tree, Many, AnExpr, AnInner}
+use Rattle.script_grammar.specs.Tree.{Sort, Tree, Many, APart, AParam, AStmt, AnExpr, AnInner, BindPart, DefPart, CallPart, IfPart, Def}
 use Rattle.typing_rules.specs.declared.fault.NameFault.{NameFault}
 use Rattle.typing_rules.specs.declared.fault.NameFault.TheVariants.{Extra}
 use Rattle.typing_rules.specs.declared.uses.Target.{Target}
 use Rattle.typing_rules.specs.Arguments.{Parameter, Given, first_missing, is_needed, left_over}
-use Rattle.typing_rules.specs.NameFaults.{faults_as, is_before, missing_at}
+use Rattle.typing_rules.specs.NameFaults.{faults_as, faults_in, is_before, missing_at, repeats}
 use Rattle.typing_rules.specs.Scoping.{Meaning, Name, Scope, inner_names, names, target_of, with_inners}
 use Rattle.name_scope.specs.declared.notes.Notes.{Notes}
 use Rattle.name_scope.specs.declared.notes.Resolved.{Resolved}
@@ -59,3 +59,25 @@ noted n = record { found = map resolved n.found.items; fault = n.fault }
 -- the names of a def's inner bindings and of its result, in the scope of its parameters
 abbrev pub body_names : Scope → Tree (Many AnInner) → Tree AnExpr → List Name
 body_names sc is e = inner_names sc is ++ names (with_inners is sc) e
+
+-- the names of a statement's part, and the parameters that its def repeats
+abbrev pub with_repeats : Noted → Tree (Many AParam) → Noted
+with_repeats n ps = record { found = n.found; fault = all_sooner n.fault (repeats [] ps) }
+
+abbrev pub with_part : Noted → Scope → Tree APart → Noted
+with_part n sc (BindPart b) = with_names n (names sc b)
+with_part n sc (DefPart (Def at name ps equals is e)) = with_names (with_repeats n ps) (names sc (Def at name ps equals is e))
+with_part n sc (CallPart c) = with_names n (names sc c)
+with_part n sc (IfPart i) = with_names n (names sc i)
+
+-- the names that stand for something, with what they stand for
+abbrev pub known : List Name → List Meaning
+known [] = []
+known (x ∷ xs) = meaning_at x.at (target_of x.meant) ++ known xs
+
+-- what is known after one more statement
+abbrev pub with_statement_names : Noted → Scope → Tree AStmt → Noted
+with_statement_names n sc s = record { found = n.found ++ known (names sc s); fault = all_sooner n.fault (faults_in sc s) }
+
+abbrev pub found_in : Notes → List Meaning
+found_in n = map resolved n.found.items

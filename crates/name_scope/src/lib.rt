@@ -6,6 +6,7 @@ mod builtins;
 mod notes;
 mod parameter;
 mod scope;
+mod script;
 mod statements;
 mod values;
 
@@ -14,5 +15,6 @@ pub use builtins::{builtin_named, builtin_params};
 pub use notes::{Notes, Resolved};
 pub use parameter::{Given, Parameter};
 pub use scope::{Binding, Bound, Scope, Scopes};
+pub use script::{resolve_names, resolve_statement};
 pub use statements::note_def;
 pub use values::{note_call, note_choice, note_expr, note_full};

@@ -1,15 +1,19 @@
-// The names that the texts of defs use, and the names that they bind.
-ghost use Rattle.std.specs.Prelude.{◌≡◌, ◌++◌, OnOk, map};
-ghost use Rattle.script_grammar.specs.View.{listed, view_def, view_expr, view_inner, view_param};
-ghost use Rattle.typing_rules.specs.Scoping.{inner_names, names, with_inners, with_params};
-ghost use Rattle.name_scope.specs.Noted.{body_names, names_each, noted, with_names};
+// The names that the texts of defs and statements use, and the names that they bind.
+ghost use Rattle.std.specs.Prelude.{◌≡◌, ◌++◌, ◌∷◌, OnOk, None, map};
+ghost use Rattle.script_grammar.specs.View.{listed, view_bind, view_call, view_def, view_expr, view_full, view_if, view_inner, view_param, view_part, view_stmt};
+ghost use Rattle.typing_rules.specs.Arguments.{parameters_of};
+ghost use Rattle.typing_rules.specs.NameFaults.{faults_in, told};
+ghost use Rattle.typing_rules.specs.Scoping.{function, inner_names, meant, names, with_bind, with_inners, with_params, with_statement};
+ghost use Rattle.name_scope.specs.Noted.{body_names, found_in, names_each, noted, with_names, with_part, with_repeats};
+ghost use Rattle.script_grammar.specs.Tree.{Stmt as statement};
 ghost use Rattle.name_scope.specs.Seen.{both_scopes, in_scope};
 
+use crate::arguments::parameters;
 use crate::notes::Notes;
 use crate::scope::{Bound, Scope, Scopes};
-use crate::values::{note_expr, note_full};
+use crate::values::{note_call, note_choice, note_expr, note_full};
 use liq_base::Memory;
-use script_grammar::tree::{Def, Inner, Param, ParamForm};
+use script_grammar::tree::{Bind, Call, Def, Full, If, Inner, Param, ParamForm, Stmt, StmtPart};
 use std::alloc::Global;
 
 /// The names that the default of a parameter uses, if it has one.
@@ -123,5 +127,151 @@ pub fn note_def<'a>(
         &def.params,
     )?;
     note_body(alloc, outer, &mut inner, notes, def)?;
+    Ok(())
+}
+
+/// The names that a value outside defs uses.
+fn note_value_part(
+    alloc: Global,
+    scope: &Scope<'_>,
+    notes: &mut Notes,
+    full: &Full,
+) -> Result<(), Memory>
+    ensures noted { OnOk result (noted notes.new ≡ with_names (noted notes.old) (names (in_scope scope.now) (view_full full.now))) }
+{
+    let none = Scope::new(alloc);
+    note_full(
+        alloc,
+        Scopes {
+            inner: &none,
+            outer: scope,
+        },
+        notes,
+        full,
+    )?;
+    Ok(())
+}
+
+/// The names that a statement's binding uses; and it binds its name.
+fn note_bind_part<'a>(
+    alloc: Global,
+    scope: &mut Scope<'a>,
+    notes: &mut Notes,
+    bind: &'a Bind,
+) -> Result<(), Memory>
+    ensures noted { OnOk result (noted notes.new ≡ with_names (noted notes.old) (names (in_scope scope.old) (view_bind bind.entry.now))) }
+    ensures bound { OnOk result (in_scope scope.new ≡ with_bind (view_bind bind.entry.now) (in_scope scope.old)) }
+{
+    note_value_part(alloc, &*scope, notes, &bind.value)?;
+    scope.bind(bind.name.as_str(), Bound::Value(bind.at))?;
+    Ok(())
+}
+
+/// The parameters that a def repeats and the names that its text uses; and it binds its name.
+fn note_def_part<'a>(
+    alloc: Global,
+    scope: &mut Scope<'a>,
+    notes: &mut Notes,
+    def: &'a Def,
+) -> Result<(), Memory>
+    ensures noted { OnOk result (noted notes.new ≡ with_names (with_repeats (noted notes.old) (listed (map view_param def.entry.now.params.items))) (names (in_scope scope.old) (view_def def.entry.now))) }
+    ensures bound { OnOk result (in_scope scope.new ≡ (def.entry.now.name, function def.entry.now.at (parameters_of (listed (map view_param def.entry.now.params.items)))) ∷ in_scope scope.old) }
+{
+    notes.add_repeats(&def.params);
+    note_def(alloc, &*scope, notes, def)?;
+    let params = parameters(alloc, &def.params)?;
+    scope.bind(def.name.as_str(), Bound::Function(def.at, params))?;
+    Ok(())
+}
+
+/// The names that a call uses which is a statement.
+fn note_call_part(
+    alloc: Global,
+    scope: &Scope<'_>,
+    notes: &mut Notes,
+    call: &Call,
+) -> Result<(), Memory>
+    ensures noted { OnOk result (noted notes.new ≡ with_names (noted notes.old) (names (in_scope scope.now) (view_call call.now))) }
+{
+    let none = Scope::new(alloc);
+    note_call(
+        alloc,
+        Scopes {
+            inner: &none,
+            outer: scope,
+        },
+        notes,
+        call,
+    )?;
+    Ok(())
+}
+
+/// The names that an `if` uses which is a statement.
+fn note_if_part(
+    alloc: Global,
+    scope: &Scope<'_>,
+    notes: &mut Notes,
+    choice: &If,
+) -> Result<(), Memory>
+    ensures noted { OnOk result (noted notes.new ≡ with_names (noted notes.old) (names (in_scope scope.now) (view_if choice.now))) }
+{
+    let none = Scope::new(alloc);
+    note_choice(
+        alloc,
+        Scopes {
+            inner: &none,
+            outer: scope,
+        },
+        notes,
+        choice,
+    )?;
+    Ok(())
+}
+
+/// The names that a statement's part uses, and the one that it binds.
+fn note_part<'a>(
+    alloc: Global,
+    scope: &mut Scope<'a>,
+    notes: &mut Notes,
+    part: &'a StmtPart,
+    _semicolon: bool,
+) -> Result<(), Memory>
+    ensures noted { OnOk result (noted notes.new ≡ with_part (noted notes.old) (in_scope scope.old) (view_part part.entry.now)) }
+    ensures bound { OnOk result (in_scope scope.new ≡ with_statement (statement (view_part part.entry.now) _semicolon) (in_scope scope.old)) }
+{
+    match part {
+        StmtPart::Bind(bind) => {
+            note_bind_part(alloc, scope, notes, bind)?;
+            Ok(())
+        }
+        StmtPart::Def(def) => {
+            note_def_part(alloc, scope, notes, def)?;
+            Ok(())
+        }
+        StmtPart::Call(call) => {
+            note_call_part(alloc, &*scope, notes, call)?;
+            Ok(())
+        }
+        StmtPart::If(choice) => {
+            note_if_part(alloc, &*scope, notes, choice)?;
+            Ok(())
+        }
+    }
+}
+
+/// The names that a statement uses behind statements without a fault of names, with the fault that is told of it; and
+/// the scope behind it.
+pub(crate) fn note_statement<'a>(
+    alloc: Global,
+    scope: &mut Scope<'a>,
+    notes: &mut Notes,
+    stmt: &'a Stmt,
+) -> Result<(), Memory>
+    requires clear { notes.old.fault ≡ None }
+    ensures fault { OnOk result (notes.new.fault ≡ told (faults_in (in_scope scope.old) (view_stmt stmt.entry.now))) }
+    ensures names { OnOk result (notes.new.fault ≡ None → found_in notes.new ≡ found_in notes.old ++ map meant (names (in_scope scope.old) (view_stmt stmt.entry.now))) }
+    ensures bound { OnOk result (in_scope scope.new ≡ with_statement (view_stmt stmt.entry.now) (in_scope scope.old)) }
+{
+    note_part(alloc, scope, notes, &stmt.part, stmt.semicolon)?;
     Ok(())
 }
