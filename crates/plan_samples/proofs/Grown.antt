@@ -1,20 +1,17 @@
--- Plans that grow, one node more.
-use Rattle.std.proofs.Common.{◌≡◌, ℕ, ◌+◌, ◌<◌, ◌≤◌, zero, suc, false, Some, List, [], ◌∷◌, ◌++◌, length, map, sym, refl, ap, ◌∙◌, subst, inl, inr, arith, slice_get, slice_index, max, All, Contains}
+-- Plans of mono nodes, one node more.
+use Rattle.std.proofs.Common.{◌≡◌, ℕ, ◌+◌, ◌<◌, ◌≤◌, zero, suc, Some, List, [], ◌∷◌, ◌++◌, length, map, sym, refl, ap, subst, inl, inr, arith, slice_get, slice_index, max, take, All}
 use Rattle.std.specs.Prelude.{◌⊎◌}
-use Rattle.std.proofs.lemmas.Option.{slice_get-get_or}
-use Rattle.std.proofs.lemmas.List.{length-append}
-use Rattle.std.proofs.lemmas.List.Elements.{All-nil, All-cons, All-contains}
+use Rattle.std.proofs.lemmas.List.Elements.{All-nil, All-cons}
 use Rattle.std.proofs.Math.Nat.{max-zero}
-use Rattle.fixed_text.specs.declared.decimal.Decimal.{Decimal}
+use Rattle.liq_base.specs.declared.limits.TheConstants.{MAX_CHILDREN, MAX_CROSSFADES}
+use Rattle.liq_base.specs.declared.memory.Kind.{Kind}
 use Rattle.liq_base.specs.declared.memory.Kind.TheVariants.{Mono}
 use Rattle.plan_core.specs.declared.node.Node.{Node}
 use Rattle.plan_core.specs.declared.node.Op.{Op}
-use Rattle.plan_core.specs.declared.node.Op.TheVariants.{Amplify, Buffer}
+use Rattle.plan_core.specs.declared.node.Op.TheVariants.{Crossfade}
 use Rattle.plan_core.specs.declared.plan.Plan.{Plan}
-use Rattle.plan_core.specs.declared.sink.SinkPlan.{SinkPlan}
-use Rattle.plan_core.specs.declared.sink.SinkPlan.TheVariants.{Output, Feed}
-use Rattle.plan_core.specs.Plans.{AreNodes, IsNodeOver, HasChildren, HasKind, IsInRange, own_crossfades, greatest, sink_node, crossfade_counts, crossfades_from, crossfades_on, IsPathDown, IsWellFormed}
-use Rattle.plan_samples.specs.Growing.{IsGrowing}
+use Rattle.plan_core.specs.Plans.{IsNodeOver, HasChildren, HasKind, IsInRange, greatest, crossfade_counts, crossfades_from, with_node, IsWellFormed}
+use Rattle.plan_samples.specs.Monos.{blank, mono_node, IsMono}
 
 one_more : {A : Type 0} (xs : List A) (y : A) (i : ℕ) (x : A) → slice_get (xs ++ y ∷ []) i ≡ Some x → (slice_get xs i ≡ Some x) ⊎ (y ≡ x)
 one_more [] y zero x is = let same : y ≡ x = cc in inr same
@@ -22,93 +19,51 @@ one_more [] y (suc i) x is = cc
 one_more (z ∷ zs) y zero x is = inl is
 one_more (z ∷ zs) y (suc i) x is = one_more zs y i x is
 
--- what the law of crossfades on paths says
-abbrev pub Reaches : Type 0
-Reaches = (nodes : List Node) (i : ℕ) → AreNodes nodes → i < length nodes → (path : List ℕ) × IsPathDown nodes i path × (crossfades_on nodes i path ≡ slice_index (crossfade_counts nodes) i)
+-- a mono node may stand over a mono plan
+pub mono_over : (plan : Plan) (op : Op) (children : List ℕ) → IsMono plan → All (λ child. child < length plan.nodes) children → length children ≤ MAX_CHILDREN → HasChildren op (length children) → HasKind op Mono Mono → IsInRange op
+    → crossfades_from plan.nodes (mono_node op children) ≤ MAX_CROSSFADES → IsNodeOver plan.nodes (mono_node op children)
+mono_over plan op children m below few count kind range crossfades = record {
+  children = below;
+  few = few;
+  number = count;
+  kinds = λ number child among there. (let K : Kind → Type 0 = λ k. HasKind op k Mono in subst K (sym (m.mono number child there)) kind);
+  range = range;
+  crossfades = crossfades;
+}
 
-abbrev pub Four : Type 0
-Four = (nodes : List Node) (i : ℕ) (path : List ℕ) → AreNodes nodes → IsPathDown nodes i path → crossfades_on nodes i path ≤ 4
+-- and the plan stays mono, where the node holds these children
+pub mono_more : (plan new : Plan) (op : Op) (children held : List ℕ) → held ≡ children → IsMono plan → IsNodeOver plan.nodes (mono_node op children) → new ≡ with_node plan (mono_node op held)
+    → (IsNodeOver plan.nodes (mono_node op held) → IsWellFormed new) → IsMono new
+mono_more plan new op children held same m over is well = record {
+  well_formed = (let N : List ℕ → Type 0 = λ cs. IsNodeOver plan.nodes (mono_node op cs) in well (subst N (sym same) over));
+  mono = λ i one there. (let P : List Node → Type 0 = λ ns. slice_get ns i ≡ Some one in
+      let at : (slice_get plan.nodes i ≡ Some one) ⊎ (mono_node op held ≡ one) = one_more plan.nodes (mono_node op held) i one (subst P (ap (λ (p : Plan). p.nodes) is) there) in
+      elim at [
+        | inl old ↦ m.mono i one old
+        | inr same ↦ ap (λ (x : Node). x.kind) (sym same)
+      ]);
+}
 
-count_four : Reaches → Four → (nodes : List Node) (i : ℕ) → AreNodes nodes → i < length nodes → slice_index (crossfade_counts nodes) i ≤ 4
-count_four reaches four nodes i well here = let (path, is, count) = reaches nodes i well here in let most : crossfades_on nodes i path ≤ 4 = four nodes i path well is in omega arith
+-- what the law of crossfades says that rest on the nodes below
+abbrev pub Rests : Type 0
+Rests = (nodes : List Node) (i : ℕ) (node : Node) → slice_get nodes i ≡ Some node → slice_index (crossfade_counts nodes) i ≡ crossfades_from (take i nodes) node
 
--- a node that amplifies another
-pub over_four : Reaches → Four → (nodes : List Node) (node : Node) (factor : Decimal) (child : ℕ) → AreNodes nodes → child < length nodes → node.op ≡ Amplify factor → node.children ≡ child ∷ [] → crossfades_from nodes node ≤ 4
-over_four reaches four nodes node factor child well here op children =
-    let counts : List ℕ = crossfade_counts nodes in
-    let f : ℕ → ℕ = λ child. slice_index counts child in
-    let own : own_crossfades node.op ≡ 0 = ap own_crossfades op in
-    let below : greatest (map f node.children) ≡ max (f child) 0 = ap (λ (cs : List ℕ). greatest (map f cs)) children in
-    let most : f child ≤ 4 = count_four reaches four nodes child well here in
+-- a crossfade of a blank has one crossfade
+pub one_faded : Rests → (plan : Plan) (child : ℕ) (children : List ℕ) (overlap : ℕ) → children ≡ child ∷ [] → slice_get plan.nodes child ≡ Some blank → crossfades_from plan.nodes (mono_node (Crossfade overlap) children) ≤ MAX_CROSSFADES
+one_faded rests plan child children overlap is there =
+    let f : ℕ → ℕ = λ c. slice_index (crossfade_counts plan.nodes) c in
+    let rest : f child ≡ crossfades_from (take child plan.nodes) blank = rests plan.nodes child blank there in
+    let none : crossfades_from (take child plan.nodes) blank ≡ 0 = refl in
+    let below : greatest (map f children) ≡ max (f child) 0 = ap (λ (cs : List ℕ). greatest (map f cs)) is in
     let same : max (f child) 0 ≡ f child = max-zero (f child) in
-    let whole : own_crossfades node.op + greatest (map f node.children) ≤ 4 = omega arith in
+    let whole : 1 + greatest (map f children) ≤ 4 = omega arith in
     whole
 
-pub is_over : Reaches → Four → (plan : Plan) (n : ℕ) (node : Node) (factor : Decimal) (child : ℕ) → IsGrowing plan n → child < length plan.nodes → node.op ≡ Amplify factor → node.kind ≡ Mono → node.children ≡ child ∷ [] → IsNodeOver plan.nodes node
-is_over reaches four plan n node factor child g here op kind children =
-    let C : List ℕ → Type 0 = λ cs. All (λ c. c < length plan.nodes) cs in
-    let N : Op → Type 0 = λ o. HasChildren o (length node.children) in
-    let R : Op → Type 0 = λ o. IsInRange o in
-    record {
-      children = subst C (sym children) (All-cons (λ c. c < length plan.nodes) child [] here (All-nil _));
-      few = (let e : length node.children ≡ 1 = ap length children in omega arith);
-      number = subst N (sym op) (ap length children);
-      kinds = λ number one among there. (let K : Op → Type 0 = λ o. HasKind o one.kind node.kind in subst K (sym op) (kind ∙ sym (g.mono number one there)));
-      range = subst R (sym op) tt;
-      crossfades = over_four reaches four plan.nodes node factor child g.nodes here op children;
-    }
+-- one child that is below, and two
+pub one_below : (n child : ℕ) (children : List ℕ) → children ≡ child ∷ [] → child < n → All (λ c. c < n) children
+one_below n child children is here = let C : List ℕ → Type 0 = λ cs. All (λ c. c < n) cs in
+    subst C (sym is) (All-cons (λ c. c < n) child [] here (All-nil _))
 
-amplifies : {factor : Decimal} {b : ℕ} → Amplify factor ≡ Buffer b → ⊥
-amplifies e = cc
-
-no_feed : (buffer node : ℕ) → Output [] 0 false ≡ Feed buffer node → ⊥
-no_feed buffer node e = cc
-
-pub grown_more : (plan new : Plan) (n : ℕ) (node : Node) (factor : Decimal) → IsGrowing plan n → new ≡ record plan { nodes = plan.nodes ++ node ∷ [] } → n < 4096 → AreNodes new.nodes → node.op ≡ Amplify factor → node.kind ≡ Mono
-    → IsGrowing new (n + 1)
-grown_more plan new n node factor g is room well op kind =
-    let nodes : new.nodes ≡ plan.nodes ++ node ∷ [] = ap (λ (p : Plan). p.nodes) is in
-    let at : (i : ℕ) (one : Node) → slice_get new.nodes i ≡ Some one → (slice_get plan.nodes i ≡ Some one) ⊎ (node ≡ one) =
-    λ i one there. (let P : List Node → Type 0 = λ ns. slice_get ns i ≡ Some one in one_more plan.nodes node i one (subst P nodes there)) in
-    record {
-      size = ap length nodes ∙ length-append plan.nodes (node ∷ []) ∙ ap (λ (k : ℕ). k + 1) g.size;
-      some = omega arith;
-      few = omega arith;
-      rate = ap (λ (p : Plan). p.rate) is ∙ g.rate;
-      frame = ap (λ (p : Plan). p.frame) is ∙ g.frame;
-      sinks = ap (λ (p : Plan). p.sinks) is ∙ g.sinks;
-      buffers = ap (λ (p : Plan). p.buffers) is ∙ g.buffers;
-      nodes = well;
-      mono = λ i one there. elim (at i one there) [
-        | inl old ↦ g.mono i one old
-        | inr same ↦ ap (λ (x : Node). x.kind) (sym same) ∙ kind
-      ];
-      plain = λ i b one there e. elim (at i one there) [
-        | inl old ↦ g.plain i b one old e
-        | inr same ↦ amplifies (sym op ∙ ap (λ (x : Node). x.op) same ∙ e)
-      ];
-    }
-
-pub well_formed : (plan : Plan) (n : ℕ) → IsGrowing plan n → IsWellFormed plan
-well_formed plan n g =
-    let one : SinkPlan = Output [] 0 false in
-    let S : List SinkPlan → Type 0 = λ ss. All (λ s. sink_node s < length plan.nodes) ss in
-    let only : (s : SinkPlan) → Contains plan.sinks s → one ≡ s = λ s among. (let Q : List SinkPlan → Type 0 = λ ss. Contains ss s in
-    All-contains (λ t. one ≡ t) (one ∷ []) s (All-cons (λ t. one ≡ t) one [] refl (All-nil _)) (subst Q g.sinks among)) in
-    let plain : (reader : Node) (b : ℕ) → Contains plan.nodes reader → reader.op ≡ Buffer b → ⊥ = λ reader b among e.
-    All-contains (λ x. x.op ≡ Buffer b → ⊥) plan.nodes reader (λ k d h. g.plain k b _ (slice_get-get_or plan.nodes k d h)) among e in
-    let none : (b : ℕ) → b < length plan.buffers → ⊥ = λ b less. (let e : length plan.buffers ≡ 0 = ap length g.buffers in omega arith) in
-    record {
-      rate = (omega (arith, g.rate), omega (arith, g.rate));
-      frame = (omega (arith, g.frame), omega (arith, g.frame));
-      few_nodes = omega (arith, g.size, g.few);
-      few_sinks = (let e : length plan.sinks ≡ 1 = ap length g.sinks in omega arith);
-      nodes = g.nodes;
-      sinks = subst S (sym g.sinks) (All-cons (λ s. sink_node s < length plan.nodes) one [] (omega (arith, g.size, g.some)) (All-nil _));
-      fed = λ buffer node among. absurd (no_feed buffer node (only (Feed buffer node) among));
-      read = λ reader buffer among e. absurd (plain reader buffer among e);
-      buffers = subst (λ bs. All (λ buffer. (buffer.pre ≤ 4194304) × (1 ≤ buffer.capacity) × (buffer.capacity ≤ 65536)) bs) (sym g.buffers) (All-nil _);
-      one_feed = λ buffer less. absurd (none buffer less);
-      one_reader = λ buffer less. absurd (none buffer less);
-      readers = λ reader source buffer node among e fed there. absurd (plain reader buffer among e);
-    }
+pub two_below : (n first second : ℕ) (children : List ℕ) → children ≡ first ∷ second ∷ [] → first < n → second < n → All (λ c. c < n) children
+two_below n first second children is one two = let C : List ℕ → Type 0 = λ cs. All (λ c. c < n) cs in
+    subst C (sym is) (All-cons (λ c. c < n) first (second ∷ []) one (All-cons (λ c. c < n) second [] two (All-nil _)))

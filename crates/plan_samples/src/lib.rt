@@ -1,6 +1,7 @@
 //! Well-formed plans of many nodes, for tests and benchmarks.
 #![tactic(auto)]
 
-mod grow;
+mod nodes;
+mod plans;
 
-pub use grow::plan_over;
+pub use plans::{plan_of_clocks, plan_of_nested_crossfades, plan_over};

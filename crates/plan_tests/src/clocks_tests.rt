@@ -165,7 +165,10 @@ fn drawn_in(alloc: Global) -> Result<Plan, AllocError>
 }
 
 // An answer as text: the names, how many run, and the clock of each node; or the fault.
-fn told(alloc: Global, answer: Result<ClockMap, ClockFault>) -> Result<String, AllocError> {
+pub(crate) fn told(
+    alloc: Global,
+    answer: Result<ClockMap, ClockFault>,
+) -> Result<String, AllocError> {
     match answer {
         Ok(map) => {
             let mut told = String::new(alloc);

@@ -8,6 +8,8 @@ mod draft_tests;
 #[cfg(test)]
 mod gaps_tests;
 #[cfg(test)]
+mod many_clocks_tests;
+#[cfg(test)]
 mod plan_core_tests;
 #[cfg(test)]
 mod time_pred_tests;

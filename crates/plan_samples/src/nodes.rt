@@ -1,0 +1,142 @@
+// Drafts that grow by a mono node.
+ghost use Rattle.std.specs.Prelude.{◌≡◌, ◌<◌, ◌≤◌, ◌+◌, ◌∷◌, [], Some, All, length, slice_get, IfOk, OnOk};
+ghost use Rattle.liq_base.specs.declared.limits.TheConstants.{MAX_CHILDREN, MAX_CROSSFADES};
+ghost use Rattle.plan_core.specs.Plans.{crossfades_from, own_crossfades, with_node, HasChildren, HasKind, IsInRange, IsNoReader};
+ghost use Rattle.plan_samples.specs.Monos.{blank, mono_node, IsMono};
+
+use fixed_text::Decimal;
+use liq_base::{Kind, Memory, Text};
+use plan_core::{
+    Draft, Items, Node, Op, PlanFault, crossfades_rest_on_nodes_below,
+    only_crossfades_add_crossfades,
+};
+use std::alloc::Global;
+
+// Adds a mono node, and answers its number.
+fn push_mono(draft: &mut Draft, op: Op, children: Vec<u32>) -> Result<u32, PlanFault>
+    requires mono { IsMono draft.old }
+    requires below { All (λ child. child < length draft.old.nodes) children.items }
+    requires few { length children.items ≤ MAX_CHILDREN }
+    requires count { HasChildren op (length children.items) }
+    requires kind { HasKind op Kind.Mono Kind.Mono }
+    requires range { IsInRange op }
+    requires reader { IsNoReader op }
+    requires crossfades { crossfades_from draft.old.nodes (mono_node op children.items) ≤ MAX_CROSSFADES }
+    ensures mono { OnOk result (IsMono draft.new) }
+    ensures added { OnOk result (draft.new ≡ with_node draft.old (mono_node op children.items)) }
+    ensures number { IfOk result (λ number. number ≡ length draft.old.nodes) }
+{
+    let number = draft.push_node(Node {
+        op,
+        kind: Kind::Mono,
+        children: Items::from_vec(children),
+    })?;
+    Ok(number)
+}
+
+// Adds a mono node that is no crossfade, and answers its number.
+fn push_plain(draft: &mut Draft, op: Op, children: Vec<u32>) -> Result<u32, PlanFault>
+    requires mono { IsMono draft.old }
+    requires below { All (λ child. child < length draft.old.nodes) children.items }
+    requires few { length children.items ≤ MAX_CHILDREN }
+    requires count { HasChildren op (length children.items) }
+    requires kind { HasKind op Kind.Mono Kind.Mono }
+    requires range { IsInRange op }
+    requires reader { IsNoReader op }
+    requires plain { own_crossfades op ≡ 0 }
+    ensures mono { OnOk result (IsMono draft.new) }
+    ensures added { OnOk result (draft.new ≡ with_node draft.old (mono_node op children.items)) }
+    ensures number { IfOk result (λ number. number ≡ length draft.old.nodes) }
+{
+    only_crossfades_add_crossfades();
+    let number = push_mono(draft, op, children)?;
+    Ok(number)
+}
+
+fn one(alloc: Global, child: u32) -> Result<Vec<u32>, Memory>
+    ensures { IfOk result (λ children. children.items ≡ child ∷ []) }
+{
+    Ok(vec![in alloc; child]?)
+}
+
+fn two(alloc: Global, first: u32, second: u32) -> Result<Vec<u32>, Memory>
+    ensures { IfOk result (λ children. children.items ≡ first ∷ second ∷ []) }
+{
+    Ok(vec![in alloc; first, second]?)
+}
+
+// Adds a blank, and answers its number.
+pub(crate) fn push_blank(alloc: Global, draft: &mut Draft) -> Result<u32, PlanFault>
+    requires { IsMono draft.old }
+    ensures mono { OnOk result (IsMono draft.new) }
+    ensures number { IfOk result (λ number. number ≡ length draft.old.nodes) }
+    ensures size { OnOk result (length draft.new.nodes ≡ length draft.old.nodes + 1) }
+    ensures there { IfOk result (λ number. slice_get draft.new.nodes number ≡ Some blank) }
+{
+    let number = push_plain(draft, Op::Blank { track: 0 }, Vec::new(alloc))?;
+    Ok(number)
+}
+
+// Adds a node that amplifies this one by 1.
+pub(crate) fn push_amplified(alloc: Global, draft: &mut Draft, child: u32) -> Result<(), PlanFault>
+    requires mono { IsMono draft.old }
+    requires child { child < length draft.old.nodes }
+    ensures mono { OnOk result (IsMono draft.new) }
+    ensures size { OnOk result (length draft.new.nodes ≡ length draft.old.nodes + 1) }
+{
+    let factor = Decimal {
+        millionths: 1_000_000,
+    };
+    push_plain(draft, Op::Amplify { factor }, one(alloc, child)?)?;
+    Ok(())
+}
+
+// Adds this node under the clock of this id.
+pub(crate) fn push_clock(
+    alloc: Global,
+    draft: &mut Draft,
+    id: Text,
+    child: u32,
+) -> Result<(), PlanFault>
+    requires mono { IsMono draft.old }
+    requires child { child < length draft.old.nodes }
+    ensures mono { OnOk result (IsMono draft.new) }
+    ensures size { OnOk result (length draft.new.nodes ≡ length draft.old.nodes + 1) }
+{
+    push_plain(draft, Op::Clock(id), one(alloc, child)?)?;
+    Ok(())
+}
+
+// Adds a crossfade of a blank, and answers its number.
+pub(crate) fn push_crossfade(alloc: Global, draft: &mut Draft, child: u32) -> Result<u32, PlanFault>
+    requires mono { IsMono draft.old }
+    requires child { slice_get draft.old.nodes child ≡ Some blank }
+    ensures mono { OnOk result (IsMono draft.new) }
+    ensures number { IfOk result (λ number. number ≡ length draft.old.nodes) }
+    ensures size { OnOk result (length draft.new.nodes ≡ length draft.old.nodes + 1) }
+{
+    crossfades_rest_on_nodes_below();
+    let number = push_mono(draft, Op::Crossfade { overlap: 22 }, one(alloc, child)?)?;
+    Ok(number)
+}
+
+// Adds the sum of these two.
+pub(crate) fn push_sum(
+    alloc: Global,
+    draft: &mut Draft,
+    first: u32,
+    second: u32,
+) -> Result<(), PlanFault>
+    requires mono { IsMono draft.old }
+    requires first { first < length draft.old.nodes }
+    requires second { second < length draft.old.nodes }
+    ensures mono { OnOk result (IsMono draft.new) }
+    ensures size { OnOk result (length draft.new.nodes ≡ length draft.old.nodes + 1) }
+{
+    push_plain(
+        draft,
+        Op::Add { normalize: true },
+        two(alloc, first, second)?,
+    )?;
+    Ok(())
+}

@@ -1,0 +1,116 @@
+// Plans of many nodes.
+ghost use Rattle.std.specs.Prelude.{◌≡◌, ◌<◌, ◌+◌, ◌*◌, length, IfOk, OnOk};
+ghost use Rattle.plan_core.specs.Plans.{IsWellFormed};
+ghost use Rattle.plan_samples.specs.Monos.{IsMono};
+
+use crate::nodes::{push_amplified, push_blank, push_clock, push_crossfade, push_sum};
+use liq_base::{Memory, Text};
+use plan_core::{Draft, Plan, PlanFault, an_empty_plan_is_well_formed};
+use std::alloc::Global;
+
+// A draft without nodes, at 44100 samples a second in ticks of 1764.
+fn begun(alloc: Global) -> Draft
+    ensures mono { IsMono result }
+    ensures size { length result.nodes ≡ 0 }
+{
+    an_empty_plan_is_well_formed();
+    Draft::new(alloc, 44_100, 1764)
+}
+
+// An output of this node, without a name.
+fn write(alloc: Global, draft: &mut Draft, node: u32) -> Result<(), Memory>
+    requires well_formed { IsWellFormed draft.old }
+    requires node { node < length draft.old.nodes }
+    ensures well_formed { OnOk result (IsWellFormed draft.new) }
+    ensures nodes { OnOk result (draft.new.nodes ≡ draft.old.nodes) }
+{
+    draft.push_output(Text::from_string(String::new(alloc)), node, false)?;
+    Ok(())
+}
+
+/// A mono plan of so many nodes: a blank, and nodes that amplify it by 1. With `chained` each stands over the one before
+/// it, and otherwise all stand over the blank. An output writes the blank. `TooManySources` comes for more than 4096
+/// nodes.
+pub fn plan_over(alloc: Global, count: u32, chained: bool) -> Result<Plan, PlanFault>
+    ensures well_formed { IfOk result IsWellFormed }
+{
+    let mut draft = begun(alloc);
+    push_blank(alloc, &mut draft)?;
+    for number in 1..count {
+        let child = if chained { number - 1 } else { 0 };
+        push_amplified(alloc, &mut draft, child)?;
+    }
+    write(alloc, &mut draft, 0)?;
+    Ok(draft.into_plan())
+}
+
+// Adds a blank, and that blank under the clock `cN` of this number.
+fn push_clocked(alloc: Global, draft: &mut Draft, number: u32) -> Result<(), PlanFault>
+    requires { IsMono draft.old }
+    ensures mono { OnOk result (IsMono draft.new) }
+    ensures size { OnOk result (length draft.new.nodes ≡ length draft.old.nodes + 2) }
+{
+    let blank = push_blank(alloc, draft)?;
+    push_clock(alloc, draft, id_of(alloc, number)?, blank)?;
+    Ok(())
+}
+
+fn id_of(alloc: Global, number: u32) -> Result<Text, Memory> {
+    Ok(Text::from_string(format!(in alloc; "c{number}")?))
+}
+
+// Writes every other node, the last one first.
+fn write_back(alloc: Global, draft: &mut Draft, count: u32) -> Result<(), Memory>
+    requires well_formed { IsWellFormed draft.old }
+    requires size { length draft.old.nodes ≡ 2 * count }
+    ensures { OnOk result (IsWellFormed draft.new) }
+{
+    for number in 0..count {
+        write(alloc, draft, 2 * (count - number) - 1)?;
+    }
+    Ok(())
+}
+
+/// A mono plan of so many main clocks, `c0` to `cN`: node 2n is a blank, which node 2n + 1 puts into the clock `cn`. An
+/// output writes each clock, the last one first. `TooManySources` comes for more than 2048 clocks.
+pub fn plan_of_clocks(alloc: Global, count: u32) -> Result<Plan, PlanFault>
+    ensures well_formed { IfOk result IsWellFormed }
+{
+    let mut draft = begun(alloc);
+    for number in 0..count {
+        push_clocked(alloc, &mut draft, number)?;
+    }
+    write_back(alloc, &mut draft, count)?;
+    Ok(draft.into_plan())
+}
+
+// Adds a blank, a crossfade of it, and the sum of that crossfade and of this node, which nobody uses. Answers the blank.
+fn push_nested(alloc: Global, draft: &mut Draft, outer: u32) -> Result<u32, PlanFault>
+    requires mono { IsMono draft.old }
+    requires outer { outer < length draft.old.nodes }
+    ensures mono { OnOk result (IsMono draft.new) }
+    ensures inner { IfOk result (λ inner. inner < length draft.new.nodes) }
+    ensures size { OnOk result (length draft.new.nodes ≡ length draft.old.nodes + 3) }
+{
+    let inner = push_blank(alloc, draft)?;
+    let crossfade = push_crossfade(alloc, draft, inner)?;
+    push_sum(alloc, draft, crossfade, outer)?;
+    Ok(inner)
+}
+
+/// A mono plan of so many crossfades, at least one, each in the sub-clock of the one before it: nodes 0 and 1 are a blank
+/// and its crossfade, which an output writes, and nodes 3n - 1, 3n and 3n + 1 are another blank, its crossfade, and the
+/// sum of that crossfade and of the blank before, which nobody uses. `TooManySources` comes for more than 1365
+/// crossfades.
+pub fn plan_of_nested_crossfades(alloc: Global, count: u32) -> Result<Plan, PlanFault>
+    ensures well_formed { IfOk result IsWellFormed }
+{
+    let mut draft = begun(alloc);
+    let mut blank = push_blank(alloc, &mut draft)?;
+    push_crossfade(alloc, &mut draft, blank)?;
+    for _ in 1..count {
+        blank = push_nested(alloc, &mut draft, blank)?;
+    }
+    write(alloc, &mut draft, 1)?;
+    Ok(draft.into_plan())
+}
