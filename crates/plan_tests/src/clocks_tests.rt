@@ -4,7 +4,7 @@ ghost use Rattle.plan_core.specs.Plans.{IsWellFormed};
 
 use clock_infer::{ClockFault, ClockMap, NodeClock, assign};
 use liq_base::{Kind, Text};
-use plan_core::{BufferPlan, Items, Node, Op, Plan, SinkPlan};
+use plan_core::{Items, Node, Op, Plan, SinkPlan};
 use std::alloc::{AllocError, Global};
 use std::test::Fail;
 
@@ -115,39 +115,6 @@ fn each_in_the_other(alloc: Global) -> Result<Plan, AllocError>
     })
 }
 
-// A blank is fed to a buffer, whose reader is written under the clock "b".
-fn fed(alloc: Global) -> Result<Plan, AllocError>
-    ensures { IfOk result IsWellFormed }
-{
-    let blank = Node {
-        op: Op::Blank { track: 0 },
-        kind: Kind::Mono,
-        children: Items::new(alloc),
-    };
-    let reader = Node {
-        op: Op::Buffer(0),
-        kind: Kind::Mono,
-        children: Items::new(alloc),
-    };
-    let b = Node {
-        op: clock(alloc, "b")?,
-        kind: Kind::Mono,
-        children: Items::from_vec(vec![in alloc; 1]?),
-    };
-    let feed = SinkPlan::Feed { buffer: 0, node: 0 };
-    let buffer = BufferPlan {
-        pre: 88,
-        capacity: 1,
-    };
-    Ok(Plan {
-        rate: 44_100,
-        frame: 1764,
-        nodes: Items::from_vec(vec![in alloc; blank, reader, b]?),
-        sinks: Items::from_vec(vec![in alloc; feed, output(alloc, 2)]?),
-        buffers: Items::from_vec(vec![in alloc; buffer]?),
-    })
-}
-
 // Two crossfades of blanks, of which a sum that nobody uses draws the second into the sub-clock of the first.
 fn drawn_in(alloc: Global) -> Result<Plan, AllocError>
     ensures { IfOk result IsWellFormed }
@@ -231,16 +198,6 @@ fn an_id_holds_for_all_that_shares_its_clock(rt: HostRuntime) -> Result<(), Fail
     assert_eq!(rt;
         told(alloc, assign(alloc, &one_id(alloc)?))?.as_str(),
         "b clock.3 1 run: 0 0 1 1"
-    );
-    Ok(())
-}
-
-#[test]
-fn feeds_number_clocks_like_outputs(rt: HostRuntime) -> Result<(), Fail> {
-    let alloc = rt.alloc();
-    assert_eq!(rt;
-        told(alloc, assign(alloc, &fed(alloc)?))?.as_str(),
-        "main b 2 run: 0 1 1"
     );
     Ok(())
 }
