@@ -1,0 +1,4 @@
+pub mod Steps
+pub mod EndSteps
+pub mod Windows
+pub mod Beginnings

@@ -1,0 +1,38 @@
+-- What the taps of a clock stand for.
+use Rattle.std.specs.Prelude.{◌≡◌, ℕ, ◌<◌, List, [], length, slice_index_or, ◌⊎◌}
+use Rattle.frame_core.specs.Calls.{Call, takes_of, puts_to}
+use Rattle.buffer_ends.specs.Sides.{Side}
+use Rattle.buffer_ends.specs.Local.{LocalBuffer, held, on, Leads, empty_list, no_answers, all_answers}
+
+-- an end is one of this buffer
+abbrev pub Has : List Side → ℕ → Type 0
+Has sides b = (k : ℕ) × (k < length sides) × ((d : Side) → (slice_index_or sides k d).buffer ≡ b)
+
+-- each list that is asked is where the calls on it lead, with the answers of these calls
+abbrev pub ListsStand : (ℕ → Type 0) → List LocalBuffer → List Call → Type 0
+ListsStand elsewhere lists calls =
+    (b : ℕ) (d : LocalBuffer) → b < length lists → (elsewhere b → ⊥)
+    → Leads (empty_list (slice_index_or lists b d).capacity) (on b calls) (held (slice_index_or lists b d))
+
+-- the record of each end is the answers of the calls on its buffer
+abbrev pub PutsStand : List Side → List Call → Type 0
+PutsStand sides calls = (k : ℕ) (d : Side) → k < length sides → (slice_index_or sides k d).window.answers ≡ puts_to (slice_index_or sides k d).buffer calls
+
+abbrev pub TakesStand : List Side → List Call → Type 0
+TakesStand sides calls = (k : ℕ) (d : Side) → k < length sides → (slice_index_or sides k d).window.answers ≡ takes_of (slice_index_or sides k d).buffer calls
+
+-- lists alone
+abbrev pub LocalStands : List LocalBuffer → List Call → Type 0
+LocalStands lists calls = ListsStand (λ b. ⊥) lists calls
+
+-- the ends, and the lists of the buffers that have no end here
+abbrev pub EndsStand : List Side → List Side → List LocalBuffer → List Call → Type 0
+EndsStand puts takes lists calls = PutsStand puts calls × TakesStand takes calls × ListsStand (λ b. Has puts b ⊎ Has takes b) lists calls
+
+-- ends of buffers of which nothing was asked: their records are empty, and so are the answers of these buffers' lists
+abbrev pub AreNew : List Side → List LocalBuffer → Type 0
+AreNew sides lists =
+    (k : ℕ) (d : Side) → k < length sides
+    → ((slice_index_or sides k d).window.answers ≡ [])
+    × ((slice_index_or sides k d).buffer < length lists)
+    × ((e : LocalBuffer) → all_answers (slice_index_or lists (slice_index_or sides k d).buffer e) ≡ no_answers)

@@ -1,0 +1,4 @@
+pub mod Ends
+pub mod Local
+pub mod Same
+pub mod Sides

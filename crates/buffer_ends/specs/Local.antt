@@ -1,0 +1,137 @@
+-- A buffer that one clock keeps as a list.
+use Rattle.std.specs.Prelude.{◌≡◌, ℕ, zero, suc, ℤ, ◌<◌, ◌==◌, Bool, true, false, not, List, [], ◌∷◌, ◌++◌, length, flat_map, count_by, Some, None, if◌then◌else◌, refl}
+use Rattle.std.specs.Coded.{Coded, code_by, coded×, coded_ℕ, coded_ℤ, coded_bool, coded_list}
+use Rattle.frame_core.specs.declared.cell.Cell.{Cell}
+use Rattle.frame_core.specs.Calls.{Call}
+use Rattle.frame_core.specs.Calls.Call.{Took, Given}
+use Rattle.plan_core.specs.declared.sink.BufferPlan.{BufferPlan}
+use Rattle.buffer_ends.specs.declared.counts.Counts.{Counts}
+
+-- the answers of one window: of the puts, true for an accepted chunk, and of the takes, true for a chunk that was got
+pub record Answers : Type 0 where
+  pub puts : List Bool
+  pub takes : List Bool
+
+-- What it may hold and holds, the answers of each window that was closed, and those of the window that is not.
+pub record LocalBuffer : Type 0 where
+  pub capacity : ℕ
+  pub chunks : List (List Cell)
+  pub closed : List Answers
+  pub current : Answers
+
+-- no answer
+abbrev pub no_answers : Answers
+no_answers = record { puts = []; takes = [] }
+
+-- a buffer before any call
+abbrev pub empty_buffer : ℕ → LocalBuffer
+empty_buffer capacity = record { capacity = capacity; chunks = []; closed = []; current = no_answers }
+
+-- all its answers, the oldest first
+abbrev pub puts_of : Answers → List Bool
+puts_of answers = answers.puts
+
+abbrev pub takes_of_window : Answers → List Bool
+takes_of_window answers = answers.takes
+
+abbrev pub all_answers : LocalBuffer → Answers
+all_answers buffer = record {
+  puts = flat_map puts_of buffer.closed ++ buffer.current.puts;
+  takes = flat_map takes_of_window buffer.closed ++ buffer.current.takes;
+}
+
+-- what the rules of a bounded queue speak of: the chunks and all answers
+pub record Held : Type 0 where
+  pub capacity : ℕ
+  pub chunks : List (List Cell)
+  pub answers : Answers
+
+abbrev pub held : LocalBuffer → Held
+held buffer = record { capacity = buffer.capacity; chunks = buffer.chunks; answers = all_answers buffer }
+
+abbrev pub empty_list : ℕ → Held
+empty_list capacity = record { capacity = capacity; chunks = []; answers = no_answers }
+
+-- answers with one more
+abbrev pub with_put : Bool → Answers → Answers
+with_put answer answers = record { puts = answers.puts ++ answer ∷ []; takes = answers.takes }
+
+abbrev pub with_take : Bool → Answers → Answers
+with_take answer answers = record { puts = answers.puts; takes = answers.takes ++ answer ∷ [] }
+
+-- A call on a list: a take gets the front, and is empty only where nothing is there; a give goes to the back, and is
+-- refused only where the list is full.
+abbrev pub Step : Held → Call → Held → Type 0
+Step before (Took buffer None) after =
+    (before.chunks ≡ []) × (after ≡ record before { answers = with_take false before.answers })
+Step before (Took buffer (Some chunk)) after =
+    (rest : List (List Cell)) × (before.chunks ≡ chunk ∷ rest)
+    × (after ≡ record { capacity = before.capacity; chunks = rest; answers = with_take true before.answers })
+Step before (Given buffer chunk true) after =
+    (length before.chunks < before.capacity)
+    × (after ≡ record { capacity = before.capacity; chunks = before.chunks ++ chunk ∷ []; answers = with_put true before.answers })
+Step before (Given buffer chunk false) after =
+    (length before.chunks ≡ before.capacity) × (after ≡ record before { answers = with_put false before.answers })
+
+-- these calls lead from one state of a list to the other
+abbrev pub Leads : Held → List Call → Held → Type 0
+Leads before [] after = before ≡ after
+Leads before (call ∷ calls) after = (between : Held) × Step before call between × Leads between calls after
+
+-- the calls on one buffer
+abbrev pub buffer_of : Call → ℕ
+buffer_of (Took buffer answer) = buffer
+buffer_of (Given buffer chunk accepted) = buffer
+
+abbrev pub on : ℕ → List Call → List Call
+on buffer [] = []
+on buffer (call ∷ calls) = if buffer == buffer_of call then call ∷ on buffer calls else on buffer calls
+
+-- how many answers are of each sort
+abbrev pub yes : Bool → Bool
+yes answer = answer
+
+abbrev pub counts_of : Answers → Counts
+counts_of answers = record {
+  accepted = count_by yes answers.puts;
+  full = count_by not answers.puts;
+  got = count_by yes answers.takes;
+  empty = count_by not answers.takes;
+}
+
+-- the buffer with its window closed, and the next one open
+abbrev pub closed : LocalBuffer → LocalBuffer
+closed buffer = record {
+  capacity = buffer.capacity;
+  chunks = buffer.chunks;
+  closed = buffer.closed ++ buffer.current ∷ [];
+  current = no_answers;
+}
+
+-- the windows of the first buffers closed
+abbrev pub closed_first : ℕ → List LocalBuffer → List LocalBuffer
+closed_first zero buffers = buffers
+closed_first (suc n) [] = []
+closed_first (suc n) (buffer ∷ buffers) = closed buffer ∷ closed_first n buffers
+
+abbrev pub closed_windows : LocalBuffer → List Answers
+closed_windows buffer = buffer.closed
+
+-- a buffer of a plan before any call
+abbrev pub planned : BufferPlan → LocalBuffer
+planned buffer = empty_buffer buffer.capacity
+
+abbrev pub cell_coded : Coded Cell
+cell_coded =
+    code_by (ℤ × (ℤ × Bool)) (coded× coded_ℤ (coded× coded_ℤ coded_bool))
+    (λ c. (c.left, (c.right, c.first))) (λ p. record { left = p.0; right = p.1.0; first = p.1.1 }) (λ _. refl)
+
+abbrev pub answers_coded : Coded Answers
+answers_coded = code_by (List Bool × List Bool) (coded× (coded_list coded_bool) (coded_list coded_bool))
+    (λ a. (a.puts, a.takes)) (λ p. record { puts = p.0; takes = p.1 }) (λ _. refl)
+
+abbrev pub buffer_coded : Coded LocalBuffer
+buffer_coded =
+    code_by (ℕ × (List (List Cell) × (List Answers × Answers)))
+    (coded× coded_ℕ (coded× (coded_list (coded_list cell_coded)) (coded× (coded_list answers_coded) answers_coded)))
+    (λ b. (b.capacity, (b.chunks, (b.closed, b.current)))) (λ p. record { capacity = p.0; chunks = p.1.0; closed = p.1.1.0; current = p.1.1.1 }) (λ _. refl)

@@ -1,0 +1,47 @@
+-- A clock's end of a buffer that joins it to another clock: the buffer's number, and the window that is open.
+use Rattle.std.specs.Prelude.{◌≡◌, ℕ, ◌<◌, List, length, slice_index_or, Option, refl}
+use Rattle.std.specs.Coded.{Coded, code_by, coded×, coded_ℕ}
+use Rattle.std.proofs.Common.{◌∙◌, arith}
+use Rattle.frame_core.specs.declared.cell.Cell.{Cell}
+use Rattle.frame_core.specs.declared.chunk.Gave.{Gave}
+use Rattle.buffer_queue.specs.Window.{Window, window_coded, Puts, Takes}
+
+pub record Side : Type 0 where
+  pub buffer : ℕ
+  pub window : Window
+
+abbrev pub side_coded : Coded Side
+side_coded = code_by (ℕ × Window) (coded× coded_ℕ window_coded) (λ s. (s.buffer, s.window)) (λ p. record { buffer = p.0; window = p.1 }) (λ _. refl)
+
+-- no two ends are of one buffer
+abbrev pub Apart : List Side → Type 0
+Apart sides =
+    (i j : ℕ) (d : Side) → i < length sides → j < length sides
+    → (slice_index_or sides i d).buffer ≡ (slice_index_or sides j d).buffer → i ≡ j
+
+-- an end before and after a put of this chunk with this answer, and before and after a take
+abbrev pub PutsSide : Side → List Cell → Side → Gave → Type 0
+PutsSide before chunk after gave = (after.buffer ≡ before.buffer) × Puts before.window chunk after.window gave
+
+abbrev pub TakesSide : Side → Option (List Cell) → Side → Type 0
+TakesSide before answer after = (after.buffer ≡ before.buffer) × Takes before.window after.window answer
+
+-- the same end: of one buffer and queue, and in a window that opened with the same chunks
+pub record SameSide (before after : Side) : Type 0 where
+  pub buffer : after.buffer ≡ before.buffer
+  pub queue : after.window.queue ≡ before.window.queue
+  pub opening : after.window.opening ≡ before.window.opening
+
+pub record SameSides (before after : List Side) : Type 0 where
+  pub many : length after ≡ length before
+  pub each : (k : ℕ) (d : Side) → k < length before → SameSide (slice_index_or before k d) (slice_index_or after k d)
+
+pub same_sides_refl : (ss : List Side) → SameSides ss ss
+same_sides_refl ss = record { many = refl; each = λ k d h. record { buffer = refl; queue = refl; opening = refl } }
+
+pub same_sides_trans : (ss ts us : List Side) → SameSides ss ts → SameSides ts us → SameSides ss us
+same_sides_trans ss ts us a b = record {
+  many = b.many ∙ a.many;
+  each = λ k d h. let x = a.each k d h in let y = b.each k d (omega (arith, a.many, h)) in
+      record { buffer = y.buffer ∙ x.buffer; queue = y.queue ∙ x.queue; opening = y.opening ∙ x.opening };
+}

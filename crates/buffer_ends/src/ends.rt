@@ -1,0 +1,181 @@
+// A clock's ends of the buffers that join it to other clocks.
+ghost use Rattle.std.specs.Prelude.{◌≡◌, ◌≢◌, ◌<◌, ℕ, length, IfSome, IfNone, IfOk, IfErr, OnErr, slice_index_or, slice_set};
+ghost use Rattle.buffer_queue.specs.Window.{Puts, Takes};
+ghost use Rattle.buffer_ends.specs.Sides.{Side, PutsSide, TakesSide, Apart, SameSide, SameSides};
+
+use buffer_queue::{BufferQueue, PutPass, TakePass};
+use frame_core::{Chunk, Gave};
+use liq_base::Memory;
+use std::marker::Model;
+use std::sync::Wait;
+
+/// A clock's end of a buffer to which it gives.
+#[derive(Drop)]
+pub struct PutEnd<'a> {
+    buffer: u32,
+    queue: &'a BufferQueue,
+    pass: PutPass,
+}
+
+impl<'a> Model for PutEnd<'a> {
+    ghost use Rattle.std.specs.Prelude.{◌≡◌};
+    ghost use Rattle.buffer_ends.specs.Sides.{Side, side_coded};
+
+    ghost Value = { Side };
+
+    ghost coded = { side_coded };
+
+    ghost view = { λ e. record { buffer = e.buffer; window = e.pass } };
+
+    ghost invariant = { λ e. e.pass.queue ≡ e.queue.now };
+}
+
+/// A clock's end of a buffer from which it takes.
+#[derive(Drop)]
+pub struct TakeEnd<'a> {
+    buffer: u32,
+    queue: &'a BufferQueue,
+    pass: TakePass,
+}
+
+impl<'a> Model for TakeEnd<'a> {
+    ghost use Rattle.std.specs.Prelude.{◌≡◌};
+    ghost use Rattle.buffer_ends.specs.Sides.{Side, side_coded};
+
+    ghost Value = { Side };
+
+    ghost coded = { side_coded };
+
+    ghost view = { λ e. record { buffer = e.buffer; window = e.pass } };
+
+    ghost invariant = { λ e. e.pass.queue ≡ e.queue.now };
+}
+
+impl<'a> PutEnd<'a> {
+    /// The end of a buffer with its queue and the queue's pass.
+    pub fn new(buffer: u32, queue: &'a BufferQueue, pass: PutPass) -> PutEnd<'a>
+        requires { pass.queue ≡ queue.now }
+        ensures { result ≡ record { buffer = buffer; window = pass } }
+    {
+        PutEnd {
+            buffer,
+            queue,
+            pass,
+        }
+    }
+
+    /// The pass, with the answers of the calls.
+    pub fn into_pass(self) -> PutPass
+        ensures { result ≡ self.entry.window }
+    {
+        self.pass
+    }
+
+    /// The number of the buffer.
+    pub fn buffer(&self) -> u32
+        ensures { result ≡ self.now.buffer }
+    {
+        self.buffer
+    }
+
+    fn give<R: Wait>(&mut self, rt: &R, chunk: Chunk) -> Result<Gave, (Chunk, Memory)>
+        ensures same { SameSide self.old self.new }
+        ensures answer { IfOk result (Puts self.old.window chunk self.new.window) }
+        ensures memory { IfErr result (λ e. (e.0 ≡ chunk) × (self.new ≡ self.old)) }
+    {
+        self.queue.put(rt, &mut self.pass, chunk)
+    }
+}
+
+impl<'a> TakeEnd<'a> {
+    /// The end of a buffer with its queue and the queue's pass.
+    pub fn new(buffer: u32, queue: &'a BufferQueue, pass: TakePass) -> TakeEnd<'a>
+        requires { pass.queue ≡ queue.now }
+        ensures { result ≡ record { buffer = buffer; window = pass } }
+    {
+        TakeEnd {
+            buffer,
+            queue,
+            pass,
+        }
+    }
+
+    /// The pass, with the answers of the calls.
+    pub fn into_pass(self) -> TakePass
+        ensures { result ≡ self.entry.window }
+    {
+        self.pass
+    }
+
+    /// The number of the buffer.
+    pub fn buffer(&self) -> u32
+        ensures { result ≡ self.now.buffer }
+    {
+        self.buffer
+    }
+
+    fn take<R: Wait>(&mut self, rt: &R) -> Result<Option<Chunk>, Memory>
+        ensures same { SameSide self.old self.new }
+        ensures answer { IfOk result (Takes self.old.window self.new.window) }
+        ensures memory { OnErr result (self.new ≡ self.old) }
+    {
+        self.queue.take(rt, &mut self.pass)
+    }
+}
+
+// Where the end of a buffer stands, if one is there.
+pub(crate) fn put_place(ends: &Vec<PutEnd<'_>>, buffer: u32) -> Option<usize>
+    ensures some { IfSome result (λ k. (k < length ends.now.items) × ((d : Side) → (slice_index_or ends.now.items k d).buffer ≡ buffer)) }
+    ensures none { IfNone result ((k : ℕ) (d : Side) → k < length ends.now.items → (slice_index_or ends.now.items k d).buffer ≢ buffer) }
+{
+    for i in 0..ends.len() {
+        if ends[i].buffer() == buffer {
+            return Some(i);
+        }
+    }
+    None
+}
+
+// Where the end of a buffer stands, if one is there.
+pub(crate) fn take_place(ends: &Vec<TakeEnd<'_>>, buffer: u32) -> Option<usize>
+    ensures some { IfSome result (λ k. (k < length ends.now.items) × ((d : Side) → (slice_index_or ends.now.items k d).buffer ≡ buffer)) }
+    ensures none { IfNone result ((k : ℕ) (d : Side) → k < length ends.now.items → (slice_index_or ends.now.items k d).buffer ≢ buffer) }
+{
+    for i in 0..ends.len() {
+        if ends[i].buffer() == buffer {
+            return Some(i);
+        }
+    }
+    None
+}
+
+// Gives a chunk to the end at this place.
+pub(crate) fn give_at<R: Wait>(
+    rt: &R,
+    ends: &mut Vec<PutEnd<'_>>,
+    place: usize,
+    chunk: Chunk,
+) -> Result<Gave, (Chunk, Memory)>
+    requires { place < length ends.old.items }
+    ensures ok { IfOk result (λ gave. (s : Side) × (ends.new.items ≡ slice_set ends.old.items place s) × ((d : Side) → PutsSide (slice_index_or ends.old.items place d) chunk s gave)) }
+    ensures memory { IfErr result (λ e. (e.0 ≡ chunk) × (ends.new.items ≡ ends.old.items)) }
+    ensures same { SameSides ends.old.items ends.new.items }
+    ensures apart { Apart ends.old.items → Apart ends.new.items }
+{
+    ends[place].give(rt, chunk)
+}
+
+// Takes a chunk from the end at this place.
+pub(crate) fn take_at<R: Wait>(
+    rt: &R,
+    ends: &mut Vec<TakeEnd<'_>>,
+    place: usize,
+) -> Result<Option<Chunk>, Memory>
+    requires { place < length ends.old.items }
+    ensures ok { IfOk result (λ answer. (s : Side) × (ends.new.items ≡ slice_set ends.old.items place s) × ((d : Side) → TakesSide (slice_index_or ends.old.items place d) answer s)) }
+    ensures memory { OnErr result (ends.new.items ≡ ends.old.items) }
+    ensures same { SameSides ends.old.items ends.new.items }
+    ensures apart { Apart ends.old.items → Apart ends.new.items }
+{
+    ends[place].take(rt)
+}
