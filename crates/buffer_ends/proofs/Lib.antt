@@ -2,3 +2,4 @@ pub mod Steps
 pub mod EndSteps
 pub mod Windows
 pub mod Beginnings
+pub mod Counting

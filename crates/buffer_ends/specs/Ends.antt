@@ -1,8 +1,10 @@
 -- What the taps of a clock stand for.
-use Rattle.std.specs.Prelude.{◌≡◌, ℕ, ◌<◌, List, [], length, slice_index_or, ◌⊎◌}
+use Rattle.std.specs.Prelude.{◌≡◌, ℕ, ◌<◌, not, List, [], length, map, count_by, slice_index_or, ◌⊎◌}
 use Rattle.frame_core.specs.Calls.{Call, takes_of, puts_to}
 use Rattle.buffer_ends.specs.Sides.{Side}
-use Rattle.buffer_ends.specs.Local.{LocalBuffer, held, on, Leads, empty_list, no_answers, all_answers}
+use Rattle.buffer_ends.specs.Local.{LocalBuffer, held, on, Leads, empty_list, no_answers, all_answers, yes}
+use Rattle.buffer_queue.specs.Window.{is_chunk}
+use Rattle.buffer_ends.specs.declared.counts.Counts.{Counts}
 
 -- an end is one of this buffer
 abbrev pub Has : List Side → ℕ → Type 0
@@ -36,3 +38,19 @@ AreNew sides lists =
     → ((slice_index_or sides k d).window.answers ≡ [])
     × ((slice_index_or sides k d).buffer < length lists)
     × ((e : LocalBuffer) → all_answers (slice_index_or lists (slice_index_or sides k d).buffer e) ≡ no_answers)
+
+-- As many puts of a buffer were accepted, and as many found it full, as its end's record has, or its list's where it has no end.
+abbrev pub PutsCounted : List Side → LocalBuffer → ℕ → Counts → Type 0
+PutsCounted sides list b counts =
+    ((k : ℕ) (d : Side) → k < length sides → (slice_index_or sides k d).buffer ≡ b
+    → (counts.accepted ≡ count_by yes (map is_chunk (slice_index_or sides k d).window.answers))
+    × (counts.full ≡ count_by not (map is_chunk (slice_index_or sides k d).window.answers)))
+    × ((Has sides b → ⊥) → (counts.accepted ≡ count_by yes (all_answers list).puts) × (counts.full ≡ count_by not (all_answers list).puts))
+
+-- the same of the takes
+abbrev pub TakesCounted : List Side → LocalBuffer → ℕ → Counts → Type 0
+TakesCounted sides list b counts =
+    ((k : ℕ) (d : Side) → k < length sides → (slice_index_or sides k d).buffer ≡ b
+    → (counts.got ≡ count_by yes (map is_chunk (slice_index_or sides k d).window.answers))
+    × (counts.empty ≡ count_by not (map is_chunk (slice_index_or sides k d).window.answers)))
+    × ((Has sides b → ⊥) → (counts.got ≡ count_by yes (all_answers list).takes) × (counts.empty ≡ count_by not (all_answers list).takes))

@@ -1,8 +1,11 @@
 // A clock's ends of the buffers that join it to other clocks.
-ghost use Rattle.std.specs.Prelude.{◌≡◌, ◌≢◌, ◌<◌, ℕ, length, IfSome, IfNone, IfOk, IfErr, OnErr, slice_index_or, slice_set};
-ghost use Rattle.buffer_queue.specs.Window.{Puts, Takes};
+ghost use Rattle.std.specs.Prelude.{◌≡◌, ◌≢◌, ◌<◌, ℕ, map, length, count_by, not, IfSome, IfNone, IfOk, IfErr, OnErr, slice_index_or, slice_set};
+ghost use Rattle.buffer_queue.specs.Window.{Puts, Takes, is_chunk};
+ghost use Rattle.buffer_ends.specs.Local.{LocalBuffer, all_answers, counts_of, yes};
+ghost use Rattle.buffer_ends.specs.Ends.{PutsCounted, TakesCounted};
 ghost use Rattle.buffer_ends.specs.Sides.{Side, PutsSide, TakesSide, Apart, SameSide, SameSides};
 
+use crate::counts::Counts;
 use buffer_queue::{BufferQueue, PutPass, TakePass};
 use frame_core::{Chunk, Gave};
 use liq_base::Memory;
@@ -78,6 +81,14 @@ impl<'a> PutEnd<'a> {
         self.buffer
     }
 
+    // How many puts were accepted, and how many found the queue full.
+    fn counted(&self) -> (u64, u64)
+        ensures yes { result.0 ≡ count_by yes (map is_chunk self.now.window.answers) }
+        ensures no { result.1 ≡ count_by not (map is_chunk self.now.window.answers) }
+    {
+        counted(self.pass.answers())
+    }
+
     fn give<R: Wait>(&mut self, rt: &R, chunk: Chunk) -> Result<Gave, (Chunk, Memory)>
         ensures same { SameSide self.old self.new }
         ensures answer { IfOk result (Puts self.old.window chunk self.new.window) }
@@ -114,12 +125,68 @@ impl<'a> TakeEnd<'a> {
         self.buffer
     }
 
+    // How many takes got a chunk, and how many found the queue empty.
+    fn counted(&self) -> (u64, u64)
+        ensures yes { result.0 ≡ count_by yes (map is_chunk self.now.window.answers) }
+        ensures no { result.1 ≡ count_by not (map is_chunk self.now.window.answers) }
+    {
+        counted(self.pass.answers())
+    }
+
     fn take<R: Wait>(&mut self, rt: &R) -> Result<Option<Chunk>, Memory>
         ensures same { SameSide self.old self.new }
         ensures answer { IfOk result (Takes self.old.window self.new.window) }
         ensures memory { OnErr result (self.new ≡ self.old) }
     {
         self.queue.take(rt, &mut self.pass)
+    }
+}
+
+// How many answers are true, and how many are not.
+fn counted(answers: &[bool]) -> (u64, u64)
+    ensures yes { result.0 ≡ count_by yes answers.now }
+    ensures no { result.1 ≡ count_by not answers.now }
+{
+    let yes = answers.iter().filter(|answer| **answer).count() as u64;
+    let no = answers.iter().filter(|answer| !**answer).count() as u64;
+    (yes, no)
+}
+
+// The counts of a buffer with those of the puts of its end, if one is there.
+pub(crate) fn with_puts(ends: &Vec<PutEnd<'_>>, buffer: u32, counts: Counts) -> Counts
+    requires { Apart ends.now.items }
+    ensures puts { (list : LocalBuffer) → counts ≡ counts_of (all_answers list) → PutsCounted ends.now.items list buffer result }
+    ensures takes { (result.got ≡ counts.got) × (result.empty ≡ counts.empty) }
+{
+    match put_place(ends, buffer) {
+        Some(place) => {
+            let (accepted, full) = ends[place].counted();
+            Counts {
+                accepted,
+                full,
+                ..counts
+            }
+        }
+        None => counts,
+    }
+}
+
+// The counts of a buffer with those of the takes of its end, if one is there.
+pub(crate) fn with_takes(ends: &Vec<TakeEnd<'_>>, buffer: u32, counts: Counts) -> Counts
+    requires { Apart ends.now.items }
+    ensures takes { (list : LocalBuffer) → (counts.got ≡ count_by yes (all_answers list).takes) → (counts.empty ≡ count_by not (all_answers list).takes) → TakesCounted ends.now.items list buffer result }
+    ensures puts { (result.accepted ≡ counts.accepted) × (result.full ≡ counts.full) }
+{
+    match take_place(ends, buffer) {
+        Some(place) => {
+            let (got, empty) = ends[place].counted();
+            Counts {
+                got,
+                empty,
+                ..counts
+            }
+        }
+        None => counts,
     }
 }
 

@@ -1,11 +1,14 @@
 // The buffers of one clock beside other clocks.
-ghost use Rattle.std.specs.Prelude.{◌≡◌, ◌<◌, ℕ, List, length, map};
+ghost use Rattle.std.specs.Prelude.{◌≡◌, ◌<◌, ℕ, List, length, slice_index_or};
 ghost use Rattle.frame_core.specs.Calls.{Call};
 ghost use Rattle.buffer_ends.specs.Local.{LocalBuffer};
-ghost use Rattle.buffer_ends.specs.Ends.{AreNew, EndsStand, LocalStands};
+ghost use Rattle.buffer_ends.specs.Ends.{AreNew, EndsStand, LocalStands, PutsCounted, TakesCounted};
 ghost use Rattle.buffer_ends.specs.Sides.{Apart};
 
-use crate::ends::{PutEnd, TakeEnd, give_at, put_place, take_at, take_place};
+use crate::counts::Counts;
+use crate::ends::{
+    PutEnd, TakeEnd, give_at, put_place, take_at, take_place, with_puts, with_takes,
+};
 use crate::local_taps::LocalTaps;
 use frame_core::{Chunk, Gave, Taps};
 use liq_base::Memory;
@@ -54,6 +57,18 @@ impl<'a, R> ThreadTaps<'a, R> {
             takes,
         } = self;
         (local, puts, takes)
+    }
+
+    /// How often the calls on a buffer had which answer, by the answers that are held: those of its end's window, or those
+    /// of its list where it has no end.
+    pub fn counts(&self, buffer: u32) -> Counts
+        requires { buffer < length self.now.local }
+        ensures puts { (d : LocalBuffer) → PutsCounted self.now.puts.items (slice_index_or self.now.local buffer d) buffer result }
+        ensures takes { (d : LocalBuffer) → TakesCounted self.now.takes.items (slice_index_or self.now.local buffer d) buffer result }
+    {
+        let counts = self.local.counts(buffer);
+        let counts = with_puts(&self.puts, buffer, counts);
+        with_takes(&self.takes, buffer, counts)
     }
 }
 
