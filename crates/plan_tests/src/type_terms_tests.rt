@@ -269,10 +269,8 @@ fn a_type_that_doubles_thirty_times(rt: HostRuntime) -> Result<(), Fail> {
     let again = unified(&rt, rt.alloc(), &mut subst, &top, &top)?;
     assert!(rt; again);
     let other = tower(&rt, rt.alloc(), &mut subst, 30, true)?;
-    assert_eq!(rt;
-        unified(&rt, rt.alloc(), &mut subst, &top, &other),
-        Err(Memory)
-    );
+    let both = unified(&rt, rt.alloc(), &mut subst, &top, &other)?;
+    assert!(rt; both);
     let covered = subst.covers(rt.alloc(), &top)?;
     assert!(rt; covered);
     assert!(rt;

@@ -1,3 +1,4 @@
+pub mod Agendas
 pub mod Avoiding
 pub mod Basics
 pub mod Bindings
@@ -16,6 +17,5 @@ pub mod Solutions
 pub mod Stack
 pub mod Terms
 pub mod Trails
-pub mod Turns
 pub mod Views
 pub mod Walks

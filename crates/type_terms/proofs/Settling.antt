@@ -83,6 +83,7 @@ forced_number vs ks x t h f n o = record {
   over = o;
   number = λ _. number_term vs t n;
   forced = λ a s e. e;
+  enough = λ a s e. e;
 }
 
 pub clash_number : (vs : List Variable) (x : ℕ) (t : Term) → number_at vs x ≡ true → extra t ≡ 1 → is_number_base (base_of t) ≡ false → (a : Assignment) → (number_at vs x ≡ true → IsNumber (a.type_of x)) → a.type_of x ≡ meaning a t → ⊥
@@ -96,21 +97,15 @@ forced_other vs ks x t h f n v o = record {
   over = o;
   number = λ is. absurd (let g : ◌≡◌ {A = Bool} false true = sym n ∙ is in cc);
   forced = λ a s e. e;
+  enough = λ a s e. e;
 }
 
 -- the same, where the two equations have the same solutions
 pub settles_move : (s : Table) (l r l' r' : Term) (d : Difference) → ((a : Assignment) → Solves a s → meaning a l' ≡ meaning a r' → meaning a l ≡ meaning a r) → ((a : Assignment) → Solves a s → meaning a l ≡ meaning a r → meaning a l' ≡ meaning a r') → Settles s l r d → Settles s l' r' d
 settles_move s l r l' r' Same f g h = λ a m. g a m (h a m)
 settles_move s l r l' r' Clash f g h = λ a m e. h a m (f a m e)
-settles_move s l r l' r' (Bind x t) f g h = record { inside = h.inside; free = h.free; avoids = h.avoids; over = h.over; number = h.number; forced = λ a m e. h.forced a m (f a m e) }
-settles_move s l r l' r' (BindKind x t) f g h = record { inside = h.inside; free = h.free; lower = h.lower; forced = λ a m e. h.forced a m (f a m e) }
-
--- the first part that differs tells of the whole
-pub settles_part : (s : Table) (l r l' r' : Term) (d : Difference) → (d ≡ Same → ⊥) → ((a : Assignment) → Solves a s → meaning a l' ≡ meaning a r' → meaning a l ≡ meaning a r) → Settles s l r d → Settles s l' r' d
-settles_part s l r l' r' Same n f h = absurd (n refl)
-settles_part s l r l' r' Clash n f h = λ a m e. h a m (f a m e)
-settles_part s l r l' r' (Bind x t) n f h = record { inside = h.inside; free = h.free; avoids = h.avoids; over = h.over; number = h.number; forced = λ a m e. h.forced a m (f a m e) }
-settles_part s l r l' r' (BindKind x t) n f h = record { inside = h.inside; free = h.free; lower = h.lower; forced = λ a m e. h.forced a m (f a m e) }
+settles_move s l r l' r' (Bind x t) f g h = record { inside = h.inside; free = h.free; avoids = h.avoids; over = h.over; number = h.number; forced = λ a m e. h.forced a m (f a m e); enough = λ a m e. g a m (h.enough a m e) }
+settles_move s l r l' r' (BindKind x t) f g h = record { inside = h.inside; free = h.free; lower = h.lower; forced = λ a m e. h.forced a m (f a m e); enough = λ a m e. g a m (h.enough a m e) }
 
 -- the two sides, resolved
 abbrev pub SameValue : Table → Term → Term → Type 0
@@ -141,10 +136,11 @@ forced_variable vs ks x y t is hx hy fx fy ne n = record {
   over = subst (λ u. IsOver (table vs ks) u) (sym is) hy;
   number = λ e. subst (λ u. IsNumberTerm vs u) (sym is) (n e);
   forced = λ a m e. e ∙ sym (ap (meaning a) is);
+  enough = λ a m e. e ∙ ap (meaning a) is;
 }
 
 pub forced_flipped : (s : Table) (l r : Term) (x : ℕ) (t : Term) → IsForced s r l x t → IsForced s l r x t
-forced_flipped s l r x t h = record { inside = h.inside; free = h.free; avoids = h.avoids; over = h.over; number = h.number; forced = λ a m e. h.forced a m (sym e) }
+forced_flipped s l r x t h = record { inside = h.inside; free = h.free; avoids = h.avoids; over = h.over; number = h.number; forced = λ a m e. h.forced a m (sym e); enough = λ a m e. sym (h.enough a m e) }
 
 -- shapes
 

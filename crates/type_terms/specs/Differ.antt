@@ -1,4 +1,4 @@
--- What the first difference of two types tells of the solutions that make them equal.
+-- What the difference of two types tells of the solutions that make them equal.
 use Rattle.std.specs.Prelude.{◌≡◌, ◌≢◌, ℕ, ◌<◌, Bool, true, false, length, Option, Some, None}
 use Rattle.type_terms.specs.Ground.{Assignment}
 use Rattle.type_terms.specs.Term.{Term, term_of, meaning, kind_meaning}
@@ -10,7 +10,7 @@ use Rattle.type_terms.specs.declared.ty.KindTerm.TheVariants.{Var}
 use Rattle.type_terms.specs.declared.differ.Difference.{Difference}
 use Rattle.type_terms.specs.declared.differ.Difference.TheVariants.{Same, Clash, Bind, BindKind}
 
--- where the two are equal the free variable x is t, to which it may be bound
+-- the two are equal exactly where the free variable x is t, to which it may be bound
 pub record IsForced (s : Table) (left right : Term) (x : ℕ) (t : Term) : Type 0 where
   pub inside : x < length s.types
   pub free : bound_at s.types x ≡ None
@@ -18,6 +18,7 @@ pub record IsForced (s : Table) (left right : Term) (x : ℕ) (t : Term) : Type 
   pub over : IsOver s t
   pub number : number_at s.types x ≡ true → IsNumberTerm s.types t
   pub forced : (a : Assignment) → Solves a s → meaning a left ≡ meaning a right → a.type_of x ≡ meaning a t
+  pub enough : (a : Assignment) → Solves a s → a.type_of x ≡ meaning a t → meaning a left ≡ meaning a right
 
 -- the same of a kind variable
 pub record IsKindForced (s : Table) (left right : Term) (x : ℕ) (t : KindTerm) : Type 0 where
@@ -25,6 +26,7 @@ pub record IsKindForced (s : Table) (left right : Term) (x : ℕ) (t : KindTerm)
   pub free : kind_at s.kinds x ≡ None
   pub lower : (j : ℕ) → t ≡ Var j → j < x
   pub forced : (a : Assignment) → Solves a s → meaning a left ≡ meaning a right → a.kind_of x ≡ kind_meaning a t
+  pub enough : (a : Assignment) → Solves a s → a.kind_of x ≡ kind_meaning a t → meaning a left ≡ meaning a right
 
 abbrev pub Settles : Table → Term → Term → Difference → Type 0
 Settles s left right Same = (a : Assignment) → Solves a s → meaning a left ≡ meaning a right

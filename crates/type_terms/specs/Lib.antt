@@ -1,3 +1,4 @@
+pub mod Agenda
 pub mod Agrees
 pub mod Codes
 pub mod Differ

@@ -1,23 +1,26 @@
-// The first difference of two types under a substitution.
-ghost use Rattle.std.specs.Prelude.{◌≡◌, ◌+◌, ◌<◌, ◌≤◌, ◌++◌, ℕ, Bool, None, Option, List, length, map, true, IfOk, OnOk};
+// The difference of two types under a substitution, and the parts that are left to compare.
+ghost use Rattle.std.specs.Prelude.{◌≡◌, ◌+◌, ◌<◌, ◌≤◌, ◌++◌, ◌∷◌, [], ℕ, Bool, None, Option, List, length, map, true, IfOk, OnOk};
 ghost use Rattle.std.specs.Bool.{OnTrue, OnFalse};
 ghost use Rattle.type_terms.specs.Differ.{Settles, is_number_base};
 ghost use Rattle.type_terms.specs.Ground.{Assignment};
 ghost use Rattle.type_terms.specs.Nested.{AreMarked};
-ghost use Rattle.type_terms.specs.Pairs.{IsSplit, pairs, parts_of, zipped};
+ghost use Rattle.type_terms.specs.Agenda.{AllEqualBelow, EqualBelow, TakesUp, agenda, pairs_of, variable_pairs};
+ghost use Rattle.type_terms.specs.Pairs.{IsSplit, parts_of, zipped};
 ghost use Rattle.type_terms.specs.Table.{table, IsOver, IsSound, IsTriangular, bound_at, kind_at, number_at, extra, FallsByNumber, MeetsKinds};
 ghost use Rattle.type_terms.specs.Term.{InTerm, InKind, base_of, term_of, terms_of, variable, kind_meaning, source_term};
 ghost use Rattle.type_terms.specs.Variables.{Variable};
 ghost use Rattle.type_terms.specs.declared.ty.KindTerm.{KindTerm};
 ghost use Rattle.type_terms.specs.declared.ty.KindTerm.TheVariants.{Var};
 
-use crate::occurs::{MOST_STEPS, occurs_in, resolve};
+use crate::copying::{MOST_LEVELS, copy};
+use crate::occurs::{occurs_in, resolve};
 use crate::ty::{Base, KindTerm, Ty};
 use crate::type_variable::TypeVariable;
+use indexmap::IndexSet;
 use liq_base::Memory;
 use std::alloc::Global;
 
-/// The first difference of two types, and the binding that takes it away.
+/// The difference of two types, and the binding that takes it away.
 #[derive(Drop)]
 pub enum Difference<'a> {
     Same,
@@ -235,35 +238,72 @@ fn are_one_variable(left: &Ty, right: &Ty) -> bool
     }
 }
 
-/// Puts the parts of two tuples on the stack.
-fn push_parts<'a>(
-    work: &mut Vec<(&'a Ty, &'a Ty)>,
-    ss: &'a [Ty],
-    ts: &'a [Ty],
+/// Whether both types are variables that were put down for comparison before.
+fn is_known(seen: &IndexSet<(u64, u64)>, left: &Ty, right: &Ty) -> bool
+    ensures { OnTrue result ((a : Assignment) (n : ℕ) → AllEqualBelow a n (variable_pairs seen.now.keys) → EqualBelow a n (term_of left.now) (term_of right.now)) }
+{
+    match left {
+        Ty::Var(x) => match right {
+            Ty::Var(y) => seen.contains(&(*x, *y)),
+            _ => false,
+        },
+        _ => false,
+    }
+}
+
+/// Notes two variables that are put down for comparison; other types are not noted.
+fn note(seen: &mut IndexSet<(u64, u64)>, left: &Ty, right: &Ty) -> Result<(), Memory>
+    ensures known { OnOk result ((a : Assignment) (n : ℕ) → AllEqualBelow a n (variable_pairs seen.new.keys) → AllEqualBelow a n (variable_pairs seen.old.keys)) }
+    ensures learnt { OnOk result ((a : Assignment) (n : ℕ) → EqualBelow a n (term_of left.now) (term_of right.now) → AllEqualBelow a n (variable_pairs seen.old.keys) → AllEqualBelow a n (variable_pairs seen.new.keys)) }
+{
+    match left {
+        Ty::Var(x) => match right {
+            Ty::Var(y) => {
+                seen.insert((*x, *y))?;
+                Ok(())
+            }
+            _ => Ok(()),
+        },
+        _ => Ok(()),
+    }
+}
+
+/// Puts copies of two types on the stack.
+pub fn push_copies(
+    alloc: Global,
+    work: &mut Vec<(Ty, Ty)>,
+    left: &Ty,
+    right: &Ty,
 ) -> Result<(), Memory>
+    ensures { OnOk result (pairs_of work.new.items ≡ pairs_of work.old.items ++ (term_of left.now, term_of right.now) ∷ []) }
+{
+    let left = copy(alloc, left, MOST_LEVELS)?;
+    let right = copy(alloc, right, MOST_LEVELS)?;
+    work.push((left, right))?;
+    Ok(())
+}
+
+/// Puts copies of the parts of two tuples on the stack.
+fn push_parts(alloc: Global, work: &mut Vec<(Ty, Ty)>, ss: &[Ty], ts: &[Ty]) -> Result<(), Memory>
     requires { length ss.now ≡ length ts.now }
-    ensures { OnOk result (pairs work.new.items ≡ pairs work.old.items ++ zipped (terms_of (map term_of ss.now)) (terms_of (map term_of ts.now))) }
+    ensures { OnOk result (pairs_of work.new.items ≡ pairs_of work.old.items ++ zipped (terms_of (map term_of ss.now)) (terms_of (map term_of ts.now))) }
 {
     for i in 0..ss.len() {
-        work.push((&ss[i], &ts[i]))?;
+        push_copies(alloc, work, &ss[i], &ts[i])?;
     }
     Ok(())
 }
 
-/// Puts the parts of two lists or two tuples on the stack; `false` where the two are not of one such shape.
-pub fn push_split<'a>(
-    work: &mut Vec<(&'a Ty, &'a Ty)>,
-    s: &'a Ty,
-    t: &'a Ty,
-) -> Result<bool, Memory>
-    ensures yes { IfOk result (λ b. OnTrue b (IsSplit (term_of s.now) (term_of t.now) × (pairs work.new.items ≡ pairs work.old.items ++ parts_of (term_of s.now) (term_of t.now)))) }
-    ensures no { IfOk result (λ b. OnFalse b (pairs work.new.items ≡ pairs work.old.items)) }
+/// Puts copies of the parts of two lists or two tuples on the stack; `false` where the two are not of one such shape.
+fn push_split(alloc: Global, work: &mut Vec<(Ty, Ty)>, s: &Ty, t: &Ty) -> Result<bool, Memory>
+    ensures yes { IfOk result (λ b. OnTrue b (IsSplit (term_of s.now) (term_of t.now) × (pairs_of work.new.items ≡ pairs_of work.old.items ++ parts_of (term_of s.now) (term_of t.now)))) }
+    ensures no { IfOk result (λ b. OnFalse b (pairs_of work.new.items ≡ pairs_of work.old.items)) }
     ensures unsplit { IfOk result (λ b. OnFalse b (IsSplit (term_of s.now) (term_of t.now) → ⊥)) }
 {
     match s {
         Ty::List(a) => match t {
             Ty::List(b) => {
-                work.push((a, b))?;
+                push_copies(alloc, work, a, b)?;
                 Ok(true)
             }
             _ => Ok(false),
@@ -275,7 +315,7 @@ pub fn push_split<'a>(
                 if ss.len() != ts.len() {
                     return Ok(false);
                 }
-                push_parts(work, ss, ts)?;
+                push_parts(alloc, work, ss, ts)?;
                 Ok(true)
             }
             _ => Ok(false),
@@ -284,12 +324,16 @@ pub fn push_split<'a>(
     }
 }
 
-/// The first difference of two types, found with a stack of pairs that are still to be compared.
+/// The difference of two types, or their parts put on the stack.
+///
+/// Two variables whose parts were put there before are the same where those are: they are not taken apart again.
 pub fn differ<'a>(
     alloc: Global,
     types: &'a [TypeVariable],
     kinds: &[Option<KindTerm>],
     nested: &[bool],
+    work: &mut Vec<(Ty, Ty)>,
+    seen: &mut IndexSet<(u64, u64)>,
     left: &'a Ty,
     right: &'a Ty,
 ) -> Result<Difference<'a>, Memory>
@@ -297,26 +341,20 @@ pub fn differ<'a>(
     requires marked { AreMarked types.now nested.now }
     requires left { IsOver (table types.now kinds.now) (term_of left.now) }
     requires right { IsOver (table types.now kinds.now) (term_of right.now) }
-    ensures { IfOk result (λ d. Settles (table types.now kinds.now) (term_of left.now) (term_of right.now) d) }
+    ensures { IfOk result (λ d. TakesUp (table types.now kinds.now) (agenda work.old.items seen.old.keys) (agenda work.new.items seen.new.keys) (term_of left.now) (term_of right.now) d) }
 {
-    let mut work: Vec<(&'a Ty, &'a Ty)> = Vec::new(alloc);
-    work.push((left, right))?;
-    for _step in 0..MOST_STEPS {
-        let Some(next) = work.pop() else {
-            return Ok(Difference::Same);
-        };
-        if are_one_variable(next.0, next.1) {
-            continue;
-        }
-        let s = resolve(types, next.0);
-        let t = resolve(types, next.1);
-        if push_split(&mut work, s, t)? {
-            continue;
-        }
-        match differ_resolved(alloc, types, kinds, nested, s, t)? {
-            Difference::Same => {}
-            found => return Ok(found),
-        }
+    if are_one_variable(left, right) {
+        return Ok(Difference::Same);
     }
-    Err(Memory)
+    if is_known(seen, left, right) {
+        return Ok(Difference::Same);
+    }
+    let s = resolve(types, left);
+    let t = resolve(types, right);
+    if push_split(alloc, work, s, t)? {
+        note(seen, left, right)?;
+        return Ok(Difference::Same);
+    }
+    let difference = differ_resolved(alloc, types, kinds, nested, s, t)?;
+    Ok(difference)
 }

@@ -5,16 +5,18 @@ ghost use Rattle.type_terms.specs.Ground.{Assignment};
 ghost use Rattle.type_terms.specs.Nested.{AreMarked, mark_at};
 ghost use Rattle.type_terms.specs.Table.{table, Binds, BindsKind, IsOver, IsSound, Solves, bound_at, kind_at};
 ghost use Rattle.type_terms.specs.Term.{meaning, term_of};
+ghost use Rattle.type_terms.specs.Agenda.{IsTakenUp, agenda};
 ghost use Rattle.type_terms.specs.Agrees.{SameVariables};
 ghost use Rattle.type_terms.specs.Undo.{Frees, FreesKind, IsKindTrail, IsTrail};
 ghost use Rattle.type_terms.specs.Variables.{Variable};
 ghost use Rattle.type_terms.specs.declared.ty.KindTerm.{KindTerm};
 
 use crate::copying::{MOST_LEVELS, copy};
-use crate::differ::{Difference, differ, push_split};
+use crate::differ::{Difference, differ, push_copies};
 use crate::occurs::{MOST_STEPS, mark};
 use crate::ty::{KindTerm, Ty};
 use crate::type_variable::TypeVariable;
+use indexmap::IndexSet;
 use liq_base::Memory;
 use std::alloc::Global;
 
@@ -74,14 +76,16 @@ fn free_kinds(kinds: &mut [Option<KindTerm>], trail: &[u64])
     }
 }
 
-/// Binds variables until the two types are the same, or differ in shape. It begins again behind each binding. The trails tell which were bound.
-fn solve_pair(
+/// Takes up one pair: binds the variable that it forces, or puts its parts on the stack; `false` where the two differ in shape.
+fn take_up(
     alloc: Global,
     types: &mut [TypeVariable],
     kinds: &mut [Option<KindTerm>],
     nested: &mut [bool],
     type_trail: &mut Vec<u64>,
     kind_trail: &mut Vec<u64>,
+    work: &mut Vec<(Ty, Ty)>,
+    seen: &mut IndexSet<(u64, u64)>,
     left: &Ty,
     right: &Ty,
 ) -> Result<bool, Memory>
@@ -96,30 +100,30 @@ fn solve_pair(
     ensures kind_trail { (ks : List (Option KindTerm)) → IsKindTrail kind_trail.old.items ks kinds.old → IsKindTrail kind_trail.new.items ks kinds.new }
     ensures narrower { (a : Assignment) → Solves a (table types.new kinds.new) → Solves a (table types.old kinds.old) }
     ensures kept { (a : Assignment) → Solves a (table types.old kinds.old) → meaning a (term_of left.now) ≡ meaning a (term_of right.now) → Solves a (table types.new kinds.new) }
-    ensures same { IfOk result (λ yes. OnTrue yes ((a : Assignment) → Solves a (table types.new kinds.new) → meaning a (term_of left.now) ≡ meaning a (term_of right.now))) }
+    ensures same { IfOk result (λ yes. OnTrue yes (IsTakenUp (table types.new kinds.new) (agenda work.old.items seen.old.keys) (agenda work.new.items seen.new.keys) (term_of left.now) (term_of right.now))) }
     ensures clash { IfOk result (λ yes. OnFalse yes ((a : Assignment) → Solves a (table types.new kinds.new) → meaning a (term_of left.now) ≢ meaning a (term_of right.now))) }
 {
-    loop {
-        match differ(alloc, types, kinds, nested, left, right)? {
-            Difference::Same => return Ok(true),
-            Difference::Clash => return Ok(false),
-            Difference::Bind(x, t) => {
-                let t = copy(alloc, t, MOST_LEVELS)?;
-                type_trail.push(x)?;
-                mark(nested, &t);
-                bind_type(types, x, t);
-            }
-            Difference::BindKind(x, k) => {
-                kind_trail.push(x)?;
-                bind_kind(kinds, x, k);
-            }
+    match differ(alloc, types, kinds, nested, work, seen, left, right)? {
+        Difference::Same => Ok(true),
+        Difference::Clash => Ok(false),
+        Difference::Bind(x, t) => {
+            let t = copy(alloc, t, MOST_LEVELS)?;
+            type_trail.push(x)?;
+            mark(nested, &t);
+            bind_type(types, x, t);
+            Ok(true)
+        }
+        Difference::BindKind(x, k) => {
+            kind_trail.push(x)?;
+            bind_kind(kinds, x, k);
+            Ok(true)
         }
     }
 }
 
 /// Binds variables until the two types are the same, or differ in shape. The trails tell which were bound.
 ///
-/// The two types are taken apart with a stack of pairs, so that what one pair binds is not looked for again in the others.
+/// What is still to be compared stands on a stack of pairs, as copies, so that variables can be bound meanwhile. Two variables are taken apart once.
 fn solve(
     alloc: Global,
     types: &mut [TypeVariable],
@@ -146,17 +150,16 @@ fn solve(
     ensures same { IfOk result (λ yes. OnTrue yes ((a : Assignment) → Solves a (table types.new kinds.new) → meaning a (term_of left.now) ≡ meaning a (term_of right.now))) }
     ensures clash { IfOk result (λ yes. OnFalse yes ((a : Assignment) → Solves a (table types.new kinds.new) → meaning a (term_of left.now) ≢ meaning a (term_of right.now))) }
 {
-    let mut work: Vec<(&Ty, &Ty)> = Vec::new(alloc);
-    work.push((left, right))?;
+    let mut work: Vec<(Ty, Ty)> = Vec::new(alloc);
+    let mut seen: IndexSet<(u64, u64)> = IndexSet::new(alloc);
+    push_copies(alloc, &mut work, left, right)?;
     for _step in 0..MOST_STEPS {
         let Some(next) = work.pop() else {
             return Ok(true);
         };
-        if push_split(&mut work, next.0, next.1)? {
-            continue;
-        }
-        if !solve_pair(
-            alloc, types, kinds, nested, type_trail, kind_trail, next.0, next.1,
+        if !take_up(
+            alloc, types, kinds, nested, type_trail, kind_trail, &mut work, &mut seen, &next.0,
+            &next.1,
         )? {
             return Ok(false);
         }

@@ -1,52 +1,51 @@
-use Rattle.std.proofs.Common.{refl, ap}
-use Rattle.type_terms.specs.Pairs.{pairs}
+use Rattle.std.proofs.Common.{ap, refl}
+use Rattle.type_terms.specs.Agenda.{agenda, variable_pairs}
 use Rattle.type_terms.specs.Table.{table}
 use Rattle.type_terms.specs.Term.{meaning, term_of}
-use Rattle.type_terms.proofs.Settling.{over_types, settles_part, triangular}
+use Rattle.type_terms.proofs.Agendas.{taken_apart, taken_equal, taken_resolved}
 use Rattle.type_terms.proofs.Basics.{on_false, on_true}
-use Rattle.type_terms.proofs.Turns.{popped_pair, resolved_equal, resolved_needed, top_equal, top_over, turn_split}
+use Rattle.type_terms.proofs.Settling.{over_types, triangular}
 use Rattle.type_terms.proofs.differ.differ.Goals as goal
 
 pub resolve-s-requires-clause-triangular : goal.resolve-s-requires-clause-triangular
 resolve-s-requires-clause-triangular c = triangular _ _ c.requires.sound
 
 pub resolve-s-requires-clause-over : goal.resolve-s-requires-clause-over
-resolve-s-requires-clause-over c =
-    over_types c.args.types.now c.args.kinds.now (term_of c.in-Some.next.0.now)
-    (top_over (table c.args.types.now c.args.kinds.now) (term_of c.args.left.now) (term_of c.args.right.now) (term_of c.in-Some.next.0.now) (term_of c.in-Some.next.1.now) (pairs c.pop.new.self.items) (pairs c.loop-step.work.items) (popped_pair _ _ _ c.in-Some.ensures.items) c.loop-step.invariant).0
+resolve-s-requires-clause-over c = over_types c.args.types.now c.args.kinds.now (term_of c.args.left.now) c.requires.left
 
 pub resolve-t-requires-clause-triangular : goal.resolve-t-requires-clause-triangular
 resolve-t-requires-clause-triangular c = triangular _ _ c.requires.sound
 
 pub resolve-t-requires-clause-over : goal.resolve-t-requires-clause-over
-resolve-t-requires-clause-over c =
-    over_types c.args.types.now c.args.kinds.now (term_of c.in-Some.next.1.now)
-    (top_over (table c.args.types.now c.args.kinds.now) (term_of c.args.left.now) (term_of c.args.right.now) (term_of c.in-Some.next.0.now) (term_of c.in-Some.next.1.now) (pairs c.pop.new.self.items) (pairs c.loop-step.work.items) (popped_pair _ _ _ c.in-Some.ensures.items) c.loop-step.invariant).1
+resolve-t-requires-clause-over c = over_types c.args.types.now c.args.kinds.now (term_of c.args.right.now) c.requires.right
 
-pub loop-step-preserved-then-are_one_variable : goal.loop-step-preserved-then-are_one_variable
-loop-step-preserved-then-are_one_variable c =
-    top_equal (table c.args.types.now c.args.kinds.now) (term_of c.args.left.now) (term_of c.args.right.now) (term_of c.in-Some.next.0.now) (term_of c.in-Some.next.1.now) (pairs c.pop.new.self.items) (pairs c.loop-step.work.items) (popped_pair _ _ _ c.in-Some.ensures.items) c.loop-step.invariant (pairs c.pop.new.self.items) refl (λ a m. ap (meaning a) (on_true _ c.if-are_one_variable.ensures))
+pub returns-then-are_one_variable : goal.returns-then-are_one_variable
+returns-then-are_one_variable c =
+    taken_equal (table c.args.types.now c.args.kinds.now) _ (term_of c.args.left.now) (term_of c.args.right.now) (λ a n m k z. ap (meaning a) (on_true _ c.if-are_one_variable.ensures))
 
-pub loop-step-preserved-then-branch : goal.loop-step-preserved-then-branch
-loop-step-preserved-then-branch c =
+pub returns-then-is_known : goal.returns-then-is_known
+returns-then-is_known c =
+    taken_equal (table c.args.types.now c.args.kinds.now) _ (term_of c.args.left.now) (term_of c.args.right.now) (λ a n m k. on_true _ c.if-is_known.ensures a n k)
+
+pub returns-then-branch : goal.returns-then-branch
+returns-then-branch c =
     let y = on_true _ (rw c.if-branch.true at c.in_ok-push_split.ensures.yes) in
-    let o = top_over (table c.args.types.now c.args.kinds.now) (term_of c.args.left.now) (term_of c.args.right.now) (term_of c.in-Some.next.0.now) (term_of c.in-Some.next.1.now) (pairs c.pop.new.self.items) (pairs c.loop-step.work.items) (popped_pair _ _ _ c.in-Some.ensures.items) c.loop-step.invariant in
-    turn_split (table c.args.types.now c.args.kinds.now) (term_of c.args.left.now) (term_of c.args.right.now) (term_of c.in-Some.next.0.now) (term_of c.in-Some.next.1.now) (pairs c.pop.new.self.items) (pairs c.loop-step.work.items) (popped_pair _ _ _ c.in-Some.ensures.items) c.loop-step.invariant (term_of c.resolve-s.result.now) (term_of c.resolve-t.result.now) c.resolve-s.ensures.value c.resolve-t.ensures.value (pairs c.push_split.new.work.items) y.0 y.1 (c.resolve-s.ensures.kept (table c.args.types.now c.args.kinds.now) refl c.requires.sound o.0) (c.resolve-t.ensures.kept (table c.args.types.now c.args.kinds.now) refl c.requires.sound o.1)
+    let s = table c.args.types.now c.args.kinds.now in
+    taken_apart s (agenda c.args.work.now.items c.args.seen.now.keys) (agenda c.push_split.new.work.items c.note.new.seen.keys)
+    (term_of c.args.left.now) (term_of c.args.right.now) (term_of c.resolve-s.result.now) (term_of c.resolve-t.result.now)
+    (c.resolve-s.ensures.kept s refl c.requires.sound c.requires.left) (c.resolve-t.ensures.kept s refl c.requires.sound c.requires.right)
+    c.resolve-s.ensures.value c.resolve-t.ensures.value y.0 y.1 c.in_ok-note.ensures.known c.in_ok-note.ensures.learnt
 
 pub differ_resolved-requires-clause-left : goal.differ_resolved-requires-clause-left
-differ_resolved-requires-clause-left c = c.resolve-s.ensures.kept (table c.args.types.now c.args.kinds.now) refl c.requires.sound (top_over (table c.args.types.now c.args.kinds.now) (term_of c.args.left.now) (term_of c.args.right.now) (term_of c.in-Some.next.0.now) (term_of c.in-Some.next.1.now) (pairs c.pop.new.self.items) (pairs c.loop-step.work.items) (popped_pair _ _ _ c.in-Some.ensures.items) c.loop-step.invariant).0
+differ_resolved-requires-clause-left c = c.resolve-s.ensures.kept (table c.args.types.now c.args.kinds.now) refl c.requires.sound c.requires.left
 
 pub differ_resolved-requires-clause-right : goal.differ_resolved-requires-clause-right
-differ_resolved-requires-clause-right c = c.resolve-t.ensures.kept (table c.args.types.now c.args.kinds.now) refl c.requires.sound (top_over (table c.args.types.now c.args.kinds.now) (term_of c.args.left.now) (term_of c.args.right.now) (term_of c.in-Some.next.0.now) (term_of c.in-Some.next.1.now) (pairs c.pop.new.self.items) (pairs c.loop-step.work.items) (popped_pair _ _ _ c.in-Some.ensures.items) c.loop-step.invariant).1
+differ_resolved-requires-clause-right c = c.resolve-t.ensures.kept (table c.args.types.now c.args.kinds.now) refl c.requires.sound c.requires.right
 
-pub returns-in_default-2 : goal.returns-in_default-2
-returns-in_default-2 c =
-    settles_part (table c.args.types.now c.args.kinds.now) (term_of c.resolve-s.result.now) (term_of c.resolve-t.result.now) _ _ c.in_ok-found.found
-    (λ e. c.in_default-2.not-Same e)
-    (resolved_needed (table c.args.types.now c.args.kinds.now) (term_of c.args.left.now) (term_of c.args.right.now) (term_of c.in-Some.next.0.now) (term_of c.in-Some.next.1.now) (pairs c.pop.new.self.items) (pairs c.loop-step.work.items) (popped_pair _ _ _ c.in-Some.ensures.items) c.loop-step.invariant (term_of c.resolve-s.result.now) (term_of c.resolve-t.result.now) c.resolve-s.ensures.value c.resolve-t.ensures.value)
-    c.in_ok-found.ensures
-
-pub loop-step-preserved : goal.loop-step-preserved
-loop-step-preserved c =
+pub returns : goal.returns
+returns c =
     let n = on_false _ (rw c.if-branch.false at c.in_ok-push_split.ensures.no) in
-    resolved_equal (table c.args.types.now c.args.kinds.now) (term_of c.args.left.now) (term_of c.args.right.now) (term_of c.in-Some.next.0.now) (term_of c.in-Some.next.1.now) (pairs c.pop.new.self.items) (pairs c.loop-step.work.items) (popped_pair _ _ _ c.in-Some.ensures.items) c.loop-step.invariant (term_of c.resolve-s.result.now) (term_of c.resolve-t.result.now) c.resolve-s.ensures.value c.resolve-t.ensures.value (pairs c.push_split.new.work.items) n (rw c.in-Same.is at c.in_ok-found.ensures)
+    taken_resolved (table c.args.types.now c.args.kinds.now) (agenda c.args.work.now.items c.args.seen.now.keys) (agenda c.push_split.new.work.items c.args.seen.now.keys)
+    (ap (λ ps. record { todo = ps; seen = variable_pairs c.args.seen.now.keys }) n)
+    (term_of c.args.left.now) (term_of c.args.right.now) (term_of c.resolve-s.result.now) (term_of c.resolve-t.result.now)
+    c.resolve-s.ensures.value c.resolve-t.ensures.value c.in_ok-difference.difference c.in_ok-difference.ensures

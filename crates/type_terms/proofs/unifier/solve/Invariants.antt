@@ -1,12 +1,12 @@
 use Rattle.std.proofs.Common.{◌≡◌, ℕ, true}
+use Rattle.type_terms.specs.Agenda.{agenda}
 use Rattle.type_terms.specs.Ground.{Assignment}
-use Rattle.type_terms.specs.Pairs.{pairs}
 use Rattle.type_terms.specs.Table.{table}
 use Rattle.type_terms.specs.Table.{IsSound, Solves}
 use Rattle.type_terms.specs.Term.{meaning, term_of}
 use Rattle.type_terms.specs.Nested.{AreMarked, mark_at}
 use Rattle.type_terms.specs.Undo.{IsTrail, IsKindTrail}
-use Rattle.type_terms.proofs.Turns.{IsComparison}
+use Rattle.type_terms.proofs.Agendas.{IsComparison}
 use Rattle.type_terms.proofs.unifier.solve.Given as goal
 
 abbrev pub invariant-loop-step : goal.invariant-loop-step
@@ -18,5 +18,5 @@ invariant-loop-step l = record {
   kind_trail : IsKindTrail l.kind_trail.items l.initial.kinds l.kinds;
   narrower : (a : Assignment) → Solves a (table l.types l.kinds) → Solves a (table l.initial.types l.initial.kinds);
   kept : (a : Assignment) → Solves a (table l.initial.types l.initial.kinds) → meaning a (term_of l.left) ≡ meaning a (term_of l.right) → Solves a (table l.types l.kinds);
-  stack : IsComparison (table l.types l.kinds) (term_of l.left) (term_of l.right) (pairs l.work.items);
+  agenda : IsComparison (table l.types l.kinds) (term_of l.left) (term_of l.right) (agenda l.work.items l.seen.keys);
 }

@@ -1,0 +1,53 @@
+-- What is still to be compared, and which variables were taken apart for it.
+use Rattle.std.specs.Prelude.{◌≡◌, ◌≢◌, ℕ, suc, ◌<◌, List, [], ◌∷◌}
+use Rattle.type_terms.specs.Ground.{Assignment, size}
+use Rattle.type_terms.specs.Term.{Term, term_of, variable, meaning}
+use Rattle.type_terms.specs.Table.{Table, Solves}
+use Rattle.type_terms.specs.Pairs.{AllEqual, AllOver}
+use Rattle.type_terms.specs.Differ.{IsForced, IsKindForced}
+use Rattle.type_terms.specs.declared.differ.Difference.{Difference}
+use Rattle.type_terms.specs.declared.differ.Difference.TheVariants.{Same, Clash, Bind, BindKind}
+use Rattle.type_terms.specs.declared.ty.Ty.{Ty}
+
+-- the plain data of pairs of types
+abbrev pub pairs_of : List (Ty × Ty) → List (Term × Term)
+pairs_of [] = []
+pairs_of (p ∷ ps) = (term_of p.0, term_of p.1) ∷ pairs_of ps
+
+-- pairs of variables
+abbrev pub variable_pairs : List (ℕ × ℕ) → List (Term × Term)
+variable_pairs [] = []
+variable_pairs (p ∷ ps) = (variable p.0, variable p.1) ∷ variable_pairs ps
+
+-- the two are equal, if the first has fewer than n nodes
+abbrev pub EqualBelow : Assignment → ℕ → Term → Term → Type 0
+EqualBelow a n t u = size (meaning a t) < n → meaning a t ≡ meaning a u
+
+abbrev pub AllEqualBelow : Assignment → ℕ → List (Term × Term) → Type 0
+AllEqualBelow a n [] = Unit {0}
+AllEqualBelow a n (p ∷ ps) = EqualBelow a n p.0 p.1 × AllEqualBelow a n ps
+
+-- the pairs that are still to be compared, and those whose parts were put among them
+pub record Agenda : Type 0 where
+  pub todo : List (Term × Term)
+  pub seen : List (Term × Term)
+
+abbrev pub agenda : List (Ty × Ty) → List (ℕ × ℕ) → Agenda
+agenda work seen = record { todo = pairs_of work; seen = variable_pairs seen }
+
+-- at each solution the two are equal where the agenda says so, which asks for no more than that and what it asked for before
+pub record IsTakenUp (s : Table) (old new : Agenda) (left right : Term) : Type 0 where
+  pub over : AllOver s old.todo → AllOver s new.todo
+  pub needed : (a : Assignment) → Solves a s → meaning a left ≡ meaning a right → AllEqual a old.todo → AllEqual a new.todo
+  pub enough : (a : Assignment) (n : ℕ) → Solves a s → AllEqualBelow a n new.todo → AllEqualBelow a n new.seen → EqualBelow a n left right
+  -- nothing is forgotten
+  pub todo_kept : (a : Assignment) (n : ℕ) → AllEqualBelow a n new.todo → AllEqualBelow a n old.todo
+  pub seen_kept : (a : Assignment) (n : ℕ) → AllEqualBelow a n new.seen → AllEqualBelow a n old.seen
+  -- what is new among the seen is equal where smaller pairs are
+  pub learnt : (a : Assignment) (n : ℕ) → Solves a s → AllEqualBelow a n new.todo → AllEqualBelow a n new.seen → AllEqualBelow a (suc n) old.seen → AllEqualBelow a (suc n) new.seen
+
+abbrev pub TakesUp : Table → Agenda → Agenda → Term → Term → Difference → Type 0
+TakesUp s old new left right Same = IsTakenUp s old new left right
+TakesUp s old new left right Clash = (a : Assignment) → Solves a s → meaning a left ≢ meaning a right
+TakesUp s old new left right (Bind x t) = IsForced s left right x (term_of t.now) × (new ≡ old)
+TakesUp s old new left right (BindKind x t) = IsKindForced s left right x t × (new ≡ old)
