@@ -1,0 +1,10 @@
+pub mod Values
+pub mod View
+pub mod Outcomes
+pub mod Gives
+pub mod Faults
+pub mod Numbers
+pub mod Machines
+pub mod Slots
+pub mod Views
+pub mod Places

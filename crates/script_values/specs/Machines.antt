@@ -1,0 +1,26 @@
+-- The state of evaluation: the first one, and what counting work makes of one.
+use Rattle.std.specs.Prelude.{ℕ, ◌+◌, pos, T, true, false, [], nat_le, Result, Ok, Err}
+use Rattle.liq_base.specs.declared.limits.TheConstants.{MAX_WORK}
+use Rattle.fixed_text.specs.declared.decimal.Decimal.{Decimal}
+use Rattle.script_values.specs.declared.machine.Machine.{Machine}
+use Rattle.script_values.specs.declared.fault.Fault.{Fault}
+use Rattle.script_values.specs.declared.fault.Fault.TheVariants.{TooMuchWork}
+
+-- so many millionths, which are few enough
+abbrev pub some_millionths : (m : ℕ) → T (nat_le m 1000000000000000) → Decimal
+some_millionths m few = record { millionths = pos m; low = record { le = tt }; high = record { le = few } }
+
+-- before the first statement: 44100 samples a second, and 0.04 seconds a tick, which are 1764 samples
+abbrev pub first_machine : Machine
+first_machine = record {
+  plan = record { rate = 44100; frame = 1764; nodes = []; sinks = []; buffers = [] };
+  work = 0;
+  settings = record { duration = some_millionths 40000 tt; last = 0; statement = 0; allowed = true };
+}
+
+unfoldable pub count : ℕ → Machine → Result Machine Fault
+count steps m =
+    elim (nat_le (m.work + steps) MAX_WORK) [
+      | true ↦ Ok (record m { work = m.work + steps })
+      | false ↦ Err TooMuchWork
+    ]

@@ -1,0 +1,100 @@
+-- The arithmetic of a script: what an operator makes of two values, or the fault at its token.
+use Rattle.std.specs.Prelude.{ℤ, pos, negsuc, ◌+ℤ◌, ◌-ℤ◌, ◌*ℤ◌, neg_ℤ, ◌≤ℤ◌, int_le, int_lt, int_div, Bool, true, false, not, Option, Some, None, Result, Ok, Err, ℕ, T, ◌&&◌, ◌||◌}
+use Rattle.fixed_text.specs.declared.decimal.Decimal.{Decimal}
+use Rattle.script_grammar.specs.declared.tree.Literal.{Literal}
+use Rattle.script_grammar.specs.declared.tree.Literal.TheVariants as literal
+use Rattle.script_grammar.specs.declared.tree.CompareOp.{CompareOp}
+use Rattle.script_grammar.specs.declared.tree.CompareOp.TheVariants as op
+use Rattle.script_values.specs.declared.fault.Fault.{Fault}
+use Rattle.script_values.specs.declared.fault.Fault.TheVariants.{BadValue, Stuck}
+use Rattle.script_values.specs.Values.{Value, Int, Number, Truth}
+
+-- an int that a script may have
+unfoldable pub int_at : ℕ → ℤ → Result Value Fault
+int_at at n =
+    elim (int_le (negsuc 9223372036854775807) n && int_le n (pos 9223372036854775807)) [
+      | true ↦ Ok (Int n)
+      | false ↦ Err (BadValue at)
+    ]
+
+-- a decimal of so many millionths, if there is one
+abbrev pub decimal_by : (m : ℤ) (low high : Bool) → (T low → negsuc 999999999999999 ≤ℤ m) → (T high → m ≤ℤ pos 1000000000000000) → Option Decimal
+decimal_by m true true above below = Some (record { millionths = m; low = above tt; high = below tt })
+decimal_by m true false above below = None
+decimal_by m false high above below = None
+
+unfoldable pub decimal_of : ℤ → Option Decimal
+decimal_of m = decimal_by m (int_le (negsuc 999999999999999) m) (int_le m (pos 1000000000000000)) (λ t. record { le = t }) (λ t. record { le = t })
+
+abbrev pub decimal_or : ℕ → Option Decimal → Result Value Fault
+decimal_or at (Some d) = Ok (Number d)
+decimal_or at None = Err (BadValue at)
+
+abbrev pub decimal_at : ℕ → ℤ → Result Value Fault
+decimal_at at m = decimal_or at (decimal_of m)
+
+abbrev pub literal_value : Literal → Value
+literal_value (literal.Int n) = Int n
+literal_value (literal.Number d) = Number d
+
+unfoldable pub negative : ℕ → Literal → Result Value Fault
+negative at (literal.Int n) = int_at at (neg_ℤ n)
+negative at (literal.Number d) = decimal_at at (neg_ℤ d.millionths)
+
+abbrev pub plus_or_minus : Bool → ℤ → ℤ → ℤ
+plus_or_minus true a b = a -ℤ b
+plus_or_minus false a b = a +ℤ b
+
+unfoldable pub added : Bool → ℕ → Value → Value → Result Value Fault
+added minus at (Int a) (Int b) = int_at at (plus_or_minus minus a b)
+added minus at (Number a) (Number b) = decimal_at at (plus_or_minus minus a.millionths b.millionths)
+added minus at v w = Err Stuck
+
+-- a quotient toward zero
+unfoldable pub quotient : ℤ → ℤ → Option ℤ
+quotient a b =
+    elim (int_le b (pos 0) && int_le (pos 0) b) [
+      | true ↦ None
+      | false ↦ Some (int_div a b)
+    ]
+
+abbrev pub quotient_at : ℕ → (ℤ → Result Value Fault) → Option ℤ → Result Value Fault
+quotient_at at made None = Err (BadValue at)
+quotient_at at made (Some n) = made n
+
+unfoldable pub multiplied : Bool → ℕ → Value → Value → Result Value Fault
+multiplied false at (Int a) (Int b) = int_at at (a *ℤ b)
+multiplied true at (Int a) (Int b) = quotient_at at (int_at at) (quotient a b)
+multiplied false at (Number a) (Number b) = decimal_at at (int_div (a.millionths *ℤ b.millionths) (pos 1000000))
+multiplied true at (Number a) (Number b) = quotient_at at (decimal_at at) (quotient (a.millionths *ℤ pos 1000000) b.millionths)
+multiplied divide at v w = Err Stuck
+
+abbrev pub holds : CompareOp → ℤ → ℤ → Bool
+holds op.Equal a b = int_le a b && int_le b a
+holds op.Differs a b = int_lt a b || int_lt b a
+holds op.Less a b = int_lt a b
+holds op.AtMost a b = int_le a b
+holds op.Greater a b = int_lt b a
+holds op.AtLeast a b = int_le b a
+
+unfoldable pub compared : CompareOp → Value → Value → Result Value Fault
+compared o (Int a) (Int b) = Ok (Truth (holds o a b))
+compared o (Number a) (Number b) = Ok (Truth (holds o a.millionths b.millionths))
+compared o v w = Err Stuck
+
+unfoldable pub either : Value → Value → Result Value Fault
+either (Truth a) (Truth b) = Ok (Truth (a || b))
+either v w = Err Stuck
+
+unfoldable pub both : Value → Value → Result Value Fault
+both (Truth a) (Truth b) = Ok (Truth (a && b))
+both v w = Err Stuck
+
+unfoldable pub opposite : Value → Result Value Fault
+opposite (Truth a) = Ok (Truth (not a))
+opposite v = Err Stuck
+
+-- the truth of a condition
+unfoldable pub truth_of : Value → Result Bool Fault
+truth_of (Truth a) = Ok a
+truth_of v = Err Stuck

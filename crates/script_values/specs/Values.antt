@@ -1,0 +1,50 @@
+-- Values: one family, of values and of lists of them.
+use Rattle.std.specs.Prelude.{ℕ, ◌+◌, ℤ, List, [], ◌∷◌, Bool}
+use Rattle.fixed_text.specs.declared.decimal.Decimal.{Decimal}
+use Rattle.time_pred.specs.Predicates.{Predicate}
+
+pub data Sort : Type 0 where
+  One : Sort
+  Many : Sort
+
+pub data Tree : Sort → Type 0 where
+  none : Tree Many
+  more : Tree One → Tree Many → Tree Many
+  Int : ℤ → Tree One
+  Number : Decimal → Tree One
+  Text : List ℕ → Tree One
+  Truth : Bool → Tree One
+  Nothing : Tree One
+  Format : Tree One
+  Pred : Predicate → Tree One
+  -- a source is the number of its node
+  Source : ℕ → Tree One
+  Listed : Tree Many → Tree One
+  Tuple : Tree Many → Tree One
+
+abbrev pub Value : Type 0
+Value = Tree One
+
+-- a list of values as one tree, and back
+abbrev pub many : List Value → Tree Many
+many [] = none
+many (v ∷ vs) = more v (many vs)
+
+abbrev pub items : Tree Many → List Value
+items none = []
+items (more v vs) = v ∷ items vs
+
+-- the size of a list or tuple is 1 and the sizes of its parts, of any other value 1
+abbrev pub size : {s : Sort} → Tree s → ℕ
+size none = 0
+size (more v vs) = size v + size vs
+size (Int n) = 1
+size (Number d) = 1
+size (Text t) = 1
+size (Truth b) = 1
+size Nothing = 1
+size Format = 1
+size (Pred p) = 1
+size (Source n) = 1
+size (Listed vs) = size vs + 1
+size (Tuple vs) = size vs + 1

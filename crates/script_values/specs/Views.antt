@@ -1,0 +1,11 @@
+-- The plain data of what the evaluator holds.
+use Rattle.script_values.specs.declared.slots.Slot as slot
+use Rattle.script_values.specs.declared.slots.Given as given
+use Rattle.script_values.specs.View.{view_value}
+use Rattle.script_values.specs.Slots.{Slot, Given}
+
+abbrev pub view_slot : slot.Slot → Slot
+view_slot s = (s.at, view_value s.value)
+
+abbrev pub view_given : given.Given → Given
+view_given g = (g.label, view_value g.value)

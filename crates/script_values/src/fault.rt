@@ -1,0 +1,128 @@
+// Why a script has no plan.
+ghost use Rattle.std.specs.Prelude.{◌≡◌, ◌≢◌, Some};
+ghost use Rattle.script_values.specs.declared.fault.Fault.TheVariants as faults;
+ghost use Rattle.script_values.specs.Faults.{fault_in};
+
+use liq_base::{Memory, Text};
+use std::alloc::{AllocError, AllocFailed};
+
+/// A limit of the language.
+#[derive(Clone, Copy, Debug, PartialEq, Eq)]
+pub enum Limit {
+    /// Calls of defs that run at one time: 16.
+    Calls,
+
+    /// Outputs of a script: 64.
+    Outputs,
+
+    /// Children of a node: 65535.
+    Children,
+
+    /// Crossfades on a path down through children: 4.
+    Crossfades,
+
+    /// An overlap of a crossfade: 4194304 samples.
+    Overlap,
+
+    /// The prefill of a buffer: 4194304 samples.
+    Prefill,
+
+    /// The capacity of a buffer: 65536 chunks.
+    Capacity,
+}
+
+/// Why a script has no plan. Statements are counted from 1, tokens from 0.
+#[derive(Debug, Drop)]
+pub enum EvalFault {
+    /// A setting that may not stand there, or with a value that it may not have.
+    BadSetting { stmt: u32 },
+
+    /// A bad value, at the token of a call's name, of an operator or of `%wav`.
+    BadValue { stmt: u32, at: u32 },
+
+    /// The work is more than a script may cost.
+    TooMuchWork { stmt: u32 },
+
+    /// There would be more nodes than a plan may have.
+    TooManySources,
+
+    /// The script ends without an output.
+    NoOutput,
+
+    /// An earlier output has this name.
+    SameOutput(Text),
+
+    /// A limit is passed.
+    TooLarge(Limit),
+
+    /// Memory was refused.
+    Memory,
+}
+
+/// Why evaluation ends within a statement.
+#[derive(Debug, Drop)]
+pub enum Fault {
+    /// Memory was refused.
+    Memory,
+
+    /// A setting that may not stand here, or with a value that it may not have.
+    BadSetting,
+
+    /// A bad value, at this token.
+    BadValue(u32),
+
+    /// The work is more than a script may cost.
+    TooMuchWork,
+
+    /// As many nodes as a plan may have are there.
+    TooManySources,
+
+    /// An earlier output has this name.
+    SameOutput(Text),
+
+    /// A limit is passed.
+    TooLarge(Limit),
+
+    /// A value of another type than the script's typing gives it. No typed script comes to this.
+    Stuck,
+}
+
+impl From<Memory> for Fault {
+    ghost from_gives = { λ _ e. e ≡ faults.Memory };
+
+    fn from(_refused: Memory) -> Fault {
+        Fault::Memory
+    }
+}
+
+impl From<AllocError> for Fault {
+    ghost from_gives = { λ _ e. e ≡ faults.Memory };
+
+    fn from(_refused: AllocError) -> Fault {
+        Fault::Memory
+    }
+}
+
+impl<T: Drop> From<AllocFailed<T>> for Fault {
+    ghost from_gives = { λ _ e. e ≡ faults.Memory };
+
+    fn from(_refused: AllocFailed<T>) -> Fault {
+        Fault::Memory
+    }
+}
+
+/// The fault of a script, where this one comes in its statement of this number. A value of a wrong type is none.
+pub fn fault_in(stmt: u32, fault: Fault) -> Option<EvalFault>
+    ensures { result ≡ fault_in stmt fault }
+{
+    match fault {
+        Fault::Memory => Some(EvalFault::Memory),
+        Fault::BadSetting => Some(EvalFault::BadSetting { stmt }),
+        Fault::BadValue(at) => Some(EvalFault::BadValue { stmt, at }),
+        Fault::TooMuchWork => Some(EvalFault::TooMuchWork { stmt }),
+        Fault::TooManySources => Some(EvalFault::TooManySources),
+        Fault::SameOutput(name) => Some(EvalFault::SameOutput(name)),
+        Fault::TooLarge(limit) => Some(EvalFault::TooLarge(limit)),
+        Fault::Stuck => None,
+    }
+}

@@ -1,0 +1,242 @@
+// The arithmetic of a script.
+ghost use Rattle.std.specs.Prelude.{◌≡◌, ◌*ℤ◌, ◌+ℤ◌, ◌-ℤ◌, ◌≤ℤ◌, pos, negsuc, neg_ℤ, int_div};
+ghost use Rattle.script_values.specs.Gives.{Gives};
+ghost use Rattle.script_values.specs.Numbers.{added, both, compared, decimal_at, either, holds, int_at, literal_value, multiplied, negative, opposite, plus_or_minus, quotient, quotient_at, truth_of};
+ghost use Rattle.script_values.specs.View.{view_value};
+
+use crate::{Fault, Value};
+use fixed_text::Decimal;
+use script_grammar::tree::{CompareOp, Literal};
+
+// An int that a script may have.
+fn int(at: u32, number: i128) -> Result<Value, Fault>
+    ensures { Gives (λ v. view_value v) result (int_at at number) }
+{
+    if number < -9_223_372_036_854_775_808 {
+        return Err(Fault::BadValue(at));
+    }
+    if number > 9_223_372_036_854_775_807 {
+        return Err(Fault::BadValue(at));
+    }
+    Ok(Value::Int(number as i64))
+}
+
+// A decimal of so many millionths.
+fn decimal(at: u32, millionths: i128) -> Result<Value, Fault>
+    ensures { Gives (λ v. view_value v) result (decimal_at at millionths) }
+{
+    if millionths < -1_000_000_000_000_000 {
+        return Err(Fault::BadValue(at));
+    }
+    if millionths > 1_000_000_000_000_000 {
+        return Err(Fault::BadValue(at));
+    }
+    Ok(Value::Decimal(Decimal {
+        millionths: millionths as i64,
+    }))
+}
+
+/// A number as its token holds it.
+pub fn literal(number: Literal) -> Value
+    ensures { view_value result ≡ literal_value number }
+{
+    match number {
+        Literal::Int(value) => Value::Int(value),
+        Literal::Number(value) => Value::Decimal(value),
+    }
+}
+
+/// The number below zero.
+#[tactic(auto, unfolding(crate::specs::Numbers::negative))]
+pub fn negative(at: u32, number: Literal) -> Result<Value, Fault>
+    ensures { Gives (λ v. view_value v) result (negative at number) }
+{
+    match number {
+        Literal::Int(value) => int(at, -i128::from(value)),
+        Literal::Number(value) => decimal(at, -i128::from(value.millionths)),
+    }
+}
+
+// A sum of ints, or with `minus` a difference.
+fn int_sum(minus: bool, at: u32, a: i64, b: i64) -> Result<Value, Fault>
+    ensures { Gives (λ v. view_value v) result (int_at at (plus_or_minus minus a b)) }
+{
+    if minus {
+        int(at, i128::from(a) - i128::from(b))
+    } else {
+        int(at, i128::from(a) + i128::from(b))
+    }
+}
+
+// The same of decimals.
+fn decimal_sum(minus: bool, at: u32, a: Decimal, b: Decimal) -> Result<Value, Fault>
+    ensures { Gives (λ v. view_value v) result (decimal_at at (plus_or_minus minus a.millionths b.millionths)) }
+{
+    if minus {
+        decimal(at, i128::from(a.millionths) - i128::from(b.millionths))
+    } else {
+        decimal(at, i128::from(a.millionths) + i128::from(b.millionths))
+    }
+}
+
+/// A sum, or with `minus` a difference.
+#[tactic(auto, unfolding(crate::specs::Numbers::added))]
+pub fn added(minus: bool, at: u32, left: &Value, right: &Value) -> Result<Value, Fault>
+    ensures { Gives (λ v. view_value v) result (added minus at (view_value left.now) (view_value right.now)) }
+{
+    match (left, right) {
+        (Value::Int(a), Value::Int(b)) => int_sum(minus, at, *a, *b),
+        (Value::Decimal(a), Value::Decimal(b)) => decimal_sum(minus, at, *a, *b),
+        _ => Err(Fault::Stuck),
+    }
+}
+
+/// Whether one of two holds.
+#[tactic(auto, unfolding(crate::specs::Numbers::either))]
+pub fn either(left: &Value, right: &Value) -> Result<Value, Fault>
+    ensures { Gives (λ v. view_value v) result (either (view_value left.now) (view_value right.now)) }
+{
+    match (left, right) {
+        (Value::Truth(a), Value::Truth(b)) => Ok(Value::Truth(*a || *b)),
+        _ => Err(Fault::Stuck),
+    }
+}
+
+/// Whether both hold.
+#[tactic(auto, unfolding(crate::specs::Numbers::both))]
+pub fn both(left: &Value, right: &Value) -> Result<Value, Fault>
+    ensures { Gives (λ v. view_value v) result (both (view_value left.now) (view_value right.now)) }
+{
+    match (left, right) {
+        (Value::Truth(a), Value::Truth(b)) => Ok(Value::Truth(*a && *b)),
+        _ => Err(Fault::Stuck),
+    }
+}
+
+/// Whether it does not hold.
+#[tactic(auto, unfolding(crate::specs::Numbers::opposite))]
+pub fn opposite(value: &Value) -> Result<Value, Fault>
+    ensures { Gives (λ v. view_value v) result (opposite (view_value value.now)) }
+{
+    match value {
+        Value::Truth(truth) => Ok(Value::Truth(!*truth)),
+        _ => Err(Fault::Stuck),
+    }
+}
+
+/// The truth of a condition.
+#[tactic(auto, unfolding(crate::specs::Numbers::truth_of))]
+pub fn truth_of(value: &Value) -> Result<bool, Fault>
+    ensures { Gives (λ b. b) result (truth_of (view_value value.now)) }
+{
+    match value {
+        Value::Truth(truth) => Ok(*truth),
+        _ => Err(Fault::Stuck),
+    }
+}
+
+// A quotient toward zero, of a number that was made so many times as large.
+#[tactic(auto, unfolding(crate::specs::Numbers::quotient))]
+fn divided(a: i128, b: i64) -> Option<i128>
+    requires low { negsuc 9223372036854775807999999 ≤ℤ a }
+    requires high { a ≤ℤ pos 9223372036854775808000000 }
+    ensures { result ≡ quotient a b }
+{
+    if b == 0 {
+        return None;
+    }
+    Some(a / i128::from(b))
+}
+
+fn int_quotient(at: u32, a: i64, b: i64) -> Result<Value, Fault>
+    ensures { Gives (λ v. view_value v) result (quotient_at at (int_at at) (quotient a b)) }
+{
+    match divided(i128::from(a), b) {
+        None => Err(Fault::BadValue(at)),
+        Some(number) => int(at, number),
+    }
+}
+
+fn decimal_quotient(at: u32, a: Decimal, b: Decimal) -> Result<Value, Fault>
+    ensures { Gives (λ v. view_value v) result (quotient_at at (decimal_at at) (quotient (a.millionths *ℤ pos 1000000) b.millionths)) }
+{
+    match divided(i128::from(a.millionths) * 1_000_000, b.millionths) {
+        None => Err(Fault::BadValue(at)),
+        Some(millionths) => decimal(at, millionths),
+    }
+}
+
+fn int_product(at: u32, a: i64, b: i64) -> Result<Value, Fault>
+    ensures { Gives (λ v. view_value v) result (int_at at (a *ℤ b)) }
+{
+    int(at, i128::from(a) * i128::from(b))
+}
+
+fn product(a: i64, b: i64) -> i128
+    ensures { result ≡ a *ℤ b }
+{
+    i128::from(a) * i128::from(b)
+}
+
+fn in_units(millionths: i128) -> i128
+    ensures { result ≡ int_div millionths (pos 1000000) }
+{
+    millionths / 1_000_000
+}
+
+fn decimal_product(at: u32, a: Decimal, b: Decimal) -> Result<Value, Fault>
+    ensures { Gives (λ v. view_value v) result (decimal_at at (int_div (a.millionths *ℤ b.millionths) (pos 1000000))) }
+{
+    decimal(at, in_units(product(a.millionths, b.millionths)))
+}
+
+/// A product, or with `divide` a quotient.
+#[tactic(auto, unfolding(crate::specs::Numbers::multiplied))]
+pub fn multiplied(divide: bool, at: u32, left: &Value, right: &Value) -> Result<Value, Fault>
+    ensures { Gives (λ v. view_value v) result (multiplied divide at (view_value left.now) (view_value right.now)) }
+{
+    match (left, right) {
+        (Value::Int(a), Value::Int(b)) => {
+            if divide {
+                int_quotient(at, *a, *b)
+            } else {
+                int_product(at, *a, *b)
+            }
+        }
+        (Value::Decimal(a), Value::Decimal(b)) => {
+            if divide {
+                decimal_quotient(at, *a, *b)
+            } else {
+                decimal_product(at, *a, *b)
+            }
+        }
+        _ => Err(Fault::Stuck),
+    }
+}
+
+fn holds(op: CompareOp, a: i64, b: i64) -> bool
+    ensures { result ≡ holds op a b }
+{
+    match op {
+        CompareOp::Equal => a == b,
+        CompareOp::Differs => a != b,
+        CompareOp::Less => a < b,
+        CompareOp::AtMost => a <= b,
+        CompareOp::Greater => b < a,
+        CompareOp::AtLeast => b <= a,
+    }
+}
+
+/// Whether two numbers compare so.
+#[tactic(auto, unfolding(crate::specs::Numbers::compared))]
+pub fn compared(op: CompareOp, left: &Value, right: &Value) -> Result<Value, Fault>
+    ensures { Gives (λ v. view_value v) result (compared op (view_value left.now) (view_value right.now)) }
+{
+    match (left, right) {
+        (Value::Int(a), Value::Int(b)) => Ok(Value::Truth(holds(op, *a, *b))),
+        (Value::Decimal(a), Value::Decimal(b)) => {
+            Ok(Value::Truth(holds(op, a.millionths, b.millionths)))
+        }
+        _ => Err(Fault::Stuck),
+    }
+}

@@ -1,0 +1,81 @@
+// What names stand for, and what a call was given.
+ghost use Rattle.std.specs.Prelude.{◌≡◌, Option, option_map, map, Some, None, IsNone, IfNone, IfOk, IfSome};
+ghost use Rattle.typing_rules.specs.Arguments.{argument, is_label};
+ghost use Rattle.script_values.specs.Places.{IsPlace};
+ghost use Rattle.script_values.specs.Slots.{slot_at};
+ghost use Rattle.script_values.specs.Views.{view_given, view_slot};
+ghost use Rattle.script_values.specs.View.{view_value};
+
+use crate::Value;
+use liq_base::{Memory, Text};
+use std::alloc::Global;
+
+/// The value of a binding, by the token of the name that it binds.
+#[derive(Drop)]
+pub struct Slot {
+    pub at: u32,
+    pub value: Value,
+}
+
+/// An argument of a call, by its label if it has one.
+#[derive(Drop)]
+pub struct Given {
+    pub label: Option<Text>,
+    pub value: Value,
+}
+
+/// The value of the binding at this token.
+pub fn slot_at(slots: &[Slot], at: u32) -> Option<&Value>
+    ensures { option_map (λ v. view_value v.now) result ≡ slot_at at (map view_slot slots.now) }
+{
+    for slot in slots {
+        if slot.at == at {
+            return Some(&slot.value);
+        }
+    }
+    None
+}
+
+fn is_label(wanted: Option<&str>, label: &Option<Text>) -> bool
+    ensures { result ≡ is_label (option_map (λ t. t.now) wanted.entry) label.now }
+{
+    match (wanted, label) {
+        (None, None) => true,
+        (Some(wanted), Some(label)) => wanted.as_bytes() == label.as_str().as_bytes(),
+        _ => false,
+    }
+}
+
+// The place of the first argument with this label, or the first without one.
+fn place_of(given: &[Given], label: Option<&str>) -> Option<usize>
+    ensures found { IfSome result (λ i. IsPlace (option_map (λ t. t.now) label.entry) given.now i) }
+    ensures none { IfNone result (None ≡ argument (option_map (λ t. t.now) label.entry) (map view_given given.now)) }
+{
+    for (place, one) in given.iter().enumerate() {
+        if is_label(label, &one.label) {
+            return Some(place);
+        }
+    }
+    None
+}
+
+/// Takes the first argument with this label, or the first without one.
+pub fn argument(given: &mut Vec<Given>, label: Option<&str>) -> Option<Value>
+    ensures taken { option_map (λ v. (view_value v, map view_given given.new.items)) result ≡ argument (option_map (λ t. t.now) label.entry) (map view_given given.old.items) }
+    ensures unchanged { IsNone result → given.new ≡ given.old }
+{
+    match place_of(given, label) {
+        None => None,
+        Some(place) => Some(given.remove(place).value),
+    }
+}
+
+/// A copy of an argument's label.
+pub fn copy_label(alloc: Global, label: &Option<Text>) -> Result<Option<Text>, Memory>
+    ensures { IfOk result (λ copied. copied ≡ label.now) }
+{
+    match label {
+        None => Ok(None),
+        Some(text) => Ok(Some(text.copy(alloc)?)),
+    }
+}

@@ -1,0 +1,110 @@
+// Values: what an expression means.
+ghost use Rattle.std.specs.Prelude.{◌≡◌, ℕ, ◌+◌, ◌<◌, ◌^◌, IfOk, map, min};
+ghost use Rattle.script_values.specs.Values.{Listed as a_list, Tuple as a_tuple, many, size};
+ghost use Rattle.script_values.specs.View.{view_value};
+
+use fixed_text::Decimal;
+use liq_base::{Memory, Text};
+use std::alloc::Global;
+use time_pred::Pred;
+
+/// A value of a script.
+#[derive(Debug, Drop)]
+pub enum Value {
+    /// An int.
+    Int(i64),
+
+    /// A decimal.
+    Decimal(Decimal),
+
+    /// A text.
+    Text(Text),
+
+    /// A bool.
+    Truth(bool),
+
+    /// The value of `()`, of an output and of a setting.
+    Nothing,
+
+    /// The format that `%wav` names.
+    Format,
+
+    /// A predicate on the time of the week.
+    Pred(Pred),
+
+    /// A source, by the number of its node.
+    Source(u32),
+
+    /// A list.
+    Listed(Vec<Value>),
+
+    /// A tuple.
+    Tuple(Vec<Value>),
+}
+
+/// The size of a value, which is what a name for it costs, or `u64::MAX` where it is more than that.
+#[cycle(size)]
+pub fn size(value: &Value) -> u64
+    ensures { result ≡ min (size (view_value value.now)) u64.MAX }
+{
+    match value {
+        Value::Listed(parts) => sizes(parts).saturating_add(1),
+        Value::Tuple(parts) => sizes(parts).saturating_add(1),
+        _ => 1,
+    }
+}
+
+#[cycle(size)]
+fn sizes(parts: &[Value]) -> u64
+    ensures { result ≡ min (size (many (map view_value parts.now))) u64.MAX }
+{
+    let mut sum: u64 = 0;
+    for part in parts {
+        sum = sum.saturating_add(size(part));
+    }
+    sum
+}
+
+/// A copy of a value.
+#[cycle(copy)]
+pub fn copy(alloc: Global, value: &Value) -> Result<Value, Memory>
+    ensures { IfOk result (λ copy. view_value copy ≡ view_value value.now) }
+{
+    match value {
+        Value::Int(number) => Ok(Value::Int(*number)),
+        Value::Decimal(number) => Ok(Value::Decimal(*number)),
+        Value::Text(text) => Ok(Value::Text(text.copy(alloc)?)),
+        Value::Truth(truth) => Ok(Value::Truth(*truth)),
+        Value::Nothing => Ok(Value::Nothing),
+        Value::Format => Ok(Value::Format),
+        Value::Pred(pred) => Ok(Value::Pred(pred.copy(alloc)?)),
+        Value::Source(node) => Ok(Value::Source(*node)),
+        Value::Listed(parts) => Ok(Value::Listed(copies(alloc, parts)?)),
+        Value::Tuple(parts) => Ok(Value::Tuple(copies(alloc, parts)?)),
+    }
+}
+
+#[cycle(copy)]
+fn copies(alloc: Global, parts: &[Value]) -> Result<Vec<Value>, Memory>
+    ensures { IfOk result (λ copies. map view_value copies.items ≡ map view_value parts.now) }
+{
+    let mut copies = Vec::new(alloc);
+    for part in parts {
+        copies.push(copy(alloc, part)?)?;
+    }
+    Ok(copies)
+}
+
+/// A list of values.
+pub fn listed(parts: Vec<Value>) -> Value
+    ensures { view_value result ≡ a_list (many (map view_value parts.items)) }
+{
+    Value::Listed(parts)
+}
+
+/// A tuple of values.
+pub fn tuple(parts: Vec<Value>) -> Value
+    ensures { view_value result ≡ a_tuple (many (map view_value parts.items)) }
+{
+    Value::Tuple(parts)
+}
