@@ -1,5 +1,5 @@
 // The sum of cells.
-ghost use Rattle.std.specs.Prelude.{◌≡◌, ◌<◌, ◌≤◌, length};
+ghost use Rattle.std.specs.Prelude.{◌≡◌, ◌+◌, ◌+ℤ◌, ◌<◌, ◌≤◌, length};
 ghost use Rattle.stream_meaning.specs.Arithmetic.{cells_of, levelled, summed_slot};
 ghost use Rattle.sample_kernels.specs.Samples.{IsSumOf};
 
@@ -18,8 +18,8 @@ pub fn summed(slots: &[Option<Cell>], normalize: bool) -> Option<Cell>
     let mut parts: u16 = 0;
     for slot in slots {
         let Some(cell) = slot else { continue };
-        left += i32::from(cell.left);
-        right += i32::from(cell.right);
+        left = added(left, parts, cell.left);
+        right = added(right, parts, cell.right);
         parts += 1;
     }
     Some(Cell {
@@ -27,6 +27,16 @@ pub fn summed(slots: &[Option<Cell>], normalize: bool) -> Option<Cell>
         right: level(right, parts, normalize),
         first,
     })
+}
+
+// The sum of so many samples and of one more.
+fn added(sum: i32, parts: u16, sample: i16) -> i32
+    requires few { parts < 65535 }
+    requires sum { IsSumOf parts sum }
+    ensures is { result ≡ sum +ℤ sample }
+    ensures fits { IsSumOf (parts + 1) result }
+{
+    sum + i32::from(sample)
 }
 
 // The mean of so many samples, by their sum, or the sum cut to the range of a sample.

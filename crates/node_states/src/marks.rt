@@ -28,7 +28,7 @@ fn test_all(preds: &[Pred], at: WeekSecond, marks: &mut [bool])
     requires { length marks.old ≡ length preds.now }
     ensures { marks.new ≡ map (λ pred. holds (view_pred pred) at.second) preds.now }
 {
-    for (mark, pred) in marks.iter_mut().zip(preds) {
-        *mark = pred.holds(at);
+    for child in 0..preds.len() {
+        marks[child] = preds[child].holds(at);
     }
 }

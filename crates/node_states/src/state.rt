@@ -10,7 +10,7 @@ ghost use Rattle.stream_meaning.specs.Instants.{Setting, Moment, demanded, part_
 ghost use Rattle.node_states.specs.States.{AreLong, Fits, IsSettled, left, StateStands, wants};
 
 use crate::marks::mark_eligible;
-use crate::steps::{item, picked, step_crossfade, step_leaf, step_selection, unpicked};
+use crate::steps::{gives, item, picked, step_crossfade, step_leaf, step_selection, unpicked};
 use crate::task::{Task, task_of};
 use fixed_text::WeekSecond;
 use frame_core::{Cell, Library};
@@ -72,6 +72,9 @@ impl NodeState {
         ensures ends { result ≡ true → 0 < left self.now }
         ensures settled { (setting : Setting) (sub : ℕ → ℕ → List TheSlot) (past : List Moment) (fed i : ℕ) (work : Work)
             → StateStands setting sub past fed i work self.now → result ≡ false → IsSettled sub past fed i work }
+        ensures run { (setting : Setting) (sub : ℕ → ℕ → List TheSlot) (past : List Moment) (fed i overlap : ℕ) → AreLong sub
+            → StateStands setting sub past fed i (Fades overlap) self.now → result ≡ false
+            → run_of overlap (sub i) (position past i) ≡ fed }
     {
         match self {
             NodeState::Cross(state) => state.wants(),
@@ -128,17 +131,17 @@ impl NodeState {
     }
 
     /// Goes on by an instant at which the node had this part and was demanded, or not.
-    pub fn next(&mut self, part: Part, demanded: bool, library: &Library, children: usize)
+    pub fn next(&mut self, part: Part, is_demanded: bool, library: &Library, children: usize)
         requires fits { Fits library.now children self.old }
         ensures fits { Fits library.now children self.new }
         ensures stands { (setting : Setting) (sub : ℕ → ℕ → List TheSlot) (past : List Moment) (moment : Moment) (fed i : ℕ)
             (work : Work) (slots : List TheSlot) → setting.library ≡ library.now → AreLong sub
             → StateStands setting sub past fed i work self.old → IsSettled sub past fed i work
             → length slots ≡ children → part ≡ part_by setting sub past i work slots
-            → part_at moment.parts i ≡ part → demanded moment i ≡ demanded
+            → part_at moment.parts i ≡ part → demanded moment i ≡ is_demanded
             → StateStands setting sub (moment ∷ past) fed i work self.new }
     {
-        let gave = demanded && part.slot.is_some();
+        let gave = gives(part, is_demanded);
         match self {
             NodeState::Leaf(state) => step_leaf(state, gave, library),
             NodeState::Select(state) => step_selection(state, gave, part.pick, children),

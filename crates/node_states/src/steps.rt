@@ -1,5 +1,5 @@
 // What the operators offer and how they go on.
-ghost use Rattle.std.specs.Prelude.{◌≡◌, ◌<◌, ℕ, List, length, suc, true, false, Some, IsSome, if◌then◌else◌};
+ghost use Rattle.std.specs.Prelude.{◌≡◌, ◌<◌, ◌&&◌, ℕ, List, length, suc, true, false, Some, IsSome, is_some, if◌then◌else◌};
 ghost use Rattle.frame_core.specs.Slots.{Slot, slot_at};
 ghost use Rattle.op_cross.specs.Crossfade.{cross};
 ghost use Rattle.op_cross.specs.States.{position_after, StandsFor};
@@ -36,6 +36,13 @@ pub fn picked(picked: Option<Picked>) -> Part
             pick: Some(picked.child),
         },
     }
+}
+
+/// Whether a node with this part gives: it is demanded and offers a cell.
+pub fn gives(part: Part, demanded: bool) -> bool
+    ensures { result ≡ (demanded && is_some part.slot) }
+{
+    demanded && part.slot.is_some()
 }
 
 /// The item of a crossfade, where it is settled.

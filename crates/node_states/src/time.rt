@@ -1,4 +1,6 @@
 // The time of a clock.
+ghost use Rattle.std.specs.Prelude.{◌<◌};
+
 use fixed_text::WeekSecond;
 
 /// The second of the week of a clock's instant, and how many samples of this second are over. No count of instants is kept.
@@ -16,7 +18,7 @@ pub struct WeekTime {
 }
 
 impl WeekTime {
-    ghost use Rattle.std.specs.Prelude.{◌≡◌, ◌<◌, ℕ, suc};
+    ghost use Rattle.std.specs.Prelude.{◌≡◌, ℕ, suc};
     ghost use Rattle.node_states.specs.Times.{TimeStands};
 
     /// The time of a clock's first instant: the beginning of this second.
@@ -39,8 +41,9 @@ impl WeekTime {
     {
         if self.samples + 1 < self.rate {
             return WeekTime {
+                rate: self.rate,
+                second: self.second,
                 samples: self.samples + 1,
-                ..self
             };
         }
         WeekTime {
