@@ -2,4 +2,5 @@ pub mod Offered
 pub mod Stepped
 pub mod Begun
 pub mod Fed
+pub mod Seconds
 pub mod Eligibles

@@ -62,12 +62,44 @@ impl Desk {
             → IsSettled sub past fed i (work_at setting i node.now)
             → result ≡ part_by setting sub past i (work_at setting i node.now) (slots_at parts.now node.now.children) }
     {
-        let children = node.children.as_slice();
-        let slots = &mut self.slots[..children.len()];
-        gather(parts, children, slots);
-        let marks = &mut self.marks[..children.len()];
-        state.offer(node, slots, marks, library, at)
+        offer_over(
+            state,
+            node,
+            parts,
+            library,
+            at,
+            &mut self.slots,
+            &mut self.marks,
+        )
     }
+}
+
+// The same over room for slots and marks.
+fn offer_over(
+    state: &NodeState,
+    node: &Node,
+    parts: &[Part],
+    library: &Library,
+    at: WeekSecond,
+    slots: &mut [Option<Cell>],
+    marks: &mut [bool],
+) -> Part
+    requires slots { length node.now.children ≤ length slots.old }
+    requires marks { length node.now.children ≤ length marks.old }
+    requires fits { Fits library.now (length node.now.children) state.now }
+    requires number { HasChildren node.now.op (length node.now.children) }
+    requires few { length node.now.children ≤ MAX_CHILDREN }
+    ensures { (setting : Setting) (sub : ℕ → ℕ → List Slot) (past : List Moment) (fed i : ℕ)
+        → setting.library ≡ library.now → at.second ≡ second_at setting (length past) → AreLong sub
+        → StateStands setting sub past fed i (work_at setting i node.now) state.now
+        → IsSettled sub past fed i (work_at setting i node.now)
+        → result ≡ part_by setting sub past i (work_at setting i node.now) (slots_at parts.now node.now.children) }
+{
+    let children = node.children.as_slice();
+    let (slots, _) = slots.split_at_mut(children.len());
+    let (marks, _) = marks.split_at_mut(children.len());
+    gather(parts, children, slots);
+    state.offer(node, slots, marks, library, at)
 }
 
 // Lays the slots of these nodes side by side; one that is not there offers nothing.

@@ -1,5 +1,5 @@
 // The time of a clock.
-ghost use Rattle.std.specs.Prelude.{◌<◌};
+ghost use Rattle.std.specs.Prelude.{◌≡◌, ◌<◌, ◌+◌, ◌%◌};
 
 use fixed_text::WeekSecond;
 
@@ -18,7 +18,7 @@ pub struct WeekTime {
 }
 
 impl WeekTime {
-    ghost use Rattle.std.specs.Prelude.{◌≡◌, ℕ, suc};
+    ghost use Rattle.std.specs.Prelude.{ℕ, suc};
     ghost use Rattle.node_states.specs.Times.{TimeStands};
 
     /// The time of a clock's first instant: the beginning of this second.
@@ -55,11 +55,10 @@ impl WeekTime {
 }
 
 // The second after this one; behind the last of the week comes its first.
-fn next_second(at: WeekSecond) -> WeekSecond {
-    let second = if at.second + 1 < 604_800 {
-        at.second + 1
-    } else {
-        0
-    };
-    WeekSecond { second }
+fn next_second(at: WeekSecond) -> WeekSecond
+    ensures { result.second ≡ (at.second + 1) % 604800 }
+{
+    WeekSecond {
+        second: (at.second + 1) % 604_800,
+    }
 }
