@@ -15,6 +15,7 @@ use Rattle.op_leaf.specs.Leaves.{leaf_slot}
 use Rattle.op_leaf.specs.Readers.{Answer, Reader, after_cell, at_start, reader_slot, takes_of}
 use Rattle.op_select.specs.declared.rule.Picked.{Picked}
 use Rattle.op_select.specs.Selection.{pick_of, picked}
+use Rattle.stream_meaning.specs.declared.part.Part.{Part}
 use Rattle.stream_meaning.specs.Arithmetic.{mix_slot}
 use Rattle.stream_meaning.specs.Operators.{Work, Plays, Picks, Mixes, Fades, Reads, work_of, marks_at}
 
@@ -49,11 +50,6 @@ second_at setting n = (setting.start + n / setting.plan.rate) % 604800
 
 abbrev pub prefill : Setting → ℕ → ℕ
 prefill setting buffer = option_map_or (λ plan. plan.pre) (slice_get setting.plan.buffers buffer) 0
-
--- what a node does at an instant: its slot, and the place of the child that it uses, where it selects
-pub record Part : Type 0 where
-  pub slot : Slot
-  pub pick : Option ℕ
 
 -- a reader, and how many answers of its buffer it has taken
 pub record Reading : Type 0 where

@@ -3,5 +3,7 @@
 #![tactic(auto)]
 
 mod law;
+mod part;
 
 pub use law::{calls_go_by_sub_clocks, infallible_nodes_offer, sub_clocks_have_slots};
+pub use part::Part;

@@ -1,0 +1,5 @@
+pub mod Offered
+pub mod Stepped
+pub mod Begun
+pub mod Fed
+pub mod Seconds

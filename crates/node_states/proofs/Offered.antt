@@ -1,0 +1,44 @@
+-- What a state offers is the part of its node.
+use Rattle.std.proofs.Common.{◌≡◌, ◌∙◌, ◌<◌, ℕ, List, length, Bool, refl, ap, sym, subst, Option}
+use Rattle.frame_core.specs.Slots.{Slot, slot_at}
+use Rattle.op_select.specs.declared.rule.Rule.{Rule}
+use Rattle.op_select.specs.declared.rule.Picked.{Picked}
+use Rattle.op_select.specs.Selection.{Selection, offered, pick_of, picked}
+use Rattle.op_cross.specs.Crossfade.{cross}
+use Rattle.op_cross.specs.States.{Crossing, StandsFor}
+use Rattle.op_cross.proofs.LeastRuns.{item_of-is}
+use Rattle.stream_meaning.specs.Operators.{Work, Eligible, Plays, Picks, Mixes, Fades, Reads, marks_at}
+use Rattle.stream_meaning.specs.Instants.{Setting, Moment, last_pick, position, part_by, picked_part, second_at, unpicked}
+use Rattle.node_states.specs.declared.state.NodeState.TheVariants.{Select, Cross}
+use Rattle.node_states.specs.States.{AreLong, IsSettled, StateStands}
+
+pub select_part : (setting : Setting) (sub : ℕ → ℕ → List Slot) (past : List Moment) (fed i : ℕ) (work : Work) (slots : List Slot)
+    (state : Selection) (marks : List Bool) (second : ℕ) (found : Option Picked) → second ≡ second_at setting (length past)
+    → StateStands setting sub past fed i work (Select state)
+    → ((rule : Rule) (eligible : Eligible) → work ≡ Picks rule eligible → marks ≡ marks_at eligible second (length slots))
+    → found ≡ offered state slots marks → picked_part found ≡ part_by setting sub past i work slots
+select_part setting sub past fed i (Plays leaf) slots state marks second found at stands marked is = absurd stands
+select_part setting sub past fed i (Picks rule eligible) slots state marks second found at stands marked is =
+    let last = last_pick past i in
+    ap picked_part (is
+    ∙ ap (λ (r : Rule). picked slots state.last (pick_of r slots marks state.last)) stands.rule_is
+    ∙ ap (λ (l : Option ℕ). picked slots l (pick_of rule slots marks l)) stands.last_is
+    ∙ ap (λ (m : List Bool). picked slots last (pick_of rule slots m last)) (marked rule eligible refl)
+    ∙ ap (λ (s : ℕ). picked slots last (pick_of rule slots (marks_at eligible s (length slots)) last)) at)
+select_part setting sub past fed i (Mixes mixing) slots state marks second found at stands marked is = absurd stands
+select_part setting sub past fed i (Fades overlap) slots state marks second found at stands marked is = absurd stands
+select_part setting sub past fed i (Reads buffer) slots state marks second found at stands marked is = absurd stands
+
+pub cross_part : (setting : Setting) (sub : ℕ → ℕ → List Slot) (past : List Moment) (fed i : ℕ) (work : Work) (slots : List Slot)
+    (state : Crossing) (slot : Slot) → AreLong sub → StateStands setting sub past fed i work (Cross state) → IsSettled sub past fed i work
+    → ((list : List Slot) (p : ℕ) → StandsFor state list p → p < length (cross state.overlap list) → slot ≡ slot_at (cross state.overlap list) p)
+    → unpicked slot ≡ part_by setting sub past i work slots
+cross_part setting sub past fed i (Plays leaf) slots state slot long stands settled items = absurd stands
+cross_part setting sub past fed i (Picks rule eligible) slots state slot long stands settled items = absurd stands
+cross_part setting sub past fed i (Mixes mixing) slots state slot long stands settled items = absurd stands
+cross_part setting sub past fed i (Fades overlap) slots state slot long stands settled items =
+    let p = position past i in
+    ap unpicked (items (sub i fed) p stands.stands (subst (λ (o : ℕ). p < length (cross o (sub i fed))) (sym stands.overlap_is) settled)
+    ∙ ap (λ (o : ℕ). slot_at (cross o (sub i fed)) p) stands.overlap_is
+    ∙ sym (item_of-is overlap (sub i) p fed (long.each i) settled stands.least))
+cross_part setting sub past fed i (Reads buffer) slots state slot long stands settled items = absurd stands

@@ -1,0 +1,4 @@
+pub mod Times
+pub mod Works
+pub mod States
+pub mod Ticks

@@ -1,0 +1,8 @@
+-- The time of a clock.
+use Rattle.std.specs.Prelude.{◌≡◌, ℕ, ◌+◌, ◌/◌, ◌%◌}
+use Rattle.node_states.specs.declared.time.WeekTime.{WeekTime}
+
+-- it is the time of instant n of a clock that began at second `start`
+pub record TimeStands (start n : ℕ) (time : WeekTime) : Type 0 where
+  pub second : time.second.second ≡ (start + n / time.rate) % 604800
+  pub samples : time.samples ≡ n % time.rate

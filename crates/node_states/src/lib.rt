@@ -1,0 +1,15 @@
+//! The state of one node of a plan, and what it offers and does at an instant of its clock. `docs/streams.md`, "The state
+//! of a node", has the rules.
+#![tactic(auto)]
+
+mod desk;
+pub mod laws;
+mod marks;
+mod state;
+mod steps;
+mod task;
+mod time;
+
+pub use desk::Desk;
+pub use state::NodeState;
+pub use time::WeekTime;

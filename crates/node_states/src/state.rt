@@ -1,0 +1,152 @@
+// The state of a node.
+ghost use Rattle.std.specs.Prelude.{◌≡◌, ◌≤◌, ◌<◌, ◌++◌, ◌∷◌, ℕ, List, [], true, false, length, suc, IfOk, IfSome};
+ghost use Rattle.liq_base.specs.declared.limits.TheConstants.{MAX_CHILDREN};
+ghost use Rattle.frame_core.specs.Library.{IsLibrary, Sounds};
+ghost use Rattle.frame_core.specs.Slots.{Slot as TheSlot};
+ghost use Rattle.op_cross.specs.Runs.{run_of};
+ghost use Rattle.plan_core.specs.Plans.{HasChildren, IsInRange, IsNoReader};
+ghost use Rattle.stream_meaning.specs.Operators.{Work, Fades};
+ghost use Rattle.stream_meaning.specs.Instants.{Setting, Moment, demanded, part_at, part_by, position, second_at, work_at};
+ghost use Rattle.node_states.specs.States.{AreLong, Fits, IsSettled, left, StateStands, wants};
+
+use crate::marks::mark_eligible;
+use crate::steps::{gives, item, picked, step_crossfade, step_leaf, step_selection, unpicked};
+use crate::task::{Task, task_of};
+use fixed_text::WeekSecond;
+use frame_core::{Cell, Library};
+use liq_base::Memory;
+use node_mixing::Mixer;
+use op_cross::CrossState;
+use op_leaf::LeafState;
+use op_select::SelectState;
+use plan_core::Node;
+use std::alloc::Global;
+use stream_meaning::Part;
+
+/// The state of a node between two instants of its clock. It takes its memory when it is made, and no other call takes any.
+#[derive(Drop)]
+pub enum NodeState {
+    /// A leaf.
+    Leaf(LeafState),
+
+    /// A fallback, a switch or a sequence.
+    Select(SelectState),
+
+    /// A sum, a gain, a mean, a stereo or a clock, which keeps nothing from instant to instant.
+    Mix(Mixer),
+
+    /// A crossfade.
+    Cross(CrossState),
+}
+
+impl NodeState {
+    /// The state of node `i` before the first instant, in a plan of this rate.
+    pub fn new(alloc: Global, node: &Node, i: u32, rate: u32) -> Result<NodeState, Memory>
+        requires rate { 0 < rate }
+        requires range { IsInRange node.now.op }
+        requires few { length node.now.children ≤ MAX_CHILDREN }
+        requires reads { IsNoReader node.now.op }
+        ensures fits { IfOk result (λ state. (library : Sounds) → IsLibrary library → i < length library.leaves
+            → Fits library (length node.now.children) state) }
+        ensures stands { IfOk result (λ state. (setting : Setting) (sub : ℕ → ℕ → List TheSlot) → setting.plan.rate ≡ rate
+            → sub i 0 ≡ [] → StateStands setting sub [] 0 i (work_at setting i node.now) state) }
+    {
+        match task_of(node, i, rate) {
+            Task::Play(leaf) => Ok(NodeState::Leaf(LeafState::new(leaf))),
+            Task::Pick(rule) => {
+                let children = node.children.len() as u32;
+                Ok(NodeState::Select(SelectState::new(rule, children)))
+            }
+            Task::Mix(mixer) => Ok(NodeState::Mix(mixer)),
+            Task::Fade(overlap) => {
+                let state = CrossState::new(alloc, overlap, node.kind)?;
+                Ok(NodeState::Cross(state))
+            }
+            Task::Read(_) => unreachable!(),
+        }
+    }
+
+    /// Whether it is a crossfade whose item is not settled: it wants the next slot of its child.
+    pub fn wants(&self) -> bool
+        ensures wants { result ≡ wants self.now }
+        ensures ends { result ≡ true → 0 < left self.now }
+        ensures settled { (setting : Setting) (sub : ℕ → ℕ → List TheSlot) (past : List Moment) (fed i : ℕ) (work : Work)
+            → StateStands setting sub past fed i work self.now → result ≡ false → IsSettled sub past fed i work }
+        ensures run { (setting : Setting) (sub : ℕ → ℕ → List TheSlot) (past : List Moment) (fed i overlap : ℕ) → AreLong sub
+            → StateStands setting sub past fed i (Fades overlap) self.now → result ≡ false
+            → run_of overlap (sub i) (position past i) ≡ fed }
+    {
+        match self {
+            NodeState::Cross(state) => state.wants(),
+            _ => false,
+        }
+    }
+
+    /// Takes the next slot of a crossfade's child.
+    pub fn feed(&mut self, slot: Option<Cell>)
+        requires { wants self.old ≡ true }
+        ensures fits { (library : Sounds) (children : ℕ) → Fits library children self.old → Fits library children self.new }
+        ensures fed { (setting : Setting) (sub : ℕ → ℕ → List TheSlot) (past : List Moment) (fed i : ℕ) (work : Work)
+            → StateStands setting sub past fed i work self.old → sub i (suc fed) ≡ sub i fed ++ slot ∷ []
+            → StateStands setting sub past (suc fed) i work self.new }
+        ensures less { left self.new < left self.old }
+    {
+        if let NodeState::Cross(state) = self {
+            let wanting = state.wants();
+            prove!(wanting);
+            state.feed(slot);
+        }
+    }
+
+    /// What the node offers over the slots of its children, at an instant whose second is this, and which child it uses,
+    /// where it selects. `marks` is room for a mark a child; what stands there does not matter.
+    pub fn offer(
+        &self,
+        node: &Node,
+        slots: &[Option<Cell>],
+        marks: &mut [bool],
+        library: &Library,
+        at: WeekSecond,
+    ) -> Part
+        requires fits { Fits library.now (length node.now.children) self.now }
+        requires number { HasChildren node.now.op (length node.now.children) }
+        requires few { length node.now.children ≤ MAX_CHILDREN }
+        requires slots { length slots.now ≡ length node.now.children }
+        requires marks { length marks.old ≡ length node.now.children }
+        ensures part { (setting : Setting) (sub : ℕ → ℕ → List TheSlot) (past : List Moment) (fed i : ℕ)
+            → setting.library ≡ library.now → at.second ≡ second_at setting (length past) → AreLong sub
+            → StateStands setting sub past fed i (work_at setting i node.now) self.now
+            → IsSettled sub past fed i (work_at setting i node.now)
+            → result ≡ part_by setting sub past i (work_at setting i node.now) slots.now }
+    {
+        match self {
+            NodeState::Leaf(state) => unpicked(state.offer(library)),
+            NodeState::Select(state) => {
+                mark_eligible(&node.op, at, marks);
+                picked(state.offer(slots, marks))
+            }
+            NodeState::Mix(mixer) => unpicked(mixer.slot(slots)),
+            NodeState::Cross(state) => unpicked(item(state)),
+        }
+    }
+
+    /// Goes on by an instant at which the node had this part and was demanded, or not.
+    pub fn next(&mut self, part: Part, is_demanded: bool, library: &Library, children: usize)
+        requires fits { Fits library.now children self.old }
+        ensures fits { Fits library.now children self.new }
+        ensures stands { (setting : Setting) (sub : ℕ → ℕ → List TheSlot) (past : List Moment) (moment : Moment) (fed i : ℕ)
+            (work : Work) (slots : List TheSlot) → setting.library ≡ library.now → AreLong sub
+            → StateStands setting sub past fed i work self.old → IsSettled sub past fed i work
+            → length slots ≡ children → part ≡ part_by setting sub past i work slots
+            → part_at moment.parts i ≡ part → demanded moment i ≡ is_demanded
+            → StateStands setting sub (moment ∷ past) fed i work self.new }
+    {
+        let gave = gives(part, is_demanded);
+        match self {
+            NodeState::Leaf(state) => step_leaf(state, gave, library),
+            NodeState::Select(state) => step_selection(state, gave, part.pick, children),
+            NodeState::Mix(_) => {}
+            NodeState::Cross(state) => step_crossfade(state, gave),
+        }
+    }
+}

@@ -1,0 +1,97 @@
+// What the operators offer and how they go on.
+ghost use Rattle.std.specs.Prelude.{◌≡◌, ◌<◌, ◌&&◌, ℕ, List, length, suc, true, false, Some, IsSome, is_some, if◌then◌else◌};
+ghost use Rattle.frame_core.specs.Slots.{Slot, slot_at};
+ghost use Rattle.op_cross.specs.Crossfade.{cross};
+ghost use Rattle.op_cross.specs.States.{position_after, StandsFor};
+ghost use Rattle.op_leaf.specs.declared.leaf.Leaf.{Leaf};
+ghost use Rattle.op_leaf.specs.Leaves.{leaf_slot};
+ghost use Rattle.op_leaf.specs.Standing.{IsPlacedIn};
+ghost use Rattle.stream_meaning.specs.Instants.{picked_part, unpicked};
+ghost use Rattle.node_states.specs.States.{LeafStands};
+
+use frame_core::{Cell, Library};
+use op_cross::CrossState;
+use op_leaf::LeafState;
+use op_select::{Picked, SelectState};
+use stream_meaning::Part;
+
+/// The part of a node that does not select.
+pub fn unpicked(slot: Option<Cell>) -> Part
+    ensures { result ≡ unpicked slot }
+{
+    Part { slot, pick: None }
+}
+
+/// The part of a selection.
+pub fn picked(picked: Option<Picked>) -> Part
+    ensures { result ≡ picked_part picked }
+{
+    match picked {
+        None => Part {
+            slot: None,
+            pick: None,
+        },
+        Some(picked) => Part {
+            slot: Some(picked.cell),
+            pick: Some(picked.child),
+        },
+    }
+}
+
+/// Whether a node with this part gives: it is demanded and offers a cell.
+pub fn gives(part: Part, demanded: bool) -> bool
+    ensures { result ≡ (demanded && is_some part.slot) }
+{
+    demanded && part.slot.is_some()
+}
+
+/// The item of a crossfade, where it is settled.
+pub fn item(state: &CrossState) -> Option<Cell>
+    ensures { (slots : List Slot) (p : ℕ) → StandsFor state.now slots p → p < length (cross state.now.overlap slots)
+        → result ≡ slot_at (cross state.now.overlap slots) p }
+{
+    if state.wants() {
+        return None;
+    }
+    state.offer()
+}
+
+/// Takes a leaf on by its cell, where it gave.
+pub fn step_leaf(state: &mut LeafState, gave: bool, library: &Library)
+    requires { IsPlacedIn library.now state.old }
+    ensures placed { IsPlacedIn library.now state.new }
+    ensures stands { (leaf : Leaf) (given : ℕ) → LeafStands library.now leaf given state.old
+        → (gave ≡ true → IsSome (leaf_slot library.now leaf given))
+        → LeafStands library.now leaf (if gave then suc given else given) state.new }
+{
+    if gave {
+        state.advance(library);
+    }
+}
+
+/// Keeps the child that a selection used, where it gave.
+pub fn step_selection(state: &mut SelectState, gave: bool, pick: Option<u32>, children: usize)
+    requires { state.old.children ≡ children }
+    ensures children { state.new.children ≡ state.old.children }
+    ensures rule { state.new.rule ≡ state.old.rule }
+    ensures used { (child : ℕ) → gave ≡ true → pick ≡ Some child → child < children → state.new.last ≡ pick }
+    ensures unused { gave ≡ false → state.new ≡ state.old }
+{
+    if gave
+        && let Some(child) = pick
+        && (child as usize) < children
+    {
+        state.advance(child);
+    }
+}
+
+/// Takes a crossfade whose item is settled to the next one, where it gave, and where the item is empty.
+pub fn step_crossfade(state: &mut CrossState, gave: bool)
+    ensures overlap { state.new.overlap ≡ state.old.overlap }
+    ensures stands { (slots : List Slot) (p : ℕ) → StandsFor state.old slots p → p < length (cross state.old.overlap slots)
+        → StandsFor state.new slots (position_after gave (slot_at (cross state.old.overlap slots) p) p) }
+{
+    if !state.wants() {
+        state.advance(gave);
+    }
+}

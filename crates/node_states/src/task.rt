@@ -1,0 +1,56 @@
+// What a node does, sorted.
+ghost use Rattle.std.specs.Prelude.{◌≡◌};
+ghost use Rattle.stream_meaning.specs.Operators.{work_of};
+ghost use Rattle.node_states.specs.Works.{IsTask};
+
+use liq_base::Kind;
+use node_mixing::Mixer;
+use op_leaf::Leaf;
+use op_select::Rule;
+use plan_core::{Node, Op};
+
+/// What a node does: it plays, picks among its children, mixes them, fades its child's tracks or reads a buffer.
+#[derive(Clone, Copy, Debug)]
+pub enum Task {
+    Play(Leaf),
+    Pick(Rule),
+    Mix(Mixer),
+    Fade(u32),
+    Read(u32),
+}
+
+/// What node `i` does, in a plan of this rate. Nothing else tells operators apart, but for the predicates of a switch.
+pub fn task_of(node: &Node, i: u32, rate: u32) -> Task
+    ensures { IsTask result (work_of rate i node.now.kind node.now.op) }
+{
+    match &node.op {
+        Op::Single(_) => Task::Play(files(i, true, node.kind)),
+        Op::Playlist { again, .. } => Task::Play(files(i, *again, node.kind)),
+        Op::Blank { track } => Task::Play(Leaf::Blank { track: *track }),
+        Op::Square { pitch } => Task::Play(Leaf::Square {
+            pitch: *pitch,
+            rate,
+            kind: node.kind,
+        }),
+        Op::Fail => Task::Play(Leaf::Never),
+        Op::Fallback { sensitive } | Op::Switch { sensitive, .. } => Task::Pick(Rule::First {
+            sensitive: *sensitive,
+        }),
+        Op::Sequence => Task::Pick(Rule::Turns),
+        Op::Add { normalize } => Task::Mix(Mixer::Adds {
+            normalize: *normalize,
+        }),
+        Op::Amplify { factor } => Task::Mix(Mixer::Scales { factor: *factor }),
+        Op::Mean => Task::Mix(Mixer::Halves),
+        Op::Stereo => Task::Mix(Mixer::Doubles),
+        Op::Crossfade { overlap } => Task::Fade(*overlap),
+        Op::Buffer(buffer) => Task::Read(*buffer),
+        Op::Clock(_) => Task::Mix(Mixer::Passes),
+    }
+}
+
+fn files(node: u32, again: bool, kind: Kind) -> Leaf
+    ensures { result ≡ Leaf.Files node again kind }
+{
+    Leaf::Files { node, again, kind }
+}
