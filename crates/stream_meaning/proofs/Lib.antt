@@ -1,3 +1,4 @@
+pub mod Bufferless
 pub mod Ranks
 pub mod Existence
 pub mod Calling

@@ -1,7 +1,9 @@
 -- A plan with all that its streams rest on.
 use Rattle.std.specs.Prelude.{◌≡◌, ◌<◌, Some, List, ℕ, length, slice_get}
 use Rattle.plan_core.specs.declared.node.Node.{Node}
-use Rattle.plan_core.specs.declared.node.Op.TheVariants.{Single}
+use Rattle.plan_core.specs.declared.node.Op.TheVariants.{Single, Buffer}
+use Rattle.plan_core.specs.declared.plan.Plan.{Plan}
+use Rattle.plan_core.specs.declared.sink.SinkPlan.TheVariants.{Feed}
 use Rattle.plan_core.specs.Plans.{IsWellFormed}
 use Rattle.frame_core.specs.Library.{IsLibrary, tracks_of}
 use Rattle.clock_infer.specs.declared.clock_map.ClockMap.{ClockMap}
@@ -18,3 +20,8 @@ pub record IsSetting (setting : Setting) (clocks : ClockMap) : Type 0 where
   pub singles : (i : ℕ) (node : Node) (file : List ℕ) → slice_get setting.plan.nodes i ≡ Some node → node.op ≡ Single file
       → length (tracks_of setting.library i) ≡ 1
   pub start : setting.start < 604800
+
+-- a plan without a reader and without a feed
+pub record HasNoBuffers (plan : Plan) : Type 0 where
+  pub nodes : (i : ℕ) (node : Node) (buffer : ℕ) → slice_get plan.nodes i ≡ Some node → node.op ≡ Buffer buffer → ⊥
+  pub sinks : (k buffer node : ℕ) → slice_get plan.sinks k ≡ Some (Feed buffer node) → ⊥

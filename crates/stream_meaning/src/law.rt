@@ -1,13 +1,15 @@
 // Laws of the meaning. Each is a contract of a function that does nothing.
-ghost use Rattle.std.specs.Prelude.{◌≡◌, ℕ, ◌<◌, ◌++◌, Bool, List, true, IsSome, length, slice_get};
+ghost use Rattle.std.specs.Prelude.{◌≡◌, ℕ, ◌<◌, ◌++◌, Bool, List, [], true, IsSome, length, slice_get};
 ghost use Rattle.clock_infer.specs.declared.clock_map.ClockMap.{ClockMap as Map};
 ghost use Rattle.clock_infer.specs.declared.clock_map.NodeClock.{NodeClock as Clock};
 ghost use Rattle.clock_infer.specs.declared.clock_map.NodeClock.TheVariants.{Sub as InSub};
+ghost use Rattle.plan_core.specs.Plans.{IsWellFormed};
+ghost use Rattle.plan_core.specs.declared.plan.Plan.{Plan as ThePlan};
 ghost use Rattle.fallible_infer.specs.Infallible.{IsMarking};
 ghost use Rattle.frame_core.specs.Slots.{Slot as TheSlot};
 ghost use Rattle.stream_meaning.specs.Instants.{Setting, Moment, IsMeaning, sub_of, stream_of, history, lies_in};
-ghost use Rattle.stream_meaning.specs.Calls.{calls_of, fades_in, joined_upto, takes_at};
-ghost use Rattle.stream_meaning.specs.Settings.{IsSetting};
+ghost use Rattle.stream_meaning.specs.Calls.{calls_of, calls_of_tick, fades_in, joined_upto, takes_at};
+ghost use Rattle.stream_meaning.specs.Settings.{IsSetting, HasNoBuffers};
 ghost use Rattle.stream_meaning.specs.Sinks.{gaps};
 
 /// The slots of the sub-clocks are there, however deep they nest.
@@ -31,4 +33,11 @@ pub fn calls_go_by_sub_clocks()
     ensures { (setting : Setting) (clocks : Map) → IsSetting setting clocks
         → (sub : ℕ → ℕ → List TheSlot) (clock : Clock) (past : List Moment)
         → calls_of setting sub clock past ≡ takes_at setting clock past ++ joined_upto (λ k. fades_in setting sub (λ j m. calls_of setting sub (InSub j) (history setting sub (InSub j) m)) (lies_in setting clock k) past k (slice_get setting.plan.nodes k)) (length setting.plan.nodes) }
+{}
+
+/// A plan without readers and feeds makes no calls, whatever the setting; a well-formed plan that counts no buffer is one.
+pub fn no_calls_without_buffers()
+    ensures none { (setting : Setting) → HasNoBuffers setting.plan → (accepted : ℕ → Bool) (m t : ℕ)
+        → calls_of_tick setting accepted m t ≡ [] }
+    ensures plan { (plan : ThePlan) → IsWellFormed plan → plan.buffers ≡ [] → HasNoBuffers plan }
 {}
