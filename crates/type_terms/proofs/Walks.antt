@@ -1,19 +1,19 @@
 -- Walks over types with a stack: marks, and the search for a variable.
-use Rattle.std.proofs.Common.{◌≡◌, ◌≢◌, ◌∙◌, sym, ap, subst, refl, ℕ, zero, suc, ◌+◌, ◌<◌, ◌≤◌, Bool, true, false, map, take, take_all, List, [], ◌∷◌, ◌++◌, length, get_or, arith, Option, Some, None, eqb, ne_eqb, eq-eqb, not, Vec, Global, append_assoc}
+use Rattle.std.proofs.Common.{◌≡◌, ◌≢◌, ◌∙◌, sym, ap, subst, refl, ℕ, zero, suc, ◌+◌, ◌<◌, ◌≤◌, Bool, true, false, map, take, take_all, List, [], ◌∷◌, ◌++◌, length, get_or, arith, Option, Some, None, eqb, eqb-true, ne_eqb, eq-eqb, ◌||◌, ◌⊎◌, inl, inr, if◌then◌else◌, not, Vec, Global, append_assoc}
 use Rattle.std.proofs.Math.ListN.{set}
 use Rattle.std.specs.Borrow.{Bor}
+use Rattle.std.specs.List.{list_any}
 use Rattle.type_terms.specs.Ground.{Assignment, size, sizes}
-use Rattle.type_terms.specs.Nested.{mark_at, IsMarked, IsUnnested, terms, parts, below, bound_list, reached_by, inside, IsAmong}
+use Rattle.type_terms.specs.Nested.{mark_at, IsIn, IsMarked, IsUnnested, IsVisit, terms, parts, below, bound_list, reached_by, inside, IsAmong}
 use Rattle.type_terms.specs.Table.{Avoids, IsTriangular, MeetsBindings, bound_at, extra}
 use Rattle.type_terms.specs.Term.{Term, Terms, base_term, list_term, tuple_term, source_term, variable, no_terms, one_more, meaning, meanings, InTerm, InTerms, term_of, terms_of}
 use Rattle.type_terms.specs.Variables.{Variable}
 use Rattle.type_terms.specs.declared.ty.Ty.{Ty}
 use Rattle.type_terms.specs.declared.ty.Ty.TheViews as view
 use Rattle.type_terms.specs.declared.ty.Ty.TheVariants as ty
-use Rattle.type_terms.proofs.Avoiding.{avoids_base, avoids_source, avoids_list, avoids_free, avoids_bound, avoids_none, avoids_more}
-use Rattle.type_terms.proofs.Terms.{InTerm-map, InTerms-map}
+use Rattle.type_terms.proofs.Terms.{InTerm-map, InTerms-map, any_kind}
 use Rattle.type_terms.proofs.Parts.{InTerms-push, tuple_is, map_take_next}
-use Rattle.type_terms.proofs.Views.{Shape, is_base, is_list, is_tuple, is_source, is_var, shape_of, term_List, term_Tuple, term_Source}
+use Rattle.type_terms.proofs.Views.{Shape, is_base, is_list, is_tuple, is_source, is_var, shape_of, term_List, term_Tuple, term_Source, variable_injective}
 
 -- references
 
@@ -105,22 +105,38 @@ IsInside vs t = InTerm (λ n. n < length vs) (λ _. Unit {0}) t
 abbrev pub IsWithin : List Variable → Term → Term → Type 0
 IsWithin vs t u = (a : Assignment) → MeetsBindings vs a → size (meaning a u) + extra t ≤ size (meaning a t) + extra u
 
--- the search in t has come to this stack
-pub record IsSearch (vs : List Variable) (x : ℕ) (t : Term) (stack : List Term) : Type 0 where
-  pub inside : Every (IsInside vs) stack
-  pub enough : Every (Avoids vs x) stack → Avoids vs x t
-  pub within : Every (IsWithin vs t) stack
+-- R holds of each variable of the term
+abbrev pub IsOf : (ℕ → Bool) → Term → Type 0
+IsOf R t = InTerm (λ j. R j ≡ true) (λ _. Unit {0}) t
 
-pub search_start : (vs : List Variable) (x : ℕ) (t : Term) → IsInside vs t → IsSearch vs x t (t ∷ [])
-search_start vs x t h = record { inside = (h, tt); enough = λ a. a.0; within = ((λ a m. omega arith), tt) }
+-- R holds of the variables that the search went behind, and where it goes behind none of all but x
+pub record IsClosed (nested : Bool) (x : ℕ) (seen : List ℕ) (R : ℕ → Bool) : Type 0 where
+  pub passed : (k : ℕ) → IsIn seen k → R k ≡ true
+  pub other : nested ≡ false → (k : ℕ) → k ≢ x → R k ≡ true
+
+-- the search in t has come to this stack, and went behind these variables
+pub record IsSearch (vs : List Variable) (nested : Bool) (x : ℕ) (t : Term) (stack : List Term) (seen : List ℕ) : Type 0 where
+  pub inside : Every (IsInside vs) stack
+  pub within : Every (IsWithin vs t) stack
+  pub apart : (k : ℕ) → IsIn seen k → k ≢ x
+  pub enough : (R : ℕ → Bool) → IsClosed nested x seen R → Every (IsOf R) stack → IsOf R t
+  pub behind : (R : ℕ → Bool) → IsClosed nested x seen R → Every (IsOf R) stack → (k : ℕ) → IsIn seen k → (s : Term) → bound_at vs k ≡ Some s → IsOf R s
+
+pub search_start : (vs : List Variable) (nested : Bool) (x : ℕ) (t : Term) (stack : List Term) (seen : List ℕ) → stack ≡ t ∷ [] → seen ≡ [] → IsInside vs t → IsSearch vs nested x t stack seen
+search_start vs nested x t stack seen is none h = record {
+  inside = subst (Every (IsInside vs)) (sym is) (h, tt);
+  within = subst (Every (IsWithin vs t)) (sym is) ((λ a m. omega arith), tt);
+  apart = λ k i. absurd (no k i);
+  enough = λ R c e. (subst (Every (IsOf R)) is e).0;
+  behind = λ R c e k i. absurd (no k i);
+}
+  where
+    no : (k : ℕ) → IsIn seen k → ⊥
+    no k i = let f : ◌≡◌ {A = Bool} false true = subst (λ ks. IsIn ks k) none i in cc
 
 parts_inside : (vs : List Variable) (ts : Terms) → InTerms (λ n. n < length vs) (λ _. Unit {0}) ts → Every (IsInside vs) (parts ts)
 parts_inside vs no_terms h = tt
 parts_inside vs (one_more t ts) h = (h.0, parts_inside vs ts h.1)
-
-parts_avoid : (vs : List Variable) (x : ℕ) (ts : Terms) → Every (Avoids vs x) (parts ts) → Avoids vs x (tuple_term ts)
-parts_avoid vs x no_terms h = avoids_none vs x
-parts_avoid vs x (one_more t ts) h = avoids_more vs x t ts h.0 (parts_avoid vs x ts h.1)
 
 within_part : (vs : List Variable) (t u : Term) → ((a : Assignment) → MeetsBindings vs a → suc (size (meaning a u) + extra t) ≤ size (meaning a t) + 1) → IsWithin vs t u
 within_part vs t u h a m = omega (arith, h a m)
@@ -130,15 +146,6 @@ parts_within vs t no_terms h = tt
 parts_within vs t (one_more u us) h =
     (within_part vs t u (λ a m. omega (arith, h a m)), parts_within vs t us (λ a m. omega (arith, h a m)))
 
--- a variable that stands in no binding is avoided by each other one
-avoids_unnested : (vs : List Variable) (x k : ℕ) → IsUnnested vs x → k ≢ x → Avoids vs x (variable k)
-avoids_unnested vs x k h ne = record {
-  reached = λ j. not (eqb j x);
-  without = ap not (eq-eqb x x refl);
-  closed = λ j s e r. InTerm-map (λ n d. ap not (ne_eqb n x d)) (λ _ _. tt) s (h.apart j s e);
-  within = ap not (ne_eqb k x ne);
-}
-
 pub below_bound : (vs : List Variable) (deep : Bool) (k : ℕ) (t u : Term) → u ≡ variable k → deep ≡ true → bound_at vs k ≡ Some t → below vs deep u ≡ t ∷ []
 below_bound vs deep k t u is d e = ap (below vs deep) is ∙ ap (λ b. reached_by b (bound_at vs k)) d ∙ ap bound_list e
 
@@ -147,7 +154,8 @@ below_free vs true k u is e = ap (below vs true) is ∙ ap bound_list e
 below_free vs false k u is e = ap (below vs false) is
 
 -- the terms right below u stand for u
-module _ (vs : List Variable) (deep : Bool) (x : ℕ) (tri : IsTriangular vs) (un : deep ≡ false → IsUnnested vs x) where
+
+module _ (vs : List Variable) (deep : Bool) (tri : IsTriangular vs) where
   below_variable_inside : (k : ℕ) (o : Option Term) → bound_at vs k ≡ o → Every (IsInside vs) (bound_list o)
   below_variable_inside k None e = tt
   below_variable_inside k (Some s) e = (tri.over k s e, tt)
@@ -162,21 +170,6 @@ module _ (vs : List Variable) (deep : Bool) (x : ℕ) (tri : IsTriangular vs) (u
   below_inside (tuple_term us) h = parts_inside vs us h
   below_inside (source_term k) h = tt
   below_inside (variable k) h = reached_inside k deep
-
-  bound_avoids : (k : ℕ) → k ≢ x → (o : Option Term) → bound_at vs k ≡ o → Every (Avoids vs x) (bound_list o) → Avoids vs x (variable k)
-  bound_avoids k ne None e h = avoids_free vs x k ne e
-  bound_avoids k ne (Some s) e h = avoids_bound vs x k s ne e h.0
-
-  reached_avoids : (k : ℕ) → k ≢ x → (d : Bool) → deep ≡ d → Every (Avoids vs x) (reached_by d (bound_at vs k)) → Avoids vs x (variable k)
-  reached_avoids k ne true e h = bound_avoids k ne (bound_at vs k) refl h
-  reached_avoids k ne false e h = avoids_unnested vs x k (un e) ne
-
-  below_avoids : (u : Term) → u ≢ variable x → Every (Avoids vs x) (below vs deep u) → Avoids vs x u
-  below_avoids (base_term b) ne h = avoids_base vs x b
-  below_avoids (list_term u) ne h = avoids_list vs x u h.0
-  below_avoids (tuple_term us) ne h = parts_avoid vs x us h
-  below_avoids (source_term k) ne h = avoids_source vs x k
-  below_avoids (variable k) ne h = reached_avoids k (λ e. ne (ap variable e)) deep refl h
 
   bound_within : (t : Term) (k : ℕ) (o : Option Term) → bound_at vs k ≡ o → IsWithin vs t (variable k) → Every (IsWithin vs t) (bound_list o)
   bound_within t k None e h = tt
@@ -193,30 +186,152 @@ module _ (vs : List Variable) (deep : Bool) (x : ℕ) (tri : IsTriangular vs) (u
   below_within t (source_term k) h = tt
   below_within t (variable k) h = reached_within t k deep h
 
+  parts_of_R : (R : ℕ → Bool) (us : Terms) → Every (IsOf R) (parts us) → IsOf R (tuple_term us)
+  parts_of_R R no_terms h = tt
+  parts_of_R R (one_more u us) h = (h.0, parts_of_R R us h.1)
+
+  -- R holds of u's variables where it holds of those below it, and of u itself where that is a variable
+  of_below : (R : ℕ → Bool) (u : Term) → ((k : ℕ) → u ≡ variable k → R k ≡ true) → Every (IsOf R) (below vs deep u) → IsOf R u
+  of_below R (base_term b) v h = tt
+  of_below R (list_term u) v h = h.0
+  of_below R (tuple_term us) v h = parts_of_R R us h
+  of_below R (source_term k) v h = any_kind (λ n. tt) k
+  of_below R (variable k) v h = v k refl
+
+  behind_variable : (R : ℕ → Bool) (u : Term) (k : ℕ) (s : Term) → u ≡ variable k → deep ≡ true → bound_at vs k ≡ Some s → Every (IsOf R) (below vs deep u) → IsOf R s
+  behind_variable R u k s is d e h = (subst (Every (IsOf R)) (below_bound vs deep k s u is d e) h).0
+
   -- the stack before the step is the rest with u on top
-  module _ (t u : Term) (rest stack stack' : List Term) (is : stack ≡ rest ++ (u ∷ [])) where
-    pub top_inside : IsSearch vs x t stack → IsInside vs u
-    top_inside h = (every_right (IsInside vs) rest (u ∷ []) (subst (Every (IsInside vs)) is h.inside)).0
+  module _ (nested : Bool) (x : ℕ) (t u : Term) (rest stack stack' : List Term) (seen seen' : List ℕ) (is : stack ≡ rest ++ (u ∷ [])) (h : IsSearch vs nested x t stack seen) where
+    pub top_inside : IsInside vs u
+    top_inside = (every_right (IsInside vs) rest (u ∷ []) (subst (Every (IsInside vs)) is h.inside)).0
 
-    pub top_within : IsSearch vs x t stack → IsWithin vs t u
-    top_within h = (every_right (IsWithin vs t) rest (u ∷ []) (subst (Every (IsWithin vs t)) is h.within)).0
+    pub top_within : IsWithin vs t u
+    top_within = (every_right (IsWithin vs t) rest (u ∷ []) (subst (Every (IsWithin vs t)) is h.within)).0
 
-    pub search_step : u ≢ variable x → stack' ≡ rest ++ below vs deep u → IsSearch vs x t stack → IsSearch vs x t stack'
-    search_step ne is' h = record {
-      inside = subst (Every (IsInside vs)) (sym is') (every_both (IsInside vs) rest (below vs deep u) (every_left (IsInside vs) rest (u ∷ []) (subst (Every (IsInside vs)) is h.inside)) (below_inside u (top_inside h)));
-      enough = λ e.
-          let f = subst (Every (Avoids vs x)) is' e in
-          h.enough (subst (Every (Avoids vs x)) (sym is) (every_both (Avoids vs x) rest (u ∷ []) (every_left (Avoids vs x) rest (below vs deep u) f) (below_avoids u ne (every_right (Avoids vs x) rest (below vs deep u) f), tt)));
-      within = subst (Every (IsWithin vs t)) (sym is') (every_both (IsWithin vs t) rest (below vs deep u) (every_left (IsWithin vs t) rest (u ∷ []) (subst (Every (IsWithin vs t)) is h.within)) (below_within t u (top_within h)));
-    }
+    module _ (ne : u ≢ variable x) (v : IsVisit nested deep seen seen' u) (is' : stack' ≡ rest ++ below vs deep u) where
+      closed_before : (R : ℕ → Bool) → IsClosed nested x seen' R → IsClosed nested x seen R
+      closed_before R c = record { passed = λ k i. c.passed k (v.kept k i); other = c.other }
+
+      top_of : (R : ℕ → Bool) → IsClosed nested x seen' R → (b : Bool) → nested ≡ b → (k : ℕ) → u ≡ variable k → R k ≡ true
+      top_of R c true e k w = c.passed k (v.here e k w)
+      top_of R c false e k w = c.other e k (λ j. ne (w ∙ ap variable j))
+
+      stack_before : (R : ℕ → Bool) → IsClosed nested x seen' R → Every (IsOf R) stack' → Every (IsOf R) stack
+      stack_before R c e =
+          let f = subst (Every (IsOf R)) is' e in
+          subst (Every (IsOf R)) (sym is)
+          (every_both (IsOf R) rest (u ∷ []) (every_left (IsOf R) rest (below vs deep u) f) (of_below R u (top_of R c nested refl) (every_right (IsOf R) rest (below vs deep u) f), tt))
+
+      behind_now : (R : ℕ → Bool) → IsClosed nested x seen' R → Every (IsOf R) stack' → (k : ℕ) → IsIn seen k ⊎ ((u ≡ variable k) × (deep ≡ true)) → (s : Term) → bound_at vs k ≡ Some s → IsOf R s
+      behind_now R c e k (inl i) s b = h.behind R (closed_before R c) (stack_before R c e) k i s b
+      behind_now R c e k (inr w) s b = behind_variable R u k s w.0 w.1 b (every_right (IsOf R) rest (below vs deep u) (subst (Every (IsOf R)) is' e))
+
+      apart_now : (k : ℕ) → IsIn seen k ⊎ ((u ≡ variable k) × (deep ≡ true)) → k ≢ x
+      apart_now k (inl i) = h.apart k i
+      apart_now k (inr w) = λ j. ne (w.0 ∙ ap variable j)
+
+      pub search_step : IsSearch vs nested x t stack' seen'
+      search_step = record {
+        inside = subst (Every (IsInside vs)) (sym is') (every_both (IsInside vs) rest (below vs deep u) (every_left (IsInside vs) rest (u ∷ []) (subst (Every (IsInside vs)) is h.inside)) (below_inside u top_inside));
+        within = subst (Every (IsWithin vs t)) (sym is') (every_both (IsWithin vs t) rest (below vs deep u) (every_left (IsWithin vs t) rest (u ∷ []) (subst (Every (IsWithin vs t)) is h.within)) (below_within t u top_within));
+        apart = λ k i. apart_now k (v.only k i);
+        enough = λ R c e. h.enough R (closed_before R c) (stack_before R c e);
+        behind = λ R c e k i. behind_now R c e k (v.only k i);
+      }
 
 -- a popped stack
 pub popped : (work rest : List (Bor Ty)) (p : Bor Ty) → work ≡ rest ++ (p ∷ []) → terms work ≡ terms rest ++ (term_of p.now ∷ [])
 popped work rest p e = ap terms e ∙ terms-append rest (p ∷ [])
 
+untrue : (b : Bool) → (b ≡ true → ⊥) → b ≡ false
+untrue true h = absurd (h refl)
+untrue false h = refl
+
 -- the search ends where the stack is empty
-pub search_done : (vs : List Variable) (x : ℕ) (t : Term) (stack : List Term) → stack ≡ [] → IsSearch vs x t stack → Avoids vs x t
-search_done vs x t stack e h = h.enough (subst (Every (Avoids vs x)) (sym e) tt)
+pub search_done : (vs : List Variable) (nested : Bool) (x : ℕ) (t : Term) (stack : List Term) (seen : List ℕ) → stack ≡ [] → (nested ≡ false → IsUnnested vs x) → IsSearch vs nested x t stack seen → Avoids vs x t
+search_done vs nested x t stack seen is un h = by nested refl
+  where
+    empty : (R : ℕ → Bool) → Every (IsOf R) stack
+    empty R = subst (Every (IsOf R)) (sym is) tt
+
+    behind : IsClosed nested x seen (λ k. list_any (eqb k) seen) → Avoids vs x t
+    behind c = record {
+      reached = λ k. list_any (eqb k) seen;
+      without = untrue (list_any (eqb x) seen) (λ i. h.apart x i refl);
+      closed = λ k s e r. h.behind (λ j. list_any (eqb j) seen) c (empty _) k r s e;
+      within = h.enough (λ k. list_any (eqb k) seen) c (empty _);
+    }
+
+    beside : IsUnnested vs x → IsClosed nested x seen (λ k. not (eqb k x)) → Avoids vs x t
+    beside u c = record {
+      reached = λ k. not (eqb k x);
+      without = ap not (eq-eqb x x refl);
+      closed = λ k s e r. InTerm-map (λ n d. ap not (ne_eqb n x d)) (λ _ _. tt) s (u.apart k s e);
+      within = h.enough (λ k. not (eqb k x)) c (empty _);
+    }
+
+    by : (b : Bool) → nested ≡ b → Avoids vs x t
+    by true e = behind (record { passed = λ k i. i; other = λ f. absurd (let g : ◌≡◌ {A = Bool} true false = sym e ∙ f in cc) })
+    by false e = beside (un e) (record { passed = λ k i. ap not (ne_eqb k x (h.apart k i)); other = λ f k d. ap not (ne_eqb k x d) })
+
+-- visits
+
+none_visited : (nested : Bool) (seen : List ℕ) (u : Term) → (nested ≡ false) ⊎ ((k : ℕ) → u ≡ variable k → ⊥) → (deep : Bool) → IsVisit nested deep seen seen u
+none_visited nested seen u (inl f) deep = record {
+  kept = λ k i. i;
+  here = λ e. absurd (let g : ◌≡◌ {A = Bool} true false = sym e ∙ f in cc);
+  only = λ k i. inl i;
+}
+none_visited nested seen u (inr n) deep = record { kept = λ k i. i; here = λ e k is. absurd (n k is); only = λ k i. inl i }
+
+pub no_visit : (nested : Bool) (seen : List ℕ) (u : Term) (deep : Bool) → nested ≡ false → IsVisit nested deep seen seen u
+no_visit nested seen u deep f = none_visited nested seen u (inl f) deep
+
+pub no_variable_visit : (nested : Bool) (seen : List ℕ) (t : Ty) (deep : Bool) → ((n : ℕ) → t ≡ ty.Var n → ⊥) → IsVisit nested deep seen seen (term_of t)
+no_variable_visit nested seen t deep n = none_visited nested seen (term_of t) (inr (λ k. no_variable t k n)) deep
+
+is_in_left : (ks ls : List ℕ) (k : ℕ) → IsIn ks k → IsIn (ks ++ ls) k
+is_in_left [] ls k i = absurd (let f : ◌≡◌ {A = Bool} false true = i in cc)
+is_in_left (l ∷ ks) ls k i = by (eqb k l) refl (λ e. is_in_left ks ls k e)
+  where
+    by : (b : Bool) → eqb k l ≡ b → (IsIn ks k → IsIn (ks ++ ls) k) → IsIn (l ∷ (ks ++ ls)) k
+    by true e go = ap (λ c. c || list_any (eqb k) (ks ++ ls)) e
+    by false e go = ap (λ c. c || list_any (eqb k) (ks ++ ls)) e ∙ go (sym (ap (λ c. c || list_any (eqb k) ks) e) ∙ i)
+
+is_in_last : (ks : List ℕ) (k : ℕ) → IsIn (ks ++ (k ∷ [])) k
+is_in_last [] k = ap (λ c. c || false) (eq-eqb k k refl)
+is_in_last (l ∷ ks) k = by (eqb k l) refl (is_in_last ks k)
+  where
+    by : (b : Bool) → eqb k l ≡ b → IsIn (ks ++ (k ∷ [])) k → IsIn (l ∷ (ks ++ (k ∷ []))) k
+    by true e go = ap (λ c. c || list_any (eqb k) (ks ++ (k ∷ []))) e
+    by false e go = ap (λ c. c || list_any (eqb k) (ks ++ (k ∷ []))) e ∙ go
+
+is_in_split : (ks : List ℕ) (l k : ℕ) → IsIn (ks ++ (l ∷ [])) k → IsIn ks k ⊎ (k ≡ l)
+is_in_split [] l k i = by (eqb k l) refl i
+  where
+    by : (b : Bool) → eqb k l ≡ b → (eqb k l || false) ≡ true → IsIn [] k ⊎ (k ≡ l)
+    by true e i = inr (eqb-true k l e)
+    by false e i = absurd (let f : ◌≡◌ {A = Bool} false true = sym (ap (λ c. c || false) e) ∙ i in cc)
+is_in_split (m ∷ ks) l k i = by (eqb k m) refl (λ e. is_in_split ks l k e)
+  where
+    by : (b : Bool) → eqb k m ≡ b → (IsIn (ks ++ (l ∷ [])) k → IsIn ks k ⊎ (k ≡ l)) → IsIn (m ∷ ks) k ⊎ (k ≡ l)
+    by true e go = inl (ap (λ c. c || list_any (eqb k) ks) e)
+    by false e go =
+        elim (go (sym (ap (λ c. c || list_any (eqb k) (ks ++ (l ∷ []))) e) ∙ i)) [ inl f ↦ inl (ap (λ c. c || list_any (eqb k) ks) e ∙ f) | inr f ↦ inr f ]
+
+-- a variable is visited for the first time, or once more
+pub variable_visit : (nested : Bool) (seen seen' : List ℕ) (l : ℕ) (u : Term) (first : Bool) → u ≡ variable l → (b : Bool) → b ≡ list_any (eqb l) seen → first ≡ not b → seen' ≡ (if b then seen else seen ++ l ∷ []) → IsVisit nested first seen seen' u
+variable_visit nested seen seen' l u first is true b f e = record {
+  kept = λ k i. subst (λ ks. IsIn ks k) (sym e) i;
+  here = λ n k w. subst (λ ks. IsIn ks k) (sym e) (subst (IsIn seen) (variable_injective l k (sym is ∙ w)) (sym b));
+  only = λ k i. inl (subst (λ ks. IsIn ks k) e i);
+}
+variable_visit nested seen seen' l u first is false b f e = record {
+  kept = λ k i. subst (λ ks. IsIn ks k) (sym e) (is_in_left seen (l ∷ []) k i);
+  here = λ n k w. subst (λ ks. IsIn ks k) (sym e) (subst (IsIn (seen ++ (l ∷ []))) (variable_injective l k (sym is ∙ w)) (is_in_last seen l));
+  only = λ k i. elim (is_in_split seen l k (subst (λ ks. IsIn ks k) e i)) [ inl j ↦ inl j | inr j ↦ inr (is ∙ ap variable (sym j), f) ];
+}
 
 -- x found
 pub search_found : (vs : List Variable) (x : ℕ) (t u : Term) → u ≡ variable x → IsWithin vs t u → (a : Assignment) → MeetsBindings vs a → size (a.type_of x) + extra t ≤ size (meaning a t)

@@ -1,5 +1,6 @@
 -- Which variables stand in what others are bound to.
-use Rattle.std.specs.Prelude.{◌≡◌, ◌≢◌, ◌<◌, ◌≤◌, ℕ, Bool, true, false, List, [], ◌∷◌, length, Option, Some, None, slice_get}
+use Rattle.std.specs.Prelude.{◌≡◌, ◌≢◌, ◌<◌, ◌≤◌, ◌⊎◌, ℕ, Bool, true, false, List, [], ◌∷◌, length, nat_eq, Option, Some, None, slice_get}
+use Rattle.std.specs.List.{list_any}
 use Rattle.std.specs.Borrow.{Bor}
 use Rattle.type_terms.specs.Term.{Term, Terms, list_term, tuple_term, source_term, variable, no_terms, one_more, InKind, InTerm, term_of}
 use Rattle.type_terms.specs.Variables.{Variable}
@@ -66,3 +67,13 @@ abbrev pub IsAmong : ℕ → ℕ → Term → Type 0
 IsAmong m n (variable k) = k < m
 IsAmong m n (source_term k) = InKind (λ j. j < n) k
 IsAmong m n _ = Unit {0}
+
+-- the number is one of the list
+abbrev pub IsIn : List ℕ → ℕ → Type 0
+IsIn ks k = list_any (nat_eq k) ks ≡ true
+
+-- a walk comes to u, having gone behind the variables of `old`: `deep` where it goes behind u now, which with `nested` it does once for each variable
+pub record IsVisit (nested deep : Bool) (old new : List ℕ) (u : Term) : Type 0 where
+  pub kept : (k : ℕ) → IsIn old k → IsIn new k
+  pub here : nested ≡ true → (k : ℕ) → u ≡ variable k → IsIn new k
+  pub only : (k : ℕ) → IsIn new k → IsIn old k ⊎ ((u ≡ variable k) × (deep ≡ true))

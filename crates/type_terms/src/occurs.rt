@@ -2,13 +2,14 @@
 ghost use Rattle.std.specs.Prelude.{◌≡◌, ◌≢◌, ◌+◌, ◌++◌, ◌<◌, ◌≤◌, ℕ, Bool, None, List, length, map, false, true, IfOk, IsTrue, OnOk, ◌↔◌};
 ghost use Rattle.std.specs.Bool.{OnTrue, OnFalse};
 ghost use Rattle.type_terms.specs.Ground.{Assignment, size};
-ghost use Rattle.type_terms.specs.Nested.{IsAmong, IsMarked, IsUnnested, below, inside, mark_at, terms};
+ghost use Rattle.type_terms.specs.Nested.{IsAmong, IsMarked, IsUnnested, IsVisit, below, inside, mark_at, terms};
 ghost use Rattle.type_terms.specs.Rank.{rank_of};
 ghost use Rattle.type_terms.specs.Table.{Avoids, IsOver, IsSound, IsTriangular, Table, MeetsBindings, bound_at, extra};
 ghost use Rattle.type_terms.specs.Term.{InTerm, meaning, height, term_of, variable};
 
 use crate::ty::{KindTerm, Ty};
 use crate::type_variable::TypeVariable;
+use indexmap::IndexSet;
 use liq_base::Memory;
 use std::alloc::Global;
 
@@ -114,6 +115,22 @@ fn push_below<'a>(
     }
 }
 
+/// Whether a walk goes on behind a type: with `nested` it does, behind each variable once.
+fn goes_on(seen: &mut IndexSet<u64>, nested: bool, ty: &Ty) -> Result<bool, Memory>
+    ensures { IfOk result (λ deep. IsVisit nested deep seen.old.keys seen.new.keys (term_of ty.now)) }
+{
+    if !nested {
+        return Ok(false);
+    }
+    match ty {
+        Ty::Var(k) => {
+            let first = seen.insert(*k)?;
+            Ok(first)
+        }
+        _ => Ok(true),
+    }
+}
+
 /// Whether the variable stands in the type, directly or through what variables are bound to.
 ///
 /// A variable that stands in no binding needs no walk through the bindings: `nested` is false.
@@ -131,6 +148,7 @@ pub fn occurs_in(
     ensures yes { IfOk result (λ b. OnTrue b ((a : Assignment) → MeetsBindings types.now a → size (a.type_of x) + extra (term_of ty.now) ≤ size (meaning a (term_of ty.now)))) }
 {
     let mut work = Vec::new(alloc);
+    let mut seen: IndexSet<u64> = IndexSet::new(alloc);
     work.push(ty)?;
     for _step in 0..MOST_STEPS {
         let Some(next) = work.pop() else {
@@ -139,7 +157,8 @@ pub fn occurs_in(
         if is_variable(next, x) {
             return Ok(true);
         }
-        push_below(&mut work, types, nested, next)?;
+        let deep = goes_on(&mut seen, nested, next)?;
+        push_below(&mut work, types, deep, next)?;
     }
     Err(Memory)
 }

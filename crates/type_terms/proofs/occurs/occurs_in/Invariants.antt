@@ -4,4 +4,4 @@ use Rattle.type_terms.proofs.Walks.{IsSearch}
 use Rattle.type_terms.proofs.occurs.occurs_in.Given as goal
 
 abbrev pub invariant-loop-step : goal.invariant-loop-step
-invariant-loop-step l = IsSearch l.types l.x (term_of l.ty) (terms l.work.items)
+invariant-loop-step l = IsSearch l.types l.nested l.x (term_of l.ty) (terms l.work.items) l.seen.keys
