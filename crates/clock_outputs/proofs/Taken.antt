@@ -1,0 +1,90 @@
+-- The sinks of a clock take their pieces, one by one.
+use Rattle.std.proofs.Common.{◌≡◌, ◌<◌, ◌≤◌, ◌+◌, ◌∙◌, ◌++◌, ℕ, Some, None, Option, List, [], length, set, slice_get, arith, refl, ap, sym, subst, inl, inr}
+use Rattle.std.proofs.lemmas.List.{append-nil}
+use Rattle.liq_base.specs.Pieces.{Took, TookPart, grown, narrowed}
+use Rattle.clock_outputs.specs.declared.port.Port.{Port}
+use Rattle.clock_outputs.specs.Appends.{LeftFrom, TookAll, TookParts}
+use Rattle.clock_outputs.proofs.Places.{low_or_high, same_or_other, slice_get-set_other, slice_get-set_same}
+
+grown_nothing : (held : Option (List ℕ)) → held ≡ grown [] held
+grown_nothing None = refl
+grown_nothing (Some held) = ap Some (sym (append-nil held))
+
+narrowed_nothing : (room : Option ℕ) → room ≡ narrowed 0 room
+narrowed_nothing None = refl
+narrowed_nothing (Some room) = ap Some (omega arith)
+
+-- nothing is a front of each piece
+took_nothing : {S : Type 0} (held : S → Option (List ℕ)) (room : S → Option ℕ) (piece : List ℕ) (s : S) → TookPart held room piece s s
+took_nothing held room piece s = record {
+  taken = [];
+  is_front = record { rest = piece; whole_is = refl };
+  took = record { held_grew = grown_nothing (held s); room_fell = narrowed_nothing (room s) };
+}
+
+-- and so is the whole
+took_whole : {S : Type 0} (held : S → Option (List ℕ)) (room : S → Option ℕ) (piece : List ℕ) (old new : S) → Took held room piece old new → TookPart held room piece old new
+took_whole held room piece old new took = record {
+  taken = piece;
+  is_front = record { rest = []; whole_is = sym (append-nil piece) };
+  took = took;
+}
+
+module _ {S : Type 0} (held : S → Option (List ℕ)) (room : S → Option ℕ) (ports : List Port) (k : ℕ) (old now : List S) (before after : S) (port : Port)
+    (within : k < length now) (was : slice_get now k ≡ Some before) (found : slice_get ports k ≡ Some port) (left : LeftFrom k old now) where
+  pub left_more : LeftFrom (k + 1) old (set now k after)
+  left_more = record { each = λ j high. slice_get-set_other now k j after (λ e. omega (arith, high, e)) ∙ left.each j (omega (arith, high)) }
+
+  pub first_was : slice_get old k ≡ Some before
+  first_was = sym (left.each k (omega arith)) ∙ was
+
+  pub last_is : slice_get (set now k after) k ≡ Some after
+  last_is = slice_get-set_same now k after within
+
+  pub took_more : Took held room port.piece.bytes before after → TookAll held room ports k old now → TookAll held room ports (k + 1) old (set now k after)
+  took_more took all = record {
+    each = λ j p b a below at_port at_old at_new. elim (same_or_other k j) [
+      | inl same ↦ subst (λ i. slice_get ports i ≡ Some p → slice_get old i ≡ Some b → slice_get (set now k after) i ≡ Some a → Took held room p.piece.bytes b a) same (here p b a) at_port at_old at_new
+      | inr apart ↦ all.each j p b a (omega (arith, below, apart)) at_port at_old (sym (slice_get-set_other now k j after apart) ∙ at_new)
+    ];
+  }
+    where
+      here : (p : Port) (b a : S) → slice_get ports k ≡ Some p → slice_get old k ≡ Some b → slice_get (set now k after) k ≡ Some a → Took held room p.piece.bytes b a
+      here p b a at_port at_old at_new =
+          let one : Some port ≡ Some p = sym found ∙ at_port in
+          let two : Some before ≡ Some b = sym first_was ∙ at_old in
+          let three : Some after ≡ Some a = sym last_is ∙ at_new in
+          let same_p : port ≡ p = cc in
+          let same_b : before ≡ b = cc in
+          let same_a : after ≡ a = cc in
+          subst (λ x. Took held room x.piece.bytes b a) same_p (subst (λ x. Took held room port.piece.bytes x a) same_b (subst (λ x. Took held room port.piece.bytes before x) same_a took))
+
+  pub took_parts : TookPart held room port.piece.bytes before after → TookAll held room ports k old now → TookParts held room ports old (set now k after)
+  took_parts part all = record {
+    each = λ j p b a at_port at_old at_new. elim (same_or_other k j) [
+      | inl same ↦ subst (λ i. slice_get ports i ≡ Some p → slice_get old i ≡ Some b → slice_get (set now k after) i ≡ Some a → TookPart held room p.piece.bytes b a) same (here p b a) at_port at_old at_new
+      | inr apart ↦ other j p b a apart at_port at_old (sym (slice_get-set_other now k j after apart) ∙ at_new)
+    ];
+  }
+    where
+      here : (p : Port) (b a : S) → slice_get ports k ≡ Some p → slice_get old k ≡ Some b → slice_get (set now k after) k ≡ Some a → TookPart held room p.piece.bytes b a
+      here p b a at_port at_old at_new =
+          let one : Some port ≡ Some p = sym found ∙ at_port in
+          let two : Some before ≡ Some b = sym first_was ∙ at_old in
+          let three : Some after ≡ Some a = sym last_is ∙ at_new in
+          let same_p : port ≡ p = cc in
+          let same_b : before ≡ b = cc in
+          let same_a : after ≡ a = cc in
+          subst (λ x. TookPart held room x.piece.bytes b a) same_p (subst (λ x. TookPart held room port.piece.bytes x a) same_b (subst (λ x. TookPart held room port.piece.bytes before x) same_a part))
+
+      stayed : (j : ℕ) (p : Port) (b a : S) → k ≤ j → slice_get old j ≡ Some b → slice_get now j ≡ Some a → TookPart held room p.piece.bytes b a
+      stayed j p b a high at_old at_now =
+          let one : Some b ≡ Some a = sym at_old ∙ sym (left.each j high) ∙ at_now in
+          let same : b ≡ a = cc in
+          subst (λ x. TookPart held room p.piece.bytes b x) same (took_nothing held room p.piece.bytes b)
+
+      other : (j : ℕ) (p : Port) (b a : S) → (k ≡ j → ⊥) → slice_get ports j ≡ Some p → slice_get old j ≡ Some b → slice_get now j ≡ Some a → TookPart held room p.piece.bytes b a
+      other j p b a apart at_port at_old at_now = elim (low_or_high j k) [
+        | inl low ↦ took_whole held room p.piece.bytes b a (all.each j p b a low at_port at_old at_now)
+        | inr high ↦ stayed j p b a high at_old at_now
+      ]

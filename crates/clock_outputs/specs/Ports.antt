@@ -1,0 +1,42 @@
+-- What an output has heard of its node: the bytes of the tick so far, and the gaps since the beginning.
+use Rattle.std.specs.Prelude.{ℕ, suc, ◌+◌, ◌-◌, ◌*◌, ◌^◌, ◌≤◌, min, Some, None, List, [], ◌∷◌, ◌++◌, All, length}
+use Rattle.liq_base.specs.Kinds.{channels_of}
+use Rattle.frame_core.specs.Slots.{Slot}
+use Rattle.stream_meaning.specs.Sinks.{slot_block}
+use Rattle.clock_outputs.specs.Filled.{Filled}
+use Rattle.clock_outputs.specs.declared.port.Port.{Port}
+
+-- one gap more at a slot without a cell, as far as a u64 counts
+abbrev pub counted : ℕ → Slot → ℕ
+counted gaps None = min (gaps + 1) (2 ^ 64 - 1)
+counted gaps (Some cell) = gaps
+
+-- an output with these bytes and gaps
+abbrev pub with_bytes : Port → List ℕ → ℕ → Port
+with_bytes port bytes gaps = record {
+  sink = port.sink;
+  node = port.node;
+  kind = port.kind;
+  piece = record { bytes = bytes; room = port.piece.room };
+  gaps = gaps;
+}
+
+-- at the start of a tick
+abbrev pub emptied : Port → Port
+emptied port = with_bytes port [] port.gaps
+
+-- after one more slot of its node
+abbrev pub after_slot : Port → Slot → Port
+after_slot port slot = with_bytes port (port.piece.bytes ++ slot_block port.kind slot) (counted port.gaps slot)
+
+-- after these slots
+abbrev pub after_slots : Port → List Slot → Port
+after_slots port [] = port
+after_slots port (slot ∷ slots) = after_slots (after_slot port slot) slots
+
+-- there is room for the blocks of so many slots more
+abbrev pub HasRoomLeft : ℕ → Port → Type 0
+HasRoomLeft slots port = length port.piece.bytes + slots * (2 * channels_of port.kind) ≤ port.piece.room
+
+abbrev pub AllHaveRoomLeft : ℕ → List Port → Type 0
+AllHaveRoomLeft slots ports = All (λ port. HasRoomLeft slots port) ports

@@ -1,0 +1,10 @@
+//! The outputs of a clock: the bytes of a tick, its gaps, and how they are appended to byte sinks.
+#![tactic(auto)]
+
+mod appends;
+mod piece;
+mod port;
+
+pub use appends::append_all;
+pub use piece::Piece;
+pub use port::{Port, begin_tick, hear_all};

@@ -1,0 +1,5 @@
+pub mod Places
+pub mod Parts
+pub mod Marking
+pub mod Roots
+pub mod Going

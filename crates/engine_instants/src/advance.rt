@@ -1,0 +1,43 @@
+// The states of a clock's nodes go on by an instant.
+ghost use Rattle.std.specs.Prelude.{◌≡◌, ℕ, List, ◌∷◌, false, length, slice_get, slice_index_or};
+ghost use Rattle.clock_infer.specs.declared.clock_map.NodeClock.TheVariants.{Main as InMain};
+ghost use Rattle.frame_core.specs.Slots.{Slot as TheSlot};
+ghost use Rattle.stream_meaning.specs.Instants.{Setting, Moment, parts_upto, same_clock};
+ghost use Rattle.node_states.specs.States.{AreLong};
+ghost use Rattle.engine_instants.specs.States.{AllFit, AreSettled, ClockStands, over};
+
+use crate::Shape;
+use crate::offers::is_same_clock;
+use clock_infer::NodeClock;
+use node_states::NodeState;
+use stream_meaning::Part;
+
+/// Takes the nodes of a clock on by an instant at which they did this and these were demanded.
+pub fn advance_all(
+    shape: &Shape<'_>,
+    clock: NodeClock,
+    parts: &[Part],
+    marks: &[bool],
+    states: &mut [NodeState],
+)
+    requires in_clocks { length shape.now.clocks.now ≡ length shape.now.plan.now.nodes }
+    requires in_parts { length parts.now ≡ length shape.now.plan.now.nodes }
+    requires in_marks { length marks.now ≡ length shape.now.plan.now.nodes }
+    requires fit { AllFit shape.now.plan.now shape.now.library.now states.old }
+    ensures fit { AllFit shape.now.plan.now shape.now.library.now states.new }
+    ensures others { (i : ℕ) → same_clock (slice_index_or shape.now.clocks.now i (InMain 0)) clock ≡ false → slice_get states.new i ≡ slice_get states.old i }
+    ensures stand { (setting : Setting) (sub : ℕ → ℕ → List TheSlot) (past : List Moment) (moment : Moment) (fed : ℕ → ℕ) →
+        let setting = over shape.now.plan.now shape.now.library.now shape.now.clocks.now setting in
+        AreLong sub → ClockStands setting sub clock past fed states.old → AreSettled setting sub clock past fed
+        → parts.now ≡ parts_upto setting sub clock past (length shape.now.plan.now.nodes)
+        → moment.parts ≡ parts.now → moment.demands ≡ marks.now
+        → ClockStands setting sub clock (moment ∷ past) fed states.new }
+{
+    for i in 0..shape.plan.nodes.len() {
+        if !is_same_clock(shape.clocks[i], clock) {
+            continue;
+        }
+        let children = shape.plan.nodes.as_slice()[i].children.len();
+        states[i].next(parts[i], marks[i], shape.library, children);
+    }
+}

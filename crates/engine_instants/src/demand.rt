@@ -1,0 +1,108 @@
+// Which nodes are demanded at an instant.
+ghost use Rattle.std.specs.Prelude.{◌≡◌, ◌<◌, ◌||◌, ℕ, List, [], Option, None, All, nat_eq, length, false, slice_index_or};
+ghost use Rattle.std.specs.List.{list_any};
+ghost use Rattle.liq_base.specs.declared.memory.Kind.{Kind as TheKind};
+ghost use Rattle.clock_infer.specs.declared.clock_map.NodeClock.{NodeClock as Clock};
+ghost use Rattle.frame_core.specs.Library.{Sounds};
+ghost use Rattle.plan_core.specs.Plans.{AreNodes};
+ghost use Rattle.stream_meaning.specs.Operators.{work_of};
+ghost use Rattle.stream_meaning.specs.Instants.{Setting, demands_from, uses_by, uses_from};
+ghost use Rattle.engine_instants.specs.Demands.{uses_in};
+ghost use Rattle.engine_instants.specs.States.{over};
+
+use plan_core::{Op, Plan};
+use stream_meaning::Part;
+
+// Which children a demanded node uses.
+#[derive(Clone, Copy, Debug, PartialEq, Eq)]
+pub enum Demand {
+    Nothing,
+    Picked,
+    Offering,
+}
+
+// Which children a demanded node of this operator uses.
+fn demand_of(op: &Op) -> Demand
+    ensures { (rate i : ℕ) (kind : TheKind) (parts : List Part) (children : List ℕ) (pick : Option ℕ)
+        → uses_by parts (work_of rate i kind op.now) children pick ≡ uses_in result parts children pick }
+{
+    match op {
+        Op::Single(_) | Op::Playlist { .. } | Op::Blank { .. } | Op::Square { .. } | Op::Fail =>
+            Demand::Nothing,
+        Op::Fallback { .. } | Op::Switch { .. } | Op::Sequence => Demand::Picked,
+        Op::Add { .. } | Op::Amplify { .. } | Op::Mean | Op::Stereo | Op::Clock(_) =>
+            Demand::Offering,
+        Op::Crossfade { .. } | Op::Buffer(_) => Demand::Nothing,
+    }
+}
+
+// Marks the child at a place.
+fn mark_picked(children: &[u32], pick: Option<u32>, marks: &mut [bool])
+    requires in_marks { All (λ child. child < length marks.old) children.now }
+    ensures { (j : ℕ) → slice_index_or marks.new j false ≡ (slice_index_or marks.old j false || list_any (nat_eq j) (uses_in Demand.Picked [] children.now pick)) }
+{
+    let Some(place) = pick else {
+        return;
+    };
+    let Some(child) = children.get(place as usize) else {
+        return;
+    };
+    marks[*child as usize] = true;
+}
+
+// Marks the children that offer.
+fn mark_offering(children: &[u32], parts: &[Part], marks: &mut [bool])
+    requires in_marks { All (λ child. child < length marks.old) children.now }
+    requires in_parts { All (λ child. child < length parts.now) children.now }
+    ensures { (j : ℕ) → slice_index_or marks.new j false ≡ (slice_index_or marks.old j false || list_any (nat_eq j) (uses_in Demand.Offering parts.now children.now None)) }
+{
+    for child in children {
+        if parts[*child as usize].slot.is_some() {
+            marks[*child as usize] = true;
+        }
+    }
+}
+
+// Marks the children that a demanded node uses.
+fn mark_used(
+    demand: Demand,
+    children: &[u32],
+    parts: &[Part],
+    pick: Option<u32>,
+    marks: &mut [bool],
+)
+    requires in_marks { All (λ child. child < length marks.old) children.now }
+    requires in_parts { All (λ child. child < length parts.now) children.now }
+    ensures { (j : ℕ) → slice_index_or marks.new j false ≡ (slice_index_or marks.old j false || list_any (nat_eq j) (uses_in demand parts.now children.now pick)) }
+{
+    match demand {
+        Demand::Nothing => {}
+        Demand::Picked => mark_picked(children, pick, marks),
+        Demand::Offering => mark_offering(children, parts, marks),
+    }
+}
+
+/// Finds the demanded nodes, over marks that are set at those that are demanded of themselves.
+pub fn mark_demanded(plan: &Plan, parts: &[Part], marks: &mut [bool])
+    requires nodes { AreNodes plan.now.nodes }
+    requires in_parts { length parts.now ≡ length plan.now.nodes }
+    requires in_marks { length marks.old ≡ length plan.now.nodes }
+    ensures { (library : Sounds) (clocks : List Clock) (setting : Setting) → marks.new ≡ demands_from (λ j. slice_index_or marks.old j false) 0
+        (uses_from (over plan.now library clocks setting) parts.now 0 plan.now.nodes) }
+{
+    let nodes = plan.nodes.as_slice();
+    let mut i = nodes.len();
+    while i > 0 {
+        i -= 1;
+        if marks[i] {
+            let node = &nodes[i];
+            mark_used(
+                demand_of(&node.op),
+                node.children.as_slice(),
+                parts,
+                parts[i].pick,
+                &mut marks[..i],
+            );
+        }
+    }
+}

@@ -1,0 +1,84 @@
+// What the nodes of a clock do at an instant.
+ghost use Rattle.std.specs.Prelude.{◌≡◌, ◌<◌, ◌≤◌, ℕ, List, Some, length, slice_get};
+ghost use Rattle.plan_core.specs.declared.node.Node.{Node as PlanNode};
+ghost use Rattle.plan_core.specs.Plans.{AreNodes};
+ghost use Rattle.frame_core.specs.Slots.{Slot as TheSlot};
+ghost use Rattle.stream_meaning.specs.Instants.{Setting, Moment, lies_in, part_in, parts_upto, same_clock, second_at, work_at};
+ghost use Rattle.node_states.specs.States.{AreLong, Fits, IsSettled, StateStands};
+ghost use Rattle.engine_instants.specs.States.{AllFit, AreSettled, ClockStands, HasRoomFor, IsIn, over};
+
+use crate::Shape;
+use clock_infer::NodeClock;
+use fixed_text::WeekSecond;
+use node_states::{Desk, NodeState};
+use stream_meaning::Part;
+
+// Whether these are one clock.
+pub fn is_same_clock(one: NodeClock, other: NodeClock) -> bool
+    ensures { result ≡ same_clock one other }
+{
+    match (one, other) {
+        (NodeClock::Main(m), NodeClock::Main(n)) => m == n,
+        (NodeClock::Sub(j), NodeClock::Sub(k)) => j == k,
+        _ => false,
+    }
+}
+
+// What node i does, over what the nodes before it do: nothing where it lies in another clock.
+fn offer_in(
+    shape: &Shape<'_>,
+    clock: NodeClock,
+    state: &NodeState,
+    i: usize,
+    at: WeekSecond,
+    parts: &[Part],
+    desk: &mut Desk,
+) -> Part
+    requires nodes { AreNodes shape.now.plan.now.nodes }
+    requires in_clocks { length shape.now.clocks.now ≡ length shape.now.plan.now.nodes }
+    requires within { i < length shape.now.plan.now.nodes }
+    requires fits { (node : PlanNode) → slice_get shape.now.plan.now.nodes i ≡ Some node → Fits shape.now.library.now (length node.children) state.now }
+    requires room { HasRoomFor shape.now.plan.now desk.old }
+    ensures room { desk.new ≡ desk.old }
+    ensures part { (setting : Setting) (sub : ℕ → ℕ → List TheSlot) (past : List Moment) (fed : ℕ) →
+        let setting = over shape.now.plan.now shape.now.library.now shape.now.clocks.now setting in
+        at.second ≡ second_at setting (length past) → AreLong sub
+        → ((node : PlanNode) → IsIn setting clock i node → StateStands setting sub past fed i (work_at setting i node) state.now)
+        → ((node : PlanNode) → IsIn setting clock i node → IsSettled sub past fed i (work_at setting i node))
+        → result ≡ part_in setting sub (lies_in setting clock i) past i (slice_get shape.now.plan.now.nodes i) parts.now }
+{
+    if !is_same_clock(shape.clocks[i], clock) {
+        return Part {
+            slot: None,
+            pick: None,
+        };
+    }
+    let node = &shape.plan.nodes.as_slice()[i];
+    desk.offer(state, node, parts, shape.library, at)
+}
+
+/// What the nodes of a clock do at an instant of this second; the others do nothing.
+pub fn make_parts(
+    shape: &Shape<'_>,
+    clock: NodeClock,
+    states: &[NodeState],
+    at: WeekSecond,
+    parts: &mut [Part],
+    desk: &mut Desk,
+)
+    requires nodes { AreNodes shape.now.plan.now.nodes }
+    requires in_clocks { length shape.now.clocks.now ≡ length shape.now.plan.now.nodes }
+    requires in_parts { length parts.old ≡ length shape.now.plan.now.nodes }
+    requires fit { AllFit shape.now.plan.now shape.now.library.now states.now }
+    requires room { HasRoomFor shape.now.plan.now desk.old }
+    ensures room { desk.new ≡ desk.old }
+    ensures parts { (setting : Setting) (sub : ℕ → ℕ → List TheSlot) (past : List Moment) (fed : ℕ → ℕ) →
+        let setting = over shape.now.plan.now shape.now.library.now shape.now.clocks.now setting in
+        at.second ≡ second_at setting (length past) → AreLong sub → ClockStands setting sub clock past fed states.now
+        → AreSettled setting sub clock past fed
+        → parts.new ≡ parts_upto setting sub clock past (length shape.now.plan.now.nodes) }
+{
+    for i in 0..shape.plan.nodes.len() {
+        parts[i] = offer_in(shape, clock, &states[i], i, at, &parts[..i], desk);
+    }
+}
