@@ -1,9 +1,6 @@
-//! Reading tokens: one token at the front, and a predicate.
+//! Reading a predicate.
 #![tactic(auto)]
 
-mod fault;
 mod predicates;
-pub mod token;
 
-pub use fault::Fault;
 pub use predicates::predicate;

@@ -6,11 +6,10 @@ ghost use Rattle.script_grammar.specs.Read.{behind, many, next};
 ghost use Rattle.script_grammar.specs.ReadPredicate.{interval, pand, patom, pnot, por, por_by, por_step};
 ghost use Rattle.script_grammar.specs.View.{listed, view_pand, view_patom, view_pnot, view_por};
 ghost use Rattle.script_grammar.specs.Whole.{IsWholePAnd, IsWholePAtom, IsWholePNot, IsWholePOr};
-ghost use Rattle.predicate_parse.specs.Gives.{kinds, Gives};
+ghost use Rattle.parse_base.specs.Gives.{kinds, Gives};
 
-use crate::fault::Fault;
-use crate::token;
 use fixed_text::TimeMark;
+use parse_base::{Fault, token};
 use script_grammar::make;
 use script_grammar::predicate::{PAnd, PAtom, PNot, POr};
 use script_lex::{Keyword, Symbol, Token, TokenKind};
@@ -19,7 +18,7 @@ use std::alloc::Global;
 /// The predicate that the tokens begin with, and the tokens behind it. Calls nest once for each open parenthesis.
 ///
 /// A fault counts the tokens from the first one that cannot go on.
-#[tactic(auto, using(crate::proofs::Levels::por_levels))]
+#[tactic(auto, using(parse_base::proofs::Levels::por_levels))]
 pub fn predicate(alloc: Global, tokens: &[Token]) -> Result<(POr, &[Token]), Fault>
     ensures shorter { IfOk result (λ x. length x.1.now < length tokens.now) }
     ensures gives { Gives (λ x. (view_por x.0, kinds x.1.now)) result (por (kinds tokens.now)) }

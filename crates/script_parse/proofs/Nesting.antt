@@ -8,7 +8,7 @@ use Rattle.std.proofs.lemmas.List.Sums.{count_by_more_yes, count_by_more_no}
 use Rattle.liq_base.specs.declared.limits.TheConstants.{MAX_NESTING}
 use Rattle.script_lex.specs.declared.token.Token.{Token}
 use Rattle.script_lex.specs.declared.token.TokenKind.{TokenKind}
-use Rattle.predicate_parse.specs.Gives.{kind_of, kinds}
+use Rattle.parse_base.specs.Gives.{kind_of, kinds}
 use Rattle.script_parse.specs.Places.{opens, closes, IsDeepAt, IsDepthPlace}
 
 kind_at : (ts : List Token) (i : ℕ) (t : Token) → i < length ts → t ≡ get_or ts i t → get_or (kinds ts) i (kind_of t) ≡ kind_of t

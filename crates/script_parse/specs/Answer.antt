@@ -6,10 +6,10 @@ use Rattle.script_grammar.specs.Spelling.{spelling}
 use Rattle.script_grammar.specs.Placed.{IsPlaced}
 use Rattle.script_grammar.specs.View.{view_script}
 use Rattle.script_grammar.specs.Whole.{IsWhole}
-use Rattle.predicate_parse.specs.declared.fault.Fault.{Fault}
-use Rattle.predicate_parse.specs.declared.fault.Fault.TheVariants as faults
 use Rattle.script_parse.specs.declared.fault.ParseFault.{ParseFault}
 use Rattle.script_parse.specs.declared.fault.ParseFault.TheVariants as answers
+use Rattle.script_parse.specs.declared.fault.Refusal.{Refusal}
+use Rattle.script_parse.specs.declared.fault.Refusal.TheVariants as refusals
 use Rattle.script_parse.specs.Places.{IsSyntaxPlace, IsDeepAt, IsDepthPlace}
 
 -- this script is spelled so, each field at is the index of its token, and its lists are as long as the grammar wants
@@ -23,10 +23,10 @@ abbrev pub IsShallow : List TokenKind → Type 0
 IsShallow tokens = (k : ℕ) → k < length tokens → IsDeepAt tokens k → ⊥
 
 -- what is answered with no bound on the nesting
-abbrev pub Whole : List TokenKind → Result program.Script Fault → Type 0
+abbrev pub Whole : List TokenKind → Result program.Script Refusal → Type 0
 Whole tokens (Ok s) = IsParsed tokens s
-Whole tokens (Err faults.Memory) = Unit {0}
-Whole tokens (Err (faults.Syntax k)) = IsSyntaxPlace tokens k
+Whole tokens (Err refusals.Memory) = Unit {0}
+Whole tokens (Err (refusals.At k)) = IsSyntaxPlace tokens k
 
 -- why there is no script: the lesser place decides, and at equal places it is that of syntax
 abbrev pub IsFault : List TokenKind → ParseFault → Type 0

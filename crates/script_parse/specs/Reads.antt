@@ -4,8 +4,8 @@ use Rattle.script_lex.specs.declared.token.TokenKind.{TokenKind}
 use Rattle.script_lex.specs.declared.token.TokenKind.TheVariants.{Name, NameOpen, Keyword, Symbol}
 use Rattle.script_lex.specs.declared.token.Keyword.TheVariants as word
 use Rattle.script_lex.specs.declared.token.Symbol.TheVariants as sign
-use Rattle.script_grammar.specs.Tree.{Sort, Tree, Many, more, ABind, AParam, ADef, APart, AnExpr, Bind, Labelled, Optional, Def, BindPart, DefPart, CallPart, IfPart}
-use Rattle.script_grammar.specs.Read.{Reader, ◌>>=◌, made, both, expect, perhaps, many, chain, closed}
+use Rattle.script_grammar.specs.Tree.{Tree, ABind, AParam, ADef, APart, AnExpr, Bind, Labelled, Optional, Def, BindPart, DefPart, CallPart, IfPart}
+use Rattle.script_grammar.specs.Read.{Reader, ◌>>=◌, made, both, expect, perhaps, many, closed}
 use Rattle.script_grammar.specs.Kinds.{is_assign, is_comma, is_close_round, is_end}
 use Rattle.script_grammar.specs.ReadValue.{binds, call, choice, full_by}
 use Rattle.script_grammar.specs.ReadScript.{value, result, bind, inner, param, def}
@@ -54,10 +54,6 @@ label_of stamp at name w = perhaps is_assign w >>= λ x. elim x.0 [
   | true ↦ default_of stamp at name x.1
   | false ↦ Ok (Labelled at name, x.1)
 ]
-
--- one item or several with one token between, up to another
-abbrev pub some_closed : {s : Sort} → (TokenKind → Bool) → (TokenKind → Bool) → Reader (Tree s) → Reader (Tree (Many s))
-some_closed comma close item w = both (chain comma item) (expect close) w >>= made (λ x. more x.0.0 x.0.1)
 
 -- the result of a def, and the word behind it
 abbrev pub ended : (ℕ → ℕ) → Reader (Tree AnExpr × Unit {0})

@@ -17,3 +17,13 @@ pub enum ParseFault {
     #[error("out of memory")]
     Memory,
 }
+
+/// Why tokens are no script, with no bound on their nesting.
+#[derive(Clone, Copy)]
+pub enum Refusal {
+    /// Memory was refused.
+    Memory,
+
+    /// The index of the token at which syntax ends; or the number of tokens, where only more are missing.
+    At(usize),
+}

@@ -5,15 +5,15 @@ ghost use Rattle.script_grammar.specs.Spelling.{spelling};
 ghost use Rattle.script_grammar.specs.Placed.{IsPlaced};
 ghost use Rattle.script_grammar.specs.View.{view_script};
 ghost use Rattle.script_grammar.specs.Whole.{IsWhole};
-ghost use Rattle.predicate_parse.specs.Gives.{kinds};
+ghost use Rattle.parse_base.specs.Gives.{kinds};
 ghost use Rattle.script_parse.specs.Places.{opens, closes, IsDeepAt, IsDepthPlace};
 ghost use Rattle.script_parse.specs.declared.fault.ParseFault.{ParseFault as FaultOfTokens};
 ghost use Rattle.script_parse.specs.Answer.{Whole, IsParsed, IsShallow, IsFault};
 
-use crate::fault::ParseFault;
+use crate::fault::{ParseFault, Refusal};
 use crate::statement::statements;
 use liq_base::limits::MAX_NESTING;
-use predicate_parse::Fault;
+use parse_base::Fault;
 use script_grammar::law::{one_placed_script, reads_again};
 use script_grammar::tree::Script;
 use script_lex::{Keyword, Symbol, Token, TokenKind};
@@ -59,8 +59,8 @@ fn depth_place(tokens: &[Token]) -> Option<usize>
     None
 }
 
-// The script, with no bound on its nesting. A fault is the index of its token.
-fn whole(alloc: Global, tokens: &[Token]) -> Result<Script, Fault>
+// script: statement*, with no bound on its nesting.
+fn whole(alloc: Global, tokens: &[Token]) -> Result<Script, Refusal>
     requires { length tokens.now < 2 ^ 32 }
     ensures { Whole (kinds tokens.now) result }
 {
@@ -70,8 +70,8 @@ fn whole(alloc: Global, tokens: &[Token]) -> Result<Script, Fault>
     faults_are_steady();
     match statements(alloc, tokens.len(), tokens) {
         Ok((statements, _end)) => Ok(Script { statements }),
-        Err(Fault::Syntax(left)) => Err(Fault::Syntax(tokens.len() - left)),
-        Err(Fault::Memory) => Err(Fault::Memory),
+        Err(Fault::Syntax(left)) => Err(Refusal::At(tokens.len() - left)),
+        Err(Fault::Memory) => Err(Refusal::Memory),
     }
 }
 
@@ -83,14 +83,14 @@ fn front(alloc: Global, tokens: &[Token], d: usize) -> ParseFault
 {
     match whole(alloc, &tokens[..d + 1]) {
         Ok(_) => ParseFault::TooDeep(d as u32),
-        Err(Fault::Syntax(k)) => {
+        Err(Refusal::At(k)) => {
             if k <= d {
                 ParseFault::Syntax(k as u32)
             } else {
                 ParseFault::TooDeep(d as u32)
             }
         }
-        Err(Fault::Memory) => ParseFault::Memory,
+        Err(Refusal::Memory) => ParseFault::Memory,
     }
 }
 
@@ -109,8 +109,8 @@ fn answer(alloc: Global, tokens: &[Token]) -> Result<Script, ParseFault>
         Some(d) => Err(front(alloc, tokens, d)),
         None => match whole(alloc, tokens) {
             Ok(script) => Ok(script),
-            Err(Fault::Syntax(k)) => Err(ParseFault::Syntax(k as u32)),
-            Err(Fault::Memory) => Err(ParseFault::Memory),
+            Err(Refusal::At(k)) => Err(ParseFault::Syntax(k as u32)),
+            Err(Refusal::Memory) => Err(ParseFault::Memory),
         },
     }
 }

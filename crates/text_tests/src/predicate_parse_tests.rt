@@ -1,6 +1,7 @@
 // Texts that begin with a predicate, and what is read of them, each by the grammar of `docs/grammar.md`.
 use fixed_text::TimeMark;
-use predicate_parse::{Fault, predicate};
+use parse_base::Fault;
+use predicate_parse::predicate;
 use script_grammar::predicate::{PAtom, POr};
 use script_lex::{Token, lex};
 use std::alloc::{AllocError, Global};

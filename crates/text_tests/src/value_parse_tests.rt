@@ -1,7 +1,7 @@
 // Texts that begin with a value, and what is read of them, each by the grammar of `docs/grammar.md`.
 ghost use Rattle.std.specs.Prelude.{◌<◌, length};
 
-use predicate_parse::Fault;
+use parse_base::Fault;
 use script_grammar::tree::{self, Full, Literal};
 use script_lex::{Token, lex};
 use std::alloc::{AllocError, Global};

@@ -6,9 +6,9 @@ use Rattle.script_lex.specs.declared.token.Keyword.TheVariants as word
 use Rattle.script_grammar.specs.Tree.{Tree, AFull}
 use Rattle.script_grammar.specs.Read.{Reader, Read, ◌>>=◌, expect}
 use Rattle.script_grammar.specs.ReadValue.{choice}
-use Rattle.predicate_parse.specs.declared.fault.Fault.{Fault}
-use Rattle.predicate_parse.specs.declared.fault.Fault.TheVariants as faults
-use Rattle.predicate_parse.specs.Gives.{Fails}
+use Rattle.parse_base.specs.declared.fault.Fault.{Fault}
+use Rattle.parse_base.specs.declared.fault.Fault.TheVariants as faults
+use Rattle.parse_base.specs.Gives.{Fails}
 use Rattle.value_parse.specs.Operand.{is_if, chosen}
 
 by_word : (stamp : ℕ → ℕ) (full : Reader (Tree AFull)) (w : List TokenKind) → choice stamp full w ≡ (expect is_if w >>= λ x. chosen (stamp (length w)) full x.1)

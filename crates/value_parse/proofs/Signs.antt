@@ -6,9 +6,9 @@ use Rattle.script_lex.specs.declared.token.Symbol.TheVariants as sign
 use Rattle.script_grammar.specs.Tree.{Tree, AFull, AProduct, APrim, Added, Multiplied}
 use Rattle.script_grammar.specs.Read.{Reader, Read, ◌>>=◌, made}
 use Rattle.script_grammar.specs.ReadValue.{product, added, prim, multiplied}
-use Rattle.predicate_parse.specs.declared.fault.Fault.{Fault}
-use Rattle.predicate_parse.specs.declared.fault.Fault.TheVariants as faults
-use Rattle.predicate_parse.specs.Gives.{Fails}
+use Rattle.parse_base.specs.declared.fault.Fault.{Fault}
+use Rattle.parse_base.specs.declared.fault.Fault.TheVariants as faults
+use Rattle.parse_base.specs.Gives.{Fails}
 use Rattle.value_parse.specs.Operand.{sum_sign, product_sign}
 
 added_by_sign : (loose : Bool) (stamp : ℕ → ℕ) (full : Reader (Tree AFull)) (w : List TokenKind) → added loose stamp full w ≡ (sum_sign w >>= λ x. product loose stamp full x.1 >>= made (Added (stamp (length w)) x.0))

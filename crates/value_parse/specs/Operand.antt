@@ -4,11 +4,11 @@ use Rattle.script_lex.specs.declared.token.TokenKind.{TokenKind}
 use Rattle.script_lex.specs.declared.token.TokenKind.TheVariants.{Name, NameOpen, Keyword, Symbol}
 use Rattle.script_lex.specs.declared.token.Keyword.TheVariants as word
 use Rattle.script_lex.specs.declared.token.Symbol.TheVariants as sign
-use Rattle.script_grammar.specs.Tree.{Tree, AFull, APrim, AnArg, AnIf, Plain, Braces, Listed, Arg, If}
-use Rattle.script_grammar.specs.Read.{Reader, ◌>>=◌, made, both, expect, closed}
+use Rattle.script_grammar.specs.Tree.{Sort, Tree, Many, more, AFull, AnExpr, ANot, ACompare, APrim, AnArg, AnIf, Plain, Not, Braces, Listed, Arg, If}
+use Rattle.script_grammar.specs.Read.{Read, Reader, ◌>>=◌, made, both, expect, chain, closed}
 use Rattle.script_grammar.specs.Kinds.{is_comma, is_close_round, is_close_square, is_close_curly, is_then, is_else, is_end}
 use Rattle.script_grammar.specs.ReadPredicate.{por}
-use Rattle.script_grammar.specs.ReadValue.{expr, round_or_unit}
+use Rattle.script_grammar.specs.ReadValue.{expr, arg, round_or_unit}
 
 -- whether a token begins an operand that holds values
 abbrev pub holds_values : TokenKind → Bool
@@ -26,13 +26,27 @@ no_value w = Err (length w)
 abbrev pub braces_at : ℕ → Reader (Tree APrim)
 braces_at at w = both por (expect is_close_curly) w >>= made (λ x. Braces at x.0)
 
+-- one item or several with one token between, up to another
+abbrev pub some_closed : {s : Sort} → (TokenKind → Bool) → (TokenKind → Bool) → Reader (Tree s) → Reader (Tree (Many s))
+some_closed comma close item w = both (chain comma item) (expect close) w >>= made (λ x. more x.0.0 x.0.1)
+
 -- values in parentheses, behind the first bracket
 abbrev pub round_at : ℕ → Reader (Tree AFull) → Reader (Tree APrim)
 round_at at full w = closed is_comma is_close_round full w >>= made (round_or_unit at)
 
+abbrev pub some_round_at : ℕ → Reader (Tree AFull) → Reader (Tree APrim)
+some_round_at at full w = some_closed is_comma is_close_round full w >>= made (round_or_unit at)
+
 -- values in square brackets, behind the first bracket
 abbrev pub list_at : ℕ → Reader (Tree AFull) → Reader (Tree APrim)
 list_at at full w = closed is_comma is_close_square full w >>= made (Listed at)
+
+abbrev pub some_list_at : ℕ → Reader (Tree AFull) → Reader (Tree APrim)
+some_list_at at full w = some_closed is_comma is_close_square full w >>= made (Listed at)
+
+-- arguments, one at least, behind the first bracket
+abbrev pub some_args : (ℕ → ℕ) → Reader (Tree AFull) → Reader (Tree (Many AnArg))
+some_args stamp full w = some_closed is_comma is_close_round (arg stamp full) w
 
 -- the parts of an `if` behind its condition: what is read, and what is made of its values
 abbrev pub otherwise : Reader (Tree AFull) → Reader (Unit {0} × (Tree AFull × Unit {0}))
@@ -55,18 +69,32 @@ is_if k = false
 abbrev pub chosen : ℕ → Reader (Tree AFull) → Reader (Tree AnIf)
 chosen at full w = both full (branches full) w >>= made (λ x. If at x.0 x.1.1.0 x.1.1.1.1.0)
 
--- a value that does not begin with "-"
+-- a value that does not begin with "-", of the expression that was read
+abbrev pub as_plain : Read (Tree AnExpr) → Read (Tree AFull)
+as_plain read = read >>= made Plain
+
 abbrev pub plain : Bool → (ℕ → ℕ) → Reader (Tree AFull) → Reader (Tree AFull)
-plain loose stamp full w = expr loose stamp full w >>= made Plain
+plain loose stamp full w = as_plain (expr loose stamp full w)
+
+-- what was read, behind what was read before
+abbrev pub paired : {A B : Type 0} → A → Read B → Read (A × B)
+paired first read = read >>= λ y. Ok ((first, y.0), y.1)
+
+-- a comparison that was read, behind `not` or not
+abbrev pub behind_not : Bool → Read (Tree ACompare) → Read (Tree ANot)
+behind_not negated read = paired negated read >>= made (λ x. Not x.0 x.1)
 
 -- the label of an argument, and what stands behind it
 abbrev pub label_of : List TokenKind → Option (List ℕ) × List TokenKind
 label_of (Name n ∷ Symbol sign.Assign ∷ r) = (Some n, r)
 label_of w = (None, w)
 
--- an argument behind its label
+-- an argument behind its label, of the value that was read
+abbrev pub as_argument : ℕ → Option (List ℕ) → Read (Tree AFull) → Read (Tree AnArg)
+as_argument at label read = read >>= made (Arg at label)
+
 abbrev pub labelled : ℕ → Option (List ℕ) → Reader (Tree AFull) → Reader (Tree AnArg)
-labelled at label full w = full w >>= made (Arg at label)
+labelled at label full w = as_argument at label (full w)
 
 -- `+` or `-`, where the second is true, and `*` or `/`
 abbrev pub sum_sign : Reader Bool

@@ -5,13 +5,13 @@ ghost use Rattle.script_grammar.specs.ReadValue.{prim};
 ghost use Rattle.script_grammar.specs.View.{view_full, view_if, view_prim};
 ghost use Rattle.script_grammar.specs.Tree.{If as an_if};
 ghost use Rattle.script_grammar.specs.Whole.{IsWholeFull, IsWholeIf, IsWholePrim};
-ghost use Rattle.predicate_parse.specs.Gives.{kinds, Gives, places};
+ghost use Rattle.parse_base.specs.Gives.{kinds, Gives, places};
 ghost use Rattle.value_parse.specs.Operand.{braces_at, holds_values, no_value};
 
 use crate::number::wav;
-use liq_base::Memory;
-use predicate_parse::token::{expect_close_curly, place};
-use predicate_parse::{Fault, predicate};
+use parse_base::Fault;
+use parse_base::token::{expect_close_curly, place};
+use predicate_parse::predicate;
 use script_grammar::tree::{self, Full, If, Literal};
 use script_lex::{Keyword, Symbol, Token, TokenKind};
 use std::alloc::Global;
@@ -119,23 +119,14 @@ pub fn atom(
 }
 
 /// An `if` of its parts.
-pub fn make_choice(
-    alloc: Global,
-    at: u32,
-    condition: Full,
-    then_part: Full,
-    else_part: Full,
-) -> Result<If, Memory>
-    ensures made { IfOk result (λ i. view_if i ≡ an_if at (view_full condition) (view_full then_part) (view_full else_part)) }
-    ensures whole { IfOk result (λ i. IsWholeFull condition → IsWholeFull then_part → IsWholeFull else_part → IsWholeIf i) }
+pub fn make_choice(at: u32, condition: Box<Full>, then_part: Box<Full>, else_part: Box<Full>) -> If
+    ensures made { view_if result ≡ an_if at (view_full condition.value) (view_full then_part.value) (view_full else_part.value) }
+    ensures whole { IsWholeFull condition.value → IsWholeFull then_part.value → IsWholeFull else_part.value → IsWholeIf result }
 {
-    let condition = Box::new(alloc, condition)?;
-    let then_box = Box::new(alloc, then_part)?;
-    let else_box = Box::new(alloc, else_part)?;
-    Ok(If {
+    If {
         at,
         condition,
-        then_part: then_box,
-        else_part: else_box,
-    })
+        then_part,
+        else_part,
+    }
 }

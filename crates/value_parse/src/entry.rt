@@ -4,10 +4,10 @@ ghost use Rattle.script_grammar.specs.ReadValue.{full_by, call as read_call, cho
 ghost use Rattle.script_grammar.specs.ReadScript.{value as read_value, result as read_result};
 ghost use Rattle.script_grammar.specs.View.{view_full, view_expr, view_call, view_if};
 ghost use Rattle.script_grammar.specs.Whole.{IsWholeFull, IsWholeExpr, IsWholeCall, IsWholeIf};
-ghost use Rattle.predicate_parse.specs.Gives.{kinds, Gives, places};
+ghost use Rattle.parse_base.specs.Gives.{kinds, Gives, places};
 
-use crate::descent;
-use predicate_parse::Fault;
+use crate::{arguments, conditionals, logic, values};
+use parse_base::Fault;
 use script_grammar::tree::{Call, Expr, Full, If};
 use script_lex::Token;
 use std::alloc::Global;
@@ -30,7 +30,7 @@ pub fn value(
     ensures gives { Gives (λ x. (view_full x.0, kinds x.1.now)) result (read_value loose (places total) (kinds tokens.now)) }
     ensures whole { IfOk result (λ x. IsWholeFull x.0) }
 {
-    descent::full_step(alloc, total, tokens.len(), loose, tokens)
+    values::full_step(alloc, total, tokens.len(), loose, tokens)
 }
 
 /// The result of a def: an expression, and the tokens behind it. Places and faults are as with `value`.
@@ -42,7 +42,7 @@ pub fn result(alloc: Global, total: usize, tokens: &[Token]) -> Result<(Expr, &[
     ensures gives { Gives (λ x. (view_expr x.0, kinds x.1.now)) result (read_result (places total) (kinds tokens.now)) }
     ensures whole { IfOk result (λ x. IsWholeExpr x.0) }
 {
-    descent::expr(alloc, total, tokens.len(), false, tokens)
+    logic::expr(alloc, total, tokens.len(), false, tokens)
 }
 
 /// A call of a name, and the tokens behind it. Places and faults are as with `value`.
@@ -53,7 +53,7 @@ pub fn call(alloc: Global, total: usize, tokens: &[Token]) -> Result<(Call, &[To
     ensures gives { Gives (λ x. (view_call x.0, kinds x.1.now)) result (read_call (places total) (full_by (length tokens.now) (places total)) (kinds tokens.now)) }
     ensures whole { IfOk result (λ x. IsWholeCall x.0) }
 {
-    descent::call(alloc, total, tokens.len(), tokens)
+    arguments::call(alloc, total, tokens.len(), tokens)
 }
 
 /// An `if`, and the tokens behind its `end`. Places and faults are as with `value`.
@@ -64,5 +64,5 @@ pub fn choice(alloc: Global, total: usize, tokens: &[Token]) -> Result<(If, &[To
     ensures gives { Gives (λ x. (view_if x.0, kinds x.1.now)) result (read_choice (places total) (full_by (length tokens.now) (places total)) (kinds tokens.now)) }
     ensures whole { IfOk result (λ x. IsWholeIf x.0) }
 {
-    descent::choice(alloc, total, tokens.len(), tokens)
+    conditionals::choice(alloc, total, tokens.len(), tokens)
 }

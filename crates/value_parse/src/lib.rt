@@ -1,9 +1,14 @@
 //! Reading values: recursive descent over tokens.
 #![tactic(auto)]
 
+mod arguments;
+mod arithmetic;
 mod atoms;
-mod descent;
+mod conditionals;
 mod entry;
+mod logic;
 mod number;
+mod operands;
+mod values;
 
 pub use entry::{call, choice, result, value};

@@ -3,13 +3,13 @@ ghost use Rattle.std.specs.Prelude.{◌≡◌, ◌<◌, ◌≤◌, IfOk, length,
 ghost use Rattle.script_grammar.specs.Kinds.{op_of};
 ghost use Rattle.script_lex.specs.declared.token.TokenKind.TheVariants.{Symbol as a_symbol};
 ghost use Rattle.script_grammar.specs.ReadValue.{digits, whole_number, the_name, size, wav, takes_option, optional, opens_name, next_op, binds};
-ghost use Rattle.predicate_parse.specs.Gives.{kinds, Gives};
+ghost use Rattle.parse_base.specs.Gives.{kinds, Gives};
 ghost use Rattle.value_parse.specs.Operand.{is_if, label_of, product_sign, sum_sign};
 ghost use Rattle.script_grammar.specs.Read.{expect};
 
 use liq_base::{Memory, Text};
-use predicate_parse::Fault;
-use predicate_parse::token::{at_open_round, expect_assign, expect_close_round, expect_open_round};
+use parse_base::Fault;
+use parse_base::token::{at_open_round, expect_assign, expect_close_round, expect_open_round};
 use script_grammar::tree::{CompareOp, Literal};
 use script_lex::{Keyword, Symbol, Token, TokenKind};
 use std::alloc::Global;

@@ -6,8 +6,8 @@ use Rattle.script_grammar.specs.Read.{next, behind}
 use Rattle.script_grammar.specs.ReadPredicate.{pand, pnot, por_by}
 use Rattle.script_grammar.specs.View.{view_pand, view_pnot}
 use Rattle.script_grammar.specs.Whole.{IsWholePAnd, IsWholePNot}
-use Rattle.predicate_parse.proofs.Turns.{begins, goes_on, fails, ends}
-use Rattle.predicate_parse.proofs.Levels.{por_ends, por_turn}
+use Rattle.parse_base.proofs.Turns.{begins, goes_on, fails, ends}
+use Rattle.parse_base.proofs.Levels.{por_ends, por_turn}
 use Rattle.predicate_parse.proofs.predicates.+predicate.Goals as goal
 
 pub por-returns-then-levels-eq0-clause-gives : goal.por-returns-then-levels-eq0-clause-gives

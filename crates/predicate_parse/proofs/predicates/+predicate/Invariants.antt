@@ -5,7 +5,7 @@ use Rattle.script_grammar.specs.Read.{next, behind}
 use Rattle.script_grammar.specs.ReadPredicate.{pand, pnot, por_by}
 use Rattle.script_grammar.specs.View.{view_pand, view_pnot}
 use Rattle.script_grammar.specs.Whole.{IsWholePAnd, IsWholePNot}
-use Rattle.predicate_parse.proofs.Turns.{Turning}
+use Rattle.parse_base.proofs.Turns.{Turning}
 use Rattle.predicate_parse.proofs.predicates.+predicate.Given as goal
 
 abbrev pub decreases-patom : goal.decreases-patom

@@ -1,6 +1,6 @@
 use Rattle.std.proofs.Common.{◌≡◌, refl, true, false, arith}
 use Rattle.script_parse.specs.Places.{opens, closes}
-use Rattle.predicate_parse.specs.Gives.{kind_of}
+use Rattle.parse_base.specs.Gives.{kind_of}
 use Rattle.script_parse.proofs.Nesting.{counted, at_most_one, still_shallow, deep_here}
 use Rattle.script_parse.proofs.script.depth_place.Goals as goal
 

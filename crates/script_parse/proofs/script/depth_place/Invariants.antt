@@ -1,5 +1,5 @@
 use Rattle.std.proofs.Common.{◌≡◌, ℕ, ◌<◌, ◌≤◌, take, count_by}
-use Rattle.predicate_parse.specs.Gives.{kinds}
+use Rattle.parse_base.specs.Gives.{kinds}
 use Rattle.script_parse.specs.Places.{opens, closes, IsDeepAt}
 use Rattle.script_parse.proofs.script.depth_place.Given as goal
 

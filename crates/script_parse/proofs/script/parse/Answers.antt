@@ -1,4 +1,4 @@
-use Rattle.predicate_parse.specs.Gives.{kinds}
+use Rattle.parse_base.specs.Gives.{kinds}
 use Rattle.script_parse.proofs.Only.{only, only_fault}
 use Rattle.script_parse.proofs.script.parse.Goals as goal
 

@@ -2,7 +2,7 @@ use Rattle.std.proofs.Common.{◌≡◌, ℕ, ◌-◌, Err, length, map, subst, 
 use Rattle.std.proofs.lemmas.List.{length-map}
 use Rattle.script_grammar.specs.ReadScript.{script}
 use Rattle.script_grammar.specs.View.{view_stmt, listed}
-use Rattle.predicate_parse.specs.Gives.{kind_of, kinds, places}
+use Rattle.parse_base.specs.Gives.{kind_of, kinds, places}
 use Rattle.script_parse.specs.Places.{IsSyntaxPlace}
 use Rattle.script_parse.proofs.Exact.{script_is, fault}
 use Rattle.script_parse.proofs.script.whole.Goals as goal

@@ -1,6 +1,6 @@
 use Rattle.std.proofs.Common.{◌≡◌, length, sym, ◌∙◌}
 use Rattle.std.proofs.lemmas.List.{length-map}
-use Rattle.predicate_parse.specs.Gives.{kind_of, kinds, places}
+use Rattle.parse_base.specs.Gives.{kind_of, kinds, places}
 use Rattle.script_parse.proofs.Arms.{part_bind, part_def, part_call, part_if, part_other}
 use Rattle.script_parse.proofs.statement.part.Goals as goal
 

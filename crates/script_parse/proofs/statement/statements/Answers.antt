@@ -6,8 +6,8 @@ use Rattle.script_grammar.specs.Read.{next}
 use Rattle.script_grammar.specs.ReadScript.{stmt}
 use Rattle.script_grammar.specs.View.{view_stmt}
 use Rattle.script_grammar.specs.Whole.{IsWholeStmt}
-use Rattle.predicate_parse.specs.Gives.{places}
-use Rattle.predicate_parse.proofs.Turns.{begins, goes_on, fails, ends}
+use Rattle.parse_base.specs.Gives.{places}
+use Rattle.parse_base.proofs.Turns.{begins, goes_on, fails, ends}
 use Rattle.script_parse.proofs.statement.statements.Goals as goal
 
 pub turns-init : goal.turns-init

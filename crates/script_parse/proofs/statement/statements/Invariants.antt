@@ -5,8 +5,8 @@ use Rattle.script_grammar.specs.Read.{next}
 use Rattle.script_grammar.specs.ReadScript.{stmt}
 use Rattle.script_grammar.specs.View.{view_stmt}
 use Rattle.script_grammar.specs.Whole.{IsWholeStmt}
-use Rattle.predicate_parse.specs.Gives.{places}
-use Rattle.predicate_parse.proofs.Turns.{Turning}
+use Rattle.parse_base.specs.Gives.{places}
+use Rattle.parse_base.proofs.Turns.{Turning}
 use Rattle.script_parse.proofs.statement.statements.Given as goal
 
 abbrev pub invariant-turns : goal.invariant-turns

@@ -2,8 +2,8 @@
 use Rattle.std.specs.Prelude.{◌≡◌, ℕ, ◌-◌, List, map, Result, Ok, Err}
 use Rattle.script_lex.specs.declared.token.Token.{Token}
 use Rattle.script_lex.specs.declared.token.TokenKind.{TokenKind}
-use Rattle.predicate_parse.specs.declared.fault.Fault.{Fault}
-use Rattle.predicate_parse.specs.declared.fault.Fault.TheVariants as faults
+use Rattle.parse_base.specs.declared.fault.Fault.{Fault}
+use Rattle.parse_base.specs.declared.fault.Fault.TheVariants as faults
 
 abbrev pub kind_of : Token → TokenKind
 kind_of t = t.kind

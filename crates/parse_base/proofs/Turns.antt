@@ -6,9 +6,9 @@ use Rattle.script_lex.specs.declared.token.TokenKind.{TokenKind}
 use Rattle.script_grammar.specs.Tree.{Sort, Tree, Many, none, more}
 use Rattle.script_grammar.specs.View.{listed}
 use Rattle.script_grammar.specs.Read.{Read, Reader, ◌>>=◌, made, repeat, many}
-use Rattle.predicate_parse.specs.declared.fault.Fault.{Fault}
-use Rattle.predicate_parse.specs.declared.fault.Fault.TheVariants as faults
-use Rattle.predicate_parse.specs.Gives.{kinds, Fails}
+use Rattle.parse_base.specs.declared.fault.Fault.{Fault}
+use Rattle.parse_base.specs.declared.fault.Fault.TheVariants as faults
+use Rattle.parse_base.specs.Gives.{kinds, Fails}
 
 -- trees before a list of trees
 abbrev pub onto : {s : Sort} → List (Tree s) → Tree (Many s) → Tree (Many s)

@@ -1,6 +1,6 @@
 // Why tokens do not spell what is read.
 ghost use Rattle.std.specs.Prelude.{◌≡◌};
-ghost use Rattle.predicate_parse.specs.declared.fault.Fault.TheVariants as faults;
+ghost use Rattle.parse_base.specs.declared.fault.Fault.TheVariants as faults;
 
 use std::alloc::{AllocError, AllocFailed};
 

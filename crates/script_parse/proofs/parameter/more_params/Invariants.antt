@@ -5,9 +5,9 @@ use Rattle.script_grammar.specs.Read.{next, behind}
 use Rattle.script_grammar.specs.ReadScript.{param}
 use Rattle.script_grammar.specs.View.{view_param}
 use Rattle.script_grammar.specs.Whole.{IsWholeParam}
-use Rattle.predicate_parse.specs.Gives.{places}
-use Rattle.predicate_parse.proofs.Turns.{Turning}
-use Rattle.script_parse.proofs.statement.more_params.Given as goal
+use Rattle.parse_base.specs.Gives.{places}
+use Rattle.parse_base.proofs.Turns.{Turning}
+use Rattle.script_parse.proofs.parameter.more_params.Given as goal
 
 abbrev pub invariant-turns : goal.invariant-turns
 invariant-turns l = (length l.rest ≤ length l.tokens) × Turning view_param (next is_comma) (behind is_comma (param (places l.total))) l.tokens l.rest l.items.items × All IsWholeParam l.items.items

@@ -5,9 +5,9 @@ use Rattle.script_grammar.specs.ReadValue.{binds}
 use Rattle.script_grammar.specs.ReadScript.{inner}
 use Rattle.script_grammar.specs.View.{view_inner}
 use Rattle.script_grammar.specs.Whole.{IsWholeInner}
-use Rattle.predicate_parse.specs.Gives.{places}
-use Rattle.predicate_parse.proofs.Turns.{begins, goes_on, fails, ends}
-use Rattle.script_parse.proofs.statement.inners.Goals as goal
+use Rattle.parse_base.specs.Gives.{places}
+use Rattle.parse_base.proofs.Turns.{begins, goes_on, fails, ends}
+use Rattle.script_parse.proofs.binding.inners.Goals as goal
 
 pub turns-init : goal.turns-init
 turns-init c =

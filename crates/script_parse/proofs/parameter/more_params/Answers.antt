@@ -6,9 +6,9 @@ use Rattle.script_grammar.specs.Read.{next, behind}
 use Rattle.script_grammar.specs.ReadScript.{param}
 use Rattle.script_grammar.specs.View.{view_param}
 use Rattle.script_grammar.specs.Whole.{IsWholeParam}
-use Rattle.predicate_parse.specs.Gives.{places}
-use Rattle.predicate_parse.proofs.Turns.{begins, goes_on, fails, ends}
-use Rattle.script_parse.proofs.statement.more_params.Goals as goal
+use Rattle.parse_base.specs.Gives.{places}
+use Rattle.parse_base.proofs.Turns.{begins, goes_on, fails, ends}
+use Rattle.script_parse.proofs.parameter.more_params.Goals as goal
 
 pub turns-init : goal.turns-init
 turns-init c =

@@ -4,7 +4,7 @@ use Rattle.std.proofs.lemmas.List.{length-map}
 use Rattle.script_lex.specs.declared.token.Token.{Token}
 use Rattle.script_grammar.specs.ReadPredicate.{por_step, por_by, por}
 use Rattle.script_grammar.specs.ReadValue.{full_step, full_by}
-use Rattle.predicate_parse.specs.Gives.{kind_of, kinds}
+use Rattle.parse_base.specs.Gives.{kind_of, kinds}
 
 -- no level is left
 pub por_ends : (n : ℕ) (ts : List Token) → n ≡ 0 → por_by n (kinds ts) ≡ Err (length ts)

@@ -2,7 +2,7 @@
 ghost use Rattle.std.specs.Prelude.{◌≡◌, ◌<◌, ◌≤◌, ◌^◌, IfOk, Ok, length};
 ghost use Rattle.script_grammar.specs.Kinds.{is_added, is_and, is_any, is_assign, is_close_curly, is_close_round, is_close_square, is_comma, is_else, is_end, is_multiplied, is_not, is_open_round, is_or, is_semicolon, is_then};
 ghost use Rattle.script_grammar.specs.Read.{next, expect, perhaps};
-ghost use Rattle.predicate_parse.specs.Gives.{kinds, Gives, places};
+ghost use Rattle.parse_base.specs.Gives.{kinds, Gives, places};
 
 use crate::fault::Fault;
 use script_lex::{Keyword, Symbol, Token, TokenKind};

@@ -1,0 +1,96 @@
+// Bindings, each function reading as `script_grammar`'s reading functions do; the production that it reads stands at
+// its head, in the notation of `docs/grammar.md`.
+ghost use Rattle.std.specs.Prelude.{◌<◌, ◌≤◌, ◌^◌, IfOk, length, map};
+ghost use Rattle.std.specs.List.{All};
+ghost use Rattle.script_grammar.specs.Read.{many};
+ghost use Rattle.script_parse.specs.Reads.{bind_of};
+ghost use Rattle.script_grammar.specs.ReadValue.{binds};
+ghost use Rattle.script_grammar.specs.ReadScript.{bind, inner};
+ghost use Rattle.script_grammar.specs.View.{listed, view_bind, view_inner};
+ghost use Rattle.script_grammar.specs.Whole.{IsWholeBind, IsWholeInner};
+ghost use Rattle.parse_base.specs.Gives.{kinds, Gives, places};
+
+use crate::tokens::{at_binding, name};
+use liq_base::Text;
+use parse_base::Fault;
+use parse_base::token::{expect_assign, perhaps_semicolon, place};
+use script_grammar::tree::{Bind, Inner};
+use script_lex::Token;
+use std::alloc::Global;
+use value_parse::value;
+
+/// binding: Name `=` value. Where it is loose, a `(` may stand behind it.
+#[tactic(auto, using(crate::proofs::Arms::bind_is))]
+pub fn bind(
+    alloc: Global,
+    total: usize,
+    loose: bool,
+    tokens: &[Token],
+) -> Result<(Bind, &[Token]), Fault>
+    requires within { length tokens.now ≤ total }
+    requires small { total < 2 ^ 32 }
+    ensures shorter { IfOk result (λ x. length x.1.now < length tokens.now) }
+    ensures gives { Gives (λ x. (view_bind x.0, kinds x.1.now)) result (bind loose (places total) (kinds tokens.now)) }
+    ensures whole { IfOk result (λ x. IsWholeBind x.0) }
+{
+    let at = place(total, tokens);
+    let (name, after) = name(tokens)?;
+    bind_of(alloc, total, loose, at, name, after)
+}
+
+// `=` value, behind the name.
+fn bind_of<'a>(
+    alloc: Global,
+    total: usize,
+    loose: bool,
+    at: u32,
+    name: &Text,
+    tokens: &'a [Token],
+) -> Result<(Bind, &'a [Token]), Fault>
+    requires within { length tokens.now ≤ total }
+    requires small { total < 2 ^ 32 }
+    ensures shorter { IfOk result (λ x. length x.1.now < length tokens.now) }
+    ensures gives { Gives (λ x. (view_bind x.0, kinds x.1.now)) result (bind_of loose (places total) at name.now (kinds tokens.now)) }
+    ensures whole { IfOk result (λ x. IsWholeBind x.0) }
+{
+    let name = name.copy(alloc)?;
+    let (_assign, rest) = expect_assign(tokens)?;
+    let (value, rest) = value(alloc, total, loose, rest)?;
+    Ok((Bind { at, name, value }, rest))
+}
+
+// inner: binding `;`?
+#[tactic(auto, unfolding(script_grammar::specs::ReadScript::inner))]
+fn inner(alloc: Global, total: usize, tokens: &[Token]) -> Result<(Inner, &[Token]), Fault>
+    requires within { length tokens.now ≤ total }
+    requires small { total < 2 ^ 32 }
+    ensures shorter { IfOk result (λ x. length x.1.now < length tokens.now) }
+    ensures gives { Gives (λ x. (view_inner x.0, kinds x.1.now)) result (inner (places total) (kinds tokens.now)) }
+    ensures whole { IfOk result (λ x. IsWholeInner x.0) }
+{
+    let (bind, rest) = bind(alloc, total, true, tokens)?;
+    let (semicolon, rest) = perhaps_semicolon(rest);
+    Ok((Inner { bind, semicolon }, rest))
+}
+
+/// inner*
+pub fn inners(
+    alloc: Global,
+    total: usize,
+    tokens: &[Token],
+) -> Result<(Vec<Inner>, &[Token]), Fault>
+    requires within { length tokens.now ≤ total }
+    requires small { total < 2 ^ 32 }
+    ensures shorter { IfOk result (λ x. length x.1.now ≤ length tokens.now) }
+    ensures gives { Gives (λ x. (listed (map view_inner x.0.items), kinds x.1.now)) result (many binds (inner (places total)) (kinds tokens.now)) }
+    ensures whole { IfOk result (λ x. All IsWholeInner x.0.items) }
+{
+    let mut items = Vec::new(alloc);
+    let mut rest = tokens;
+    'turns: while at_binding(rest) {
+        let (item, after) = inner(alloc, total, rest)?;
+        items.push(item)?;
+        rest = after;
+    }
+    Ok((items, rest))
+}

@@ -1,0 +1,78 @@
+// Defs.
+ghost use Rattle.std.specs.Prelude.{◌<◌, ◌≤◌, ◌^◌, IfOk, length};
+ghost use Rattle.script_parse.specs.Reads.{ended, def_of};
+ghost use Rattle.script_grammar.specs.ReadScript.{def};
+ghost use Rattle.script_grammar.specs.View.{view_expr, view_def};
+ghost use Rattle.script_grammar.specs.Whole.{IsWholeExpr, IsWholeDef};
+ghost use Rattle.parse_base.specs.Gives.{kinds, Gives, places};
+
+use crate::binding::inners;
+use crate::parameter::params;
+use crate::tokens::{expect_def, open_name};
+use liq_base::Text;
+use parse_base::Fault;
+use parse_base::token::{expect_end, perhaps_assign, place};
+use script_grammar::tree::{Def, Expr};
+use script_lex::Token;
+use std::alloc::Global;
+use value_parse::result;
+
+/// def: `def` NameOpen (param (`,` param)*)? `)` `=`? inner* expression `end`
+#[tactic(auto, using(crate::proofs::Arms::def_is))]
+pub fn def(alloc: Global, total: usize, tokens: &[Token]) -> Result<(Def, &[Token]), Fault>
+    requires within { length tokens.now ≤ total }
+    requires small { total < 2 ^ 32 }
+    ensures shorter { IfOk result (λ x. length x.1.now < length tokens.now) }
+    ensures gives { Gives (λ x. (view_def x.0, kinds x.1.now)) result (def (places total) (kinds tokens.now)) }
+    ensures whole { IfOk result (λ x. IsWholeDef x.0) }
+{
+    let (_def, rest) = expect_def(tokens)?;
+    let at = place(total, rest);
+    let (name, after) = open_name(rest)?;
+    def_of(alloc, total, at, name, after)
+}
+
+// (param (`,` param)*)? `)` `=`? inner* expression `end`, behind the name.
+fn def_of<'a>(
+    alloc: Global,
+    total: usize,
+    at: u32,
+    name: &Text,
+    tokens: &'a [Token],
+) -> Result<(Def, &'a [Token]), Fault>
+    requires within { length tokens.now ≤ total }
+    requires small { total < 2 ^ 32 }
+    ensures shorter { IfOk result (λ x. length x.1.now < length tokens.now) }
+    ensures gives { Gives (λ x. (view_def x.0, kinds x.1.now)) result (def_of (places total) at name.now (kinds tokens.now)) }
+    ensures whole { IfOk result (λ x. IsWholeDef x.0) }
+{
+    let name = name.copy(alloc)?;
+    let (params, rest) = params(alloc, total, tokens)?;
+    let (equals, rest) = perhaps_assign(rest);
+    let (inner, rest) = inners(alloc, total, rest)?;
+    let (result, rest) = ended(alloc, total, rest)?;
+    Ok((
+        Def {
+            at,
+            name,
+            params,
+            equals,
+            inner,
+            result,
+        },
+        rest,
+    ))
+}
+
+// expression `end`
+fn ended(alloc: Global, total: usize, tokens: &[Token]) -> Result<(Expr, &[Token]), Fault>
+    requires within { length tokens.now ≤ total }
+    requires small { total < 2 ^ 32 }
+    ensures shorter { IfOk result (λ x. length x.1.now < length tokens.now) }
+    ensures gives { Gives (λ x. ((view_expr x.0, tt), kinds x.1.now)) result (ended (places total) (kinds tokens.now)) }
+    ensures whole { IfOk result (λ x. IsWholeExpr x.0) }
+{
+    let (result, rest) = result(alloc, total, tokens)?;
+    let (_end, rest) = expect_end(rest)?;
+    Ok((result, rest))
+}

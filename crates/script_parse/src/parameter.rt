@@ -1,0 +1,190 @@
+// Parameters of a def.
+ghost use Rattle.std.specs.Prelude.{◌<◌, ◌≤◌, ◌^◌, IfOk, length, map};
+ghost use Rattle.std.specs.List.{All};
+ghost use Rattle.script_grammar.specs.Read.{next, many, behind, closed};
+ghost use Rattle.script_parse.specs.Reads.{behind_tilde, label_of, default_of};
+ghost use Rattle.value_parse.specs.Operand.{some_closed};
+ghost use Rattle.script_grammar.specs.Kinds.{is_comma, is_close_round};
+ghost use Rattle.script_grammar.specs.ReadScript.{param};
+ghost use Rattle.script_grammar.specs.View.{listed, view_param};
+ghost use Rattle.script_grammar.specs.Whole.{IsWholeParam};
+ghost use Rattle.parse_base.specs.Gives.{kinds, Gives, places};
+
+use crate::tokens::name;
+use liq_base::Text;
+use parse_base::Fault;
+use parse_base::token::{
+    at_close_round, at_comma, expect_close_round, expect_comma, perhaps_assign, place,
+};
+use script_grammar::tree::{Param, ParamForm};
+use script_lex::{Symbol, Token, TokenKind};
+use std::alloc::Global;
+use value_parse::value;
+
+/// (param (`,` param)*)? `)`, behind the name of a def.
+#[tactic(auto, unfolding(script_grammar::specs::Read::closed))]
+pub fn params(
+    alloc: Global,
+    total: usize,
+    tokens: &[Token],
+) -> Result<(Vec<Param>, &[Token]), Fault>
+    requires within { length tokens.now ≤ total }
+    requires small { total < 2 ^ 32 }
+    ensures shorter { IfOk result (λ x. length x.1.now < length tokens.now) }
+    ensures gives { Gives (λ x. (listed (map view_param x.0.items), kinds x.1.now)) result (closed is_comma is_close_round (param (places total)) (kinds tokens.now)) }
+    ensures whole { IfOk result (λ x. All IsWholeParam x.0.items) }
+{
+    if at_close_round(tokens) {
+        let (_close, rest) = expect_close_round(tokens)?;
+        Ok((Vec::new(alloc), rest))
+    } else {
+        some_params(alloc, total, tokens)
+    }
+}
+
+// param (`,` param)* `)`
+#[tactic(auto, unfolding(script_grammar::specs::Read::chain))]
+fn some_params(
+    alloc: Global,
+    total: usize,
+    tokens: &[Token],
+) -> Result<(Vec<Param>, &[Token]), Fault>
+    requires within { length tokens.now ≤ total }
+    requires small { total < 2 ^ 32 }
+    ensures shorter { IfOk result (λ x. length x.1.now < length tokens.now) }
+    ensures gives { Gives (λ x. (listed (map view_param x.0.items), kinds x.1.now)) result (some_closed is_comma is_close_round (param (places total)) (kinds tokens.now)) }
+    ensures whole { IfOk result (λ x. All IsWholeParam x.0.items) }
+{
+    let (first, rest) = param(alloc, total, tokens)?;
+    let (mut items, rest) = more_params(alloc, total, rest)?;
+    let (_close, rest) = expect_close_round(rest)?;
+    items.insert(0, first)?;
+    Ok((items, rest))
+}
+
+// (`,` param)*
+fn more_params(
+    alloc: Global,
+    total: usize,
+    tokens: &[Token],
+) -> Result<(Vec<Param>, &[Token]), Fault>
+    requires within { length tokens.now ≤ total }
+    requires small { total < 2 ^ 32 }
+    ensures shorter { IfOk result (λ x. length x.1.now ≤ length tokens.now) }
+    ensures gives { Gives (λ x. (listed (map view_param x.0.items), kinds x.1.now)) result (many (next is_comma) (behind is_comma (param (places total))) (kinds tokens.now)) }
+    ensures whole { IfOk result (λ x. All IsWholeParam x.0.items) }
+{
+    let mut items = Vec::new(alloc);
+    let mut rest = tokens;
+    'turns: while at_comma(rest) {
+        let (item, after) = comma_param(alloc, total, rest)?;
+        items.push(item)?;
+        rest = after;
+    }
+    Ok((items, rest))
+}
+
+// `,` param
+#[tactic(auto, unfolding(script_grammar::specs::Read::behind))]
+fn comma_param(alloc: Global, total: usize, tokens: &[Token]) -> Result<(Param, &[Token]), Fault>
+    requires within { length tokens.now ≤ total }
+    requires small { total < 2 ^ 32 }
+    ensures shorter { IfOk result (λ x. length x.1.now < length tokens.now) }
+    ensures gives { Gives (λ x. (view_param x.0, kinds x.1.now)) result (behind is_comma (param (places total)) (kinds tokens.now)) }
+    ensures whole { IfOk result (λ x. IsWholeParam x.0) }
+{
+    let (_comma, after) = expect_comma(tokens)?;
+    param(alloc, total, after)
+}
+
+// param: Name | `~` Name | `~` Name `=` value
+#[tactic(auto, unfolding(script_grammar::specs::ReadScript::param, crate::specs::Reads::behind_tilde))]
+fn param(alloc: Global, total: usize, tokens: &[Token]) -> Result<(Param, &[Token]), Fault>
+    requires within { length tokens.now ≤ total }
+    requires small { total < 2 ^ 32 }
+    ensures shorter { IfOk result (λ x. length x.1.now < length tokens.now) }
+    ensures gives { Gives (λ x. (view_param x.0, kinds x.1.now)) result (param (places total) (kinds tokens.now)) }
+    ensures whole { IfOk result (λ x. IsWholeParam x.0) }
+{
+    match tokens {
+        [
+            Token {
+                kind: TokenKind::Name(name),
+                ..
+            },
+            rest @ ..,
+        ] => {
+            let at = place(total, tokens);
+            let name = name.copy(alloc)?;
+            let form = ParamForm::Plain;
+            Ok((Param { at, name, form }, rest))
+        }
+        [
+            Token {
+                kind: TokenKind::Symbol(Symbol::Tilde),
+                ..
+            },
+            after @ ..,
+        ] => labelled(alloc, total, after),
+        _ => Err(Fault::Syntax(tokens.len())),
+    }
+}
+
+// Name | Name `=` value, behind the `~`.
+#[tactic(auto, using(crate::proofs::Arms::tilde_is))]
+fn labelled(alloc: Global, total: usize, tokens: &[Token]) -> Result<(Param, &[Token]), Fault>
+    requires within { length tokens.now ≤ total }
+    requires small { total < 2 ^ 32 }
+    ensures shorter { IfOk result (λ x. length x.1.now < length tokens.now) }
+    ensures gives { Gives (λ x. (view_param x.0, kinds x.1.now)) result (behind_tilde (places total) (kinds tokens.now)) }
+    ensures whole { IfOk result (λ x. IsWholeParam x.0) }
+{
+    let at = place(total, tokens);
+    let (name, after) = name(tokens)?;
+    label_of(alloc, total, at, name, after)
+}
+
+// (`=` value)?, behind the `~` and the name.
+#[tactic(auto, unfolding(crate::specs::Reads::label_of))]
+fn label_of<'a>(
+    alloc: Global,
+    total: usize,
+    at: u32,
+    name: &Text,
+    tokens: &'a [Token],
+) -> Result<(Param, &'a [Token]), Fault>
+    requires within { length tokens.now ≤ total }
+    requires small { total < 2 ^ 32 }
+    ensures shorter { IfOk result (λ x. length x.1.now ≤ length tokens.now) }
+    ensures gives { Gives (λ x. (view_param x.0, kinds x.1.now)) result (label_of (places total) at name.now (kinds tokens.now)) }
+    ensures whole { IfOk result (λ x. IsWholeParam x.0) }
+{
+    let (assign, rest) = perhaps_assign(tokens);
+    if assign {
+        default_of(alloc, total, at, name, rest)
+    } else {
+        let name = name.copy(alloc)?;
+        let form = ParamForm::Labelled;
+        Ok((Param { at, name, form }, rest))
+    }
+}
+
+// value, the default of a parameter.
+fn default_of<'a>(
+    alloc: Global,
+    total: usize,
+    at: u32,
+    name: &Text,
+    tokens: &'a [Token],
+) -> Result<(Param, &'a [Token]), Fault>
+    requires within { length tokens.now ≤ total }
+    requires small { total < 2 ^ 32 }
+    ensures shorter { IfOk result (λ x. length x.1.now < length tokens.now) }
+    ensures gives { Gives (λ x. (view_param x.0, kinds x.1.now)) result (default_of (places total) at name.now (kinds tokens.now)) }
+    ensures whole { IfOk result (λ x. IsWholeParam x.0) }
+{
+    let name = name.copy(alloc)?;
+    let (default, rest) = value(alloc, total, false, tokens)?;
+    let form = ParamForm::Optional(default);
+    Ok((Param { at, name, form }, rest))
+}

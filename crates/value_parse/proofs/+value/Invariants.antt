@@ -1,0 +1,172 @@
+use Rattle.std.proofs.Common.{◌≤◌, length, ◌+◌, ◌*◌}
+use Rattle.std.specs.List.{All}
+use Rattle.script_grammar.specs.Kinds.{is_or, is_and, is_comma, is_added, is_multiplied}
+use Rattle.script_grammar.specs.Read.{next, behind}
+use Rattle.script_grammar.specs.ReadValue.{full_by, and_, not_, added, multiplied, arg}
+use Rattle.script_grammar.specs.View.{view_full, view_and, view_not, view_added, view_multiplied, view_arg}
+use Rattle.script_grammar.specs.Whole.{IsWholeFull, IsWholeAnd, IsWholeNot, IsWholeAdded, IsWholeMultiplied, IsWholeArg}
+use Rattle.parse_base.specs.Gives.{places}
+use Rattle.parse_base.proofs.Turns.{Turning}
+use Rattle.value_parse.proofs.+value.Given as goal
+
+abbrev pub decreases-arguments::call : goal.decreases-arguments::call
+decreases-arguments::call l = 20 * length l.tokens.now
+
+abbrev pub decreases-conditionals::choice : goal.decreases-conditionals::choice
+decreases-conditionals::choice l = 20 * length l.tokens.now
+
+abbrev pub decreases-operands::operand : goal.decreases-operands::operand
+decreases-operands::operand l = 20 * length l.tokens.now + 1
+
+abbrev pub decreases-arithmetic::product : goal.decreases-arithmetic::product
+decreases-arithmetic::product l = 20 * length l.tokens.now + 2
+
+abbrev pub decreases-arithmetic::sum : goal.decreases-arithmetic::sum
+decreases-arithmetic::sum l = 20 * length l.tokens.now + 3
+
+abbrev pub decreases-arithmetic::compare : goal.decreases-arithmetic::compare
+decreases-arithmetic::compare l = 20 * length l.tokens.now + 4
+
+abbrev pub decreases-logic::not_term : goal.decreases-logic::not_term
+decreases-logic::not_term l = 20 * length l.tokens.now + 5
+
+abbrev pub decreases-logic::and_term : goal.decreases-logic::and_term
+decreases-logic::and_term l = 20 * length l.tokens.now + 6
+
+abbrev pub decreases-logic::expr : goal.decreases-logic::expr
+decreases-logic::expr l = 20 * length l.tokens.now + 7
+
+abbrev pub decreases-values::plain : goal.decreases-values::plain
+decreases-values::plain l = 20 * length l.tokens.now + 8
+
+abbrev pub decreases-values::full_step : goal.decreases-values::full_step
+decreases-values::full_step l = 20 * length l.tokens.now + 9
+
+abbrev pub decreases-values::full : goal.decreases-values::full
+decreases-values::full l = 20 * length l.tokens.now + 10
+
+abbrev pub decreases-operands::round : goal.decreases-operands::round
+decreases-operands::round l = 20 * length l.tokens.now + 11
+
+abbrev pub decreases-operands::list : goal.decreases-operands::list
+decreases-operands::list l = 20 * length l.tokens.now + 11
+
+abbrev pub decreases-arguments::labelled : goal.decreases-arguments::labelled
+decreases-arguments::labelled l = 20 * length l.tokens.now + 11
+
+abbrev pub decreases-conditionals::chosen : goal.decreases-conditionals::chosen
+decreases-conditionals::chosen l = 20 * length l.tokens.now + 12
+
+abbrev pub decreases-arguments::arg : goal.decreases-arguments::arg
+decreases-arguments::arg l = 20 * length l.tokens.now + 12
+
+abbrev pub decreases-arguments::args : goal.decreases-arguments::args
+decreases-arguments::args l = 20 * length l.tokens.now + 13
+
+abbrev pub decreases-logic::or_and : goal.decreases-logic::or_and
+decreases-logic::or_and l = 20 * length l.tokens.now
+
+abbrev pub decreases-logic::ands : goal.decreases-logic::ands
+decreases-logic::ands l = 20 * length l.tokens.now + 1
+
+abbrev pub decreases-logic::and_not : goal.decreases-logic::and_not
+decreases-logic::and_not l = 20 * length l.tokens.now
+
+abbrev pub decreases-logic::nots : goal.decreases-logic::nots
+decreases-logic::nots l = 20 * length l.tokens.now + 1
+
+abbrev pub decreases-arithmetic::behind_sum : goal.decreases-arithmetic::behind_sum
+decreases-arithmetic::behind_sum l = 20 * length l.tokens.now
+
+abbrev pub decreases-arithmetic::added : goal.decreases-arithmetic::added
+decreases-arithmetic::added l = 20 * length l.tokens.now
+
+abbrev pub decreases-arithmetic::addeds : goal.decreases-arithmetic::addeds
+decreases-arithmetic::addeds l = 20 * length l.tokens.now + 1
+
+abbrev pub decreases-arithmetic::multiplied : goal.decreases-arithmetic::multiplied
+decreases-arithmetic::multiplied l = 20 * length l.tokens.now
+
+abbrev pub decreases-arithmetic::multiplieds : goal.decreases-arithmetic::multiplieds
+decreases-arithmetic::multiplieds l = 20 * length l.tokens.now + 1
+
+abbrev pub decreases-operands::comma_full : goal.decreases-operands::comma_full
+decreases-operands::comma_full l = 20 * length l.tokens.now
+
+abbrev pub decreases-operands::fulls : goal.decreases-operands::fulls
+decreases-operands::fulls l = 20 * length l.tokens.now + 1
+
+abbrev pub decreases-arguments::comma_arg : goal.decreases-arguments::comma_arg
+decreases-arguments::comma_arg l = 20 * length l.tokens.now
+
+abbrev pub decreases-arguments::more_args : goal.decreases-arguments::more_args
+decreases-arguments::more_args l = 20 * length l.tokens.now + 1
+
+abbrev pub decreases-conditionals::branches : goal.decreases-conditionals::branches
+decreases-conditionals::branches l = 20 * length l.tokens.now
+
+abbrev pub decreases-conditionals::otherwise : goal.decreases-conditionals::otherwise
+decreases-conditionals::otherwise l = 20 * length l.tokens.now
+
+abbrev pub decreases-logic::expr_of : goal.decreases-logic::expr_of
+decreases-logic::expr_of l = 20 * length l._tokens.now
+
+abbrev pub decreases-logic::and_of : goal.decreases-logic::and_of
+decreases-logic::and_of l = 20 * length l._tokens.now
+
+abbrev pub decreases-arithmetic::compare_of : goal.decreases-arithmetic::compare_of
+decreases-arithmetic::compare_of l = 20 * length l._tokens.now
+
+abbrev pub decreases-arithmetic::sum_of : goal.decreases-arithmetic::sum_of
+decreases-arithmetic::sum_of l = 20 * length l._tokens.now
+
+abbrev pub decreases-arithmetic::product_of : goal.decreases-arithmetic::product_of
+decreases-arithmetic::product_of l = 20 * length l._tokens.now
+
+abbrev pub decreases-operands::round_of : goal.decreases-operands::round_of
+decreases-operands::round_of l = 20 * length l._tokens.now
+
+abbrev pub decreases-operands::list_of : goal.decreases-operands::list_of
+decreases-operands::list_of l = 20 * length l._tokens.now
+
+abbrev pub decreases-arguments::args_of : goal.decreases-arguments::args_of
+decreases-arguments::args_of l = 20 * length l._tokens.now
+
+abbrev pub decreases-values::full_box : goal.decreases-values::full_box
+decreases-values::full_box l = 20 * length l.tokens.now + 11
+
+abbrev pub invariant-logic::ands-turns : goal.invariant-logic::ands-turns
+invariant-logic::ands-turns l = (length l.rest ≤ length l.tokens) × Turning view_and (next is_or) (behind is_or (and_ l.loose (places l.total) (full_by l.levels (places l.total)))) l.tokens l.rest l.items.items × All IsWholeAnd l.items.items
+
+abbrev pub decreases-logic::ands-turns : goal.decreases-logic::ands-turns
+decreases-logic::ands-turns l = length l.rest
+
+abbrev pub invariant-logic::nots-turns : goal.invariant-logic::nots-turns
+invariant-logic::nots-turns l = (length l.rest ≤ length l.tokens) × Turning view_not (next is_and) (behind is_and (not_ l.loose (places l.total) (full_by l.levels (places l.total)))) l.tokens l.rest l.items.items × All IsWholeNot l.items.items
+
+abbrev pub decreases-logic::nots-turns : goal.decreases-logic::nots-turns
+decreases-logic::nots-turns l = length l.rest
+
+abbrev pub invariant-arithmetic::addeds-turns : goal.invariant-arithmetic::addeds-turns
+invariant-arithmetic::addeds-turns l = (length l.rest ≤ length l.tokens) × Turning view_added (next is_added) (added l.loose (places l.total) (full_by l.levels (places l.total))) l.tokens l.rest l.items.items × All IsWholeAdded l.items.items
+
+abbrev pub decreases-arithmetic::addeds-turns : goal.decreases-arithmetic::addeds-turns
+decreases-arithmetic::addeds-turns l = length l.rest
+
+abbrev pub invariant-arithmetic::multiplieds-turns : goal.invariant-arithmetic::multiplieds-turns
+invariant-arithmetic::multiplieds-turns l = (length l.rest ≤ length l.tokens) × Turning view_multiplied (next is_multiplied) (multiplied l.loose (places l.total) (full_by l.levels (places l.total))) l.tokens l.rest l.items.items × All IsWholeMultiplied l.items.items
+
+abbrev pub decreases-arithmetic::multiplieds-turns : goal.decreases-arithmetic::multiplieds-turns
+decreases-arithmetic::multiplieds-turns l = length l.rest
+
+abbrev pub invariant-operands::fulls-turns : goal.invariant-operands::fulls-turns
+invariant-operands::fulls-turns l = (length l.rest ≤ length l.tokens) × Turning view_full (next is_comma) (behind is_comma (full_by l.levels (places l.total))) l.tokens l.rest l.items.items × All IsWholeFull l.items.items
+
+abbrev pub decreases-operands::fulls-turns : goal.decreases-operands::fulls-turns
+decreases-operands::fulls-turns l = length l.rest
+
+abbrev pub invariant-arguments::more_args-turns : goal.invariant-arguments::more_args-turns
+invariant-arguments::more_args-turns l = (length l.rest ≤ length l.tokens) × Turning view_arg (next is_comma) (behind is_comma (arg (places l.total) (full_by l.levels (places l.total)))) l.tokens l.rest l.items.items × All IsWholeArg l.items.items
+
+abbrev pub decreases-arguments::more_args-turns : goal.decreases-arguments::more_args-turns
+decreases-arguments::more_args-turns l = length l.rest

@@ -1,0 +1,139 @@
+// Values. Each function of the six files of this descent reads as the definition of its name does in `ReadValue` of
+// `script_grammar`, or in `specs/Operand.antt`; the production that it reads stands at its head, in the notation of
+// `docs/grammar.md`. A value counts down `levels`, so that it is the number of `full_by`; a caller gives as many as
+// there are tokens, which is always enough.
+//
+// So that a level takes little stack, a function hands what a nested call answered to a tail of its own, never
+// inlined: no frame then keeps copies of a tree while others are read. A tail in the cycle takes the tokens at which
+// its first part was read, for its contract alone.
+ghost use Rattle.std.specs.Prelude.{◌<◌, ◌≤◌, ◌^◌, IfOk, length, ℕ};
+ghost use Rattle.script_grammar.specs.Read.{Read};
+ghost use Rattle.script_grammar.specs.Tree.{Tree, AFull, AnExpr};
+ghost use Rattle.script_grammar.specs.ReadValue.{full_by, full_step};
+ghost use Rattle.script_grammar.specs.View.{view_full, view_expr};
+ghost use Rattle.script_grammar.specs.Whole.{IsWholeFull, IsWholeExpr};
+ghost use Rattle.parse_base.specs.Gives.{kinds, Gives, places};
+ghost use Rattle.value_parse.specs.Operand.{plain, as_plain};
+
+use crate::logic::expr;
+use crate::number::digits;
+use parse_base::Fault;
+use parse_base::token::place;
+use script_grammar::tree::{Expr, Full};
+use script_lex::{Symbol, Token, TokenKind};
+use std::alloc::Global;
+
+/// A value, where so many levels may nest; with no level left it is refused.
+#[cycle(value)]
+pub fn full(
+    alloc: Global,
+    total: usize,
+    levels: usize,
+    tokens: &[Token],
+) -> Result<(Full, &[Token]), Fault>
+    requires within { length tokens.now ≤ total }
+    requires small { total < 2 ^ 32 }
+    ensures shorter { IfOk result (λ x. length x.1.now < length tokens.now) }
+    ensures gives { Gives (λ x. (view_full x.0, kinds x.1.now)) result (full_by levels (places total) (kinds tokens.now)) }
+    ensures whole { IfOk result (λ x. IsWholeFull x.0) }
+{
+    if levels == 0 {
+        Err(Fault::Syntax(tokens.len()))
+    } else {
+        full_step(alloc, total, levels - 1, false, tokens)
+    }
+}
+
+/// value: `-` Int | `-` Number | expression
+///
+/// Others nest at most `levels` deep in it. Where it is loose, a `(` may stand behind it.
+#[cycle(value)]
+#[tactic(auto, unfolding(script_grammar::specs::ReadValue::full_step))]
+pub fn full_step(
+    alloc: Global,
+    total: usize,
+    levels: usize,
+    loose: bool,
+    tokens: &[Token],
+) -> Result<(Full, &[Token]), Fault>
+    requires within { length tokens.now ≤ total }
+    requires small { total < 2 ^ 32 }
+    ensures shorter { IfOk result (λ x. length x.1.now < length tokens.now) }
+    ensures gives { Gives (λ x. (view_full x.0, kinds x.1.now)) result (full_step loose (places total) (full_by levels (places total)) (kinds tokens.now)) }
+    ensures whole { IfOk result (λ x. IsWholeFull x.0) }
+{
+    match tokens {
+        [
+            Token {
+                kind: TokenKind::Symbol(Symbol::Minus),
+                ..
+            },
+            after @ ..,
+        ] => {
+            let (number, rest) = digits(after)?;
+            let at = place(total, tokens);
+            Ok((Full::Minus { at, number }, rest))
+        }
+        _ => plain(alloc, total, levels, loose, tokens),
+    }
+}
+
+// value: expression
+#[cycle(value)]
+fn plain(
+    alloc: Global,
+    total: usize,
+    levels: usize,
+    loose: bool,
+    tokens: &[Token],
+) -> Result<(Full, &[Token]), Fault>
+    requires within { length tokens.now ≤ total }
+    requires small { total < 2 ^ 32 }
+    ensures shorter { IfOk result (λ x. length x.1.now < length tokens.now) }
+    ensures gives { Gives (λ x. (view_full x.0, kinds x.1.now)) result (plain loose (places total) (full_by levels (places total)) (kinds tokens.now)) }
+    ensures whole { IfOk result (λ x. IsWholeFull x.0) }
+{
+    plain_of(expr(alloc, total, levels, loose, tokens))
+}
+
+// The same, once the expression is read.
+#[inline(never)]
+fn plain_of<'a>(read: Result<(Expr, &'a [Token]), Fault>) -> Result<(Full, &'a [Token]), Fault>
+    ensures shorter { (n : ℕ) → IfOk read.entry (λ x. length x.1.now < n) → IfOk result (λ x. length x.1.now < n) }
+    ensures gives { (r : Read (Tree AnExpr)) → Gives (λ x. (view_expr x.0, kinds x.1.now)) read.entry r → Gives (λ x. (view_full x.0, kinds x.1.now)) result (as_plain r) }
+    ensures whole { IfOk read.entry (λ x. IsWholeExpr x.0) → IfOk result (λ x. IsWholeFull x.0) }
+{
+    let (expr, rest) = read?;
+    Ok((Full::Plain(expr), rest))
+}
+
+/// A value, at once in a box, so that the parts of an `if` stand on no stack while others are read.
+#[cycle(value)]
+pub fn full_box(
+    alloc: Global,
+    total: usize,
+    levels: usize,
+    tokens: &[Token],
+) -> Result<(Box<Full>, &[Token]), Fault>
+    requires within { length tokens.now ≤ total }
+    requires small { total < 2 ^ 32 }
+    ensures shorter { IfOk result (λ x. length x.1.now < length tokens.now) }
+    ensures gives { Gives (λ x. (view_full x.0.value, kinds x.1.now)) result (full_by levels (places total) (kinds tokens.now)) }
+    ensures whole { IfOk result (λ x. IsWholeFull x.0.value) }
+{
+    boxed(alloc, full(alloc, total, levels, tokens))
+}
+
+// The same, once the value is read.
+#[inline(never)]
+fn boxed<'a>(
+    alloc: Global,
+    read: Result<(Full, &'a [Token]), Fault>,
+) -> Result<(Box<Full>, &'a [Token]), Fault>
+    ensures shorter { (n : ℕ) → IfOk read.entry (λ x. length x.1.now < n) → IfOk result (λ x. length x.1.now < n) }
+    ensures gives { (r : Read (Tree AFull)) → Gives (λ x. (view_full x.0, kinds x.1.now)) read.entry r → Gives (λ x. (view_full x.0.value, kinds x.1.now)) result r }
+    ensures whole { IfOk read.entry (λ x. IsWholeFull x.0) → IfOk result (λ x. IsWholeFull x.0.value) }
+{
+    let (value, rest) = read?;
+    Ok((Box::new(alloc, value)?, rest))
+}
