@@ -1,15 +1,20 @@
 -- Stacks of pairs, and the parts of two types.
 use Rattle.std.proofs.Common.{◌≡◌, ◌∙◌, sym, ap, ap₂, subst, refl, ℕ, zero, suc, ◌+◌, ◌<◌, List, [], ◌∷◌, ◌++◌, map, take, length, get_or, add-one, append_assoc, arith}
+use Rattle.std.specs.Borrow.{Bor}
 use Rattle.type_terms.specs.Ground.{Ground, Grounds, Assignment, list, tuple, more}
 use Rattle.type_terms.specs.Term.{Term, Terms, list_term, tuple_term, no_terms, one_more, term_of, terms_of, meaning, meanings}
 use Rattle.type_terms.specs.Table.{Table, IsOver}
 use Rattle.type_terms.specs.declared.ty.Ty.{Ty}
 use Rattle.type_terms.specs.Agenda.{pairs_of}
-use Rattle.type_terms.specs.Pairs.{AllEqual, AllOver, zipped, parts_of, part_count, IsSplit}
+use Rattle.type_terms.specs.Pairs.{pairs, AllEqual, AllOver, zipped, parts_of, part_count, IsSplit}
 
-pub pairs-append : (xs ys : List (Ty × Ty)) → pairs_of (xs ++ ys) ≡ pairs_of xs ++ pairs_of ys
+pub pairs-append : (xs ys : List (Bor Ty × Bor Ty)) → pairs (xs ++ ys) ≡ pairs xs ++ pairs ys
 pairs-append [] ys = refl
-pairs-append (x ∷ xs) ys = ap (λ ps. (term_of x.0, term_of x.1) ∷ ps) (pairs-append xs ys)
+pairs-append (x ∷ xs) ys = ap (λ ps. (term_of x.0.now, term_of x.1.now) ∷ ps) (pairs-append xs ys)
+
+pub pairs_of-append : (xs ys : List (Ty × Ty)) → pairs_of (xs ++ ys) ≡ pairs_of xs ++ pairs_of ys
+pairs_of-append [] ys = refl
+pairs_of-append (x ∷ xs) ys = ap (λ ps. (term_of x.0, term_of x.1) ∷ ps) (pairs_of-append xs ys)
 
 pub equal_left : (a : Assignment) (xs ys : List (Term × Term)) → AllEqual a (xs ++ ys) → AllEqual a xs
 equal_left a [] ys h = tt
@@ -85,15 +90,15 @@ zipped_next (s ∷ ss) (t ∷ ts) zero d e h k = refl
 zipped_next (s ∷ ss) (t ∷ ts) (suc i) d e h k = ap (λ ps. (term_of s, term_of t) ∷ ps) (zipped_next ss ts i d e (omega arith) (omega arith))
 
 -- one more pair of parts
-pub pushed_next : (base work work' : List (Term × Term)) (ss ts : List Ty) (i : ℕ) (p q : Ty) → i < length ss → length ss ≡ length ts → p ≡ get_or ss i p → q ≡ get_or ts i q → work' ≡ work ++ ((term_of p, term_of q) ∷ []) → work ≡ base ++ zipped (terms_of (map term_of (take i ss))) (terms_of (map term_of (take i ts))) → work' ≡ base ++ zipped (terms_of (map term_of (take (i + 1) ss))) (terms_of (map term_of (take (i + 1) ts)))
+pub pushed_next : (base work work' : List (Bor Ty × Bor Ty)) (ss ts : List Ty) (i : ℕ) (p q : Bor Ty) → i < length ss → length ss ≡ length ts → p.now ≡ get_or ss i p.now → q.now ≡ get_or ts i q.now → work' ≡ work ++ ((p, q) ∷ []) → pairs work ≡ pairs base ++ zipped (terms_of (map term_of (take i ss))) (terms_of (map term_of (take i ts))) → pairs work' ≡ pairs base ++ zipped (terms_of (map term_of (take (i + 1) ss))) (terms_of (map term_of (take (i + 1) ts)))
 pushed_next base work work' ss ts i p q h l ep eq pushed inv =
     rw add-one
-    (pushed
-    ∙ ap (λ ps. ps ++ ((term_of p, term_of q) ∷ [])) inv
-    ∙ append_assoc base (zipped (terms_of (map term_of (take i ss))) (terms_of (map term_of (take i ts)))) ((term_of p, term_of q) ∷ [])
-    ∙ ap (λ ps. base ++ ps)
+    (ap pairs pushed ∙ pairs-append work ((p, q) ∷ [])
+    ∙ ap (λ ps. ps ++ ((term_of p.now, term_of q.now) ∷ [])) inv
+    ∙ append_assoc (pairs base) (zipped (terms_of (map term_of (take i ss))) (terms_of (map term_of (take i ts)))) ((term_of p.now, term_of q.now) ∷ [])
+    ∙ ap (λ ps. pairs base ++ ps)
     (ap₂ (λ x y. zipped (terms_of (map term_of (take i ss))) (terms_of (map term_of (take i ts))) ++ ((term_of x, term_of y) ∷ [])) ep eq
-    ∙ sym (zipped_next ss ts i p q h (omega arith))))
+    ∙ sym (zipped_next ss ts i p.now q.now h (omega arith))))
 
 pub count_of_terms : (ss : List Ty) → part_count (terms_of (map term_of ss)) ≡ length ss
 count_of_terms [] = refl
@@ -111,3 +116,10 @@ split_tuples t u ss ts work work' et eu l e = (
   subst (λ x. IsSplit x u) (sym et) (subst (λ y. IsSplit (tuple_term (terms_of (map term_of ss))) y) (sym eu) (count_of_terms ss ∙ l ∙ sym (count_of_terms ts))),
   e ∙ ap (λ ps. work ++ ps) (sym (ap (λ x. parts_of x u) et ∙ ap (λ y. parts_of (tuple_term (terms_of (map term_of ss))) y) eu)),
 )
+
+-- the same alone
+pub lists_split : (t u a b : Term) → t ≡ list_term a → u ≡ list_term b → IsSplit t u
+lists_split t u a b et eu = subst (λ x. IsSplit x u) (sym et) (subst (λ y. IsSplit (list_term a) y) (sym eu) tt)
+
+pub tuples_split : (t u : Term) (ss ts : List Ty) → t ≡ tuple_term (terms_of (map term_of ss)) → u ≡ tuple_term (terms_of (map term_of ts)) → length ss ≡ length ts → IsSplit t u
+tuples_split t u ss ts et eu l = subst (λ x. IsSplit x u) (sym et) (subst (λ y. IsSplit (tuple_term (terms_of (map term_of ss))) y) (sym eu) (count_of_terms ss ∙ l ∙ sym (count_of_terms ts)))

@@ -1,8 +1,8 @@
 -- What is still to be compared, and which variables were taken apart for it.
-use Rattle.std.specs.Prelude.{◌≡◌, ◌≢◌, ℕ, suc, ◌<◌, List, [], ◌∷◌}
+use Rattle.std.specs.Prelude.{◌≡◌, ◌≢◌, ℕ, suc, ◌+◌, ◌<◌, List, [], ◌∷◌}
 use Rattle.type_terms.specs.Ground.{Assignment, size}
 use Rattle.type_terms.specs.Term.{Term, term_of, variable, meaning}
-use Rattle.type_terms.specs.Table.{Table, Solves}
+use Rattle.type_terms.specs.Table.{Table, Solves, extra}
 use Rattle.type_terms.specs.Pairs.{AllEqual, AllOver}
 use Rattle.type_terms.specs.Differ.{IsForced, IsKindForced}
 use Rattle.type_terms.specs.declared.differ.Difference.{Difference}
@@ -19,9 +19,9 @@ abbrev pub variable_pairs : List (ℕ × ℕ) → List (Term × Term)
 variable_pairs [] = []
 variable_pairs (p ∷ ps) = (variable p.0, variable p.1) ∷ variable_pairs ps
 
--- the two are equal, if the first has fewer than n nodes
+-- the two are equal, if the first has fewer than n nodes, or at most n where it is no variable
 abbrev pub EqualBelow : Assignment → ℕ → Term → Term → Type 0
-EqualBelow a n t u = size (meaning a t) < n → meaning a t ≡ meaning a u
+EqualBelow a n t u = size (meaning a t) < n + extra t → meaning a t ≡ meaning a u
 
 abbrev pub AllEqualBelow : Assignment → ℕ → List (Term × Term) → Type 0
 AllEqualBelow a n [] = Unit {0}

@@ -1,8 +1,15 @@
 -- Pairs of types that are still to be compared.
 use Rattle.std.specs.Prelude.{◌≡◌, ℕ, suc, List, [], ◌∷◌}
 use Rattle.type_terms.specs.Ground.{Assignment}
-use Rattle.type_terms.specs.Term.{Term, Terms, list_term, tuple_term, no_terms, one_more, meaning}
+use Rattle.type_terms.specs.Term.{Term, Terms, list_term, tuple_term, no_terms, one_more, term_of, meaning}
 use Rattle.type_terms.specs.Table.{Table, IsOver}
+use Rattle.type_terms.specs.declared.ty.Ty.{Ty}
+use Rattle.std.specs.Borrow.{Bor}
+
+-- the plain data of pairs of references
+abbrev pub pairs : List (Bor Ty × Bor Ty) → List (Term × Term)
+pairs [] = []
+pairs (p ∷ ps) = (term_of p.0.now, term_of p.1.now) ∷ pairs ps
 
 abbrev pub AllEqual : Assignment → List (Term × Term) → Type 0
 AllEqual a [] = Unit {0}

@@ -5,7 +5,7 @@ ghost use Rattle.type_terms.specs.Differ.{Settles, is_number_base};
 ghost use Rattle.type_terms.specs.Ground.{Assignment};
 ghost use Rattle.type_terms.specs.Nested.{AreMarked};
 ghost use Rattle.type_terms.specs.Agenda.{AllEqualBelow, EqualBelow, TakesUp, agenda, pairs_of, variable_pairs};
-ghost use Rattle.type_terms.specs.Pairs.{IsSplit, parts_of, zipped};
+ghost use Rattle.type_terms.specs.Pairs.{IsSplit, pairs, parts_of, zipped};
 ghost use Rattle.type_terms.specs.Table.{table, IsOver, IsSound, IsTriangular, bound_at, kind_at, number_at, extra, FallsByNumber, MeetsKinds};
 ghost use Rattle.type_terms.specs.Term.{InTerm, InKind, base_of, term_of, terms_of, variable, kind_meaning, source_term};
 ghost use Rattle.type_terms.specs.Variables.{Variable};
@@ -254,7 +254,7 @@ fn is_known(seen: &IndexSet<(u64, u64)>, left: &Ty, right: &Ty) -> bool
 /// Notes two variables that are put down for comparison; other types are not noted.
 fn note(seen: &mut IndexSet<(u64, u64)>, left: &Ty, right: &Ty) -> Result<(), Memory>
     ensures known { OnOk result ((a : Assignment) (n : ℕ) → AllEqualBelow a n (variable_pairs seen.new.keys) → AllEqualBelow a n (variable_pairs seen.old.keys)) }
-    ensures learnt { OnOk result ((a : Assignment) (n : ℕ) → EqualBelow a n (term_of left.now) (term_of right.now) → AllEqualBelow a n (variable_pairs seen.old.keys) → AllEqualBelow a n (variable_pairs seen.new.keys)) }
+    ensures learnt { OnOk result ((a : Assignment) (n : ℕ) → ((x : ℕ) → term_of left.now ≡ variable x → EqualBelow a n (term_of left.now) (term_of right.now)) → AllEqualBelow a n (variable_pairs seen.old.keys) → AllEqualBelow a n (variable_pairs seen.new.keys)) }
 {
     match left {
         Ty::Var(x) => match right {
@@ -283,27 +283,35 @@ pub fn push_copies(
     Ok(())
 }
 
-/// Puts copies of the parts of two tuples on the stack.
-fn push_parts(alloc: Global, work: &mut Vec<(Ty, Ty)>, ss: &[Ty], ts: &[Ty]) -> Result<(), Memory>
+/// Puts the parts of two tuples on the stack.
+fn push_parts<'a>(
+    work: &mut Vec<(&'a Ty, &'a Ty)>,
+    ss: &'a [Ty],
+    ts: &'a [Ty],
+) -> Result<(), Memory>
     requires { length ss.now ≡ length ts.now }
-    ensures { OnOk result (pairs_of work.new.items ≡ pairs_of work.old.items ++ zipped (terms_of (map term_of ss.now)) (terms_of (map term_of ts.now))) }
+    ensures { OnOk result (pairs work.new.items ≡ pairs work.old.items ++ zipped (terms_of (map term_of ss.now)) (terms_of (map term_of ts.now))) }
 {
     for i in 0..ss.len() {
-        push_copies(alloc, work, &ss[i], &ts[i])?;
+        work.push((&ss[i], &ts[i]))?;
     }
     Ok(())
 }
 
-/// Puts copies of the parts of two lists or two tuples on the stack; `false` where the two are not of one such shape.
-fn push_split(alloc: Global, work: &mut Vec<(Ty, Ty)>, s: &Ty, t: &Ty) -> Result<bool, Memory>
-    ensures yes { IfOk result (λ b. OnTrue b (IsSplit (term_of s.now) (term_of t.now) × (pairs_of work.new.items ≡ pairs_of work.old.items ++ parts_of (term_of s.now) (term_of t.now)))) }
-    ensures no { IfOk result (λ b. OnFalse b (pairs_of work.new.items ≡ pairs_of work.old.items)) }
+/// Puts the parts of two lists or two tuples on the stack; `false` where the two are not of one such shape.
+pub fn push_split<'a>(
+    work: &mut Vec<(&'a Ty, &'a Ty)>,
+    s: &'a Ty,
+    t: &'a Ty,
+) -> Result<bool, Memory>
+    ensures yes { IfOk result (λ b. OnTrue b (IsSplit (term_of s.now) (term_of t.now) × (pairs work.new.items ≡ pairs work.old.items ++ parts_of (term_of s.now) (term_of t.now)))) }
+    ensures no { IfOk result (λ b. OnFalse b (pairs work.new.items ≡ pairs work.old.items)) }
     ensures unsplit { IfOk result (λ b. OnFalse b (IsSplit (term_of s.now) (term_of t.now) → ⊥)) }
 {
     match s {
         Ty::List(a) => match t {
             Ty::List(b) => {
-                push_copies(alloc, work, a, b)?;
+                work.push((a, b))?;
                 Ok(true)
             }
             _ => Ok(false),
@@ -315,7 +323,7 @@ fn push_split(alloc: Global, work: &mut Vec<(Ty, Ty)>, s: &Ty, t: &Ty) -> Result
                 if ss.len() != ts.len() {
                     return Ok(false);
                 }
-                push_parts(alloc, work, ss, ts)?;
+                push_parts(work, ss, ts)?;
                 Ok(true)
             }
             _ => Ok(false),
@@ -324,9 +332,31 @@ fn push_split(alloc: Global, work: &mut Vec<(Ty, Ty)>, s: &Ty, t: &Ty) -> Result
     }
 }
 
-/// The difference of two types, or their parts put on the stack.
+/// Whether both types are lists, or tuples of one length.
+fn is_split(s: &Ty, t: &Ty) -> bool
+    ensures yes { OnTrue result (IsSplit (term_of s.now) (term_of t.now)) }
+    ensures unsplit { OnFalse result (IsSplit (term_of s.now) (term_of t.now) → ⊥) }
+{
+    match s {
+        Ty::List(_) => match t {
+            Ty::List(_) => true,
+            _ => false,
+        },
+        Ty::Tuple(ss) => match t {
+            Ty::Tuple(ts) => {
+                let ss: &[Ty] = ss;
+                let ts: &[Ty] = ts;
+                ss.len() == ts.len()
+            }
+            _ => false,
+        },
+        _ => false,
+    }
+}
+
+/// The difference of two types, or what they are bound to put on the stack, where that can be taken apart.
 ///
-/// Two variables whose parts were put there before are the same where those are: they are not taken apart again.
+/// Two variables for which that was done before are the same where those are: it is not done again.
 pub fn differ<'a>(
     alloc: Global,
     types: &'a [TypeVariable],
@@ -351,7 +381,8 @@ pub fn differ<'a>(
     }
     let s = resolve(types, left);
     let t = resolve(types, right);
-    if push_split(alloc, work, s, t)? {
+    if is_split(s, t) {
+        push_copies(alloc, work, s, t)?;
         note(seen, left, right)?;
         return Ok(Difference::Same);
     }

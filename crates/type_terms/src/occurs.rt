@@ -15,7 +15,7 @@ use std::alloc::Global;
 
 /// How many steps a walk over types may take. One that takes more is given up as if memory had run out.
 ///
-/// A script of a mebibyte writes fewer nodes than this, so only types that double again and again pass it.
+/// A script of a mebibyte writes fewer nodes than this, and what variables share is walked once.
 pub const MOST_STEPS: u64 = 4_194_304;
 
 /// The type itself, or where it is a bound variable what that is bound to in the end.

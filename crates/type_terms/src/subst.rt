@@ -138,7 +138,7 @@ impl Subst {
 /// Binds variables so that exactly those solutions are left at which the two types are the same.
 ///
 /// `false` where there is none. Nothing is bound then, nor where memory runs out.
-/// A type with more than a thousand levels is given up as if memory had run out, and so is what takes more than some four million steps: comparing the two types, searching one type for a variable.
+/// A type with more than a thousand levels is given up as if memory had run out, and so is what takes more than some four million steps: comparing pairs of bound types, taking one such pair apart, searching one type for a variable.
 pub fn unify(alloc: Global, subst: &mut Subst, left: &Ty, right: &Ty) -> Result<bool, Memory>
     requires left { IsOver subst.old (term_of left.now) }
     requires right { IsOver subst.old (term_of right.now) }

@@ -12,7 +12,7 @@ ghost use Rattle.type_terms.specs.Variables.{Variable};
 ghost use Rattle.type_terms.specs.declared.ty.KindTerm.{KindTerm};
 
 use crate::copying::{MOST_LEVELS, copy};
-use crate::differ::{Difference, differ, push_copies};
+use crate::differ::{Difference, differ, push_copies, push_split};
 use crate::occurs::{MOST_STEPS, mark};
 use crate::ty::{KindTerm, Ty};
 use crate::type_variable::TypeVariable;
@@ -76,7 +76,7 @@ fn free_kinds(kinds: &mut [Option<KindTerm>], trail: &[u64])
     }
 }
 
-/// Takes up one pair: binds the variable that it forces, or puts its parts on the stack; `false` where the two differ in shape.
+/// Takes up one pair: binds the variable that it forces, or puts what the two are bound to on the stack; `false` where they differ in shape.
 fn take_up(
     alloc: Global,
     types: &mut [TypeVariable],
@@ -121,9 +121,54 @@ fn take_up(
     }
 }
 
+/// Takes up two types: they are taken apart with a stack of references, and the pairs of parts that are not both lists or both tuples are taken up.
+fn take_apart(
+    alloc: Global,
+    types: &mut [TypeVariable],
+    kinds: &mut [Option<KindTerm>],
+    nested: &mut [bool],
+    type_trail: &mut Vec<u64>,
+    kind_trail: &mut Vec<u64>,
+    work: &mut Vec<(Ty, Ty)>,
+    seen: &mut IndexSet<(u64, u64)>,
+    left: &Ty,
+    right: &Ty,
+) -> Result<bool, Memory>
+    requires sound { IsSound (table types.old kinds.old) }
+    requires marked { AreMarked types.old nested.old }
+    requires left { IsOver (table types.old kinds.old) (term_of left.now) }
+    requires right { IsOver (table types.old kinds.old) (term_of right.now) }
+    ensures sound { IsSound (table types.new kinds.new) }
+    ensures marked { AreMarked types.new nested.new }
+    ensures marks_kept { (k : ℕ) → mark_at nested.old k ≡ true → mark_at nested.new k ≡ true }
+    ensures type_trail { (vs : List Variable) → IsTrail type_trail.old.items vs types.old → IsTrail type_trail.new.items vs types.new }
+    ensures kind_trail { (ks : List (Option KindTerm)) → IsKindTrail kind_trail.old.items ks kinds.old → IsKindTrail kind_trail.new.items ks kinds.new }
+    ensures narrower { (a : Assignment) → Solves a (table types.new kinds.new) → Solves a (table types.old kinds.old) }
+    ensures kept { (a : Assignment) → Solves a (table types.old kinds.old) → meaning a (term_of left.now) ≡ meaning a (term_of right.now) → Solves a (table types.new kinds.new) }
+    ensures same { IfOk result (λ yes. OnTrue yes (IsTakenUp (table types.new kinds.new) (agenda work.old.items seen.old.keys) (agenda work.new.items seen.new.keys) (term_of left.now) (term_of right.now))) }
+    ensures clash { IfOk result (λ yes. OnFalse yes ((a : Assignment) → Solves a (table types.new kinds.new) → meaning a (term_of left.now) ≢ meaning a (term_of right.now))) }
+{
+    let mut parts: Vec<(&Ty, &Ty)> = Vec::new(alloc);
+    parts.push((left, right))?;
+    for _step in 0..MOST_STEPS {
+        let Some(next) = parts.pop() else {
+            return Ok(true);
+        };
+        if push_split(&mut parts, next.0, next.1)? {
+            continue;
+        }
+        if !take_up(
+            alloc, types, kinds, nested, type_trail, kind_trail, work, seen, next.0, next.1,
+        )? {
+            return Ok(false);
+        }
+    }
+    Err(Memory)
+}
+
 /// Binds variables until the two types are the same, or differ in shape. The trails tell which were bound.
 ///
-/// What is still to be compared stands on a stack of pairs, as copies, so that variables can be bound meanwhile. Two variables are taken apart once.
+/// What variables are bound to and is still to be compared stands on a stack of pairs, as copies, so that variables can be bound meanwhile. Two variables are taken apart once.
 fn solve(
     alloc: Global,
     types: &mut [TypeVariable],
@@ -157,7 +202,7 @@ fn solve(
         let Some(next) = work.pop() else {
             return Ok(true);
         };
-        if !take_up(
+        if !take_apart(
             alloc, types, kinds, nested, type_trail, kind_trail, &mut work, &mut seen, &next.0,
             &next.1,
         )? {

@@ -1,9 +1,9 @@
 use Rattle.std.proofs.Common.{ap, refl}
-use Rattle.type_terms.specs.Agenda.{agenda, variable_pairs}
+use Rattle.type_terms.specs.Agenda.{agenda}
 use Rattle.type_terms.specs.Table.{table}
 use Rattle.type_terms.specs.Term.{meaning, term_of}
-use Rattle.type_terms.proofs.Agendas.{taken_apart, taken_equal, taken_resolved}
-use Rattle.type_terms.proofs.Basics.{on_false, on_true}
+use Rattle.type_terms.proofs.Agendas.{taken_down, taken_equal, taken_resolved}
+use Rattle.type_terms.proofs.Basics.{on_true}
 use Rattle.type_terms.proofs.Settling.{over_types, triangular}
 use Rattle.type_terms.proofs.differ.differ.Goals as goal
 
@@ -27,14 +27,12 @@ pub returns-then-is_known : goal.returns-then-is_known
 returns-then-is_known c =
     taken_equal (table c.args.types.now c.args.kinds.now) _ (term_of c.args.left.now) (term_of c.args.right.now) (λ a n m k. on_true _ c.if-is_known.ensures a n k)
 
-pub returns-then-branch : goal.returns-then-branch
-returns-then-branch c =
-    let y = on_true _ (rw c.if-branch.true at c.in_ok-push_split.ensures.yes) in
+pub returns-then-is_split : goal.returns-then-is_split
+returns-then-is_split c =
     let s = table c.args.types.now c.args.kinds.now in
-    taken_apart s (agenda c.args.work.now.items c.args.seen.now.keys) (agenda c.push_split.new.work.items c.note.new.seen.keys)
-    (term_of c.args.left.now) (term_of c.args.right.now) (term_of c.resolve-s.result.now) (term_of c.resolve-t.result.now)
-    (c.resolve-s.ensures.kept s refl c.requires.sound c.requires.left) (c.resolve-t.ensures.kept s refl c.requires.sound c.requires.right)
-    c.resolve-s.ensures.value c.resolve-t.ensures.value y.0 y.1 c.in_ok-note.ensures.known c.in_ok-note.ensures.learnt
+    taken_down s (agenda c.args.work.now.items c.args.seen.now.keys) (agenda c.push_copies.new.work.items c.note.new.seen.keys) (term_of c.args.left.now) (term_of c.args.right.now) (term_of c.resolve-s.result.now) (term_of c.resolve-t.result.now)
+    (c.resolve-s.ensures.kept s refl c.requires.sound c.requires.left) (c.resolve-t.ensures.kept s refl c.requires.sound c.requires.right) c.resolve-s.ensures.value c.resolve-t.ensures.value
+    (on_true _ c.if-is_split.ensures.yes) c.in_ok-push_copies.ensures c.in_ok-note.ensures.known c.in_ok-note.ensures.learnt
 
 pub differ_resolved-requires-clause-left : goal.differ_resolved-requires-clause-left
 differ_resolved-requires-clause-left c = c.resolve-s.ensures.kept (table c.args.types.now c.args.kinds.now) refl c.requires.sound c.requires.left
@@ -44,8 +42,6 @@ differ_resolved-requires-clause-right c = c.resolve-t.ensures.kept (table c.args
 
 pub returns : goal.returns
 returns c =
-    let n = on_false _ (rw c.if-branch.false at c.in_ok-push_split.ensures.no) in
-    taken_resolved (table c.args.types.now c.args.kinds.now) (agenda c.args.work.now.items c.args.seen.now.keys) (agenda c.push_split.new.work.items c.args.seen.now.keys)
-    (ap (λ ps. record { todo = ps; seen = variable_pairs c.args.seen.now.keys }) n)
+    taken_resolved (table c.args.types.now c.args.kinds.now) (agenda c.args.work.now.items c.args.seen.now.keys) (agenda c.args.work.now.items c.args.seen.now.keys) refl
     (term_of c.args.left.now) (term_of c.args.right.now) (term_of c.resolve-s.result.now) (term_of c.resolve-t.result.now)
     c.resolve-s.ensures.value c.resolve-t.ensures.value c.in_ok-difference.difference c.in_ok-difference.ensures
