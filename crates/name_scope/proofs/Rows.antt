@@ -1,8 +1,8 @@
 -- What is noted of a tree, from what is noted of its parts.
-use Rattle.std.proofs.Common.{◌≡◌, ◌<◌, ◌+◌, ℕ, length, List, [], ◌∷◌, ◌++◌, Some, Option, refl, sym, ap, ◌∙◌, append_assoc, map, take, get_or}
+use Rattle.std.proofs.Common.{◌≡◌, ◌<◌, ◌+◌, ℕ, length, List, [], ◌∷◌, ◌++◌, Some, None, Option, refl, sym, ap, ◌∙◌, append_assoc, map, take, get_or}
 use Rattle.std.proofs.lemmas.List.{append-nil, take_more}
 use Rattle.std.specs.Global.{Vec}
-use Rattle.script_grammar.specs.Tree.{Sort, Tree, Many, more, AFull, Compared as a_comparison, Expr, And, Sum, Product, Call, Listed}
+use Rattle.script_grammar.specs.Tree.{Sort, Tree, Many, more, AFull, Alone, Compared as a_comparison, Expr, And, Not, Sum, Added, Product, Call, Listed}
 use Rattle.script_grammar.specs.View.{listed, tuple_of, view_expr, view_ands, view_and, view_nots, view_not, view_compare, view_sum, view_addeds, view_added, view_product, view_multiplieds, view_multiplied, view_prim, view_fulls, view_full, view_call, view_args, view_arg}
 use Rattle.script_grammar.specs.declared.tree.Full.{Full}
 use Rattle.script_grammar.specs.declared.tree.Full.TheBlock as block
@@ -83,25 +83,25 @@ addeds_listed v = addeds_row _ (block.hidden-the_row-Added-5 v) ∙ ap (λ (l : 
 multiplieds_listed : (v : Vec multiplied.Multiplied) → view_multiplieds (block.hidden-the_row-Multiplied-4 v) ≡ listed (map view_multiplied v.items)
 multiplieds_listed v = multiplieds_row _ (block.hidden-the_row-Multiplied-4 v) ∙ ap (λ (l : List multiplied.Multiplied). listed (map view_multiplied l)) (product.items_hidden-the_row-Multiplied-4 v)
 
-fulls_listed : (v : Vec Full) → view_fulls (block.hidden-the_row-Full-0 v) ≡ listed (map view_full v.items)
+pub fulls_listed : (v : Vec Full) → view_fulls (block.hidden-the_row-Full-0 v) ≡ listed (map view_full v.items)
 fulls_listed v = fulls_row _ (block.hidden-the_row-Full-0 v) ∙ ap (λ (l : List Full). listed (map view_full l)) (prim.items_hidden-the_row-Full-0 v)
 
 args_listed : (v : Vec arg.Arg) → view_args (block.hidden-the_row-Arg-2 v) ≡ listed (map view_arg v.items)
 args_listed v = args_row _ (block.hidden-the_row-Arg-2 v) ∙ ap (λ (l : List arg.Arg). listed (map view_arg l)) (call.items_hidden-the_row-Arg-2 v)
 
-expr_seen : (e : expr.Expr) → view_expr e ≡ Expr (view_and (expr.out-Expr e).first) (listed (map view_and (expr.out-Expr e).rest.items))
+pub expr_seen : (e : expr.Expr) → view_expr e ≡ Expr (view_and (expr.out-Expr e).first) (listed (map view_and (expr.out-Expr e).rest.items))
 expr_seen e = ap view_expr (sym (expr.roll-out-Expr e) ∙ expr.rolls-Expr' (expr.out-Expr e)) ∙ ap (Expr (view_and (expr.out-Expr e).first)) (ands_listed (expr.out-Expr e).rest)
 
-and_seen : (e : and_.And) → view_and e ≡ And (view_not (and_.out-And e).first) (listed (map view_not (and_.out-And e).rest.items))
+pub and_seen : (e : and_.And) → view_and e ≡ And (view_not (and_.out-And e).first) (listed (map view_not (and_.out-And e).rest.items))
 and_seen e = ap view_and (sym (and_.roll-out-And e) ∙ and_.rolls-And' (and_.out-And e)) ∙ ap (And (view_not (and_.out-And e).first)) (nots_listed (and_.out-And e).rest)
 
-sum_seen : (e : sum.Sum) → view_sum e ≡ Sum (view_product (sum.out-Sum e).first) (listed (map view_added (sum.out-Sum e).rest.items))
+pub sum_seen : (e : sum.Sum) → view_sum e ≡ Sum (view_product (sum.out-Sum e).first) (listed (map view_added (sum.out-Sum e).rest.items))
 sum_seen e = ap view_sum (sym (sum.roll-out-Sum e) ∙ sum.rolls-Sum' (sum.out-Sum e)) ∙ ap (Sum (view_product (sum.out-Sum e).first)) (addeds_listed (sum.out-Sum e).rest)
 
-product_seen : (e : product.Product) → view_product e ≡ Product (view_prim (product.out-Product e).first) (listed (map view_multiplied (product.out-Product e).rest.items))
+pub product_seen : (e : product.Product) → view_product e ≡ Product (view_prim (product.out-Product e).first) (listed (map view_multiplied (product.out-Product e).rest.items))
 product_seen e = ap view_product (sym (product.roll-out-Product e) ∙ product.rolls-Product' (product.out-Product e)) ∙ ap (Product (view_prim (product.out-Product e).first)) (multiplieds_listed (product.out-Product e).rest)
 
-call_seen : (e : call.Call) → view_call e ≡ Call (call.out-Call e).at (call.out-Call e).name (listed (map view_arg (call.out-Call e).args.items))
+pub call_seen : (e : call.Call) → view_call e ≡ Call (call.out-Call e).at (call.out-Call e).name (listed (map view_arg (call.out-Call e).args.items))
 call_seen e = ap view_call (sym (call.roll-out-Call e) ∙ call.rolls-Call' (call.out-Call e)) ∙ ap (Call (call.out-Call e).at (call.out-Call e).name) (args_listed (call.out-Call e).args)
 
 -- ---- what is noted after their parts
@@ -129,11 +129,22 @@ call_parts sc e l k old a new lis kis ais nis =
 pub renamed : (sc : Scope) (f g : Full) (old new : Noted) → f ≡ g → new ≡ with_names old (names sc (view_full f)) → new ≡ with_names old (names sc (view_full g))
 renamed sc f g old new is e = e ∙ ap (λ (x : Full). with_names old (names sc (view_full x))) is
 
-compare_seen : (e : compare.Compare) (r : compared.Compared) → (compare.out-Compare e).right ≡ Some r → view_compare e ≡ a_comparison (view_sum (compare.out-Compare e).left) (compared.out-Compared r).at (compared.out-Compared r).op (view_sum (compared.out-Compared r).sum)
+pub compare_seen : (e : compare.Compare) (r : compared.Compared) → (compare.out-Compare e).right ≡ Some r → view_compare e ≡ a_comparison (view_sum (compare.out-Compare e).left) (compared.out-Compared r).at (compared.out-Compared r).op (view_sum (compared.out-Compared r).sum)
 compare_seen e r is =
     ap view_compare (sym (compare.roll-out-Compare e) ∙ compare.rolls-Compare' (compare.out-Compare e))
     ∙ ap (λ (o : Option compared.Compared). view_compare (compare.Compare' (compare.out-Compare e).left (block.back-Compare-right o))) is
     ∙ ap (λ (x : compared.Compared). view_compare (compare.Compare' (compare.out-Compare e).left (block.back-Compare-right (Some x)))) (sym (compared.roll-out-Compared r) ∙ compared.rolls-Compared' (compared.out-Compared r))
+
+pub compare_alone : (e : compare.Compare) → (compare.out-Compare e).right ≡ None → view_compare e ≡ Alone (view_sum (compare.out-Compare e).left)
+compare_alone e is =
+    ap view_compare (sym (compare.roll-out-Compare e) ∙ compare.rolls-Compare' (compare.out-Compare e))
+    ∙ ap (λ (o : Option compared.Compared). view_compare (compare.Compare' (compare.out-Compare e).left (block.back-Compare-right o))) is
+
+pub not_seen : (e : not_.Not) → view_not e ≡ Not (not_.out-Not e).negated (view_compare (not_.out-Not e).inner)
+not_seen e = ap view_not (sym (not_.roll-out-Not e) ∙ not_.rolls-Not' (not_.out-Not e))
+
+pub added_seen : (e : added.Added) → view_added e ≡ Added (added.out-Added e).at (added.out-Added e).minus (view_product (added.out-Added e).product)
+added_seen e = ap view_added (sym (added.roll-out-Added e) ∙ added.rolls-Added' (added.out-Added e))
 
 pub compare_parts : (sc : Scope) (e : compare.Compare) (r : compared.Compared) (old a new : Noted) → (compare.out-Compare e).right ≡ Some r → a ≡ with_names old (names sc (view_sum (compare.out-Compare e).left)) → new ≡ with_names a (names sc (view_sum (compared.out-Compared r).sum)) → new ≡ with_names old (names sc (view_compare e))
 compare_parts sc e r old a new is ais nis = two_parts old a new (names sc (view_sum (compare.out-Compare e).left)) (names sc (view_sum (compared.out-Compared r).sum)) (names sc (view_compare e)) ais nis (ap (names sc) (compare_seen e r is))

@@ -53,7 +53,7 @@ pub fn given_arguments<'a>(alloc: Global, args: &'a [Arg]) -> Result<Vec<Given<'
 }
 
 /// The label that the argument of a parameter has, if it has one.
-fn label_of<'a>(param: Parameter<'a>) -> Option<&'a str>
+pub fn label_of<'a>(param: Parameter<'a>) -> Option<&'a str>
     ensures same { seen_label result ≡ the_label_of (seen_parameter param.entry) }
 {
     match param.form {
@@ -64,7 +64,7 @@ fn label_of<'a>(param: Parameter<'a>) -> Option<&'a str>
 }
 
 /// Whether a parameter of this form must have an argument.
-fn is_needed(form: Form) -> bool
+pub fn is_needed(form: Form) -> bool
     ensures same { result ≡ is_wanted form }
 {
     match form {
@@ -75,7 +75,7 @@ fn is_needed(form: Form) -> bool
 }
 
 /// Whether an argument has the label that is wanted, or none where none is wanted.
-fn is_label(wanted: Option<&str>, label: Option<&str>) -> bool
+pub fn is_label(wanted: Option<&str>, label: Option<&str>) -> bool
     ensures same { result ≡ the_same_label (seen_label wanted.entry) (seen_label label.entry) }
 {
     match (wanted, label) {

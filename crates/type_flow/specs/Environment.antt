@@ -1,0 +1,165 @@
+-- What an expression sees while types are inferred: names with types over variables, and defs with the uses in their texts.
+use Rattle.std.specs.Prelude.{◌≡◌, ◌<◌, ℕ, List, [], ◌∷◌, ◌++◌, cond, map, length, Option, Some, None, nat_eq, true, false, ⊤}
+use Rattle.liq_base.specs.declared.memory.Kind.{Kind}
+use Rattle.script_grammar.specs.Tree.{Tree, ADef}
+use Rattle.type_terms.specs.Ground.{Assignment}
+use Rattle.type_terms.specs.Term.{Term, InKind, meaning, kind_meaning}
+use Rattle.type_terms.specs.Table.{Table, IsOver}
+use Rattle.type_terms.specs.declared.ty.KindTerm.{KindTerm}
+use Rattle.typing_rules.specs.declared.uses.Use.{Use}
+use Rattle.typing_rules.specs.declared.uses.KindOf.{KindOf}
+use Rattle.typing_rules.specs.declared.uses.KindOf.TheVariants.{Fixed, Given}
+use Rattle.typing_rules.specs.declared.uses.Target.{Target}
+use Rattle.typing_rules.specs.declared.uses.Target.TheVariants as target
+use Rattle.typing_rules.specs.Typing.{Types, Sight, within}
+use Rattle.typing_rules.specs.Scripts.{Entry, Targets, Places, def_token, sight}
+use Rattle.typing_rules.specs.Scripts as entry
+use Rattle.typing_rules.specs.Kinds.{kinds_of}
+
+-- a kind of a use in the text of a def: over variables, or an open kind of the def by its number
+pub data Pending : Type 0 where
+  of_term : KindTerm → Pending
+  of_def : ℕ → Pending
+
+-- a use in the text of a def
+pub record TextUse : Type 0 where
+  pub at : ℕ
+  pub target : Target
+  pub kinds : List Pending
+
+-- a use in what is being typed
+pub record Found : Type 0 where
+  pub at : ℕ
+  pub target : Target
+  pub kinds : List KindTerm
+
+-- what a statement has bound: a value with its type, or a def with the uses in its text
+pub data Known : Type 0 where
+  value : ℕ → Term → Known
+  function : Tree ADef → List TextUse → Known
+
+-- What is seen: what names mean, what statements have bound, the newest first, and the parameters and inner bindings of the def around.
+pub record Env : Type 0 where
+  pub targets : Targets
+  pub before : List Known
+  pub inner : List (ℕ × Term)
+
+-- ---- what is known of the binding at a token
+
+abbrev pub term_at : ℕ → List (ℕ × Term) → Option Term
+term_at t [] = None
+term_at t (b ∷ bs) = cond (nat_eq b.0 t) (Some b.1) (term_at t bs)
+
+abbrev pub term_before : ℕ → List Known → Option Term
+term_before t [] = None
+term_before t (value x u ∷ ks) = cond (nat_eq x t) (Some u) (term_before t ks)
+term_before t (function d us ∷ ks) = term_before t ks
+
+abbrev pub or_else : Option Term → Option Term → Option Term
+or_else (Some u) o = Some u
+or_else None o = o
+
+-- its type
+abbrev pub term_seen : ℕ → Env → Option Term
+term_seen t env = or_else (term_at t env.inner) (term_before t env.before)
+
+-- ---- the same under an assignment to the variables
+
+abbrev pub settled : Assignment → Pending → KindOf
+settled a (of_term k) = Fixed (kind_meaning a k)
+settled a (of_def j) = Given j
+
+abbrev pub settled_use : Assignment → TextUse → Use
+settled_use a u = record { at = u.at; target = u.target; kinds = map (settled a) u.kinds }
+
+abbrev pub entries_under : Assignment → List Known → List Entry
+entries_under a [] = []
+entries_under a (value t u ∷ ks) = entry.value t (meaning a u) ∷ entries_under a ks
+entries_under a (function d us ∷ ks) = entry.function d ∷ entries_under a ks
+
+abbrev pub types_under : Assignment → List (ℕ × Term) → Types
+types_under a ts = map (λ x. (x.0, meaning a x.1)) ts
+
+abbrev pub sight_under : Env → Assignment → Places → Sight
+sight_under env a kinds = within (types_under a env.inner) (sight env.targets kinds (entries_under a env.before) [])
+
+-- ---- what the uses say of the kinds at the places
+
+-- the uses in the texts of defs, by the tokens of the defs, the newest first
+abbrev pub Texts : Type 0
+Texts = List (ℕ × List Use)
+
+abbrev pub texts_under : Assignment → List Known → Texts
+texts_under a [] = []
+texts_under a (value t u ∷ ks) = texts_under a ks
+texts_under a (function d us ∷ ks) = (def_token d, map (settled_use a) us) ∷ texts_under a ks
+
+-- A use with these open kinds, at a token behind a chain of calls. A call of a def leads to the places of its text.
+abbrev pub Takes : (List ℕ → ℕ → List Kind → Type 0) → Places → List ℕ → ℕ → Target → List Kind → Type 0
+Takes calls kinds chain at (target.Slot t) ks = ⊤
+Takes calls kinds chain at (target.Def t) ks = (js : List Kind) × (kinds chain at ≡ Some js) × calls (at ∷ chain) t ks
+Takes calls kinds chain at (target.Builtin b) ks = kinds chain at ≡ Some ks
+
+-- the uses in a text whose own open kinds are given
+abbrev pub TextTakes : (List ℕ → ℕ → List Kind → Type 0) → Places → List ℕ → List Kind → List Use → Type 0
+TextTakes calls kinds chain given [] = ⊤
+TextTakes calls kinds chain given (u ∷ us) = ((ks : List Kind) × (kinds_of given u.kinds ≡ Some ks) × Takes calls kinds chain u.at u.target ks) × TextTakes calls kinds chain given us
+
+-- the places behind a chain that ends in a call of a def, whose open kinds are these
+abbrev pub CallTakes : Texts → Places → List ℕ → ℕ → List Kind → Type 0
+CallTakes [] kinds chain t ks = ⊥
+CallTakes (x ∷ xs) kinds chain t ks =
+    elim (nat_eq x.0 t) [
+      | true ↦ TextTakes (CallTakes xs kinds) kinds chain ks x.1
+      | false ↦ CallTakes xs kinds chain t ks
+    ]
+
+abbrev pub EachTakes : Texts → Places → Assignment → List Found → Type 0
+EachTakes xs kinds a [] = ⊤
+EachTakes xs kinds a (f ∷ fs) = Takes (CallTakes xs kinds) kinds [] f.at f.target (map (kind_meaning a) f.kinds) × EachTakes xs kinds a fs
+
+-- at the places of what is being typed, the kinds are those of the uses that were found
+abbrev pub AreFound : Env → Assignment → Places → List Found → Type 0
+AreFound env a kinds fs = EachTakes (texts_under a env.before) kinds a fs
+
+-- with one more use
+abbrev pub with_use : List Found → ℕ → Target → List KindTerm → List Found
+with_use fs at t ks = fs ++ record { at = at; target = t; kinds = ks } ∷ []
+
+-- ---- over the variables of a substitution
+
+abbrev pub IsKindOver : Table → KindTerm → Type 0
+IsKindOver s k = InKind (λ n. n < length s.kinds) k
+
+abbrev pub AreKindsOver : Table → List KindTerm → Type 0
+AreKindsOver s [] = ⊤
+AreKindsOver s (k ∷ ks) = IsKindOver s k × AreKindsOver s ks
+
+abbrev pub AreUsesOver : Table → List Found → Type 0
+AreUsesOver s [] = ⊤
+AreUsesOver s (f ∷ fs) = AreKindsOver s f.kinds × AreUsesOver s fs
+
+abbrev pub IsPendingOver : Table → Pending → Type 0
+IsPendingOver s (of_term k) = IsKindOver s k
+IsPendingOver s (of_def j) = ⊤
+
+abbrev pub ArePendingOver : Table → List Pending → Type 0
+ArePendingOver s [] = ⊤
+ArePendingOver s (k ∷ ks) = IsPendingOver s k × ArePendingOver s ks
+
+abbrev pub IsTextOver : Table → List TextUse → Type 0
+IsTextOver s [] = ⊤
+IsTextOver s (u ∷ us) = ArePendingOver s u.kinds × IsTextOver s us
+
+abbrev pub AreKnownOver : Table → List Known → Type 0
+AreKnownOver s [] = ⊤
+AreKnownOver s (value t u ∷ ks) = IsOver s u × AreKnownOver s ks
+AreKnownOver s (function d us ∷ ks) = IsTextOver s us × AreKnownOver s ks
+
+abbrev pub AreTypesOver : Table → List (ℕ × Term) → Type 0
+AreTypesOver s [] = ⊤
+AreTypesOver s (x ∷ xs) = IsOver s x.1 × AreTypesOver s xs
+
+pub record IsEnvOver (s : Table) (env : Env) : Type 0 where
+  pub before : AreKnownOver s env.before
+  pub inner : AreTypesOver s env.inner
