@@ -8,6 +8,8 @@ ghost use Rattle.engine_ticks.specs.Runs.{Heard};
 ghost use Rattle.clock_infer.specs.declared.clock_map.NodeClock.TheVariants.{Main as InMain};
 ghost use Rattle.op_leaf.specs.Readers.{Answer};
 ghost use Rattle.clock_engine.specs.Engines.{AreWorks, EngineStands, after_tick, held_in, outputs_of, setting_of};
+ghost use Rattle.stream_meaning.specs.Sinks.{gaps};
+ghost use Rattle.node_states.specs.Ticks.{IsOutput, with_rest};
 ghost use Rattle.clock_engine.specs.Ticks.{HasFailed, HasMade, HaveTickRoom, IsWriteFault};
 
 use crate::TickFault;
@@ -181,6 +183,21 @@ impl<'a, O: Sink + Drop> ClockEngine<'a, O> {
         }
         self.works.ticks += 1;
         Ok(())
+    }
+
+    /// At how many instants of the ticks so far the node of this output, which is one of the clock, offered nothing.
+    pub fn gaps(&self, sink: u32) -> u64
+        requires works { AreWorks self.now.works }
+        requires output { (node : ℕ) × IsOutput (setting_of self.now.works) self.now.works.clock sink node }
+        ensures { (ticks : ℕ) (answers rest : ℕ → List Answer) (node : ℕ) → EngineStands self.now.works ticks answers
+            → IsOutput (setting_of self.now.works) self.now.works.clock sink node → result ≡ gaps (with_rest (setting_of self.now.works) answers rest) node ticks }
+    {
+        for port in &self.works.ports {
+            if port.sink == sink {
+                return port.gaps;
+            }
+        }
+        0
     }
 
     /// The fault that stopped the engine.
