@@ -1,5 +1,5 @@
 -- Sums of cells, one cell at a time.
-use Rattle.std.proofs.Common.{◌≡◌, ◌∙◌, ◌<◌, ◌≤◌, ◌+◌, ◌++◌, ℕ, ℤ, pos, suc, ◌+ℤ◌, Bool, Some, None, List, [], ◌∷◌, length, take, get_or, refl, ap, sym, arith, length-append}
+use Rattle.std.proofs.Common.{◌≡◌, ◌∙◌, ◌<◌, ◌≤◌, ◌+◌, ◌++◌, ℕ, ℤ, pos, ◌+ℤ◌, Bool, Some, None, List, [], ◌∷◌, length, take, get_or, refl, ap, sym, arith, length-append}
 use Rattle.std.proofs.lemmas.Int.{ints}
 use Rattle.std.proofs.lemmas.List.{take_more, length-take, append-nil}
 use Rattle.frame_core.specs.declared.cell.Cell.{Cell}

@@ -3,7 +3,7 @@ use Rattle.std.proofs.Common.{◌≡◌, ◌∙◌, ℕ, Some, List, [], slice_g
 use Rattle.frame_core.specs.Slots.{Slot}
 use Rattle.plan_core.specs.declared.node.Node.{Node}
 use Rattle.clock_infer.specs.declared.clock_map.NodeClock.TheVariants.{Sub}
-use Rattle.stream_meaning.specs.Instants.{Setting, IsMeaning, work_at, history, slots_of, crossfaded, sub_of}
+use Rattle.stream_meaning.specs.Instants.{Setting, IsMeaning, work_at, history, crossfaded, sub_of}
 use Rattle.stream_meaning.proofs.Unfailing.{slots_long, history_long}
 use Rattle.node_states.specs.declared.state.NodeState.{NodeState}
 use Rattle.node_states.specs.States.{AreLong, StateStands}

@@ -1,5 +1,5 @@
 -- A crossfade that wants, and that is fed.
-use Rattle.std.proofs.Common.{◌≡◌, ◌∙◌, ◌<◌, ◌≤◌, ◌↔◌, ◌++◌, ℕ, suc, List, [], ◌∷◌, length, Bool, true, false, IsTrue, refl, ap, sym, subst, arith, ◌⊎◌, inl, inr}
+use Rattle.std.proofs.Common.{◌≡◌, ◌∙◌, ◌<◌, ◌≤◌, ◌↔◌, ℕ, List, length, Bool, false, IsTrue, sym, subst, inl, inr}
 use Rattle.std.proofs.lemmas.Bool.{false≢true, cases_lt}
 use Rattle.frame_core.specs.Slots.{Slot}
 use Rattle.op_cross.specs.Crossfade.{cross}
@@ -8,8 +8,7 @@ use Rattle.op_cross.specs.States.{Crossing, StandsFor}
 use Rattle.op_cross.proofs.LeastRuns.{run_of-is}
 use Rattle.stream_meaning.specs.Operators.{Work, Plays, Picks, Mixes, Fades, Reads}
 use Rattle.stream_meaning.specs.Instants.{Setting, Moment, position}
-use Rattle.node_states.specs.declared.state.NodeState.{NodeState}
-use Rattle.node_states.specs.declared.state.NodeState.TheVariants.{Leaf, Select, Mix, Cross}
+use Rattle.node_states.specs.declared.state.NodeState.TheVariants.{Cross}
 use Rattle.node_states.specs.States.{AreLong, CrossStands, IsSettled, StateStands}
 
 -- what `wants` of a crossfade tells
@@ -28,38 +27,6 @@ cross_settled setting sub past fed i (Fades overlap) state wanting tells stands 
           (subst (λ (o : ℕ). length (cross o (sub i fed)) ≤ position past i) (sym stands.overlap_is) high)))
     ]
 cross_settled setting sub past fed i (Reads buffer) state wanting tells stands is = tt
-
--- a state that is no crossfade's
-pub else_settled : (setting : Setting) (sub : ℕ → ℕ → List Slot) (past : List Moment) (fed i : ℕ) (work : Work) (state : NodeState)
-    → ((c : Crossing) → state ≡ Cross c → ⊥) → StateStands setting sub past fed i work state → IsSettled sub past fed i work
-else_settled setting sub past fed i (Plays leaf) state other stands = tt
-else_settled setting sub past fed i (Picks rule eligible) state other stands = tt
-else_settled setting sub past fed i (Mixes mixing) state other stands = tt
-else_settled setting sub past fed i (Fades overlap) (Leaf state) other stands = absurd stands
-else_settled setting sub past fed i (Fades overlap) (Select state) other stands = absurd stands
-else_settled setting sub past fed i (Fades overlap) (Mix mixer) other stands = absurd stands
-else_settled setting sub past fed i (Fades overlap) (Cross state) other stands = absurd (other state refl)
-else_settled setting sub past fed i (Reads buffer) state other stands = tt
-
-pub cross_fed : (setting : Setting) (sub : ℕ → ℕ → List Slot) (past : List Moment) (fed i : ℕ) (work : Work) (old new : Crossing) (slot : Slot) (wanting : Bool)
-    → Tells old wanting → wanting ≡ true → new.overlap ≡ old.overlap
-    → ((slots : List Slot) (p : ℕ) → StandsFor old slots p → StandsFor new (slots ++ slot ∷ []) p)
-    → StateStands setting sub past fed i work (Cross old) → sub i (suc fed) ≡ sub i fed ++ slot ∷ []
-    → StateStands setting sub past (suc fed) i work (Cross new)
-cross_fed setting sub past fed i (Plays leaf) old new slot wanting tells is same feeds stands more = absurd stands
-cross_fed setting sub past fed i (Picks rule eligible) old new slot wanting tells is same feeds stands more = absurd stands
-cross_fed setting sub past fed i (Mixes mixing) old new slot wanting tells is same feeds stands more = absurd stands
-cross_fed setting sub past fed i (Fades overlap) old new slot wanting tells is same feeds stands more = record {
-  overlap_is = same ∙ stands.overlap_is;
-  stands = subst (λ (list : List Slot). StandsFor new list (position past i)) (sym more) (feeds (sub i fed) (position past i) stands.stands);
-  least = λ m below. elim (cases_lt m fed) [
-    | inl low ↦ stands.least m low
-    | inr high ↦ (let same_m : m ≡ fed = omega (arith, below, high) in
-        subst (λ (n : ℕ). length (cross overlap (sub i n)) ≤ position past i) (sym same_m)
-        (subst (λ (o : ℕ). length (cross o (sub i fed)) ≤ position past i) stands.overlap_is ((tells (sub i fed) (position past i) stands.stands).0 is)))
-  ];
-}
-cross_fed setting sub past fed i (Reads buffer) old new slot wanting tells is same feeds stands more = absurd stands
 
 -- a settled crossfade was fed the least number of slots
 pub cross_run : (sub : ℕ → ℕ → List Slot) (past : List Moment) (fed i overlap : ℕ) (state : Crossing) → AreLong sub

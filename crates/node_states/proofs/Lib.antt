@@ -3,4 +3,3 @@ pub mod Stepped
 pub mod Begun
 pub mod Fed
 pub mod Seconds
-pub mod Eligibles

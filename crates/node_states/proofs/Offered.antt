@@ -1,36 +1,16 @@
 -- What a state offers is the part of its node.
 use Rattle.std.proofs.Common.{◌≡◌, ◌∙◌, ◌<◌, ℕ, List, length, Bool, refl, ap, sym, subst, Option}
-use Rattle.frame_core.specs.Library.{Sounds}
 use Rattle.frame_core.specs.Slots.{Slot, slot_at}
-use Rattle.op_leaf.specs.declared.leaf.LeafState.{LeafState}
-use Rattle.op_leaf.specs.Leaves.{leaf_slot}
-use Rattle.op_leaf.specs.Standing.{leaf_of, StandsAt}
 use Rattle.op_select.specs.declared.rule.Rule.{Rule}
 use Rattle.op_select.specs.declared.rule.Picked.{Picked}
 use Rattle.op_select.specs.Selection.{Selection, offered, pick_of, picked}
 use Rattle.op_cross.specs.Crossfade.{cross}
 use Rattle.op_cross.specs.States.{Crossing, StandsFor}
 use Rattle.op_cross.proofs.LeastRuns.{item_of-is}
-use Rattle.stream_meaning.specs.Arithmetic.{mix_slot}
 use Rattle.stream_meaning.specs.Operators.{Work, Eligible, Plays, Picks, Mixes, Fades, Reads, marks_at}
-use Rattle.stream_meaning.specs.Instants.{Setting, Moment, count, last_pick, position, part_by, picked_part, second_at, unpicked}
-use Rattle.node_mixing.specs.declared.mixer.Mixer.{Mixer}
-use Rattle.node_mixing.specs.Mixings.{mixing_of}
-use Rattle.node_states.specs.declared.state.NodeState.TheVariants.{Leaf, Select, Mix, Cross}
+use Rattle.stream_meaning.specs.Instants.{Setting, Moment, last_pick, position, part_by, picked_part, second_at, unpicked}
+use Rattle.node_states.specs.declared.state.NodeState.TheVariants.{Select, Cross}
 use Rattle.node_states.specs.States.{AreLong, IsSettled, StateStands}
-
-pub leaf_part : (setting : Setting) (sub : ℕ → ℕ → List Slot) (past : List Moment) (fed i : ℕ) (work : Work) (slots : List Slot)
-    (library : Sounds) (state : LeafState) (slot : Slot) → setting.library ≡ library → StateStands setting sub past fed i work (Leaf state)
-    → ((p : ℕ) → StandsAt library state p → slot ≡ leaf_slot library (leaf_of state) p)
-    → unpicked slot ≡ part_by setting sub past i work slots
-leaf_part setting sub past fed i (Plays leaf) slots library state slot same stands offers =
-    ap unpicked (offers (count past i) (subst (λ (l : Sounds). StandsAt l state (count past i)) same stands.stands)
-    ∙ ap (λ (l : Sounds). leaf_slot l (leaf_of state) (count past i)) (sym same)
-    ∙ ap (λ leaf. leaf_slot setting.library leaf (count past i)) stands.plays)
-leaf_part setting sub past fed i (Picks rule eligible) slots library state slot same stands offers = absurd stands
-leaf_part setting sub past fed i (Mixes mixing) slots library state slot same stands offers = absurd stands
-leaf_part setting sub past fed i (Fades overlap) slots library state slot same stands offers = absurd stands
-leaf_part setting sub past fed i (Reads buffer) slots library state slot same stands offers = absurd stands
 
 pub select_part : (setting : Setting) (sub : ℕ → ℕ → List Slot) (past : List Moment) (fed i : ℕ) (work : Work) (slots : List Slot)
     (state : Selection) (marks : List Bool) (second : ℕ) (found : Option Picked) → second ≡ second_at setting (length past)
@@ -48,15 +28,6 @@ select_part setting sub past fed i (Picks rule eligible) slots state marks secon
 select_part setting sub past fed i (Mixes mixing) slots state marks second found at stands marked is = absurd stands
 select_part setting sub past fed i (Fades overlap) slots state marks second found at stands marked is = absurd stands
 select_part setting sub past fed i (Reads buffer) slots state marks second found at stands marked is = absurd stands
-
-pub mix_part : (setting : Setting) (sub : ℕ → ℕ → List Slot) (past : List Moment) (fed i : ℕ) (work : Work) (slots : List Slot)
-    (mixer : Mixer) (slot : Slot) → StateStands setting sub past fed i work (Mix mixer) → slot ≡ mix_slot (mixing_of mixer) slots
-    → unpicked slot ≡ part_by setting sub past i work slots
-mix_part setting sub past fed i (Plays leaf) slots mixer slot stands is = absurd stands
-mix_part setting sub past fed i (Picks rule eligible) slots mixer slot stands is = absurd stands
-mix_part setting sub past fed i (Mixes mixing) slots mixer slot stands is = ap unpicked (is ∙ ap (λ m. mix_slot m slots) stands)
-mix_part setting sub past fed i (Fades overlap) slots mixer slot stands is = absurd stands
-mix_part setting sub past fed i (Reads buffer) slots mixer slot stands is = absurd stands
 
 pub cross_part : (setting : Setting) (sub : ℕ → ℕ → List Slot) (past : List Moment) (fed i : ℕ) (work : Work) (slots : List Slot)
     (state : Crossing) (slot : Slot) → AreLong sub → StateStands setting sub past fed i work (Cross state) → IsSettled sub past fed i work

@@ -1,5 +1,5 @@
 -- The time of the next instant.
-use Rattle.std.proofs.Common.{◌≡◌, ◌∙◌, ◌<◌, ◌+◌, ◌*◌, ◌/◌, ◌%◌, ℕ, suc, arith, refl, ap, sym}
+use Rattle.std.proofs.Common.{◌≡◌, ◌∙◌, ◌<◌, ◌+◌, ◌*◌, ◌/◌, ◌%◌, ℕ, suc, arith, ap}
 use Rattle.std.proofs.Math.Nat.{div-add-mod, div-eq_of_lt, div_self, mod-add-mod, mul-add-div}
 
 next_is : (n rate at : ℕ) → at ≡ n % rate → suc n ≡ rate * (n / rate) + (at + 1)

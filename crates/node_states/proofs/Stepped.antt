@@ -1,26 +1,19 @@
 -- A state after an instant stands for one moment more.
-use Rattle.std.proofs.Common.{◌≡◌, ◌∙◌, ◌<◌, ◌≤◌, ◌&&◌, ◌||◌, ◌++◌, ◌⊎◌, inl, inr, ℕ, suc, Some, None, Option, List, [], ◌∷◌, length, Bool, true, false, not, cond, refl, ap, sym, subst, arith}
-use Rattle.std.specs.Prelude.{IsSome, is_some}
+use Rattle.std.proofs.Common.{◌≡◌, ◌∙◌, ◌<◌, ◌≤◌, ◌&&◌, ◌||◌, ℕ, suc, Some, None, Option, List, ◌∷◌, length, Bool, true, false, not, cond, refl, ap, sym, subst, arith}
+use Rattle.std.specs.Prelude.{is_some}
 use Rattle.std.proofs.lemmas.Bool.{false≢true}
-use Rattle.frame_core.specs.Library.{Sounds}
 use Rattle.frame_core.specs.Slots.{Slot, slot_at}
-use Rattle.op_leaf.specs.declared.leaf.Leaf.{Leaf as TheLeaf}
-use Rattle.op_leaf.specs.declared.leaf.LeafState.{LeafState}
-use Rattle.op_leaf.specs.Leaves.{leaf_slot}
 use Rattle.op_select.specs.declared.rule.Picked.{Picked}
 use Rattle.op_select.specs.Selection.{Selection, pick_of, picked}
 use Rattle.op_cross.specs.Crossfade.{cross}
-use Rattle.op_cross.specs.Runs.{item_of}
 use Rattle.op_cross.specs.States.{Crossing, StandsFor, position_after}
 use Rattle.op_cross.proofs.LeastRuns.{item_of-is}
 use Rattle.stream_meaning.specs.declared.part.Part.{Part}
 use Rattle.stream_meaning.specs.Operators.{Work, Plays, Picks, Mixes, Fades, Reads, marks_at}
-use Rattle.stream_meaning.specs.Instants.{Setting, Moment, count, demanded, gives, last_pick, part_at, part_by, picked_part, position, second_at, unpicked}
+use Rattle.stream_meaning.specs.Instants.{Setting, Moment, demanded, gives, last_pick, part_at, part_by, picked_part, position, second_at}
 use Rattle.stream_meaning.proofs.Choosing.{picked_within}
-use Rattle.node_mixing.specs.declared.mixer.Mixer.{Mixer}
-use Rattle.node_states.specs.declared.state.NodeState.{NodeState}
-use Rattle.node_states.specs.declared.state.NodeState.TheVariants.{Leaf, Select, Mix, Cross}
-use Rattle.node_states.specs.States.{AreLong, CrossStands, IsSettled, LeafStands, SelectStands, StateStands}
+use Rattle.node_states.specs.declared.state.NodeState.TheVariants.{Select, Cross}
+use Rattle.node_states.specs.States.{AreLong, IsSettled, StateStands}
 
 -- an instant at which node i had this part and this mark
 pub record HasPart (moment : Moment) (i : ℕ) (part : Part) (mark : Bool) : Type 0 where
@@ -34,24 +27,6 @@ given moment i part mark had =
 second_of : (mark some : Bool) → (mark && some) ≡ true → some ≡ true
 second_of true some is = is
 second_of false some is = absurd (false≢true is)
-
-pub leaf_step : (setting : Setting) (sub : ℕ → ℕ → List Slot) (past : List Moment) (moment : Moment) (fed i : ℕ) (work : Work) (slots : List Slot)
-    (library : Sounds) (old new : LeafState) (part : Part) (mark gave : Bool) → setting.library ≡ library → gave ≡ (mark && is_some part.slot)
-    → ((leaf : TheLeaf) (so_far : ℕ) → LeafStands library leaf so_far old → (gave ≡ true → IsSome (leaf_slot library leaf so_far))
-        → LeafStands library leaf (cond gave (suc so_far) so_far) new)
-    → StateStands setting sub past fed i work (Leaf old) → part ≡ part_by setting sub past i work slots → HasPart moment i part mark
-    → StateStands setting sub (moment ∷ past) fed i work (Leaf new)
-leaf_step setting sub past moment fed i (Plays leaf) slots library old new part mark gave same gave_is steps stands is had =
-    let gives_is : gives moment i ≡ gave = given moment i part mark had ∙ sym gave_is in
-    let offers : gave ≡ true → IsSome (leaf_slot library leaf (count past i)) =
-    λ e. subst (λ (l : Sounds). IsSome (leaf_slot l leaf (count past i))) same (ap (λ (p : Part). is_some p.slot) (sym is) ∙ second_of mark (is_some part.slot) (sym gave_is ∙ e)) in
-    subst (λ (l : Sounds). LeafStands l leaf (cond (gives moment i) (suc (count past i)) (count past i)) new) (sym same)
-    (subst (λ (g : Bool). LeafStands library leaf (cond g (suc (count past i)) (count past i)) new) (sym gives_is)
-    (steps leaf (count past i) (subst (λ (l : Sounds). LeafStands l leaf (count past i) old) same stands) offers))
-leaf_step setting sub past moment fed i (Picks rule eligible) slots library old new part mark gave same gave_is steps stands is had = absurd stands
-leaf_step setting sub past moment fed i (Mixes mixing) slots library old new part mark gave same gave_is steps stands is had = absurd stands
-leaf_step setting sub past moment fed i (Fades overlap) slots library old new part mark gave same gave_is steps stands is had = absurd stands
-leaf_step setting sub past moment fed i (Reads buffer) slots library old new part mark gave same gave_is steps stands is had = absurd stands
 
 picked_child : (found : Option Picked) → is_some (picked_part found).slot ≡ true → (child : ℕ) × ((picked_part found).pick ≡ Some child)
 picked_child None is = absurd (false≢true is)
@@ -89,14 +64,6 @@ select_step setting sub past moment fed i (Picks rule eligible) slots children o
 select_step setting sub past moment fed i (Mixes mixing) slots children old new part mark gave long gave_is same_rule used unused stands is had = absurd stands
 select_step setting sub past moment fed i (Fades overlap) slots children old new part mark gave long gave_is same_rule used unused stands is had = absurd stands
 select_step setting sub past moment fed i (Reads buffer) slots children old new part mark gave long gave_is same_rule used unused stands is had = absurd stands
-
-pub mix_step : (setting : Setting) (sub : ℕ → ℕ → List Slot) (past : List Moment) (moment : Moment) (fed i : ℕ) (work : Work) (mixer : Mixer)
-    → StateStands setting sub past fed i work (Mix mixer) → StateStands setting sub (moment ∷ past) fed i work (Mix mixer)
-mix_step setting sub past moment fed i (Plays leaf) mixer stands = stands
-mix_step setting sub past moment fed i (Picks rule eligible) mixer stands = stands
-mix_step setting sub past moment fed i (Mixes mixing) mixer stands = stands
-mix_step setting sub past moment fed i (Fades overlap) mixer stands = stands
-mix_step setting sub past moment fed i (Reads buffer) mixer stands = stands
 
 -- the next item, by whether the node gave
 next_item : (gave : Bool) (mark : Bool) (slot : Slot) (p : ℕ) → gave ≡ (mark && is_some slot)

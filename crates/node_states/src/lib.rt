@@ -2,8 +2,8 @@
 //! of a node", has the rules.
 #![tactic(auto)]
 
-pub mod laws;
 mod desk;
+pub mod laws;
 mod marks;
 mod state;
 mod steps;

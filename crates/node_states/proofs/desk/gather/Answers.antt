@@ -1,4 +1,4 @@
-use Rattle.std.proofs.Common.{◌≡◌, ◌∙◌, take, take_all, arith, ap, sym}
+use Rattle.std.proofs.Common.{◌∙◌, take_all, arith, ap, sym}
 use Rattle.sample_kernels.proofs.Places.{map_written}
 use Rattle.stream_meaning.specs.Instants.{part_at, slots_at}
 use Rattle.node_states.proofs.desk.gather.Goals as goal

@@ -1,4 +1,4 @@
-use Rattle.std.proofs.Common.{◌≡◌, ◌∙◌, ℕ, map, List, [], ◌∷◌, length, refl, ap, sym, subst}
+use Rattle.std.proofs.Common.{◌≡◌, ◌∙◌, ℕ, map, List, [], ◌∷◌, length, refl, ap, subst}
 use Rattle.liq_base.specs.declared.memory.Kind.{Kind}
 use Rattle.op_select.specs.declared.rule.Rule.{Rule}
 use Rattle.plan_core.specs.declared.node.Op.TheVariants.{Switch}

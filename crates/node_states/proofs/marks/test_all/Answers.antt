@@ -1,4 +1,4 @@
-use Rattle.std.proofs.Common.{◌≡◌, ◌∙◌, take, take_all, map, arith, ap, sym}
+use Rattle.std.proofs.Common.{◌∙◌, take_all, map, arith, ap, sym}
 use Rattle.sample_kernels.proofs.Places.{map_written}
 use Rattle.time_pred.specs.Predicates.{holds}
 use Rattle.time_pred.specs.View.{view_pred}

@@ -1,4 +1,4 @@
-use Rattle.std.proofs.Common.{◌≡◌, ◌≤◌, length, arith}
+use Rattle.std.proofs.Common.{◌≤◌, length, arith}
 use Rattle.op_cross.specs.Crossfade.{cross}
 use Rattle.node_states.proofs.steps.item.Goals as goal
 

@@ -1,13 +1,12 @@
-use Rattle.std.proofs.Common.{◌≡◌, ◌<◌, ℕ, length, refl, sym, subst}
+use Rattle.std.proofs.Common.{◌<◌, ℕ, length, sym, subst}
 use Rattle.liq_base.specs.declared.memory.Kind.{Kind}
-use Rattle.frame_core.specs.Library.{IsLibrary, Sounds}
+use Rattle.frame_core.specs.Library.{Sounds}
 use Rattle.op_leaf.specs.declared.leaf.Leaf.{Leaf as TheLeaf}
 use Rattle.op_leaf.specs.Leaves.{HasTracksOf}
 use Rattle.plan_core.specs.declared.node.Op.{Op}
 use Rattle.plan_core.specs.declared.node.Op.TheVariants.{Single, Playlist, Blank, Square, Fail, Fallback, Switch, Sequence, Add, Amplify, Mean, Stereo, Crossfade, Buffer, Clock}
 use Rattle.stream_meaning.specs.Operators.{work_of}
 use Rattle.node_states.specs.declared.task.Task.TheVariants as task
-use Rattle.node_states.specs.declared.task.Task.{Task}
 use Rattle.node_states.specs.Works.{IsTask}
 use Rattle.node_states.proofs.state.NodeState.new.Goals as goal
 

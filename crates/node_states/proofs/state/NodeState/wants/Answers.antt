@@ -1,4 +1,4 @@
-use Rattle.std.proofs.Common.{◌≡◌, sym, subst}
+use Rattle.std.proofs.Common.{subst}
 use Rattle.stream_meaning.specs.Operators.{Fades}
 use Rattle.node_states.specs.declared.state.NodeState.TheVariants.{Cross}
 use Rattle.node_states.specs.declared.state.NodeState.{NodeState}
