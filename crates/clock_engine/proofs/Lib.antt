@@ -1,0 +1,9 @@
+pub mod Quiet
+pub mod Filling
+pub mod Numbered
+pub mod Holding
+pub mod Ticking
+pub mod Made
+pub mod Beginning
+pub mod Sinks
+pub mod Starting

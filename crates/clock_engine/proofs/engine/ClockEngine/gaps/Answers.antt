@@ -1,0 +1,35 @@
+use Rattle.std.proofs.Common.{◌≡◌, ◌<◌, ◌∙◌, ℕ, Some, length, get_or, slice_get, arith, ap, sym, refl, subst, inl, inr}
+use Rattle.std.proofs.lemmas.Option.{slice_get_read, slice_get_within}
+use Rattle.stream_meaning.specs.Sinks.{gaps}
+use Rattle.node_states.specs.Ticks.{with_rest}
+use Rattle.clock_engine.specs.Engines.{setting_of}
+use Rattle.engine_instants.proofs.Places.{below_or_same}
+use Rattle.clock_engine.proofs.Numbered.{port_found, port_node}
+use Rattle.clock_engine.proofs.engine.ClockEngine.gaps.Goals as goal
+
+pub returns-then-port-sink : goal.returns-then-port-sink
+returns-then-port-sink g c ticks answers rest node stands output =
+    let within : c.loop-port.port-index < length c.args.self.now.works.ports.items = omega (arith, c.loop-port-test.true, ap length c.deref-port-items.ensures.value) in
+    let at : slice_get c.args.self.now.works.ports.items c.loop-port.port-index ≡ Some c.port-item.result =
+    slice_get_read _ _ _ _ refl within (c.port-item.is ∙ ap (λ xs. get_or xs c.loop-port.port-index c.port-item.result) c.deref-port-items.ensures.value) in
+    stands.gaps_are rest c.loop-port.port-index c.port-item.result at
+    ∙ ap (λ i. gaps (with_rest (setting_of c.args.self.now.works) answers rest) i ticks)
+    (port_node (setting_of c.args.self.now.works) c.args.self.now.works.clock c.args.self.now.works.ports.items c.requires.works.outputs c.args.sink node output c.loop-port.port-index c.port-item.result at c.if-port-sink.true)
+
+pub loop-port-preserved : goal.loop-port-preserved
+loop-port-preserved g c k port below found same =
+    let within : c.loop-port.port-index < length c.args.self.now.works.ports.items = omega (arith, c.loop-port-test.true, ap length c.deref-port-items.ensures.value) in
+    let at : slice_get c.args.self.now.works.ports.items c.loop-port.port-index ≡ Some c.port-item.result =
+    slice_get_read _ _ _ _ refl within (c.port-item.is ∙ ap (λ xs. get_or xs c.loop-port.port-index c.port-item.result) c.deref-port-items.ensures.value) in
+    elim (below_or_same k c.loop-port.port-index below) [
+      | inl less ↦ c.loop-port.invariant k port less found same
+      | inr here ↦ (let one : Some c.port-item.result ≡ Some port = sym at ∙ ap (slice_get c.args.self.now.works.ports.items) (sym here) ∙ found in
+          let its : c.port-item.result ≡ port = cc in
+          c.if-port-sink.false (ap (λ p. p.sink) its ∙ same))
+    ]
+
+pub returns : goal.returns
+returns g c ticks answers rest node stands output =
+    let found = port_found (setting_of c.args.self.now.works) c.args.self.now.works.clock c.args.self.now.works.ports.items c.requires.works.outputs c.args.sink node output in
+    let within : found.0 < length c.args.self.now.works.ports.items = slice_get_within c.args.self.now.works.ports.items found.0 found.1 found.2 in
+    absurd (c.loop-port.invariant found.0 found.1 (omega (arith, within, c.loop-port-test.false, ap length c.deref-port-items.ensures.value)) found.2 found.3)

@@ -1,0 +1,46 @@
+use Rattle.std.proofs.Common.{rules, ◌≡◌, ◌∙◌, ℕ, List, [], length, get_or, replicate, arith, ap, sym, refl}
+use Rattle.std.proofs.lemmas.Option.{slice_get_within}
+use Rattle.clock_infer.specs.declared.clock_map.NodeClock.TheVariants.{Main}
+use Rattle.op_leaf.specs.Readers.{Answer}
+use Rattle.stream_meaning.specs.Instants.{Setting}
+use Rattle.node_states.specs.Ticks.{with_rest}
+use Rattle.clock_engine.specs.Beginnings.{IsNewPort}
+use Rattle.clock_engine.proofs.Made.{all_at}
+use Rattle.clock_engine.proofs.Starting.{new_stand}
+use Rattle.clock_engine.proofs.engine.make_works.Goals as goal
+
+pub returns-clause-works : goal.returns-clause-works
+returns-clause-works c =
+    let S : Setting = record { plan = c.args.shape.plan.now; library = c.args.shape.library.now; clocks = c.args.shape.clocks.now; start = c.args.start.second; answers = λ buffer. [] } in
+    record {
+      nodes = c.requires.plan.nodes;
+      frame = c.requires.plan.frame.1;
+      plain = c.requires.plain;
+      in_clocks = c.requires.in_clocks;
+      lanes = record {
+        fit = record {
+          size = c.in_ok-states.ensures.size;
+          each = λ i node state found stored. (c.in_ok-states.ensures.each i node state found stored).fits c.args.shape.library.now c.requires.library
+              (let within = slice_get_within c.args.shape.plan.now.nodes i node found in omega (arith, within, c.requires.leaves));
+        };
+        in_parts = search rules;
+        in_marks = search rules;
+        room = search rules;
+        rate = c.new-time.ensures.rate;
+      };
+      roots = record { size = (c.in_ok-roots.ensures S).size; each = (c.in_ok-roots.ensures S).each };
+      outputs = c.in_ok-ports.ensures.outputs S;
+      kinds = λ k d h. (c.in_ok-ports.ensures.new S k d h).kind;
+      rooms = λ k d h. (c.in_ok-ports.ensures.new S k d h).room;
+    }
+
+pub returns-clause-stands : goal.returns-clause-stands
+returns-clause-stands c =
+    let S : Setting = record { plan = c.args.shape.plan.now; library = c.args.shape.library.now; clocks = c.args.shape.clocks.now; start = c.args.start.second; answers = λ buffer. [] } in
+    record {
+      made = refl;
+      runs = refl;
+      none = λ buffer. refl;
+      lanes = λ rest. new_stand (with_rest S (λ buffer. []) rest) (Main c.args.clock) _ (length c.args.shape.plan.now.nodes) c.in_ok-states.ensures c.new-time.ensures.stands;
+      gaps_are = λ rest k port at. (all_at (IsNewPort S) c.in_ok-ports.ports.items (c.in_ok-ports.ensures.new S) k port at).gaps;
+    }

@@ -1,0 +1,81 @@
+-- An engine's parts, and for what they stand.
+use Rattle.std.specs.Prelude.{◌≡◌, ◌≤◌, ◌*◌, ℕ, suc, Bool, Option, Some, None, List, [], ◌∷◌, All, length, map, nat_eq, slice_get, if◌then◌else◌}
+use Rattle.liq_base.specs.Kinds.{channels_of}
+use Rattle.plan_core.specs.Plans.{AreNodes}
+use Rattle.plan_core.specs.declared.sink.SinkPlan.{SinkPlan}
+use Rattle.plan_core.specs.declared.sink.SinkPlan.TheVariants.{Output, Feed}
+use Rattle.clock_infer.specs.declared.clock_map.NodeClock.TheVariants.{Main}
+use Rattle.op_leaf.specs.Readers.{Answer}
+use Rattle.stream_meaning.specs.Instants.{Setting, lies_in, sub_of}
+use Rattle.stream_meaning.specs.Sinks.{gaps, kind_of}
+use Rattle.node_states.specs.Ticks.{with_rest}
+use Rattle.clock_outputs.specs.declared.port.Port.{Port}
+use Rattle.engine_instants.specs.States.{AreRoots}
+use Rattle.engine_ticks.specs.Lanes.{AreLanes, IsPlain, LanesStand}
+use Rattle.clock_engine.specs.declared.fault.TickFault.{TickFault}
+use Rattle.clock_engine.specs.declared.engine.Works.{Works}
+
+-- the plan of an engine, with its clocks, its files and its start second, and no answers
+abbrev pub setting_of : Works → Setting
+setting_of works = record {
+  plan = works.shape.plan.now;
+  library = works.shape.library.now;
+  clocks = works.shape.clocks.now;
+  start = works.start.second;
+  answers = λ buffer. [];
+}
+
+-- the outputs of main clock m among these sinks, which are counted from i: their numbers and nodes
+abbrev pub outputs_from : Setting → (m i : ℕ) → List SinkPlan → List (ℕ × ℕ)
+outputs_from setting m i [] = []
+outputs_from setting m i (Output name node fallible ∷ sinks) =
+    if lies_in setting (Main m) node then (i, node) ∷ outputs_from setting m (suc i) sinks else outputs_from setting m (suc i) sinks
+outputs_from setting m i (Feed buffer node ∷ sinks) = outputs_from setting m (suc i) sinks
+
+-- the outputs of main clock m, in sink order
+abbrev pub outputs_of : Setting → ℕ → List (ℕ × ℕ)
+outputs_of setting m = outputs_from setting m 0 setting.plan.sinks
+
+abbrev pub output_of : Port → ℕ × ℕ
+output_of port = (port.sink, port.node)
+
+-- an engine with the lanes and outputs of another one
+abbrev pub after_tick : Works → (other : Works) → (ticks : ℕ) → Option TickFault → Works
+after_tick works other ticks stopped = record {
+  shape = works.shape;
+  clock = works.clock;
+  start = works.start;
+  roots = works.roots;
+  lanes = other.lanes;
+  ports = other.ports;
+  ticks = ticks;
+  stopped = stopped;
+}
+
+-- the parts of an engine of main clock m fit together: a plan without crossfades and buffers
+pub record AreWorks (works : Works) : Type 0 where
+  pub nodes : AreNodes works.shape.plan.now.nodes
+  pub frame : works.shape.plan.now.frame ≤ 65536
+  pub plain : IsPlain works.shape.plan.now
+  pub in_clocks : length works.shape.clocks.now ≡ length works.shape.plan.now.nodes
+  pub lanes : AreLanes works.shape.plan.now works.shape.library.now works.lanes
+  pub roots : AreRoots (setting_of works) (Main works.clock) works.roots.items
+  pub outputs : map output_of works.ports.items ≡ outputs_of (setting_of works) works.clock
+  pub kinds : All (λ port. port.kind ≡ kind_of (setting_of works) port.node) works.ports.items
+  pub rooms : All (λ port. works.shape.plan.now.frame * (2 * channels_of port.kind) ≤ port.piece.room) works.ports.items
+
+-- an engine that stands for so many ticks: no tick of it had a fault, and since its plan has no buffers there are no answers
+pub record EngineStands (works : Works) (ticks : ℕ) (answers : ℕ → List Answer) : Type 0 where
+  pub made : works.ticks ≡ ticks
+  pub runs : works.stopped ≡ None
+  pub none : (buffer : ℕ) → answers buffer ≡ []
+  pub lanes : (rest : ℕ → List Answer) → LanesStand (with_rest (setting_of works) answers rest) (sub_of (with_rest (setting_of works) answers rest)) (Main works.clock)
+      (ticks * works.shape.plan.now.frame) works.lanes
+  pub gaps_are : (rest : ℕ → List Answer) (k : ℕ) (port : Port) → slice_get works.ports.items k ≡ Some port
+      → port.gaps ≡ gaps (with_rest (setting_of works) answers rest) port.node ticks
+
+-- what the sink of this number holds, where it tells it: `held` tells it of a sink
+abbrev pub held_in : {S : Type 0} → (S → Option (List ℕ)) → List Port → List S → ℕ → Option (List ℕ)
+held_in held [] outs sink = None
+held_in held (port ∷ ports) [] sink = None
+held_in held (port ∷ ports) (out ∷ outs) sink = if nat_eq port.sink sink then held out else held_in held ports outs sink

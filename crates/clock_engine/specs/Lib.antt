@@ -1,0 +1,3 @@
+pub mod Engines
+pub mod Ticks
+pub mod Beginnings

@@ -1,0 +1,44 @@
+-- What a tick of an engine without buffers owes.
+use Rattle.std.specs.Prelude.{◌≡◌, ◌*◌, ℕ, Option, Some, List, ◌++◌, slice_get}
+use Rattle.liq_base.specs.Counts.{Rose}
+use Rattle.liq_base.specs.Kinds.{channels_of}
+use Rattle.liq_base.specs.Pieces.{HasRoom}
+use Rattle.frame_core.specs.Calls.{Call}
+use Rattle.op_leaf.specs.Readers.{Answer}
+use Rattle.node_states.specs.Ticks.{HasStopped, HasTicked}
+use Rattle.clock_outputs.specs.declared.port.Port.{Port}
+use Rattle.clock_outputs.specs.Appends.{RoseAt}
+use Rattle.clock_engine.specs.Engines.{EngineStands, held_in, setting_of}
+use Rattle.clock_engine.specs.declared.engine.Works.{Works}
+use Rattle.clock_engine.specs.declared.fault.TickFault.{TickFault}
+use Rattle.clock_engine.specs.declared.fault.TickFault.TheVariants.{Write}
+
+-- each sink that tells its room has room for the piece of a tick
+pub record HaveTickRoom {S : Type 0} (room : S → Option ℕ) (works : Works) (outs : List S) : Type 0 where
+  pub each : (k : ℕ) (port : Port) (out : S) → slice_get works.ports.items k ≡ Some port → slice_get outs k ≡ Some out
+      → HasRoom (room out) (works.shape.plan.now.frame * (2 * channels_of port.kind))
+
+-- the fault is that of an output's sink, whose count of faults rose
+pub record IsWriteFault {S : Type 0} (faults : S → ℕ) (works : Works) (old new : List S) (fault : TickFault) : Type 0 where
+  pub place : ℕ
+  pub port : Port
+  pub there : slice_get works.ports.items place ≡ Some port
+  pub fault_is : fault ≡ Write port.sink
+  pub rose : RoseAt faults place old new
+
+-- a tick that answers Ok has made some calls; whatever engine and taps stood for, they stand for these calls too
+pub record HasMade {S T : Type 0} (held : S → Option (List ℕ)) (taps_stand : T → List Call → Type 0) (old new : Works) (outs_old outs_new : List S)
+    (taps_old taps_new : T) : Type 0 where
+  pub more : List Call
+  pub engine : (t : ℕ) (answers : ℕ → List Answer) → EngineStands old t answers
+      → HasTicked (EngineStands new) (setting_of old) old.clock t answers more (held_in held old.ports.items outs_old) (held_in held new.ports.items outs_new)
+  pub taps : (calls : List Call) → taps_stand taps_old calls → taps_stand taps_new (calls ++ more)
+
+-- the same of a tick that answers a fault: the calls that were made are the first ones of the tick's, and each output has grown by a
+-- part of its bytes
+pub record HasFailed {S T : Type 0} (held : S → Option (List ℕ)) (taps_stand : T → List Call → Type 0) (old new : Works) (outs_old outs_new : List S)
+    (taps_old taps_new : T) : Type 0 where
+  pub made : List Call
+  pub engine : (t : ℕ) (answers : ℕ → List Answer) → EngineStands old t answers
+      → HasStopped (setting_of old) old.clock t answers made (held_in held old.ports.items outs_old) (held_in held new.ports.items outs_new)
+  pub taps : (calls : List Call) → taps_stand taps_old calls → taps_stand taps_new (calls ++ made)

@@ -1,0 +1,225 @@
+// The engine of one clock.
+ghost use Rattle.std.specs.Prelude.{◌≡◌, ◌<◌, ℕ, Some, None, List, [], length, IfOk, OnOk, OnErr, IfErr};
+ghost use Rattle.plan_core.specs.Plans.{IsWellFormed};
+ghost use Rattle.clock_infer.specs.Answers.{IsClockMap};
+ghost use Rattle.frame_core.specs.Library.{IsLibrary};
+ghost use Rattle.engine_ticks.specs.Lanes.{AreLanes, IsPlain};
+ghost use Rattle.engine_ticks.specs.Runs.{Heard};
+ghost use Rattle.clock_infer.specs.declared.clock_map.NodeClock.TheVariants.{Main as InMain};
+ghost use Rattle.op_leaf.specs.Readers.{Answer};
+ghost use Rattle.clock_engine.specs.Engines.{AreWorks, EngineStands, after_tick, held_in, outputs_of, setting_of};
+ghost use Rattle.stream_meaning.specs.Sinks.{gaps};
+ghost use Rattle.node_states.specs.Ticks.{IsOutput, with_rest};
+ghost use Rattle.clock_engine.specs.Ticks.{HasFailed, HasMade, HaveTickRoom, IsWriteFault};
+
+use crate::TickFault;
+use crate::outputs::ports_of;
+use crate::parts::{most_children, roots_of, states_of};
+use clock_infer::{ClockMap, NodeClock};
+use clock_outputs::{Port, append_all};
+use engine_instants::Shape;
+use engine_ticks::{Lanes, run_tick};
+use fixed_text::WeekSecond;
+use frame_core::{Library, Taps};
+use liq_base::{Memory, Sink};
+use node_states::{Desk, WeekTime};
+use plan_core::Plan;
+use std::alloc::Global;
+use stream_meaning::Part;
+
+/// What an engine runs over and what changes from tick to tick, but for its sinks.
+#[derive(Drop)]
+pub struct Works<'a> {
+    pub shape: Shape<'a>,
+
+    /// The number of its main clock.
+    pub clock: u32,
+    pub start: WeekSecond,
+
+    /// Which nodes are demanded of themselves: those of the clock's sinks.
+    pub roots: Vec<bool>,
+    pub lanes: Lanes,
+
+    /// The outputs of the clock, in sink order.
+    pub ports: Vec<Port>,
+
+    /// How many ticks were made.
+    pub ticks: u64,
+    pub stopped: Option<TickFault>,
+}
+
+/// The engine of one main clock, with the sinks of its outputs.
+#[derive(Drop)]
+pub struct ClockEngine<'a, O: Drop> {
+    pub works: Works<'a>,
+    pub outs: Vec<O>,
+}
+
+// The parts of a new engine.
+fn make_works<'a>(
+    alloc: Global,
+    shape: Shape<'a>,
+    clock: u32,
+    start: WeekSecond,
+) -> Result<Works<'a>, Memory>
+    requires plan { IsWellFormed shape.plan.now }
+    requires plain { IsPlain shape.plan.now }
+    requires in_clocks { length shape.clocks.now ≡ length shape.plan.now.nodes }
+    requires library { IsLibrary shape.library.now }
+    requires leaves { length shape.library.now.leaves ≡ length shape.plan.now.nodes }
+    ensures works { IfOk result AreWorks }
+    ensures setting { IfOk result (λ works. setting_of works ≡ record { plan = shape.entry.plan.now; library = shape.entry.library.now; clocks = shape.entry.clocks.now; start = start.second; answers = λ buffer. [] }) }
+    ensures clock { IfOk result (λ works. works.clock ≡ clock) }
+    ensures stands { IfOk result (λ works. EngineStands works 0 (λ buffer. [])) }
+{
+    let states = states_of(alloc, shape.plan)?;
+    let silent = Part {
+        slot: None,
+        pick: None,
+    };
+    let parts = vec![in alloc; silent; states.len()]?;
+    let marks = vec![in alloc; false; states.len()]?;
+    let desk = Desk::new(alloc, most_children(shape.plan))?;
+    let roots = roots_of(alloc, &shape, clock)?;
+    let ports = ports_of(alloc, &shape, clock)?;
+    let time = WeekTime::new(start, shape.plan.rate);
+    Ok(Works {
+        shape,
+        clock,
+        start,
+        roots,
+        lanes: Lanes {
+            states,
+            parts,
+            marks,
+            desk,
+            time,
+        },
+        ports,
+        ticks: 0,
+        stopped: None,
+    })
+}
+
+// Makes the instants of a tick.
+fn run_works(works: &mut Works<'_>)
+    requires { AreWorks works.old }
+    ensures same { works.new ≡ after_tick works.old works.new works.old.ticks works.old.stopped }
+    ensures lanes { AreLanes works.old.shape.plan.now works.old.shape.library.now works.new.lanes }
+    ensures heard { Heard works.old.shape.plan.now works.old.shape.library.now works.old.shape.clocks.now (InMain works.old.clock) works.old.roots.items works.old.shape.plan.now.frame
+        works.old.lanes works.new.lanes works.old.ports.items works.new.ports.items }
+{
+    let clock = NodeClock::Main(works.clock);
+    run_tick(
+        &works.shape,
+        clock,
+        &works.roots,
+        &mut works.lanes,
+        &mut works.ports,
+    );
+}
+
+impl<'a, O: Sink + Drop> ClockEngine<'a, O> {
+    /// An engine of a running main clock that made no tick: over a plan without crossfades and buffers, its clocks, its
+    /// files, and one sink for each output of the clock, in sink order. Where memory is refused the sinks come back.
+    pub fn new(
+        alloc: Global,
+        plan: &'a Plan,
+        clocks: &'a ClockMap,
+        clock: u32,
+        library: &'a Library,
+        outs: Vec<O>,
+        start: WeekSecond,
+    ) -> Result<ClockEngine<'a, O>, (Vec<O>, Memory)>
+        requires plan { IsWellFormed plan.now }
+        requires plain { IsPlain plan.now }
+        requires clocks { IsClockMap plan.now clocks.now }
+        requires library { IsLibrary library.now }
+        requires leaves { length library.now.leaves ≡ length plan.now.nodes }
+        requires outs { length outs.items ≡ length (outputs_of (record { plan = plan.now; library = library.now; clocks = clocks.now.of; start = start.second; answers = λ buffer. [] }) clock) }
+        ensures works { IfOk result (λ engine. AreWorks engine.works) }
+        ensures sinks { IfOk result (λ engine. length engine.outs.items ≡ length engine.works.ports.items) }
+        ensures setting { IfOk result (λ engine. setting_of engine.works ≡ record { plan = plan.now; library = library.now; clocks = clocks.now.of; start = start.second; answers = λ buffer. [] }) }
+        ensures clock { IfOk result (λ engine. engine.works.clock ≡ clock) }
+        ensures stands { IfOk result (λ engine. EngineStands engine.works 0 (λ buffer. [])) }
+        ensures outs { IfOk result (λ engine. engine.outs.items ≡ outs.items) }
+        ensures back { IfErr result (λ refused. refused.0.items ≡ outs.items) }
+    {
+        let shape = Shape {
+            plan,
+            library,
+            clocks: clocks.of.as_slice(),
+        };
+        match make_works(alloc, shape, clock, start) {
+            Ok(works) => Ok(ClockEngine { works, outs }),
+            Err(refused) => Err((outs, refused)),
+        }
+    }
+
+    /// Makes a tick: each output of the clock takes its bytes, in one piece and in sink order. The plan has no crossfades
+    /// and no buffers, so no call of the taps is made and no memory is taken. A fault stops the engine.
+    pub fn tick<T: Taps>(&mut self, _taps: &mut T) -> Result<(), TickFault>
+        requires works { AreWorks self.old.works }
+        requires sinks { length self.old.outs.items ≡ length self.old.works.ports.items }
+        requires runs { self.old.works.stopped ≡ None }
+        requires few { self.old.works.ticks < 1000000000 }
+        requires room { HaveTickRoom O.room self.old.works self.old.outs.items }
+        ensures works { AreWorks self.new.works }
+        ensures sinks { length self.new.outs.items ≡ length self.new.works.ports.items }
+        ensures setting { setting_of self.new.works ≡ setting_of self.old.works }
+        ensures ticked { OnOk result (HasMade O.held T.stands self.old.works self.new.works self.old.outs.items self.new.outs.items _taps.old _taps.new) }
+        ensures stopped { OnErr result (HasFailed O.held T.stands self.old.works self.new.works self.old.outs.items self.new.outs.items _taps.old _taps.new) }
+        ensures cause { IfErr result (λ fault. IsWriteFault O.faults self.old.works self.old.outs.items self.new.outs.items fault) }
+        ensures fault { IfErr result (λ fault. self.new.works.stopped ≡ Some fault) }
+        ensures runs { OnOk result (self.new.works.stopped ≡ None) }
+    {
+        run_works(&mut self.works);
+        if let Err(place) = append_all(&mut self.outs, &self.works.ports) {
+            let fault = TickFault::Write {
+                sink: self.works.ports[place].sink,
+            };
+            self.works.stopped = Some(fault);
+            return Err(fault);
+        }
+        self.works.ticks += 1;
+        Ok(())
+    }
+
+    /// At how many instants of the ticks so far the node of this output, which is one of the clock, offered nothing.
+    pub fn gaps(&self, sink: u32) -> u64
+        requires works { AreWorks self.now.works }
+        requires output { (node : ℕ) × IsOutput (setting_of self.now.works) self.now.works.clock sink node }
+        ensures { (ticks : ℕ) (answers rest : ℕ → List Answer) (node : ℕ) → EngineStands self.now.works ticks answers
+            → IsOutput (setting_of self.now.works) self.now.works.clock sink node → result ≡ gaps (with_rest (setting_of self.now.works) answers rest) node ticks }
+    {
+        for port in &self.works.ports {
+            if port.sink == sink {
+                return port.gaps;
+            }
+        }
+        0
+    }
+
+    /// The fault that stopped the engine.
+    pub fn stopped(&self) -> Option<TickFault>
+        ensures { result ≡ self.now.works.stopped }
+    {
+        self.works.stopped
+    }
+
+    /// How many ticks were made.
+    pub fn ticks(&self) -> u64
+        ensures { (ticks : ℕ) (answers : ℕ → List Answer) → EngineStands self.now.works ticks answers → result ≡ ticks }
+    {
+        self.works.ticks
+    }
+
+    /// The sinks of its outputs, in sink order.
+    pub fn into_outs(self) -> Vec<O>
+        ensures { result.items ≡ self.entry.outs.items }
+    {
+        let ClockEngine { works, outs } = self;
+        drop(works);
+        outs
+    }
+}

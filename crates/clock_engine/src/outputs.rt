@@ -1,0 +1,56 @@
+// The outputs of a new engine.
+ghost use Rattle.std.specs.Prelude.{◌≡◌, ◌<◌, ◌≤◌, ◌^◌, ℕ, All, map, length, IfOk};
+ghost use Rattle.plan_core.specs.Plans.{sink_node};
+ghost use Rattle.stream_meaning.specs.Instants.{Setting};
+ghost use Rattle.engine_instants.specs.States.{over};
+ghost use Rattle.clock_engine.specs.Beginnings.{IsNewPort};
+ghost use Rattle.clock_engine.specs.Engines.{output_of, outputs_of};
+
+use crate::parts::is_main;
+use clock_outputs::{Piece, Port};
+use engine_instants::Shape;
+use liq_base::Memory;
+use plan_core::SinkPlan;
+use std::alloc::Global;
+
+// The output of a node.
+fn port_of(alloc: Global, shape: &Shape<'_>, sink: u32, node: u32) -> Result<Port, Memory>
+    requires within { node < length shape.now.plan.now.nodes }
+    requires frame { shape.now.plan.now.frame ≤ 65536 }
+    ensures output { IfOk result (λ port. output_of port ≡ (sink, node)) }
+    ensures new { IfOk result (λ port. (other : Setting) → IsNewPort (over shape.now.plan.now shape.now.library.now shape.now.clocks.now other) port) }
+{
+    let kind = shape.plan.nodes.as_slice()[node as usize].kind;
+    let room = shape.plan.frame as usize * (2 * kind.channels() as usize);
+    let piece = Piece::new(alloc, room)?;
+    Ok(Port {
+        sink,
+        node,
+        kind,
+        piece,
+        gaps: 0,
+    })
+}
+
+/// The outputs of a main clock, in sink order.
+pub fn ports_of(alloc: Global, shape: &Shape<'_>, clock: u32) -> Result<Vec<Port>, Memory>
+    requires in_clocks { length shape.now.clocks.now ≡ length shape.now.plan.now.nodes }
+    requires frame { shape.now.plan.now.frame ≤ 65536 }
+    requires sinks { All (λ sink. sink_node sink < length shape.now.plan.now.nodes) shape.now.plan.now.sinks }
+    requires few { length shape.now.plan.now.sinks < 2 ^ 32 }
+    ensures outputs { IfOk result (λ ports. (other : Setting) → map output_of ports.items ≡ outputs_of (over shape.now.plan.now shape.now.library.now shape.now.clocks.now other) clock) }
+    ensures new { IfOk result (λ ports. (other : Setting) → All (IsNewPort (over shape.now.plan.now shape.now.library.now shape.now.clocks.now other)) ports.items) }
+{
+    let sinks = shape.plan.sinks.as_slice();
+    let mut ports = Vec::with_capacity(alloc, sinks.len())?;
+    for i in 0..sinks.len() {
+        let SinkPlan::Output { node, .. } = &sinks[i] else {
+            continue;
+        };
+        if !is_main(shape.clocks[*node as usize], clock) {
+            continue;
+        }
+        ports.push(port_of(alloc, shape, i as u32, *node)?)?;
+    }
+    Ok(ports)
+}

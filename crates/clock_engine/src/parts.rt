@@ -1,0 +1,107 @@
+// The parts of a new engine.
+ghost use Rattle.std.specs.Prelude.{◌≡◌, ◌<◌, ◌≤◌, ◌&&◌, ℕ, Some, nat_eq, length, slice_get, IfOk};
+ghost use Rattle.std.specs.List.{list_any};
+ghost use Rattle.liq_base.specs.declared.limits.TheConstants.{MAX_CHILDREN, MAX_NODES};
+ghost use Rattle.plan_core.specs.declared.node.Node.{Node as PlanNode};
+ghost use Rattle.plan_core.specs.Plans.{AreNodes, IsInRange, IsNoReader, sink_node};
+ghost use Rattle.clock_infer.specs.declared.clock_map.NodeClock.TheVariants.{Main as InMain};
+ghost use Rattle.stream_meaning.specs.Instants.{Setting, same_clock};
+ghost use Rattle.engine_instants.specs.States.{AreRoots, HasRoomFor, over};
+ghost use Rattle.clock_engine.specs.Beginnings.{AreNewStates, IsNewState};
+
+use clock_infer::NodeClock;
+use engine_instants::Shape;
+use liq_base::Memory;
+use node_states::NodeState;
+use plan_core::{Node, Plan, SinkPlan};
+use std::alloc::Global;
+
+// The state of a node.
+fn state_of(alloc: Global, node: &Node, i: u32, rate: u32) -> Result<NodeState, Memory>
+    requires rate { 0 < rate }
+    requires range { IsInRange node.now.op }
+    requires few { length node.now.children ≤ MAX_CHILDREN }
+    requires reads { IsNoReader node.now.op }
+    ensures { IfOk result (λ state. IsNewState rate i node.now state) }
+{
+    NodeState::new(alloc, node, i, rate)
+}
+
+/// The states of the nodes before the first instant.
+pub fn states_of(alloc: Global, plan: &Plan) -> Result<Vec<NodeState>, Memory>
+    requires rate { 0 < plan.now.rate }
+    requires nodes { AreNodes plan.now.nodes }
+    requires few { length plan.now.nodes ≤ MAX_NODES }
+    requires readers { (i : ℕ) (node : PlanNode) → slice_get plan.now.nodes i ≡ Some node → IsNoReader node.op }
+    ensures { IfOk result (λ states. AreNewStates plan.now (length plan.now.nodes) states.items) }
+{
+    let nodes = plan.nodes.as_slice();
+    let mut states = Vec::with_capacity(alloc, nodes.len())?;
+    for i in 0..nodes.len() {
+        states.push(state_of(alloc, &nodes[i], i as u32, plan.rate)?)?;
+    }
+    Ok(states)
+}
+
+// The node of a sink.
+fn node_of(sink: &SinkPlan) -> u32
+    ensures { result ≡ sink_node sink.now }
+{
+    match sink {
+        SinkPlan::Output { node, .. } => *node,
+        SinkPlan::Feed { node, .. } => *node,
+    }
+}
+
+// Whether a sink has this node.
+fn has_sink(sinks: &[SinkPlan], i: usize) -> bool
+    ensures { result ≡ list_any (λ sink. nat_eq (sink_node sink) i) sinks.now }
+{
+    for sink in sinks {
+        if node_of(sink) as usize == i {
+            return true;
+        }
+    }
+    false
+}
+
+// Whether this is the main clock of this number.
+pub fn is_main(of: NodeClock, clock: u32) -> bool
+    ensures { result ≡ same_clock of (InMain clock) }
+{
+    match of {
+        NodeClock::Main(m) => m == clock,
+        NodeClock::Sub(_) => false,
+    }
+}
+
+// Whether a node of this number and clock is demanded of itself by a main clock.
+fn is_root(sinks: &[SinkPlan], of: NodeClock, clock: u32, i: usize) -> bool
+    ensures { result ≡ (same_clock of (InMain clock) && list_any (λ sink. nat_eq (sink_node sink) i) sinks.now) }
+{
+    is_main(of, clock) && has_sink(sinks, i)
+}
+
+/// Which nodes a main clock demands of themselves: those of its sinks.
+pub fn roots_of(alloc: Global, shape: &Shape<'_>, clock: u32) -> Result<Vec<bool>, Memory>
+    requires { length shape.now.clocks.now ≡ length shape.now.plan.now.nodes }
+    ensures { IfOk result (λ roots. (other : Setting) → AreRoots (over shape.now.plan.now shape.now.library.now shape.now.clocks.now other) (InMain clock) roots.items) }
+{
+    let sinks = shape.plan.sinks.as_slice();
+    let mut roots = Vec::with_capacity(alloc, shape.clocks.len())?;
+    for i in 0..shape.clocks.len() {
+        roots.push(is_root(sinks, shape.clocks[i], clock, i))?;
+    }
+    Ok(roots)
+}
+
+/// Room for the children of each node.
+pub fn most_children(plan: &Plan) -> usize
+    ensures { HasRoomFor plan.now result }
+{
+    let mut most = 0;
+    for node in plan.nodes.as_slice() {
+        most = node.children.len().max(most);
+    }
+    most
+}
