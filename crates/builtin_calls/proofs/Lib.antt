@@ -1,0 +1,5 @@
+pub mod Lists
+pub mod Reading
+pub mod Adding
+pub mod Keeping
+mod CallChecks

@@ -1,0 +1,158 @@
+-- What the values are that arguments give: sources that are there, of the kind that is asked for.
+use Rattle.std.proofs.Common.{◌≡◌, ℕ, ◌+◌, List, [], ◌∷◌, ◌++◌, length, length-append, Some, None, Option, Bool, true, false, Result, Ok, Err, refl, sym, ap, ◌∙◌, subst}
+use Rattle.std.specs.Prelude.{slice_get, All}
+use Rattle.std.proofs.lemmas.List.Elements.{All-nil, All-push}
+use Rattle.liq_base.specs.declared.memory.Kind.{Kind}
+use Rattle.liq_base.specs.declared.memory.Kind.TheVariants.{Mono, Stereo}
+use Rattle.time_pred.specs.Predicates.{Predicate}
+use Rattle.plan_core.specs.declared.node.Node.{Node}
+use Rattle.script_values.specs.declared.fault.Fault.{Fault}
+use Rattle.script_values.specs.declared.fault.Fault.TheVariants.{Stuck}
+use Rattle.script_values.specs.Outcomes.{◌>>=◌}
+use Rattle.script_values.specs.Slots.{Given}
+use Rattle.script_values.specs.Values.{Tree, Many, none, more, Value, Int, Number, Text, Truth, Nothing, Format, Pred, Source, Listed, Tuple}
+use Rattle.builtin_calls.specs.Parts.{is_kind, of_kind, source_of, nodes_from, sources_of, pair_in, pair_of, pred_of, pairs_from, pairs_of, plain, plain_source, plain_sources, plain_pairs}
+
+-- the first step of steps that end well
+pub after : {A B : Type 0} (r : Result A Fault) (f : A → Result B Fault) (y : B) → (r >>= f) ≡ Ok y → (a : A) × (r ≡ Ok a) × (f a ≡ Ok y)
+after (Ok a) f y is = (a, refl, is)
+after (Err e) f y is = absurd cc
+
+abbrev good : {A : Type 0} → A → Result A Fault
+good x = Ok x
+
+pub ok_is : {A : Type 0} (x y : A) → good x ≡ good y → x ≡ y
+ok_is x y is = cc
+
+-- the node of a source
+pub record IsSource (nodes : List Node) (k : Kind) (n : ℕ) : Type 0 where
+  pub node : Node
+  pub there : slice_get nodes n ≡ Some node
+  pub kind : node.kind ≡ k
+
+same_kind : (j k : Kind) → is_kind j k ≡ true → k ≡ j
+same_kind Mono Mono is = refl
+same_kind Mono Stereo is = absurd cc
+same_kind Stereo Mono is = absurd cc
+same_kind Stereo Stereo is = refl
+
+passed : (b : Bool) (n r : ℕ) → ◌≡◌ {A = Result ℕ Fault} (elim b [ true ↦ Ok n | false ↦ Err Stuck ]) (Ok r) → (b ≡ true) × (n ≡ r)
+passed true n r is = (refl, ok_is n r is)
+passed false n r is = absurd cc
+
+found_of : (nodes : List Node) (k : Kind) (n r : ℕ) (o : Option Node) → slice_get nodes n ≡ o → of_kind k n o ≡ Ok r → IsSource nodes k r
+found_of nodes k n r None at is = absurd cc
+found_of nodes k n r (Some node) at is =
+    let p : (is_kind k node.kind ≡ true) × (n ≡ r) = passed (is_kind k node.kind) n r is in
+    record { node = node; there = ap (λ (i : ℕ). slice_get nodes i) (sym p.1) ∙ at; kind = same_kind k node.kind p.0 }
+
+pub source_is : (nodes : List Node) (k : Kind) (v : Value) (n : ℕ) → source_of nodes k v ≡ Ok n → IsSource nodes k n
+unfolding source_of
+source_is nodes k (Source i) n is = found_of nodes k i n (slice_get nodes i) refl is
+source_is nodes k (Int i) n is = absurd cc
+source_is nodes k (Number d) n is = absurd cc
+source_is nodes k (Text t) n is = absurd cc
+source_is nodes k (Truth b) n is = absurd cc
+source_is nodes k Nothing n is = absurd cc
+source_is nodes k Format n is = absurd cc
+source_is nodes k (Pred p) n is = absurd cc
+source_is nodes k (Listed vs) n is = absurd cc
+source_is nodes k (Tuple vs) n is = absurd cc
+
+nodes_are : (nodes : List Node) (k : Kind) (vs : Tree Many) (ns rs : List ℕ) → nodes_from nodes k vs ns ≡ Ok rs → All (IsSource nodes k) ns → All (IsSource nodes k) rs
+unfolding nodes_from
+nodes_are nodes k none ns rs is all = (let same = ok_is ns rs is in subst (All (IsSource nodes k)) same all)
+nodes_are nodes k (more v vs) ns rs is all =
+    let s = after (source_of nodes k v) (λ n. nodes_from nodes k vs (ns ++ n ∷ [])) rs is in
+    nodes_are nodes k vs (ns ++ s.0 ∷ []) rs s.2 (All-push (IsSource nodes k) ns s.0 all (source_is nodes k v s.0 s.1))
+
+sources_are : (nodes : List Node) (k : Kind) (v : Value) (rs : List ℕ) → sources_of nodes k v ≡ Ok rs → All (IsSource nodes k) rs
+unfolding sources_of
+sources_are nodes k (Listed vs) rs is = nodes_are nodes k vs [] rs is (All-nil (IsSource nodes k))
+sources_are nodes k (Source i) rs is = absurd cc
+sources_are nodes k (Int i) rs is = absurd cc
+sources_are nodes k (Number d) rs is = absurd cc
+sources_are nodes k (Text t) rs is = absurd cc
+sources_are nodes k (Truth b) rs is = absurd cc
+sources_are nodes k Nothing rs is = absurd cc
+sources_are nodes k Format rs is = absurd cc
+sources_are nodes k (Pred p) rs is = absurd cc
+sources_are nodes k (Tuple vs) rs is = absurd cc
+
+in_pair : (nodes : List Node) (k : Kind) (vs : Tree Many) (x : Predicate × ℕ) → pair_in nodes k vs ≡ Ok x → IsSource nodes k x.1
+unfolding pair_in
+in_pair nodes k none x is = absurd cc
+in_pair nodes k (more v none) x is = absurd cc
+in_pair nodes k (more v (more w none)) x is =
+    let p = after (pred_of v) (λ p. source_of nodes k w >>= λ n. Ok (p, n)) x is in
+    let s = after (source_of nodes k w) (λ n. Ok (p.0, n)) x p.2 in
+    let same : s.0 ≡ x.1 = ap (λ (y : Predicate × ℕ). y.1) (ok_is (p.0, s.0) x s.2) in
+    subst (IsSource nodes k) same (source_is nodes k w s.0 s.1)
+in_pair nodes k (more v (more w (more y rest))) x is = absurd cc
+
+pair_is : (nodes : List Node) (k : Kind) (v : Value) (x : Predicate × ℕ) → pair_of nodes k v ≡ Ok x → IsSource nodes k x.1
+unfolding pair_of
+pair_is nodes k (Tuple vs) x is = in_pair nodes k vs x is
+pair_is nodes k (Listed vs) x is = absurd cc
+pair_is nodes k (Source i) x is = absurd cc
+pair_is nodes k (Int i) x is = absurd cc
+pair_is nodes k (Number d) x is = absurd cc
+pair_is nodes k (Text t) x is = absurd cc
+pair_is nodes k (Truth b) x is = absurd cc
+pair_is nodes k Nothing x is = absurd cc
+pair_is nodes k Format x is = absurd cc
+pair_is nodes k (Pred p) x is = absurd cc
+
+-- sources of a kind, and as many predicates
+pub record ArePairs (nodes : List Node) (k : Kind) (ps : List Predicate) (ns : List ℕ) : Type 0 where
+  pub sources : All (IsSource nodes k) ns
+  pub many : length ns ≡ length ps
+
+pairs_are : (nodes : List Node) (k : Kind) (vs : Tree Many) (ps : List Predicate) (ns : List ℕ) (x : List Predicate × List ℕ) → pairs_from nodes k vs ps ns ≡ Ok x → ArePairs nodes k ps ns → ArePairs nodes k x.0 x.1
+unfolding pairs_from
+pairs_are nodes k none ps ns x is so =
+    let both = ok_is (ps, ns) x is in
+    let first : ps ≡ x.0 = ap (λ (y : List Predicate × List ℕ). y.0) both in
+    let second : ns ≡ x.1 = ap (λ (y : List Predicate × List ℕ). y.1) both in
+    record { sources = subst (All (IsSource nodes k)) second so.sources; many = sym (ap (λ (l : List ℕ). length l) second) ∙ so.many ∙ ap (λ (l : List Predicate). length l) first }
+pairs_are nodes k (more v vs) ps ns x is so =
+    let s = after (pair_of nodes k v) (λ y. pairs_from nodes k vs (ps ++ y.0 ∷ []) (ns ++ y.1 ∷ [])) x is in
+    let longer : length (ns ++ s.0.1 ∷ []) ≡ length (ps ++ s.0.0 ∷ []) = length-append ns (s.0.1 ∷ []) ∙ ap (λ (n : ℕ). n + 1) so.many ∙ sym (length-append ps (s.0.0 ∷ [])) in
+    pairs_are nodes k vs (ps ++ s.0.0 ∷ []) (ns ++ s.0.1 ∷ []) x s.2 (record { sources = All-push (IsSource nodes k) ns s.0.1 so.sources (pair_is nodes k v s.0 s.1); many = longer })
+
+pairs_in_value : (nodes : List Node) (k : Kind) (v : Value) (x : List Predicate × List ℕ) → pairs_of nodes k v ≡ Ok x → ArePairs nodes k x.0 x.1
+unfolding pairs_of
+pairs_in_value nodes k (Listed vs) x is = pairs_are nodes k vs [] [] x is (record { sources = All-nil (IsSource nodes k); many = refl })
+pairs_in_value nodes k (Tuple vs) x is = absurd cc
+pairs_in_value nodes k (Source i) x is = absurd cc
+pairs_in_value nodes k (Int i) x is = absurd cc
+pairs_in_value nodes k (Number d) x is = absurd cc
+pairs_in_value nodes k (Text t) x is = absurd cc
+pairs_in_value nodes k (Truth b) x is = absurd cc
+pairs_in_value nodes k Nothing x is = absurd cc
+pairs_in_value nodes k Format x is = absurd cc
+pairs_in_value nodes k (Pred p) x is = absurd cc
+
+pub a_source : (nodes : List Node) (k : Kind) (given : List Given) (x : ℕ × List Given) → plain_source nodes k given ≡ Ok x → IsSource nodes k x.0
+unfolding plain_source
+a_source nodes k given x is =
+    let v = after (plain given) (λ y. source_of nodes k y.0 >>= λ source. Ok (source, y.1)) x is in
+    let s = after (source_of nodes k v.0.0) (λ source. Ok (source, v.0.1)) x v.2 in
+    let same : s.0 ≡ x.0 = ap (λ (y : ℕ × List Given). y.0) (ok_is (s.0, v.0.1) x s.2) in
+    subst (IsSource nodes k) same (source_is nodes k v.0.0 s.0 s.1)
+
+pub some_sources : (nodes : List Node) (k : Kind) (given : List Given) (x : List ℕ × List Given) → plain_sources nodes k given ≡ Ok x → All (IsSource nodes k) x.0
+unfolding plain_sources
+some_sources nodes k given x is =
+    let v = after (plain given) (λ y. sources_of nodes k y.0 >>= λ sources. Ok (sources, y.1)) x is in
+    let s = after (sources_of nodes k v.0.0) (λ sources. Ok (sources, v.0.1)) x v.2 in
+    let same : s.0 ≡ x.0 = ap (λ (y : List ℕ × List Given). y.0) (ok_is (s.0, v.0.1) x s.2) in
+    subst (All (IsSource nodes k)) same (sources_are nodes k v.0.0 s.0 s.1)
+
+pub some_pairs : (nodes : List Node) (k : Kind) (given : List Given) (x : (List Predicate × List ℕ) × List Given) → plain_pairs nodes k given ≡ Ok x → ArePairs nodes k x.0.0 x.0.1
+unfolding plain_pairs
+some_pairs nodes k given x is =
+    let v = after (plain given) (λ y. pairs_of nodes k y.0 >>= λ pairs. Ok (pairs, y.1)) x is in
+    let s = after (pairs_of nodes k v.0.0) (λ pairs. Ok (pairs, v.0.1)) x v.2 in
+    let same : s.0 ≡ x.0 = ap (λ (y : (List Predicate × List ℕ) × List Given). y.0) (ok_is (s.0, v.0.1) x s.2) in
+    subst (λ (y : List Predicate × List ℕ). ArePairs nodes k y.0 y.1) same (pairs_in_value nodes k v.0.0 s.0 s.1)

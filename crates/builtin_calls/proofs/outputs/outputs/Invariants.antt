@@ -1,0 +1,7 @@
+use Rattle.std.proofs.Common.{◌≡◌, take}
+use Rattle.std.specs.Prelude.{count_by}
+use Rattle.builtin_calls.specs.Sinks.{is_output}
+use Rattle.builtin_calls.proofs.outputs.outputs.Given as goal
+
+abbrev pub invariant-loop-sink : goal.invariant-loop-sink
+invariant-loop-sink l = l.count ≡ count_by is_output (take l.sink-index l.sinks)

@@ -1,0 +1,239 @@
+-- The builtin calls: values out of the arguments, then bad values, then limits in their order, then what is added.
+-- `at` is the token of the call's name, and `kinds` are its open kinds.
+use Rattle.std.specs.Prelude.{ℕ, List, [], ◌∷◌, Bool, true, false, bytes_eq, codes, Result, Ok, Err}
+use Rattle.liq_base.specs.declared.limits.TheConstants.{MAX_OVERLAP, MAX_PREFILL, MAX_CAPACITY, MAX_CROSSFADES}
+use Rattle.liq_base.specs.declared.memory.Kind.{Kind}
+use Rattle.liq_base.specs.declared.memory.Kind.TheVariants.{Mono, Stereo as Both}
+use Rattle.plan_core.specs.declared.node.Node.{Node}
+use Rattle.plan_core.specs.declared.node.Op.{Op}
+use Rattle.plan_core.specs.declared.node.Op.TheVariants as op
+use Rattle.plan_core.specs.declared.plan.Plan.{Plan}
+use Rattle.plan_core.specs.declared.sink.BufferPlan.{BufferPlan}
+use Rattle.time_pred.specs.Predicates.{Predicate}
+use Rattle.fixed_text.specs.declared.decimal.Decimal.{Decimal}
+use Rattle.typing_rules.specs.declared.uses.Builtin.{Builtin}
+use Rattle.typing_rules.specs.declared.uses.Builtin.TheVariants as builtins
+use Rattle.script_values.specs.declared.fault.Fault.{Fault}
+use Rattle.script_values.specs.declared.fault.Fault.TheVariants.{BadValue}
+use Rattle.script_values.specs.declared.fault.Limit.TheVariants.{Crossfades, Overlap, Prefill, Capacity}
+use Rattle.script_values.specs.declared.machine.Machine.{Machine}
+use Rattle.script_values.specs.Machines.{some_millionths}
+use Rattle.script_values.specs.Outcomes.{◌>>=◌, Outcome}
+use Rattle.script_values.specs.Slots.{Given}
+use Rattle.builtin_calls.specs.Parts.{one_kind, plain, plain_text, plain_decimal, plain_format, plain_source, plain_sources, plain_pairs, bool_or, text_or, decimal_or}
+use Rattle.builtin_calls.specs.Nodes.{at_most, few, crossfades_with, add, push, add_buffer}
+use Rattle.builtin_calls.specs.Times.{overlap_of, track_of, samples_of, pitch_of, chunks}
+use Rattle.builtin_calls.specs.Sinks.{add_output}
+use Rattle.builtin_calls.specs.Settings.{setting}
+
+-- a node of these
+abbrev pub node : Op → Kind → List ℕ → Node
+node o k children = record { op = o; kind = k; children = children }
+
+-- output.file(fallible=false, format, name, s)
+unfoldable pub output_file : List Kind → List Given → Machine → Outcome
+output_file kinds given m = do
+  fallible ← bool_or (codes "fallible") false given
+  format ← plain_format fallible.1
+  name ← plain_text format.1
+  k ← one_kind kinds
+  s ← plain_source m.plan.nodes k name.1
+  add_output name.0 s.0 fallible.0 m
+
+-- set(key, value)
+unfoldable pub set : List Given → Machine → Outcome
+set given m = do
+  key ← plain_text given
+  value ← plain key.1
+  setting key.0 value.0 m
+
+-- single(file)
+unfoldable pub single : List Kind → List Given → Machine → Outcome
+single kinds given m = do
+  file ← plain_text given
+  k ← one_kind kinds
+  add (node (op.Single file.0) k []) m
+
+-- the one mode of a playlist
+abbrev pub is_normal : ℕ → List ℕ → Result (Unit {0}) Fault
+is_normal at mode =
+    elim (bytes_eq mode (codes "normal")) [
+      | true ↦ Ok tt
+      | false ↦ Err (BadValue at)
+    ]
+
+-- playlist(loop=true, mode="normal", file)
+unfoldable pub playlist : ℕ → List Kind → List Given → Machine → Outcome
+playlist at kinds given m = do
+  again ← bool_or (codes "loop") true given
+  mode ← text_or (codes "mode") (codes "normal") again.1
+  file ← plain_text mode.1
+  k ← one_kind kinds
+  normal ← is_normal at mode.0
+  add (node (op.Playlist file.0 again.0) k []) m
+
+-- blank(duration=0.)
+unfoldable pub blank : ℕ → List Kind → List Given → Machine → Outcome
+blank at kinds given m = do
+  duration ← decimal_or (codes "duration") (some_millionths 0 tt) given
+  k ← one_kind kinds
+  track ← track_of at m.plan.rate duration.0
+  add (node (op.Blank track) k []) m
+
+-- square(f)
+unfoldable pub square : ℕ → List Kind → List Given → Machine → Outcome
+square at kinds given m = do
+  f ← plain_decimal given
+  k ← one_kind kinds
+  pitch ← pitch_of at f.0
+  add (node (op.Square pitch) k []) m
+
+-- fail()
+unfoldable pub fail : List Kind → Machine → Outcome
+fail kinds m = do
+  k ← one_kind kinds
+  add (node op.Fail k []) m
+
+-- a list of sources, not too many of them
+unfoldable pub few_sources : List Node → Kind → List Given → Result (List ℕ) Fault
+few_sources nodes k given = do
+  sources ← plain_sources nodes k given
+  few sources.0
+
+-- a list of predicates and sources, not too many of them
+unfoldable pub few_pairs : List Node → Kind → List Given → Result (List Predicate × List ℕ) Fault
+few_pairs nodes k given = do
+  pairs ← plain_pairs nodes k given
+  children ← few pairs.0.1
+  Ok (pairs.0.0, children)
+
+-- track_sensitive=true
+unfoldable pub sensitive_or : List Given → Result (Bool × List Given) Fault
+sensitive_or given = bool_or (codes "track_sensitive") true given
+
+-- fallback(track_sensitive=true, sources)
+unfoldable pub fallback : List Kind → List Given → Machine → Outcome
+fallback kinds given m = do
+  sensitive ← sensitive_or given
+  k ← one_kind kinds
+  children ← few_sources m.plan.nodes k sensitive.1
+  add (node (op.Fallback sensitive.0) k children) m
+
+-- switch(track_sensitive=true, pairs)
+unfoldable pub switch : List Kind → List Given → Machine → Outcome
+switch kinds given m = do
+  sensitive ← sensitive_or given
+  k ← one_kind kinds
+  pairs ← few_pairs m.plan.nodes k sensitive.1
+  add (node (op.Switch sensitive.0 pairs.0) k pairs.1) m
+
+-- sequence(sources)
+unfoldable pub sequence : List Kind → List Given → Machine → Outcome
+sequence kinds given m = do
+  k ← one_kind kinds
+  children ← few_sources m.plan.nodes k given
+  add (node op.Sequence k children) m
+
+-- add(normalize=true, sources)
+unfoldable pub sum : List Kind → List Given → Machine → Outcome
+sum kinds given m = do
+  normalize ← bool_or (codes "normalize") true given
+  k ← one_kind kinds
+  children ← few_sources m.plan.nodes k normalize.1
+  add (node (op.Add normalize.0) k children) m
+
+-- amplify(k, s)
+unfoldable pub amplify : List Kind → List Given → Machine → Outcome
+amplify kinds given m = do
+  factor ← plain_decimal given
+  k ← one_kind kinds
+  s ← plain_source m.plan.nodes k factor.1
+  add (node (op.Amplify factor.0) k (s.0 ∷ [])) m
+
+-- mean(s): stereo to mono
+unfoldable pub mean : List Given → Machine → Outcome
+mean given m = do
+  s ← plain_source m.plan.nodes Both given
+  add (node op.Mean Mono (s.0 ∷ [])) m
+
+-- stereo(s): mono to stereo
+unfoldable pub stereo : List Given → Machine → Outcome
+stereo given m = do
+  s ← plain_source m.plan.nodes Mono given
+  add (node op.Stereo Both (s.0 ∷ [])) m
+
+-- the overlap of a crossfade of a source, in samples
+unfoldable pub short_overlap : ℕ → ℕ → Decimal → Plan → Result ℕ Fault
+short_overlap at s duration plan = do
+  overlap ← overlap_of at plan.rate duration
+  crossfades ← at_most MAX_CROSSFADES Crossfades (crossfades_with s plan)
+  at_most MAX_OVERLAP Overlap overlap
+
+-- crossfade(duration=5., s)
+unfoldable pub crossfade : ℕ → List Kind → List Given → Machine → Outcome
+crossfade at kinds given m = do
+  duration ← decimal_or (codes "duration") (some_millionths 5000000 tt) given
+  k ← one_kind kinds
+  s ← plain_source m.plan.nodes k duration.1
+  overlap ← short_overlap at s.0 duration.0 m.plan
+  add (node (op.Crossfade overlap) k (s.0 ∷ [])) m
+
+-- an endless blank, and a fallback from a source to it
+unfoldable pub safe : Kind → ℕ → Machine → Outcome
+safe k s m = do
+  silence ← push (node (op.Blank 0) k []) m
+  add (node (op.Fallback false) k (s ∷ silence.0 ∷ [])) silence.1
+
+-- mksafe(s)
+unfoldable pub mksafe : List Kind → List Given → Machine → Outcome
+mksafe kinds given m = do
+  k ← one_kind kinds
+  s ← plain_source m.plan.nodes k given
+  safe k s.0 m
+
+-- a buffer whose reader holds the one time before it plays, and that holds at most the other
+unfoldable pub buffer_plan : ℕ → Decimal → Decimal → Plan → Result BufferPlan Fault
+buffer_plan at held most plan = do
+  pre ← samples_of at plan.rate held
+  room ← samples_of at plan.rate most
+  prefill ← at_most MAX_PREFILL Prefill pre
+  capacity ← at_most MAX_CAPACITY Capacity (chunks room plan.frame)
+  Ok (record { pre = prefill; capacity = capacity })
+
+-- buffer(buffer=1., max=10., s)
+unfoldable pub buffer : ℕ → List Kind → List Given → Machine → Outcome
+buffer at kinds given m = do
+  held ← decimal_or (codes "buffer") (some_millionths 1000000 tt) given
+  most ← decimal_or (codes "max") (some_millionths 10000000 tt) held.1
+  k ← one_kind kinds
+  s ← plain_source m.plan.nodes k most.1
+  made ← buffer_plan at held.0 most.0 m.plan
+  add_buffer s.0 k made m
+
+-- clock(id="", s)
+unfoldable pub clock : List Kind → List Given → Machine → Outcome
+clock kinds given m = do
+  id ← text_or (codes "id") [] given
+  k ← one_kind kinds
+  s ← plain_source m.plan.nodes k id.1
+  add (node (op.Clock id.0) k (s.0 ∷ [])) m
+
+unfoldable pub builtin : Builtin → ℕ → List Kind → List Given → Machine → Outcome
+builtin builtins.OutputFile at kinds given m = output_file kinds given m
+builtin builtins.Set at kinds given m = set given m
+builtin builtins.Single at kinds given m = single kinds given m
+builtin builtins.Playlist at kinds given m = playlist at kinds given m
+builtin builtins.Blank at kinds given m = blank at kinds given m
+builtin builtins.Square at kinds given m = square at kinds given m
+builtin builtins.Fail at kinds given m = fail kinds m
+builtin builtins.Fallback at kinds given m = fallback kinds given m
+builtin builtins.Switch at kinds given m = switch kinds given m
+builtin builtins.Sequence at kinds given m = sequence kinds given m
+builtin builtins.Add at kinds given m = sum kinds given m
+builtin builtins.Amplify at kinds given m = amplify kinds given m
+builtin builtins.Mean at kinds given m = mean given m
+builtin builtins.Stereo at kinds given m = stereo given m
+builtin builtins.Crossfade at kinds given m = crossfade at kinds given m
+builtin builtins.Mksafe at kinds given m = mksafe kinds given m
+builtin builtins.Buffer at kinds given m = buffer at kinds given m
+builtin builtins.Clock at kinds given m = clock kinds given m

@@ -1,0 +1,56 @@
+-- Nodes that a call adds to the plan, and the limits on them.
+use Rattle.std.specs.Prelude.{ℕ, ◌+◌, List, length, nat_le, slice_index, true, false, Result, Ok, Err}
+use Rattle.liq_base.specs.declared.limits.TheConstants.{MAX_NODES, MAX_CHILDREN, MAX_CROSSFADES}
+use Rattle.liq_base.specs.declared.memory.Kind.{Kind}
+use Rattle.plan_core.specs.declared.node.Node.{Node}
+use Rattle.plan_core.specs.declared.plan.Plan.{Plan}
+use Rattle.plan_core.specs.declared.sink.BufferPlan.{BufferPlan}
+use Rattle.plan_core.specs.Plans.{crossfades_from, crossfade_counts, with_node, with_buffer}
+use Rattle.script_values.specs.declared.fault.Fault.{Fault}
+use Rattle.script_values.specs.declared.fault.Fault.TheVariants.{TooManySources, TooLarge}
+use Rattle.script_values.specs.declared.fault.Limit.{Limit}
+use Rattle.script_values.specs.declared.fault.Limit.TheVariants.{Children, Crossfades}
+use Rattle.script_values.specs.declared.machine.Machine.{Machine}
+use Rattle.script_values.specs.Outcomes.{◌>>=◌, Outcome}
+use Rattle.script_values.specs.Values.{Source}
+
+-- a number within a limit
+abbrev pub at_most : ℕ → Limit → ℕ → Result ℕ Fault
+at_most most limit n =
+    elim (nat_le n most) [
+      | true ↦ Ok n
+      | false ↦ Err (TooLarge limit)
+    ]
+
+-- a list gives a node at most 65535 children
+abbrev pub few : List ℕ → Result (List ℕ) Fault
+few children =
+    elim (nat_le (length children) MAX_CHILDREN) [
+      | true ↦ Ok children
+      | false ↦ Err (TooLarge Children)
+    ]
+
+-- the crossfades on the paths down from a crossfade of this node
+abbrev pub crossfades_with : ℕ → Plan → ℕ
+crossfades_with child plan = 1 + slice_index (crossfade_counts plan.nodes) child
+
+-- A node behind the others, and its number. No path down from it may have more than 4 crossfades: only a crossfade can come to that.
+unfoldable pub push : Node → Machine → Result (ℕ × Machine) Fault
+push node m = do
+  crossfades ← at_most MAX_CROSSFADES Crossfades (crossfades_from m.plan.nodes node)
+  elim (nat_le MAX_NODES (length m.plan.nodes)) [
+    | true ↦ Err TooManySources
+    | false ↦ Ok (length m.plan.nodes, record m { plan = with_node m.plan node })
+  ]
+
+-- the source of a node that is added
+unfoldable pub add : Node → Machine → Outcome
+add node m = push node m >>= λ x. Ok (Source x.0, x.1)
+
+-- the reader of a buffer that is added with its feed
+unfoldable pub add_buffer : ℕ → Kind → BufferPlan → Machine → Outcome
+add_buffer source k buffer m =
+    elim (nat_le MAX_NODES (length m.plan.nodes)) [
+      | true ↦ Err TooManySources
+      | false ↦ Ok (Source (length m.plan.nodes), record m { plan = with_buffer m.plan source k buffer })
+    ]

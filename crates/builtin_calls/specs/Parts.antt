@@ -1,0 +1,145 @@
+-- The values that a call's arguments give its parameters. A value of another type is stuck: typing refuses it.
+use Rattle.std.specs.Prelude.{ℕ, List, [], ◌∷◌, ◌++◌, Option, Some, None, Bool, true, false, slice_get, Result, Ok, Err}
+use Rattle.liq_base.specs.declared.memory.Kind.{Kind}
+use Rattle.liq_base.specs.declared.memory.Kind.TheVariants.{Mono, Stereo}
+use Rattle.fixed_text.specs.declared.decimal.Decimal.{Decimal}
+use Rattle.time_pred.specs.Predicates.{Predicate}
+use Rattle.plan_core.specs.declared.node.Node.{Node}
+use Rattle.typing_rules.specs.Arguments.{argument}
+use Rattle.script_values.specs.declared.fault.Fault.{Fault}
+use Rattle.script_values.specs.declared.fault.Fault.TheVariants.{Stuck}
+use Rattle.script_values.specs.Outcomes.{◌>>=◌}
+use Rattle.script_values.specs.Slots.{Given}
+use Rattle.script_values.specs.Values.{Tree, Many, none, more, Value, Number, Text, Truth, Format, Pred, Source, Listed, Tuple}
+
+-- the kind of a call with one open kind
+abbrev pub one_kind : List Kind → Result Kind Fault
+one_kind [] = Err Stuck
+one_kind (k ∷ ks) = Ok k
+
+-- values of one type
+unfoldable pub text_of : Value → Result (List ℕ) Fault
+text_of (Text t) = Ok t
+text_of v = Err Stuck
+
+unfoldable pub decimal_of : Value → Result Decimal Fault
+decimal_of (Number d) = Ok d
+decimal_of v = Err Stuck
+
+unfoldable pub bool_of : Value → Result Bool Fault
+bool_of (Truth b) = Ok b
+bool_of v = Err Stuck
+
+unfoldable pub format_of : Value → Result (Unit {0}) Fault
+format_of Format = Ok tt
+format_of v = Err Stuck
+
+abbrev pub is_kind : Kind → Kind → Bool
+is_kind Mono Mono = true
+is_kind Mono Stereo = false
+is_kind Stereo Mono = false
+is_kind Stereo Stereo = true
+
+abbrev pub of_kind : Kind → ℕ → Option Node → Result ℕ Fault
+of_kind k n None = Err Stuck
+of_kind k n (Some node) =
+    elim (is_kind k node.kind) [
+      | true ↦ Ok n
+      | false ↦ Err Stuck
+    ]
+
+-- a source of this kind, by the number of its node
+unfoldable pub source_of : List Node → Kind → Value → Result ℕ Fault
+source_of nodes k (Source n) = of_kind k n (slice_get nodes n)
+source_of nodes k v = Err Stuck
+
+-- the sources of a list, behind these
+unfoldable pub nodes_from : List Node → Kind → Tree Many → List ℕ → Result (List ℕ) Fault
+nodes_from nodes k none ns = Ok ns
+nodes_from nodes k (more v vs) ns = source_of nodes k v >>= λ n. nodes_from nodes k vs (ns ++ n ∷ [])
+
+unfoldable pub sources_of : List Node → Kind → Value → Result (List ℕ) Fault
+sources_of nodes k (Listed vs) = nodes_from nodes k vs []
+sources_of nodes k v = Err Stuck
+
+unfoldable pub pred_of : Value → Result Predicate Fault
+pred_of (Pred p) = Ok p
+pred_of v = Err Stuck
+
+-- a tuple of a predicate and the source that it stands for
+unfoldable pub pair_in : List Node → Kind → Tree Many → Result (Predicate × ℕ) Fault
+pair_in nodes k none = Err Stuck
+pair_in nodes k (more v none) = Err Stuck
+pair_in nodes k (more v (more w none)) = pred_of v >>= λ p. source_of nodes k w >>= λ n. Ok (p, n)
+pair_in nodes k (more v (more w (more x rest))) = Err Stuck
+
+unfoldable pub pair_of : List Node → Kind → Value → Result (Predicate × ℕ) Fault
+pair_of nodes k (Tuple vs) = pair_in nodes k vs
+pair_of nodes k v = Err Stuck
+
+-- the predicates and the sources of a list, behind these
+unfoldable pub pairs_from : List Node → Kind → Tree Many → List Predicate → List ℕ → Result (List Predicate × List ℕ) Fault
+pairs_from nodes k none ps ns = Ok (ps, ns)
+pairs_from nodes k (more v vs) ps ns = pair_of nodes k v >>= λ x. pairs_from nodes k vs (ps ++ x.0 ∷ []) (ns ++ x.1 ∷ [])
+
+unfoldable pub pairs_of : List Node → Kind → Value → Result (List Predicate × List ℕ) Fault
+pairs_of nodes k (Listed vs) = pairs_from nodes k vs [] []
+pairs_of nodes k v = Err Stuck
+
+-- the value of a plain parameter, and the other arguments
+abbrev pub needed : Option (Value × List Given) → Result (Value × List Given) Fault
+needed None = Err Stuck
+needed (Some x) = Ok x
+
+unfoldable pub plain : List Given → Result (Value × List Given) Fault
+plain given = needed (argument None given)
+
+unfoldable pub plain_text : List Given → Result (List ℕ × List Given) Fault
+plain_text given = do
+  x ← plain given
+  text ← text_of x.0
+  Ok (text, x.1)
+
+unfoldable pub plain_decimal : List Given → Result (Decimal × List Given) Fault
+plain_decimal given = do
+  x ← plain given
+  number ← decimal_of x.0
+  Ok (number, x.1)
+
+unfoldable pub plain_format : List Given → Result (Unit {0} × List Given) Fault
+plain_format given = do
+  x ← plain given
+  format ← format_of x.0
+  Ok (format, x.1)
+
+unfoldable pub plain_source : List Node → Kind → List Given → Result (ℕ × List Given) Fault
+plain_source nodes k given = do
+  x ← plain given
+  source ← source_of nodes k x.0
+  Ok (source, x.1)
+
+unfoldable pub plain_sources : List Node → Kind → List Given → Result (List ℕ × List Given) Fault
+plain_sources nodes k given = do
+  x ← plain given
+  sources ← sources_of nodes k x.0
+  Ok (sources, x.1)
+
+unfoldable pub plain_pairs : List Node → Kind → List Given → Result ((List Predicate × List ℕ) × List Given) Fault
+plain_pairs nodes k given = do
+  x ← plain given
+  pairs ← pairs_of nodes k x.0
+  Ok (pairs, x.1)
+
+-- the value of a labelled parameter, or its default, and the other arguments
+abbrev pub or_default : {A : Type 0} → (Value → Result A Fault) → A → List Given → Option (Value × List Given) → Result (A × List Given) Fault
+or_default read default given None = Ok (default, given)
+or_default read default given (Some x) = read x.0 >>= λ a. Ok (a, x.1)
+
+unfoldable pub bool_or : List ℕ → Bool → List Given → Result (Bool × List Given) Fault
+bool_or label default given = or_default bool_of default given (argument (Some label) given)
+
+unfoldable pub decimal_or : List ℕ → Decimal → List Given → Result (Decimal × List Given) Fault
+decimal_or label default given = or_default decimal_of default given (argument (Some label) given)
+
+unfoldable pub text_or : List ℕ → List ℕ → List Given → Result (List ℕ × List Given) Fault
+text_or label default given = or_default text_of default given (argument (Some label) given)

@@ -1,0 +1,31 @@
+-- Outputs.
+use Rattle.std.specs.Prelude.{ℕ, List, nat_lt, Bool, true, false, bytes_eq, count_by, Ok, Err}
+use Rattle.std.specs.List.{list_any}
+use Rattle.liq_base.specs.declared.limits.TheConstants.{MAX_OUTPUTS}
+use Rattle.plan_core.specs.declared.sink.SinkPlan.{SinkPlan}
+use Rattle.plan_core.specs.declared.sink.SinkPlan.TheVariants.{Output, Feed}
+use Rattle.plan_core.specs.Plans.{with_output}
+use Rattle.script_values.specs.declared.fault.Fault.TheVariants.{SameOutput, TooLarge}
+use Rattle.script_values.specs.declared.fault.Limit.TheVariants.{Outputs}
+use Rattle.script_values.specs.declared.machine.Machine.{Machine}
+use Rattle.script_values.specs.Outcomes.{Outcome}
+use Rattle.script_values.specs.Values.{Nothing}
+
+abbrev pub is_output : SinkPlan → Bool
+is_output (Output name node fallible) = true
+is_output (Feed buffer node) = false
+
+abbrev pub is_named : List ℕ → SinkPlan → Bool
+is_named name (Output other node fallible) = bytes_eq name other
+is_named name (Feed buffer node) = false
+
+-- an output of a name that no earlier one has, at most 64 of them
+unfoldable pub add_output : List ℕ → ℕ → Bool → Machine → Outcome
+add_output name node fallible m =
+    elim (list_any (is_named name) m.plan.sinks) [
+      | true ↦ Err (SameOutput name)
+      | false ↦ elim (nat_lt (count_by is_output m.plan.sinks) MAX_OUTPUTS) [
+        | true ↦ Ok (Nothing, record m { plan = with_output m.plan name node fallible })
+        | false ↦ Err (TooLarge Outputs)
+      ]
+    ]

@@ -1,0 +1,18 @@
+-- What the builtin calls keep true of the state of an evaluation.
+use Rattle.std.specs.Prelude.{◌≡◌, ℕ, ◌+◌, ◌≤◌, length, slice_get, Some, count_by}
+use Rattle.liq_base.specs.declared.limits.TheConstants.{MAX_OUTPUTS}
+use Rattle.plan_core.specs.declared.node.Node.{Node}
+use Rattle.plan_core.specs.Plans.{IsWellFormed}
+use Rattle.script_values.specs.declared.machine.Machine.{Machine}
+use Rattle.builtin_calls.specs.Sinks.{is_output}
+
+-- The plan is well formed, and its sinks are at most 64 outputs and one feed for each node.
+pub record IsSound (m : Machine) : Type 0 where
+  pub well_formed : IsWellFormed m.plan
+  pub outputs : count_by is_output m.plan.sinks ≤ MAX_OUTPUTS
+  pub feeds : length m.plan.sinks ≤ count_by is_output m.plan.sinks + length m.plan.nodes
+
+-- the nodes that are there stay, and what is sound stays so
+pub record Keeps (m n : Machine) : Type 0 where
+  pub sound : IsSound m → IsSound n
+  pub nodes : (i : ℕ) (node : Node) → slice_get m.plan.nodes i ≡ Some node → slice_get n.plan.nodes i ≡ Some node

@@ -1,0 +1,50 @@
+-- Times of a script in samples, and the bad values among them.
+use Rattle.std.specs.Prelude.{ℕ, ◌/◌, max, pos, int_le, int_lt, nat_eq, true, false, Result, Ok, Err}
+use Rattle.fixed_text.specs.declared.decimal.Decimal.{Decimal}
+use Rattle.fixed_text.specs.Texts.{samples_in}
+use Rattle.script_values.specs.declared.fault.Fault.{Fault}
+use Rattle.script_values.specs.declared.fault.Fault.TheVariants.{BadValue}
+
+-- at least one sample
+abbrev pub some_samples : ℕ → ℕ → Result ℕ Fault
+some_samples at n =
+    elim (nat_eq n 0) [
+      | true ↦ Err (BadValue at)
+      | false ↦ Ok n
+    ]
+
+-- the samples of a time above zero, of which there must be one
+unfoldable pub overlap_of : ℕ → ℕ → Decimal → Result ℕ Fault
+overlap_of at rate d =
+    elim (int_le d.millionths (pos 0)) [
+      | true ↦ Err (BadValue at)
+      | false ↦ some_samples at (samples_in d.millionths rate)
+    ]
+
+-- the same of a track, where a time that is not above zero makes one endless track
+unfoldable pub track_of : ℕ → ℕ → Decimal → Result ℕ Fault
+track_of at rate d =
+    elim (int_le d.millionths (pos 0)) [
+      | true ↦ Ok 0
+      | false ↦ some_samples at (samples_in d.millionths rate)
+    ]
+
+-- the samples of a time that is not below zero
+unfoldable pub samples_of : ℕ → ℕ → Decimal → Result ℕ Fault
+samples_of at rate d =
+    elim (int_lt d.millionths (pos 0)) [
+      | true ↦ Err (BadValue at)
+      | false ↦ Ok (samples_in d.millionths rate)
+    ]
+
+-- a pitch above zero
+unfoldable pub pitch_of : ℕ → Decimal → Result Decimal Fault
+pitch_of at d =
+    elim (int_le d.millionths (pos 0)) [
+      | true ↦ Err (BadValue at)
+      | false ↦ Ok d
+    ]
+
+-- the whole chunks of so many samples, and at least one
+abbrev pub chunks : ℕ → ℕ → ℕ
+chunks samples frame = max 1 (samples / frame)

@@ -1,0 +1,51 @@
+// A call of a builtin.
+ghost use Rattle.std.specs.Prelude.{◌≡◌, map};
+ghost use Rattle.script_values.specs.Gives.{Gives};
+ghost use Rattle.script_values.specs.View.{view_value};
+ghost use Rattle.script_values.specs.Views.{view_given};
+ghost use Rattle.builtin_calls.specs.Builtins.{builtin};
+
+use crate::children::{fallback, sequence, sum, switch};
+use crate::leaves::{blank, fail, playlist, single, square};
+use crate::outputs::output_file;
+use crate::settings::set;
+use crate::single_source::{amplify, buffer, clock, crossfade, mean, mksafe, stereo};
+use liq_base::Kind;
+use script_values::{Fault, Given, Machine, Value};
+use std::alloc::Global;
+use typing_rules::Builtin;
+
+/// Calls the builtin of this name, whose name stands at the token `at`, with these open kinds and arguments.
+/// `docs/builtins.md` says what each makes of them.
+#[tactic(auto, unfolding(crate::specs::Builtins::builtin))]
+pub fn builtin(
+    alloc: Global,
+    name: Builtin,
+    at: u32,
+    kinds: &[Kind],
+    given: Vec<Given>,
+    machine: &mut Machine,
+) -> Result<Value, Fault>
+    ensures { Gives (λ v. (view_value v, machine.new)) result (builtin name at kinds.now (map view_given given.items) machine.old) }
+{
+    match name {
+        Builtin::OutputFile => output_file(kinds, given, machine),
+        Builtin::Set => set(given, machine),
+        Builtin::Single => single(alloc, kinds, given, machine),
+        Builtin::Playlist => playlist(alloc, at, kinds, given, machine),
+        Builtin::Blank => blank(alloc, at, kinds, given, machine),
+        Builtin::Square => square(alloc, at, kinds, given, machine),
+        Builtin::Fail => fail(alloc, kinds, machine),
+        Builtin::Fallback => fallback(alloc, kinds, given, machine),
+        Builtin::Switch => switch(alloc, kinds, given, machine),
+        Builtin::Sequence => sequence(alloc, kinds, given, machine),
+        Builtin::Add => sum(alloc, kinds, given, machine),
+        Builtin::Amplify => amplify(alloc, kinds, given, machine),
+        Builtin::Mean => mean(alloc, given, machine),
+        Builtin::Stereo => stereo(alloc, given, machine),
+        Builtin::Crossfade => crossfade(alloc, at, kinds, given, machine),
+        Builtin::Mksafe => mksafe(alloc, kinds, given, machine),
+        Builtin::Buffer => buffer(alloc, at, kinds, given, machine),
+        Builtin::Clock => clock(alloc, kinds, given, machine),
+    }
+}

@@ -1,0 +1,145 @@
+// The builtins over a list of sources: `fallback`, `switch`, `sequence` and `add`.
+ghost use Rattle.std.specs.Prelude.{◌≡◌, ◌<◌, ◌≤◌, All, IfOk, length, map};
+ghost use Rattle.liq_base.specs.declared.limits.TheConstants.{MAX_CHILDREN};
+ghost use Rattle.time_pred.specs.View.{view_pred};
+ghost use Rattle.script_values.specs.Gives.{Gives};
+ghost use Rattle.script_values.specs.View.{view_value};
+ghost use Rattle.script_values.specs.Views.{view_given};
+ghost use Rattle.builtin_calls.specs.Builtins.{fallback, few_pairs, few_sources, sensitive_or, sequence, sum, switch};
+
+use crate::nodes::{add, few};
+use crate::parts::{bool_or, one_kind};
+use crate::sources::{Pairs, plain_pairs, plain_sources};
+use liq_base::Kind;
+use plan_core::{Draft, Items, Op, Preds};
+use script_values::{Fault, Given, Machine, Value};
+use std::alloc::Global;
+
+// The next plain parameter, a list of sources, not too many of them.
+#[tactic(auto, unfolding(crate::specs::Builtins::few_sources))]
+fn few_sources(
+    alloc: Global,
+    plan: &Draft,
+    kind: Kind,
+    given: &mut Vec<Given>,
+) -> Result<Vec<u32>, Fault>
+    ensures given { Gives (λ ns. ns.items) result (few_sources plan.now.nodes kind (map view_given given.old.items)) }
+    ensures there { IfOk result (λ ns. All (λ n. n < length plan.now.nodes) ns.items) }
+    ensures short { IfOk result (λ ns. length ns.items ≤ MAX_CHILDREN) }
+{
+    let sources = plain_sources(alloc, plan, kind, given)?;
+    few(&sources)?;
+    Ok(sources)
+}
+
+// The next plain parameter, a list of predicates and sources, not too many of them.
+#[tactic(auto, unfolding(crate::specs::Builtins::few_pairs))]
+fn few_pairs(
+    alloc: Global,
+    plan: &Draft,
+    kind: Kind,
+    given: &mut Vec<Given>,
+) -> Result<Pairs, Fault>
+    ensures given { Gives (λ ps. (map view_pred ps.preds.items, ps.sources.items)) result (few_pairs plan.now.nodes kind (map view_given given.old.items)) }
+    ensures there { IfOk result (λ ps. All (λ n. n < length plan.now.nodes) ps.sources.items) }
+    ensures short { IfOk result (λ ps. length ps.sources.items ≤ MAX_CHILDREN) }
+{
+    let pairs = plain_pairs(alloc, plan, kind, given)?;
+    few(&pairs.sources)?;
+    Ok(pairs)
+}
+
+// Whether a child plays on to the end of its track.
+#[tactic(auto, unfolding(crate::specs::Builtins::sensitive_or))]
+fn sensitive_or(given: &mut Vec<Given>) -> Result<bool, Fault>
+    ensures { Gives (λ b. (b, map view_given given.new.items)) result (sensitive_or (map view_given given.old.items)) }
+{
+    bool_or(given, "track_sensitive", true)
+}
+
+/// `fallback(track_sensitive=true, sources)`.
+#[tactic(auto, unfolding(crate::specs::Builtins::fallback))]
+pub(crate) fn fallback(
+    alloc: Global,
+    kinds: &[Kind],
+    given: Vec<Given>,
+    machine: &mut Machine,
+) -> Result<Value, Fault>
+    ensures { Gives (λ v. (view_value v, machine.new)) result (fallback kinds.now (map view_given given.items) machine.old) }
+{
+    let mut rest = given;
+    let sensitive = sensitive_or(&mut rest)?;
+    let kind = one_kind(kinds)?;
+    let children = few_sources(alloc, &machine.plan, kind, &mut rest)?;
+    let made = add(
+        machine,
+        Op::Fallback { sensitive },
+        kind,
+        Items::from_vec(children),
+    )?;
+    Ok(made)
+}
+
+/// `switch(track_sensitive=true, pairs)`.
+#[tactic(auto, unfolding(crate::specs::Builtins::switch))]
+pub(crate) fn switch(
+    alloc: Global,
+    kinds: &[Kind],
+    given: Vec<Given>,
+    machine: &mut Machine,
+) -> Result<Value, Fault>
+    ensures { Gives (λ v. (view_value v, machine.new)) result (switch kinds.now (map view_given given.items) machine.old) }
+{
+    let mut rest = given;
+    let sensitive = sensitive_or(&mut rest)?;
+    let kind = one_kind(kinds)?;
+    let pairs = few_pairs(alloc, &machine.plan, kind, &mut rest)?;
+    let preds = Preds::from_vec(pairs.preds);
+    let made = add(
+        machine,
+        Op::Switch { sensitive, preds },
+        kind,
+        Items::from_vec(pairs.sources),
+    )?;
+    Ok(made)
+}
+
+/// `sequence(sources)`.
+#[tactic(auto, unfolding(crate::specs::Builtins::sequence))]
+pub(crate) fn sequence(
+    alloc: Global,
+    kinds: &[Kind],
+    given: Vec<Given>,
+    machine: &mut Machine,
+) -> Result<Value, Fault>
+    ensures { Gives (λ v. (view_value v, machine.new)) result (sequence kinds.now (map view_given given.items) machine.old) }
+{
+    let mut rest = given;
+    let kind = one_kind(kinds)?;
+    let children = few_sources(alloc, &machine.plan, kind, &mut rest)?;
+    let made = add(machine, Op::Sequence, kind, Items::from_vec(children))?;
+    Ok(made)
+}
+
+/// `add(normalize=true, sources)`.
+#[tactic(auto, unfolding(crate::specs::Builtins::sum))]
+pub(crate) fn sum(
+    alloc: Global,
+    kinds: &[Kind],
+    given: Vec<Given>,
+    machine: &mut Machine,
+) -> Result<Value, Fault>
+    ensures { Gives (λ v. (view_value v, machine.new)) result (sum kinds.now (map view_given given.items) machine.old) }
+{
+    let mut rest = given;
+    let normalize = bool_or(&mut rest, "normalize", true)?;
+    let kind = one_kind(kinds)?;
+    let children = few_sources(alloc, &machine.plan, kind, &mut rest)?;
+    let made = add(
+        machine,
+        Op::Add { normalize },
+        kind,
+        Items::from_vec(children),
+    )?;
+    Ok(made)
+}

@@ -1,0 +1,116 @@
+// The builtins without sources: `single`, `playlist`, `blank`, `square` and `fail`.
+ghost use Rattle.std.specs.Prelude.{◌≡◌, [], map};
+ghost use Rattle.script_values.specs.Gives.{Gives};
+ghost use Rattle.script_values.specs.View.{view_value};
+ghost use Rattle.script_values.specs.Views.{view_given};
+ghost use Rattle.builtin_calls.specs.Builtins.{blank, fail, is_normal, playlist, single, square};
+
+use crate::nodes::add;
+use crate::parts::{bool_or, decimal_or, one_kind, plain_decimal, plain_text, text_or};
+use crate::times::{no_time, pitch_of, track_of};
+use liq_base::{Kind, Text};
+use plan_core::{Items, Op};
+use script_values::{Fault, Given, Machine, Value};
+use std::alloc::Global;
+
+/// `single(file)`.
+#[tactic(auto, unfolding(crate::specs::Builtins::single))]
+pub(crate) fn single(
+    alloc: Global,
+    kinds: &[Kind],
+    given: Vec<Given>,
+    machine: &mut Machine,
+) -> Result<Value, Fault>
+    ensures { Gives (λ v. (view_value v, machine.new)) result (single kinds.now (map view_given given.items) machine.old) }
+{
+    let mut rest = given;
+    let file = plain_text(&mut rest)?;
+    let kind = one_kind(kinds)?;
+    let made = add(machine, Op::Single(file), kind, Items::new(alloc))?;
+    Ok(made)
+}
+
+// The one mode of a playlist.
+fn is_normal(at: u32, mode: &str) -> Result<(), Fault>
+    ensures { Gives (λ _. tt) result (is_normal at mode.now) }
+{
+    if mode == "normal" {
+        return Ok(());
+    }
+    Err(Fault::BadValue(at))
+}
+
+/// `playlist(loop=true, mode="normal", file)`.
+#[tactic(auto, unfolding(crate::specs::Builtins::playlist))]
+pub(crate) fn playlist(
+    alloc: Global,
+    at: u32,
+    kinds: &[Kind],
+    given: Vec<Given>,
+    machine: &mut Machine,
+) -> Result<Value, Fault>
+    ensures { Gives (λ v. (view_value v, machine.new)) result (playlist at kinds.now (map view_given given.items) machine.old) }
+{
+    let mut rest = given;
+    let again = bool_or(&mut rest, "loop", true)?;
+    let normal = Text::from_str(alloc, "normal")?;
+    let mode = text_or(&mut rest, "mode", normal)?;
+    let file = plain_text(&mut rest)?;
+    let kind = one_kind(kinds)?;
+    is_normal(at, mode.as_str())?;
+    let made = add(
+        machine,
+        Op::Playlist { file, again },
+        kind,
+        Items::new(alloc),
+    )?;
+    Ok(made)
+}
+
+/// `blank(duration=0.)`.
+#[tactic(auto, unfolding(crate::specs::Builtins::blank))]
+pub(crate) fn blank(
+    alloc: Global,
+    at: u32,
+    kinds: &[Kind],
+    given: Vec<Given>,
+    machine: &mut Machine,
+) -> Result<Value, Fault>
+    ensures { Gives (λ v. (view_value v, machine.new)) result (blank at kinds.now (map view_given given.items) machine.old) }
+{
+    let mut rest = given;
+    let duration = decimal_or(&mut rest, "duration", no_time())?;
+    let kind = one_kind(kinds)?;
+    let track = track_of(at, machine.plan.plan().rate, duration)?;
+    let made = add(machine, Op::Blank { track }, kind, Items::new(alloc))?;
+    Ok(made)
+}
+
+/// `square(f)`.
+#[tactic(auto, unfolding(crate::specs::Builtins::square))]
+pub(crate) fn square(
+    alloc: Global,
+    at: u32,
+    kinds: &[Kind],
+    given: Vec<Given>,
+    machine: &mut Machine,
+) -> Result<Value, Fault>
+    ensures { Gives (λ v. (view_value v, machine.new)) result (square at kinds.now (map view_given given.items) machine.old) }
+{
+    let mut rest = given;
+    let frequency = plain_decimal(&mut rest)?;
+    let kind = one_kind(kinds)?;
+    let pitch = pitch_of(at, frequency)?;
+    let made = add(machine, Op::Square { pitch }, kind, Items::new(alloc))?;
+    Ok(made)
+}
+
+/// `fail()`.
+#[tactic(auto, unfolding(crate::specs::Builtins::fail))]
+pub(crate) fn fail(alloc: Global, kinds: &[Kind], machine: &mut Machine) -> Result<Value, Fault>
+    ensures { Gives (λ v. (view_value v, machine.new)) result (fail kinds.now machine.old) }
+{
+    let kind = one_kind(kinds)?;
+    let made = add(machine, Op::Fail, kind, Items::new(alloc))?;
+    Ok(made)
+}

@@ -1,0 +1,111 @@
+// Nodes that a call adds to the plan, and the limits on them.
+ghost use Rattle.std.specs.Prelude.{◌≡◌, ◌≤◌, ◌<◌, ◌+◌, ◌∷◌, [], All, IfOk, OnOk, length};
+ghost use Rattle.liq_base.specs.declared.limits.TheConstants.{MAX_CHILDREN, MAX_CROSSFADES};
+ghost use Rattle.plan_core.specs.declared.node.Node.{Node};
+ghost use Rattle.script_values.specs.Gives.{Gives};
+ghost use Rattle.script_values.specs.View.{view_value};
+ghost use Rattle.builtin_calls.specs.Nodes.{add, add_buffer, at_most, crossfades_with, few, push};
+
+use liq_base::limits::{MAX_CHILDREN, MAX_CROSSFADES};
+use liq_base::{Kind, Memory};
+use plan_core::{BufferPlan, Draft, Items, Node, Op, PlanFault};
+use script_values::{Fault, Limit, Machine, Value};
+use std::alloc::Global;
+
+/// A number within a limit.
+pub(crate) fn at_most(most: u32, limit: Limit, number: u64) -> Result<u32, Fault>
+    ensures { Gives (λ n. n) result (at_most most limit number) }
+{
+    if number > u64::from(most) {
+        return Err(Fault::TooLarge(limit));
+    }
+    Ok(number as u32)
+}
+
+/// A list gives a node at most 65535 children.
+pub(crate) fn few(children: &[u32]) -> Result<(), Fault>
+    ensures given { Gives (λ _. children.now) result (few children.now) }
+    ensures short { OnOk result (length children.now ≤ MAX_CHILDREN) }
+{
+    if children.len() > MAX_CHILDREN as usize {
+        return Err(Fault::TooLarge(Limit::Children));
+    }
+    Ok(())
+}
+
+/// One crossfade more may stand over this node.
+pub(crate) fn room_over(plan: &Draft, child: u32) -> Result<(), Fault>
+    ensures { Gives (λ _. crossfades_with child plan.now) result (at_most MAX_CROSSFADES Limit.Crossfades (crossfades_with child plan.now)) }
+{
+    if plan.crossfades_of(child) >= MAX_CROSSFADES {
+        return Err(Fault::TooLarge(Limit::Crossfades));
+    }
+    Ok(())
+}
+
+/// Adds a node behind the others, and answers its number.
+#[tactic(auto, unfolding(crate::specs::Nodes::push))]
+pub(crate) fn push(machine: &mut Machine, node: Node) -> Result<u32, Fault>
+    requires children { All (λ child. child < length machine.old.plan.nodes) node.children }
+    requires few { length node.children ≤ MAX_CHILDREN }
+    ensures given { Gives (λ n. (n, machine.new)) result (push node machine.old) }
+    ensures number { IfOk result (λ n. n ≡ length machine.old.plan.nodes) }
+    ensures longer { OnOk result (length machine.new.plan.nodes ≡ length machine.old.plan.nodes + 1) }
+{
+    if machine.plan.crossfades_from(&node) > MAX_CROSSFADES {
+        return Err(Fault::TooLarge(Limit::Crossfades));
+    }
+    match machine.plan.push_node(node) {
+        Ok(number) => Ok(number),
+        Err(PlanFault::TooManySources) => Err(Fault::TooManySources),
+        Err(PlanFault::Memory) => Err(Fault::Memory),
+    }
+}
+
+/// Adds a node behind the others; the value is its source.
+#[tactic(auto, unfolding(crate::specs::Nodes::add))]
+pub(crate) fn add(
+    machine: &mut Machine,
+    op: Op,
+    kind: Kind,
+    children: Items<u32>,
+) -> Result<Value, Fault>
+    requires children { All (λ child. child < length machine.old.plan.nodes) children }
+    requires few { length children ≤ MAX_CHILDREN }
+    ensures { Gives (λ v. (view_value v, machine.new)) result (add (record { op = op; kind = kind; children = children }) machine.old) }
+{
+    let number = push(machine, Node { op, kind, children })?;
+    Ok(Value::Source(number))
+}
+
+/// Adds a buffer with its feed and its reader; the value is the reader's source.
+#[tactic(auto, unfolding(crate::specs::Nodes::add_buffer))]
+pub(crate) fn add_buffer(
+    alloc: Global,
+    machine: &mut Machine,
+    source: u32,
+    kind: Kind,
+    buffer: BufferPlan,
+) -> Result<Value, Fault>
+    ensures { Gives (λ v. (view_value v, machine.new)) result (add_buffer source kind buffer machine.old) }
+{
+    match machine.plan.push_buffer(alloc, source, kind, buffer) {
+        Ok(number) => Ok(Value::Source(number)),
+        Err(PlanFault::TooManySources) => Err(Fault::TooManySources),
+        Err(PlanFault::Memory) => Err(Fault::Memory),
+    }
+}
+
+/// One child.
+pub(crate) fn one_child(alloc: Global, child: u32) -> Result<Items<u32>, Memory>
+    ensures { IfOk result (λ children. children ≡ child ∷ []) }
+{
+    Ok(Items::from_vec(vec![in alloc; child]?))
+}
+
+/// Two children.
+pub(crate) fn two_children(alloc: Global, first: u32, second: u32) -> Result<Items<u32>, Memory>
+    ensures { IfOk result (λ children. children ≡ first ∷ second ∷ []) }
+{
+    Ok(Items::from_vec(vec![in alloc; first, second]?))
+}

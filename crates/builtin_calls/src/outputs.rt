@@ -1,0 +1,92 @@
+// Outputs.
+ghost use Rattle.std.specs.Prelude.{◌≡◌, ◌<◌, count_by, length, map};
+ghost use Rattle.std.specs.List.{list_any};
+ghost use Rattle.script_values.specs.Gives.{Gives};
+ghost use Rattle.script_values.specs.View.{view_value};
+ghost use Rattle.script_values.specs.Views.{view_given};
+ghost use Rattle.builtin_calls.specs.Builtins.{output_file};
+ghost use Rattle.builtin_calls.specs.Sinks.{add_output, is_named, is_output};
+
+use crate::parts::{bool_or, one_kind, plain_format, plain_text};
+use crate::sources::plain_source;
+use liq_base::limits::MAX_OUTPUTS;
+use liq_base::{Kind, Text};
+use plan_core::SinkPlan;
+use script_values::{Fault, Given, Limit, Machine, Value};
+
+fn is_output(sink: &SinkPlan) -> bool
+    ensures { result ≡ is_output sink.now }
+{
+    match sink {
+        SinkPlan::Output { .. } => true,
+        SinkPlan::Feed { .. } => false,
+    }
+}
+
+fn is_named(name: &str, sink: &SinkPlan) -> bool
+    ensures { result ≡ is_named name.now sink.now }
+{
+    match sink {
+        SinkPlan::Output { name: other, .. } => name.as_bytes() == other.as_str().as_bytes(),
+        SinkPlan::Feed { .. } => false,
+    }
+}
+
+// Whether an output has this name.
+fn has_name(name: &str, sinks: &[SinkPlan]) -> bool
+    ensures { result ≡ list_any (is_named name.now) sinks.now }
+{
+    for sink in sinks {
+        if is_named(name, sink) {
+            return true;
+        }
+    }
+    false
+}
+
+// How many outputs there are.
+fn outputs(sinks: &[SinkPlan]) -> usize
+    ensures { result ≡ count_by is_output sinks.now }
+{
+    let mut count = 0;
+    for sink in sinks {
+        if is_output(sink) {
+            count += 1;
+        }
+    }
+    count
+}
+
+// Adds an output of a name that no earlier one has, at most 64 of them.
+#[tactic(auto, unfolding(crate::specs::Sinks::add_output))]
+fn add_output(machine: &mut Machine, name: Text, node: u32, fallible: bool) -> Result<Value, Fault>
+    ensures { Gives (λ v. (view_value v, machine.new)) result (add_output name node fallible machine.old) }
+{
+    if has_name(name.as_str(), machine.plan.plan().sinks.as_slice()) {
+        return Err(Fault::SameOutput(name));
+    }
+    if outputs(machine.plan.plan().sinks.as_slice()) >= MAX_OUTPUTS as usize {
+        return Err(Fault::TooLarge(Limit::Outputs));
+    }
+    machine.plan.push_output(name, node, fallible)?;
+    Ok(Value::Nothing)
+}
+
+/// `output.file(fallible=false, format, name, s)`.
+#[tactic(auto, unfolding(crate::specs::Builtins::output_file))]
+pub(crate) fn output_file(
+    kinds: &[Kind],
+    given: Vec<Given>,
+    machine: &mut Machine,
+) -> Result<Value, Fault>
+    ensures { Gives (λ v. (view_value v, machine.new)) result (output_file kinds.now (map view_given given.items) machine.old) }
+{
+    let mut rest = given;
+    let fallible = bool_or(&mut rest, "fallible", false)?;
+    plain_format(&mut rest)?;
+    let name = plain_text(&mut rest)?;
+    let kind = one_kind(kinds)?;
+    let source = plain_source(&machine.plan, kind, &mut rest)?;
+    let done = add_output(machine, name, source, fallible)?;
+    Ok(done)
+}

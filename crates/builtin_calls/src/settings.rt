@@ -1,0 +1,102 @@
+// The two settings that a script makes.
+ghost use Rattle.std.specs.Prelude.{◌≡◌, map};
+ghost use Rattle.script_values.specs.Gives.{Gives};
+ghost use Rattle.script_values.specs.View.{view_value};
+ghost use Rattle.script_values.specs.Views.{view_given};
+ghost use Rattle.builtin_calls.specs.Builtins.{set};
+ghost use Rattle.builtin_calls.specs.Settings.{duration_of, opened, rate_of, rate_within, set_duration, set_rate, setting};
+
+use crate::parts::{plain, plain_text};
+use fixed_text::Decimal;
+use liq_base::limits::{MAX_RATE, MIN_RATE};
+use script_values::{Fault, Given, Machine, Value};
+
+// A setting may stand here; it is the last one so far.
+fn opened(machine: &mut Machine) -> Result<(), Fault>
+    ensures { Gives (λ _. machine.new) result (opened machine.old) }
+{
+    if !machine.settings.allowed {
+        return Err(Fault::BadSetting);
+    }
+    machine.settings.last = machine.settings.statement;
+    Ok(())
+}
+
+// A rate, in samples a second.
+#[tactic(auto, unfolding(crate::specs::Settings::rate_of))]
+fn rate_of(value: &Value) -> Result<u32, Fault>
+    ensures { Gives (λ n. n) result (rate_of (view_value value.now)) }
+{
+    match value {
+        Value::Int(number) => rate_within(*number),
+        _ => Err(Fault::BadSetting),
+    }
+}
+
+fn rate_within(number: i64) -> Result<u32, Fault>
+    ensures { Gives (λ n. n) result (rate_within number) }
+{
+    if number < i64::from(MIN_RATE) {
+        return Err(Fault::BadSetting);
+    }
+    if number > i64::from(MAX_RATE) {
+        return Err(Fault::BadSetting);
+    }
+    Ok(number as u32)
+}
+
+// A tick, in seconds.
+#[tactic(auto, unfolding(crate::specs::Settings::duration_of))]
+fn duration_of(value: &Value) -> Result<Decimal, Fault>
+    ensures { Gives (λ d. d) result (duration_of (view_value value.now)) }
+{
+    match value {
+        Value::Decimal(number) => Ok(*number),
+        _ => Err(Fault::BadSetting),
+    }
+}
+
+#[tactic(auto, unfolding(crate::specs::Settings::set_rate))]
+fn set_rate(machine: &mut Machine, value: &Value) -> Result<Value, Fault>
+    ensures { Gives (λ v. (view_value v, machine.new)) result (set_rate (view_value value.now) machine.old) }
+{
+    opened(machine)?;
+    let rate = rate_of(value)?;
+    machine.plan.set_rate(rate);
+    Ok(Value::Nothing)
+}
+
+#[tactic(auto, unfolding(crate::specs::Settings::set_duration))]
+fn set_duration(machine: &mut Machine, value: &Value) -> Result<Value, Fault>
+    ensures { Gives (λ v. (view_value v, machine.new)) result (set_duration (view_value value.now) machine.old) }
+{
+    opened(machine)?;
+    let duration = duration_of(value)?;
+    machine.settings.duration = duration;
+    Ok(Value::Nothing)
+}
+
+#[tactic(auto, unfolding(crate::specs::Settings::setting))]
+fn setting(machine: &mut Machine, key: &str, value: &Value) -> Result<Value, Fault>
+    ensures { Gives (λ v. (view_value v, machine.new)) result (setting key.now (view_value value.now) machine.old) }
+{
+    if key == "frame.audio.samplerate" {
+        return set_rate(machine, value);
+    }
+    if key == "frame.duration" {
+        return set_duration(machine, value);
+    }
+    Ok(Value::Nothing)
+}
+
+/// `set(key, value)`.
+#[tactic(auto, unfolding(crate::specs::Builtins::set))]
+pub(crate) fn set(given: Vec<Given>, machine: &mut Machine) -> Result<Value, Fault>
+    ensures { Gives (λ v. (view_value v, machine.new)) result (set (map view_given given.items) machine.old) }
+{
+    let mut rest = given;
+    let key = plain_text(&mut rest)?;
+    let value = plain(&mut rest)?;
+    let done = setting(machine, key.as_str(), &value)?;
+    Ok(done)
+}

@@ -1,0 +1,187 @@
+// The builtins over one source: `amplify`, `mean`, `stereo`, `crossfade`, `mksafe`, `buffer` and `clock`.
+ghost use Rattle.std.specs.Prelude.{◌≡◌, ◌<◌, length, map};
+ghost use Rattle.script_values.specs.Gives.{Gives};
+ghost use Rattle.script_values.specs.View.{view_value};
+ghost use Rattle.script_values.specs.Views.{view_given};
+ghost use Rattle.builtin_calls.specs.Builtins.{amplify, buffer, buffer_plan, clock, crossfade, mean, mksafe, safe, short_overlap, stereo};
+
+use crate::nodes::{add, add_buffer, at_most, one_child, push, room_over, two_children};
+use crate::parts::{decimal_or, one_kind, plain_decimal, text_or};
+use crate::sources::plain_source;
+use crate::times::{chunks, five_seconds, one_second, overlap_of, samples_of, ten_seconds};
+use fixed_text::Decimal;
+use liq_base::limits::{MAX_CAPACITY, MAX_OVERLAP, MAX_PREFILL};
+use liq_base::{Kind, Text};
+use plan_core::{BufferPlan, Draft, Items, Node, Op};
+use script_values::{Fault, Given, Limit, Machine, Value};
+use std::alloc::Global;
+
+/// `amplify(k, s)`.
+#[tactic(auto, unfolding(crate::specs::Builtins::amplify))]
+pub(crate) fn amplify(
+    alloc: Global,
+    kinds: &[Kind],
+    given: Vec<Given>,
+    machine: &mut Machine,
+) -> Result<Value, Fault>
+    ensures { Gives (λ v. (view_value v, machine.new)) result (amplify kinds.now (map view_given given.items) machine.old) }
+{
+    let mut rest = given;
+    let factor = plain_decimal(&mut rest)?;
+    let kind = one_kind(kinds)?;
+    let source = plain_source(&machine.plan, kind, &mut rest)?;
+    let children = one_child(alloc, source)?;
+    let made = add(machine, Op::Amplify { factor }, kind, children)?;
+    Ok(made)
+}
+
+/// `mean(s)`: stereo to mono.
+#[tactic(auto, unfolding(crate::specs::Builtins::mean))]
+pub(crate) fn mean(alloc: Global, given: Vec<Given>, machine: &mut Machine) -> Result<Value, Fault>
+    ensures { Gives (λ v. (view_value v, machine.new)) result (mean (map view_given given.items) machine.old) }
+{
+    let mut rest = given;
+    let source = plain_source(&machine.plan, Kind::Stereo, &mut rest)?;
+    let children = one_child(alloc, source)?;
+    let made = add(machine, Op::Mean, Kind::Mono, children)?;
+    Ok(made)
+}
+
+/// `stereo(s)`: mono to stereo.
+#[tactic(auto, unfolding(crate::specs::Builtins::stereo))]
+pub(crate) fn stereo(
+    alloc: Global,
+    given: Vec<Given>,
+    machine: &mut Machine,
+) -> Result<Value, Fault>
+    ensures { Gives (λ v. (view_value v, machine.new)) result (stereo (map view_given given.items) machine.old) }
+{
+    let mut rest = given;
+    let source = plain_source(&machine.plan, Kind::Mono, &mut rest)?;
+    let children = one_child(alloc, source)?;
+    let made = add(machine, Op::Stereo, Kind::Stereo, children)?;
+    Ok(made)
+}
+
+/// `crossfade(duration=5., s)`.
+#[tactic(auto, unfolding(crate::specs::Builtins::crossfade))]
+pub(crate) fn crossfade(
+    alloc: Global,
+    at: u32,
+    kinds: &[Kind],
+    given: Vec<Given>,
+    machine: &mut Machine,
+) -> Result<Value, Fault>
+    ensures { Gives (λ v. (view_value v, machine.new)) result (crossfade at kinds.now (map view_given given.items) machine.old) }
+{
+    let mut rest = given;
+    let duration = decimal_or(&mut rest, "duration", five_seconds())?;
+    let kind = one_kind(kinds)?;
+    let source = plain_source(&machine.plan, kind, &mut rest)?;
+    let overlap = short_overlap(at, &machine.plan, source, duration)?;
+    let children = one_child(alloc, source)?;
+    let made = add(machine, Op::Crossfade { overlap }, kind, children)?;
+    Ok(made)
+}
+
+// The overlap of a crossfade of this source, in samples.
+#[tactic(auto, unfolding(crate::specs::Builtins::short_overlap))]
+fn short_overlap(at: u32, plan: &Draft, source: u32, duration: Decimal) -> Result<u32, Fault>
+    ensures { Gives (λ n. n) result (short_overlap at source duration plan.now) }
+{
+    let samples = overlap_of(at, plan.plan().rate, duration)?;
+    room_over(plan, source)?;
+    let overlap = at_most(MAX_OVERLAP, Limit::Overlap, samples)?;
+    Ok(overlap)
+}
+
+/// `mksafe(s)`: an endless blank, and a fallback to it.
+#[tactic(auto, unfolding(crate::specs::Builtins::mksafe))]
+pub(crate) fn mksafe(
+    alloc: Global,
+    kinds: &[Kind],
+    given: Vec<Given>,
+    machine: &mut Machine,
+) -> Result<Value, Fault>
+    ensures { Gives (λ v. (view_value v, machine.new)) result (mksafe kinds.now (map view_given given.items) machine.old) }
+{
+    let mut rest = given;
+    let kind = one_kind(kinds)?;
+    let source = plain_source(&machine.plan, kind, &mut rest)?;
+    let made = safe(alloc, machine, kind, source)?;
+    Ok(made)
+}
+
+#[tactic(auto, unfolding(crate::specs::Builtins::safe))]
+fn safe(alloc: Global, machine: &mut Machine, kind: Kind, source: u32) -> Result<Value, Fault>
+    requires { source < length machine.old.plan.nodes }
+    ensures { Gives (λ v. (view_value v, machine.new)) result (safe kind source machine.old) }
+{
+    let blank = Node {
+        op: Op::Blank { track: 0 },
+        kind,
+        children: Items::new(alloc),
+    };
+    let silence = push(machine, blank)?;
+    let children = two_children(alloc, source, silence)?;
+    let made = add(machine, Op::Fallback { sensitive: false }, kind, children)?;
+    Ok(made)
+}
+
+/// `buffer(buffer=1., max=10., s)`.
+#[tactic(auto, unfolding(crate::specs::Builtins::buffer))]
+pub(crate) fn buffer(
+    alloc: Global,
+    at: u32,
+    kinds: &[Kind],
+    given: Vec<Given>,
+    machine: &mut Machine,
+) -> Result<Value, Fault>
+    ensures { Gives (λ v. (view_value v, machine.new)) result (buffer at kinds.now (map view_given given.items) machine.old) }
+{
+    let mut rest = given;
+    let held = decimal_or(&mut rest, "buffer", one_second())?;
+    let most = decimal_or(&mut rest, "max", ten_seconds())?;
+    let kind = one_kind(kinds)?;
+    let source = plain_source(&machine.plan, kind, &mut rest)?;
+    let plan = buffer_plan(at, &machine.plan, held, most)?;
+    let made = add_buffer(alloc, machine, source, kind, plan)?;
+    Ok(made)
+}
+
+// A buffer whose reader holds this time before it plays, and that holds at most the other time.
+#[tactic(auto, unfolding(crate::specs::Builtins::buffer_plan))]
+fn buffer_plan(at: u32, plan: &Draft, held: Decimal, most: Decimal) -> Result<BufferPlan, Fault>
+    ensures { Gives (λ b. b) result (buffer_plan at held most plan.now) }
+{
+    let rate = plan.plan().rate;
+    let samples = samples_of(at, rate, held)?;
+    let room = samples_of(at, rate, most)?;
+    let pre = at_most(MAX_PREFILL, Limit::Prefill, samples)?;
+    let whole = chunks(room, plan.plan().frame);
+    let capacity = at_most(MAX_CAPACITY, Limit::Capacity, whole)?;
+    Ok(BufferPlan {
+        pre: u64::from(pre),
+        capacity,
+    })
+}
+
+/// `clock(id="", s)`.
+#[tactic(auto, unfolding(crate::specs::Builtins::clock))]
+pub(crate) fn clock(
+    alloc: Global,
+    kinds: &[Kind],
+    given: Vec<Given>,
+    machine: &mut Machine,
+) -> Result<Value, Fault>
+    ensures { Gives (λ v. (view_value v, machine.new)) result (clock kinds.now (map view_given given.items) machine.old) }
+{
+    let mut rest = given;
+    let unnamed = Text::from_str(alloc, "")?;
+    let id = text_or(&mut rest, "id", unnamed)?;
+    let kind = one_kind(kinds)?;
+    let source = plain_source(&machine.plan, kind, &mut rest)?;
+    let children = one_child(alloc, source)?;
+    let made = add(machine, Op::Clock(id), kind, children)?;
+    Ok(made)
+}

@@ -1,0 +1,192 @@
+// The sources that a call's arguments give its parameters.
+ghost use Rattle.std.specs.Prelude.{◌≡◌, ◌<◌, All, IfOk, length, map, slice_get, []};
+ghost use Rattle.time_pred.specs.View.{view_pred};
+ghost use Rattle.script_values.specs.Gives.{Gives};
+ghost use Rattle.script_values.specs.View.{view_value};
+ghost use Rattle.script_values.specs.Views.{view_given};
+ghost use Rattle.script_values.specs.Values.{many};
+ghost use Rattle.builtin_calls.specs.Parts.{is_kind, nodes_from, of_kind, pair_in, pair_of, pairs_from, pairs_of, plain_pairs, plain_source, plain_sources, pred_of, source_of, sources_of};
+
+use crate::parts::plain;
+use liq_base::Kind;
+use plan_core::Draft;
+use script_values::{Fault, Given, Value};
+use std::alloc::Global;
+use time_pred::Pred;
+
+fn is_kind(wanted: Kind, kind: Kind) -> bool
+    ensures { result ≡ is_kind wanted kind }
+{
+    match (wanted, kind) {
+        (Kind::Mono, Kind::Mono) => true,
+        (Kind::Mono, Kind::Stereo) => false,
+        (Kind::Stereo, Kind::Mono) => false,
+        (Kind::Stereo, Kind::Stereo) => true,
+    }
+}
+
+// A source of this kind, by the number of its node.
+#[tactic(auto, unfolding(crate::specs::Parts::source_of))]
+fn source_of(plan: &Draft, kind: Kind, value: &Value) -> Result<u32, Fault>
+    ensures given { Gives (λ n. n) result (source_of plan.now.nodes kind (view_value value.now)) }
+    ensures there { IfOk result (λ n. n < length plan.now.nodes) }
+{
+    match value {
+        Value::Source(number) => of_kind(plan, kind, *number),
+        _ => Err(Fault::Stuck),
+    }
+}
+
+fn of_kind(plan: &Draft, kind: Kind, number: u32) -> Result<u32, Fault>
+    ensures given { Gives (λ n. n) result (of_kind kind number (slice_get plan.now.nodes number)) }
+    ensures there { IfOk result (λ n. n < length plan.now.nodes) }
+{
+    match plan.plan().nodes.as_slice().get(number as usize) {
+        None => Err(Fault::Stuck),
+        Some(node) => {
+            if is_kind(kind, node.kind) {
+                Ok(number)
+            } else {
+                Err(Fault::Stuck)
+            }
+        }
+    }
+}
+
+// The sources of a list.
+#[tactic(auto, unfolding(crate::specs::Parts::sources_of))]
+fn sources_of(alloc: Global, plan: &Draft, kind: Kind, value: &Value) -> Result<Vec<u32>, Fault>
+    ensures given { Gives (λ ns. ns.items) result (sources_of plan.now.nodes kind (view_value value.now)) }
+    ensures there { IfOk result (λ ns. All (λ n. n < length plan.now.nodes) ns.items) }
+{
+    match value {
+        Value::Listed(parts) => sources_in(alloc, plan, kind, parts),
+        _ => Err(Fault::Stuck),
+    }
+}
+
+fn sources_in(alloc: Global, plan: &Draft, kind: Kind, parts: &[Value]) -> Result<Vec<u32>, Fault>
+    ensures given { Gives (λ ns. ns.items) result (nodes_from plan.now.nodes kind (many (map view_value parts.now)) []) }
+    ensures there { IfOk result (λ ns. All (λ n. n < length plan.now.nodes) ns.items) }
+{
+    let mut sources = Vec::new(alloc);
+    for part in parts {
+        let source = source_of(plan, kind, part)?;
+        sources.push(source)?;
+    }
+    Ok(sources)
+}
+
+#[tactic(auto, unfolding(crate::specs::Parts::pred_of))]
+fn pred_of(alloc: Global, value: &Value) -> Result<Pred, Fault>
+    ensures { Gives (λ p. view_pred p) result (pred_of (view_value value.now)) }
+{
+    match value {
+        Value::Pred(pred) => Ok(pred.copy(alloc)?),
+        _ => Err(Fault::Stuck),
+    }
+}
+
+// A predicate and the source that it stands for.
+#[tactic(auto, unfolding(crate::specs::Parts::pair_of))]
+fn pair_of(alloc: Global, plan: &Draft, kind: Kind, value: &Value) -> Result<(Pred, u32), Fault>
+    ensures given { Gives (λ x. (view_pred x.0, x.1)) result (pair_of plan.now.nodes kind (view_value value.now)) }
+    ensures there { IfOk result (λ x. x.1 < length plan.now.nodes) }
+{
+    match value {
+        Value::Tuple(parts) => pair_in(alloc, plan, kind, parts),
+        _ => Err(Fault::Stuck),
+    }
+}
+
+#[tactic(auto, unfolding(crate::specs::Parts::pair_in))]
+fn pair_in(alloc: Global, plan: &Draft, kind: Kind, parts: &[Value]) -> Result<(Pred, u32), Fault>
+    ensures given { Gives (λ x. (view_pred x.0, x.1)) result (pair_in plan.now.nodes kind (many (map view_value parts.now))) }
+    ensures there { IfOk result (λ x. x.1 < length plan.now.nodes) }
+{
+    match parts {
+        [] => Err(Fault::Stuck),
+        [_] => Err(Fault::Stuck),
+        [first, second] => {
+            let pred = pred_of(alloc, first)?;
+            let source = source_of(plan, kind, second)?;
+            Ok((pred, source))
+        }
+        [_, _, _, ..] => Err(Fault::Stuck),
+    }
+}
+
+/// The sources of a `switch`, and the predicate of each.
+#[derive(Drop)]
+pub(crate) struct Pairs {
+    pub(crate) preds: Vec<Pred>,
+    pub(crate) sources: Vec<u32>,
+}
+
+fn pairs_in(alloc: Global, plan: &Draft, kind: Kind, parts: &[Value]) -> Result<Pairs, Fault>
+    ensures given { Gives (λ ps. (map view_pred ps.preds.items, ps.sources.items)) result (pairs_from plan.now.nodes kind (many (map view_value parts.now)) [] []) }
+    ensures there { IfOk result (λ ps. All (λ n. n < length plan.now.nodes) ps.sources.items) }
+{
+    let mut preds = Vec::new(alloc);
+    let mut sources = Vec::new(alloc);
+    for part in parts {
+        let pair = pair_of(alloc, plan, kind, part)?;
+        preds.push(pair.0)?;
+        sources.push(pair.1)?;
+    }
+    Ok(Pairs { preds, sources })
+}
+
+#[tactic(auto, unfolding(crate::specs::Parts::pairs_of))]
+fn pairs_of(alloc: Global, plan: &Draft, kind: Kind, value: &Value) -> Result<Pairs, Fault>
+    ensures given { Gives (λ ps. (map view_pred ps.preds.items, ps.sources.items)) result (pairs_of plan.now.nodes kind (view_value value.now)) }
+    ensures there { IfOk result (λ ps. All (λ n. n < length plan.now.nodes) ps.sources.items) }
+{
+    match value {
+        Value::Listed(parts) => pairs_in(alloc, plan, kind, parts),
+        _ => Err(Fault::Stuck),
+    }
+}
+
+/// The next plain parameter, a source of this kind, by the number of its node.
+#[tactic(auto, unfolding(crate::specs::Parts::plain_source))]
+pub(crate) fn plain_source(plan: &Draft, kind: Kind, given: &mut Vec<Given>) -> Result<u32, Fault>
+    ensures given { Gives (λ n. (n, map view_given given.new.items)) result (plain_source plan.now.nodes kind (map view_given given.old.items)) }
+    ensures there { IfOk result (λ n. n < length plan.now.nodes) }
+{
+    let value = plain(given)?;
+    let source = source_of(plan, kind, &value)?;
+    Ok(source)
+}
+
+/// The next plain parameter, a list of sources of this kind.
+#[tactic(auto, unfolding(crate::specs::Parts::plain_sources))]
+pub(crate) fn plain_sources(
+    alloc: Global,
+    plan: &Draft,
+    kind: Kind,
+    given: &mut Vec<Given>,
+) -> Result<Vec<u32>, Fault>
+    ensures given { Gives (λ ns. (ns.items, map view_given given.new.items)) result (plain_sources plan.now.nodes kind (map view_given given.old.items)) }
+    ensures there { IfOk result (λ ns. All (λ n. n < length plan.now.nodes) ns.items) }
+{
+    let value = plain(given)?;
+    let sources = sources_of(alloc, plan, kind, &value)?;
+    Ok(sources)
+}
+
+/// The next plain parameter, a list of predicates and sources of this kind.
+#[tactic(auto, unfolding(crate::specs::Parts::plain_pairs))]
+pub(crate) fn plain_pairs(
+    alloc: Global,
+    plan: &Draft,
+    kind: Kind,
+    given: &mut Vec<Given>,
+) -> Result<Pairs, Fault>
+    ensures given { Gives (λ ps. ((map view_pred ps.preds.items, ps.sources.items), map view_given given.new.items)) result (plain_pairs plan.now.nodes kind (map view_given given.old.items)) }
+    ensures there { IfOk result (λ ps. All (λ n. n < length plan.now.nodes) ps.sources.items) }
+{
+    let value = plain(given)?;
+    let pairs = pairs_of(alloc, plan, kind, &value)?;
+    Ok(pairs)
+}

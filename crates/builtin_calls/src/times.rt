@@ -1,0 +1,115 @@
+// Times of a script in samples.
+ghost use Rattle.std.specs.Prelude.{◌≡◌, ◌<ℤ◌, pos};
+ghost use Rattle.fixed_text.specs.Texts.{samples_in};
+ghost use Rattle.script_values.specs.Gives.{Gives};
+ghost use Rattle.script_values.specs.Machines.{some_millionths};
+ghost use Rattle.builtin_calls.specs.Times.{chunks, overlap_of, pitch_of, samples_of, some_samples, track_of};
+
+use fixed_text::Decimal;
+use script_values::Fault;
+
+/// The samples of a time that is not below zero.
+#[tactic(auto, unfolding(crate::specs::Times::samples_of))]
+pub(crate) fn samples_of(at: u32, rate: u32, time: Decimal) -> Result<u64, Fault>
+    ensures { Gives (λ n. n) result (samples_of at rate time) }
+{
+    match time.samples(rate) {
+        None => Err(Fault::BadValue(at)),
+        Some(samples) => Ok(samples),
+    }
+}
+
+// The samples of a time above zero, at least one.
+fn some_samples(at: u32, rate: u32, time: Decimal) -> Result<u64, Fault>
+    requires { pos 0 <ℤ time.millionths }
+    ensures { Gives (λ n. n) result (some_samples at (samples_in time.millionths rate)) }
+{
+    match time.samples(rate) {
+        None => Err(Fault::BadValue(at)),
+        Some(samples) => {
+            if samples == 0 {
+                return Err(Fault::BadValue(at));
+            }
+            Ok(samples)
+        }
+    }
+}
+
+/// The samples of an overlap, which is above zero and has at least one.
+#[tactic(auto, unfolding(crate::specs::Times::overlap_of))]
+pub(crate) fn overlap_of(at: u32, rate: u32, time: Decimal) -> Result<u64, Fault>
+    ensures { Gives (λ n. n) result (overlap_of at rate time) }
+{
+    if time.millionths <= 0 {
+        return Err(Fault::BadValue(at));
+    }
+    let samples = some_samples(at, rate, time)?;
+    Ok(samples)
+}
+
+/// The samples of a track, or 0 for a time that is not above zero, which makes one endless track.
+#[tactic(auto, unfolding(crate::specs::Times::track_of))]
+pub(crate) fn track_of(at: u32, rate: u32, time: Decimal) -> Result<u64, Fault>
+    ensures { Gives (λ n. n) result (track_of at rate time) }
+{
+    if time.millionths <= 0 {
+        return Ok(0);
+    }
+    let samples = some_samples(at, rate, time)?;
+    Ok(samples)
+}
+
+/// A pitch above zero.
+#[tactic(auto, unfolding(crate::specs::Times::pitch_of))]
+pub(crate) fn pitch_of(at: u32, pitch: Decimal) -> Result<Decimal, Fault>
+    ensures { Gives (λ d. d) result (pitch_of at pitch) }
+{
+    if pitch.millionths <= 0 {
+        return Err(Fault::BadValue(at));
+    }
+    Ok(pitch)
+}
+
+/// The whole chunks of so many samples, and at least one.
+pub(crate) fn chunks(samples: u64, frame: u32) -> u64
+    ensures { result ≡ chunks samples frame }
+{
+    match samples.checked_div(u64::from(frame)) {
+        None => 1,
+        Some(whole) => whole.max(1),
+    }
+}
+
+/// No time, the duration of a `blank` where none is given.
+pub(crate) fn no_time() -> Decimal
+    ensures { result ≡ some_millionths 0 tt }
+{
+    Decimal { millionths: 0 }
+}
+
+/// What a `buffer` holds before it plays, where nothing is given.
+pub(crate) fn one_second() -> Decimal
+    ensures { result ≡ some_millionths 1000000 tt }
+{
+    Decimal {
+        millionths: 1_000_000,
+    }
+}
+
+/// The overlap of a `crossfade`, where none is given.
+pub(crate) fn five_seconds() -> Decimal
+    ensures { result ≡ some_millionths 5000000 tt }
+{
+    Decimal {
+        millionths: 5_000_000,
+    }
+}
+
+/// What a `buffer` holds at most, where nothing is given.
+pub(crate) fn ten_seconds() -> Decimal
+    ensures { result ≡ some_millionths 10000000 tt }
+{
+    Decimal {
+        millionths: 10_000_000,
+    }
+}

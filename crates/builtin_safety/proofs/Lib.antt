@@ -1,0 +1,4 @@
+pub mod Growth
+pub mod Taking
+pub mod Steps
+pub mod Calls

@@ -1,0 +1,79 @@
+-- Values of a type, and calls that are not stuck.
+use Rattle.std.specs.Prelude.{◌≡◌, ℕ, List, [], ◌∷◌, Some, slice_get, Result, Ok, Err, ⊤}
+use Rattle.liq_base.specs.declared.memory.Kind.{Kind}
+use Rattle.plan_core.specs.declared.node.Node.{Node}
+use Rattle.type_terms.specs.Ground.{Ground, Grounds, base_type, list, tuple, source}
+use Rattle.type_terms.specs.Ground as ground
+use Rattle.type_terms.specs.declared.ty.Base.TheVariants as base
+use Rattle.typing_rules.specs.declared.uses.Builtin.{Builtin}
+use Rattle.typing_rules.specs.Arguments as arguments
+use Rattle.typing_rules.specs.Table.{IsCallOf}
+use Rattle.script_values.specs.declared.fault.Fault.{Fault}
+use Rattle.script_values.specs.declared.fault.Fault.TheVariants as faults
+use Rattle.script_values.specs.declared.machine.Machine.{Machine}
+use Rattle.script_values.specs.Slots.{Given}
+use Rattle.script_values.specs.Values as value
+use Rattle.script_values.specs.Values.{Value}
+use Rattle.builtin_calls.specs.Builtins.{builtin}
+
+-- the nodes that are there stay
+abbrev pub Grows : List Node → List Node → Type 0
+Grows before after = (n : ℕ) (node : Node) → slice_get before n ≡ Some node → slice_get after n ≡ Some node
+
+-- The type of a value; a source's kind is that of its node.
+abbrev mutual
+  pub IsA : List Node → value.Tree value.One → Ground → Type 0
+  IsA ns (value.Int n) g = g ≡ base_type base.Int
+  IsA ns (value.Number d) g = g ≡ base_type base.Decimal
+  IsA ns (value.Text t) g = g ≡ base_type base.Text
+  IsA ns (value.Truth b) g = g ≡ base_type base.Bool
+  IsA ns value.Nothing g = g ≡ base_type base.Unit
+  IsA ns value.Format g = g ≡ base_type base.Format
+  IsA ns (value.Pred p) g = g ≡ base_type base.Pred
+  IsA ns (value.Source n) g = (node : Node) × (slice_get ns n ≡ Some node) × (g ≡ source node.kind)
+  IsA ns (value.Listed vs) g = (t : Ground) × (g ≡ list t) × AllAre ns vs t
+  IsA ns (value.Tuple vs) g = (ts : Grounds) × (g ≡ tuple ts) × EachIs ns vs ts
+
+  pub AllAre : List Node → value.Tree value.Many → Ground → Type 0
+  AllAre ns value.none t = ⊤
+  AllAre ns (value.more v vs) t = IsA ns v t × AllAre ns vs t
+
+  pub EachIs : List Node → value.Tree value.Many → Grounds → Type 0
+  EachIs ns value.none ts = ts ≡ ground.no_more
+  EachIs ns (value.more v vs) ts = (t : Ground) × (us : Grounds) × (ts ≡ ground.more t us) × IsA ns v t × EachIs ns vs us
+
+-- arguments of these types, each behind the same label
+abbrev pub AreA : List Node → List Given → List (arguments.Given Ground) → Type 0
+AreA ns [] [] = ⊤
+AreA ns [] (h ∷ hs) = ⊥
+AreA ns (g ∷ gs) [] = ⊥
+AreA ns (g ∷ gs) (h ∷ hs) = (g.0 ≡ h.0) × IsA ns g.1 h.1 × AreA ns gs hs
+
+-- every fault but that of a value of a wrong type
+abbrev pub IsTold : Fault → Type 0
+IsTold faults.Memory = ⊤
+IsTold faults.BadSetting = ⊤
+IsTold (faults.BadValue at) = ⊤
+IsTold faults.TooMuchWork = ⊤
+IsTold faults.TooManySources = ⊤
+IsTold (faults.SameOutput name) = ⊤
+IsTold (faults.TooLarge limit) = ⊤
+IsTold faults.Stuck = ⊥
+
+-- a step without a state that is not stuck
+abbrev pub NotStuck : {A : Type 0} → (A → Type 0) → Result A Fault → Type 0
+NotStuck P (Ok x) = P x
+NotStuck P (Err e) = IsTold e
+
+-- not stuck, no node is lost, and what is made is such over the nodes behind it
+abbrev pub Safe : {A : Type 0} → List Node → (List Node → A → Type 0) → Result (A × Machine) Fault → Type 0
+Safe ns Q (Ok x) = Grows ns x.1.plan.nodes × Q x.1.plan.nodes x.0
+Safe ns Q (Err e) = IsTold e
+
+abbrev pub Of : Ground → List Node → Value → Type 0
+Of g ns v = IsA ns v g
+
+-- each call of a builtin with arguments of its types is not stuck
+abbrev pub BuiltinsAreSafe : Type 0
+BuiltinsAreSafe = (b : Builtin) (at : ℕ) (ks : List Kind) (gs : List (arguments.Given Ground)) (g : Ground) → IsCallOf b gs ks g
+    → (given : List Given) (m : Machine) → AreA m.plan.nodes given gs → Safe m.plan.nodes (Of g) (builtin b at ks given m)
