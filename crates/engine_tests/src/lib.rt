@@ -7,6 +7,8 @@ mod buffers_tests;
 #[cfg(test)]
 mod frames_tests;
 #[cfg(test)]
+mod node_states_tests;
+#[cfg(test)]
 mod op_cross_tests;
 #[cfg(test)]
 mod op_select_tests;
