@@ -9,6 +9,8 @@ mod ends_tests;
 #[cfg(test)]
 mod frames_tests;
 #[cfg(test)]
+mod node_states_tests;
+#[cfg(test)]
 mod op_cross_tests;
 #[cfg(test)]
 mod op_select_tests;

@@ -1,0 +1,121 @@
+//! States of nodes over a few instants, from the rules of `docs/streams.md`.
+ghost use Rattle.std.specs.Prelude.{◌≡◌, ◌≤◌, length, IfOk};
+ghost use Rattle.frame_core.specs.Library.{IsLibrary};
+ghost use Rattle.plan_core.specs.Plans.{HasChildren};
+ghost use Rattle.node_states.specs.States.{Fits};
+
+use fixed_text::WeekSecond;
+use frame_core::{Cell, Library};
+use liq_base::Kind;
+use node_states::{Desk, NodeState, WeekTime};
+use plan_core::{Items, Node, Op};
+use std::alloc::{AllocError, Global};
+use std::process::Abort;
+use std::test::Fail;
+
+// A leaf that is used offers this slot, and goes on.
+fn check(
+    rt: &impl Abort,
+    desk: &mut Desk,
+    state: &mut NodeState,
+    node: &Node,
+    library: &Library,
+    slot: Option<Cell>,
+)
+    requires none { length node.now.children ≡ 0 }
+    requires number { HasChildren node.now.op 0 }
+    requires fits { Fits library.now 0 state.old }
+    ensures { Fits library.now 0 state.new }
+{
+    let part = desk.offer(state, node, &[], library, WeekSecond { second: 0 });
+    assert_eq!(rt; part.slot, slot);
+    state.next(part, true, library, 0);
+}
+
+// A zero, which begins a track or does not.
+fn zero(first: bool) -> Option<Cell> {
+    Some(Cell {
+        left: 0,
+        right: 0,
+        first,
+    })
+}
+
+#[test]
+fn a_blank_of_two_samples(rt: HostRuntime) -> Result<(), Fail> {
+    let alloc = rt.alloc();
+    let library = no_files(alloc)?;
+    let node = Node {
+        op: Op::Blank { track: 2 },
+        kind: Kind::Mono,
+        children: Items::new(alloc),
+    };
+    let mut desk = Desk::new(alloc, 0)?;
+    let mut state = NodeState::new(alloc, &node, 0, 8000)?;
+    check(&rt, &mut desk, &mut state, &node, &library, zero(true));
+    check(&rt, &mut desk, &mut state, &node, &library, zero(false));
+    check(&rt, &mut desk, &mut state, &node, &library, zero(true));
+    Ok(())
+}
+
+// Gives a crossfade that wants it a sample.
+fn give(rt: &impl Abort, state: &mut NodeState, library: &Library, left: i16, first: bool)
+    requires { Fits library.now 1 state.old }
+    ensures { Fits library.now 1 state.new }
+{
+    let _ = library;
+    assert!(rt; state.wants());
+    let next = sample(left, first);
+    state.feed(next);
+}
+
+// A library without files, for two nodes.
+fn no_files(alloc: Global) -> Result<Library, AllocError>
+    ensures library { IfOk result (λ library. IsLibrary library) }
+    ensures leaves { IfOk result (λ library. length library.leaves ≡ 2) }
+{
+    let leaves = Vec::from_array(alloc, [Vec::new(alloc), Vec::new(alloc)])?;
+    Ok(Library::new(Vec::new(alloc), leaves))
+}
+
+// A sample of a mono source.
+fn sample(left: i16, first: bool) -> Option<Cell> {
+    Some(Cell {
+        left,
+        right: 0,
+        first,
+    })
+}
+
+#[test]
+fn a_crossfade_over_one_sample(rt: HostRuntime) -> Result<(), Fail> {
+    let alloc = rt.alloc();
+    let library = no_files(alloc)?;
+    let node = Node {
+        op: Op::Crossfade { overlap: 1 },
+        kind: Kind::Mono,
+        children: Items::from_vec(Vec::from_slice(alloc, &[0])?),
+    };
+    let mut desk = Desk::new(alloc, 1)?;
+    let mut state = NodeState::new(alloc, &node, 1, 8000)?;
+    give(&rt, &mut state, &library, 10, true);
+    give(&rt, &mut state, &library, 20, false);
+    let at = WeekSecond { second: 0 };
+    let part = desk.offer(&state, &node, &[], &library, at);
+    assert_eq!(rt; part.slot, sample(10, true));
+    state.next(part, true, &library, 1);
+    give(&rt, &mut state, &library, 40, true);
+    let part = desk.offer(&state, &node, &[], &library, at);
+    assert_eq!(rt; part.slot, sample(20, true));
+    Ok(())
+}
+
+#[test]
+fn a_second_of_two_samples_behind_the_end_of_a_week(rt: HostRuntime) {
+    let last = WeekSecond { second: 604_799 };
+    let time = WeekTime::new(last, 2).next();
+    assert_eq!(rt; time.second, last);
+    let time = time.next();
+    assert_eq!(rt; time.second, WeekSecond { second: 0 });
+    assert_eq!(rt; time.next().next().second, WeekSecond { second: 1 });
+}
