@@ -1,16 +1,12 @@
 -- An engine after a tick.
-use Rattle.std.proofs.Common.{◌≡◌, ◌<◌, ◌≤◌, ◌+◌, ◌*◌, ◌∙◌, ◌++◌, ℕ, zero, suc, Some, None, Option, List, [], ◌∷◌, All, length, get_or, map, slice_get, Bool, true, arith, refl, ap, sym, subst}
+use Rattle.std.proofs.Common.{◌≡◌, ◌<◌, ◌≤◌, ◌+◌, ◌*◌, ◌∙◌, ℕ, zero, suc, Some, Option, List, [], ◌∷◌, All, length, get_or, map, slice_get, true, arith, refl, ap, sym, subst}
 use mathlib.Core.Path.{fun_ext}
-use Rattle.std.specs.List.{range_with_len}
 use Rattle.std.proofs.Math.Nat.{suc-mul}
 use Rattle.std.proofs.lemmas.List.{append-nil, get_or-map, length-map}
 use Rattle.std.proofs.lemmas.Option.{slice_get_within}
 use Rattle.liq_base.specs.Kinds.{channels_of}
-use Rattle.liq_base.specs.Pieces.{HasRoom, IsPrefix, Took, TookPart, grown}
-use Rattle.plan_core.specs.declared.plan.Plan.{Plan}
+use Rattle.liq_base.specs.Pieces.{HasRoom, IsPrefix, grown}
 use Rattle.clock_infer.specs.declared.clock_map.NodeClock.TheVariants.{Main}
-use Rattle.frame_core.specs.Slots.{Slot}
-use Rattle.frame_core.specs.Calls.{Call}
 use Rattle.op_leaf.specs.Readers.{Answer}
 use Rattle.stream_meaning.specs.Instants.{Setting, clock_of, sub_of}
 use Rattle.stream_meaning.specs.Sinks.{gaps, kind_of, tick_bytes, tick_slots}
@@ -29,7 +25,7 @@ use Rattle.clock_engine.specs.Ticks.{HaveTickRoom}
 use Rattle.clock_engine.proofs.Quiet.{no_calls}
 use Rattle.clock_engine.proofs.Filling.{filled_kind, filled_long, filled_room, filled_sink}
 use Rattle.clock_engine.proofs.Numbered.{from_mapped, no_item, port_inside, port_node}
-use Rattle.clock_engine.proofs.Holding.{GrewPart, held_grew, held_part, held_same}
+use Rattle.clock_engine.proofs.Holding.{held_grew, held_part, held_same}
 use Rattle.clock_engine.proofs.Ticking.{are_long, bytes_are, gaps_more, tick_heard}
 use Rattle.engine_ticks.proofs.Hearing.{after_slots-node}
 

@@ -14,7 +14,7 @@ use Rattle.frame_core.specs.Slots.{Slot}
 use Rattle.frame_core.specs.Calls.{Call}
 use Rattle.stream_meaning.specs.Operators.{work_of}
 use Rattle.stream_meaning.specs.Instants.{Setting, Moment, history, lies_in, sub_of}
-use Rattle.stream_meaning.specs.Calls.{calls_at, calls_of, calls_of_tick, fades_by, fades_in, give_by, gives_of_tick, joined_upto, takes_at, takes_by, takes_in, takes_of_tick}
+use Rattle.stream_meaning.specs.Calls.{calls_at, calls_of_tick, fades_by, fades_in, give_by, gives_of_tick, joined_upto, takes_at, takes_by, takes_in}
 use Rattle.engine_ticks.specs.Lanes.{IsPlain}
 
 no_takes : (setting : Setting) (past : List Moment) (i rate : ℕ) (kind : Kind) (op : Op) → IsNoReader op → takes_by setting past i (work_of rate i kind op) ≡ []

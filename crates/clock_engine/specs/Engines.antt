@@ -1,5 +1,5 @@
 -- An engine's parts, and for what they stand.
-use Rattle.std.specs.Prelude.{◌≡◌, ◌≤◌, ◌*◌, ℕ, suc, Bool, Option, Some, None, List, [], ◌∷◌, All, length, map, nat_eq, slice_get, if◌then◌else◌}
+use Rattle.std.specs.Prelude.{◌≡◌, ◌≤◌, ◌*◌, ℕ, suc, Option, Some, None, List, [], ◌∷◌, All, length, map, nat_eq, slice_get, if◌then◌else◌}
 use Rattle.liq_base.specs.Kinds.{channels_of}
 use Rattle.plan_core.specs.Plans.{AreNodes}
 use Rattle.plan_core.specs.declared.sink.SinkPlan.{SinkPlan}

@@ -1,6 +1,5 @@
 -- What a tick of an engine without buffers owes.
 use Rattle.std.specs.Prelude.{◌≡◌, ◌*◌, ℕ, Option, Some, List, ◌++◌, slice_get}
-use Rattle.liq_base.specs.Counts.{Rose}
 use Rattle.liq_base.specs.Kinds.{channels_of}
 use Rattle.liq_base.specs.Pieces.{HasRoom}
 use Rattle.frame_core.specs.Calls.{Call}

@@ -1,7 +1,6 @@
-use Rattle.std.proofs.Common.{rules, ◌≡◌, ◌∙◌, ℕ, List, [], length, get_or, replicate, arith, ap, sym, refl}
+use Rattle.std.proofs.Common.{rules, [], length, arith, refl}
 use Rattle.std.proofs.lemmas.Option.{slice_get_within}
 use Rattle.clock_infer.specs.declared.clock_map.NodeClock.TheVariants.{Main}
-use Rattle.op_leaf.specs.Readers.{Answer}
 use Rattle.stream_meaning.specs.Instants.{Setting}
 use Rattle.node_states.specs.Ticks.{with_rest}
 use Rattle.clock_engine.specs.Beginnings.{IsNewPort}

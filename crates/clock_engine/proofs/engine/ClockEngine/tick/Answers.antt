@@ -1,10 +1,10 @@
-use Rattle.std.proofs.Common.{rules, ◌≡◌, ◌<◌, ◌+◌, ◌∙◌, Some, List, [], length, get_or, slice_get, arith, ap, sym, refl, subst}
+use Rattle.std.proofs.Common.{rules, ◌≡◌, ◌<◌, ◌+◌, ◌∙◌, Some, [], length, slice_get, arith, ap, sym, refl, subst}
 use Rattle.std.proofs.lemmas.List.{append-nil}
 use Rattle.std.proofs.lemmas.Option.{slice_get_read, slice_get_within}
 use Rattle.clock_outputs.specs.Appends.{HaveRoom, TookAll, TookParts}
 use Rattle.clock_engine.specs.declared.fault.TickFault.TheVariants.{Write}
 use Rattle.clock_engine.specs.Engines.{AreWorks, after_tick}
-use Rattle.clock_engine.specs.Ticks.{HasFailed, HasMade}
+use Rattle.clock_engine.specs.Ticks.{HasMade}
 use Rattle.clock_engine.proofs.Made.{as_many, has_stopped, has_ticked, have_room, parts_after, port_before, sink_before}
 use Rattle.clock_engine.proofs.engine.ClockEngine.tick.Goals as goal
 
