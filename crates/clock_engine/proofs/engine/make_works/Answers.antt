@@ -5,6 +5,7 @@ use Rattle.stream_meaning.specs.Instants.{Setting}
 use Rattle.node_states.specs.Ticks.{with_rest}
 use Rattle.clock_engine.specs.Beginnings.{IsNewPort}
 use Rattle.clock_engine.proofs.Made.{all_at}
+use Rattle.clock_engine.proofs.Quiet.{no_feeds}
 use Rattle.clock_engine.proofs.Starting.{new_stand}
 use Rattle.clock_engine.proofs.engine.make_works.Goals as goal
 
@@ -15,6 +16,7 @@ returns-clause-works c =
       nodes = c.requires.plan.nodes;
       frame = c.requires.plan.frame.1;
       plain = c.requires.plain;
+      feeds = no_feeds c.args.shape.plan.now c.requires.plan c.requires.plain;
       in_clocks = c.requires.in_clocks;
       lanes = record {
         fit = record {
