@@ -1,5 +1,5 @@
 -- What an output has after the slots of a tick.
-use Rattle.std.proofs.Common.{◌≡◌, ◌<◌, ◌≤◌, ◌+◌, ◌-◌, ◌*◌, ◌^◌, ◌∙◌, ◌++◌, ℕ, zero, suc, min, Some, None, List, [], ◌∷◌, length, append_assoc, arith, refl, ap, sym}
+use Rattle.std.proofs.Common.{◌≡◌, ◌<◌, ◌+◌, ◌-◌, ◌*◌, ◌^◌, ◌∙◌, ◌++◌, ℕ, min, Some, None, List, [], ◌∷◌, length, append_assoc, arith, refl, ap, sym}
 use Rattle.std.specs.List.{flat_map}
 use Rattle.std.proofs.Math.Nat.{suc-mul}
 use Rattle.std.proofs.lemmas.List.{append-nil, length-append}
@@ -8,7 +8,7 @@ use Rattle.liq_base.specs.declared.memory.Kind.{Kind}
 use Rattle.frame_core.specs.Slots.{Slot}
 use Rattle.stream_meaning.specs.Sinks.{missing, slot_block}
 use Rattle.clock_outputs.specs.declared.port.Port.{Port}
-use Rattle.clock_outputs.specs.Ports.{after_slot, after_slots, counted}
+use Rattle.clock_outputs.specs.Ports.{after_slot, after_slots}
 use Rattle.engine_ticks.proofs.Hearing.{block_long}
 
 pub filled_bytes : (port : Port) (slots : List Slot) → (after_slots port slots).piece.bytes ≡ port.piece.bytes ++ flat_map (slot_block port.kind) slots

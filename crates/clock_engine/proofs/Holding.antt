@@ -1,5 +1,5 @@
 -- What the sinks of a clock hold after a tick, by their numbers.
-use Rattle.std.proofs.Common.{◌≡◌, ◌<◌, ◌∙◌, ℕ, zero, suc, Bool, true, false, Some, None, Option, List, [], ◌∷◌, map, length, slice_get, nat_eq, cond, arith, refl, ap, sym}
+use Rattle.std.proofs.Common.{◌≡◌, ◌<◌, ◌∙◌, ℕ, suc, Bool, true, false, Some, Option, List, [], ◌∷◌, map, length, slice_get, nat_eq, cond, arith, refl, ap, sym}
 use Rattle.std.proofs.lemmas.Bool.{eqb-true}
 use Rattle.liq_base.specs.Pieces.{IsPrefix, Took, TookPart, grown}
 use Rattle.clock_outputs.specs.declared.port.Port.{Port}

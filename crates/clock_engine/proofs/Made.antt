@@ -1,16 +1,12 @@
 -- An engine after a tick.
-use Rattle.std.proofs.Common.{◌≡◌, ◌<◌, ◌≤◌, ◌+◌, ◌*◌, ◌∙◌, ◌++◌, ℕ, zero, suc, Some, None, Option, List, [], ◌∷◌, All, length, get_or, map, slice_get, Bool, true, arith, refl, ap, sym, subst}
+use Rattle.std.proofs.Common.{◌≡◌, ◌<◌, ◌≤◌, ◌+◌, ◌*◌, ◌∙◌, ℕ, zero, suc, Some, Option, List, [], ◌∷◌, All, length, get_or, map, slice_get, true, arith, refl, ap, sym, subst}
 use mathlib.Core.Path.{fun_ext}
-use Rattle.std.specs.List.{range_with_len}
 use Rattle.std.proofs.Math.Nat.{suc-mul}
 use Rattle.std.proofs.lemmas.List.{append-nil, get_or-map, length-map}
 use Rattle.std.proofs.lemmas.Option.{slice_get_within}
 use Rattle.liq_base.specs.Kinds.{channels_of}
-use Rattle.liq_base.specs.Pieces.{HasRoom, IsPrefix, Took, TookPart, grown}
-use Rattle.plan_core.specs.declared.plan.Plan.{Plan}
+use Rattle.liq_base.specs.Pieces.{HasRoom, IsPrefix, grown, narrowed}
 use Rattle.clock_infer.specs.declared.clock_map.NodeClock.TheVariants.{Main}
-use Rattle.frame_core.specs.Slots.{Slot}
-use Rattle.frame_core.specs.Calls.{Call}
 use Rattle.op_leaf.specs.Readers.{Answer}
 use Rattle.stream_meaning.specs.Instants.{Setting, clock_of, sub_of}
 use Rattle.stream_meaning.specs.Sinks.{gaps, kind_of, tick_bytes, tick_slots}
@@ -25,11 +21,11 @@ use Rattle.engine_ticks.specs.Runs.{Heard}
 use Rattle.clock_engine.specs.declared.engine.Works.{Works}
 use Rattle.clock_engine.specs.declared.fault.TickFault.{TickFault}
 use Rattle.clock_engine.specs.Engines.{AreWorks, EngineStands, after_tick, held_in, output_of, setting_of}
-use Rattle.clock_engine.specs.Ticks.{HaveTickRoom}
+use Rattle.clock_engine.specs.Ticks.{HaveTickRoom, RoomsFell}
 use Rattle.clock_engine.proofs.Quiet.{no_calls}
 use Rattle.clock_engine.proofs.Filling.{filled_kind, filled_long, filled_room, filled_sink}
-use Rattle.clock_engine.proofs.Numbered.{from_mapped, no_item, port_inside, port_node}
-use Rattle.clock_engine.proofs.Holding.{GrewPart, held_grew, held_part, held_same}
+use Rattle.clock_engine.proofs.Numbered.{from_mapped, got_mapped, no_item, port_inside, port_node}
+use Rattle.clock_engine.proofs.Holding.{held_grew, held_part, held_same}
 use Rattle.clock_engine.proofs.Ticking.{are_long, bytes_are, gaps_more, tick_heard}
 use Rattle.engine_ticks.proofs.Hearing.{after_slots-node}
 
@@ -71,6 +67,7 @@ module _ (works other : Works) (parts : AreWorks works)
     nodes = parts.nodes;
     frame = parts.frame;
     plain = parts.plain;
+    feeds = parts.feeds;
     in_clocks = parts.in_clocks;
     lanes = are_lanes;
     roots = record { size = parts.roots.size; each = parts.roots.each };
@@ -105,6 +102,16 @@ module _ (works other : Works) (parts : AreWorks works)
         subst (λ n. HasRoom (room out) n)
         (sym (ap (λ p. length p.piece.bytes) found.2 ∙ filled_long (emptied found.0) (heard.slots found.0.node) works.shape.plan.now.frame refl (heard.long found.0.node)))
         (tick.each k found.0 out found.1 at_out);
+  }
+
+  -- and take as much of it
+  pub rooms_fell : {S : Type 0} (held : S → Option (List ℕ)) (room : S → Option ℕ) (old new : List S) → TookAll held room other.ports.items (length other.ports.items) old new
+      → RoomsFell room works old new
+  rooms_fell held room old new took = record {
+    each = λ k port before after at_port at_old at_new.
+        let at : slice_get other.ports.items k ≡ Some (hear port) = ap (λ xs. slice_get xs k) heard.ports_are ∙ got_mapped hear works.ports.items k port at_port in
+        (took.each k (hear port) before after (slice_get_within other.ports.items k (hear port) at) at at_old at_new).room_fell
+        ∙ ap (λ n. narrowed n (room before)) (filled_long (emptied port) (heard.slots port.node) works.shape.plan.now.frame refl (heard.long port.node));
   }
 
   module _ (t : ℕ) (answers : ℕ → List Answer) (stands : EngineStands works t answers) (few : works.ticks < 1000000000) (rest : ℕ → List Answer) where
@@ -178,7 +185,7 @@ module _ (works other : Works) (parts : AreWorks works)
         (held_in held works.ports.items old) (held_in held other.ports.items new)
     has_ticked t answers stands few took = record {
       accepted = λ buffer. true;
-      are = λ rest. no_calls (with_rest (setting_of works) (after_calls answers []) rest) parts.plain (λ buffer. true) works.clock t;
+      are = λ rest. no_calls (with_rest (setting_of works) (after_calls answers []) rest) parts.plain parts.feeds (λ buffer. true) works.clock t;
       stand = subst (λ a. EngineStands (after_tick works other (works.ticks + 1) works.stopped) (suc t) a) (nothing_more answers) (stands_after t answers stands few);
       grew = λ rest sink node output. subst
           (λ a. held_in held other.ports.items new sink ≡ grown (tick_bytes (with_rest (setting_of works) a rest) node t) (held_in held works.ports.items old sink)) (nothing_more answers)

@@ -1,5 +1,5 @@
 -- The outputs of a clock, among the sinks of its plan.
-use Rattle.std.proofs.Common.{◌≡◌, ◌+◌, ◌∙◌, ℕ, zero, suc, Bool, true, false, Some, None, Option, List, [], ◌∷◌, map, slice_get, cond, arith, refl, ap, sym, subst}
+use Rattle.std.proofs.Common.{◌≡◌, ◌+◌, ◌∙◌, ℕ, zero, suc, Bool, true, false, Some, List, [], ◌∷◌, map, slice_get, cond, arith, refl, ap, sym, subst}
 use Rattle.std.proofs.lemmas.Bool.{eq-eqb, true≢false}
 use Rattle.std.proofs.lemmas.Option.{none-some}
 use Rattle.plan_core.specs.declared.sink.SinkPlan.{SinkPlan}

@@ -7,14 +7,15 @@ use Rattle.plan_core.specs.declared.node.Op.{Op}
 use Rattle.plan_core.specs.declared.node.Op.TheVariants.{Single, Playlist, Blank, Square, Fail, Fallback, Switch, Sequence, Add, Amplify, Mean, Stereo, Crossfade, Buffer, Clock}
 use Rattle.plan_core.specs.declared.sink.SinkPlan.{SinkPlan}
 use Rattle.plan_core.specs.declared.sink.SinkPlan.TheVariants.{Output, Feed}
-use Rattle.plan_core.specs.Plans.{IsNoReader, own_crossfades}
+use Rattle.plan_core.specs.declared.plan.Plan.{Plan}
+use Rattle.plan_core.specs.Plans.{IsNoReader, IsWellFormed, own_crossfades}
 use Rattle.clock_infer.specs.declared.clock_map.NodeClock.{NodeClock}
 use Rattle.clock_infer.specs.declared.clock_map.NodeClock.TheVariants.{Main, Sub}
 use Rattle.frame_core.specs.Slots.{Slot}
 use Rattle.frame_core.specs.Calls.{Call}
 use Rattle.stream_meaning.specs.Operators.{work_of}
 use Rattle.stream_meaning.specs.Instants.{Setting, Moment, history, lies_in, sub_of}
-use Rattle.stream_meaning.specs.Calls.{calls_at, calls_of, calls_of_tick, fades_by, fades_in, give_by, gives_of_tick, joined_upto, takes_at, takes_by, takes_in, takes_of_tick}
+use Rattle.stream_meaning.specs.Calls.{calls_at, calls_of_tick, fades_by, fades_in, give_by, gives_of_tick, joined_upto, takes_at, takes_by, takes_in}
 use Rattle.engine_ticks.specs.Lanes.{IsPlain}
 
 no_takes : (setting : Setting) (past : List Moment) (i rate : ℕ) (kind : Kind) (op : Op) → IsNoReader op → takes_by setting past i (work_of rate i kind op) ≡ []
@@ -59,7 +60,7 @@ none_if : (b : Bool) (xs : List Call) → xs ≡ [] → cond b xs [] ≡ []
 none_if true xs e = e
 none_if false xs e = refl
 
-module _ (setting : Setting) (plain : IsPlain setting.plan) where
+module _ (setting : Setting) (plain : IsPlain setting.plan) (feeds : (i buffer node : ℕ) → slice_get setting.plan.sinks i ≡ Some (Feed buffer node) → ⊥) where
   none_taken : (inside : Bool) (past : List Moment) (i : ℕ) (found : Option Node) → slice_get setting.plan.nodes i ≡ found → takes_in setting inside past i found ≡ []
   none_taken inside past i None at = refl
   none_taken false past i (Some node) at = refl
@@ -88,4 +89,11 @@ module _ (setting : Setting) (plain : IsPlain setting.plan) where
   pub no_calls : (accepted : ℕ → Bool) (m t : ℕ) → [] ≡ calls_of_tick setting accepted m t
   no_calls accepted m t =
       sym (ap (λ xs. xs ++ gives_of_tick setting accepted m t) (none_joined _ setting.plan.frame (λ j. none_called (sub_of setting) (suc (length setting.plan.nodes)) (Main m) _))
-      ∙ none_given accepted m t setting.plan.sinks plain.feeds)
+      ∙ none_given accepted m t setting.plan.sinks feeds)
+
+-- a well-formed plan without readers has no feeds
+pub no_feeds : (plan : Plan) → IsWellFormed plan → IsPlain plan → (i buffer node : ℕ) → slice_get plan.sinks i ≡ Some (Feed buffer node) → ⊥
+no_feeds plan well plain i buffer node at =
+    let within = well.fed buffer i (node, at) in
+    let reader = well.one_reader buffer within in
+    plain.readers reader.0 reader.1.0 reader.1.1 buffer reader.1.2

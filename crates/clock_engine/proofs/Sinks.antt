@@ -1,6 +1,6 @@
 -- The outputs of a clock, one sink after another.
-use Rattle.std.proofs.Common.{◌≡◌, ◌<◌, ◌+◌, ◌∙◌, ◌++◌, ℕ, zero, suc, Bool, true, false, Some, None, List, [], ◌∷◌, All, length, get_or, map, drop, slice_get, append_assoc, add-one, arith, refl, ap, sym, subst}
-use Rattle.std.proofs.lemmas.List.{length-append, map-append}
+use Rattle.std.proofs.Common.{◌≡◌, ◌+◌, ◌∙◌, ◌++◌, ℕ, zero, suc, Bool, true, false, Some, List, [], ◌∷◌, All, map, drop, slice_get, append_assoc, add-one, arith, ap, sym}
+use Rattle.std.proofs.lemmas.List.{map-append}
 use Rattle.plan_core.specs.declared.sink.SinkPlan.{SinkPlan}
 use Rattle.plan_core.specs.declared.sink.SinkPlan.TheVariants.{Output, Feed}
 use Rattle.clock_infer.specs.declared.clock_map.NodeClock.TheVariants.{Main}

@@ -1,13 +1,9 @@
 -- New states stand for no instant.
-use Rattle.std.proofs.Common.{◌≡◌, ◌*◌, ℕ, List, Some, slice_get, arith, refl, subst}
-use Rattle.plan_core.specs.declared.node.Node.{Node}
-use Rattle.plan_core.specs.declared.plan.Plan.{Plan}
+use Rattle.std.proofs.Common.{◌≡◌, ◌*◌, ℕ, arith, refl, subst}
 use Rattle.clock_infer.specs.declared.clock_map.NodeClock.{NodeClock}
-use Rattle.stream_meaning.specs.Instants.{Setting, history, sub_of}
-use Rattle.node_states.specs.declared.state.NodeState.{NodeState}
+use Rattle.stream_meaning.specs.Instants.{Setting, sub_of}
 use Rattle.node_states.specs.Times.{TimeStands}
 use Rattle.engine_ticks.specs.declared.lanes.Lanes.{Lanes}
-use Rattle.engine_instants.specs.States.{ClockStands, IsIn}
 use Rattle.engine_ticks.specs.Lanes.{LanesStand}
 use Rattle.clock_engine.specs.Beginnings.{AreNewStates}
 

@@ -1,18 +1,15 @@
 -- A tick of an engine, from what its instants and its sinks did.
-use Rattle.std.proofs.Common.{◌≡◌, ◌<◌, ◌≤◌, ◌+◌, ◌*◌, ◌^◌, ◌∙◌, ◌++◌, ℕ, zero, suc, Some, None, Option, List, [], ◌∷◌, length, map, slice_get, arith, refl, ap, sym, subst}
-use mathlib.Core.Path.{fun_ext}
+use Rattle.std.proofs.Common.{◌≡◌, ◌<◌, ◌≤◌, ◌+◌, ◌*◌, ◌∙◌, ℕ, zero, suc, Some, None, List, [], ◌∷◌, length, map, arith, refl, ap, sym}
 use Rattle.std.proofs.Math.Nat.{suc-mul}
 use Rattle.std.specs.List.{flat_map, range_with_len}
-use Rattle.std.proofs.lemmas.List.{append-nil, length-append, length-map}
+use Rattle.std.proofs.lemmas.List.{length-append, length-map}
 use Rattle.std.proofs.lemmas.List.FromFn.{length-range_with_len}
 use Rattle.clock_infer.specs.declared.clock_map.NodeClock.{NodeClock}
 use Rattle.clock_infer.specs.declared.clock_map.NodeClock.TheVariants.{Main, Sub}
 use Rattle.frame_core.specs.Slots.{Slot}
-use Rattle.op_leaf.specs.Readers.{Answer}
 use Rattle.stream_meaning.specs.Instants.{Setting, Moment, clock_of, crossfaded, history, moment_after, offer, slots_of, stream_of, sub_of, sub_within}
 use Rattle.stream_meaning.specs.Sinks.{gaps, missing, slot_block, tick_bytes, tick_slots, kind_of}
 use Rattle.node_states.specs.States.{AreLong}
-use Rattle.node_states.specs.Ticks.{IsOutput, with_rest}
 use Rattle.clock_outputs.specs.declared.port.Port.{Port}
 use Rattle.clock_outputs.specs.Ports.{after_slots, emptied}
 use Rattle.engine_ticks.specs.Runs.{slot_in}

@@ -1,5 +1,5 @@
 -- An engine's parts, and for what they stand.
-use Rattle.std.specs.Prelude.{◌≡◌, ◌≤◌, ◌*◌, ℕ, suc, Bool, Option, Some, None, List, [], ◌∷◌, All, length, map, nat_eq, slice_get, if◌then◌else◌}
+use Rattle.std.specs.Prelude.{◌≡◌, ◌≤◌, ◌*◌, ℕ, suc, Option, Some, None, List, [], ◌∷◌, All, length, map, nat_eq, slice_get, if◌then◌else◌}
 use Rattle.liq_base.specs.Kinds.{channels_of}
 use Rattle.plan_core.specs.Plans.{AreNodes}
 use Rattle.plan_core.specs.declared.sink.SinkPlan.{SinkPlan}
@@ -57,6 +57,7 @@ pub record AreWorks (works : Works) : Type 0 where
   pub nodes : AreNodes works.shape.plan.now.nodes
   pub frame : works.shape.plan.now.frame ≤ 65536
   pub plain : IsPlain works.shape.plan.now
+  pub feeds : (i buffer node : ℕ) → slice_get works.shape.plan.now.sinks i ≡ Some (Feed buffer node) → ⊥
   pub in_clocks : length works.shape.clocks.now ≡ length works.shape.plan.now.nodes
   pub lanes : AreLanes works.shape.plan.now works.shape.library.now works.lanes
   pub roots : AreRoots (setting_of works) (Main works.clock) works.roots.items

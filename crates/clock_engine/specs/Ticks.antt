@@ -1,8 +1,7 @@
 -- What a tick of an engine without buffers owes.
 use Rattle.std.specs.Prelude.{◌≡◌, ◌*◌, ℕ, Option, Some, List, ◌++◌, slice_get}
-use Rattle.liq_base.specs.Counts.{Rose}
 use Rattle.liq_base.specs.Kinds.{channels_of}
-use Rattle.liq_base.specs.Pieces.{HasRoom}
+use Rattle.liq_base.specs.Pieces.{HasRoom, narrowed}
 use Rattle.frame_core.specs.Calls.{Call}
 use Rattle.op_leaf.specs.Readers.{Answer}
 use Rattle.node_states.specs.Ticks.{HasStopped, HasTicked}
@@ -42,3 +41,8 @@ pub record HasFailed {S T : Type 0} (held : S → Option (List ℕ)) (taps_stand
   pub engine : (t : ℕ) (answers : ℕ → List Answer) → EngineStands old t answers
       → HasStopped (setting_of old) old.clock t answers made (held_in held old.ports.items outs_old) (held_in held new.ports.items outs_new)
   pub taps : (calls : List Call) → taps_stand taps_old calls → taps_stand taps_new (calls ++ made)
+
+-- the room of each sink that tells it fell by the piece of a tick
+pub record RoomsFell {S : Type 0} (room : S → Option ℕ) (works : Works) (old new : List S) : Type 0 where
+  pub each : (k : ℕ) (port : Port) (before after : S) → slice_get works.ports.items k ≡ Some port → slice_get old k ≡ Some before → slice_get new k ≡ Some after
+      → room after ≡ narrowed (works.shape.plan.now.frame * (2 * channels_of port.kind)) (room before)

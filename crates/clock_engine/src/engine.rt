@@ -7,10 +7,11 @@ ghost use Rattle.engine_ticks.specs.Lanes.{AreLanes, IsPlain};
 ghost use Rattle.engine_ticks.specs.Runs.{Heard};
 ghost use Rattle.clock_infer.specs.declared.clock_map.NodeClock.TheVariants.{Main as InMain};
 ghost use Rattle.op_leaf.specs.Readers.{Answer};
+ghost use Rattle.clock_outputs.specs.Appends.{AreKept};
 ghost use Rattle.clock_engine.specs.Engines.{AreWorks, EngineStands, after_tick, held_in, outputs_of, setting_of};
 ghost use Rattle.stream_meaning.specs.Sinks.{gaps};
 ghost use Rattle.node_states.specs.Ticks.{IsOutput, with_rest};
-ghost use Rattle.clock_engine.specs.Ticks.{HasFailed, HasMade, HaveTickRoom, IsWriteFault};
+ghost use Rattle.clock_engine.specs.Ticks.{HasFailed, HasMade, HaveTickRoom, IsWriteFault, RoomsFell};
 
 use crate::TickFault;
 use crate::outputs::ports_of;
@@ -169,6 +170,8 @@ impl<'a, O: Sink + Drop> ClockEngine<'a, O> {
         ensures setting { setting_of self.new.works ≡ setting_of self.old.works }
         ensures ticked { OnOk result (HasMade O.held T.stands self.old.works self.new.works self.old.outs.items self.new.outs.items _taps.old _taps.new) }
         ensures stopped { OnErr result (HasFailed O.held T.stands self.old.works self.new.works self.old.outs.items self.new.outs.items _taps.old _taps.new) }
+        ensures kept { AreKept O.name O.faults self.old.outs.items self.new.outs.items }
+        ensures rooms { OnOk result (RoomsFell O.room self.old.works self.old.outs.items self.new.outs.items) }
         ensures cause { IfErr result (λ fault. IsWriteFault O.faults self.old.works self.old.outs.items self.new.outs.items fault) }
         ensures fault { IfErr result (λ fault. self.new.works.stopped ≡ Some fault) }
         ensures runs { OnOk result (self.new.works.stopped ≡ None) }

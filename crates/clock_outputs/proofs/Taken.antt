@@ -3,7 +3,7 @@ use Rattle.std.proofs.Common.{◌≡◌, ◌<◌, ◌≤◌, ◌+◌, ◌∙◌,
 use Rattle.std.proofs.lemmas.List.{append-nil}
 use Rattle.liq_base.specs.Pieces.{Took, TookPart, grown, narrowed}
 use Rattle.clock_outputs.specs.declared.port.Port.{Port}
-use Rattle.clock_outputs.specs.Appends.{LeftFrom, TookAll, TookParts}
+use Rattle.clock_outputs.specs.Appends.{AreKept, LeftFrom, TookAll, TookParts}
 use Rattle.clock_outputs.proofs.Places.{low_or_high, same_or_other, slice_get-set_other, slice_get-set_same}
 
 grown_nothing : (held : Option (List ℕ)) → held ≡ grown [] held
@@ -29,6 +29,37 @@ took_whole held room piece old new took = record {
   is_front = record { rest = []; whole_is = sym (append-nil piece) };
   took = took;
 }
+
+-- nothing was done yet
+pub kept_none : {S : Type 0} (name : S → Option (List ℕ)) (faults : S → ℕ) (outs : List S) → AreKept name faults outs outs
+kept_none name faults outs = record {
+  each = λ k before after was is.
+      let one : Some before ≡ Some after = sym was ∙ is in
+      let same : before ≡ after = cc in
+      (ap name (sym same), subst (λ s. faults before ≤ faults s) same (omega arith));
+}
+
+pub took_none : {S : Type 0} (held : S → Option (List ℕ)) (room : S → Option ℕ) (ports : List Port) (outs : List S) → TookAll held room ports 0 outs outs
+took_none held room ports outs = record { each = λ k port before after below at_port at_old at_new. absurd (omega (arith, below)) }
+
+-- one sink more was called
+pub kept_more : {S : Type 0} (name : S → Option (List ℕ)) (faults : S → ℕ) (k : ℕ) (old now : List S) (before after : S) → k < length now
+    → slice_get now k ≡ Some before → LeftFrom k old now → name after ≡ name before → faults before ≤ faults after
+    → AreKept name faults old now → AreKept name faults old (set now k after)
+kept_more {S} name faults k old now before after within was left same_name more kept = record {
+  each = λ j b a at_old at_new. elim (same_or_other k j) [
+    | inl same ↦ subst (λ i. slice_get old i ≡ Some b → slice_get (set now k after) i ≡ Some a → (name a ≡ name b) × (faults b ≤ faults a)) same (here b a) at_old at_new
+    | inr apart ↦ kept.each j b a at_old (sym (slice_get-set_other now k j after apart) ∙ at_new)
+  ];
+}
+  where
+    here : (b a : S) → slice_get old k ≡ Some b → slice_get (set now k after) k ≡ Some a → (name a ≡ name b) × (faults b ≤ faults a)
+    here b a at_old at_new =
+        let two : Some before ≡ Some b = sym was ∙ left.each k (omega arith) ∙ at_old in
+        let three : Some after ≡ Some a = sym (slice_get-set_same now k after within) ∙ at_new in
+        let same_b : before ≡ b = cc in
+        let same_a : after ≡ a = cc in
+        (ap name (sym same_a) ∙ same_name ∙ ap name same_b, subst (λ x. faults x ≤ faults a) same_b (subst (λ x. faults before ≤ faults x) same_a more))
 
 module _ {S : Type 0} (held : S → Option (List ℕ)) (room : S → Option ℕ) (ports : List Port) (k : ℕ) (old now : List S) (before after : S) (port : Port)
     (within : k < length now) (was : slice_get now k ≡ Some before) (found : slice_get ports k ≡ Some port) (left : LeftFrom k old now) where

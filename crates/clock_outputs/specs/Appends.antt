@@ -30,3 +30,8 @@ pub record RoseAt {S : Type 0} (faults : S → ℕ) (place : ℕ) (old new : Lis
   pub was : slice_get old place ≡ Some before
   pub is : slice_get new place ≡ Some after
   pub rose : Rose (faults before) (faults after)
+
+-- each sink has the name that it had, and no smaller count of faults
+pub record AreKept {S : Type 0} (name : S → Option (List ℕ)) (faults : S → ℕ) (old new : List S) : Type 0 where
+  pub each : (k : ℕ) (before after : S) → slice_get old k ≡ Some before → slice_get new k ≡ Some after
+      → (name after ≡ name before) × (faults before ≤ faults after)

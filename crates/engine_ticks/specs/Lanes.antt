@@ -2,7 +2,6 @@
 use Rattle.std.specs.Prelude.{◌≡◌, ℕ, Bool, List, Some, length, slice_get}
 use Rattle.plan_core.specs.declared.node.Node.{Node}
 use Rattle.plan_core.specs.declared.plan.Plan.{Plan}
-use Rattle.plan_core.specs.declared.sink.SinkPlan.TheVariants.{Feed}
 use Rattle.plan_core.specs.Plans.{AreNodes, IsNoReader, own_crossfades}
 use Rattle.clock_infer.specs.declared.clock_map.NodeClock.{NodeClock}
 use Rattle.frame_core.specs.Slots.{Slot}
@@ -12,11 +11,10 @@ use Rattle.node_states.specs.Times.{TimeStands}
 use Rattle.engine_instants.specs.States.{AllFit, ClockStands, HasRoomFor}
 use Rattle.engine_ticks.specs.declared.lanes.Lanes.{Lanes}
 
--- a plan without crossfades and buffers
+-- a plan without crossfades and readers of buffers
 pub record IsPlain (plan : Plan) : Type 0 where
   pub crossfades : (i : ℕ) (node : Node) → slice_get plan.nodes i ≡ Some node → own_crossfades node.op ≡ 0
   pub readers : (i : ℕ) (node : Node) → slice_get plan.nodes i ≡ Some node → IsNoReader node.op
-  pub feeds : (i buffer node : ℕ) → slice_get plan.sinks i ≡ Some (Feed buffer node) → ⊥
 
 -- lanes for the nodes of this plan, with these files
 pub record AreLanes (plan : Plan) (library : Sounds) (lanes : Lanes) : Type 0 where

@@ -1,11 +1,11 @@
-use Rattle.std.proofs.Common.{rules, ◌≡◌, ◌∙◌, ℕ, List, [], length, get_or, replicate, arith, ap, sym, refl}
+use Rattle.std.proofs.Common.{rules, [], length, arith, refl}
 use Rattle.std.proofs.lemmas.Option.{slice_get_within}
 use Rattle.clock_infer.specs.declared.clock_map.NodeClock.TheVariants.{Main}
-use Rattle.op_leaf.specs.Readers.{Answer}
 use Rattle.stream_meaning.specs.Instants.{Setting}
 use Rattle.node_states.specs.Ticks.{with_rest}
 use Rattle.clock_engine.specs.Beginnings.{IsNewPort}
 use Rattle.clock_engine.proofs.Made.{all_at}
+use Rattle.clock_engine.proofs.Quiet.{no_feeds}
 use Rattle.clock_engine.proofs.Starting.{new_stand}
 use Rattle.clock_engine.proofs.engine.make_works.Goals as goal
 
@@ -16,6 +16,7 @@ returns-clause-works c =
       nodes = c.requires.plan.nodes;
       frame = c.requires.plan.frame.1;
       plain = c.requires.plain;
+      feeds = no_feeds c.args.shape.plan.now c.requires.plan c.requires.plain;
       in_clocks = c.requires.in_clocks;
       lanes = record {
         fit = record {

@@ -1,4 +1,4 @@
-use Rattle.std.proofs.Common.{◌≡◌, ◌<◌, ◌∙◌, ℕ, length, get_or, map, arith, ap, sym, subst}
+use Rattle.std.proofs.Common.{◌<◌, length, arith, sym, subst}
 use Rattle.std.proofs.lemmas.List.{get_or-map, length-map}
 use Rattle.clock_outputs.specs.Ports.{HasRoomLeft, emptied}
 use Rattle.clock_engine.proofs.engine.run_works.Goals as goal

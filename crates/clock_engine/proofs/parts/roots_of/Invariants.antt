@@ -1,4 +1,4 @@
-use Rattle.std.proofs.Common.{◌≡◌, ℕ, map}
+use Rattle.std.proofs.Common.{◌≡◌, map}
 use Rattle.std.specs.List.{range_with_len}
 use Rattle.clock_engine.proofs.Beginning.{root_at}
 use Rattle.clock_engine.proofs.parts.roots_of.Given as goal

@@ -1,4 +1,4 @@
-use Rattle.std.proofs.Common.{rules, ◌≡◌, ◌<◌, ◌+◌, ◌∙◌, Some, length, get_or, slice_get, arith, ap, sym, refl, subst}
+use Rattle.std.proofs.Common.{◌≡◌, ◌<◌, ◌+◌, ◌∙◌, Some, length, get_or, slice_get, arith, ap, sym, refl, subst}
 use Rattle.std.proofs.lemmas.Option.{slice_get_read}
 use Rattle.clock_engine.specs.Beginnings.{AreNewStates, IsNewState}
 use Rattle.clock_engine.proofs.Beginning.{states_more}

@@ -1,11 +1,11 @@
-use Rattle.std.proofs.Common.{rules, ◌≡◌, ◌<◌, ◌+◌, ◌∙◌, Some, List, [], length, get_or, slice_get, arith, ap, sym, refl, subst}
+use Rattle.std.proofs.Common.{rules, ◌≡◌, ◌<◌, ◌+◌, ◌∙◌, Some, [], length, slice_get, arith, ap, sym, refl, subst}
 use Rattle.std.proofs.lemmas.List.{append-nil}
 use Rattle.std.proofs.lemmas.Option.{slice_get_read, slice_get_within}
 use Rattle.clock_outputs.specs.Appends.{HaveRoom, TookAll, TookParts}
 use Rattle.clock_engine.specs.declared.fault.TickFault.TheVariants.{Write}
 use Rattle.clock_engine.specs.Engines.{AreWorks, after_tick}
-use Rattle.clock_engine.specs.Ticks.{HasFailed, HasMade}
-use Rattle.clock_engine.proofs.Made.{as_many, has_stopped, has_ticked, have_room, parts_after, port_before, sink_before}
+use Rattle.clock_engine.specs.Ticks.{HasMade}
+use Rattle.clock_engine.proofs.Made.{as_many, has_stopped, has_ticked, have_room, parts_after, port_before, rooms_fell, sink_before}
 use Rattle.clock_engine.proofs.engine.ClockEngine.tick.Goals as goal
 
 pub append_all-requires-clause-room : goal.append_all-requires-clause-room
@@ -67,3 +67,10 @@ returns-clause-ticked g c =
           (subst (λ ports. TookAll g.O.Sink.held g.O.Sink.room ports (length ports) c.args.self.now.outs.items c.append_all.new.outs.items) c.deref.ensures.value took);
       taps = λ calls stands. subst (g.T.Taps.stands c.args._taps.now) (sym (append-nil calls)) stands;
     })
+
+pub returns-clause-rooms : goal.returns-clause-rooms
+returns-clause-rooms g c =
+    let took : TookAll g.O.Sink.held g.O.Sink.room c.deref.result.now (length c.deref.result.now) c.args.self.now.outs.items c.append_all.new.outs.items = search rules in
+    rooms_fell c.args.self.now.works c.run_works.new.works c.requires.works c.run_works.ensures.lanes c.run_works.ensures.heard g.O.Sink.held g.O.Sink.room
+    c.args.self.now.outs.items c.append_all.new.outs.items
+    (subst (λ ports. TookAll g.O.Sink.held g.O.Sink.room ports (length ports) c.args.self.now.outs.items c.append_all.new.outs.items) c.deref.ensures.value took)
