@@ -1,0 +1,22 @@
+-- What evaluation keeps true of the state.
+use Rattle.std.specs.Prelude.{ℕ, List, Result, Ok, Err, ⊤}
+use Rattle.liq_base.specs.declared.memory.Kind.{Kind}
+use Rattle.typing_rules.specs.declared.uses.Builtin.{Builtin}
+use Rattle.script_values.specs.declared.machine.Machine.{Machine}
+use Rattle.script_values.specs.Machines.{count}
+use Rattle.script_values.specs.Slots.{Given}
+use Rattle.builtin_calls.specs.Builtins.{builtin}
+
+-- the state behind what was evaluated, if there is one
+abbrev pub Keeps : {A E : Type 0} → (Machine → Type 0) → Result (A × Machine) E → Type 0
+Keeps P (Ok x) = P x.1
+Keeps P (Err e) = ⊤
+
+abbrev pub Leaves : {E : Type 0} → (Machine → Type 0) → Result Machine E → Type 0
+Leaves P (Ok m) = P m
+Leaves P (Err e) = ⊤
+
+-- counting keeps it, and so does each call of a builtin
+pub record IsKept (P : Machine → Type 0) : Type 0 where
+  pub counts : (n : ℕ) (m : Machine) → P m → Leaves P (count n m)
+  pub builtins : (b : Builtin) (at : ℕ) (kinds : List Kind) (given : List Given) (m : Machine) → P m → Keeps P (builtin b at kinds given m)

@@ -1,0 +1,4 @@
+//! What evaluation keeps true, for all scripts.
+#![tactic(auto)]
+
+pub mod law;

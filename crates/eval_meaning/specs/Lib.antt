@@ -1,0 +1,4 @@
+pub mod Preds
+pub mod Meaning
+pub mod Calls
+pub mod Scripts

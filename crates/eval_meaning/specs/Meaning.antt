@@ -1,0 +1,211 @@
+-- What an expression means: a value and the state behind it, or the first fault, by cases on the tree.
+use Rattle.std.specs.Prelude.{ℕ, zero, suc, ℤ, pos, List, [], ◌∷◌, ◌++◌, true, false, Option, Some, None, Result, Ok, Err, int_le, ◌&&◌}
+use Rattle.liq_base.specs.declared.memory.Kind.{Kind}
+use Rattle.script_grammar.specs.Tree.{Tree, Many, none, more, AFull, AnExpr, AnAnd, ANot, ACompare, ASum, AnAdded, AProduct, AMultiplied, APrim, ACall, AnArg, AnIf, AParam, AnInner, ADef, Negative, Plain, Expr, And, Not, Alone, Compared, Sum, Added, Product, Multiplied, Constant, Quoted, Truth, Named, Called, Chosen, Nothing, Paren, Tuple, Listed, Braces, Format, Call, Arg, If, Param, Labelled, Optional, Inner, Bind, Def, Script}
+use Rattle.typing_rules.specs.declared.uses.Use.{Use}
+use Rattle.typing_rules.specs.declared.uses.Target.{Target}
+use Rattle.typing_rules.specs.declared.uses.Target.TheVariants as target
+use Rattle.typing_rules.specs.Arguments.{argument}
+use Rattle.typing_rules.specs.Defs.{def_at}
+use Rattle.typing_rules.specs.Kinds.{kinds_of}
+use Rattle.typing_rules.specs.Uses.{use_at}
+use Rattle.script_values.specs.declared.fault.Fault.{Fault}
+use Rattle.script_values.specs.declared.fault.Fault.TheVariants.{BadValue, TooLarge, Stuck}
+use Rattle.script_values.specs.declared.fault.Limit.TheVariants.{Calls}
+use Rattle.script_values.specs.declared.machine.Machine.{Machine}
+use Rattle.script_values.specs.Values.{Value, many, size}
+use Rattle.script_values.specs.Values as value
+use Rattle.script_values.specs.Numbers.{literal_value, negative, added, multiplied, compared, either, both, opposite, truth_of}
+use Rattle.script_values.specs.Machines.{count}
+use Rattle.script_values.specs.Outcomes.{Outcome, ◌>>=◌}
+use Rattle.builtin_calls.specs.Builtins.{builtin}
+use Rattle.eval_meaning.specs.Preds.{or_pred}
+use Rattle.script_values.specs.Slots.{Given, Slot, slot_at}
+
+-- a call of the def at this token, with these kinds and arguments
+abbrev pub Caller : Type 0
+Caller = ℕ → List Kind → List Given → Machine → Outcome
+
+-- what is known where an expression stands: what names stand for, the values of bindings, and the open kinds of the def around
+pub record Scope : Type 0 where
+  pub uses : List Use
+  pub slots : List Slot
+  pub kinds : List Kind
+  pub call : Caller
+
+-- the value of a binding, which counts its size
+abbrev pub value_at : Option Value → Machine → Outcome
+value_at None m = Err Stuck
+value_at (Some v) m = count (size v) m >>= λ c. Ok (v, c)
+
+unfoldable pub named : Scope → Option Use → Machine → Outcome
+named s None m = Err Stuck
+named s (Some u) m =
+    elim u.target [
+      | target.Slot t ↦ value_at (slot_at t s.slots) m
+      | target.Def t ↦ Err Stuck
+      | target.Builtin b ↦ Err Stuck
+    ]
+
+abbrev pub applied_to : Scope → Target → ℕ → Option (List Kind) → List Given → Machine → Outcome
+applied_to s target at None given m = Err Stuck
+applied_to s (target.Slot t) at (Some kinds) given m = Err Stuck
+applied_to s (target.Def t) at (Some kinds) given m = s.call t kinds given m
+applied_to s (target.Builtin b) at (Some kinds) given m = builtin b at kinds given m
+
+-- a call of what a name stands for, at this token
+unfoldable pub applied : Scope → Option Use → ℕ → List Given → Machine → Outcome
+applied s None at given m = Err Stuck
+applied s (Some u) at given m = applied_to s u.target at (kinds_of s.kinds u.kinds) given m
+
+abbrev pub format : ℕ → Option ℤ → Result Value Fault
+format at None = Ok value.Format
+format at (Some n) =
+    elim (int_le n (pos 16) && int_le (pos 16) n) [
+      | true ↦ Ok value.Format
+      | false ↦ Err (BadValue at)
+    ]
+
+-- an operator on the value to its left and the operand to its right, which was evaluated
+abbrev pub joined : (Value → Value → Result Value Fault) → Value → Outcome → Outcome
+joined operator v right = right >>= λ x. count 1 x.1 >>= λ c. operator v x.0 >>= λ u. Ok (u, c)
+
+-- Operands are evaluated from the left. Work is counted when a Prim begins, and when an operator is about to be applied.
+unfoldable mutual
+  pub full : Scope → Tree AFull → Machine → Outcome
+  full s (Negative at n) m = count 1 m >>= λ c. negative at n >>= λ v. Ok (v, c)
+  full s (Plain e) m = expr s e m
+
+  pub expr : Scope → Tree AnExpr → Machine → Outcome
+  expr s (Expr a rest) m = conj s a m >>= λ x. ors s rest x.0 x.1
+
+  pub ors : Scope → Tree (Many AnAnd) → Value → Machine → Outcome
+  ors s none v m = Ok (v, m)
+  ors s (more a rest) v m = joined either v (conj s a m) >>= λ x. ors s rest x.0 x.1
+
+  pub conj : Scope → Tree AnAnd → Machine → Outcome
+  conj s (And n rest) m = nega s n m >>= λ x. ands s rest x.0 x.1
+
+  pub ands : Scope → Tree (Many ANot) → Value → Machine → Outcome
+  ands s none v m = Ok (v, m)
+  ands s (more n rest) v m = joined both v (nega s n m) >>= λ x. ands s rest x.0 x.1
+
+  pub nega : Scope → Tree ANot → Machine → Outcome
+  nega s (Not true inner) m = compare s inner m >>= λ x. count 1 x.1 >>= λ c. opposite x.0 >>= λ u. Ok (u, c)
+  nega s (Not false inner) m = compare s inner m
+
+  pub compare : Scope → Tree ACompare → Machine → Outcome
+  compare s (Alone left) m = sum s left m
+  compare s (Compared left at o right) m = sum s left m >>= λ x. sum s right x.1 >>= λ y. count 1 y.1 >>= λ c. compared o x.0 y.0 >>= λ u. Ok (u, c)
+
+  pub sum : Scope → Tree ASum → Machine → Outcome
+  sum s (Sum p rest) m = product s p m >>= λ x. addeds s rest x.0 x.1
+
+  pub addeds : Scope → Tree (Many AnAdded) → Value → Machine → Outcome
+  addeds s none v m = Ok (v, m)
+  addeds s (more a rest) v m = plus s a v m >>= λ x. addeds s rest x.0 x.1
+
+  pub plus : Scope → Tree AnAdded → Value → Machine → Outcome
+  plus s (Added at minus p) v m = joined (added minus at) v (product s p m)
+
+  pub product : Scope → Tree AProduct → Machine → Outcome
+  product s (Product p rest) m = prim s p m >>= λ x. multiplieds s rest x.0 x.1
+
+  pub multiplieds : Scope → Tree (Many AMultiplied) → Value → Machine → Outcome
+  multiplieds s none v m = Ok (v, m)
+  multiplieds s (more a rest) v m = times s a v m >>= λ x. multiplieds s rest x.0 x.1
+
+  pub times : Scope → Tree AMultiplied → Value → Machine → Outcome
+  times s (Multiplied at divide p) v m = joined (multiplied divide at) v (prim s p m)
+
+  pub prim : Scope → Tree APrim → Machine → Outcome
+  prim s (Constant at n) m = count 1 m >>= λ c. Ok (literal_value n, c)
+  prim s (Quoted at text) m = count 1 m >>= λ c. Ok (value.Text text, c)
+  prim s (Truth at b) m = count 1 m >>= λ c. Ok (value.Truth b, c)
+  prim s (Named at name) m = named s (use_at at s.uses) m
+  prim s (Called k) m = count 1 m >>= λ c. call s k c
+  prim s (Chosen i) m = count 1 m >>= λ c. choice s i c
+  prim s (Nothing at) m = count 1 m >>= λ c. Ok (value.Nothing, c)
+  prim s (Paren f) m = count 1 m >>= λ c. full s f c
+  prim s (Tuple at f g rest) m = count 1 m >>= λ c. full s f c >>= λ x. full s g x.1 >>= λ y. fulls s rest (x.0 ∷ y.0 ∷ []) y.1 >>= λ z. Ok (value.Tuple (many z.0), z.1)
+  prim s (Listed at parts) m = count 1 m >>= λ c. fulls s parts [] c >>= λ z. Ok (value.Listed (many z.0), z.1)
+  prim s (Braces at pred) m = count 1 m >>= λ c. Ok (value.Pred (or_pred pred), c)
+  prim s (Format at bits) m = count 1 m >>= λ c. format at bits >>= λ v. Ok (v, c)
+
+  -- the values so far, and those of more
+  pub fulls : Scope → Tree (Many AFull) → List Value → Machine → Result (List Value × Machine) Fault
+  fulls s none vs m = Ok (vs, m)
+  fulls s (more f rest) vs m = full s f m >>= λ x. fulls s rest (vs ++ x.0 ∷ []) x.1
+
+  -- only the chosen branch is evaluated
+  pub choice : Scope → Tree AnIf → Machine → Outcome
+  choice s (If at c t e) m = full s c m >>= λ x. truth_of x.0 >>= λ b. elim b [ true ↦ full s t x.1 | false ↦ full s e x.1 ]
+
+  -- arguments are evaluated as written
+  pub call : Scope → Tree ACall → Machine → Outcome
+  call s (Call at name args) m = arguments s args [] m >>= λ x. applied s (use_at at s.uses) at x.0 x.1
+
+  pub arguments : Scope → Tree (Many AnArg) → List Given → Machine → Result (List Given × Machine) Fault
+  arguments s none given m = Ok (given, m)
+  arguments s (more a rest) given m = argued s a m >>= λ x. arguments s rest (given ++ x.0 ∷ []) x.1
+
+  pub argued : Scope → Tree AnArg → Machine → Result (Given × Machine) Fault
+  argued s (Arg at label f) m = full s f m >>= λ x. Ok ((label, x.0), x.1)
+
+-- values in parentheses, behind the count
+abbrev pub grouped : Scope → Tree (Many AFull) → Machine → Outcome
+grouped s none m = Ok (value.Nothing, m)
+grouped s (more f none) m = full s f m
+grouped s (more f (more g rest)) m = fulls s (more f (more g rest)) [] m >>= λ z. Ok (value.Tuple (many z.0), z.1)
+
+abbrev pub all_of : Scope → Tree (Many AFull) → Machine → Outcome
+all_of s parts m = fulls s parts [] m >>= λ z. Ok (value.Listed (many z.0), z.1)
+
+-- What a parameter takes of the arguments: its slot and the arguments that are left. A default is evaluated among the names before the def.
+abbrev pub taken : ℕ → Option (Value × List Given) → Machine → Result ((Slot × List Given) × Machine) Fault
+taken at None m = Err Stuck
+taken at (Some x) m = Ok (((at, x.0), x.1), m)
+
+abbrev pub or_default : ℕ → Option (Value × List Given) → List Given → Outcome → Machine → Result ((Slot × List Given) × Machine) Fault
+or_default at None given default m = default >>= λ x. Ok (((at, x.0), given), x.1)
+or_default at (Some x) given default m = Ok (((at, x.0), x.1), m)
+
+unfoldable pub parameter : Scope → Tree AParam → List Given → Machine → Result ((Slot × List Given) × Machine) Fault
+parameter s (Param at name) given m = taken at (argument None given) m
+parameter s (Labelled at name) given m = taken at (argument (Some name) given) m
+parameter s (Optional at name d) given m = or_default at (argument (Some name) given) given (full s d m) m
+
+unfoldable pub parameters : Scope → Tree (Many AParam) → List Given → List Slot → Machine → Result (List Slot × Machine) Fault
+parameters s none given slots m = Ok (slots, m)
+parameters s (more p ps) given slots m = parameter s p given m >>= λ x. parameters s ps x.0.1 (slots ++ x.0.0 ∷ []) x.1
+
+-- the same scope with these bindings before the others
+abbrev pub within : Scope → List Slot → Scope
+within s slots = record s { slots = slots ++ s.slots }
+
+unfoldable pub inner : Scope → Tree AnInner → List Slot → Machine → Result (Slot × Machine) Fault
+inner s (Inner (Bind at name f) semicolon) slots m = full (within s slots) f m >>= λ x. Ok ((at, x.0), x.1)
+
+unfoldable pub inners : Scope → Tree (Many AnInner) → List Slot → Machine → Result (List Slot × Machine) Fault
+inners s none slots m = Ok (slots, m)
+inners s (more i is) slots m = inner s i slots m >>= λ x. inners s is (slots ++ x.0 ∷ []) x.1
+
+-- the body of a def, in the scope of the names before it
+unfoldable pub body : Scope → Tree ADef → List Given → Machine → Outcome
+body s (Def at name params equals bindings result) given m =
+    parameters s params given [] m >>= λ x. inners s bindings x.0 x.1 >>= λ y. expr (within s y.0) result y.1
+
+-- what no call changes: the script, what its names stand for, and the values of its bindings so far
+pub record World : Type 0 where
+  pub script : Script
+  pub uses : List Use
+  pub globals : List Slot
+
+abbrev pub run : Scope → Option (Tree ADef) → List Given → Machine → Outcome
+run s None given m = Err Stuck
+run s (Some d) given m = body s d given m
+
+-- A call of a def, where so many more may run. With each call the body is evaluated anew.
+unfoldable pub call_by : World → ℕ → Caller
+call_by w zero t kinds given m = Err (TooLarge Calls)
+call_by w (suc n) t kinds given m = run (record { uses = w.uses; slots = w.globals; kinds = kinds; call = call_by w n }) (def_at t w.script) given m

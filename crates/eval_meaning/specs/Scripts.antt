@@ -1,0 +1,108 @@
+-- The plan of a script: its statements in order, and the end of its settings.
+use Rattle.std.specs.Prelude.{◌≡◌, ℕ, ◌+◌, ℤ, pos, int_le, nat_le, List, [], ◌∷◌, ◌++◌, Bool, true, false, ◌&&◌, Option, Some, None, Result, Ok, Err, ⊤}
+use Rattle.std.specs.List.{list_any}
+use Rattle.liq_base.specs.declared.limits.TheConstants.{MAX_FRAME, MAX_CALLS}
+use Rattle.fixed_text.specs.Texts.{samples_in}
+use Rattle.script_grammar.specs.Tree.{Tree, Many, none, more, AStmt, APart, Stmt, BindPart, DefPart, CallPart, IfPart, Bind, Script}
+use Rattle.plan_core.specs.declared.plan.Plan.{Plan}
+use Rattle.plan_core.specs.declared.sink.SinkPlan.{SinkPlan}
+use Rattle.plan_core.specs.declared.sink.SinkPlan.TheVariants.{Output, Feed}
+use Rattle.typing_rules.specs.declared.uses.Use.{Use}
+use Rattle.script_values.specs.declared.fault.Fault.{Fault}
+use Rattle.script_values.specs.declared.fault.EvalFault.{EvalFault}
+use Rattle.script_values.specs.declared.fault.EvalFault.TheVariants as told
+use Rattle.script_values.specs.declared.machine.Machine.{Machine}
+use Rattle.script_values.specs.Faults.{fault_in}
+use Rattle.script_values.specs.Machines.{first_machine}
+use Rattle.script_values.specs.Outcomes.{◌>>=◌}
+use Rattle.script_values.specs.Slots.{Slot}
+use Rattle.eval_meaning.specs.Calls.{is_setting}
+use Rattle.eval_meaning.specs.Meaning.{Scope, full, call, choice, call_by}
+
+-- the scope of a statement: the bindings so far, no open kinds, and 16 calls that may run
+abbrev pub top_scope : Script → List Use → List Slot → Scope
+top_scope script uses globals = record { uses = uses; slots = globals; kinds = []; call = call_by (record { script = script; uses = uses; globals = globals }) MAX_CALLS }
+
+-- what a statement makes of the bindings and of the state. A call or an `if` that is a whole statement counts nothing itself
+unfoldable pub statement : Scope → Tree APart → List Slot → Machine → Result (List Slot × Machine) Fault
+statement s (BindPart (Bind at name f)) slots m = full s f m >>= λ x. Ok (slots ++ (at, x.0) ∷ [], x.1)
+statement s (DefPart d) slots m = Ok (slots, m)
+statement s (CallPart c) slots m = call s c m >>= λ x. Ok (slots, x.1)
+statement s (IfPart i) slots m = choice s i m >>= λ x. Ok (slots, x.1)
+
+-- why a script has no plan; nothing where a value has a wrong type, which no typed script comes to
+abbrev pub Ending : Type 0
+Ending = Option EvalFault
+
+-- the first fault ends the script, and a fault of a statement is told with its number
+abbrev pub and_then : {A B : Type 0} → Result A Ending → (A → Result B Ending) → Result B Ending
+and_then (Ok x) f = f x
+and_then (Err e) f = Err e
+
+abbrev pub in_statement : {A : Type 0} → ℕ → Result A Fault → Result A Ending
+in_statement n (Ok x) = Ok x
+in_statement n (Err e) = Err (fault_in n e)
+
+-- whether a tick of this duration, in millionths of a second, has a length that a tick may have
+abbrev pub is_tick : ℤ → ℕ → Bool
+is_tick duration rate = int_le (pos 0) duration && (nat_le 1 (samples_in duration rate) && nat_le (samples_in duration rate) MAX_FRAME)
+
+abbrev pub tick_of : ℤ → ℕ → Option ℕ
+tick_of duration rate = elim (is_tick duration rate) [ true ↦ Some (samples_in duration rate) | false ↦ None ]
+
+abbrev pub closed : Machine → Option ℕ → Result Machine Ending
+closed m (Some frame) = Ok (record m { plan = record m.plan { frame = frame }; settings = record m.settings { allowed = false } })
+closed m None = Err (Some (told.BadSetting m.settings.last))
+
+-- The end of the settings: the tick is that of the duration and of the rate in force, whichever was set first. A bad one is blamed on the last statement that set either.
+unfoldable pub ended : Machine → Result Machine Ending
+ended m = closed m (tick_of m.settings.duration.millionths m.plan.rate)
+
+-- the settings end before the first statement that is none
+abbrev pub settled : Bool → Machine → Result Machine Ending
+settled true m = Ok m
+settled false m = elim m.settings.allowed [ true ↦ ended m | false ↦ Ok m ]
+
+-- the state in the statement of this number
+abbrev pub numbered : ℕ → Machine → Machine
+numbered n m = record m { settings = record m.settings { statement = n } }
+
+-- what the statement of this number makes of them, with the end of the settings before it
+unfoldable pub turned : Script → List Use → Tree APart → ℕ → List Slot → Machine → Result (List Slot × Machine) Ending
+turned script uses part n slots m = and_then (settled (is_setting uses part) m) (λ b. in_statement n (statement (top_scope script uses slots) part slots (numbered n b)))
+
+-- the statements behind the first n, with the bindings so far
+unfoldable pub statements : Script → List Use → Tree (Many AStmt) → ℕ → List Slot → Machine → Result Machine Ending
+statements script uses none n slots m = settled false m
+statements script uses (more (Stmt part semicolon) rest) n slots m = and_then (turned script uses part (n + 1) slots m) (λ x. statements script uses rest (n + 1) x.0 x.1)
+
+abbrev pub is_output : SinkPlan → Bool
+is_output (Output name node fallible) = true
+is_output (Feed buffer node) = false
+
+-- a script without an output has no plan
+abbrev pub plan_of : Machine → Result Plan Ending
+plan_of m =
+    elim (list_any is_output m.plan.sinks) [
+      | true ↦ Ok m.plan
+      | false ↦ Err (Some told.NoOutput)
+    ]
+
+-- the plan of a script, or its first fault
+abbrev pub evaluation : Script → List Use → Result Plan Ending
+evaluation script uses = and_then (statements script uses script 0 [] first_machine) plan_of
+
+-- want of memory is free, and any other fault is the defined one
+abbrev pub Ends : {Y : Type 0} → EvalFault → Result Y Ending → Type 0
+Ends told.Memory meant = ⊤
+Ends (told.BadSetting n) meant = meant ≡ Err (Some (told.BadSetting n))
+Ends (told.BadValue n at) meant = meant ≡ Err (Some (told.BadValue n at))
+Ends (told.TooMuchWork n) meant = meant ≡ Err (Some (told.TooMuchWork n))
+Ends told.TooManySources meant = meant ≡ Err (Some told.TooManySources)
+Ends told.NoOutput meant = meant ≡ Err (Some told.NoOutput)
+Ends (told.SameOutput name) meant = meant ≡ Err (Some (told.SameOutput name))
+Ends (told.TooLarge limit) meant = meant ≡ Err (Some (told.TooLarge limit))
+
+abbrev pub Answers : {X Y : Type 0} → (X → Y) → Result X EvalFault → Result Y Ending → Type 0
+Answers view (Ok x) meant = meant ≡ Ok (view x)
+Answers view (Err e) meant = Ends e meant

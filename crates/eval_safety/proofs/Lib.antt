@@ -1,0 +1,5 @@
+pub mod Growth
+pub mod Operators
+pub mod Expressions
+pub mod Defs
+pub mod Scripts

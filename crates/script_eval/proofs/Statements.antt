@@ -1,0 +1,71 @@
+-- The statements of a script, one at a time.
+use Rattle.std.proofs.Common.{◌≡◌, ℕ, ◌+◌, ◌<◌, ◌≤◌, List, length, drop, get_or, Result, Ok, false, sym, ap, subst, ◌∙◌}
+use Rattle.std.proofs.lemmas.List.{at_drop_more, at_drop_all}
+use Rattle.std.specs.Prelude.{map, unwrap_or}
+use Rattle.script_grammar.specs.Tree.{more, Script}
+use Rattle.script_grammar.specs.View.{listed, view_stmt, view_part}
+use Rattle.script_grammar.specs.declared.tree.Stmt.{Stmt}
+use Rattle.typing_rules.specs.declared.uses.Use.{Use}
+use Rattle.script_values.specs.declared.fault.Fault.{Fault}
+use Rattle.script_values.specs.declared.fault.Fault.TheVariants as faults
+use Rattle.script_values.specs.declared.fault.EvalFault.{EvalFault}
+use Rattle.script_values.specs.declared.fault.EvalFault.TheVariants as told
+use Rattle.script_values.specs.declared.machine.Machine.{Machine}
+use Rattle.script_values.specs.Faults.{fault_in}
+use Rattle.script_values.specs.Gives.{Fails}
+use Rattle.script_values.specs.Slots.{Slot}
+use Rattle.eval_meaning.specs.Scripts.{Ending, Ends, and_then, in_statement, settled, statements, turned}
+
+-- a fault of a statement is told with its number
+pub ends_in : {A : Type 0} (n : ℕ) (e : Fault) (r : Result A Fault) → Fails e r → Ends (unwrap_or (fault_in n e) told.Memory) (in_statement n r)
+ends_in n faults.Memory r is = tt
+ends_in n faults.BadSetting r is = ap (λ (x : Result _ Fault). in_statement n x) is
+ends_in n (faults.BadValue at) r is = ap (λ (x : Result _ Fault). in_statement n x) is
+ends_in n faults.TooMuchWork r is = ap (λ (x : Result _ Fault). in_statement n x) is
+ends_in n faults.TooManySources r is = ap (λ (x : Result _ Fault). in_statement n x) is
+ends_in n (faults.SameOutput name) r is = ap (λ (x : Result _ Fault). in_statement n x) is
+ends_in n (faults.TooLarge limit) r is = ap (λ (x : Result _ Fault). in_statement n x) is
+ends_in n faults.Stuck r is = tt
+
+-- a fault ends the script
+pub ends_then : {A B : Type 0} (e : EvalFault) (r : Result A Ending) (f : A → Result B Ending) → Ends e r → Ends e (and_then r f)
+ends_then told.Memory r f is = tt
+ends_then (told.BadSetting n) r f is = ap (λ (x : Result _ Ending). and_then x f) is
+ends_then (told.BadValue n at) r f is = ap (λ (x : Result _ Ending). and_then x f) is
+ends_then (told.TooMuchWork n) r f is = ap (λ (x : Result _ Ending). and_then x f) is
+ends_then told.TooManySources r f is = ap (λ (x : Result _ Ending). and_then x f) is
+ends_then told.NoOutput r f is = ap (λ (x : Result _ Ending). and_then x f) is
+ends_then (told.SameOutput name) r f is = ap (λ (x : Result _ Ending). and_then x f) is
+ends_then (told.TooLarge limit) r f is = ap (λ (x : Result _ Ending). and_then x f) is
+
+pub ends_same : {A : Type 0} (e : EvalFault) (r q : Result A Ending) → r ≡ q → Ends e r → Ends e q
+ends_same e r q same is = subst (λ (x : Result _ Ending). Ends e x) same is
+
+front : (script : Script) (uses : List Use) (stmts : List Stmt) (i : ℕ) (s : Stmt) (n k : ℕ) (slots : List Slot) (m : Machine) → i < length stmts → s ≡ get_or stmts i s → k ≡ n + 1
+    → statements script uses (listed (map view_stmt (drop i stmts))) n slots m
+    ≡ and_then (turned script uses (view_part s.part) k slots m) (λ x. statements script uses (listed (map view_stmt (drop (i + 1) stmts))) k x.0 x.1)
+unfolding statements
+front script uses stmts i s n k slots m lt is next =
+    at_drop_more (λ (l : List Stmt). statements script uses (listed (map view_stmt l)) n slots m) stmts i s lt
+    ∙ ap (λ (t : Stmt). statements script uses (more (view_stmt t) (listed (map view_stmt (drop (i + 1) stmts)))) n slots m) (sym is)
+    ∙ ap (λ (j : ℕ). and_then (turned script uses (view_part s.part) j slots m) (λ x. statements script uses (listed (map view_stmt (drop (i + 1) stmts))) j x.0 x.1)) (sym next)
+
+pub stmt_turn : (script : Script) (uses : List Use) (stmts : List Stmt) (i : ℕ) (s : Stmt) (n k : ℕ) (slots slots' : List Slot) (m m' : Machine) (whole : Result Machine Ending)
+    → statements script uses (listed (map view_stmt (drop i stmts))) n slots m ≡ whole → i < length stmts → s ≡ get_or stmts i s → k ≡ n + 1
+    → turned script uses (view_part s.part) k slots m ≡ Ok (slots', m')
+    → statements script uses (listed (map view_stmt (drop (i + 1) stmts))) k slots' m' ≡ whole
+stmt_turn script uses stmts i s n k slots slots' m m' whole so lt is next went =
+    sym (front script uses stmts i s n k slots m lt is next ∙ ap (λ (r : Result (List Slot × Machine) Ending). and_then r (λ x. statements script uses (listed (map view_stmt (drop (i + 1) stmts))) k x.0 x.1)) went) ∙ so
+
+pub stmt_stop : (script : Script) (uses : List Use) (stmts : List Stmt) (i : ℕ) (s : Stmt) (n k : ℕ) (slots : List Slot) (m : Machine) (whole : Result Machine Ending) (e : EvalFault)
+    → statements script uses (listed (map view_stmt (drop i stmts))) n slots m ≡ whole → i < length stmts → s ≡ get_or stmts i s → k ≡ n + 1
+    → Ends e (turned script uses (view_part s.part) k slots m)
+    → Ends e whole
+stmt_stop script uses stmts i s n k slots m whole e so lt is next fault =
+    ends_same e _ whole (sym (front script uses stmts i s n k slots m lt is next) ∙ so)
+    (ends_then e (turned script uses (view_part s.part) k slots m) (λ x. statements script uses (listed (map view_stmt (drop (i + 1) stmts))) k x.0 x.1) fault)
+
+pub stmt_end : (script : Script) (uses : List Use) (stmts : List Stmt) (i n : ℕ) (slots : List Slot) (m : Machine) (whole : Result Machine Ending)
+    → statements script uses (listed (map view_stmt (drop i stmts))) n slots m ≡ whole → length stmts ≤ i → whole ≡ settled false m
+unfolding statements
+stmt_end script uses stmts i n slots m whole so over = sym so ∙ at_drop_all (λ (l : List Stmt). statements script uses (listed (map view_stmt l)) n slots m) stmts i over

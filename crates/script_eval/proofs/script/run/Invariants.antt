@@ -1,0 +1,9 @@
+use Rattle.std.proofs.Common.{◌≡◌, drop, []}
+use Rattle.std.specs.Prelude.{map}
+use Rattle.script_grammar.specs.View.{listed, view_script, view_stmt}
+use Rattle.eval_meaning.specs.Scripts.{statements}
+use Rattle.script_values.specs.Views.{view_slot}
+use Rattle.script_eval.proofs.script.run.Given as goal
+
+abbrev pub invariant-turns : goal.invariant-turns
+invariant-turns l = statements (view_script l.script) l.uses (listed (map view_stmt (drop l.stmt-index l.stmts))) l.number (map view_slot l.globals.items) l.machine ≡ statements (view_script l.script) l.uses (listed (map view_stmt l.stmts)) 0 [] l.fn.machine

@@ -1,0 +1,265 @@
+// The plan of a script: its statements in order, and the end of its settings.
+ghost use Rattle.std.specs.Prelude.{◌≡◌, ℕ, Option, Some, None, [], IfOk, map, unwrap_or};
+ghost use Rattle.std.specs.List.{list_any};
+ghost use Rattle.eval_meaning.specs.Meaning.{call, choice, full};
+ghost use Rattle.eval_meaning.specs.Scripts.{Answers, ended, evaluation, is_output, settled, statement, statements, tick_of, top_scope, turned};
+ghost use Rattle.plan_core.specs.Plans.{IsWellFormed};
+ghost use Rattle.script_grammar.specs.View.{listed, view_call, view_full, view_if, view_part, view_script, view_stmt};
+ghost use Rattle.script_values.specs.declared.fault.EvalFault.TheVariants as told;
+ghost use Rattle.script_values.specs.Faults.{fault_in};
+ghost use Rattle.script_values.specs.Gives.{Gives};
+ghost use Rattle.script_values.specs.View.{view_value};
+ghost use Rattle.script_values.specs.Views.{view_slot};
+
+use crate::descent::{call, choice, full};
+use crate::held::is_setting;
+use crate::scope::Scope;
+use fixed_text::Decimal;
+use liq_base::limits::{MAX_CALLS, MAX_FRAME};
+use plan_core::{Plan, SinkPlan};
+use script_grammar::tree::{Call, Full, If, Script, Stmt, StmtPart};
+use script_values::{EvalFault, Fault, Machine, Slot, Value, fault_in};
+use std::alloc::Global;
+use typing_rules::Use;
+
+// How deep evaluation may nest: 200 levels of each of 17 bodies, and more.
+const LEVELS: usize = 4096;
+
+/// The plan of a script whose names stand for what `uses` says, or its first fault. Want of memory may come at any
+/// place; it is also the answer where a script nests deeper than any that parsing answers, and where a value has a wrong
+/// type, which no typed script comes to.
+#[tactic(auto, using(crate::proofs::Answered::made_well))]
+pub fn eval(alloc: Global, script: &Script, uses: &[Use]) -> Result<Plan, EvalFault>
+    ensures exact { Answers (λ p. p) result (evaluation (view_script script.now) uses.now) }
+    ensures well_formed { IfOk result (λ p. IsWellFormed p) }
+{
+    answered(alloc, script, uses)
+}
+
+fn answered(alloc: Global, script: &Script, uses: &[Use]) -> Result<Plan, EvalFault>
+    ensures { Answers (λ p. p) result (evaluation (view_script script.now) uses.now) }
+{
+    let mut machine = Machine::new(alloc);
+    run(alloc, script, uses, &script.statements, &mut machine)?;
+    if has_output(machine.plan.plan().sinks.as_slice()) {
+        Ok(machine.plan.into_plan())
+    } else {
+        Err(EvalFault::NoOutput)
+    }
+}
+
+fn has_output(sinks: &[SinkPlan]) -> bool
+    ensures { result ≡ list_any is_output sinks.now }
+{
+    sinks.iter().any(|sink| is_output(sink))
+}
+
+fn is_output(sink: &SinkPlan) -> bool
+    ensures { result ≡ is_output sink.now }
+{
+    match sink {
+        SinkPlan::Output { .. } => true,
+        SinkPlan::Feed { .. } => false,
+    }
+}
+
+fn run(
+    alloc: Global,
+    script: &Script,
+    uses: &[Use],
+    stmts: &[Stmt],
+    machine: &mut Machine,
+) -> Result<(), EvalFault>
+    ensures { Answers (λ _. machine.new) result (statements (view_script script.now) uses.now (listed (map view_stmt stmts.now)) 0 [] machine.old) }
+{
+    let mut globals = Vec::new(alloc);
+    let mut number: u32 = 0;
+    'turns: for stmt in stmts {
+        if number == u32::MAX {
+            return Err(EvalFault::Memory);
+        }
+        number += 1;
+        turn(
+            alloc,
+            script,
+            uses,
+            &stmt.part,
+            number,
+            &mut globals,
+            machine,
+        )?;
+    }
+    settle(machine, false)
+}
+
+// A statement, with the end of the settings before it.
+#[tactic(auto, unfolding(eval_meaning::specs::Scripts::turned))]
+fn turn(
+    alloc: Global,
+    script: &Script,
+    uses: &[Use],
+    part: &StmtPart,
+    number: u32,
+    globals: &mut Vec<Slot>,
+    machine: &mut Machine,
+) -> Result<(), EvalFault>
+    ensures { Answers (λ _. (map view_slot globals.new.items, machine.new)) result (turned (view_script script.now) uses.now (view_part part.now) number (map view_slot globals.old.items) machine.old) }
+{
+    settle(machine, is_setting(uses, part))?;
+    machine.settings.statement = number;
+    match statement(alloc, script, uses, part, globals, machine) {
+        Ok(()) => Ok(()),
+        Err(fault) => Err(told(number, fault)),
+    }
+}
+
+// A value of a wrong type, which no typed script comes to, is told as want of memory.
+fn told(stmt: u32, fault: Fault) -> EvalFault
+    ensures { result ≡ unwrap_or (fault_in stmt fault) told.Memory }
+{
+    match fault_in(stmt, fault) {
+        Some(found) => found,
+        None => EvalFault::Memory,
+    }
+}
+
+// The settings end before the first statement that is none.
+fn settle(machine: &mut Machine, setting: bool) -> Result<(), EvalFault>
+    ensures { Answers (λ _. machine.new) result (settled setting machine.old) }
+{
+    if setting {
+        return Ok(());
+    }
+    if machine.settings.allowed {
+        end_settings(machine)
+    } else {
+        Ok(())
+    }
+}
+
+#[tactic(auto, unfolding(eval_meaning::specs::Scripts::ended))]
+fn end_settings(machine: &mut Machine) -> Result<(), EvalFault>
+    ensures { Answers (λ _. machine.new) result (ended machine.old) }
+{
+    let rate = machine.plan.plan().rate;
+    match tick(machine.settings.duration, rate) {
+        Some(frame) => {
+            machine.plan.set_frame(frame);
+            machine.settings.allowed = false;
+            Ok(())
+        }
+        None => Err(EvalFault::BadSetting {
+            stmt: machine.settings.last,
+        }),
+    }
+}
+
+// The length of a tick in samples, if a tick may have it.
+fn tick(duration: Decimal, rate: u32) -> Option<u32>
+    ensures { result ≡ tick_of duration.millionths rate }
+{
+    match duration.samples(rate) {
+        None => None,
+        Some(samples) => {
+            if samples < 1 {
+                return None;
+            }
+            if samples > u64::from(MAX_FRAME) {
+                return None;
+            }
+            Some(samples as u32)
+        }
+    }
+}
+
+#[tactic(auto, unfolding(eval_meaning::specs::Scripts::statement))]
+fn statement(
+    alloc: Global,
+    script: &Script,
+    uses: &[Use],
+    part: &StmtPart,
+    globals: &mut Vec<Slot>,
+    machine: &mut Machine,
+) -> Result<(), Fault>
+    ensures { Gives (λ _. (map view_slot globals.new.items, machine.new)) result (statement (top_scope (view_script script.now) uses.now (map view_slot globals.old.items)) (view_part part.now) (map view_slot globals.old.items) machine.old) }
+{
+    match part {
+        StmtPart::Bind(bind) => {
+            let value = top_full(alloc, script, uses, globals, machine, &bind.value)?;
+            globals.push(Slot { at: bind.at, value })?;
+            Ok(())
+        }
+        StmtPart::Def(_) => Ok(()),
+        StmtPart::Call(inside) => {
+            let _value = top_call(alloc, script, uses, globals, machine, inside)?;
+            Ok(())
+        }
+        StmtPart::If(inside) => {
+            let _value = top_choice(alloc, script, uses, globals, machine, inside)?;
+            Ok(())
+        }
+    }
+}
+
+fn top_full(
+    alloc: Global,
+    script: &Script,
+    uses: &[Use],
+    globals: &[Slot],
+    machine: &mut Machine,
+    node: &Full,
+) -> Result<Value, Fault>
+    ensures { Gives (λ v. (view_value v, machine.new)) result (full (top_scope (view_script script.now) uses.now (map view_slot globals.now)) (view_full node.now) machine.old) }
+{
+    let scope = Scope {
+        script,
+        uses,
+        globals,
+        locals: &[],
+        kinds: &[],
+        calls: MAX_CALLS as usize,
+    };
+    full(alloc, &scope, LEVELS, machine, node)
+}
+
+fn top_call(
+    alloc: Global,
+    script: &Script,
+    uses: &[Use],
+    globals: &[Slot],
+    machine: &mut Machine,
+    node: &Call,
+) -> Result<Value, Fault>
+    ensures { Gives (λ v. (view_value v, machine.new)) result (call (top_scope (view_script script.now) uses.now (map view_slot globals.now)) (view_call node.now) machine.old) }
+{
+    let scope = Scope {
+        script,
+        uses,
+        globals,
+        locals: &[],
+        kinds: &[],
+        calls: MAX_CALLS as usize,
+    };
+    call(alloc, &scope, LEVELS, machine, node)
+}
+
+fn top_choice(
+    alloc: Global,
+    script: &Script,
+    uses: &[Use],
+    globals: &[Slot],
+    machine: &mut Machine,
+    node: &If,
+) -> Result<Value, Fault>
+    ensures { Gives (λ v. (view_value v, machine.new)) result (choice (top_scope (view_script script.now) uses.now (map view_slot globals.now)) (view_if node.now) machine.old) }
+{
+    let scope = Scope {
+        script,
+        uses,
+        globals,
+        locals: &[],
+        kinds: &[],
+        calls: MAX_CALLS as usize,
+    };
+    choice(alloc, &scope, LEVELS, machine, node)
+}
