@@ -6,3 +6,9 @@ pub mod Members
 pub mod Names
 pub mod Builtins
 pub mod Openers
+pub mod Places
+pub mod Generality
+pub mod Opening
+pub mod Steps
+pub mod Counting
+pub mod Laws

@@ -4,3 +4,6 @@ pub mod Instances
 pub mod NewVariables
 pub mod Holding
 pub mod Renewing
+pub mod Generals
+pub mod Numbering
+pub mod Texts

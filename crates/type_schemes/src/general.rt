@@ -1,5 +1,5 @@
 // General types.
-use type_terms::Ty;
+use type_terms::{KindTerm, Ty};
 
 /// What a type variable of a general type may stand for: anything, int or decimal, or what a variable of the substitution stands for.
 #[derive(Clone, Copy, Debug, PartialEq, Eq)]
@@ -14,6 +14,13 @@ pub enum TypeParameter {
 pub enum KindParameter {
     Open,
     Outer(u64),
+}
+
+/// A kind in the text of a def: one from outside, or an open kind of the def, by its place among them.
+#[derive(Clone, Copy, Debug, PartialEq, Eq)]
+pub enum TextKind {
+    Outer(KindTerm),
+    Open(u64),
 }
 
 /// The type of what a call may call: the types of all parameters, in order, and of the result.

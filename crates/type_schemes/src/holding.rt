@@ -104,6 +104,20 @@ impl Held {
         }
     }
 
+    /// Whether it has this type variable.
+    pub fn holds_type(&self, number: u64) -> bool
+        ensures { result ≡ is_held self.now.types number }
+    {
+        self.types.contains(&number)
+    }
+
+    /// Whether it has this kind variable.
+    pub fn holds_kind(&self, number: u64) -> bool
+        ensures { result ≡ is_held self.now.kinds number }
+    {
+        self.kinds.contains(&number)
+    }
+
     /// Adds what a further name's type holds. It takes time that grows with the type alone, as it is with all that is bound put in.
     ///
     /// Where memory runs out, some of it may have been added.

@@ -3,10 +3,13 @@
 
 mod builtin_types;
 mod general;
+mod generalising;
 mod holding;
 mod instances;
+mod numbering;
 
 pub use builtin_types::builtin_general;
-pub use general::{General, KindParameter, TypeParameter};
+pub use general::{General, KindParameter, TextKind, TypeParameter};
+pub use generalising::{DefType, generalise};
 pub use holding::Held;
 pub use instances::{Instance, instantiate};

@@ -1,0 +1,202 @@
+// Types whose variables are numbered anew, in the order of first mention.
+ghost use Rattle.std.specs.Prelude.{◌≡◌, ℕ, List, Some, length, map, slice_get, IfOk, OnOk};
+ghost use Rattle.type_terms.specs.Table.{IsOver};
+ghost use Rattle.type_terms.specs.Term.{source_term, term_of};
+ghost use Rattle.type_schemes.specs.Texts.{OpenMore, OpensDef, OpensOne};
+ghost use Rattle.type_schemes.specs.Numbering.{AreNumbered, AreSettled, IsFront, IsNumbered};
+ghost use Rattle.type_schemes.specs.Schemes.{AreAmong};
+
+use indexmap::IndexSet;
+use liq_base::Memory;
+use std::alloc::Global;
+use type_terms::{KindTerm, Subst, Ty, resolved};
+
+/// How many levels a type may have whose variables are numbered anew.
+const MOST_LEVELS: u32 = 1000;
+
+/// The place of a number, which is added if it is not there.
+fn place(numbers: &mut IndexSet<u64>, number: u64) -> Result<u64, Memory>
+    ensures there { IfOk result (λ i. slice_get numbers.new.keys i ≡ Some number) }
+    ensures front { OnOk result (IsFront numbers.old.keys numbers.new.keys) }
+{
+    let (place, _) = numbers.insert_full(number)?;
+    Ok(place as u64)
+}
+
+/// The kind with the place of its variable for its number.
+fn kind_place(kinds: &mut IndexSet<u64>, kind: KindTerm) -> Result<KindTerm, Memory>
+    ensures { IfOk result (λ k. (ts : List ℕ) → IsNumbered ts kinds.old.keys ts kinds.new.keys (source_term kind) (source_term k)) }
+{
+    match kind {
+        KindTerm::Fixed(fixed) => Ok(KindTerm::Fixed(fixed)),
+        KindTerm::Var(number) => {
+            let place = place(kinds, number)?;
+            Ok(KindTerm::Var(place))
+        }
+    }
+}
+
+/// The type with the places of its variables for their numbers, if it has at most so many levels.
+#[cycle(numbering)]
+fn numbered(
+    alloc: Global,
+    types: &mut IndexSet<u64>,
+    kinds: &mut IndexSet<u64>,
+    ty: &Ty,
+    levels: u32,
+) -> Result<Ty, Memory>
+    ensures { IfOk result (λ u. IsNumbered types.old.keys kinds.old.keys types.new.keys kinds.new.keys (term_of ty.now) (term_of u)) }
+{
+    let below = levels.checked_sub(1).ok_or(Memory)?;
+    match ty {
+        Ty::Int => Ok(Ty::Int),
+        Ty::Decimal => Ok(Ty::Decimal),
+        Ty::Text => Ok(Ty::Text),
+        Ty::Bool => Ok(Ty::Bool),
+        Ty::Unit => Ok(Ty::Unit),
+        Ty::Format => Ok(Ty::Format),
+        Ty::Pred => Ok(Ty::Pred),
+        Ty::Source(kind) => {
+            let kind = kind_place(kinds, *kind)?;
+            Ok(Ty::Source(kind))
+        }
+        Ty::Var(number) => {
+            let place = place(types, *number)?;
+            Ok(Ty::Var(place))
+        }
+        Ty::List(item) => {
+            let item = numbered(alloc, types, kinds, item, below)?;
+            let item = Box::new(alloc, item)?;
+            Ok(Ty::List(item))
+        }
+        Ty::Tuple(parts) => {
+            let parts = all_numbered(alloc, types, kinds, parts, below)?;
+            Ok(Ty::Tuple(parts))
+        }
+    }
+}
+
+/// The types with the places of their variables for their numbers.
+#[cycle(numbering)]
+fn all_numbered(
+    alloc: Global,
+    types: &mut IndexSet<u64>,
+    kinds: &mut IndexSet<u64>,
+    tys: &[Ty],
+    levels: u32,
+) -> Result<Vec<Ty>, Memory>
+    ensures { IfOk result (λ us. AreNumbered types.old.keys kinds.old.keys types.new.keys kinds.new.keys (map term_of tys.now) (map term_of us.items)) }
+{
+    let mut places = Vec::new(alloc);
+    for ty in tys {
+        let next = numbered(alloc, types, kinds, ty, levels)?;
+        places.push(next)?;
+    }
+    Ok(places)
+}
+
+/// The types with all that is bound put in.
+fn all_resolved(alloc: Global, subst: &Subst, tys: &[Ty]) -> Result<Vec<Ty>, Memory>
+    requires over { AreAmong (length subst.now.types) (length subst.now.kinds) (map term_of tys.now) }
+    ensures { IfOk result (λ us. AreSettled subst.now (map term_of tys.now) (map term_of us.items)) }
+{
+    let mut settled = Vec::new(alloc);
+    for ty in tys {
+        let next = resolved(alloc, subst, ty)?;
+        settled.push(next)?;
+    }
+    Ok(settled)
+}
+
+/// Sources of these kinds.
+fn sources(alloc: Global, kinds: &[KindTerm]) -> Result<Vec<Ty>, Memory>
+    ensures { IfOk result (λ us. map term_of us.items ≡ map source_term kinds.now) }
+{
+    let mut types = Vec::new(alloc);
+    for kind in kinds {
+        types.push(Ty::Source(*kind))?;
+    }
+    Ok(types)
+}
+
+/// The types with all that is bound put in, and the places of their variables for their numbers.
+fn opened(
+    alloc: Global,
+    subst: &Subst,
+    types: &mut IndexSet<u64>,
+    kinds: &mut IndexSet<u64>,
+    tys: &[Ty],
+) -> Result<Vec<Ty>, Memory>
+    requires over { AreAmong (length subst.now.types) (length subst.now.kinds) (map term_of tys.now) }
+    ensures { IfOk result (λ us. OpenMore subst.now types.old.keys kinds.old.keys types.new.keys kinds.new.keys (map term_of tys.now) (map term_of us.items)) }
+{
+    let settled = all_resolved(alloc, subst, tys)?;
+    all_numbered(alloc, types, kinds, &settled, MOST_LEVELS)
+}
+
+/// The same of one type.
+fn opened_one(
+    alloc: Global,
+    subst: &Subst,
+    types: &mut IndexSet<u64>,
+    kinds: &mut IndexSet<u64>,
+    ty: &Ty,
+) -> Result<Ty, Memory>
+    requires over { IsOver subst.now (term_of ty.now) }
+    ensures { IfOk result (λ u. OpensOne subst.now types.old.keys kinds.old.keys types.new.keys kinds.new.keys (term_of ty.now) (term_of u)) }
+{
+    let settled = resolved(alloc, subst, ty)?;
+    numbered(alloc, types, kinds, &settled, MOST_LEVELS)
+}
+
+/// The same of sources of these kinds.
+fn opened_sources(
+    alloc: Global,
+    subst: &Subst,
+    types: &mut IndexSet<u64>,
+    kinds: &mut IndexSet<u64>,
+    given: &[KindTerm],
+) -> Result<Vec<Ty>, Memory>
+    requires over { AreAmong (length subst.now.types) (length subst.now.kinds) (map source_term given.now) }
+    ensures { IfOk result (λ us. OpenMore subst.now types.old.keys kinds.old.keys types.new.keys kinds.new.keys (map source_term given.now) (map term_of us.items)) }
+{
+    let given = sources(alloc, given)?;
+    opened(alloc, subst, types, kinds, &given)
+}
+
+/// The types of a def over variables of their own, and the numbers of these in the substitution.
+#[derive(Drop)]
+pub struct OpenedDef {
+    pub params: Vec<Ty>,
+    pub answer: Ty,
+    pub sources: Vec<Ty>,
+    pub types: IndexSet<u64>,
+    pub kinds: IndexSet<u64>,
+}
+
+/// The types of a def over variables of their own, in the order of first mention: the kinds of its text first.
+pub fn number_def(
+    alloc: Global,
+    subst: &Subst,
+    params: &[Ty],
+    answer: &Ty,
+    kinds: &[KindTerm],
+) -> Result<OpenedDef, Memory>
+    requires params { AreAmong (length subst.now.types) (length subst.now.kinds) (map term_of params.now) }
+    requires answer { IsOver subst.now (term_of answer.now) }
+    requires kinds { AreAmong (length subst.now.types) (length subst.now.kinds) (map source_term kinds.now) }
+    ensures { IfOk result (λ n. OpensDef subst.now (map term_of params.now) (term_of answer.now) kinds.now n.types.keys n.kinds.keys (map term_of n.params.items) (term_of n.answer) (map term_of n.sources.items)) }
+{
+    let mut types = IndexSet::new(alloc);
+    let mut places = IndexSet::new(alloc);
+    let sources = opened_sources(alloc, subst, &mut types, &mut places, kinds)?;
+    let params = opened(alloc, subst, &mut types, &mut places, params)?;
+    let answer = opened_one(alloc, subst, &mut types, &mut places, answer)?;
+    Ok(OpenedDef {
+        params,
+        answer,
+        sources,
+        types,
+        kinds: places,
+    })
+}
