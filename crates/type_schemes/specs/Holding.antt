@@ -1,0 +1,40 @@
+-- The variables that the types of names hold.
+use Rattle.std.specs.Prelude.{◌≡◌, ℕ, ◌<◌, Bool, true, List, map, length, nat_eq}
+use Rattle.std.specs.List.{list_any}
+use Rattle.std.specs.Coded.{Coded, code_by, coded×, coded_list, coded_ℕ}
+use Rattle.std.specs.Prelude.{refl}
+use Rattle.type_terms.specs.Ground.{Assignment}
+use Rattle.type_terms.specs.Resolved.{IsFreeType, IsFreeKind}
+use Rattle.type_terms.specs.Table.{Table, Solves}
+use Rattle.type_terms.specs.Term.{Term, meaning}
+
+pub record HeldVariables : Type 0 where
+  pub types : List ℕ
+  pub kinds : List ℕ
+
+abbrev pub is_held : List ℕ → ℕ → Bool
+is_held ks k = list_any (nat_eq k) ks
+
+-- both say the same of the held variables
+pub record AgreeOn (h : HeldVariables) (a b : Assignment) : Type 0 where
+  pub types : (k : ℕ) → is_held h.types k ≡ true → a.type_of k ≡ b.type_of k
+  pub kinds : (k : ℕ) → is_held h.kinds k ≡ true → a.kind_of k ≡ b.kind_of k
+
+-- the names have the same types under both
+abbrev pub SameTypes : List Term → Assignment → Assignment → Type 0
+SameTypes names a b = map (meaning a) names ≡ map (meaning b) names
+
+-- the held variables are there
+pub record AreThere (s : Table) (h : HeldVariables) : Type 0 where
+  pub types : (k : ℕ) → is_held h.types k ≡ true → k < length s.types
+  pub kinds : (k : ℕ) → is_held h.kinds k ≡ true → k < length s.kinds
+
+-- The names hold exactly these variables, which are bound to nothing: two solutions give the names the same types just where they say the same of the variables.
+pub record IsHeldBy (s : Table) (names : List Term) (h : HeldVariables) : Type 0 where
+  pub free_types : (k : ℕ) → is_held h.types k ≡ true → IsFreeType s k
+  pub free_kinds : (k : ℕ) → is_held h.kinds k ≡ true → IsFreeKind s k
+  pub fixed : (a b : Assignment) → Solves a s → Solves b s → SameTypes names a b → AgreeOn h a b
+  pub enough : (a b : Assignment) → Solves a s → Solves b s → AgreeOn h a b → SameTypes names a b
+
+abbrev pub held_code : Coded HeldVariables
+held_code = code_by (List ℕ × List ℕ) (coded× (coded_list coded_ℕ) (coded_list coded_ℕ)) (λ h. (h.types, h.kinds)) (λ p. record { types = p.0; kinds = p.1 }) (λ _. refl)

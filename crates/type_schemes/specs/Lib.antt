@@ -1,0 +1,6 @@
+pub mod Rows
+pub mod Schemes
+pub mod Instances
+pub mod NewVariables
+pub mod Holding
+pub mod Renewing
