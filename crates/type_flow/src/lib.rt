@@ -1,4 +1,4 @@
-//! The type of one expression, inferred under an environment.
+//! What inference says of one expression, and the steps that it takes.
 #![tactic(auto)]
 
 mod arguments;

@@ -1,0 +1,10 @@
+//! What the inference of an expression's type sees and finds: names, uses, and the beginning of a call.
+#![tactic(auto)]
+
+mod calls;
+mod environment;
+mod leaves;
+
+pub use calls::{Callee, begin_call};
+pub use environment::{FoundUse, Known, KnownDef, Names, TextKind, TextUse, TypedName};
+pub use leaves::{literal_type, push_use, some_if, type_name};
