@@ -168,6 +168,7 @@ impl<'a, O: Sink + Drop> ClockEngine<'a, O> {
         ensures works { AreWorks self.new.works }
         ensures sinks { length self.new.outs.items ≡ length self.new.works.ports.items }
         ensures setting { setting_of self.new.works ≡ setting_of self.old.works }
+        ensures clock { self.new.works.clock ≡ self.old.works.clock }
         ensures ticked { OnOk result (HasMade O.held T.stands self.old.works self.new.works self.old.outs.items self.new.outs.items _taps.old _taps.new) }
         ensures stopped { OnErr result (HasFailed O.held T.stands self.old.works self.new.works self.old.outs.items self.new.outs.items _taps.old _taps.new) }
         ensures taps { T.same _taps.old _taps.new }
