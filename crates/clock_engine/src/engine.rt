@@ -168,8 +168,11 @@ impl<'a, O: Sink + Drop> ClockEngine<'a, O> {
         ensures works { AreWorks self.new.works }
         ensures sinks { length self.new.outs.items ≡ length self.new.works.ports.items }
         ensures setting { setting_of self.new.works ≡ setting_of self.old.works }
+        ensures clock { self.new.works.clock ≡ self.old.works.clock }
         ensures ticked { OnOk result (HasMade O.held T.stands self.old.works self.new.works self.old.outs.items self.new.outs.items _taps.old _taps.new) }
         ensures stopped { OnErr result (HasFailed O.held T.stands self.old.works self.new.works self.old.outs.items self.new.outs.items _taps.old _taps.new) }
+        ensures taps { T.same _taps.old _taps.new }
+        ensures buffers { T.buffers _taps.new ≡ T.buffers _taps.old }
         ensures kept { AreKept O.name O.faults self.old.outs.items self.new.outs.items }
         ensures rooms { OnOk result (RoomsFell O.room self.old.works self.old.outs.items self.new.outs.items) }
         ensures cause { IfErr result (λ fault. IsWriteFault O.faults self.old.works self.old.outs.items self.new.outs.items fault) }

@@ -1,5 +1,5 @@
 -- The sinks of a clock take their pieces, one by one.
-use Rattle.std.proofs.Common.{◌≡◌, ◌<◌, ◌≤◌, ◌+◌, ◌∙◌, ◌++◌, ℕ, Some, None, Option, List, [], length, set, slice_get, arith, refl, ap, sym, subst, inl, inr}
+use Rattle.std.proofs.Common.{◌≡◌, ◌<◌, ◌≤◌, ◌+◌, ◌∙◌, ℕ, Some, None, Option, List, [], length, set, slice_get, arith, refl, ap, sym, subst, inl, inr}
 use Rattle.std.proofs.lemmas.List.{append-nil}
 use Rattle.liq_base.specs.Pieces.{Took, TookPart, grown, narrowed}
 use Rattle.clock_outputs.specs.declared.port.Port.{Port}

@@ -1,9 +1,8 @@
 -- What an output has heard of its node: the bytes of the tick so far, and the gaps since the beginning.
-use Rattle.std.specs.Prelude.{ℕ, suc, ◌+◌, ◌-◌, ◌*◌, ◌^◌, ◌≤◌, min, Some, None, List, [], ◌∷◌, ◌++◌, All, length}
+use Rattle.std.specs.Prelude.{ℕ, ◌+◌, ◌-◌, ◌*◌, ◌^◌, ◌≤◌, min, Some, None, List, [], ◌∷◌, ◌++◌, All, length}
 use Rattle.liq_base.specs.Kinds.{channels_of}
 use Rattle.frame_core.specs.Slots.{Slot}
 use Rattle.stream_meaning.specs.Sinks.{slot_block}
-use Rattle.clock_outputs.specs.Filled.{Filled}
 use Rattle.clock_outputs.specs.declared.port.Port.{Port}
 
 -- one gap more at a slot without a cell, as far as a u64 counts

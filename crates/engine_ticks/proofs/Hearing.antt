@@ -1,5 +1,5 @@
 -- What the outputs of a clock hear, one instant at a time.
-use Rattle.std.proofs.Common.{◌≡◌, ◌<◌, ◌≤◌, ◌+◌, ◌*◌, ◌∙◌, ◌++◌, ℕ, zero, suc, Some, None, Bool, List, [], ◌∷◌, All, length, get_or, map, add-one, arith, refl, ap, sym, subst}
+use Rattle.std.proofs.Common.{◌≡◌, ◌<◌, ◌+◌, ◌*◌, ◌∙◌, ◌++◌, ℕ, suc, Some, None, Bool, List, [], ◌∷◌, length, get_or, map, arith, refl, ap, sym, subst}
 use Rattle.std.specs.List.{range_with_len}
 use Rattle.std.proofs.lemmas.List.FromFn.{map-range_with_len_more}
 use Rattle.std.proofs.lemmas.List.{get_or-map, length-append, length-map}
@@ -12,7 +12,7 @@ use Rattle.clock_infer.specs.declared.clock_map.NodeClock.{NodeClock}
 use Rattle.frame_core.specs.Slots.{Slot}
 use Rattle.frame_core.specs.Library.{Sounds}
 use Rattle.stream_meaning.specs.declared.part.Part.{Part}
-use Rattle.stream_meaning.specs.Instants.{Setting, Moment, history, moment_after, part_at}
+use Rattle.stream_meaning.specs.Instants.{Setting, history, moment_after, part_at}
 use Rattle.stream_meaning.specs.Sinks.{slot_block}
 use Rattle.node_states.specs.States.{AreLong}
 use Rattle.clock_outputs.specs.declared.port.Port.{Port}
@@ -20,7 +20,7 @@ use Rattle.clock_outputs.specs.Ports.{AllHaveRoomLeft, HasRoomLeft, after_slot, 
 use Rattle.engine_instants.specs.States.{AreRoots, over}
 use Rattle.engine_ticks.specs.declared.lanes.Lanes.{Lanes}
 use Rattle.engine_ticks.specs.Lanes.{LanesStand}
-use Rattle.engine_ticks.specs.Runs.{HasRun, Heard, slot_in}
+use Rattle.engine_ticks.specs.Runs.{Heard, slot_in}
 
 pub after_slots-more : (port : Port) (slots : List Slot) (slot : Slot) → after_slots port (slots ++ slot ∷ []) ≡ after_slot (after_slots port slots) slot
 after_slots-more port [] slot = refl

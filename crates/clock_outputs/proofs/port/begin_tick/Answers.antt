@@ -1,4 +1,4 @@
-use Rattle.std.proofs.Common.{◌≡◌, ◌<◌, ◌∙◌, length, get_or, arith, ap, []}
+use Rattle.std.proofs.Common.{◌∙◌, arith, ap}
 use Rattle.clock_outputs.specs.Ports.{emptied}
 use Rattle.clock_outputs.proofs.Mapped.{mapped_more}
 use Rattle.clock_outputs.proofs.port.begin_tick.Goals as goal

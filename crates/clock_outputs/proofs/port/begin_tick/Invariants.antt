@@ -1,4 +1,4 @@
-use Rattle.std.proofs.Common.{◌≡◌, ◌++◌, length, map, take, drop}
+use Rattle.std.proofs.Common.{◌≡◌, ◌++◌, map, take, drop}
 use Rattle.clock_outputs.specs.Ports.{emptied}
 use Rattle.clock_outputs.proofs.port.begin_tick.Given as goal
 

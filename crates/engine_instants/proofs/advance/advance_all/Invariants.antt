@@ -1,5 +1,4 @@
-use Rattle.std.proofs.Common.{◌≡◌, ◌<◌, ◌≤◌, ℕ, List, ◌∷◌, Some, false, length, slice_get, get_or}
-use Rattle.plan_core.specs.declared.node.Node.{Node}
+use Rattle.std.proofs.Common.{◌≡◌, ◌≤◌, ℕ, List, false, length, slice_get, get_or}
 use Rattle.clock_infer.specs.declared.clock_map.NodeClock.TheVariants.{Main}
 use Rattle.frame_core.specs.Slots.{Slot}
 use Rattle.stream_meaning.specs.Instants.{Setting, Moment, parts_upto, same_clock}

@@ -1,7 +1,6 @@
-use Rattle.std.proofs.Common.{rules, ◌≡◌, ◌<◌, ◌≤◌, ◌-◌, ◌∙◌, ℕ, suc, Some, Bool, length, get_or, slice_get, take, arith, ap, sym, refl, subst}
+use Rattle.std.proofs.Common.{rules, ◌≡◌, ◌<◌, ◌≤◌, ◌-◌, ◌∙◌, suc, Some, Bool, length, get_or, slice_get, take, arith, ap, sym, refl, subst}
 use Rattle.std.proofs.lemmas.List.{get_or_default, length-take, length-take-le}
 use Rattle.std.proofs.lemmas.Option.{slice_get_read}
-use Rattle.plan_core.specs.declared.node.Node.{Node}
 use Rattle.stream_meaning.specs.Instants.{part_at, silent}
 use Rattle.engine_instants.specs.Demands.{uses_in}
 use Rattle.engine_instants.specs.States.{over}

@@ -1,4 +1,4 @@
-use Rattle.std.proofs.Common.{◌≡◌, ◌<◌, ◌&&◌, ◌∙◌, ℕ, false, length, get_or, arith, ap, sym, refl}
+use Rattle.std.proofs.Common.{◌&&◌, ◌∙◌, false, get_or, arith, ap, sym}
 use Rattle.stream_meaning.specs.Instants.{demands_from, is_root, lies_in, moment_after, uses_from}
 use Rattle.engine_instants.specs.States.{over}
 use Rattle.engine_instants.proofs.Roots.{demands_from-same, length-uses}

@@ -1,4 +1,4 @@
-use Rattle.std.proofs.Common.{◌≡◌, ◌<◌, ℕ, List, length, take}
+use Rattle.std.proofs.Common.{◌≡◌, ℕ, List, length, take}
 use Rattle.frame_core.specs.Slots.{Slot}
 use Rattle.stream_meaning.specs.Instants.{Setting, Moment, parts_upto, second_at}
 use Rattle.node_states.specs.States.{AreLong}

@@ -1,4 +1,4 @@
-use Rattle.std.proofs.Common.{◌≡◌, ◌∙◌, ℕ, suc, ◌∷◌, length, ap, sym, refl, subst}
+use Rattle.std.proofs.Common.{◌∙◌, ◌∷◌, sym, subst}
 use Rattle.stream_meaning.specs.Instants.{history, moment_after}
 use Rattle.engine_instants.specs.States.{ClockStands, over}
 use Rattle.engine_ticks.proofs.Plain.{all_settled, second_of, written_back}

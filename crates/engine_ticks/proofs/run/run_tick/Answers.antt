@@ -1,6 +1,6 @@
-use Rattle.std.proofs.Common.{◌≡◌, ◌<◌, ◌≤◌, ◌-◌, ◌+◌, ◌∙◌, ℕ, suc, length, map, ap, sym, arith, refl, subst}
+use Rattle.std.proofs.Common.{◌≡◌, ◌-◌, ◌+◌, ◌∙◌, suc, map, ap, sym, arith, subst}
 use Rattle.stream_meaning.specs.Instants.{part_at}
-use Rattle.clock_outputs.specs.Ports.{AllHaveRoomLeft, after_slot, emptied}
+use Rattle.clock_outputs.specs.Ports.{AllHaveRoomLeft, after_slot}
 use Rattle.engine_ticks.specs.Runs.{Heard}
 use Rattle.engine_ticks.proofs.Hearing.{heard_more, heard_none, room_any, room_left}
 use Rattle.engine_ticks.proofs.run.run_tick.Goals as goal
