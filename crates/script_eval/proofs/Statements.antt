@@ -1,5 +1,5 @@
 -- The statements of a script, one at a time.
-use Rattle.std.proofs.Common.{◌≡◌, ℕ, ◌+◌, ◌<◌, ◌≤◌, List, length, drop, get_or, Result, Ok, false, sym, ap, subst, ◌∙◌}
+use Rattle.std.proofs.Common.{◌≡◌, ℕ, ◌+◌, ◌<◌, ◌≤◌, List, length, drop, get_or, Result, Ok, Err, Some, None, ◌≢◌, refl, false, sym, ap, subst, ◌∙◌}
 use Rattle.std.proofs.lemmas.List.{at_drop_more, at_drop_all}
 use Rattle.std.specs.Prelude.{map, unwrap_or}
 use Rattle.script_grammar.specs.Tree.{more, Script}
@@ -14,6 +14,7 @@ use Rattle.script_values.specs.declared.machine.Machine.{Machine}
 use Rattle.script_values.specs.Faults.{fault_in}
 use Rattle.script_values.specs.Gives.{Fails}
 use Rattle.script_values.specs.Slots.{Slot}
+use Rattle.eval_safety.specs.Safety.{IsNotStuck}
 use Rattle.eval_meaning.specs.Scripts.{Ending, Ends, and_then, in_statement, settled, statements, turned}
 
 -- a fault of a statement is told with its number
@@ -69,3 +70,33 @@ pub stmt_end : (script : Script) (uses : List Use) (stmts : List Stmt) (i n : �
     → statements script uses (listed (map view_stmt (drop i stmts))) n slots m ≡ whole → length stmts ≤ i → whole ≡ settled false m
 unfolding statements
 stmt_end script uses stmts i n slots m whole so over = sym so ∙ at_drop_all (λ (l : List Stmt). statements script uses (listed (map view_stmt l)) n slots m) stmts i over
+
+-- ---- what is not stuck
+
+pub first_not_stuck : {A B : Type 0} (r : Result A Ending) (f : A → Result B Ending) → IsNotStuck (and_then r f) → IsNotStuck r
+first_not_stuck (Ok x) f is = tt
+first_not_stuck (Err (Some fault)) f is = tt
+first_not_stuck (Err None) f is = absurd is
+
+pub turn_not_stuck : (script : Script) (uses : List Use) (stmts : List Stmt) (i : ℕ) (s : Stmt) (n k : ℕ) (slots : List Slot) (m : Machine) (whole : Result Machine Ending)
+    → statements script uses (listed (map view_stmt (drop i stmts))) n slots m ≡ whole → i < length stmts → s ≡ get_or stmts i s → k ≡ n + 1
+    → IsNotStuck whole → IsNotStuck (turned script uses (view_part s.part) k slots m)
+turn_not_stuck script uses stmts i s n k slots m whole so lt is next safe =
+    first_not_stuck (turned script uses (view_part s.part) k slots m) (λ x. statements script uses (listed (map view_stmt (drop (i + 1) stmts))) k x.0 x.1)
+    (subst (λ (r : Result Machine Ending). IsNotStuck r) (sym so ∙ front script uses stmts i s n k slots m lt is next) safe)
+
+-- a fault that evaluation has is told
+pub fault_is_told : {A : Type 0} (n : ℕ) (fault : Fault) (meant : Result A Fault) → Fails fault meant → IsNotStuck (in_statement n meant) → fault ≢ faults.Stuck
+fault_is_told n fault meant fails safe is =
+    let stuck : meant ≡ Err faults.Stuck = subst (λ (e : Fault). Fails e meant) is fails in
+    subst (λ (r : Result _ Fault). IsNotStuck (in_statement n r)) stuck safe
+
+pub is_told : (n : ℕ) (fault : Fault) → fault ≢ faults.Stuck → None ≡ fault_in n fault → ⊥
+is_told n faults.Memory other is = absurd cc
+is_told n faults.BadSetting other is = absurd cc
+is_told n (faults.BadValue at) other is = absurd cc
+is_told n faults.TooMuchWork other is = absurd cc
+is_told n faults.TooManySources other is = absurd cc
+is_told n (faults.SameOutput name) other is = absurd cc
+is_told n (faults.TooLarge limit) other is = absurd cc
+is_told n faults.Stuck other is = other refl

@@ -1,15 +1,19 @@
 // The plan of a script: its statements in order, and the end of its settings.
-ghost use Rattle.std.specs.Prelude.{◌≡◌, ℕ, Option, Some, None, [], IfOk, map, unwrap_or};
+ghost use Rattle.std.specs.Prelude.{◌≡◌, ◌≢◌, ℕ, Option, Some, None, [], IfOk, map, unwrap_or};
 ghost use Rattle.std.specs.List.{list_any};
 ghost use Rattle.eval_meaning.specs.Meaning.{call, choice, full};
 ghost use Rattle.eval_meaning.specs.Scripts.{Answers, ended, evaluation, is_output, settled, statement, statements, tick_of, top_scope, turned};
+ghost use Rattle.eval_safety.specs.Safety.{IsNotStuck};
 ghost use Rattle.plan_core.specs.Plans.{IsWellFormed};
+ghost use Rattle.script_grammar.specs.Placed.{IsPlaced};
 ghost use Rattle.script_grammar.specs.View.{listed, view_call, view_full, view_if, view_part, view_script, view_stmt};
 ghost use Rattle.script_values.specs.declared.fault.EvalFault.TheVariants as told;
+ghost use Rattle.script_values.specs.declared.fault.Fault.TheVariants.{Stuck};
 ghost use Rattle.script_values.specs.Faults.{fault_in};
 ghost use Rattle.script_values.specs.Gives.{Gives};
 ghost use Rattle.script_values.specs.View.{view_value};
 ghost use Rattle.script_values.specs.Views.{view_slot};
+ghost use Rattle.typing_rules.specs.Answers.{IsTypedScript};
 
 use crate::descent::{call, choice, full};
 use crate::held::is_setting;
@@ -25,18 +29,21 @@ use typing_rules::Use;
 // How deep evaluation may nest: 200 levels of each of 17 bodies, and more.
 const LEVELS: usize = 4096;
 
-/// The plan of a script whose names stand for what `uses` says, or its first fault. Want of memory may come at any
-/// place; it is also the answer where a script nests deeper than any that parsing answers, and where a value has a wrong
-/// type, which no typed script comes to.
-#[tactic(auto, using(crate::proofs::Answered::made_well))]
+/// The plan of a typed script whose names stand for what `uses` says, or its first fault. Want of memory may come at any
+/// place; it is also the answer where a script nests deeper than any that parsing answers.
+#[tactic(auto, using(crate::proofs::Answered::made_well, crate::proofs::Answered::is_not_stuck))]
 pub fn eval(alloc: Global, script: &Script, uses: &[Use]) -> Result<Plan, EvalFault>
+    requires placed { IsPlaced 0 (view_script script.now) }
+    requires typed { IsTypedScript (view_script script.now) uses.now }
     ensures exact { Answers (λ p. p) result (evaluation (view_script script.now) uses.now) }
     ensures well_formed { IfOk result (λ p. IsWellFormed p) }
 {
     answered(alloc, script, uses)
 }
 
+#[tactic(auto, using(crate::proofs::Statements::first_not_stuck))]
 fn answered(alloc: Global, script: &Script, uses: &[Use]) -> Result<Plan, EvalFault>
+    requires { IsNotStuck (evaluation (view_script script.now) uses.now) }
     ensures { Answers (λ p. p) result (evaluation (view_script script.now) uses.now) }
 {
     let mut machine = Machine::new(alloc);
@@ -70,6 +77,7 @@ fn run(
     stmts: &[Stmt],
     machine: &mut Machine,
 ) -> Result<(), EvalFault>
+    requires { IsNotStuck (statements (view_script script.now) uses.now (listed (map view_stmt stmts.now)) 0 [] machine.old) }
     ensures { Answers (λ _. machine.new) result (statements (view_script script.now) uses.now (listed (map view_stmt stmts.now)) 0 [] machine.old) }
 {
     let mut globals = Vec::new(alloc);
@@ -93,7 +101,7 @@ fn run(
 }
 
 // A statement, with the end of the settings before it.
-#[tactic(auto, unfolding(eval_meaning::specs::Scripts::turned))]
+#[tactic(auto, unfolding(eval_meaning::specs::Scripts::turned), using(crate::proofs::Statements::fault_is_told))]
 fn turn(
     alloc: Global,
     script: &Script,
@@ -103,6 +111,7 @@ fn turn(
     globals: &mut Vec<Slot>,
     machine: &mut Machine,
 ) -> Result<(), EvalFault>
+    requires { IsNotStuck (turned (view_script script.now) uses.now (view_part part.now) number (map view_slot globals.old.items) machine.old) }
     ensures { Answers (λ _. (map view_slot globals.new.items, machine.new)) result (turned (view_script script.now) uses.now (view_part part.now) number (map view_slot globals.old.items) machine.old) }
 {
     settle(machine, is_setting(uses, part))?;
@@ -113,13 +122,15 @@ fn turn(
     }
 }
 
-// A value of a wrong type, which no typed script comes to, is told as want of memory.
+// The fault of the script, for one of its statement of this number.
+#[tactic(auto, using(crate::proofs::Statements::is_told))]
 fn told(stmt: u32, fault: Fault) -> EvalFault
+    requires { fault ≢ Stuck }
     ensures { result ≡ unwrap_or (fault_in stmt fault) told.Memory }
 {
     match fault_in(stmt, fault) {
         Some(found) => found,
-        None => EvalFault::Memory,
+        None => unreachable!(),
     }
 }
 

@@ -5,7 +5,7 @@ use Rattle.script_grammar.specs.View.{listed, view_script, view_stmt}
 use Rattle.script_values.specs.declared.machine.Machine.{Machine}
 use Rattle.script_values.specs.Views.{view_slot}
 use Rattle.eval_meaning.specs.Scripts.{Answers, Ending, statements}
-use Rattle.script_eval.proofs.Statements.{stmt_end, stmt_stop, stmt_turn}
+use Rattle.script_eval.proofs.Statements.{stmt_end, stmt_stop, stmt_turn, turn_not_stuck}
 use Rattle.script_eval.proofs.script.run.Goals as goal
 
 pub returns-in_err-turn : goal.returns-in_err-turn
@@ -20,3 +20,7 @@ turns-preserved c =
 pub returns : goal.returns
 returns c =
     subst (λ (r : Result Machine Ending). Answers (λ _. c.settle.new.machine) c.settle.result r) (sym (stmt_end (view_script c.args.script.now) c.args.uses.now c.args.stmts.now c.turns.stmt-index c.turns.number (map view_slot c.turns.globals.items) c.turns.machine (statements (view_script c.args.script.now) c.args.uses.now (listed (map view_stmt c.args.stmts.now)) 0 [] c.args.machine.now) c.turns.invariant c.turns-test.false)) c.settle.ensures
+
+pub turn-requires : goal.turn-requires
+turn-requires c =
+    turn_not_stuck (view_script c.args.script.now) c.args.uses.now c.args.stmts.now c.turns.stmt-index c.stmt-item.result c.turns.number (c.turns.number + 1) (map view_slot c.turns.globals.items) c.turns.machine (statements (view_script c.args.script.now) c.args.uses.now (listed (map view_stmt c.args.stmts.now)) 0 [] c.args.machine.now) c.turns.invariant c.turns-test.true c.stmt-item.is refl c.requires
