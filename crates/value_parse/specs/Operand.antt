@@ -4,6 +4,8 @@ use Rattle.script_lex.specs.declared.token.TokenKind.{TokenKind}
 use Rattle.script_lex.specs.declared.token.TokenKind.TheVariants.{Name, NameOpen, Keyword, Symbol}
 use Rattle.script_lex.specs.declared.token.Keyword.TheVariants as word
 use Rattle.script_lex.specs.declared.token.Symbol.TheVariants as sign
+use Rattle.value_parse.specs.declared.operands.Bracket.{Bracket}
+use Rattle.value_parse.specs.declared.operands.Bracket.TheVariants as brackets
 use Rattle.script_grammar.specs.Tree.{Sort, Tree, Many, more, AFull, AnExpr, ANot, ACompare, APrim, AnArg, AnIf, Plain, Not, Braces, Listed, Arg, If}
 use Rattle.script_grammar.specs.Read.{Read, Reader, ◌>>=◌, made, both, expect, chain, closed}
 use Rattle.script_grammar.specs.Kinds.{is_comma, is_close_round, is_close_square, is_close_curly, is_then, is_else, is_end}
@@ -43,6 +45,11 @@ list_at at full w = closed is_comma is_close_square full w >>= made (Listed at)
 
 abbrev pub some_list_at : ℕ → Reader (Tree AFull) → Reader (Tree APrim)
 some_list_at at full w = some_closed is_comma is_close_square full w >>= made (Listed at)
+
+-- either, one value at least
+abbrev pub some_closed_at : Bracket → ℕ → Reader (Tree AFull) → Reader (Tree APrim)
+some_closed_at brackets.Round at full w = some_round_at at full w
+some_closed_at brackets.Square at full w = some_list_at at full w
 
 -- arguments, one at least, behind the first bracket
 abbrev pub some_args : (ℕ → ℕ) → Reader (Tree AFull) → Reader (Tree (Many AnArg))

@@ -18,35 +18,12 @@ use script_lex::Token;
 use std::alloc::Global;
 
 /// comparison: sum ((`==` | `!=` | `<` | `<=` | `>` | `>=`) sum)?
-#[cycle(value)]
-pub fn compare(
-    alloc: Global,
-    total: usize,
-    levels: usize,
-    loose: bool,
-    tokens: &[Token],
-) -> Result<(Compare, &[Token]), Fault>
-    requires within { length tokens.now ≤ total }
-    requires small { total < 2 ^ 32 }
-    ensures shorter { IfOk result (λ x. length x.1.now < length tokens.now) }
-    ensures gives { Gives (λ x. (view_compare x.0, kinds x.1.now)) result (compare loose (places total) (full_by levels (places total)) (kinds tokens.now)) }
-    ensures whole { IfOk result (λ x. IsWholeCompare x.0) }
-{
-    compare_of(
-        alloc,
-        total,
-        levels,
-        loose,
-        tokens,
-        sum(alloc, total, levels, loose, tokens),
-    )
-}
-
-// The same, once the first sum is read.
+///
+/// The first sum is what was read at these tokens.
 #[inline(never)]
 #[cycle(value)]
 #[tactic(auto, unfolding(script_grammar::specs::ReadValue::compare))]
-fn compare_of<'a>(
+pub fn compare_of<'a>(
     alloc: Global,
     total: usize,
     levels: usize,
@@ -87,7 +64,14 @@ fn behind_sum(
     match (next_op(tokens), tokens) {
         (Some(op), [_, after @ ..]) => {
             let at = place(total, tokens);
-            let (sum, rest) = sum(alloc, total, levels, loose, after)?;
+            let (sum, rest) = sum_of(
+                alloc,
+                total,
+                levels,
+                loose,
+                after,
+                product(alloc, total, levels, loose, after),
+            )?;
             let right = Some(Compared { at, op, sum });
             Ok((Compare { left, right }, rest))
         }
@@ -95,9 +79,9 @@ fn behind_sum(
     }
 }
 
-// sum: product ((`+` | `-`) product)*
+/// sum: product ((`+` | `-`) product)*
 #[cycle(value)]
-fn sum(
+pub fn sum(
     alloc: Global,
     total: usize,
     levels: usize,
@@ -189,7 +173,14 @@ fn added(
 {
     let at = place(total, tokens);
     let (minus, rest) = sum_sign(tokens)?;
-    let (product, rest) = product(alloc, total, levels, loose, rest)?;
+    let (product, rest) = product_of(
+        alloc,
+        total,
+        levels,
+        loose,
+        rest,
+        operand(alloc, total, levels, loose, rest),
+    )?;
     Ok((Added { at, minus, product }, rest))
 }
 

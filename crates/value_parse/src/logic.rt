@@ -10,7 +10,7 @@ ghost use Rattle.script_grammar.specs.Whole.{IsWholeExpr, IsWholeAnd, IsWholeNot
 ghost use Rattle.parse_base.specs.Gives.{kinds, Gives, places};
 ghost use Rattle.value_parse.specs.Operand.{behind_not};
 
-use crate::arithmetic::compare;
+use crate::arithmetic::{compare_of, sum};
 use parse_base::Fault;
 use parse_base::token::{at_and, at_or, expect_and, expect_or, perhaps_not};
 use script_grammar::make;
@@ -19,7 +19,6 @@ use script_lex::Token;
 use std::alloc::Global;
 
 /// expression: and (`or` and)*
-#[cycle(value)]
 pub fn expr(
     alloc: Global,
     total: usize,
@@ -43,11 +42,11 @@ pub fn expr(
     )
 }
 
-// The same, once the first part is read.
+/// The same, once the first part is read.
 #[inline(never)]
 #[cycle(value)]
 #[tactic(auto, unfolding(script_grammar::specs::ReadValue::expr, script_grammar::specs::Read::chain))]
-fn expr_of<'a>(
+pub fn expr_of<'a>(
     alloc: Global,
     total: usize,
     levels: usize,
@@ -111,12 +110,19 @@ fn or_and(
     ensures whole { IfOk result (λ x. IsWholeAnd x.0) }
 {
     let ((), rest) = expect_or(tokens)?;
-    and_term(alloc, total, levels, loose, rest)
+    and_of(
+        alloc,
+        total,
+        levels,
+        loose,
+        rest,
+        not_term(alloc, total, levels, loose, rest),
+    )
 }
 
-// and: not (`and` not)*
+/// and: not (`and` not)*
 #[cycle(value)]
-fn and_term(
+pub fn and_term(
     alloc: Global,
     total: usize,
     levels: usize,
@@ -192,7 +198,7 @@ fn nots(
 
 // `and` not
 #[cycle(value)]
-#[tactic(auto, unfolding(script_grammar::specs::Read::behind))]
+#[tactic(auto, unfolding(script_grammar::specs::Read::behind, script_grammar::specs::ReadValue::not_))]
 fn and_not(
     alloc: Global,
     total: usize,
@@ -207,7 +213,18 @@ fn and_not(
     ensures whole { IfOk result (λ x. IsWholeNot x.0) }
 {
     let ((), rest) = expect_and(tokens)?;
-    not_term(alloc, total, levels, loose, rest)
+    let (negated, rest) = perhaps_not(rest);
+    not_of(
+        negated,
+        compare_of(
+            alloc,
+            total,
+            levels,
+            loose,
+            rest,
+            sum(alloc, total, levels, loose, rest),
+        ),
+    )
 }
 
 // not: `not`? comparison
@@ -227,7 +244,17 @@ fn not_term(
     ensures whole { IfOk result (λ x. IsWholeNot x.0) }
 {
     let (negated, rest) = perhaps_not(tokens);
-    not_of(negated, compare(alloc, total, levels, loose, rest))
+    not_of(
+        negated,
+        compare_of(
+            alloc,
+            total,
+            levels,
+            loose,
+            rest,
+            sum(alloc, total, levels, loose, rest),
+        ),
+    )
 }
 
 // The same, once the comparison is read.

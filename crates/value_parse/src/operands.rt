@@ -7,7 +7,7 @@ ghost use Rattle.script_grammar.specs.ReadValue.{full_by, prim};
 ghost use Rattle.script_grammar.specs.View.{listed, view_full, view_prim};
 ghost use Rattle.script_grammar.specs.Whole.{IsWholeFull, IsWholePrim};
 ghost use Rattle.parse_base.specs.Gives.{kinds, Gives, places};
-ghost use Rattle.value_parse.specs.Operand.{round_at, some_round_at, list_at, some_list_at};
+ghost use Rattle.value_parse.specs.Operand.{round_at, list_at, some_closed_at};
 
 use crate::arguments::call;
 use crate::atoms::atom;
@@ -22,6 +22,13 @@ use script_grammar::make;
 use script_grammar::tree::{self, Full};
 use script_lex::{Keyword, Symbol, Token, TokenKind};
 use std::alloc::Global;
+
+/// What values stand between.
+#[derive(Clone, Copy)]
+pub enum Bracket {
+    Round,
+    Square,
+}
 
 /// operand: call | if | `(` .. `)` | `[` .. `]` | one that holds no value
 #[cycle(value)]
@@ -98,42 +105,15 @@ fn round(
         let ((), rest) = expect_close_round(tokens)?;
         return Ok((tree::Operand::Unit { at }, rest));
     }
-    round_of(
+    closed_of(
         alloc,
         total,
         levels,
         at,
+        Bracket::Round,
         tokens,
         full(alloc, total, levels, tokens),
     )
-}
-
-// The same, once the first value is read.
-#[inline(never)]
-#[cycle(value)]
-#[tactic(auto, unfolding(script_grammar::specs::Read::chain))]
-fn round_of<'a>(
-    alloc: Global,
-    total: usize,
-    levels: usize,
-    at: u32,
-    _tokens: &[Token],
-    read: Result<(Full, &'a [Token]), Fault>,
-) -> Result<(tree::Operand, &'a [Token]), Fault>
-    requires within { length _tokens.now ≤ total }
-    requires small { total < 2 ^ 32 }
-    requires shorter { IfOk read (λ x. length x.1.now < length _tokens.now) }
-    requires gives { Gives (λ x. (view_full x.0, kinds x.1.now)) read (full_by levels (places total) (kinds _tokens.now)) }
-    requires whole { IfOk read (λ x. IsWholeFull x.0) }
-    ensures shorter { IfOk result (λ x. length x.1.now < length _tokens.now) }
-    ensures gives { Gives (λ x. (view_prim x.0, kinds x.1.now)) result (some_round_at at (full_by levels (places total)) (kinds _tokens.now)) }
-    ensures whole { IfOk result (λ x. IsWholePrim x.0) }
-{
-    let (first, rest) = read?;
-    let (others, rest) = fulls(alloc, total, levels, rest)?;
-    let ((), rest) = expect_close_round(rest)?;
-    let round = make::round(alloc, at, first, others)?;
-    Ok((round, rest))
 }
 
 // (value (`,` value)*)? `]`, behind the `[`.
@@ -156,25 +136,27 @@ fn list(
         let ((), rest) = expect_close_square(tokens)?;
         return Ok((make::list(at, Vec::new(alloc)), rest));
     }
-    list_of(
+    closed_of(
         alloc,
         total,
         levels,
         at,
+        Bracket::Square,
         tokens,
         full(alloc, total, levels, tokens),
     )
 }
 
-// The same, once the first value is read.
+// The same, behind either bracket, once the first value is read.
 #[inline(never)]
 #[cycle(value)]
 #[tactic(auto, unfolding(script_grammar::specs::Read::chain))]
-fn list_of<'a>(
+fn closed_of<'a>(
     alloc: Global,
     total: usize,
     levels: usize,
     at: u32,
+    bracket: Bracket,
     _tokens: &[Token],
     read: Result<(Full, &'a [Token]), Fault>,
 ) -> Result<(tree::Operand, &'a [Token]), Fault>
@@ -184,14 +166,23 @@ fn list_of<'a>(
     requires gives { Gives (λ x. (view_full x.0, kinds x.1.now)) read (full_by levels (places total) (kinds _tokens.now)) }
     requires whole { IfOk read (λ x. IsWholeFull x.0) }
     ensures shorter { IfOk result (λ x. length x.1.now < length _tokens.now) }
-    ensures gives { Gives (λ x. (view_prim x.0, kinds x.1.now)) result (some_list_at at (full_by levels (places total)) (kinds _tokens.now)) }
+    ensures gives { Gives (λ x. (view_prim x.0, kinds x.1.now)) result (some_closed_at bracket at (full_by levels (places total)) (kinds _tokens.now)) }
     ensures whole { IfOk result (λ x. IsWholePrim x.0) }
 {
     let (first, rest) = read?;
-    let (mut items, rest) = fulls(alloc, total, levels, rest)?;
-    let ((), rest) = expect_close_square(rest)?;
-    items.insert(0, first)?;
-    Ok((make::list(at, items), rest))
+    let (others, rest) = fulls(alloc, total, levels, rest)?;
+    match bracket {
+        Bracket::Round => {
+            let ((), rest) = expect_close_round(rest)?;
+            Ok((make::round(alloc, at, first, others)?, rest))
+        }
+        Bracket::Square => {
+            let ((), rest) = expect_close_square(rest)?;
+            let mut items = others;
+            items.insert(0, first)?;
+            Ok((make::list(at, items), rest))
+        }
+    }
 }
 
 // (`,` value)*

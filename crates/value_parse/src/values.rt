@@ -3,9 +3,10 @@
 // `docs/grammar.md`. A value counts down `levels`, so that it is the number of `full_by`; a caller gives as many as
 // there are tokens, which is always enough.
 //
-// So that a level takes little stack, a function hands what a nested call answered to a tail of its own, never
-// inlined: no frame then keeps copies of a tree while others are read. A tail in the cycle takes the tokens at which
-// its first part was read, for its contract alone.
+// So that a level takes little stack, a function hands what a nested call answered to a tail of its own: no frame then
+// keeps copies of a tree while others are read. A compiler may take a function that is called in one place into its
+// caller, whatever it is marked, so a large tail is called in two. A tail in the cycle takes the tokens at which its
+// first part was read, for its contract alone.
 ghost use Rattle.std.specs.Prelude.{◌<◌, ◌≤◌, ◌^◌, IfOk, length, ℕ};
 ghost use Rattle.script_grammar.specs.Read.{Read};
 ghost use Rattle.script_grammar.specs.Tree.{Tree, AFull, AnExpr};
@@ -15,7 +16,7 @@ ghost use Rattle.script_grammar.specs.Whole.{IsWholeFull, IsWholeExpr};
 ghost use Rattle.parse_base.specs.Gives.{kinds, Gives, places};
 ghost use Rattle.value_parse.specs.Operand.{plain, as_plain};
 
-use crate::logic::expr;
+use crate::logic::{and_term, expr_of};
 use crate::number::digits;
 use parse_base::Fault;
 use parse_base::token::place;
@@ -93,7 +94,14 @@ fn plain(
     ensures gives { Gives (λ x. (view_full x.0, kinds x.1.now)) result (plain loose (places total) (full_by levels (places total)) (kinds tokens.now)) }
     ensures whole { IfOk result (λ x. IsWholeFull x.0) }
 {
-    plain_of(expr(alloc, total, levels, loose, tokens))
+    plain_of(expr_of(
+        alloc,
+        total,
+        levels,
+        loose,
+        tokens,
+        and_term(alloc, total, levels, loose, tokens),
+    ))
 }
 
 // The same, once the expression is read.

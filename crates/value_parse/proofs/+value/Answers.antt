@@ -1,4 +1,4 @@
-use Rattle.std.proofs.Common.{ℕ, Bool, Ok, ap}
+use Rattle.std.proofs.Common.{ℕ, Bool, Ok, ap, length}
 use Rattle.parse_base.proofs.Levels.{full_ends, full_turn}
 use Rattle.value_parse.proofs.Signs.{added_goes}
 use Rattle.script_grammar.specs.Tree.{Tree, AnAdded, Added}
@@ -151,3 +151,6 @@ pub arithmetic::added-returns-clause-gives : goal.arithmetic::added-returns-clau
 arithmetic::added-returns-clause-gives t c =
     added_goes c.args.loose (places c.args.total) (full_by c.args.levels (places c.args.total)) (kinds c.args.tokens.now) c.place-at.result c.in_ok-minus.minus (kinds c.in_ok-minus.rest.now) (kinds c.in_ok-product.rest.now) (view_product c.in_ok-product.product) c.place-at.ensures c.in_ok-minus.ensures.gives c.in_ok-product.ensures.gives
     ∙ ap (λ (x : Tree AnAdded). Ok (x, kinds c.in_ok-product.rest.now)) (sym (added_seen c.place-at.result c.in_ok-minus.minus c.in_ok-product.product))
+
+pub values::plain-returns-clause-shorter : goal.values::plain-returns-clause-shorter
+values::plain-returns-clause-shorter t c = c.plain_of.ensures.shorter (length c.args.tokens.now) c.expr_of.ensures.shorter

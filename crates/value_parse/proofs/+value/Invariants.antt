@@ -24,17 +24,11 @@ decreases-arithmetic::product l = 20 * length l.tokens.now + 2
 abbrev pub decreases-arithmetic::sum : goal.decreases-arithmetic::sum
 decreases-arithmetic::sum l = 20 * length l.tokens.now + 3
 
-abbrev pub decreases-arithmetic::compare : goal.decreases-arithmetic::compare
-decreases-arithmetic::compare l = 20 * length l.tokens.now + 4
-
 abbrev pub decreases-logic::not_term : goal.decreases-logic::not_term
 decreases-logic::not_term l = 20 * length l.tokens.now + 5
 
 abbrev pub decreases-logic::and_term : goal.decreases-logic::and_term
 decreases-logic::and_term l = 20 * length l.tokens.now + 6
-
-abbrev pub decreases-logic::expr : goal.decreases-logic::expr
-decreases-logic::expr l = 20 * length l.tokens.now + 7
 
 abbrev pub decreases-values::plain : goal.decreases-values::plain
 decreases-values::plain l = 20 * length l.tokens.now + 8
@@ -123,11 +117,8 @@ decreases-arithmetic::sum_of l = 20 * length l._tokens.now
 abbrev pub decreases-arithmetic::product_of : goal.decreases-arithmetic::product_of
 decreases-arithmetic::product_of l = 20 * length l._tokens.now
 
-abbrev pub decreases-operands::round_of : goal.decreases-operands::round_of
-decreases-operands::round_of l = 20 * length l._tokens.now
-
-abbrev pub decreases-operands::list_of : goal.decreases-operands::list_of
-decreases-operands::list_of l = 20 * length l._tokens.now
+abbrev pub decreases-operands::closed_of : goal.decreases-operands::closed_of
+decreases-operands::closed_of l = 20 * length l._tokens.now
 
 abbrev pub decreases-arguments::args_of : goal.decreases-arguments::args_of
 decreases-arguments::args_of l = 20 * length l._tokens.now
