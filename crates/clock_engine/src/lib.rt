@@ -5,6 +5,8 @@ mod engine;
 mod fault;
 mod outputs;
 mod parts;
+mod plain;
 
 pub use engine::{ClockEngine, Works};
 pub use fault::TickFault;
+pub use plain::is_plain;
