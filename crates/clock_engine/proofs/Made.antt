@@ -1,11 +1,12 @@
 -- An engine after a tick.
-use Rattle.std.proofs.Common.{◌≡◌, ◌<◌, ◌≤◌, ◌+◌, ◌*◌, ◌∙◌, ℕ, zero, suc, Some, Option, List, [], ◌∷◌, All, length, get_or, map, slice_get, true, arith, refl, ap, sym, subst}
+use Rattle.std.proofs.Common.{◌≡◌, ◌<◌, ◌≤◌, ◌+◌, ◌*◌, ◌∙◌, ℕ, zero, suc, Some, Option, List, [], ◌∷◌, All, length, get_or, map, slice_get, true, arith, refl, ap, sym, subst, ◌-◌, ◌++◌, None, Bool, add-one}
 use mathlib.Core.Path.{fun_ext}
 use Rattle.std.proofs.Math.Nat.{suc-mul}
-use Rattle.std.proofs.lemmas.List.{append-nil, get_or-map, length-map}
-use Rattle.std.proofs.lemmas.Option.{slice_get_within}
+use Rattle.std.proofs.lemmas.List.{append-nil, get_or_default, get_or-map, length-map}
+use Rattle.std.proofs.lemmas.Option.{none-some, slice_get_read, slice_get_within}
 use Rattle.liq_base.specs.Kinds.{channels_of}
-use Rattle.liq_base.specs.Pieces.{HasRoom, IsPrefix, grown, narrowed}
+use Rattle.liq_base.specs.Pieces.{HasRoom, IsPrefix, grown, narrowed, Took, TookPart}
+use Rattle.plan_core.specs.declared.plan.Plan.{Plan}
 use Rattle.clock_infer.specs.declared.clock_map.NodeClock.TheVariants.{Main}
 use Rattle.op_leaf.specs.Readers.{Answer}
 use Rattle.stream_meaning.specs.Instants.{Setting, clock_of, sub_of}
@@ -21,7 +22,7 @@ use Rattle.engine_ticks.specs.Runs.{Heard}
 use Rattle.clock_engine.specs.declared.engine.Works.{Works}
 use Rattle.clock_engine.specs.declared.fault.TickFault.{TickFault}
 use Rattle.clock_engine.specs.Engines.{AreWorks, EngineStands, after_tick, held_in, output_of, setting_of}
-use Rattle.clock_engine.specs.Ticks.{HaveTickRoom, RoomsFell}
+use Rattle.clock_engine.specs.Ticks.{HaveTickRoom, RoomsFell, HaveTicksRoom}
 use Rattle.clock_engine.proofs.Quiet.{no_calls}
 use Rattle.clock_engine.proofs.Filling.{filled_kind, filled_long, filled_room, filled_sink}
 use Rattle.clock_engine.proofs.Numbered.{from_mapped, got_mapped, no_item, port_inside, port_node}
@@ -36,6 +37,15 @@ item_is (y ∷ xs) (suc k) d x e = item_is xs k d x e
 
 pub all_at : {A : Type 0} (P : A → Type 0) (xs : List A) → All P xs → (k : ℕ) (x : A) → slice_get xs k ≡ Some x → P x
 all_at P xs all k x e = subst P (item_is xs k x x e) (all k x (slice_get_within xs k x e))
+
+-- the room for one piece fewer, after one was taken
+room_less : (room : Option ℕ) (ticks size : ℕ) → HasRoom room ((ticks + 1) * size) → HasRoom (narrowed size room) (ticks * size)
+room_less None ticks size has = λ left e. absurd (none-some left e)
+room_less (Some left) ticks size has = λ x e.
+    let more : (ticks + 1) * size ≡ ticks * size + size = ap (λ n. n * size) (add-one ticks) ∙ suc-mul ticks size in
+    let enough : (ticks + 1) * size ≤ left = has left refl in
+    let same : left - size ≡ x = cc in
+    omega (arith, enough, more, same)
 
 module _ (works other : Works) (parts : AreWorks works)
     (are_lanes : AreLanes works.shape.plan.now works.shape.library.now other.lanes)
@@ -112,6 +122,27 @@ module _ (works other : Works) (parts : AreWorks works)
         let at : slice_get other.ports.items k ≡ Some (hear port) = ap (λ xs. slice_get xs k) heard.ports_are ∙ got_mapped hear works.ports.items k port at_port in
         (took.each k (hear port) before after (slice_get_within other.ports.items k (hear port) at) at at_old at_new).room_fell
         ∙ ap (λ n. narrowed n (room before)) (filled_long (emptied port) (heard.slots port.node) works.shape.plan.now.frame refl (heard.long port.node));
+  }
+
+  -- what the sinks took in the tick is off the room for so many ticks
+  pub room_after : {S : Type 0} (held : S → Option (List ℕ)) (room : S → Option ℕ) (old new : List S) → length old ≡ length works.ports.items → length new ≡ length old
+      → TookAll held room other.ports.items (length other.ports.items) old new
+      → (stopped : Option TickFault) (count ticks : ℕ) → HaveTicksRoom room works old (ticks + 1) → HaveTicksRoom room (after_tick works other count stopped) new ticks
+  room_after held room old new old_size new_size took stopped count ticks all = record {
+    each = λ k port out at_port at_out.
+        let found = port_before k port at_port in
+        let here : k < length other.ports.items = slice_get_within other.ports.items k port at_port in
+        let many = as_many in
+        let within : k < length old = omega (arith, here, many, old_size) in
+        let before = get_or old k out in
+        let was : slice_get old k ≡ Some before = slice_get_read old (length old) k before refl within (get_or_default old k out before within) in
+        let fell = (took.each k port before out here at_port was at_out).room_fell in
+        let long = ap (λ p. length p.piece.bytes) found.2 ∙ filled_long (emptied found.0) (heard.slots found.0.node) works.shape.plan.now.frame refl (heard.long found.0.node) in
+        let kind = ap (λ p. p.kind) found.2 ∙ filled_kind (emptied found.0) (heard.slots found.0.node) in
+        subst (λ r. HasRoom r (ticks * (works.shape.plan.now.frame * (2 * channels_of port.kind)))) (sym fell)
+        (subst (λ q. HasRoom (narrowed (length port.piece.bytes) (room before)) (ticks * (works.shape.plan.now.frame * (2 * channels_of q)))) (sym kind)
+        (subst (λ n. HasRoom (narrowed n (room before)) (ticks * (works.shape.plan.now.frame * (2 * channels_of found.0.kind)))) (sym long)
+        (room_less (room before) ticks (works.shape.plan.now.frame * (2 * channels_of found.0.kind)) (all.each k found.0 before found.1 was))));
   }
 
   module _ (t : ℕ) (answers : ℕ → List Answer) (stands : EngineStands works t answers) (few : works.ticks < 1000000000) (rest : ℕ → List Answer) where

@@ -17,6 +17,11 @@ pub record HaveTickRoom {S : Type 0} (room : S → Option ℕ) (works : Works) (
   pub each : (k : ℕ) (port : Port) (out : S) → slice_get works.ports.items k ≡ Some port → slice_get outs k ≡ Some out
       → HasRoom (room out) (works.shape.plan.now.frame * (2 * channels_of port.kind))
 
+-- the same for the pieces of so many ticks
+pub record HaveTicksRoom {S : Type 0} (room : S → Option ℕ) (works : Works) (outs : List S) (ticks : ℕ) : Type 0 where
+  pub each : (k : ℕ) (port : Port) (out : S) → slice_get works.ports.items k ≡ Some port → slice_get outs k ≡ Some out
+      → HasRoom (room out) (ticks * (works.shape.plan.now.frame * (2 * channels_of port.kind)))
+
 -- the fault is that of an output's sink, whose count of faults rose
 pub record IsWriteFault {S : Type 0} (faults : S → ℕ) (works : Works) (old new : List S) (fault : TickFault) : Type 0 where
   pub place : ℕ

@@ -1,5 +1,5 @@
 // The engine of one clock.
-ghost use Rattle.std.specs.Prelude.{◌≡◌, ◌<◌, ℕ, Some, None, List, [], length, IfOk, OnOk, OnErr, IfErr};
+ghost use Rattle.std.specs.Prelude.{◌≡◌, ◌<◌, ◌+◌, ℕ, Some, None, List, [], length, IfOk, OnOk, OnErr, IfErr};
 ghost use Rattle.plan_core.specs.Plans.{IsWellFormed};
 ghost use Rattle.clock_infer.specs.Answers.{IsClockMap};
 ghost use Rattle.frame_core.specs.Library.{IsLibrary};
@@ -9,9 +9,10 @@ ghost use Rattle.clock_infer.specs.declared.clock_map.NodeClock.TheVariants.{Mai
 ghost use Rattle.op_leaf.specs.Readers.{Answer};
 ghost use Rattle.clock_outputs.specs.Appends.{AreKept};
 ghost use Rattle.clock_engine.specs.Engines.{AreWorks, EngineStands, after_tick, held_in, outputs_of, setting_of};
+ghost use Rattle.clock_outputs.specs.Appends.{NoneFell};
 ghost use Rattle.stream_meaning.specs.Sinks.{gaps};
 ghost use Rattle.node_states.specs.Ticks.{IsOutput, with_rest};
-ghost use Rattle.clock_engine.specs.Ticks.{HasFailed, HasMade, HaveTickRoom, IsWriteFault, RoomsFell};
+ghost use Rattle.clock_engine.specs.Ticks.{HasFailed, HasMade, HaveTickRoom, IsWriteFault, RoomsFell, HaveTicksRoom};
 
 use crate::TickFault;
 use crate::outputs::ports_of;
@@ -169,6 +170,8 @@ impl<'a, O: Sink + Drop> ClockEngine<'a, O> {
         ensures sinks { length self.new.outs.items ≡ length self.new.works.ports.items }
         ensures setting { setting_of self.new.works ≡ setting_of self.old.works }
         ensures clock { self.new.works.clock ≡ self.old.works.clock }
+        ensures faults { NoneFell O.faults self.old.outs.items self.new.outs.items }
+        ensures room { OnOk result ((ticks : ℕ) → HaveTicksRoom O.room self.old.works self.old.outs.items (ticks + 1) → HaveTicksRoom O.room self.new.works self.new.outs.items ticks) }
         ensures ticked { OnOk result (HasMade O.held T.stands self.old.works self.new.works self.old.outs.items self.new.outs.items _taps.old _taps.new) }
         ensures stopped { OnErr result (HasFailed O.held T.stands self.old.works self.new.works self.old.outs.items self.new.outs.items _taps.old _taps.new) }
         ensures taps { T.same _taps.old _taps.new }

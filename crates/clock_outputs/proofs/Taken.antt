@@ -1,9 +1,10 @@
 -- The sinks of a clock take their pieces, one by one.
-use Rattle.std.proofs.Common.{◌≡◌, ◌<◌, ◌≤◌, ◌+◌, ◌∙◌, ℕ, Some, None, Option, List, [], length, set, slice_get, arith, refl, ap, sym, subst, inl, inr}
-use Rattle.std.proofs.lemmas.List.{append-nil}
+use Rattle.std.proofs.Common.{◌≡◌, ◌<◌, ◌≤◌, ◌+◌, ◌∙◌, ℕ, zero, suc, Some, None, Option, List, [], ◌∷◌, length, get_or, set, slice_get, arith, refl, ap, sym, subst, inl, inr}
+use Rattle.std.proofs.lemmas.List.{append-nil, get_or-set_other, get_or-set_same}
+use Rattle.std.proofs.lemmas.Option.{slice_get_within}
 use Rattle.liq_base.specs.Pieces.{Took, TookPart, grown, narrowed}
 use Rattle.clock_outputs.specs.declared.port.Port.{Port}
-use Rattle.clock_outputs.specs.Appends.{AreKept, LeftFrom, TookAll, TookParts}
+use Rattle.clock_outputs.specs.Appends.{AreKept, LeftFrom, NoneFell, TookAll, TookParts}
 use Rattle.clock_outputs.proofs.Places.{low_or_high, same_or_other, slice_get-set_other, slice_get-set_same}
 
 grown_nothing : (held : Option (List ℕ)) → held ≡ grown [] held
@@ -119,3 +120,27 @@ module _ {S : Type 0} (held : S → Option (List ℕ)) (room : S → Option ℕ)
         | inl low ↦ took_whole held room p.piece.bytes b a (all.each j p b a low at_port at_old at_now)
         | inr high ↦ stayed j p b a high at_old at_now
       ]
+
+item_at : {A : Type 0} (xs : List A) (k : ℕ) (d x : A) → slice_get xs k ≡ Some x → get_or xs k d ≡ x
+item_at [] k d x e = absurd (let within = slice_get_within [] k x e in omega (arith, within))
+item_at (y ∷ xs) zero d x e = (let same : y ≡ x = cc in same)
+item_at (y ∷ xs) (suc k) d x e = item_at xs k d x e
+
+-- a sink whose count did not fall is put in the place of what it was
+pub fell_more : {S : Type 0} (faults : S → ℕ) (k : ℕ) (old now : List S) (before after : S) → slice_get now k ≡ Some before
+    → faults before ≤ faults after → NoneFell faults old now → NoneFell faults old (set now k after)
+fell_more faults k old now before after was more none = record {
+  each = λ j d. elim (same_or_other k j) [
+    | inl same ↦ (let is : get_or (set now k after) j d ≡ after = subst (λ i. get_or (set now k after) i d ≡ after) same (get_or-set_same now k after d (slice_get_within now k before was)) in
+        let first : faults (get_or old j d) ≤ faults (get_or now j d) = none.each j d in
+        let next = ap faults (subst (λ i. get_or now i d ≡ before) same (item_at now k d before was)) in
+        let last = ap faults is in
+        omega (arith, first, next, more, last))
+    | inr apart ↦ (let is = ap faults (get_or-set_other now k j after d (λ e. apart (sym e))) in
+        let first : faults (get_or old j d) ≤ faults (get_or now j d) = none.each j d in
+        omega (arith, first, is))
+  ];
+}
+
+pub fell_none : {S : Type 0} (faults : S → ℕ) (old : List S) → NoneFell faults old old
+fell_none faults old = record { each = λ k d. omega arith }

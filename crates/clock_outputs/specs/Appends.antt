@@ -1,5 +1,5 @@
 -- What the sinks of a clock took of its pieces, sink by sink. S is the sinks' type, `held` and `room` are what they tell.
-use Rattle.std.specs.Prelude.{◌≡◌, ◌<◌, ◌≤◌, ℕ, Some, List, Option, length, slice_get}
+use Rattle.std.specs.Prelude.{◌≡◌, ◌<◌, ◌≤◌, ℕ, Some, List, Option, length, slice_get, slice_index_or}
 use Rattle.liq_base.specs.Counts.{Rose}
 use Rattle.liq_base.specs.Pieces.{HasRoom, Took, TookPart}
 use Rattle.clock_outputs.specs.declared.port.Port.{Port}
@@ -35,3 +35,7 @@ pub record RoseAt {S : Type 0} (faults : S → ℕ) (place : ℕ) (old new : Lis
 pub record AreKept {S : Type 0} (name : S → Option (List ℕ)) (faults : S → ℕ) (old new : List S) : Type 0 where
   pub each : (k : ℕ) (before after : S) → slice_get old k ≡ Some before → slice_get new k ≡ Some after
       → (name after ≡ name before) × (faults before ≤ faults after)
+
+-- no sink's count of faults fell
+pub record NoneFell {S : Type 0} (faults : S → ℕ) (old new : List S) : Type 0 where
+  pub each : (k : ℕ) (d : S) → faults (slice_index_or old k d) ≤ faults (slice_index_or new k d)

@@ -1,6 +1,6 @@
 // The pieces of a tick go to their sinks.
 ghost use Rattle.std.specs.Prelude.{◌≡◌, length, OnOk, OnErr, IfErr};
-ghost use Rattle.clock_outputs.specs.Appends.{AreKept, HaveRoom, RoseAt, TookAll, TookParts};
+ghost use Rattle.clock_outputs.specs.Appends.{AreKept, HaveRoom, NoneFell, RoseAt, TookAll, TookParts};
 
 use crate::Port;
 use liq_base::Sink;
@@ -14,6 +14,7 @@ pub fn append_all<O: Sink>(outs: &mut Vec<O>, ports: &[Port]) -> Result<(), usiz
     ensures kept { AreKept O.name O.faults outs.old.items outs.new.items }
     ensures took { OnOk result (TookAll O.held O.room ports.now (length ports.now) outs.old.items outs.new.items) }
     ensures part { OnErr result (TookParts O.held O.room ports.now outs.old.items outs.new.items) }
+    ensures faults { NoneFell O.faults outs.old.items outs.new.items }
     ensures cause { IfErr result (λ place. RoseAt O.faults place outs.old.items outs.new.items) }
 {
     for k in 0..ports.len() {

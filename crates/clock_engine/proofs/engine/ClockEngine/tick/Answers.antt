@@ -4,8 +4,8 @@ use Rattle.std.proofs.lemmas.Option.{slice_get_read, slice_get_within}
 use Rattle.clock_outputs.specs.Appends.{HaveRoom, TookAll, TookParts}
 use Rattle.clock_engine.specs.declared.fault.TickFault.TheVariants.{Write}
 use Rattle.clock_engine.specs.Engines.{AreWorks, after_tick}
-use Rattle.clock_engine.specs.Ticks.{HasMade}
-use Rattle.clock_engine.proofs.Made.{as_many, has_stopped, has_ticked, have_room, parts_after, port_before, rooms_fell, sink_before}
+use Rattle.clock_engine.specs.Ticks.{HasMade, HasFailed, HaveTicksRoom}
+use Rattle.clock_engine.proofs.Made.{as_many, has_stopped, has_ticked, have_room, parts_after, port_before, rooms_fell, sink_before, room_after}
 use Rattle.clock_engine.proofs.engine.ClockEngine.tick.Goals as goal
 
 pub append_all-requires-clause-room : goal.append_all-requires-clause-room
@@ -74,3 +74,19 @@ returns-clause-rooms g c =
     rooms_fell c.args.self.now.works c.run_works.new.works c.requires.works c.run_works.ensures.lanes c.run_works.ensures.heard g.O.Sink.held g.O.Sink.room
     c.args.self.now.outs.items c.append_all.new.outs.items
     (subst (λ ports. TookAll g.O.Sink.held g.O.Sink.room ports (length ports) c.args.self.now.outs.items c.append_all.new.outs.items) c.deref.ensures.value took)
+
+pub returns-in-Err-clause-clock : goal.returns-in-Err-clause-clock
+returns-in-Err-clause-clock g c = ap (λ w. w.clock) c.run_works.ensures.same
+
+pub returns-clause-clock : goal.returns-clause-clock
+returns-clause-clock g c = ap (λ w. w.clock) c.run_works.ensures.same
+
+pub returns-clause-room : goal.returns-clause-room
+returns-clause-room g c ticks all =
+    let took : TookAll g.O.Sink.held g.O.Sink.room c.deref.result.now (length c.deref.result.now) c.args.self.now.outs.items c.append_all.new.outs.items = search rules in
+    subst (λ w. HaveTicksRoom g.O.Sink.room w c.append_all.new.outs.items ticks)
+    (sym (ap (λ w. after_tick w c.run_works.new.works (w.ticks + 1) w.stopped) c.run_works.ensures.same))
+    (room_after c.args.self.now.works c.run_works.new.works c.requires.works c.run_works.ensures.lanes c.run_works.ensures.heard g.O.Sink.held g.O.Sink.room
+    c.args.self.now.outs.items c.append_all.new.outs.items c.requires.sinks c.append_all.ensures.sizes
+    (subst (λ ports. TookAll g.O.Sink.held g.O.Sink.room ports (length ports) c.args.self.now.outs.items c.append_all.new.outs.items) c.deref.ensures.value took)
+    c.args.self.now.works.stopped (c.args.self.now.works.ticks + 1) ticks all)
