@@ -103,7 +103,7 @@ module _ {S : Type 0} (held : S → Option (List ℕ)) (room : S → Option ℕ)
     run_failed taps_stand taps_old taps_new total low failed fell =
         let stopped = failed.engine t nothing run.stands in
         let begun = stopped.begun nothing in
-        let quiet = no_calls (with_rest (setting_of old.works) (after_calls nothing failed.made) nothing) run.works.plain stopped.accepted old.works.clock t in
+        let quiet = no_calls (with_rest (setting_of old.works) (after_calls nothing failed.made) nothing) run.works.plain run.works.feeds stopped.accepted old.works.clock t in
         let empty : failed.made ≡ [] = is_nil failed.made begun.rest (quiet ∙ begun.are) in
         let none : after_calls nothing failed.made ≡ nothing = ap (after_calls nothing) empty ∙ fun_ext (λ buffer. append-nil []) in
         record {

@@ -4,7 +4,7 @@ use Rattle.std.proofs.lemmas.Option.{slice_get_read, slice_get_within}
 use Rattle.clock_outputs.specs.Appends.{HaveRoom, TookAll, TookParts}
 use Rattle.clock_engine.specs.declared.fault.TickFault.TheVariants.{Write}
 use Rattle.clock_engine.specs.Engines.{AreWorks, after_tick}
-use Rattle.clock_engine.specs.Ticks.{HasMade, HasFailed, HaveTicksRoom}
+use Rattle.clock_engine.specs.Ticks.{HasMade, HaveTicksRoom}
 use Rattle.clock_engine.proofs.Made.{as_many, has_stopped, has_ticked, have_room, parts_after, port_before, rooms_fell, sink_before, room_after}
 use Rattle.clock_engine.proofs.engine.ClockEngine.tick.Goals as goal
 
