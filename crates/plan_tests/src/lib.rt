@@ -1,10 +1,6 @@
-//! Tests of the public calls of times, types, plans and builtin calls: each once with ample memory against its answer, worked rows.
+//! Tests of the public calls of times, types and plans: each once with ample memory against its answer, worked rows.
 #![tactic(auto)]
 
-#[cfg(test)]
-mod builtin_calls_tests;
-#[cfg(test)]
-mod clocks_tests;
 #[cfg(test)]
 mod draft_tests;
 #[cfg(test)]

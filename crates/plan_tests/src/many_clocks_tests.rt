@@ -1,9 +1,35 @@
 //! The clocks of plans of many clocks, and of many crossfades.
-use crate::clocks_tests::told;
-use clock_infer::assign;
+use clock_infer::{ClockFault, ClockMap, NodeClock, assign};
 use plan_samples::{plan_of_clocks, plan_of_nested_crossfades};
 use std::alloc::{AllocError, Global};
 use std::test::Fail;
+
+// An answer as text: the names, how many run, and the clock of each node; or the fault.
+fn told(
+    alloc: Global,
+    answer: Result<ClockMap, ClockFault>,
+) -> Result<String, AllocError> {
+    match answer {
+        Ok(map) => {
+            let mut told = String::new(alloc);
+            for name in map.names.as_slice() {
+                told.push_str(name.as_str())?;
+                told.push(' ')?;
+            }
+            let rest = format!(in alloc; "{} run:", map.running)?;
+            told.push_str(rest.as_str())?;
+            for of in map.of.as_slice() {
+                let place = match of {
+                    NodeClock::Main(m) => format!(in alloc; " {m}")?,
+                    NodeClock::Sub(k) => format!(in alloc; " under {k}")?,
+                };
+                told.push_str(place.as_str())?;
+            }
+            Ok(told)
+        }
+        Err(fault) => format!(in alloc; "{fault}"),
+    }
+}
 
 // Of so many clocks, the last one is written first, so it has the number 0.
 fn numbered_back(alloc: Global, count: u32) -> Result<String, AllocError> {
