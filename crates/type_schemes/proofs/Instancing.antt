@@ -38,6 +38,12 @@ module _ (a at : Assignment) (ns ms : List ℕ) (types : (i n : ℕ) → slice_g
   mean_at (t ∷ ts) h = ap₂ (λ (x : Ground) (xs : List Ground). x ∷ xs) (means_at t h.0) (mean_at ts h.1)
 
 -- the kinds of the open variables
+pub open_terms_counted : (ps : List KindParameter) (ns : List ℕ) (m : ℕ) → length ns ≡ length ps → length (open_terms ps ns) ≡ length (open_numbers m ps)
+open_terms_counted [] ns m e = refl
+open_terms_counted (p ∷ ps) [] m e = absurd (omega (arith, e))
+open_terms_counted (Open ∷ ps) (n ∷ ns) m e = ap suc (open_terms_counted ps ns (suc m) (omega (arith, e)))
+open_terms_counted (Outer k ∷ ps) (n ∷ ns) m e = open_terms_counted ps ns (suc m) (omega (arith, e))
+
 pub open_kinds_are : (f : ℕ → Kind) (a : Assignment) (ps : List KindParameter) (ns : List ℕ) (m : ℕ) → length ns ≡ length ps → ((i n : ℕ) → slice_get ns i ≡ Some n → a.kind_of n ≡ f (m + i)) → map (kind_meaning a) (open_terms ps ns) ≡ map f (open_numbers m ps)
 open_kinds_are f a [] ns m e h = refl
 open_kinds_are f a (p ∷ ps) [] m e h = absurd (omega (arith, e))

@@ -8,6 +8,7 @@ pub mod Builtins
 pub mod Openers
 pub mod Places
 pub mod Generality
+pub mod TextOver
 pub mod Opening
 pub mod Steps
 pub mod Counting

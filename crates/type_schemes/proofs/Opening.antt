@@ -17,13 +17,14 @@ use Rattle.type_schemes.specs.declared.general.TypeParameter.TheVariants.{Any, N
 use Rattle.type_schemes.specs.declared.general.KindParameter.{KindParameter}
 use Rattle.type_schemes.specs.declared.general.KindParameter.TheVariants.{Open as OpenKind, Outer as OuterKind}
 use Rattle.type_schemes.specs.declared.general.TextKind.{TextKind}
-use Rattle.type_schemes.specs.Generals.{AreKindsOf, IsGeneral, settled}
+use Rattle.type_schemes.specs.Generals.{AreKindsOf, AreTextKindsOver, IsGeneral, settled}
 use Rattle.type_schemes.specs.Holding.{HeldVariables, IsHeldBy, SameTypes, is_held}
 use Rattle.type_schemes.specs.Numbering.{type_parameter, kind_parameter}
 use Rattle.type_schemes.specs.Schemes.{Scheme, IsInstance, IsSchemeOver, KindMayBe, open_numbers}
 use Rattle.type_schemes.specs.Texts.{AreOpened, AreTextKinds, OpensDef, scheme_with, text_kind, text_of}
 use Rattle.type_schemes.proofs.Generality.{KindsMayBe, parameter_from, types_seen, kinds_seen, spread, spread_numbers, spread_names, spread_means, spread_mean, seen_mean, seen_means}
 use Rattle.type_schemes.proofs.Reading.{none_is, get_some}
+use Rattle.type_schemes.proofs.TextOver.{text_is_over}
 
 -- ---- the kinds of the text
 
@@ -143,6 +144,12 @@ module _ (s : Table) (names : List Term) (h : HeldVariables) (holds : IsHeldBy s
 
   pub over_of : IsSchemeOver s (record { params = us; result = u; types = ps; kinds = qs })
   over_of = subst (IsSchemeOver s) scheme_is (scheme_with_over s names h holds ts ks xs us x u kinds vs o)
+
+  pub text_over_of : (text : List TextKind) (qs' : List KindParameter) (vs' : List Term) → qs' ≡ qs → vs' ≡ vs → AreTextKinds qs' vs' text → AreTextKindsOver s text
+  text_over_of text qs' vs' same_kinds_given same_sources texts =
+      text_is_over s qs (over_of.kinds) vs text
+      (InTerms-map (λ n l. tt) (λ n l. subst (λ m. n < m) (sym (length-map ks (kind_parameter h)) ∙ ap (λ (y : List KindParameter). length y) (sym kinds_are)) l) (terms_of vs) o.sources.inside)
+      (subst (λ z. AreTextKinds z vs text) same_kinds_given (subst (λ z. AreTextKinds qs' z text) same_sources texts))
 
   module _ (text : List TextKind) (qs' : List KindParameter) (vs' : List Term) (same_kinds_given : qs' ≡ qs) (same_sources : vs' ≡ vs) (texts : AreTextKinds qs' vs' text) (distinct : IsDistinct nat_eq ts) (distinct_kinds : IsDistinct nat_eq ks) (extends : (p : Assignment) → ((k : ℕ) → number_at s.types k ≡ true → IsNumber (p.type_of k)) → (a : Assignment) × Extends s p a) where
     pub general_of : IsGeneral s names xs x kinds (record { params = us; result = u; types = ps; kinds = qs }) text

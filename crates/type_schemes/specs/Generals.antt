@@ -1,9 +1,9 @@
 -- When a scheme is the general type of a text that was typed under a substitution.
-use Rattle.std.specs.Prelude.{◌≡◌, List, map, Some}
+use Rattle.std.specs.Prelude.{◌≡◌, ◌<◌, ⊤, List, [], ◌∷◌, length, map, Some}
 use Rattle.liq_base.specs.declared.memory.Kind.{Kind}
 use Rattle.type_terms.specs.Ground.{Ground, Assignment}
 use Rattle.type_terms.specs.Table.{Table, Solves}
-use Rattle.type_terms.specs.Term.{Term, meaning, kind_meaning}
+use Rattle.type_terms.specs.Term.{InKind, Term, meaning, kind_meaning}
 use Rattle.type_terms.specs.declared.ty.KindTerm.{KindTerm}
 use Rattle.typing_rules.specs.Kinds.{kinds_of}
 use Rattle.typing_rules.specs.declared.uses.KindOf.{KindOf}
@@ -28,3 +28,12 @@ pub record IsGeneral (s : Table) (names params : List Term) (result : Term) (kin
       (b : Assignment) × Solves b s × SameTypes names a b × (map (meaning b) params ≡ ts) × (meaning b result ≡ r) × AreKindsOf a text opens kinds b
   pub complete : (a b : Assignment) → Solves a s → Solves b s → SameTypes names a b →
       (opens : List Kind) × IsInstance g a (map (meaning b) params) (meaning b result) opens × AreKindsOf a text opens kinds b
+
+-- the kinds of a text from outside are there
+abbrev pub IsTextKindOver : Table → TextKind → Type 0
+IsTextKindOver s (Outer k) = InKind (λ n. n < length s.kinds) k
+IsTextKindOver s (Open j) = ⊤
+
+abbrev pub AreTextKindsOver : Table → List TextKind → Type 0
+AreTextKindsOver s [] = ⊤
+AreTextKindsOver s (k ∷ ks) = IsTextKindOver s k × AreTextKindsOver s ks

@@ -2,7 +2,7 @@
 ghost use Rattle.std.specs.Prelude.{◌≡◌, List, length, map, IfOk};
 ghost use Rattle.type_terms.specs.Table.{IsOver};
 ghost use Rattle.type_terms.specs.Term.{Term, source_term, term_of};
-ghost use Rattle.type_schemes.specs.Generals.{IsGeneral};
+ghost use Rattle.type_schemes.specs.Generals.{AreTextKindsOver, IsGeneral};
 ghost use Rattle.type_schemes.specs.Holding.{IsHeldBy};
 ghost use Rattle.type_schemes.specs.Numbering.{kind_parameter, type_parameter};
 ghost use Rattle.type_schemes.specs.Schemes.{AreAmong, IsSchemeOver, open_numbers, scheme_of};
@@ -142,6 +142,7 @@ pub fn generalise(
     requires answer { IsOver subst.now (term_of answer.now) }
     requires kinds { AreAmong (length subst.now.types) (length subst.now.kinds) (map source_term kinds.now) }
     ensures over { IfOk result (λ d. (names : List Term) → IsHeldBy subst.now names held.now → IsSchemeOver subst.now (scheme_of d.general)) }
+    ensures text_over { IfOk result (λ d. (names : List Term) → IsHeldBy subst.now names held.now → AreTextKindsOver subst.now d.text.items) }
     ensures general { IfOk result (λ d. (names : List Term) → IsHeldBy subst.now names held.now → IsGeneral subst.now names (map term_of params.now) (term_of answer.now) kinds.now (scheme_of d.general) d.text.items) }
 {
     subst.extends_each_assignment();

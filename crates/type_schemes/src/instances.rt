@@ -5,7 +5,7 @@ ghost use Rattle.type_terms.specs.Naming.{instance};
 ghost use Rattle.type_terms.specs.Term.{term_of};
 ghost use Rattle.type_schemes.specs.Instances.{Grows, Instantiates, instance_params};
 ghost use Rattle.type_schemes.specs.NewVariables.{AreNewKinds, AreNewTypes, HasOuterKind, HasOuterKinds, HasOuterType, HasOuterTypes, IsNewKind, IsNewType, open_terms};
-ghost use Rattle.type_schemes.specs.Schemes.{IsSchemeOver, scheme_of};
+ghost use Rattle.type_schemes.specs.Schemes.{IsSchemeOver, open_numbers, scheme_of};
 
 use crate::general::{General, KindParameter, TypeParameter};
 use liq_base::Memory;
@@ -142,6 +142,7 @@ fn opened(
 pub fn instantiate(alloc: Global, subst: &mut Subst, general: &General) -> Result<Instance, Memory>
     requires over { IsSchemeOver subst.old (scheme_of general.now) }
     ensures instance { IfOk result (λ i. Instantiates subst.old subst.new (scheme_of general.now) (instance_params i) (term_of i.result) i.kinds.items) }
+    ensures counted { IfOk result (λ i. length i.kinds.items ≡ length (open_numbers 0 (scheme_of general.now).kinds)) }
     ensures grows { Grows subst.old subst.new }
 {
     let types = new_types(alloc, subst, &general.types)?;

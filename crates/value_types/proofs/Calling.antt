@@ -12,7 +12,7 @@ use Rattle.typing_rules.specs.declared.uses.Target.TheVariants as target
 use Rattle.typing_rules.specs.declared.uses.Builtin.{Builtin}
 use Rattle.typing_rules.specs.Arguments.{Parameter, Given, Matched}
 use Rattle.typing_rules.specs.Table.{params_of}
-use Rattle.type_schemes.specs.Schemes.{AreAmong, Scheme, IsInstance, IsSchemeOver, builtin_scheme}
+use Rattle.type_schemes.specs.Schemes.{AreAmong, Scheme, IsInstance, IsSchemeOver, builtin_scheme, open_numbers}
 use Rattle.std.specs.Global.{Vec}
 use Rattle.type_terms.specs.declared.ty.Ty.{Ty}
 use Rattle.type_schemes.specs.declared.instances.Instance.{Instance}
@@ -95,12 +95,13 @@ call_no_def s env e t old means h = subst (λ x. HasNoType s env x old) (sym (ca
 
 -- ---- the beginning of a call
 
-pub begun : (s s1 s2 : Table) (g : Scheme) (at : ℕ) (t : Target) (i : Instance) (c : Callee) (kinds : Vec KindTerm) (old new : List Found) → Instantiates s s1 g (instance_params i) (term_of i.result) i.kinds.items →
+pub begun : (s s1 s2 : Table) (g : Scheme) (at : ℕ) (t : Target) (i : Instance) (c : Callee) (kinds : Vec KindTerm) (old new : List Found) → Instantiates s s1 g (instance_params i) (term_of i.result) i.kinds.items → length i.kinds.items ≡ length (open_numbers 0 g.kinds) →
     (c.params ≡ i.params) × (kinds ≡ i.kinds) × Defines s1 s2 c.result (term_of i.result) → new ≡ with_use old at t kinds.items → HasBegun s s2 g at t c old new
-begun s s1 s2 g at t i c kinds old new h p added = record {
+begun s s1 s2 g at t i c kinds old new h counted p added = record {
   kinds = i.kinds.items;
   instantiated =
       subst (λ (v : Vec Ty). IsInstantiated s s2 (IsInstance g) (map term_of v.items) (variable c.result) i.kinds.items) (sym p.0)
       (result_named s s1 s2 (IsInstance g) (instance_params i) (term_of i.result) i.kinds.items c.result (instantiated_as s s1 g (instance_params i) (term_of i.result) i.kinds.items h) p.2);
   added = added ∙ ap (λ (v : Vec KindTerm). with_use old at t v.items) p.1;
+  counted = counted;
 }

@@ -1,12 +1,12 @@
 -- What the program's values stand for, and what is to hold of them.
-use Rattle.std.specs.Prelude.{◌≡◌, ℕ, List, [], ◌∷◌, ◌++◌, map, cond, nat_eq, Option, Some, None, slice_get}
+use Rattle.std.specs.Prelude.{◌≡◌, ℕ, List, [], ◌∷◌, ◌++◌, length, map, cond, nat_eq, Option, Some, None, slice_get, ⊤}
 use Rattle.script_grammar.specs.View.{view_def}
 use Rattle.type_terms.specs.Term.{Term, variable, term_of}
 use Rattle.type_terms.specs.Table.{Table}
 use Rattle.type_terms.specs.declared.ty.KindTerm.{KindTerm}
 use Rattle.value_types.specs.declared.environment.TextKind.{TextKind}
 use Rattle.value_types.specs.declared.environment.TextKind.TheVariants as text_kind
-use Rattle.type_schemes.specs.Schemes.{Scheme, IsInstance, IsSchemeOver, scheme_of}
+use Rattle.type_schemes.specs.Schemes.{Scheme, IsInstance, IsSchemeOver, open_numbers, scheme_of}
 use Rattle.typing_rules.specs.declared.uses.Target.{Target}
 use Rattle.typing_rules.specs.declared.uses.Target.TheVariants as target
 use Rattle.typing_rules.specs.Arguments.{Parameter}
@@ -89,8 +89,14 @@ pub record IsSeen (s : Table) (names : Names) (uses : List FoundUse) : Type 0 wh
   pub uses_over : AreUsesOver s (founds uses)
   pub calls : (t : ℕ) → DefIs s (env_of names) t (def_seen t names.defs.now)
 
--- what is called was given new variables, and its use was added
+-- where a name outside a call has a type, it means a binding, and its use was added
+abbrev pub IsNamed : Env → ℕ → List Found → List Found → Option ℕ → Type 0
+IsNamed env at old new None = ⊤
+IsNamed env at old new (Some n) = (t : ℕ) × (env.targets at ≡ Some (target.Slot t)) × (new ≡ with_use old at (target.Slot t) [])
+
+-- what is called was given new variables, and its use was added with as many kinds as it has open ones
 pub record HasBegun (s s' : Table) (g : Scheme) (at : ℕ) (t : Target) (c : Callee) (old new : List Found) : Type 0 where
   pub kinds : List KindTerm
   pub instantiated : IsInstantiated s s' (IsInstance g) (map term_of c.params.items) (variable c.result) kinds
   pub added : new ≡ with_use old at t kinds
+  pub counted : length kinds ≡ length (open_numbers 0 g.kinds)

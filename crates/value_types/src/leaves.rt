@@ -4,7 +4,7 @@ ghost use Rattle.script_grammar.specs.Tree.{Named};
 ghost use Rattle.type_flow.specs.Environment.{with_use};
 ghost use Rattle.type_flow.specs.Flow.{Defines, IsTypeOf, if_yes};
 ghost use Rattle.value_types.specs.Literals.{literal_term};
-ghost use Rattle.value_types.specs.Seen.{IsSeen, env_of, founds};
+ghost use Rattle.value_types.specs.Seen.{IsNamed, IsSeen, env_of, founds};
 
 use crate::environment::{FoundUse, Names};
 use liq_base::{Memory, Text};
@@ -54,7 +54,8 @@ pub fn type_name(
     name: &Text,
 ) -> Result<Option<u64>, Memory>
     requires seen { IsSeen subst.old names uses.old.items }
-    ensures { IfOk result (λ r. IsTypeOf subst.old subst.new (env_of names.entry) (Named at name.now) (founds uses.old.items) (founds uses.new.items) r) }
+    ensures typed { IfOk result (λ r. IsTypeOf subst.old subst.new (env_of names.entry) (Named at name.now) (founds uses.old.items) (founds uses.new.items) r) }
+    ensures named { IfOk result (λ r. IsNamed (env_of names.entry) at (founds uses.old.items) (founds uses.new.items) r) }
 {
     match names.target(at) {
         None => Ok(None),

@@ -1,9 +1,9 @@
-use Rattle.std.proofs.Common.{◌≡◌, ◌∙◌, ap, ap₂, subst, ℕ, List, map}
+use Rattle.std.proofs.Common.{◌≡◌, ◌∙◌, ap, ap₂, subst, ℕ, List, length, map}
 use Rattle.type_terms.specs.Naming.{instance}
 use Rattle.type_terms.specs.Term.{Term, term_of}
 use Rattle.type_schemes.specs.NewVariables.{AreNewTypes, AreNewKinds, open_terms}
 use Rattle.type_schemes.specs.Schemes.{scheme_of}
-use Rattle.type_schemes.proofs.Instancing.{instantiates}
+use Rattle.type_schemes.proofs.Instancing.{instantiates, open_terms_counted}
 use Rattle.type_schemes.proofs.NewTypes.{grows_both}
 use Rattle.type_schemes.proofs.instances.instantiate.Goals as goal
 
@@ -42,3 +42,10 @@ returns-clause-instance c =
     (renamed_is _ _ _ _ _ _ _ (ap (map term_of) c.deref-3.ensures.value) c.deref-4.ensures.value c.deref-5.ensures.value c.in_ok-params.ensures)
     (one_renamed_is _ _ _ _ _ _ c.deref-6.ensures.value c.deref-7.ensures.value c.in_ok-call.ensures.instance)
     (c.in_ok-kinds.ensures ∙ ap₂ open_terms c.deref-8.ensures.value c.deref-9.ensures.value)
+
+pub returns-clause-counted : goal.returns-clause-counted
+returns-clause-counted c =
+    let ps = c.args.general.now.kinds.items in
+    let ms = c.in_ok-numbers.numbers.items in
+    let new : AreNewKinds c.new_types.new.subst c.new_kinds.new.subst ps ms = subst (λ xs. AreNewKinds c.new_types.new.subst c.new_kinds.new.subst xs ms) c.deref-2.ensures.value c.in_ok-numbers.ensures.new in
+    ap length (c.in_ok-kinds.ensures ∙ ap₂ open_terms c.deref-8.ensures.value c.deref-9.ensures.value) ∙ open_terms_counted ps ms 0 new.many

@@ -1,0 +1,4 @@
+pub mod Alike
+pub mod Tokens
+pub mod Readable
+pub mod Scripts

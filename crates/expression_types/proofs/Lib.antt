@@ -1,0 +1,6 @@
+pub mod Adding
+pub mod Applying
+pub mod NamesInOrder
+pub mod Operands
+pub mod Sizes
+pub mod Turns

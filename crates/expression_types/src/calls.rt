@@ -1,0 +1,130 @@
+// The types of calls.
+ghost use Rattle.std.specs.Prelude.{◌≡◌, length, map, option_map, IfOk, Some};
+ghost use Rattle.name_scope.specs.Seen.{seen_parameter};
+ghost use Rattle.script_grammar.specs.declared.tree.Call.{out-Call};
+ghost use Rattle.script_grammar.specs.View.{listed, view_arg, view_call};
+ghost use Rattle.type_schemes.specs.Schemes.{open_numbers, scheme_of};
+ghost use Rattle.type_flow.specs.Fitting.{seen_argument};
+ghost use Rattle.type_flow.specs.Flow.{AreGivenOf, IsTypeOf};
+ghost use Rattle.value_types.specs.Seen.{IsCalled, IsSeen, env_of, founds};
+ghost use Rattle.expression_types.specs.Order.{AreAddedIf, kinds_count, tokens_used};
+
+use crate::values::type_full;
+use liq_base::Memory;
+use name_scope::{Parameter, builtin_params};
+use script_grammar::tree::{Arg, Call};
+use std::alloc::Global;
+use type_flow::{Argument, fit};
+use type_schemes::{General, builtin_general};
+use type_terms::Subst;
+use typing_rules::Target;
+use value_types::{FoundUse, Names, begin_call, some_if};
+
+/// An argument of this type, by its label.
+fn argument_of<'s>(arg: &'s Arg, var: u64) -> Argument<'s>
+    ensures { seen_argument result ≡ (arg.now.label, var) }
+{
+    let label = match &arg.label {
+        None => None,
+        Some(name) => Some(name.as_str()),
+    };
+    Argument { label, var }
+}
+
+/// The arguments of a call by their labels and types.
+#[cycle(value)]
+fn type_args<'s>(
+    alloc: Global,
+    subst: &mut Subst,
+    names: Names<'_, '_>,
+    uses: &mut Vec<FoundUse>,
+    args: &'s [Arg],
+) -> Result<Option<Vec<Argument<'s>>>, Memory>
+    requires seen { IsSeen subst.old names uses.old.items }
+    ensures typed { IfOk result (λ r. AreGivenOf subst.old subst.new (env_of names.entry) (listed (map view_arg args.entry.now)) (founds uses.old.items) (founds uses.new.items) (option_map (λ v. map seen_argument v.items) r)) }
+    ensures order { IfOk result (λ r. AreAddedIf names.entry (tokens_used (listed (map view_arg args.entry.now))) (founds uses.old.items) (founds uses.new.items) r) }
+{
+    let mut given = Vec::new(alloc);
+    for arg in args {
+        match type_full(alloc, subst, names, uses, &arg.value)? {
+            None => return Ok(None),
+            Some(var) => {
+                given.push(argument_of(arg, var))?;
+            }
+        }
+    }
+    Ok(Some(given))
+}
+
+/// A call of what has this general type.
+#[cycle(value)]
+fn apply(
+    alloc: Global,
+    subst: &mut Subst,
+    names: Names<'_, '_>,
+    uses: &mut Vec<FoundUse>,
+    call: &Call,
+    target: Target,
+    params: &[Parameter<'_>],
+    general: &General,
+) -> Result<Option<u64>, Memory>
+    requires seen { IsSeen subst.old names uses.old.items }
+    requires callable { IsCalled subst.old (env_of names) (out-Call call.now).at target (map seen_parameter params.now) (scheme_of general.now) }
+    requires counted { kinds_count names.defs.now (Some target) ≡ Some (length (open_numbers 0 (scheme_of general.now).kinds)) }
+    ensures typed { IfOk result (λ r. IsTypeOf subst.old subst.new (env_of names.entry) (view_call call.now) (founds uses.old.items) (founds uses.new.items) r) }
+    ensures order { IfOk result (λ r. AreAddedIf names.entry (tokens_used (view_call call.now)) (founds uses.old.items) (founds uses.new.items) r) }
+{
+    let callee = begin_call(alloc, subst, uses, call.at, target, general)?;
+    match type_args(alloc, subst, names, uses, &call.args)? {
+        None => Ok(None),
+        Some(mut given) => {
+            let yes = fit(alloc, subst, params, &callee.params, &mut given)?;
+            Ok(some_if(yes, callee.result))
+        }
+    }
+}
+
+/// The type of a call; `None` where it has no type. It fails only where memory is refused.
+///
+/// Where it has a type, one use for each name of its text was added, in the order of the tokens.
+#[cycle(value)]
+pub fn type_call(
+    alloc: Global,
+    subst: &mut Subst,
+    names: Names<'_, '_>,
+    uses: &mut Vec<FoundUse>,
+    call: &Call,
+) -> Result<Option<u64>, Memory>
+    requires seen { IsSeen subst.old names uses.old.items }
+    ensures typed { IfOk result (λ r. IsTypeOf subst.old subst.new (env_of names.entry) (view_call call.now) (founds uses.old.items) (founds uses.new.items) r) }
+    ensures order { IfOk result (λ r. AreAddedIf names.entry (tokens_used (view_call call.now)) (founds uses.old.items) (founds uses.new.items) r) }
+{
+    match names.target(call.at) {
+        None => Ok(None),
+        Some(target) => match target {
+            Target::Slot(_) => Ok(None),
+            Target::Def(def) => match names.function(def) {
+                None => Ok(None),
+                Some(known) => {
+                    let typed = apply(
+                        alloc,
+                        subst,
+                        names,
+                        uses,
+                        call,
+                        target,
+                        &known.params,
+                        &known.general,
+                    )?;
+                    Ok(typed)
+                }
+            },
+            Target::Builtin(builtin) => {
+                let params = builtin_params(builtin);
+                let general = builtin_general(alloc, builtin)?;
+                let typed = apply(alloc, subst, names, uses, call, target, params, &general)?;
+                Ok(typed)
+            }
+        },
+    }
+}

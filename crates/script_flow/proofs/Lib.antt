@@ -1,0 +1,10 @@
+pub mod NameTokens
+pub mod Appended
+pub mod Uses
+pub mod Readings
+pub mod Wholes
+pub mod AtPlaces
+pub mod Instances
+pub mod Going
+pub mod Numbers
+pub mod Typed

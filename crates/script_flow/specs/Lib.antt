@@ -1,0 +1,4 @@
+pub mod Counts
+pub mod Defs
+pub mod Statements
+pub mod Whole
