@@ -1,21 +1,23 @@
 -- The parts of a new engine, one by one.
-use Rattle.std.proofs.Common.{◌≡◌, ◌+◌, ◌∙◌, ◌++◌, ◌&&◌, ◌⊎◌, inl, inr, ℕ, zero, suc, Bool, Some, List, [], ◌∷◌, length, get_or, slice_get, nat_eq, refl, ap, sym, subst}
-use Rattle.std.specs.List.{list_any}
+use Rattle.std.proofs.Common.{◌≡◌, ◌<◌, ◌+◌, ◌∙◌, ◌++◌, ◌⊎◌, inl, inr, ℕ, zero, suc, Bool, false, Some, List, [], ◌∷◌, length, get_or, slice_get, arith, refl, ap, sym, subst}
 use Rattle.std.proofs.lemmas.List.{length-append}
 use Rattle.plan_core.specs.declared.node.Node.{Node}
 use Rattle.plan_core.specs.declared.plan.Plan.{Plan}
-use Rattle.plan_core.specs.declared.sink.SinkPlan.{SinkPlan}
-use Rattle.plan_core.specs.Plans.{sink_node}
-use Rattle.clock_infer.specs.declared.clock_map.NodeClock.{NodeClock}
-use Rattle.clock_infer.specs.declared.clock_map.NodeClock.TheVariants.{Main}
-use Rattle.stream_meaning.specs.Instants.{same_clock}
 use Rattle.node_states.specs.declared.state.NodeState.{NodeState}
 use Rattle.clock_engine.proofs.Numbered.{no_item}
 use Rattle.clock_engine.specs.Beginnings.{AreNewStates, IsNewState}
 
--- node j is demanded of itself
-abbrev pub root_at : List NodeClock → ℕ → List SinkPlan → ℕ → Bool
-root_at clocks clock sinks j = same_clock (get_or clocks j (Main 0)) (Main clock) && list_any (λ sink. nat_eq (sink_node sink) j) sinks
+-- the items of a list with one more
+pub in_front : (xs : List Bool) (x : Bool) (k : ℕ) → k < length xs → get_or (xs ++ x ∷ []) k false ≡ get_or xs k false
+in_front [] x k h = absurd (omega (arith, h))
+in_front (y ∷ xs) x zero h = refl
+in_front (y ∷ xs) x (suc k) h = in_front xs x k (omega (arith, h))
+
+pub behind : (xs : List Bool) (x : Bool) (k : ℕ) → k ≡ length xs → get_or (xs ++ x ∷ []) k false ≡ x
+behind [] x zero e = refl
+behind [] x (suc k) e = absurd (omega (arith, e))
+behind (y ∷ xs) x zero e = absurd (omega (arith, e))
+behind (y ∷ xs) x (suc k) e = behind xs x k (omega (arith, e))
 
 -- an item behind one more
 pub pushed : {A : Type 0} (xs : List A) (x y : A) (k : ℕ) → slice_get (xs ++ x ∷ []) k ≡ Some y → (slice_get xs k ≡ Some y) ⊎ ((k ≡ length xs) × (x ≡ y))

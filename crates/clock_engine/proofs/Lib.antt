@@ -7,3 +7,4 @@ pub mod Made
 pub mod Beginning
 pub mod Sinks
 pub mod Starting
+pub mod Mapped

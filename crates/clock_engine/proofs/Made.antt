@@ -8,14 +8,14 @@ use Rattle.liq_base.specs.Kinds.{channels_of}
 use Rattle.liq_base.specs.Pieces.{HasRoom, IsPrefix, grown, narrowed}
 use Rattle.clock_infer.specs.declared.clock_map.NodeClock.TheVariants.{Main}
 use Rattle.op_leaf.specs.Readers.{Answer}
-use Rattle.stream_meaning.specs.Instants.{Setting, clock_of, sub_of}
+use Rattle.stream_meaning.specs.Instants.{Setting, IsMeaning, clock_of, sub_of}
 use Rattle.stream_meaning.specs.Sinks.{gaps, kind_of, tick_bytes, tick_slots}
 use Rattle.stream_meaning.specs.Calls.{after_calls, calls_of_tick}
 use Rattle.node_states.specs.Ticks.{HasStopped, HasTicked, IsOutput, with_rest}
 use Rattle.clock_outputs.specs.declared.port.Port.{Port}
 use Rattle.clock_outputs.specs.Ports.{after_slots, emptied}
 use Rattle.clock_outputs.specs.Appends.{HaveRoom, TookAll, TookParts}
-use Rattle.engine_instants.specs.States.{AreRoots}
+use Rattle.engine_clocks.specs.Clocks.{AreOwnRoots}
 use Rattle.engine_ticks.specs.Lanes.{AreLanes, LanesStand}
 use Rattle.engine_ticks.specs.Runs.{Heard}
 use Rattle.clock_engine.specs.declared.engine.Works.{Works}
@@ -26,7 +26,8 @@ use Rattle.clock_engine.proofs.Quiet.{no_calls}
 use Rattle.clock_engine.proofs.Filling.{filled_kind, filled_long, filled_room, filled_sink}
 use Rattle.clock_engine.proofs.Numbered.{from_mapped, got_mapped, no_item, port_inside, port_node}
 use Rattle.clock_engine.proofs.Holding.{held_grew, held_part, held_same}
-use Rattle.clock_engine.proofs.Ticking.{are_long, bytes_are, gaps_more, tick_heard}
+use Rattle.clock_engine.proofs.Mapped.{meaning_of}
+use Rattle.clock_engine.proofs.Ticking.{bytes_are, gaps_more, tick_heard}
 use Rattle.engine_ticks.proofs.Hearing.{after_slots-node}
 
 item_is : {A : Type 0} (xs : List A) (k : ℕ) (d x : A) → slice_get xs k ≡ Some x → get_or xs k d ≡ x
@@ -48,7 +49,7 @@ room_less (Some left) ticks size has = λ x e.
 
 module _ (works other : Works) (parts : AreWorks works)
     (are_lanes : AreLanes works.shape.plan.now works.shape.library.now other.lanes)
-    (heard : Heard works.shape.plan.now works.shape.library.now works.shape.clocks.now (Main works.clock) works.roots.items works.shape.plan.now.frame works.lanes other.lanes works.ports.items other.ports.items) where
+    (heard : Heard works.shape.plan.now works.shape.library.now works.shape.clocks.now (Main works.clock) works.own.items works.shape.plan.now.frame works.lanes other.lanes works.ports.items other.ports.items) where
   -- an output that has heard its node in the tick
   abbrev hear : Port → Port
   hear port = after_slots (emptied port) (heard.slots port.node)
@@ -75,11 +76,14 @@ module _ (works other : Works) (parts : AreWorks works)
   parts_after ticks stopped = record {
     nodes = parts.nodes;
     frame = parts.frame;
-    plain = parts.plain;
+    few = parts.few;
+    readers = parts.readers;
     feeds = parts.feeds;
     in_clocks = parts.in_clocks;
+    clocks = parts.clocks;
     lanes = are_lanes;
-    roots = record { size = parts.roots.size; each = parts.roots.each };
+    in_own = parts.in_own;
+    own = record { each = parts.own.each };
     outputs = ap (map output_of) heard.ports_are ∙ same_outputs works.ports.items ∙ parts.outputs;
     kinds = kept (λ port. port.kind ≡ kind_of (setting_of works) port.node)
         (λ port is. filled_kind (emptied port) (heard.slots port.node) ∙ is ∙ ap (kind_of (setting_of works)) (sym (after_slots-node (emptied port) (heard.slots port.node)))) parts.kinds;
@@ -148,12 +152,15 @@ module _ (works other : Works) (parts : AreWorks works)
     abbrev S : Setting
     S = with_rest (setting_of works) answers rest
 
-    roots : AreRoots S (Main works.clock) works.roots.items
-    roots = record { size = parts.roots.size; each = parts.roots.each }
+    own : AreOwnRoots S works.own.items
+    own = record { each = parts.own.each }
+
+    meaning : IsMeaning S (sub_of S)
+    meaning = meaning_of S parts.clocks parts.in_clocks
 
     slots_are : (i : ℕ) → clock_of S i ≡ Main works.clock → heard.slots i ≡ tick_slots S i t
     slots_are i inside = tick_heard S works.clock t i (heard.slots i) inside
-        ((heard.run S (sub_of S) (t * works.shape.plan.now.frame) (are_long S) roots (stands.lanes rest)).slots_are i)
+        ((heard.run S (sub_of S) (t * works.shape.plan.now.frame) meaning own (stands.lanes rest)).slots_are i)
 
     -- an output after the tick
     port_after : (k : ℕ) (port : Port) → slice_get other.ports.items k ≡ Some port
@@ -183,7 +190,7 @@ module _ (works other : Works) (parts : AreWorks works)
 
     lanes_after : LanesStand S (sub_of S) (Main works.clock) (suc t * works.shape.plan.now.frame) other.lanes
     lanes_after =
-        let run = heard.run S (sub_of S) (t * works.shape.plan.now.frame) (are_long S) roots (stands.lanes rest) in
+        let run = heard.run S (sub_of S) (t * works.shape.plan.now.frame) meaning own (stands.lanes rest) in
         subst (λ n. LanesStand S (sub_of S) (Main works.clock) n other.lanes) (sym (suc-mul t works.shape.plan.now.frame)) run.lanes_stand
 
   pub stands_after : (t : ℕ) (answers : ℕ → List Answer) → EngineStands works t answers → works.ticks < 1000000000
@@ -215,7 +222,7 @@ module _ (works other : Works) (parts : AreWorks works)
         (held_in held works.ports.items old) (held_in held other.ports.items new)
     has_ticked t answers stands few took = record {
       accepted = λ buffer. true;
-      are = λ rest. no_calls (with_rest (setting_of works) (after_calls answers []) rest) parts.plain parts.feeds (λ buffer. true) works.clock t;
+      are = λ rest. no_calls (with_rest (setting_of works) (after_calls answers []) rest) parts.readers parts.feeds (λ buffer. true) works.clock t;
       stand = subst (λ a. EngineStands (after_tick works other (works.ticks + 1) works.stopped) (suc t) a) (nothing_more answers) (stands_after t answers stands few);
       grew = λ rest sink node output. subst
           (λ a. held_in held other.ports.items new sink ≡ grown (tick_bytes (with_rest (setting_of works) a rest) node t) (held_in held works.ports.items old sink)) (nothing_more answers)

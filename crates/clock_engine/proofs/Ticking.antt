@@ -2,37 +2,16 @@
 use Rattle.std.proofs.Common.{◌≡◌, ◌<◌, ◌≤◌, ◌+◌, ◌*◌, ◌∙◌, ℕ, zero, suc, Some, None, List, [], ◌∷◌, length, map, arith, refl, ap, sym}
 use Rattle.std.proofs.Math.Nat.{suc-mul}
 use Rattle.std.specs.List.{flat_map, range_with_len}
-use Rattle.std.proofs.lemmas.List.{length-append, length-map}
+use Rattle.std.proofs.lemmas.List.{length-map}
 use Rattle.std.proofs.lemmas.List.FromFn.{length-range_with_len}
-use Rattle.clock_infer.specs.declared.clock_map.NodeClock.{NodeClock}
-use Rattle.clock_infer.specs.declared.clock_map.NodeClock.TheVariants.{Main, Sub}
+use Rattle.clock_infer.specs.declared.clock_map.NodeClock.TheVariants.{Main}
 use Rattle.frame_core.specs.Slots.{Slot}
-use Rattle.stream_meaning.specs.Instants.{Setting, Moment, clock_of, crossfaded, history, moment_after, offer, slots_of, stream_of, sub_of, sub_within}
+use Rattle.stream_meaning.specs.Instants.{Setting, clock_of, history, moment_after, offer, stream_of, sub_of}
 use Rattle.stream_meaning.specs.Sinks.{gaps, missing, slot_block, tick_bytes, tick_slots, kind_of}
-use Rattle.node_states.specs.States.{AreLong}
 use Rattle.clock_outputs.specs.declared.port.Port.{Port}
 use Rattle.clock_outputs.specs.Ports.{after_slots, emptied}
 use Rattle.engine_ticks.specs.Runs.{slot_in}
 use Rattle.clock_engine.proofs.Filling.{filled_bytes, filled_gaps}
-
-slots_long : (past : List Moment) (i : ℕ) → length (slots_of past i) ≡ length past
-slots_long [] i = refl
-slots_long (moment ∷ past) i =
-    length-append (slots_of past i) (offer moment i ∷ []) ∙ ap (λ n. n + 1) (slots_long past i) ∙ last (length past)
-  where
-    last : (n : ℕ) → n + 1 ≡ suc n
-    last n = omega arith
-
-history_long : (setting : Setting) (sub : ℕ → ℕ → List Slot) (clock : NodeClock) (n : ℕ) → length (history setting sub clock n) ≡ n
-history_long setting sub clock zero = refl
-history_long setting sub clock (suc n) = ap suc (history_long setting sub clock n)
-
-pub are_long : (setting : Setting) → AreLong (sub_of setting)
-are_long setting = record {
-  each = λ k m.
-      slots_long (history setting (sub_within setting (length setting.plan.nodes)) (Sub k) m) (crossfaded setting.plan.nodes k)
-      ∙ history_long setting (sub_within setting (length setting.plan.nodes)) (Sub k) m;
-}
 
 -- the slots that were heard are those of the tick
 pub tick_heard : (setting : Setting) (m t i : ℕ) (slots : List Slot) → clock_of setting i ≡ Main m

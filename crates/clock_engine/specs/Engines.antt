@@ -1,17 +1,22 @@
 -- An engine's parts, and for what they stand.
 use Rattle.std.specs.Prelude.{◌≡◌, ◌≤◌, ◌*◌, ℕ, suc, Option, Some, None, List, [], ◌∷◌, All, length, map, nat_eq, slice_get, if◌then◌else◌}
 use Rattle.liq_base.specs.Kinds.{channels_of}
+use Rattle.liq_base.specs.declared.limits.TheConstants.{MAX_NODES}
+use Rattle.plan_core.specs.declared.plan.Plan.{Plan}
 use Rattle.plan_core.specs.Plans.{AreNodes}
 use Rattle.plan_core.specs.declared.sink.SinkPlan.{SinkPlan}
 use Rattle.plan_core.specs.declared.sink.SinkPlan.TheVariants.{Output, Feed}
+use Rattle.clock_infer.specs.declared.clock_map.ClockMap.{ClockMap}
+use Rattle.clock_infer.specs.declared.clock_map.NodeClock.{NodeClock}
 use Rattle.clock_infer.specs.declared.clock_map.NodeClock.TheVariants.{Main}
+use Rattle.clock_infer.specs.Answers.{IsClockMap}
 use Rattle.op_leaf.specs.Readers.{Answer}
 use Rattle.stream_meaning.specs.Instants.{Setting, lies_in, sub_of}
 use Rattle.stream_meaning.specs.Sinks.{gaps, kind_of}
 use Rattle.node_states.specs.Ticks.{with_rest}
 use Rattle.clock_outputs.specs.declared.port.Port.{Port}
-use Rattle.engine_instants.specs.States.{AreRoots}
-use Rattle.engine_ticks.specs.Lanes.{AreLanes, IsPlain, LanesStand}
+use Rattle.engine_clocks.specs.Clocks.{AreOwnRoots}
+use Rattle.engine_ticks.specs.Lanes.{AreLanes, HasNoReaders, LanesStand}
 use Rattle.clock_engine.specs.declared.fault.TickFault.{TickFault}
 use Rattle.clock_engine.specs.declared.engine.Works.{Works}
 
@@ -45,22 +50,31 @@ after_tick works other ticks stopped = record {
   shape = works.shape;
   clock = works.clock;
   start = works.start;
-  roots = works.roots;
+  own = works.own;
   lanes = other.lanes;
   ports = other.ports;
   ticks = ticks;
   stopped = stopped;
 }
 
--- the parts of an engine of main clock m fit together: a plan without crossfades and buffers
+-- these are the clocks of a plan's nodes that `assign` answers
+pub record AreClocksOf (plan : Plan) (clocks : List NodeClock) : Type 0 where
+  pub map : ClockMap
+  pub assigned : IsClockMap plan map
+  pub are : clocks ≡ map.of
+
+-- the parts of an engine of main clock m fit together: a plan without buffers
 pub record AreWorks (works : Works) : Type 0 where
   pub nodes : AreNodes works.shape.plan.now.nodes
   pub frame : works.shape.plan.now.frame ≤ 65536
-  pub plain : IsPlain works.shape.plan.now
+  pub few : length works.shape.plan.now.nodes ≤ MAX_NODES
+  pub readers : HasNoReaders works.shape.plan.now
   pub feeds : (i buffer node : ℕ) → slice_get works.shape.plan.now.sinks i ≡ Some (Feed buffer node) → ⊥
   pub in_clocks : length works.shape.clocks.now ≡ length works.shape.plan.now.nodes
+  pub clocks : AreClocksOf works.shape.plan.now works.shape.clocks.now
   pub lanes : AreLanes works.shape.plan.now works.shape.library.now works.lanes
-  pub roots : AreRoots (setting_of works) (Main works.clock) works.roots.items
+  pub in_own : length works.own.items ≡ length works.shape.plan.now.nodes
+  pub own : AreOwnRoots (setting_of works) works.own.items
   pub outputs : map output_of works.ports.items ≡ outputs_of (setting_of works) works.clock
   pub kinds : All (λ port. port.kind ≡ kind_of (setting_of works) port.node) works.ports.items
   pub rooms : All (λ port. works.shape.plan.now.frame * (2 * channels_of port.kind) ≤ port.piece.room) works.ports.items

@@ -3,12 +3,12 @@ ghost use Rattle.std.specs.Prelude.{◌≡◌, ◌<◌, ◌+◌, ℕ, Some, None
 ghost use Rattle.plan_core.specs.Plans.{IsWellFormed};
 ghost use Rattle.clock_infer.specs.Answers.{IsClockMap};
 ghost use Rattle.frame_core.specs.Library.{IsLibrary};
-ghost use Rattle.engine_ticks.specs.Lanes.{AreLanes, IsPlain};
+ghost use Rattle.engine_ticks.specs.Lanes.{AreLanes, HasNoReaders};
 ghost use Rattle.engine_ticks.specs.Runs.{Heard};
 ghost use Rattle.clock_infer.specs.declared.clock_map.NodeClock.TheVariants.{Main as InMain};
 ghost use Rattle.op_leaf.specs.Readers.{Answer};
 ghost use Rattle.clock_outputs.specs.Appends.{AreKept};
-ghost use Rattle.clock_engine.specs.Engines.{AreWorks, EngineStands, after_tick, held_in, outputs_of, setting_of};
+ghost use Rattle.clock_engine.specs.Engines.{AreClocksOf, AreWorks, EngineStands, after_tick, held_in, outputs_of, setting_of};
 ghost use Rattle.clock_outputs.specs.Appends.{NoneFell};
 ghost use Rattle.stream_meaning.specs.Sinks.{gaps};
 ghost use Rattle.node_states.specs.Ticks.{IsOutput, with_rest};
@@ -16,9 +16,10 @@ ghost use Rattle.clock_engine.specs.Ticks.{HasFailed, HasMade, HaveTickRoom, IsW
 
 use crate::TickFault;
 use crate::outputs::ports_of;
-use crate::parts::{most_children, roots_of, states_of};
+use crate::parts::{most_children, own_roots, states_of, times_of};
 use clock_infer::{ClockMap, NodeClock};
 use clock_outputs::{Port, append_all};
+use engine_clocks::ClockLanes;
 use engine_instants::Shape;
 use engine_ticks::{Lanes, run_tick};
 use fixed_text::WeekSecond;
@@ -38,8 +39,8 @@ pub struct Works<'a> {
     pub clock: u32,
     pub start: WeekSecond,
 
-    /// Which nodes are demanded of themselves: those of the clock's sinks.
-    pub roots: Vec<bool>,
+    /// For each node, whether its own clock demands it of itself: the nodes of sinks, and the children of crossfades.
+    pub own: Vec<bool>,
     pub lanes: Lanes,
 
     /// The outputs of the clock, in sink order.
@@ -51,8 +52,7 @@ pub struct Works<'a> {
 }
 
 /// The engine of one main clock, with the sinks of its outputs.
-#[derive(Drop)]
-pub struct ClockEngine<'a, O: Drop> {
+pub struct ClockEngine<'a, O> {
     pub works: Works<'a>,
     pub outs: Vec<O>,
 }
@@ -65,8 +65,9 @@ fn make_works<'a>(
     start: WeekSecond,
 ) -> Result<Works<'a>, Memory>
     requires plan { IsWellFormed shape.plan.now }
-    requires plain { IsPlain shape.plan.now }
+    requires readers { HasNoReaders shape.plan.now }
     requires in_clocks { length shape.clocks.now ≡ length shape.plan.now.nodes }
+    requires clocks { AreClocksOf shape.plan.now shape.clocks.now }
     requires library { IsLibrary shape.library.now }
     requires leaves { length shape.library.now.leaves ≡ length shape.plan.now.nodes }
     ensures works { IfOk result AreWorks }
@@ -79,22 +80,28 @@ fn make_works<'a>(
         slot: None,
         pick: None,
     };
+    let time = WeekTime::new(start, shape.plan.rate);
+    let times = times_of(alloc, time, states.len())?;
     let parts = vec![in alloc; silent; states.len()]?;
     let marks = vec![in alloc; false; states.len()]?;
+    let roots = vec![in alloc; false; states.len()]?;
     let desk = Desk::new(alloc, most_children(shape.plan))?;
-    let roots = roots_of(alloc, &shape, clock)?;
+    let own = own_roots(alloc, &shape)?;
     let ports = ports_of(alloc, &shape, clock)?;
-    let time = WeekTime::new(start, shape.plan.rate);
     Ok(Works {
         shape,
         clock,
         start,
-        roots,
+        own,
         lanes: Lanes {
-            states,
-            parts,
-            marks,
-            desk,
+            clocks: ClockLanes {
+                states,
+                times,
+                parts,
+                marks,
+                roots,
+                desk,
+            },
             time,
         },
         ports,
@@ -108,21 +115,21 @@ fn run_works(works: &mut Works<'_>)
     requires { AreWorks works.old }
     ensures same { works.new ≡ after_tick works.old works.new works.old.ticks works.old.stopped }
     ensures lanes { AreLanes works.old.shape.plan.now works.old.shape.library.now works.new.lanes }
-    ensures heard { Heard works.old.shape.plan.now works.old.shape.library.now works.old.shape.clocks.now (InMain works.old.clock) works.old.roots.items works.old.shape.plan.now.frame
+    ensures heard { Heard works.old.shape.plan.now works.old.shape.library.now works.old.shape.clocks.now (InMain works.old.clock) works.old.own.items works.old.shape.plan.now.frame
         works.old.lanes works.new.lanes works.old.ports.items works.new.ports.items }
 {
     let clock = NodeClock::Main(works.clock);
     run_tick(
         &works.shape,
         clock,
-        &works.roots,
+        &works.own,
         &mut works.lanes,
         &mut works.ports,
     );
 }
 
-impl<'a, O: Sink + Drop> ClockEngine<'a, O> {
-    /// An engine of a running main clock that made no tick: over a plan without crossfades and buffers, its clocks, its
+impl<'a, O: Sink> ClockEngine<'a, O> {
+    /// An engine of a running main clock that made no tick: over a plan without readers of buffers, its clocks, its
     /// files, and one sink for each output of the clock, in sink order. Where memory is refused the sinks come back.
     pub fn new(
         alloc: Global,
@@ -134,7 +141,7 @@ impl<'a, O: Sink + Drop> ClockEngine<'a, O> {
         start: WeekSecond,
     ) -> Result<ClockEngine<'a, O>, (Vec<O>, Memory)>
         requires plan { IsWellFormed plan.now }
-        requires plain { IsPlain plan.now }
+        requires readers { HasNoReaders plan.now }
         requires clocks { IsClockMap plan.now clocks.now }
         requires library { IsLibrary library.now }
         requires leaves { length library.now.leaves ≡ length plan.now.nodes }
@@ -158,8 +165,8 @@ impl<'a, O: Sink + Drop> ClockEngine<'a, O> {
         }
     }
 
-    /// Makes a tick: each output of the clock takes its bytes, in one piece and in sink order. The plan has no crossfades
-    /// and no buffers, so no call of the taps is made and no memory is taken. A fault stops the engine.
+    /// Makes a tick: each output of the clock takes its bytes, in one piece and in sink order. The plan has no
+    /// buffers, so no call of the taps is made and no memory is taken. A fault stops the engine.
     pub fn tick<T: Taps>(&mut self, _taps: &mut T) -> Result<(), TickFault>
         requires works { AreWorks self.old.works }
         requires sinks { length self.old.outs.items ≡ length self.old.works.ports.items }
@@ -168,6 +175,7 @@ impl<'a, O: Sink + Drop> ClockEngine<'a, O> {
         requires room { HaveTickRoom O.room self.old.works self.old.outs.items }
         ensures works { AreWorks self.new.works }
         ensures sinks { length self.new.outs.items ≡ length self.new.works.ports.items }
+        ensures outs { length self.new.outs.items ≡ length self.old.outs.items }
         ensures setting { setting_of self.new.works ≡ setting_of self.old.works }
         ensures clock { self.new.works.clock ≡ self.old.works.clock }
         ensures faults { NoneFell O.faults self.old.outs.items self.new.outs.items }

@@ -3,10 +3,11 @@
 
 mod engine;
 mod fault;
+pub mod laws;
 mod outputs;
 mod parts;
 mod plain;
 
 pub use engine::{ClockEngine, Works};
 pub use fault::TickFault;
-pub use plain::is_plain;
+pub use plain::has_no_readers;

@@ -1,18 +1,21 @@
 // The parts of a new engine.
-ghost use Rattle.std.specs.Prelude.{◌≡◌, ◌<◌, ◌≤◌, ◌&&◌, ℕ, Some, nat_eq, length, slice_get, IfOk};
+ghost use Rattle.std.specs.Prelude.{◌≡◌, ◌<◌, ◌≤◌, ℕ, Some, nat_eq, length, slice_get, IfOk};
 ghost use Rattle.std.specs.List.{list_any};
 ghost use Rattle.liq_base.specs.declared.limits.TheConstants.{MAX_CHILDREN, MAX_NODES};
 ghost use Rattle.plan_core.specs.declared.node.Node.{Node as PlanNode};
 ghost use Rattle.plan_core.specs.Plans.{AreNodes, IsInRange, IsNoReader, sink_node};
 ghost use Rattle.clock_infer.specs.declared.clock_map.NodeClock.TheVariants.{Main as InMain};
-ghost use Rattle.stream_meaning.specs.Instants.{Setting, same_clock};
-ghost use Rattle.engine_instants.specs.States.{AreRoots, HasRoomFor, over};
+ghost use Rattle.stream_meaning.specs.Instants.{Setting, is_root, same_clock};
+ghost use Rattle.node_states.specs.declared.time.WeekTime.{WeekTime as Time};
+ghost use Rattle.engine_instants.specs.States.{HasRoomFor, over};
+ghost use Rattle.engine_clocks.specs.Clocks.{AreOwnRoots};
 ghost use Rattle.clock_engine.specs.Beginnings.{AreNewStates, IsNewState};
 
 use clock_infer::NodeClock;
+use engine_clocks::child_of;
 use engine_instants::Shape;
 use liq_base::Memory;
-use node_states::NodeState;
+use node_states::{NodeState, WeekTime};
 use plan_core::{Node, Plan, SinkPlan};
 use std::alloc::Global;
 
@@ -75,24 +78,36 @@ pub fn is_main(of: NodeClock, clock: u32) -> bool
     }
 }
 
-// Whether a node of this number and clock is demanded of itself by a main clock.
-fn is_root(sinks: &[SinkPlan], of: NodeClock, clock: u32, i: usize) -> bool
-    ensures { result ≡ (same_clock of (InMain clock) && list_any (λ sink. nat_eq (sink_node sink) i) sinks.now) }
+// Whether its own clock demands node i of itself: a main clock the nodes of sinks, a sub-clock its crossfade's child.
+fn is_own_root(shape: &Shape<'_>, of: NodeClock, i: usize) -> bool
+    ensures { (other : Setting) → result ≡ is_root (over shape.now.plan.now shape.now.library.now shape.now.clocks.now other) of i }
 {
-    is_main(of, clock) && has_sink(sinks, i)
+    match of {
+        NodeClock::Main(_) => has_sink(shape.plan.sinks.as_slice(), i),
+        NodeClock::Sub(k) => child_of(shape.plan.nodes.as_slice(), k) as usize == i,
+    }
 }
 
-/// Which nodes a main clock demands of themselves: those of its sinks.
-pub fn roots_of(alloc: Global, shape: &Shape<'_>, clock: u32) -> Result<Vec<bool>, Memory>
+/// For each node, whether its own clock demands it of itself.
+pub fn own_roots(alloc: Global, shape: &Shape<'_>) -> Result<Vec<bool>, Memory>
     requires { length shape.now.clocks.now ≡ length shape.now.plan.now.nodes }
-    ensures { IfOk result (λ roots. (other : Setting) → AreRoots (over shape.now.plan.now shape.now.library.now shape.now.clocks.now other) (InMain clock) roots.items) }
+    ensures size { IfOk result (λ own. length own.items ≡ length shape.now.plan.now.nodes) }
+    ensures roots { IfOk result (λ own. (other : Setting) → AreOwnRoots (over shape.now.plan.now shape.now.library.now shape.now.clocks.now other) own.items) }
 {
-    let sinks = shape.plan.sinks.as_slice();
-    let mut roots = Vec::with_capacity(alloc, shape.clocks.len())?;
+    let mut own = Vec::with_capacity(alloc, shape.clocks.len())?;
     for i in 0..shape.clocks.len() {
-        roots.push(is_root(sinks, shape.clocks[i], clock, i))?;
+        own.push(is_own_root(shape, shape.clocks[i], i))?;
     }
-    Ok(roots)
+    Ok(own)
+}
+
+/// The times of so many sub-clocks before their first instant.
+pub fn times_of(alloc: Global, first: WeekTime, count: usize) -> Result<Vec<WeekTime>, Memory>
+    ensures size { IfOk result (λ times. length times.items ≡ count) }
+    ensures each { IfOk result (λ times. (k : ℕ) (time : Time) → slice_get times.items k ≡ Some time → time ≡ first) }
+{
+    let times = vec![in alloc; first; count]?;
+    Ok(times)
 }
 
 /// Room for the children of each node.

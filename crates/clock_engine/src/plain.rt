@@ -1,31 +1,33 @@
-// Whether a plan has neither crossfades nor readers of buffers.
-ghost use Rattle.std.specs.Prelude.{◌≡◌, true};
-ghost use Rattle.plan_core.specs.Plans.{IsNoReader, own_crossfades};
-ghost use Rattle.engine_ticks.specs.Lanes.{IsPlain};
+// Whether a plan has readers of buffers.
+ghost use Rattle.std.specs.Prelude.{◌≡◌, false, true};
+ghost use Rattle.plan_core.specs.Plans.{IsNoReader};
+ghost use Rattle.engine_ticks.specs.Lanes.{HasNoReaders};
 
 use plan_core::{Op, Plan};
 
-// Whether a node of this operator is neither a crossfade nor a reader.
-fn is_plain_op(op: &Op) -> bool
-    ensures crossfades { result ≡ true → own_crossfades op.now ≡ 0 }
-    ensures readers { result ≡ true → IsNoReader op.now }
+// Whether a node of this operator is a reader.
+fn is_reader(op: &Op) -> bool
+    ensures no { result ≡ false → IsNoReader op.now }
+    ensures yes { result ≡ true → IsNoReader op.now → ⊥ }
 {
     match op {
         Op::Single(_) | Op::Playlist { .. } | Op::Blank { .. } | Op::Square { .. } | Op::Fail => {
-            true
+            false
         }
-        Op::Fallback { .. } | Op::Switch { .. } | Op::Sequence => true,
-        Op::Add { .. } | Op::Amplify { .. } | Op::Mean | Op::Stereo | Op::Clock(_) => true,
-        Op::Crossfade { .. } | Op::Buffer(_) => false,
+        Op::Fallback { .. } | Op::Switch { .. } | Op::Sequence => false,
+        Op::Add { .. } | Op::Amplify { .. } | Op::Mean | Op::Stereo | Op::Clock(_) => false,
+        Op::Crossfade { .. } => false,
+        Op::Buffer(_) => true,
     }
 }
 
-/// Whether an engine can run this plan: whether it has neither crossfades nor readers of buffers.
-pub fn is_plain(plan: &Plan) -> bool
-    ensures { result ≡ true → IsPlain plan.now }
+/// Whether an engine can run this plan: whether it has no reader of a buffer.
+pub fn has_no_readers(plan: &Plan) -> bool
+    ensures yes { result ≡ true → HasNoReaders plan.now }
+    ensures no { result ≡ false → HasNoReaders plan.now → ⊥ }
 {
     for node in plan.nodes.as_slice() {
-        if !is_plain_op(&node.op) {
+        if is_reader(&node.op) {
             return false;
         }
     }

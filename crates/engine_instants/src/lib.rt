@@ -8,4 +8,5 @@ mod offers;
 mod shape;
 
 pub use instant::finish_instant;
+pub use offers::is_same_clock;
 pub use shape::Shape;

@@ -13,7 +13,7 @@ use fixed_text::WeekSecond;
 use node_states::{Desk, NodeState};
 use stream_meaning::Part;
 
-// Whether these are one clock.
+/// Whether these are one clock.
 pub fn is_same_clock(one: NodeClock, other: NodeClock) -> bool
     ensures { result ≡ same_clock one other }
 {

@@ -12,12 +12,12 @@ use Rattle.clock_infer.specs.declared.clock_map.NodeClock.{NodeClock}
 use Rattle.frame_core.specs.Slots.{Slot}
 use Rattle.frame_core.specs.Library.{Sounds}
 use Rattle.stream_meaning.specs.declared.part.Part.{Part}
-use Rattle.stream_meaning.specs.Instants.{Setting, history, moment_after, part_at}
+use Rattle.stream_meaning.specs.Instants.{Setting, IsMeaning, history, moment_after, part_at}
 use Rattle.stream_meaning.specs.Sinks.{slot_block}
-use Rattle.node_states.specs.States.{AreLong}
 use Rattle.clock_outputs.specs.declared.port.Port.{Port}
 use Rattle.clock_outputs.specs.Ports.{AllHaveRoomLeft, HasRoomLeft, after_slot, after_slots, emptied}
-use Rattle.engine_instants.specs.States.{AreRoots, over}
+use Rattle.engine_instants.specs.States.{over}
+use Rattle.engine_clocks.specs.Clocks.{AreOwnRoots}
 use Rattle.engine_ticks.specs.declared.lanes.Lanes.{Lanes}
 use Rattle.engine_ticks.specs.Lanes.{LanesStand}
 use Rattle.engine_ticks.specs.Runs.{Heard, slot_in}
@@ -77,39 +77,39 @@ room_any left ports room k d h =
     let one : 1 * (2 * channels_of port.kind) ≡ 2 * channels_of port.kind = omega arith in
     omega (arith, room k d h, more, one)
 
-pub heard_none : (plan : Plan) (library : Sounds) (clocks : List NodeClock) (clock : NodeClock) (roots : List Bool) (lanes : Lanes) (first now : List Port)
-    → now ≡ map emptied first → Heard plan library clocks clock roots 0 lanes lanes first now
-heard_none plan library clocks clock roots lanes first now is = record {
+pub heard_none : (plan : Plan) (library : Sounds) (clocks : List NodeClock) (clock : NodeClock) (own : List Bool) (lanes : Lanes) (first now : List Port)
+    → now ≡ map emptied first → Heard plan library clocks clock own 0 lanes lanes first now
+heard_none plan library clocks clock own lanes first now is = record {
   slots = λ i. [];
   long = λ i. refl;
   ports_are = is;
-  run = λ other sub n long roots_are stand. record {
+  run = λ other sub n meaning own_are stand. record {
     lanes_stand = (let same : n ≡ n + 0 = omega arith in subst (λ m. LanesStand (over plan library clocks other) sub clock m lanes) same stand);
     slots_are = λ i. refl;
   };
 }
 
-pub heard_more : (plan : Plan) (library : Sounds) (clocks : List NodeClock) (clock : NodeClock) (roots : List Bool) (count : ℕ) (before mid after : Lanes) (first now new : List Port)
-    → ((other : Setting) (sub : ℕ → ℕ → List Slot) (n : ℕ) → AreLong sub → AreRoots (over plan library clocks other) clock roots
+pub heard_more : (plan : Plan) (library : Sounds) (clocks : List NodeClock) (clock : NodeClock) (own : List Bool) (count : ℕ) (before mid after : Lanes) (first now new : List Port)
+    → ((other : Setting) (sub : ℕ → ℕ → List Slot) (n : ℕ) → IsMeaning (over plan library clocks other) sub → AreOwnRoots (over plan library clocks other) own
     → LanesStand (over plan library clocks other) sub clock n mid → LanesStand (over plan library clocks other) sub clock (suc n) after)
-    → ((other : Setting) (sub : ℕ → ℕ → List Slot) (n : ℕ) → AreLong sub → AreRoots (over plan library clocks other) clock roots
+    → ((other : Setting) (sub : ℕ → ℕ → List Slot) (n : ℕ) → IsMeaning (over plan library clocks other) sub → AreOwnRoots (over plan library clocks other) own
     → LanesStand (over plan library clocks other) sub clock n mid
-    → after.parts.items ≡ (moment_after (over plan library clocks other) sub clock (history (over plan library clocks other) sub clock n)).parts)
-    → new ≡ map (λ port. after_slot port (part_at after.parts.items port.node).slot) now
-    → Heard plan library clocks clock roots count before mid first now
-    → Heard plan library clocks clock roots (count + 1) before after first new
-heard_more plan library clocks clock roots count before mid after first now new goes does is heard = record {
-  slots = more_slots heard.slots after.parts.items;
-  long = λ i. length-append (heard.slots i) ((part_at after.parts.items i).slot ∷ []) ∙ ap (λ n. n + 1) (heard.long i);
-  ports_are = is ∙ ap (map (λ port. after_slot port (part_at after.parts.items port.node).slot)) heard.ports_are ∙ heard_all heard.slots after.parts.items first;
-  run = λ other sub n long roots_are stand.
-      let ran = heard.run other sub n long roots_are stand in
-      let parts = does other sub (n + count) long roots_are ran.lanes_stand in
+    → after.clocks.parts.items ≡ (moment_after (over plan library clocks other) sub clock (history (over plan library clocks other) sub clock n)).parts)
+    → new ≡ map (λ port. after_slot port (part_at after.clocks.parts.items port.node).slot) now
+    → Heard plan library clocks clock own count before mid first now
+    → Heard plan library clocks clock own (count + 1) before after first new
+heard_more plan library clocks clock own count before mid after first now new goes does is heard = record {
+  slots = more_slots heard.slots after.clocks.parts.items;
+  long = λ i. length-append (heard.slots i) ((part_at after.clocks.parts.items i).slot ∷ []) ∙ ap (λ n. n + 1) (heard.long i);
+  ports_are = is ∙ ap (map (λ port. after_slot port (part_at after.clocks.parts.items port.node).slot)) heard.ports_are ∙ heard_all heard.slots after.clocks.parts.items first;
+  run = λ other sub n meaning own_are stand.
+      let ran = heard.run other sub n meaning own_are stand in
+      let parts = does other sub (n + count) meaning own_are ran.lanes_stand in
       record {
         lanes_stand = (let same : suc (n + count) ≡ n + (count + 1) = omega arith in
-            subst (λ m. LanesStand (over plan library clocks other) sub clock m after) same (goes other sub (n + count) long roots_are ran.lanes_stand));
+            subst (λ m. LanesStand (over plan library clocks other) sub clock m after) same (goes other sub (n + count) meaning own_are ran.lanes_stand));
         slots_are = λ i.
-            ap (λ slots. slots ++ (part_at after.parts.items i).slot ∷ []) (ran.slots_are i)
+            ap (λ slots. slots ++ (part_at after.clocks.parts.items i).slot ∷ []) (ran.slots_are i)
             ∙ ap (λ ps. map (slot_in (over plan library clocks other) sub clock i) (range_with_len n count) ++ (part_at ps i).slot ∷ []) parts
             ∙ sym (map-range_with_len_more (slot_in (over plan library clocks other) sub clock i) n count (n + count) refl);
       };

@@ -5,11 +5,11 @@ use Rattle.plan_core.specs.declared.plan.Plan.{Plan}
 use Rattle.clock_infer.specs.declared.clock_map.NodeClock.{NodeClock}
 use Rattle.frame_core.specs.Slots.{Slot}
 use Rattle.frame_core.specs.Library.{Sounds}
-use Rattle.stream_meaning.specs.Instants.{Setting, history, moment_after, offer}
-use Rattle.node_states.specs.States.{AreLong}
+use Rattle.stream_meaning.specs.Instants.{Setting, IsMeaning, history, moment_after, offer}
 use Rattle.clock_outputs.specs.declared.port.Port.{Port}
 use Rattle.clock_outputs.specs.Ports.{after_slots, emptied}
-use Rattle.engine_instants.specs.States.{AreRoots, over}
+use Rattle.engine_instants.specs.States.{over}
+use Rattle.engine_clocks.specs.Clocks.{AreOwnRoots}
 use Rattle.engine_ticks.specs.declared.lanes.Lanes.{Lanes}
 use Rattle.engine_ticks.specs.Lanes.{LanesStand}
 
@@ -24,11 +24,11 @@ pub record HasRun (setting : Setting) (sub : ℕ → ℕ → List Slot) (clock :
 
 -- so many instants were made, and the outputs have heard the slots of their nodes; whatever instants the lanes stood for, these
 -- are the next ones
-pub record Heard (plan : Plan) (library : Sounds) (clocks : List NodeClock) (clock : NodeClock) (roots : List Bool) (count : ℕ)
+pub record Heard (plan : Plan) (library : Sounds) (clocks : List NodeClock) (clock : NodeClock) (own : List Bool) (count : ℕ)
     (before after : Lanes) (first now : List Port) : Type 0 where
   pub slots : ℕ → List Slot
   pub long : (i : ℕ) → length (slots i) ≡ count
   pub ports_are : now ≡ map (λ port. after_slots (emptied port) (slots port.node)) first
-  pub run : (other : Setting) (sub : ℕ → ℕ → List Slot) (n : ℕ) → AreLong sub
-      → AreRoots (over plan library clocks other) clock roots → LanesStand (over plan library clocks other) sub clock n before
+  pub run : (other : Setting) (sub : ℕ → ℕ → List Slot) (n : ℕ) → IsMeaning (over plan library clocks other) sub
+      → AreOwnRoots (over plan library clocks other) own → LanesStand (over plan library clocks other) sub clock n before
       → HasRun (over plan library clocks other) sub clock n count slots after

@@ -1,8 +1,8 @@
 -- The uses that are added by the parts of a tree are those of the whole, in order.
-use Rattle.std.proofs.Common.{◌≡◌, ◌∙◌, sym, ap, subst, refl, ℕ, zero, suc, ◌+◌, ◌<◌, ◌≤◌, length, get_or, take, List, [], ◌∷◌, ◌++◌, map, append_assoc, Bool, true, false, Option, Some, None, Result, Ok, Err, IfOk, arith}
+use Rattle.std.proofs.Common.{◌≡◌, ◌∙◌, sym, ap, subst, refl, ℕ, ◌+◌, ◌<◌, ◌≤◌, length, get_or, take, List, [], ◌∷◌, ◌++◌, map, append_assoc, Bool, true, false, Option, Some, None, Result, Ok, Err, IfOk, arith}
 use Rattle.liq_base.specs.declared.memory.Memory.{Memory}
 use Rattle.std.proofs.lemmas.List.{append-nil, map-append, take_all, take_more}
-use Rattle.script_grammar.specs.Tree.{Sort, Tree, Many, AFull, AnArg, If, Listed, none, more}
+use Rattle.script_grammar.specs.Tree.{Sort, Tree, AFull, If}
 use Rattle.script_grammar.specs.View.{listed, tuple_of, view_added, view_and, view_arg, view_call, view_compare, view_expr, view_full, view_not, view_product, view_sum, view_prim, view_multiplied}
 use Rattle.script_grammar.specs.declared.tree.Full.{Full}
 use Rattle.script_grammar.specs.declared.tree.Expr as expr

@@ -2,14 +2,13 @@
 use Rattle.std.proofs.Common.{◌≡◌, ◌∙◌, sym, ap, subst, refl, ℕ, zero, suc, length, List, [], ◌∷◌, map, replicate, Option, Some, None}
 use Rattle.std.specs.Prelude.{option_map}
 use Rattle.type_terms.specs.Agrees.{Follows}
-use Rattle.type_terms.specs.Term.{Term, term_of, variable}
+use Rattle.type_terms.specs.Term.{Term}
 use Rattle.type_terms.specs.Table.{Table}
 use Rattle.typing_rules.specs.Table.{signature}
 use Rattle.typing_rules.specs.declared.uses.Builtin.{Builtin}
 use Rattle.typing_rules.specs.declared.uses.Target.{Target}
 use Rattle.typing_rules.specs.declared.uses.Target.TheVariants as target
 use Rattle.type_schemes.specs.Schemes.{Scheme, builtin_scheme, open_numbers, scheme_of}
-use Rattle.type_schemes.specs.declared.general.KindParameter.{KindParameter}
 use Rattle.type_schemes.specs.declared.general.KindParameter.TheVariants.{Open}
 use Rattle.name_scope.specs.Seen.{seen_parameter}
 use Rattle.type_flow.specs.Environment.{AreUsesOver, Found, with_use}

@@ -1,5 +1,5 @@
 -- The tokens that a tree uses are those of its names, in whatever scope.
-use Rattle.std.proofs.Common.{◌≡◌, ◌∙◌, sym, ap, ap₂, refl, ℕ, List, [], ◌∷◌, ◌++◌, map}
+use Rattle.std.proofs.Common.{◌≡◌, ◌∙◌, sym, ap, ap₂, refl, ℕ, List, ◌∷◌, ◌++◌, map}
 use Rattle.std.proofs.lemmas.List.{map-append}
 use Rattle.script_grammar.specs.Tree.{Sort, Tree, Many, AnInner, none, more, Stmt, BindPart, DefPart, CallPart, IfPart, Bind, Def, Inner, Param, Labelled, Optional, Negative, Plain, Expr, And, Not, Alone, Compared, Sum, Added, Product, Multiplied, Constant, Quoted, Truth, Named, Called, Chosen, Nothing, Paren, Tuple, Listed, Braces, Format, Call, Arg, If, POr, PAnd, PNot, Always, Never, Mark, Between, Grouped}
 use Rattle.typing_rules.specs.Scoping.{Name, Scope, inner_names, names, with_inner, with_inners, with_params}

@@ -1,5 +1,5 @@
 -- Operands: leaves, and forms that stand for another tree.
-use Rattle.std.proofs.Common.{◌≡◌, ◌∙◌, sym, ap, subst, refl, ℕ, List, map, Option, Some, None, Result, Ok, Err, IfOk}
+use Rattle.std.proofs.Common.{◌≡◌, ◌∙◌, sym, ap, refl, ℕ, List, map, Option, Some, None, Result, Ok, Err, IfOk}
 use Rattle.std.specs.Global.{Vec}
 use Rattle.liq_base.specs.declared.memory.Memory.{Memory}
 use Rattle.script_grammar.specs.Tree.{Sort, Tree, Constant, Negative, Listed}

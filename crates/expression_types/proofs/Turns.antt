@@ -1,5 +1,5 @@
 -- What the loops over the parts of a tree keep.
-use Rattle.std.proofs.Common.{◌≡◌, ◌<◌, ◌≤◌, ◌+◌, ◌++◌, sym, subst, ℕ, List, [], ◌∷◌, length, map, take, get_or}
+use Rattle.std.proofs.Common.{◌≡◌, ◌<◌, ◌+◌, ◌++◌, sym, subst, ℕ, List, [], ◌∷◌, length, map, take, get_or}
 use Rattle.script_grammar.specs.Tree.{Sort, Tree, Many, AFull, AnArg, more, none}
 use Rattle.script_grammar.specs.View.{listed, view_arg, view_full}
 use Rattle.script_grammar.specs.declared.tree.Arg as arg
@@ -9,13 +9,13 @@ use Rattle.type_terms.specs.Table.{Table}
 use Rattle.type_terms.specs.Term.{terms_of, variable}
 use Rattle.type_flow.specs.Environment.{Found, AreUsesOver, IsEnvOver}
 use Rattle.type_flow.specs.Flow.{Infers, InfersAll, InfersEach, InfersGiven}
-use Rattle.type_flow.proofs.Ends.{args_end, args_next, fulls_end, fulls_next, joins_end, joins_next}
+use Rattle.type_flow.proofs.Ends.{args_next, fulls_next, joins_next}
 use Rattle.type_flow.proofs.Forms.{each_none}
 use Rattle.type_flow.proofs.Parts.{all_none, given_none}
 use Rattle.value_types.specs.Seen.{env_of}
 use Rattle.value_types.specs.declared.environment.Names.{Names}
 use Rattle.expression_types.specs.Order.{AreAdded, tokens_used}
-use Rattle.expression_types.proofs.Adding.{all_added, next_added, none_added}
+use Rattle.expression_types.proofs.Adding.{next_added, none_added}
 
 -- these parts have one type
 pub record JoinedSo (s s' : Table) (ns : Names) {r : Sort} (es : Tree (Many r)) (n : ℕ) (old new : List Found) : Type 0 where

@@ -5,10 +5,7 @@ use std::alloc::{AllocError, Global};
 use std::test::Fail;
 
 // An answer as text: the names, how many run, and the clock of each node; or the fault.
-fn told(
-    alloc: Global,
-    answer: Result<ClockMap, ClockFault>,
-) -> Result<String, AllocError> {
+fn told(alloc: Global, answer: Result<ClockMap, ClockFault>) -> Result<String, AllocError> {
     match answer {
         Ok(map) => {
             let mut told = String::new(alloc);

@@ -6,7 +6,7 @@ use Rattle.liq_base.specs.Counts.{Rose}
 use Rattle.liq_base.specs.Pieces.{IsPrefix, grown}
 use Rattle.stream_meaning.specs.Instants.{Setting}
 use Rattle.stream_meaning.specs.Sinks.{tick_bytes, ticks_bytes}
-use Rattle.clock_outputs.specs.Appends.{NoneFell, RoseAt}
+use Rattle.clock_outputs.specs.Appends.{AreKept, NoneFell, RoseAt}
 use Rattle.clock_outputs.proofs.Places.{same_or_other}
 
 pub itself : (bytes : List ℕ) → IsPrefix bytes bytes
@@ -63,6 +63,26 @@ pub read : {S : Type 0} (xs : List S) (k : ℕ) (d : S) → k < length xs → sl
 read [] k d h = absurd (omega (arith, h))
 read (x ∷ xs) zero d h = refl
 read (x ∷ xs) (suc k) d h = read xs k d (omega (arith, h))
+
+-- sinks that stay keep their names
+pub kept_not : {S : Type 0} (name : S → Option (List ℕ)) (faults : S → ℕ) (outs : List S) → AreKept name faults outs outs
+kept_not name faults outs = record {
+  each = λ k before after was is.
+      let one : Some before ≡ Some after = sym was ∙ is in
+      let same : before ≡ after = cc in
+      subst (λ x. (name x ≡ name before) × (faults before ≤ faults x)) same (refl, omega arith);
+}
+
+pub kept_then : {S : Type 0} (name : S → Option (List ℕ)) (faults : S → ℕ) (a b c : List S) → length b ≡ length a
+    → AreKept name faults a b → AreKept name faults b c → AreKept name faults a c
+kept_then name faults a b c sizes first next = record {
+  each = λ k before after was is.
+      let within = slice_get_within a k before was in
+      let between = read b k before (omega (arith, within, sizes)) in
+      let one = first.each k before (get_or b k before) was between in
+      let two = next.each k (get_or b k before) after between is in
+      (two.0 ∙ one.0, (let low = one.1 in let high = two.1 in omega (arith, low, high)));
+}
 
 -- a count that rose above one to which it had not fallen
 pub rose_since : {S : Type 0} (faults : S → ℕ) (place : ℕ) (a b c : List S) → length a ≡ length b → NoneFell faults a b → RoseAt faults place b c → RoseAt faults place a c

@@ -4,7 +4,7 @@ use Rattle.liq_base.specs.Pieces.{IsPrefix, grown}
 use Rattle.op_leaf.specs.Readers.{Answer}
 use Rattle.stream_meaning.specs.Sinks.{ticks_bytes}
 use Rattle.node_states.specs.Ticks.{HoldTicks, IsOutput, with_rest}
-use Rattle.clock_outputs.specs.Appends.{NoneFell, RoseAt}
+use Rattle.clock_outputs.specs.Appends.{AreKept, NoneFell, RoseAt}
 use Rattle.clock_engine.specs.declared.engine.ClockEngine.{ClockEngine}
 use Rattle.clock_engine.specs.Engines.{AreWorks, EngineStands, held_in, outputs_of, setting_of}
 use Rattle.clock_engine.specs.Ticks.{HaveTicksRoom}
@@ -36,8 +36,8 @@ pub record AreEngines {S : Type 0} (room : S → Option ℕ) (ticks : ℕ) (engi
   pub in_order : (k : ℕ) (engine : ClockEngine S) → slice_get engines k ≡ Some engine → engine.works.clock ≡ k
 
 -- an engine has gone from `old` to `new` by so many ticks, none of them with a fault: each output holds its bytes of these ticks
--- more, and no count of faults fell
-pub record HasRun {S : Type 0} (held : S → Option (List ℕ)) (faults : S → ℕ) (ticks : ℕ) (old new : ClockEngine S) : Type 0 where
+-- more, no count of faults fell, and its sinks are those that they were, by their names
+pub record HasRun {S : Type 0} (held name : S → Option (List ℕ)) (faults : S → ℕ) (ticks : ℕ) (old new : ClockEngine S) : Type 0 where
   pub works : AreWorks new.works
   pub sinks : length new.outs.items ≡ length new.works.ports.items
   pub setting : setting_of new.works ≡ setting_of old.works
@@ -45,22 +45,30 @@ pub record HasRun {S : Type 0} (held : S → Option (List ℕ)) (faults : S → 
   pub stands : EngineStands new.works ticks nothing
   pub grew : HoldTicks (setting_of old.works) old.works.clock ticks nothing (held_of held old) (held_of held new)
   pub none_fell : NoneFell faults old.outs.items new.outs.items
+  pub outs : length new.outs.items ≡ length old.outs.items
+  pub kept : AreKept name faults old.outs.items new.outs.items
 
--- each output of an engine holds a front of its bytes of so many ticks more, and no count of faults fell
-pub record HasRunPart {S : Type 0} (held : S → Option (List ℕ)) (faults : S → ℕ) (ticks : ℕ) (old new : ClockEngine S) : Type 0 where
+-- each output of an engine holds a front of its bytes of so many ticks more, no count of faults fell, and its sinks are those that
+-- they were, by their names
+pub record HasRunPart {S : Type 0} (held name : S → Option (List ℕ)) (faults : S → ℕ) (ticks : ℕ) (old new : ClockEngine S) : Type 0 where
+  pub works : AreWorks new.works
+  pub setting : setting_of new.works ≡ setting_of old.works
+  pub clock : new.works.clock ≡ old.works.clock
   pub part : (rest : ℕ → List Answer) (sink node : ℕ) → IsOutput (setting_of old.works) old.works.clock sink node
       → (bytes : List ℕ) × IsPrefix bytes (ticks_bytes (with_rest (setting_of old.works) nothing rest) node ticks) × (held_of held new sink ≡ grown bytes (held_of held old sink))
   pub none_fell : NoneFell faults old.outs.items new.outs.items
+  pub outs : length new.outs.items ≡ length old.outs.items
+  pub kept : AreKept name faults old.outs.items new.outs.items
 
 -- each engine has run so many ticks
-pub record HaveRun {S : Type 0} (held : S → Option (List ℕ)) (faults : S → ℕ) (ticks : ℕ → ℕ) (old new : List (ClockEngine S)) : Type 0 where
+pub record HaveRun {S : Type 0} (held name : S → Option (List ℕ)) (faults : S → ℕ) (ticks : ℕ → ℕ) (old new : List (ClockEngine S)) : Type 0 where
   pub size : length new ≡ length old
-  pub each : (k : ℕ) (before after : ClockEngine S) → slice_get old k ≡ Some before → slice_get new k ≡ Some after → HasRun held faults (ticks k) before after
+  pub each : (k : ℕ) (before after : ClockEngine S) → slice_get old k ≡ Some before → slice_get new k ≡ Some after → HasRun held name faults (ticks k) before after
 
 -- each engine has run a part of so many ticks
-pub record HaveRunPart {S : Type 0} (held : S → Option (List ℕ)) (faults : S → ℕ) (ticks : ℕ) (old new : List (ClockEngine S)) : Type 0 where
+pub record HaveRunPart {S : Type 0} (held name : S → Option (List ℕ)) (faults : S → ℕ) (ticks : ℕ) (old new : List (ClockEngine S)) : Type 0 where
   pub size : length new ≡ length old
-  pub each : (k : ℕ) (before after : ClockEngine S) → slice_get old k ≡ Some before → slice_get new k ≡ Some after → HasRunPart held faults ticks before after
+  pub each : (k : ℕ) (before after : ClockEngine S) → slice_get old k ≡ Some before → slice_get new k ≡ Some after → HasRunPart held name faults ticks before after
 
 -- the end names an output of a clock, whose sink's count of faults rose
 pub record IsWriteEnd {S : Type 0} (faults : S → ℕ) (old new : List (ClockEngine S)) (end : End) : Type 0 where
@@ -77,6 +85,6 @@ pub record IsWriteEnd {S : Type 0} (faults : S → ℕ) (old new : List (ClockEn
   pub rose : RoseAt faults place before.outs.items after.outs.items
 
 -- between two ticks of a run: what each engine has run, and the room that is left for the ticks that are not made
-pub record AreGoing {S : Type 0} (held : S → Option (List ℕ)) (room : S → Option ℕ) (faults : S → ℕ) (total : ℕ) (made : ℕ → ℕ) (first now : List (ClockEngine S)) : Type 0 where
-  pub run : HaveRun held faults made first now
+pub record AreGoing {S : Type 0} (held name : S → Option (List ℕ)) (room : S → Option ℕ) (faults : S → ℕ) (total : ℕ) (made : ℕ → ℕ) (first now : List (ClockEngine S)) : Type 0 where
+  pub run : HaveRun held name faults made first now
   pub rooms : (k left : ℕ) (engine : ClockEngine S) → slice_get now k ≡ Some engine → made k + left ≡ total → HaveTicksRoom room engine.works engine.outs.items left

@@ -21,15 +21,15 @@ fn end_of(clock: u32, fault: TickFault) -> End
 }
 
 // Makes so many rounds: in each, every engine makes a tick, in their order. The first fault ends it.
-fn make_rounds<O: Sink + Drop>(
+fn make_rounds<O: Sink>(
     engines: &mut [ClockEngine<'_, O>],
     taps: &mut LocalTaps,
     ticks: u64,
 ) -> Result<(), End>
     requires engines { AreEngines O.room ticks engines.old }
     requires few { ticks ≤ 1000000000 }
-    ensures done { OnOk result (HaveRun O.held O.faults (λ clock. ticks) engines.old engines.new) }
-    ensures stopped { OnErr result (HaveRunPart O.held O.faults ticks engines.old engines.new) }
+    ensures done { OnOk result (HaveRun O.held O.name O.faults (λ clock. ticks) engines.old engines.new) }
+    ensures stopped { OnErr result (HaveRunPart O.held O.name O.faults ticks engines.old engines.new) }
     ensures write { IfErr result (λ end. IsWriteEnd O.faults engines.old engines.new end) }
 {
     for _round in 0..ticks {
@@ -56,9 +56,9 @@ fn ended(alloc: Global, end: End) -> RunEnd
 }
 
 /// Renders so many ticks, at most 1000000000, of each clock, on one thread: tick r of clock 0, of clock 1 and so on, then
-/// tick r + 1. The engines stand in clock order, made no tick, and are over this plan, which has no crossfades and no
-/// buffers. The first fault ends the run. No memory is taken.
-pub fn run_rounds<O: Sink + Drop>(
+/// tick r + 1. The engines stand in clock order, made no tick, and are over this plan, which has no buffers. The first fault
+/// ends the run. No memory is taken.
+pub fn run_rounds<O: Sink>(
     alloc: Global,
     plan: &Plan,
     engines: &mut [ClockEngine<'_, O>],
@@ -67,8 +67,8 @@ pub fn run_rounds<O: Sink + Drop>(
     requires buffers { plan.now.buffers ≡ [] }
     requires engines { AreEngines O.room ticks engines.old }
     requires few { ticks ≤ 1000000000 }
-    ensures done { result.end ≡ Done → HaveRun O.held O.faults (λ clock. ticks) engines.old engines.new }
-    ensures stopped { (result.end ≡ Done → ⊥) → HaveRunPart O.held O.faults ticks engines.old engines.new }
+    ensures done { result.end ≡ Done → HaveRun O.held O.name O.faults (λ clock. ticks) engines.old engines.new }
+    ensures stopped { (result.end ≡ Done → ⊥) → HaveRunPart O.held O.name O.faults ticks engines.old engines.new }
     ensures write { (result.end ≡ Done → ⊥) → IsWriteEnd O.faults engines.old engines.new result.end }
     ensures counts { result.counts.items ≡ [] }
     ensures logs { result.logs.items ≡ [] }

@@ -2,6 +2,7 @@
 ghost use Rattle.std.specs.Prelude.{◌≡◌, ◌≤◌, ◌<◌, ◌^◌, [], length, map, Ok, IfOk, IfErr, OnOk};
 ghost use Rattle.std.specs.List.{All};
 ghost use Rattle.std.specs.Option.{ForSome};
+ghost use Rattle.frame_core.specs.Library.{IsLibrary};
 ghost use Rattle.track_library.specs.Walk.{Ends, entries_played, leaf_of, load_of, nothing_met, single_leaf, use_audio};
 ghost use Rattle.track_library.specs.Reads.{EntriesRead, FirstRead, LeafReads, LoadReads};
 ghost use Rattle.track_library.specs.States.{heard_of, IsHeard, Plays, walked_of, with_found};
@@ -134,7 +135,8 @@ impl Walk {
         requires heard { IsHeard (heard_of self.audio) }
         requires below { All (All (λ number. number < length self.audio.tracks.items)) (map (λ leaf. leaf.items) leaves.items) }
         requires few { All (λ leaf. length leaf < 2 ^ 32) (map (λ leaf. leaf.items) leaves.items) }
-        ensures { result ≡ record { files = self.audio.tracks.items; leaves = map (λ leaf. leaf.items) leaves.items } }
+        ensures same { result ≡ record { files = self.audio.tracks.items; leaves = map (λ leaf. leaf.items) leaves.items } }
+        ensures library { IsLibrary result }
     {
         let Walk { lists: _, audio } = self;
         let AudioFiles {
@@ -156,6 +158,7 @@ pub fn load<S: Shelf>(
     requires { sizes.file ≤ 268435456 }
     ensures loaded { IfOk result (λ library. ForSome (S.files shelf.old) (λ files. load_of (record { rate = plan.now.rate; file = sizes.file; all = sizes.all }) files plan.now.nodes ≡ Ok library)) }
     ensures leaves { IfOk result (λ library. length library.leaves ≡ length plan.now.nodes) }
+    ensures library { IfOk result IsLibrary }
     ensures fault { IfErr result (Ends (S.files shelf.old) (S.read_count shelf.old) (S.read_count shelf.new)
         (λ files. LoadReads (record { rate = plan.now.rate; file = sizes.file; all = sizes.all }) files plan.now.nodes)
         (λ files. load_of (record { rate = plan.now.rate; file = sizes.file; all = sizes.all }) files plan.now.nodes)) }

@@ -1,7 +1,7 @@
-use Rattle.std.proofs.Common.{rules, arith, ◌≡◌, ◌∙◌, sym, ap, subst, refl, ℕ, ◌++◌, ◌∷◌, map, length, List, [], true, false, Some, None, Option}
+use Rattle.std.proofs.Common.{rules, arith, ◌≡◌, ◌∙◌, sym, ap, subst, refl, ℕ, ◌++◌, ◌∷◌, map, [], false, Some, None}
 use Rattle.std.proofs.lemmas.List.{map-append}
 use Rattle.std.specs.Prelude.{option_map}
-use Rattle.script_grammar.specs.Tree.{Constant, Quoted, Truth, Called, Chosen, Nothing, Paren, Plain, Braces, Format}
+use Rattle.script_grammar.specs.Tree.{Quoted, Truth, Called, Chosen, Nothing, Paren, Plain, Braces, Format}
 use Rattle.script_grammar.specs.View.{listed, view_added, view_and, view_arg, view_call, view_expr, view_full, view_if, view_multiplied, view_not, view_por, view_prim, view_product, view_sum}
 use Rattle.script_grammar.specs.declared.tree.Added.{out-Added, size-Added}
 use Rattle.script_grammar.specs.declared.tree.And.{size-And, size_is-And}
@@ -620,7 +620,7 @@ pub calls::type_args-loop-arg-preserved : goal.calls::type_args-loop-arg-preserv
 calls::type_args-loop-arg-preserved t c =
     let one = c.argument_of.ensures in
     let grown : map seen_argument c.push.new.self.items ≡ map seen_argument c.loop-arg.given.items ++ (c.arg-item.result.label, c.in-Some.var) ∷ [] =
-        ap (map seen_argument) c.in_ok-push-in-Some.ensures.items ∙ map-append seen_argument c.loop-arg.given.items (c.argument_of.result ∷ []) ∙ ap (λ (g : Given ℕ). map seen_argument c.loop-arg.given.items ++ g ∷ []) one in
+    ap (map seen_argument) c.in_ok-push-in-Some.ensures.items ∙ map-append seen_argument c.loop-arg.given.items (c.argument_of.result ∷ []) ∙ ap (λ (g : Given ℕ). map seen_argument c.loop-arg.given.items ++ g ∷ []) one in
     next_given c.args.args.now c.loop-arg.arg-index c.arg-item.result c.loop-arg-test.true c.arg-item.is c.args.subst.now c.loop-arg.subst c.type_full.new.subst c.args.names (map seen_argument c.loop-arg.given.items) (map seen_argument c.push.new.self.items) c.in-Some.var (founds c.args.uses.now.items) (founds c.loop-arg.uses.items) (founds c.type_full.new.uses.items) c.requires.seen.over grown c.loop-arg.invariant (rw c.in-Some.is at c.in_ok-type_full.ensures.typed) (rw c.in-Some.is at c.in_ok-type_full.ensures.order)
 
 pub values::type_prim-returns-in_ok-n-in-Literal-clause-typed : goal.values::type_prim-returns-in_ok-n-in-Literal-clause-typed

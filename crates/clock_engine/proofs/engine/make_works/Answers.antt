@@ -1,10 +1,11 @@
-use Rattle.std.proofs.Common.{rules, [], length, arith, refl}
+use Rattle.std.proofs.Common.{◌∙◌, rules, [], length, ap, arith, refl}
 use Rattle.std.proofs.lemmas.Option.{slice_get_within}
 use Rattle.clock_infer.specs.declared.clock_map.NodeClock.TheVariants.{Main}
 use Rattle.stream_meaning.specs.Instants.{Setting}
 use Rattle.node_states.specs.Ticks.{with_rest}
 use Rattle.clock_engine.specs.Beginnings.{IsNewPort}
 use Rattle.clock_engine.proofs.Made.{all_at}
+use Rattle.clock_engine.proofs.Mapped.{has_ranks}
 use Rattle.clock_engine.proofs.Quiet.{no_feeds}
 use Rattle.clock_engine.proofs.Starting.{new_stand}
 use Rattle.clock_engine.proofs.engine.make_works.Goals as goal
@@ -15,21 +16,29 @@ returns-clause-works c =
     record {
       nodes = c.requires.plan.nodes;
       frame = c.requires.plan.frame.1;
-      plain = c.requires.plain;
-      feeds = no_feeds c.args.shape.plan.now c.requires.plan c.requires.plain;
+      few = c.requires.plan.few_nodes;
+      readers = c.requires.readers;
+      feeds = no_feeds c.args.shape.plan.now c.requires.plan c.requires.readers;
       in_clocks = c.requires.in_clocks;
+      clocks = c.requires.clocks;
       lanes = record {
-        fit = record {
-          size = c.in_ok-states.ensures.size;
-          each = λ i node state found stored. (c.in_ok-states.ensures.each i node state found stored).fits c.args.shape.library.now c.requires.library
-              (let within = slice_get_within c.args.shape.plan.now.nodes i node found in omega (arith, within, c.requires.leaves));
+        clocks = record {
+          fit = record {
+            size = c.in_ok-states.ensures.size;
+            each = λ i node state found stored. (c.in_ok-states.ensures.each i node state found stored).fits c.args.shape.library.now c.requires.library
+                (let within = slice_get_within c.args.shape.plan.now.nodes i node found in omega (arith, within, c.requires.leaves));
+          };
+          in_times = search rules;
+          in_parts = search rules;
+          in_marks = search rules;
+          in_roots = search rules;
+          room = search rules;
+          rates = λ k time at. ap (λ t. t.rate) (c.in_ok-times.ensures.each k time at) ∙ c.new-time.ensures.rate;
         };
-        in_parts = search rules;
-        in_marks = search rules;
-        room = search rules;
         rate = c.new-time.ensures.rate;
       };
-      roots = record { size = (c.in_ok-roots.ensures S).size; each = (c.in_ok-roots.ensures S).each };
+      in_own = c.in_ok-own.ensures.size;
+      own = record { each = (c.in_ok-own.ensures.roots S).each };
       outputs = c.in_ok-ports.ensures.outputs S;
       kinds = λ k d h. (c.in_ok-ports.ensures.new S k d h).kind;
       rooms = λ k d h. (c.in_ok-ports.ensures.new S k d h).room;
@@ -42,6 +51,6 @@ returns-clause-stands c =
       made = refl;
       runs = refl;
       none = λ buffer. refl;
-      lanes = λ rest. new_stand (with_rest S (λ buffer. []) rest) (Main c.args.clock) _ (length c.args.shape.plan.now.nodes) c.in_ok-states.ensures c.new-time.ensures.stands;
+      lanes = λ rest. new_stand (with_rest S (λ buffer. []) rest) (Main c.args.clock) _ (length c.args.shape.plan.now.nodes) _ (has_ranks c.args.shape.plan.now c.args.shape.clocks.now c.requires.clocks c.requires.in_clocks) c.in_ok-states.ensures c.new-time.ensures.stands c.in_ok-times.ensures.each;
       gaps_are = λ rest k port at. (all_at (IsNewPort S) c.in_ok-ports.ports.items (c.in_ok-ports.ensures.new S) k port at).gaps;
     }

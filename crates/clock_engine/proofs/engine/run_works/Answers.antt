@@ -1,6 +1,7 @@
 use Rattle.std.proofs.Common.{◌<◌, length, arith, sym, subst}
 use Rattle.std.proofs.lemmas.List.{get_or-map, length-map}
 use Rattle.clock_outputs.specs.Ports.{HasRoomLeft, emptied}
+use Rattle.clock_engine.proofs.Mapped.{has_levels}
 use Rattle.clock_engine.proofs.engine.run_works.Goals as goal
 
 pub run_tick-requires-clause-room : goal.run_tick-requires-clause-room
@@ -8,3 +9,6 @@ run_tick-requires-clause-room c k d h =
     let within : k < length c.args.works.now.ports.items = (let long = length-map c.args.works.now.ports.items emptied in omega (arith, long, h)) in
     let room = c.requires.rooms k d within in
     subst (λ p. HasRoomLeft c.args.works.now.shape.plan.now.frame p) (sym (get_or-map emptied c.args.works.now.ports.items k d d within)) (omega (arith, room))
+
+pub run_tick-requires-clause-levels : goal.run_tick-requires-clause-levels
+run_tick-requires-clause-levels c = has_levels c.args.works.now.shape.plan.now c.args.works.now.shape.clocks.now c.requires.clocks c.requires.in_clocks c.args.works.now.clock

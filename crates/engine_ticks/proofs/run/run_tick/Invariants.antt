@@ -8,5 +8,5 @@ abbrev pub invariant-loop-instant : goal.invariant-loop-instant
 invariant-loop-instant l = record {
   lanes : AreLanes l.shape.plan.now l.shape.library.now l.lanes;
   room : AllHaveRoomLeft (l.shape.plan.now.frame - l.instant) l.ports.items;
-  heard : Heard l.shape.plan.now l.shape.library.now l.shape.clocks.now l.clock l.roots l.instant l.initial.lanes l.lanes l.fn.ports.items l.ports.items;
+  heard : Heard l.shape.plan.now l.shape.library.now l.shape.clocks.now l.clock l.own l.instant l.initial.lanes l.lanes l.fn.ports.items l.ports.items;
 }

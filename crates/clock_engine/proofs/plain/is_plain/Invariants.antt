@@ -1,7 +1,0 @@
-use Rattle.std.proofs.Common.{◌≡◌, ◌<◌, ℕ, Some, slice_get}
-use Rattle.plan_core.specs.declared.node.Node.{Node}
-use Rattle.plan_core.specs.Plans.{IsNoReader, own_crossfades}
-use Rattle.clock_engine.proofs.plain.is_plain.Given as goal
-
-abbrev pub invariant-loop-node : goal.invariant-loop-node
-invariant-loop-node l = (k : ℕ) (node : Node) → k < l.node-index → slice_get l.plan.nodes k ≡ Some node → (own_crossfades node.op ≡ 0) × IsNoReader node.op

@@ -1,0 +1,10 @@
+pub mod OfParams
+pub mod Inners
+pub mod Whole
+pub mod Taken
+pub mod General
+pub mod Behind
+pub mod Loops
+pub mod Chunks
+pub mod Answered
+pub mod Typings

@@ -1,0 +1,102 @@
+-- What is answered of a def.
+use Rattle.std.proofs.Common.{◌≡◌, ◌∙◌, sym, ap, ap₂, subst, refl, arith, ℕ, suc, length, List, [], ◌∷◌, ◌++◌, map, take, drop, Option, Some, None}
+use Rattle.liq_base.specs.declared.memory.Kind.{Kind}
+use Rattle.script_grammar.specs.View.{view_def}
+use Rattle.script_grammar.specs.declared.tree.Def.{Def}
+use Rattle.type_terms.specs.Agrees.{Follows}
+use Rattle.type_terms.specs.Ground.{Assignment}
+use Rattle.type_terms.specs.Table.{Table}
+use Rattle.type_terms.specs.Term.{Term, kind_meaning}
+use Rattle.type_terms.specs.declared.ty.KindTerm.{KindTerm}
+use Rattle.typing_rules.specs.Kinds.{kind_at, kinds_of, put}
+use Rattle.typing_rules.specs.Scripts.{Targets}
+use Rattle.type_schemes.specs.declared.general.TextKind.{TextKind}
+use Rattle.type_schemes.specs.Generals.{IsGeneral, settled as settled_text}
+use Rattle.type_schemes.specs.Holding.{AreThere, HeldVariables}
+use Rattle.type_flow.specs.Environment.{AreKnownOver, Found, Known, TextUse, function}
+use Rattle.value_types.specs.declared.environment.Names.{Names}
+use Rattle.expression_types.specs.Order.{AreAdded, Said, said_at, said_of}
+use Rattle.script_flow.specs.Defs.{HasNoTyping, HoldsBefore, IsTypingOf, outside, terms_before}
+use Rattle.def_types.specs.Answers.{AreSaidAs, IsTypedDef, said_in, text_of}
+use Rattle.def_types.specs.PartsOf.{HasNoDef, InfersDef}
+use Rattle.def_types.specs.Steps.{IsGeneralDef}
+use Rattle.def_types.specs.TextUses.{kinds_in, pending_of, text_uses}
+use Rattle.def_types.specs.declared.defs.TypedDef.{TypedDef}
+use Rattle.def_types.specs.declared.parts.TypedParts.{TypedParts}
+use Rattle.def_types.proofs.General.{def_held, def_keeps, def_typing}
+use Rattle.type_schemes.specs.Schemes.{Scheme, scheme_of}
+
+pub general_as : (s : Table) (names ts us : List Term) (x y : Term) (ks ls : List KindTerm) (g : Scheme) (text : List TextKind) → ts ≡ us → x ≡ y → ks ≡ ls → IsGeneral s names ts x ks g text → IsGeneral s names us y ls g text
+general_as s names ts us x y ks ls g text e f h i =
+    subst (λ (vs : List Term). IsGeneral s names vs y ls g text) e (subst (λ (z : Term). IsGeneral s names ts z ls g text) f (subst (λ (ms : List KindTerm). IsGeneral s names ts x ms g text) h i))
+
+pub held_there : (s s1 : Table) (before : List Known) (h : HeldVariables) → HoldsBefore s before h → Follows s s1 → AreThere s1 h
+held_there s s1 before h was f = record {
+  types = λ k e. let l = (was.held.free_types k e).0 in let m = f.types in omega arith;
+  kinds = λ k e. let l = (was.held.free_kinds k e).0 in let m = f.kinds in omega arith;
+}
+
+pub no_typing : (s : Table) (targets : Targets) (before : List Known) (d : Def) → HasNoDef s (outside targets before) (view_def d) → HasNoTyping s targets before (view_def d)
+no_typing s targets before d n a m some = n a m some.0 some.1 some.2 some.3
+
+pub is_typed : (s s1 : Table) (targets : Targets) (before : List Known) (d : Def) (p : TypedParts) (fs : List Found) (h : HeldVariables) (t : TypedDef) → AreKnownOver s before → HoldsBefore s before h → InfersDef s s1 (outside targets before) (view_def d) p.params.items p.result fs → IsGeneralDef s1 h d p fs t → IsTypedDef s s1 targets before d t
+is_typed s s1 targets before d p fs h t known was i g =
+    let held = g.held s (terms_before before) i.follows was.held in
+    let typing = def_typing s s1 targets before (view_def d) p.params.items p.result fs h (scheme_of t.known.general) g.text i known was (g.general (terms_before before) held) (g.over (terms_before before) held) (g.text_over (terms_before before) held) in
+    let holds = def_held s s1 targets before (view_def d) p.params.items p.result fs h (scheme_of t.known.general) g.text i known was (g.general (terms_before before) held) t.held held in
+    record {
+      def = g.def;
+      at = g.at;
+      params = g.params;
+      follows = i.follows;
+      complete = def_keeps s s1 targets before (view_def d) p.params.items p.result fs h (scheme_of t.known.general) g.text i known was (g.general (terms_before before) held);
+      typing = subst (λ (us : List TextUse). IsTypingOf s1 targets before (view_def d) (scheme_of t.known.general) us) (sym g.text_is) typing;
+      held = subst (λ (us : List TextUse). HoldsBefore s1 (function (view_def d) us ∷ before) t.held) (sym g.text_is) holds;
+    }
+
+-- ---- the uses of the text are said as those that were found
+
+lengths : (given : List Kind) (a : Assignment) (text : List TextKind) (zs : List Kind) → kinds_of given (map (settled_text a) text) ≡ Some zs → length text ≡ length zs
+lengths given a [] [] e = refl
+lengths given a [] (z ∷ zs) e = absurd cc
+lengths given a (t ∷ text) [] e = absurd (put_some (kind_at given (settled_text a t)) (kinds_of given (map (settled_text a) text)) e) where
+  put_some : (o : Option Kind) (p : Option (List Kind)) → put o p ≡ Some [] → ⊥
+  put_some (Some j) (Some js) e = cc
+  put_some (Some j) None e = cc
+  put_some None (Some js) e = cc
+  put_some None None e = cc
+lengths given a (t ∷ text) (z ∷ zs) e = ap suc (lengths given a text zs (rest (kind_at given (settled_text a t)) (kinds_of given (map (settled_text a) text)) e)) where
+  rest : (o : Option Kind) (p : Option (List Kind)) → put o p ≡ Some (z ∷ zs) → p ≡ Some zs
+  rest (Some j) (Some js) e = cc
+  rest (Some j) None e = absurd cc
+  rest None (Some js) e = absurd cc
+  rest None None e = absurd cc
+
+length_meanings : (b : Assignment) (ks : List KindTerm) → length (map (kind_meaning b) ks) ≡ length ks
+length_meanings b [] = refl
+length_meanings b (k ∷ ks) = ap suc (length_meanings b ks)
+
+said_taken : (n : ℕ) (text : List TextKind) (rest : List KindTerm) (ks : List KindTerm) → n ≡ length ks → length text ≡ length (ks ++ rest) → length (map pending_of (take n text)) ≡ n
+said_taken n text rest ks is long = subst (λ m. length (map pending_of (take m text)) ≡ m) (sym is) (by ks text long) where
+  by : (ks : List KindTerm) (text : List TextKind) → length text ≡ length (ks ++ rest) → length (map pending_of (take (length ks) text)) ≡ length ks
+  by [] text long = refl
+  by (k ∷ ks) [] long = absurd cc
+  by (k ∷ ks) (t ∷ text) long = ap suc (by ks text (let e : length text ≡ length (ks ++ rest) = cc in e))
+
+rest_long : (ks rest : List KindTerm) (text : List TextKind) → length text ≡ length (ks ++ rest) → length (drop (length ks) text) ≡ length rest
+rest_long [] rest text long = long
+rest_long (k ∷ ks) rest [] long = absurd cc
+rest_long (k ∷ ks) rest (t ∷ text) long = rest_long ks rest text (let e : length text ≡ length (ks ++ rest) = cc in e)
+
+said_same : (fs : List Found) (text : List TextKind) → length text ≡ length (kinds_in fs) → map said_in (text_uses fs text) ≡ map said_of fs
+said_same [] text long = refl
+said_same (f ∷ fs) text long =
+    ap₂ (λ (n : ℕ) (l : List Said). (f.at, Some f.target, Some n) ∷ l) (said_taken (length f.kinds) text (kinds_in fs) f.kinds refl long) (said_same fs (drop (length f.kinds) text) (rest_long f.kinds (kinds_in fs) text long))
+
+pub is_said : (s s1 : Table) (targets : Targets) (before : List Known) (ns : Names) (d : Def) (p : TypedParts) (fs : List Found) (h : HeldVariables) (t : TypedDef) (ts : List ℕ) (old : List Found) → old ≡ [] → HoldsBefore s before h → InfersDef s s1 (outside targets before) (view_def d) p.params.items p.result fs → IsGeneralDef s1 h d p fs t → AreAdded ns ts old fs → AreSaidAs ns ts (text_of t.known)
+is_said s s1 targets before ns d p fs h t ts old none was i g added =
+    let held = g.held s (terms_before before) i.follows was.held in
+    let a : Assignment = g.solution.0 in
+    let q = (g.general (terms_before before) held).complete a a g.solution.1 g.solution.1 refl in
+    let long : length g.text ≡ length (kinds_in fs) = lengths q.0 a g.text (map (kind_meaning a) (kinds_in fs)) q.2 ∙ length_meanings a (kinds_in fs) in
+    ap (map said_in) g.text_is ∙ said_same fs g.text long ∙ added ∙ ap (λ (l : List Found). map said_of l ++ map (said_at ns) ts) none

@@ -1,0 +1,7 @@
+use Rattle.std.proofs.Common.{◌≡◌, map, take}
+use Rattle.value_types.specs.Seen.{pending}
+use Rattle.def_types.specs.TextUses.{pending_of}
+use Rattle.def_types.proofs.texts.kinds_of.Given as goal
+
+abbrev pub invariant-loop-kind : goal.invariant-loop-kind
+invariant-loop-kind l = map pending l.kinds.items ≡ map pending_of (take l.kind-index l.text)

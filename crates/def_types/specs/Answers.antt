@@ -1,0 +1,42 @@
+-- What is answered of a def.
+use Rattle.std.specs.Prelude.{◌≡◌, ℕ, List, ◌∷◌, map, length, Option, Some, None}
+use Rattle.script_grammar.specs.View.{view_def}
+use Rattle.script_grammar.specs.declared.tree.Def.{Def}
+use Rattle.type_terms.specs.Agrees.{Follows}
+use Rattle.type_terms.specs.Table.{Table}
+use Rattle.typing_rules.specs.Scripts.{Targets, def_token, params_of}
+use Rattle.type_schemes.specs.Schemes.{scheme_of}
+use Rattle.name_scope.specs.Seen.{seen_parameter}
+use Rattle.type_flow.specs.Environment.{Known, TextUse, function}
+use Rattle.value_types.specs.Seen.{text_use}
+use Rattle.value_types.specs.declared.environment.KnownDef.{KnownDef}
+use Rattle.value_types.specs.declared.environment.Names.{Names}
+use Rattle.expression_types.specs.Order.{Said, said_at}
+use Rattle.script_flow.specs.Defs.{HasNoTyping, HoldsBefore, IsTypingOf, KeepsTypings}
+use Rattle.def_types.specs.declared.defs.TypedDef.{TypedDef}
+
+-- the uses in the text of a def
+abbrev pub text_of : KnownDef → List TextUse
+text_of d = map text_use d.uses.items
+
+-- the token of a use, what it means, and how many kinds it has
+abbrev pub said_in : TextUse → Said
+said_in u = (u.at, Some u.target, Some (length u.kinds))
+
+-- the uses are those of the names at these tokens, in order
+abbrev pub AreSaidAs : Names → List ℕ → List TextUse → Type 0
+AreSaidAs ns ts us = map said_in us ≡ map (said_at ns) ts
+
+-- From s to s' a def was typed: its general type and the uses in its text give its typings, and no typing of what stands before it is lost but where the def has none.
+pub record IsTypedDef (s s' : Table) (targets : Targets) (before : List Known) (d : Def) (t : TypedDef) : Type 0 where
+  pub def : t.known.def.now ≡ d
+  pub at : t.known.at ≡ def_token (view_def d)
+  pub params : map seen_parameter t.known.params.items ≡ params_of (view_def d)
+  pub follows : Follows s s'
+  pub complete : KeepsTypings s s' targets before (view_def d)
+  pub typing : IsTypingOf s' targets before (view_def d) (scheme_of t.known.general) (text_of t.known)
+  pub held : HoldsBefore s' (function (view_def d) (text_of t.known) ∷ before) t.held
+
+abbrev pub IsDefTyped : Table → Table → Targets → List Known → Def → Option TypedDef → Type 0
+IsDefTyped s s' targets before d None = HasNoTyping s targets before (view_def d)
+IsDefTyped s s' targets before d (Some t) = IsTypedDef s s' targets before d t

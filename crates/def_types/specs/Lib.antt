@@ -1,0 +1,5 @@
+pub mod PartsOf
+pub mod TextUses
+pub mod Answers
+pub mod Scope
+pub mod Steps

@@ -1,0 +1,8 @@
+//! The typings of one def: its general type, and the uses of its text.
+#![tactic(auto)]
+
+mod defs;
+mod parts;
+mod texts;
+
+pub use defs::{TypedDef, type_def};

@@ -1,0 +1,76 @@
+-- How far down sub-clocks go, and what they leave as it was.
+use Rattle.std.proofs.Common.{◌≡◌, ◌<◌, ◌≤◌, ◌+◌, ◌-◌, ◌∙◌, ℕ, suc, false, List, length, slice_get, arith, refl, ap, sym, subst}
+use Rattle.clock_infer.specs.declared.clock_map.NodeClock.{NodeClock}
+use Rattle.clock_infer.specs.declared.clock_map.NodeClock.TheVariants.{Sub}
+use Rattle.stream_meaning.specs.Instants.{same_clock}
+use Rattle.engine_clocks.specs.declared.lanes.ClockLanes.{ClockLanes}
+use Rattle.engine_clocks.specs.Clocks.{AreLeft, HasLevels, HasRanks, clock_at, is_in, is_node}
+use Rattle.engine_clocks.proofs.Equal.{they_differ}
+
+pub levels_some : (clocks : List NodeClock) (k levels : ℕ) → k < length clocks → HasLevels clocks (clock_at clocks k) levels → 0 < levels
+levels_some clocks k levels within has =
+    let up = has.ranks.deeper k within in
+    let low = has.enough k within in omega (arith, up, low)
+
+pub levels_under : (clocks : List NodeClock) (k levels : ℕ) → k < length clocks → HasLevels clocks (clock_at clocks k) levels → HasLevels clocks (Sub k) (levels - 1)
+levels_under clocks k levels within has = record {
+  rank = has.rank;
+  ranks = has.ranks;
+  enough = λ j inside.
+      let up = has.ranks.deeper k within in
+      let here = has.enough k within in
+      let low = has.enough j inside in omega (arith, up, here, low);
+}
+
+pub levels_at : (clocks : List NodeClock) (k levels : ℕ) (clock : NodeClock) → clock_at clocks k ≡ clock → HasLevels clocks clock levels → HasLevels clocks (clock_at clocks k) levels
+levels_at clocks k levels clock e has = subst (λ c. HasLevels clocks c levels) (sym e) has
+
+-- a clock of a crossfade's rank or a lower one is not its sub-clock
+pub not_under : (clocks : List NodeClock) (rank : NodeClock → ℕ) (k i : ℕ) → HasRanks clocks rank → k < length clocks → rank (clock_at clocks i) ≤ rank (clock_at clocks k)
+    → clock_at clocks i ≡ Sub k → ⊥
+not_under clocks rank k i ranks within low e =
+    let up = ranks.deeper k within in
+    let same : rank (clock_at clocks i) ≡ rank (Sub k) = ap rank e in omega (arith, up, same, low)
+
+pub left_none : (clocks : List NodeClock) (rank : NodeClock → ℕ) (level : ℕ) (touched : ℕ → Type 0) (lanes : ClockLanes) → AreLeft clocks rank level touched lanes lanes
+left_none clocks rank level touched lanes = record { states = λ i other low. refl; times = λ i other low. refl }
+
+pub left_then : (clocks : List NodeClock) (rank : NodeClock → ℕ) (level lower : ℕ) (touched more : ℕ → Type 0) (a b c : ClockLanes) → level ≤ lower
+    → ((i : ℕ) → rank (clock_at clocks i) ≤ level → more i → touched i)
+    → AreLeft clocks rank level touched a b → AreLeft clocks rank lower more b c → AreLeft clocks rank level touched a c
+left_then clocks rank level lower touched more a b c down inside first next = record {
+  states = λ i other low. next.states i (λ m. other (inside i low m)) (omega (arith, low, down)) ∙ first.states i other low;
+  times = λ i other low. next.times i (λ m. other (inside i low m)) (omega (arith, low, down)) ∙ first.times i other low;
+}
+
+-- what an instant of the sub-clock and the slot of it leave
+pub left_fed : (clocks : List NodeClock) (rank : NodeClock → ℕ) (k : ℕ) (a b c d : ClockLanes) → HasRanks clocks rank → k < length clocks
+    → AreLeft clocks rank (rank (clock_at clocks k)) (is_node k) a b → AreLeft clocks rank (rank (Sub k)) (is_in clocks (Sub k)) b c
+    → ((i : ℕ) → (i ≡ k → ⊥) → slice_get d.states.items i ≡ slice_get c.states.items i) → ((i : ℕ) → (i ≡ k → ⊥) → slice_get d.times.items i ≡ slice_get c.times.items i)
+    → AreLeft clocks rank (rank (clock_at clocks k)) (is_node k) a d
+left_fed clocks rank k a b c d ranks within first made states times =
+    left_then clocks rank (rank (clock_at clocks k)) (rank (clock_at clocks k)) (is_node k) (is_node k) a c d (omega arith) (λ i low same. same)
+    (left_then clocks rank (rank (clock_at clocks k)) (rank (Sub k)) (is_node k) (is_in clocks (Sub k)) a b c (let up = ranks.deeper k within in omega (arith, up))
+    (λ i low e. absurd (not_under clocks rank k i ranks within low e)) first made)
+    (record { states = λ i other low. states i other; times = λ i other low. times i other })
+
+pub left_settled : (clocks : List NodeClock) (rank : NodeClock → ℕ) (clock : NodeClock) (i : ℕ) (a b c : ClockLanes) → clock_at clocks i ≡ clock
+    → AreLeft clocks rank (rank clock) (is_in clocks clock) a b → AreLeft clocks rank (rank (clock_at clocks i)) (is_node i) b c
+    → AreLeft clocks rank (rank clock) (is_in clocks clock) a c
+left_settled clocks rank clock i a b c here first next =
+    left_then clocks rank (rank clock) (rank (clock_at clocks i)) (is_in clocks clock) (is_node i) a b c (let same : rank (clock_at clocks i) ≡ rank clock = ap rank here in omega (arith, same))
+    (λ j low e. ap (clock_at clocks) e ∙ here) first next
+
+pub left_finished : (clocks : List NodeClock) (rank : NodeClock → ℕ) (clock : NodeClock) (a b c : ClockLanes)
+    → AreLeft clocks rank (rank clock) (is_in clocks clock) a b
+    → ((i : ℕ) → same_clock (clock_at clocks i) clock ≡ false → slice_get c.states.items i ≡ slice_get b.states.items i) → c.times.items ≡ b.times.items
+    → AreLeft clocks rank (rank clock) (is_in clocks clock) a c
+left_finished clocks rank clock a b c first states times =
+    left_then clocks rank (rank clock) (rank clock) (is_in clocks clock) (is_in clocks clock) a b c (omega arith) (λ i low inside. inside) first
+    (record { states = λ i other low. states i (they_differ (clock_at clocks i) clock other); times = λ i other low. ap (λ xs. slice_get xs i) times })
+
+-- an instant of its sub-clock leaves a crossfade's state
+pub kept_at : (clocks : List NodeClock) (rank : NodeClock → ℕ) (k : ℕ) (a b : ClockLanes) → HasRanks clocks rank → k < length clocks
+    → AreLeft clocks rank (rank (Sub k)) (is_in clocks (Sub k)) a b → slice_get b.states.items k ≡ slice_get a.states.items k
+kept_at clocks rank k a b ranks within left =
+    left.states k (not_under clocks rank k k ranks within (omega arith)) (let up = ranks.deeper k within in omega (arith, up))

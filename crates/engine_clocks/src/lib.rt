@@ -1,0 +1,12 @@
+//! The instants of a clock with the sub-clocks of its crossfades, however deep they nest.
+#![tactic(auto)]
+
+mod clocks;
+mod feeding;
+mod finishing;
+mod lanes;
+mod roots;
+
+pub use clocks::make_instant;
+pub use feeding::child_of;
+pub use lanes::ClockLanes;

@@ -1,0 +1,125 @@
+-- The line of each fault, with its line end. `docs/faults.md` has the table.
+use Rattle.std.specs.Prelude.{ℕ, List, [], ◌++◌, codes, decimal}
+use Rattle.script_lex.specs.declared.token.LexFault.{LexFault}
+use Rattle.script_lex.specs.declared.token.LexFault.TheVariants.{BadByte, UnclosedString, NumberTooLarge, TextTooLong, Memory as lex_memory}
+use Rattle.script_parse.specs.declared.fault.ParseFault.{ParseFault}
+use Rattle.script_parse.specs.declared.fault.ParseFault.TheVariants.{Syntax, TooDeep, Memory as parse_memory}
+use Rattle.typing_rules.specs.declared.fault.TypeFault.{TypeFault}
+use Rattle.typing_rules.specs.declared.fault.TypeFault.TheVariants.{UnknownName, MissingArgument, ExtraArgument, RepeatedName, TypeClash, Memory as type_memory}
+use Rattle.script_values.specs.declared.fault.Limit.{Limit}
+use Rattle.script_values.specs.declared.fault.Limit.TheVariants.{Calls, Outputs, Children, Crossfades, Overlap, Prefill, Capacity}
+use Rattle.script_values.specs.declared.fault.EvalFault.{EvalFault}
+use Rattle.script_values.specs.declared.fault.EvalFault.TheVariants.{BadSetting, BadValue, TooMuchWork, TooManySources, NoOutput, SameOutput, TooLarge, Memory as eval_memory}
+use Rattle.wav_io.specs.declared.fault.WavFault.{WavFault}
+use Rattle.wav_io.specs.declared.fault.WavFault.TheVariants.{NotRiff, NoFormat, BadFormat, NotPcm16, NoData, Empty}
+use Rattle.track_library.specs.declared.fault.LoadFault.{LoadFault}
+use Rattle.track_library.specs.declared.fault.LoadFault.TheVariants.{Missing, BadAudio, OtherRate, FileTooLarge, AllTooLarge, ReadFault, Memory as load_memory}
+use Rattle.clock_infer.specs.declared.clock_map.ClockName.{ClockName}
+use Rattle.clock_infer.specs.declared.clock_map.ClockName.TheVariants.{Named, Sub, AnyMain}
+use Rattle.clock_infer.specs.declared.clock_map.ClockFault.{ClockFault}
+use Rattle.clock_infer.specs.declared.clock_map.ClockFault.TheVariants.{TwoClocks, Nested, TooManyClocks, Memory as clock_memory}
+use Rattle.script_plan.specs.declared.fault.ScriptFault.{ScriptFault}
+use Rattle.script_plan.specs.declared.fault.ScriptFault.TheVariants.{Lex, Parse, «Type» as Typing, Eval, Memory as script_memory}
+use Rattle.stations.specs.declared.fault.StationFault.{StationFault}
+use Rattle.stations.specs.declared.fault.StationFault.TheVariants.{OtherForm, Files, FallibleOutput, Clocks, OutputTooLong}
+use Rattle.refusal_lines.specs.declared.fault.Fault.{Fault}
+use Rattle.refusal_lines.specs.declared.fault.Fault.TheVariants.{NoScript, Script, Station}
+use Rattle.refusal_lines.specs.Forms.{at_place, at_statement, at_token, of_audio, of_clocks, of_name}
+
+-- the bytes that are no tokens; want of memory is no refusal, and has no line
+abbrev pub token_line : LexFault → List ℕ
+token_line (BadByte at) = at_place (codes "E02 bad byte at") at
+token_line (UnclosedString at) = at_place (codes "E03 string not closed at") at
+token_line (NumberTooLarge at) = at_place (codes "E04 number too large at") at
+token_line TextTooLong = codes "E05 script too long\n"
+token_line lex_memory = []
+
+-- the tokens that are no script
+abbrev pub syntax_line : ParseFault → List ℕ
+syntax_line (Syntax at) = at_place (codes "E06 syntax at token") at
+syntax_line (TooDeep at) = at_place (codes "E07 too deep at token") at
+syntax_line parse_memory = []
+
+-- names, arguments and types
+abbrev pub type_line : TypeFault → List ℕ
+type_line (UnknownName stmt at) = at_token (codes "E08") stmt (codes "unknown name") at
+type_line (MissingArgument stmt at label) = at_token (codes "E09") stmt (codes "missing argument " ++ label) at
+type_line (ExtraArgument stmt at) = at_token (codes "E10") stmt (codes "extra argument") at
+type_line (RepeatedName stmt at) = at_token (codes "E11") stmt (codes "repeated name") at
+type_line (TypeClash stmt) = at_statement (codes "E12") stmt (codes "types clash")
+type_line type_memory = []
+
+-- a limit of the language, as a line names it
+abbrev pub limit_name : Limit → List ℕ
+limit_name Calls = codes "calls"
+limit_name Outputs = codes "outputs"
+limit_name Children = codes "children"
+limit_name Crossfades = codes "crossfades"
+limit_name Overlap = codes "overlap"
+limit_name Prefill = codes "prefill"
+limit_name Capacity = codes "capacity"
+
+-- the evaluation
+abbrev pub plan_line : EvalFault → List ℕ
+plan_line (BadSetting stmt) = at_statement (codes "E13") stmt (codes "bad setting")
+plan_line (BadValue stmt at) = at_token (codes "E14") stmt (codes "bad value") at
+plan_line (TooMuchWork stmt) = at_statement (codes "E15") stmt (codes "too much work")
+plan_line TooManySources = codes "E16 too many sources\n"
+plan_line NoOutput = codes "E17 no output\n"
+plan_line (SameOutput name) = of_name (codes "E18 two outputs") name
+plan_line (TooLarge limit) = of_name (codes "E19 too large:") (limit_name limit)
+plan_line eval_memory = []
+
+-- the number of what is wrong with a WAV file
+abbrev pub wav_number : WavFault → ℕ
+wav_number NotRiff = 1
+wav_number NoFormat = 2
+wav_number BadFormat = 3
+wav_number NotPcm16 = 4
+wav_number NoData = 5
+wav_number Empty = 6
+
+-- the files; a read that failed is no refusal, and has no line
+abbrev pub file_line : LoadFault → List ℕ
+file_line (Missing name) = of_name (codes "E20 missing file") name
+file_line (BadAudio name fault) = of_audio (codes "E21 bad audio") name (wav_number fault)
+file_line (OtherRate name) = of_name (codes "E22 other rate") name
+file_line (FileTooLarge name) = of_name (codes "E23 file too large") name
+file_line AllTooLarge = codes "E24 files too large\n"
+file_line (ReadFault name) = []
+file_line load_memory = []
+
+-- a clock in which a node must lie
+abbrev pub clock_name : ClockName → List ℕ
+clock_name (Named id) = id
+clock_name (Sub node) = codes "crossfade " ++ decimal node
+clock_name AnyMain = codes "an output"
+
+-- the clocks
+abbrev pub clock_line : ClockFault → List ℕ
+clock_line (TwoClocks node first second) = of_clocks (codes "E26 source") node (clock_name first) (clock_name second)
+clock_line (Nested node) = codes "E27 crossfade " ++ decimal node ++ codes " lies in its own clock\n"
+clock_line TooManyClocks = codes "E28 too many clocks\n"
+clock_line clock_memory = []
+
+-- a script that has no plan; want of memory is no refusal
+abbrev pub script_line : ScriptFault → List ℕ
+script_line (Lex fault) = token_line fault
+script_line (Parse fault) = syntax_line fault
+script_line (Typing fault) = type_line fault
+script_line (Eval fault) = plan_line fault
+script_line script_memory = []
+
+-- a plan that is not rendered
+abbrev pub station_line : StationFault → List ℕ
+station_line OtherForm = codes "E00 other form\n"
+station_line (Files fault) = file_line fault
+station_line (FallibleOutput name) = of_name (codes "E25 fallible output") name
+station_line (Clocks fault) = clock_line fault
+station_line (OutputTooLong name) = of_name (codes "E29 output too long") name
+
+-- the line of a refusal
+abbrev pub line_of : Fault → List ℕ
+line_of NoScript = codes "E01 no script\n"
+line_of (Script fault) = script_line fault
+line_of (Station fault) = station_line fault

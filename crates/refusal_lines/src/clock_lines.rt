@@ -1,0 +1,64 @@
+// The lines of scripts whose sources have no clocks.
+ghost use Rattle.std.specs.Prelude.{◌≡◌, ◌++◌, IfOk, codes, decimal, string_bytes};
+ghost use Rattle.refusal_lines.specs.Forms.{of_clocks as form};
+ghost use Rattle.refusal_lines.specs.Lines.{clock_line, clock_name};
+
+use crate::forms::{of_clocks, plain};
+use clock_infer::{ClockFault, ClockName};
+use liq_base::Memory;
+use std::alloc::Global;
+
+/// The line of a fault of clocks. Want of memory has none.
+pub fn clock_line(alloc: Global, fault: &ClockFault) -> Result<String, Memory>
+    ensures { IfOk result (λ line. string_bytes line ≡ clock_line fault.now) }
+{
+    match fault {
+        ClockFault::TwoClocks {
+            node,
+            first,
+            second,
+        } => two_clocks(alloc, *node, first, second),
+        ClockFault::Nested { node } => nested(alloc, *node),
+        ClockFault::TooManyClocks => plain(alloc, "E28 too many clocks"),
+        ClockFault::Memory => Ok(String::new(alloc)),
+    }
+}
+
+// The line of a source that must lie in two clocks.
+fn two_clocks(
+    alloc: Global,
+    node: u32,
+    first: &ClockName,
+    second: &ClockName,
+) -> Result<String, Memory>
+    ensures { IfOk result (λ line. string_bytes line ≡ form (codes "E26 source") node (clock_name first.now) (clock_name second.now)) }
+{
+    let first = clock_name(alloc, first)?;
+    let second = clock_name(alloc, second)?;
+    of_clocks(alloc, "E26 source", node, &first, &second)
+}
+
+// The name of a clock in which a source must lie.
+fn clock_name(alloc: Global, clock: &ClockName) -> Result<String, Memory>
+    ensures { IfOk result (λ name. string_bytes name ≡ clock_name clock.now) }
+{
+    match clock {
+        ClockName::Named(id) => Ok(String::from_str(alloc, id.as_str())?),
+        ClockName::Sub(node) => sub_clock(alloc, *node),
+        ClockName::AnyMain => Ok(String::from_str(alloc, "an output")?),
+    }
+}
+
+// The name of a crossfade's own clock.
+fn sub_clock(alloc: Global, node: u32) -> Result<String, Memory>
+    ensures { IfOk result (λ name. string_bytes name ≡ codes "crossfade " ++ decimal node) }
+{
+    Ok(format!(in alloc; "crossfade {node}")?)
+}
+
+// The line of a crossfade that lies in its own clock.
+fn nested(alloc: Global, node: u32) -> Result<String, Memory>
+    ensures { IfOk result (λ line. string_bytes line ≡ codes "E27 crossfade " ++ decimal node ++ codes " lies in its own clock\n") }
+{
+    Ok(format!(in alloc; "E27 crossfade {node} lies in its own clock\n")?)
+}

@@ -1,0 +1,72 @@
+// The forms that lines have.
+ghost use Rattle.std.specs.Prelude.{◌≡◌, ◌++◌, IfOk, codes, string_bytes};
+ghost use Rattle.refusal_lines.specs.Forms.{at_place, at_statement, at_token, of_audio, of_clocks, of_name};
+
+use liq_base::Memory;
+use std::alloc::Global;
+
+/// A line that is the same wherever it comes.
+pub fn plain(alloc: Global, text: &str) -> Result<String, Memory>
+    ensures { IfOk result (λ line. string_bytes line ≡ text.now ++ codes "\n") }
+{
+    Ok(format!(in alloc; "{text}\n")?)
+}
+
+/// A line that ends with a number.
+pub fn at_place(alloc: Global, text: &str, place: u32) -> Result<String, Memory>
+    ensures { IfOk result (λ line. string_bytes line ≡ at_place text.now place) }
+{
+    Ok(format!(in alloc; "{text} {place}\n")?)
+}
+
+/// A line that ends with a name.
+pub fn of_name(alloc: Global, text: &str, name: &str) -> Result<String, Memory>
+    ensures { IfOk result (λ line. string_bytes line ≡ of_name text.now name.now) }
+{
+    Ok(format!(in alloc; "{text} {name}\n")?)
+}
+
+/// A line of a statement.
+pub fn at_statement(
+    alloc: Global,
+    number: &str,
+    statement: u32,
+    text: &str,
+) -> Result<String, Memory>
+    ensures { IfOk result (λ line. string_bytes line ≡ at_statement number.now statement text.now) }
+{
+    Ok(format!(in alloc; "{number} statement {statement}: {text}\n")?)
+}
+
+/// A line of a token in a statement.
+pub fn at_token(
+    alloc: Global,
+    number: &str,
+    statement: u32,
+    text: &str,
+    token: u32,
+) -> Result<String, Memory>
+    ensures { IfOk result (λ line. string_bytes line ≡ at_token number.now statement text.now token) }
+{
+    Ok(format!(in alloc; "{number} statement {statement}: {text} at token {token}\n")?)
+}
+
+/// A line of a file and the number of what is wrong with it.
+pub fn of_audio(alloc: Global, text: &str, name: &str, number: u32) -> Result<String, Memory>
+    ensures { IfOk result (λ line. string_bytes line ≡ of_audio text.now name.now number) }
+{
+    Ok(format!(in alloc; "{text} {name}: {number}\n")?)
+}
+
+/// A line of a source and two clocks.
+pub fn of_clocks(
+    alloc: Global,
+    text: &str,
+    node: u32,
+    first: &str,
+    second: &str,
+) -> Result<String, Memory>
+    ensures { IfOk result (λ line. string_bytes line ≡ of_clocks text.now node first.now second.now) }
+{
+    Ok(format!(in alloc; "{text} {node} under clocks {first} and {second}\n")?)
+}

@@ -1,0 +1,9 @@
+//! From the bytes of a script to its plan, or to its first fault.
+#![tactic(auto)]
+
+mod fault;
+pub mod law;
+mod plan;
+
+pub use fault::ScriptFault;
+pub use plan::plan_of;

@@ -1,0 +1,111 @@
+-- How a check ends, step by step.
+use Rattle.std.proofs.Common.{◌≡◌, ◌⊎◌, ℕ, List, Some, refl, ⊎_elim}
+use Rattle.std.specs.Prelude.{Ok, Err, Result, Option, ◌≢◌, IsErrOf}
+use Rattle.liq_base.specs.Files.{Files}
+use Rattle.frame_core.specs.Library.{Sounds}
+use Rattle.plan_core.specs.declared.plan.Plan.{Plan}
+use Rattle.plan_core.specs.Plans.{IsWellFormed}
+use Rattle.clock_infer.specs.declared.clock_map.ClockMap.{ClockMap}
+use Rattle.clock_infer.specs.declared.clock_map.ClockFault.{ClockFault}
+use Rattle.clock_infer.specs.declared.clock_map.ClockFault.TheVariants.{TwoClocks, Nested, TooManyClocks, Memory as clock_memory}
+use Rattle.clock_infer.specs.Answers.{IsCause, IsClockMap}
+use Rattle.track_library.specs.Walk.{Ends, load_of}
+use Rattle.track_library.specs.declared.fault.LoadFault.{LoadFault}
+use Rattle.track_library.specs.declared.fault.LoadFault.TheVariants.{Missing, BadAudio, OtherRate, FileTooLarge, AllTooLarge, ReadFault, Memory as load_memory}
+use Rattle.stations.specs.Stations.{HasNoReader}
+use Rattle.stations.specs.Findings.{Fails, IsFound, IsLoaded, IsUnloaded, rules_of}
+use Rattle.station_check.specs.Halts.{HaltsFor, ClockHalts, GapHalts, LengthHalts, RestHalts, load_halt, clock_halt}
+use Rattle.station_check.specs.Steps.{IsUngapped, OnlyCause, OnlyClocks}
+use Rattle.station_check.specs.declared.halt.Halt.{Halt}
+use Rattle.station_check.specs.declared.halt.Halt.TheVariants.{Refused, Read, Memory}
+use Rattle.station_check.proofs.Findings.{found_cause, found_file, found_gap, found_long}
+
+-- the loading of the files
+pub loading : (told : Option Files) (before after : ℕ) (reads : Files → List ℕ → Type 0) (plan : Plan) (fault : LoadFault) → HasNoReader plan
+    → Ends told before after reads (λ files. load_of (rules_of plan) files plan.nodes) fault
+    → HaltsFor told before after (λ files f. (ticks : ℕ) → IsFound files plan ticks (Fails f)) (load_halt fault)
+loading told before after reads plan (Missing name) none ends = λ files t ticks.
+    let fails : IsUnloaded files plan (Missing name) = record { readers = none; fails = ends files t } in found_file files plan ticks (Missing name) fails fails
+loading told before after reads plan (BadAudio name fault) none ends = λ files t ticks.
+    let fails : IsUnloaded files plan (BadAudio name fault) = record { readers = none; fails = ends files t } in found_file files plan ticks (BadAudio name fault) fails fails
+loading told before after reads plan (OtherRate name) none ends = λ files t ticks.
+    let fails : IsUnloaded files plan (OtherRate name) = record { readers = none; fails = ends files t } in found_file files plan ticks (OtherRate name) fails fails
+loading told before after reads plan (FileTooLarge name) none ends = λ files t ticks.
+    let fails : IsUnloaded files plan (FileTooLarge name) = record { readers = none; fails = ends files t } in found_file files plan ticks (FileTooLarge name) fails fails
+loading told before after reads plan AllTooLarge none ends = λ files t ticks.
+    let fails : IsUnloaded files plan AllTooLarge = record { readers = none; fails = ends files t } in found_file files plan ticks AllTooLarge fails fails
+loading told before after reads plan (ReadFault name) none ends = ends.0
+loading told before after reads plan load_memory none ends = tt
+
+-- the clocks that are answered are the only ones
+pub clocks_found : (plan : Plan) (result : Result ClockMap ClockFault) (clocks : ClockMap) → result ≡ Ok clocks → IsClockMap plan clocks
+    → ((fault : ClockFault) → fault ≢ clock_memory → IsCause plan fault → IsErrOf result fault ⊎ IsErrOf result clock_memory)
+    → ((map : ClockMap) → IsClockMap plan map → (result ≡ Ok map) ⊎ IsErrOf result clock_memory)
+    → OnlyClocks plan clocks
+clocks_found plan result clocks is map exact only = record {
+  map = map;
+  only = λ other theirs. ⊎_elim (λ (e : result ≡ Ok other). cc) (λ (e : result ≡ Err clock_memory). absurd cc) (only other theirs);
+  apart = λ fault meant cause. ⊎_elim (λ (e : result ≡ Err fault). cc) (λ (e : result ≡ Err clock_memory). cc) (exact fault meant cause);
+}
+
+-- a fault of clocks that is answered is the only one
+one_cause : (plan : Plan) (result : Result ClockMap ClockFault) (fault : ClockFault) → result ≡ Err fault → fault ≢ clock_memory → IsCause plan fault
+    → ((other : ClockFault) → other ≢ clock_memory → IsCause plan other → IsErrOf result other ⊎ IsErrOf result clock_memory)
+    → ((map : ClockMap) → IsClockMap plan map → (result ≡ Ok map) ⊎ IsErrOf result clock_memory)
+    → OnlyCause plan fault
+one_cause plan result fault is meant cause exact only = record {
+  of_plan = meant;
+  cause = cause;
+  only = λ other theirs told. ⊎_elim (λ (e : result ≡ Err other). cc)
+      (λ (e : result ≡ Err clock_memory). let same : fault ≡ clock_memory = cc in absurd (meant same)) (exact other theirs told);
+  apart = λ clocks map. ⊎_elim (λ (e : result ≡ Ok clocks). cc)
+      (λ (e : result ≡ Err clock_memory). let same : fault ≡ clock_memory = cc in meant same) (only clocks map);
+}
+
+pub cause_found : (plan : Plan) (result : Result ClockMap ClockFault) (fault : ClockFault) → result ≡ Err fault → IsCause plan fault
+    → ((other : ClockFault) → other ≢ clock_memory → IsCause plan other → IsErrOf result other ⊎ IsErrOf result clock_memory)
+    → ((map : ClockMap) → IsClockMap plan map → (result ≡ Ok map) ⊎ IsErrOf result clock_memory)
+    → ClockHalts plan (clock_halt fault)
+cause_found plan result (TwoClocks node first second) is cause exact only =
+    record { clock_fault = TwoClocks node first second; fault_is = refl; only_cause = one_cause plan result (TwoClocks node first second) is (λ e. cc) cause exact only }
+cause_found plan result (Nested node) is cause exact only =
+    record { clock_fault = Nested node; fault_is = refl; only_cause = one_cause plan result (Nested node) is (λ e. cc) cause exact only }
+cause_found plan result TooManyClocks is cause exact only =
+    record { clock_fault = TooManyClocks; fault_is = refl; only_cause = one_cause plan result TooManyClocks is (λ e. cc) cause exact only }
+cause_found plan result clock_memory is cause exact only = tt
+
+-- what each step of the rest ends with
+pub gap_ends : (plan : Plan) (ticks : ℕ) (halt : Halt) → IsWellFormed plan → GapHalts plan halt → RestHalts plan ticks halt
+gap_ends plan ticks (Refused fault) well h = λ files library loaded.
+    rw h.fault_is (found_gap files plan ticks h.name well (record { library = library; loaded = loaded; mark = h.mark; marking = h.marking; first = h.first }))
+gap_ends plan ticks Read well h = absurd h
+gap_ends plan ticks Memory well h = tt
+
+pub clocks_end : (plan : Plan) (ticks : ℕ) (halt : Halt) → IsWellFormed plan → IsUngapped plan → ClockHalts plan halt → RestHalts plan ticks halt
+clocks_end plan ticks (Refused fault) well ungapped h = λ files library loaded.
+    rw h.fault_is (found_cause files plan ticks library h.clock_fault well ungapped h.only_cause loaded)
+clocks_end plan ticks Read well ungapped h = absurd h
+clocks_end plan ticks Memory well ungapped h = tt
+
+pub length_ends : (plan : Plan) (ticks : ℕ) (clocks : ClockMap) (halt : Halt) → IsWellFormed plan → IsUngapped plan → OnlyClocks plan clocks → LengthHalts plan ticks halt
+    → RestHalts plan ticks halt
+length_ends plan ticks clocks (Refused fault) well ungapped one h = λ files library loaded.
+    rw h.fault_is (found_long files plan ticks library clocks h.name well ungapped one h.first loaded)
+length_ends plan ticks clocks Read well ungapped one h = absurd h
+length_ends plan ticks clocks Memory well ungapped one h = tt
+
+-- the rest ends for a plan whose files were loaded
+pub rest_ends : (told : Option Files) (before after : ℕ) (plan : Plan) (ticks : ℕ) (library : Sounds) (halt : Halt)
+    → ((files : Files) → told ≡ Some files → IsLoaded files plan library) → RestHalts plan ticks halt
+    → HaltsFor told before after (λ files fault. IsFound files plan ticks (Fails fault)) halt
+rest_ends told before after plan ticks library (Refused fault) loaded h = λ files t. h files library (loaded files t)
+rest_ends told before after plan ticks library Read loaded h = absurd h
+rest_ends told before after plan ticks library Memory loaded h = tt
+
+-- the loading ends for these ticks
+pub load_ends : (told : Option Files) (before after : ℕ) (plan : Plan) (ticks : ℕ) (halt : Halt)
+    → HaltsFor told before after (λ files fault. (ticks : ℕ) → IsFound files plan ticks (Fails fault)) halt
+    → HaltsFor told before after (λ files fault. IsFound files plan ticks (Fails fault)) halt
+load_ends told before after plan ticks (Refused fault) h = λ files t. h files t ticks
+load_ends told before after plan ticks Read h = h
+load_ends told before after plan ticks Memory h = tt

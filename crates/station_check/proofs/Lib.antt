@@ -1,0 +1,4 @@
+pub mod Firsts
+pub mod Findings
+pub mod Ending
+pub mod Lines

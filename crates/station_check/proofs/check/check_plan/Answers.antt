@@ -1,0 +1,32 @@
+use Rattle.std.proofs.lemmas.Result.{err_from_is_err_and}
+use Rattle.station_check.proofs.Ending.{load_ends, rest_ends}
+use Rattle.station_check.proofs.Findings.{found_form}
+use Rattle.station_check.proofs.check.check_plan.Goals as goal
+
+pub returns-then-reads_buffer-clause-fault : goal.returns-then-reads_buffer-clause-fault
+returns-then-reads_buffer-clause-fault g c = λ files told. found_form files c.args.plan.now c.args.ticks (c.reads_buffer.ensures.some c.if-reads_buffer.true)
+
+pub returns-in_err-library-clause-fault : goal.returns-in_err-library-clause-fault
+returns-in_err-library-clause-fault g c =
+    let p = err_from_is_err_and c.from_residual.result c.from_residual.ensures.1 in rw (p.1, p.2)
+    (load_ends _ _ _ _ c.args.ticks _ c.in_err-library.ensures.fault)
+
+pub returns-in_err-clocks-clause-fault : goal.returns-in_err-clocks-clause-fault
+returns-in_err-clocks-clause-fault g c =
+    let p = err_from_is_err_and c.from_residual-in_err-clocks.result c.from_residual-in_err-clocks.ensures.1 in rw (p.1, p.2)
+    (rest_ends _ _ _ c.args.plan.now c.args.ticks c.in_ok-library.library _ c.in_ok-library.ensures.loaded c.in_err-clocks.ensures.fault)
+
+pub returns-clause-found : goal.returns-clause-found
+returns-clause-found g c = λ files told.
+    c.in_ok-clocks.ensures.found files c.in_ok-library.library (c.in_ok-library.ensures.loaded files told) c.in_ok-library.ensures.library
+
+pub returns-clause-fit : goal.returns-clause-fit
+returns-clause-fit g c = record {
+  plan_is = c.requires.plan;
+  readers = c.reads_buffer.ensures.none c.if-reads_buffer.false;
+  sounds = c.in_ok-library.ensures.library;
+  leaves = c.in_ok-library.ensures.leaves;
+  map = c.in_ok-clocks.ensures.map;
+  few = c.requires.few;
+  none = c.in_ok-clocks.ensures.short;
+}

@@ -1,0 +1,82 @@
+-- How a check ends without the plan's audio files and clocks. Only private functions cite what stands below `HaltsFor`.
+use Rattle.std.specs.Prelude.{◌≡◌, ⊤, ℕ, Bool, List, Option, Some}
+use Rattle.std.specs.Option.{ForSome}
+use Rattle.liq_base.specs.Counts.{Rose}
+use Rattle.liq_base.specs.Files.{Files}
+use Rattle.frame_core.specs.Library.{Sounds}
+use Rattle.plan_core.specs.declared.plan.Plan.{Plan}
+use Rattle.clock_infer.specs.declared.clock_map.ClockFault.{ClockFault}
+use Rattle.clock_infer.specs.declared.clock_map.ClockFault.TheVariants.{TwoClocks, Nested, TooManyClocks, Memory as clock_memory}
+use Rattle.fallible_infer.specs.Infallible.{IsMarking, refuses}
+use Rattle.track_library.specs.declared.fault.LoadFault.{LoadFault}
+use Rattle.track_library.specs.declared.fault.LoadFault.TheVariants.{Missing, BadAudio, OtherRate, FileTooLarge, AllTooLarge, ReadFault, Memory as load_memory}
+use Rattle.stations.specs.declared.fault.StationFault.{StationFault}
+use Rattle.stations.specs.declared.fault.StationFault.TheVariants.{Files as Unloaded, FallibleOutput, Clocks, OutputTooLong}
+use Rattle.stations.specs.Findings.{Fails, IsFound, IsLoaded, first_name, is_too_long}
+use Rattle.station_check.specs.Steps.{OnlyCause}
+use Rattle.station_check.specs.declared.halt.Halt.{Halt}
+use Rattle.station_check.specs.declared.halt.Halt.TheVariants.{Refused, Read, Memory}
+
+-- a plan is refused for what is found where the files are told; a read failed where the count of failed reads rose; and
+-- memory may be refused anywhere
+abbrev pub HaltsFor : Option Files → (before after : ℕ) → (Files → StationFault → Type 0) → Halt → Type 0
+HaltsFor told before after IsTold (Refused fault) = ForSome told (λ files. IsTold files fault)
+HaltsFor told before after IsTold Read = Rose before after
+HaltsFor told before after IsTold Memory = ⊤
+
+-- how a check ends at a fault of files, and at one of clocks
+abbrev pub load_halt : LoadFault → Halt
+load_halt (Missing name) = Refused (Unloaded (Missing name))
+load_halt (BadAudio name fault) = Refused (Unloaded (BadAudio name fault))
+load_halt (OtherRate name) = Refused (Unloaded (OtherRate name))
+load_halt (FileTooLarge name) = Refused (Unloaded (FileTooLarge name))
+load_halt AllTooLarge = Refused (Unloaded AllTooLarge)
+load_halt (ReadFault name) = Read
+load_halt load_memory = Memory
+
+abbrev pub clock_halt : ClockFault → Halt
+clock_halt (TwoClocks node first second) = Refused (Clocks (TwoClocks node first second))
+clock_halt (Nested node) = Refused (Clocks (Nested node))
+clock_halt TooManyClocks = Refused (Clocks TooManyClocks)
+clock_halt clock_memory = Memory
+
+-- the first output that needs an infallible node and has none
+pub record IsGapped (plan : Plan) (fault : StationFault) : Type 0 where
+  pub name : List ℕ
+  pub fault_is : fault ≡ FallibleOutput name
+  pub mark : ℕ → Bool
+  pub marking : IsMarking plan.nodes mark
+  pub first : first_name (refuses mark) plan.sinks ≡ Some name
+
+abbrev pub GapHalts : Plan → Halt → Type 0
+GapHalts plan (Refused fault) = IsGapped plan fault
+GapHalts plan Read = ⊥
+GapHalts plan Memory = ⊤
+
+-- the fault of clocks
+pub record HasNoClocks (plan : Plan) (fault : StationFault) : Type 0 where
+  pub clock_fault : ClockFault
+  pub fault_is : fault ≡ Clocks clock_fault
+  pub only_cause : OnlyCause plan clock_fault
+
+abbrev pub ClockHalts : Plan → Halt → Type 0
+ClockHalts plan (Refused fault) = HasNoClocks plan fault
+ClockHalts plan Read = ⊥
+ClockHalts plan Memory = ⊤
+
+-- the first output that is too long
+pub record IsLong (plan : Plan) (ticks : ℕ) (fault : StationFault) : Type 0 where
+  pub name : List ℕ
+  pub fault_is : fault ≡ OutputTooLong name
+  pub first : first_name (is_too_long plan ticks) plan.sinks ≡ Some name
+
+abbrev pub LengthHalts : Plan → (ticks : ℕ) → Halt → Type 0
+LengthHalts plan ticks (Refused fault) = IsLong plan ticks fault
+LengthHalts plan ticks Read = ⊥
+LengthHalts plan ticks Memory = ⊤
+
+-- the fault of a plan whose audio files are there
+abbrev pub RestHalts : Plan → (ticks : ℕ) → Halt → Type 0
+RestHalts plan ticks (Refused fault) = (files : Files) (library : Sounds) → IsLoaded files plan library → IsFound files plan ticks (Fails fault)
+RestHalts plan ticks Read = ⊥
+RestHalts plan ticks Memory = ⊤

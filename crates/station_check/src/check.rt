@@ -1,0 +1,65 @@
+// Whether a plan is rendered.
+ghost use Rattle.std.specs.Prelude.{◌≡◌, ◌≤◌, ℕ, None, IfOk, IfErr};
+ghost use Rattle.std.specs.Option.{ForSome};
+ghost use Rattle.plan_core.specs.Plans.{IsWellFormed};
+ghost use Rattle.frame_core.specs.Library.{Sounds, IsLibrary};
+ghost use Rattle.liq_base.specs.Files.{Files};
+ghost use Rattle.clock_infer.specs.Answers.{IsClockMap};
+ghost use Rattle.stations.specs.Findings.{Fails, Fits, IsFit, IsFound, IsLoaded, first_name, is_too_long};
+ghost use Rattle.station_check.specs.Halts.{HaltsFor, RestHalts};
+
+use crate::Halt;
+use crate::clocks::find_clocks;
+use crate::files::load_files;
+use crate::gaps::check_gaps;
+use crate::lengths::check_lengths;
+use crate::readers::reads_buffer;
+use clock_infer::ClockMap;
+use liq_base::Shelf;
+use plan_core::Plan;
+use stations::{Ready, StationFault};
+use std::alloc::Global;
+
+/// The audio files and the clocks of a plan that is to be rendered for so many ticks, at most 1000000000; or the first
+/// fault that stands against it, in the order of `docs/faults.md`. A check alone is that for no tick. Each file is read
+/// once, and files are as they were.
+pub fn check_plan<S: Shelf>(
+    alloc: Global,
+    plan: &Plan,
+    ticks: u64,
+    shelf: &mut S,
+) -> Result<Ready, Halt>
+    requires plan { IsWellFormed plan.now }
+    requires few { ticks ≤ 1000000000 }
+    // What is answered is what is found of the plan, and nothing else is.
+    ensures found { IfOk result (λ ready. ForSome (S.files shelf.old) (λ files. IsFound files plan.now ticks (Fits ready.library ready.clocks))) }
+    // What is refused is refused for the fault that is found, and nothing else is; `Read` comes only where a read failed.
+    ensures fault { IfErr result (HaltsFor (S.files shelf.old) (S.read_count shelf.old) (S.read_count shelf.new) (λ files fault. IsFound files plan.now ticks (Fails fault))) }
+    // Whatever the shelf tells, what is answered can be rendered.
+    ensures fit { IfOk result (λ ready. IsFit plan.now ready.library ready.clocks ticks) }
+    ensures files { S.files shelf.new ≡ S.files shelf.old }
+    ensures reads { S.read_count shelf.old ≤ S.read_count shelf.new }
+    ensures writes { S.write_count shelf.old ≤ S.write_count shelf.new }
+{
+    if reads_buffer(plan) {
+        return Err(Halt::Refused(StationFault::OtherForm));
+    }
+    let library = load_files(alloc, plan, shelf)?;
+    let clocks = check_rest(alloc, plan, ticks)?;
+    Ok(Ready { library, clocks })
+}
+
+// The clocks of a plan whose audio files are there, or its first fault.
+fn check_rest(alloc: Global, plan: &Plan, ticks: u64) -> Result<ClockMap, Halt>
+    requires plan { IsWellFormed plan.now }
+    requires few { ticks ≤ 1000000000 }
+    ensures found { IfOk result (λ clocks. (files : Files) (library : Sounds) → IsLoaded files plan.now library → IsLibrary library → IsFound files plan.now ticks (Fits library clocks)) }
+    ensures map { IfOk result (λ clocks. IsClockMap plan.now clocks) }
+    ensures short { IfOk result (λ clocks. first_name (is_too_long plan.now ticks) plan.now.sinks ≡ None) }
+    ensures fault { IfErr result (RestHalts plan.now ticks) }
+{
+    check_gaps(alloc, plan)?;
+    let clocks = find_clocks(alloc, plan)?;
+    check_lengths(alloc, plan, ticks)?;
+    Ok(clocks)
+}

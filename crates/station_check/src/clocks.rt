@@ -1,0 +1,33 @@
+// The clocks of a plan.
+ghost use Rattle.std.specs.Prelude.{◌≡◌, IfOk, IfErr};
+ghost use Rattle.plan_core.specs.Plans.{IsWellFormed};
+ghost use Rattle.station_check.specs.Steps.{OnlyClocks};
+ghost use Rattle.station_check.specs.Halts.{ClockHalts, clock_halt};
+
+use crate::Halt;
+use clock_infer::{ClockFault, ClockMap, assign};
+use plan_core::Plan;
+use stations::StationFault;
+use std::alloc::Global;
+
+// How a check ends at a fault of clocks.
+fn halt_of(fault: ClockFault) -> Halt
+    ensures { result ≡ clock_halt fault }
+{
+    match fault {
+        ClockFault::Memory => Halt::Memory,
+        _ => Halt::Refused(StationFault::Clocks(fault)),
+    }
+}
+
+/// The clocks of a plan, or the cause for which it has none.
+pub fn find_clocks(alloc: Global, plan: &Plan) -> Result<ClockMap, Halt>
+    requires { IsWellFormed plan.now }
+    ensures map { IfOk result (λ clocks. OnlyClocks plan.now clocks) }
+    ensures fault { IfErr result (ClockHalts plan.now) }
+{
+    match assign(alloc, plan) {
+        Ok(clocks) => Ok(clocks),
+        Err(fault) => Err(halt_of(fault)),
+    }
+}

@@ -1,0 +1,49 @@
+// The audio files of a plan.
+ghost use Rattle.std.specs.Prelude.{◌≡◌, ◌≤◌, ℕ, length, IfOk, IfErr};
+ghost use Rattle.std.specs.Option.{ForSome};
+ghost use Rattle.frame_core.specs.Library.{IsLibrary};
+ghost use Rattle.stations.specs.Stations.{HasNoReader};
+ghost use Rattle.stations.specs.Findings.{Fails, IsFound, IsLoaded};
+ghost use Rattle.station_check.specs.Halts.{HaltsFor, load_halt};
+
+use crate::Halt;
+use frame_core::Library;
+use liq_base::Shelf;
+use liq_base::limits::{MAX_ALL_BYTES, MAX_FILE_BYTES};
+use plan_core::Plan;
+use stations::StationFault;
+use std::alloc::Global;
+use track_library::{LoadFault, Sizes, load};
+
+// How a check ends at a fault of files.
+fn halt_of(fault: LoadFault) -> Halt
+    ensures { result ≡ load_halt fault }
+{
+    match fault {
+        LoadFault::ReadFault(_) => Halt::Read,
+        LoadFault::Memory => Halt::Memory,
+        _ => Halt::Refused(StationFault::Files(fault)),
+    }
+}
+
+/// The audio files of a plan that reads no buffer, each read once; or the first fault of their loading.
+pub fn load_files<S: Shelf>(alloc: Global, plan: &Plan, shelf: &mut S) -> Result<Library, Halt>
+    requires { HasNoReader plan.now }
+    ensures loaded { IfOk result (λ library. ForSome (S.files shelf.old) (λ files. IsLoaded files plan.now library)) }
+    ensures library { IfOk result (λ library. IsLibrary library) }
+    ensures leaves { IfOk result (λ library. length library.leaves ≡ length plan.now.nodes) }
+    ensures fault { IfErr result (HaltsFor (S.files shelf.old) (S.read_count shelf.old) (S.read_count shelf.new)
+        (λ files fault. (ticks : ℕ) → IsFound files plan.now ticks (Fails fault))) }
+    ensures files { S.files shelf.new ≡ S.files shelf.old }
+    ensures reads { S.read_count shelf.old ≤ S.read_count shelf.new }
+    ensures writes { S.write_count shelf.old ≤ S.write_count shelf.new }
+{
+    let sizes = Sizes {
+        file: MAX_FILE_BYTES,
+        all: MAX_ALL_BYTES,
+    };
+    match load(alloc, plan, shelf, sizes) {
+        Ok(library) => Ok(library),
+        Err(fault) => Err(halt_of(fault)),
+    }
+}

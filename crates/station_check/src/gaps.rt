@@ -1,0 +1,37 @@
+// Outputs that need an infallible source.
+ghost use Rattle.std.specs.Prelude.{◌≡◌, IfOk, IfErr, OnOk};
+ghost use Rattle.plan_core.specs.Plans.{IsWellFormed};
+ghost use Rattle.stations.specs.Findings.{name_of};
+ghost use Rattle.station_check.specs.Steps.{IsUngapped};
+ghost use Rattle.station_check.specs.Halts.{GapHalts};
+
+use crate::Halt;
+use fallible_infer::{check_outputs, infallible};
+use liq_base::{Memory, Text};
+use plan_core::{Plan, SinkPlan};
+use stations::StationFault;
+use std::alloc::Global;
+
+/// A copy of the name of an output.
+pub fn output_name(alloc: Global, sink: &SinkPlan) -> Result<Text, Memory>
+    ensures { IfOk result (λ name. name ≡ name_of sink.now) }
+{
+    match sink {
+        SinkPlan::Output { name, .. } => name.copy(alloc),
+        SinkPlan::Feed { .. } => Text::from_str(alloc, ""),
+    }
+}
+
+/// Refuses the first output that needs an infallible source and has none.
+pub fn check_gaps(alloc: Global, plan: &Plan) -> Result<(), Halt>
+    requires { IsWellFormed plan.now }
+    ensures safe { OnOk result (IsUngapped plan.now) }
+    ensures fault { IfErr result (GapHalts plan.now) }
+{
+    let marks = infallible(alloc, plan)?;
+    if let Err(fault) = check_outputs(plan, &marks) {
+        let name = output_name(alloc, &plan.sinks.as_slice()[fault.sink as usize])?;
+        return Err(Halt::Refused(StationFault::FallibleOutput(name)));
+    }
+    Ok(())
+}

@@ -1,0 +1,27 @@
+// Why a check ends without the plan's audio files and clocks.
+ghost use Rattle.std.specs.Prelude.{◌≡◌};
+ghost use Rattle.station_check.specs.declared.halt.Halt.TheVariants.{Memory as no_memory};
+
+use liq_base::Memory;
+use stations::StationFault;
+
+/// Why a check ends without the plan's audio files and clocks.
+#[derive(Debug, Drop)]
+pub enum Halt {
+    /// The plan is refused.
+    Refused(StationFault),
+
+    /// A file could not be read.
+    Read,
+
+    /// Memory was refused.
+    Memory,
+}
+
+impl From<Memory> for Halt {
+    ghost from_gives = { λ _ e. e ≡ no_memory };
+
+    fn from(_refused: Memory) -> Halt {
+        Halt::Memory
+    }
+}

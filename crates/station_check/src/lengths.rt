@@ -1,0 +1,54 @@
+// Outputs that are too long for the header of their files.
+ghost use Rattle.std.specs.Prelude.{◌≡◌, ◌≤◌, IfErr, None, OnOk};
+ghost use Rattle.plan_core.specs.Plans.{IsWellFormed};
+ghost use Rattle.stations.specs.Findings.{first_name, is_too_long, kind_at};
+ghost use Rattle.station_check.specs.Halts.{LengthHalts};
+
+use crate::Halt;
+use crate::gaps::output_name;
+use liq_base::Kind;
+use plan_core::{Plan, SinkPlan};
+use stations::StationFault;
+use std::alloc::Global;
+use wav_io::header;
+
+// The kind of a node.
+fn kind_at(plan: &Plan, node: u32) -> Kind
+    ensures { result ≡ kind_at plan.now node }
+{
+    match plan.nodes.as_slice().get(node as usize) {
+        Some(node) => node.kind,
+        None => Kind::Stereo,
+    }
+}
+
+// Whether an output is too long for a header after so many ticks.
+fn is_too_long(plan: &Plan, ticks: u64, sink: &SinkPlan) -> bool
+    requires plan { IsWellFormed plan.now }
+    requires few { ticks ≤ 1000000000 }
+    ensures { result ≡ is_too_long plan.now ticks sink.now }
+{
+    match sink {
+        SinkPlan::Output { node, .. } => {
+            let kind = kind_at(plan, *node);
+            header(kind, plan.rate, ticks * u64::from(plan.frame)).is_none()
+        }
+        SinkPlan::Feed { .. } => false,
+    }
+}
+
+/// Refuses the first output that is too long for the header of its file after so many ticks, at most 1000000000.
+pub fn check_lengths(alloc: Global, plan: &Plan, ticks: u64) -> Result<(), Halt>
+    requires plan { IsWellFormed plan.now }
+    requires few { ticks ≤ 1000000000 }
+    ensures short { OnOk result (first_name (is_too_long plan.now ticks) plan.now.sinks ≡ None) }
+    ensures fault { IfErr result (LengthHalts plan.now ticks) }
+{
+    for sink in plan.sinks.as_slice() {
+        if is_too_long(plan, ticks, sink) {
+            let name = output_name(alloc, sink)?;
+            return Err(Halt::Refused(StationFault::OutputTooLong(name)));
+        }
+    }
+    Ok(())
+}

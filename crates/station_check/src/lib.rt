@@ -1,0 +1,15 @@
+//! Whether a plan is rendered: its audio files and its clocks, or its first fault. `docs/faults.md` has the order.
+#![tactic(auto)]
+
+mod check;
+mod clocks;
+mod files;
+mod gaps;
+mod halt;
+mod lengths;
+mod readers;
+mod report;
+
+pub use check::check_plan;
+pub use halt::Halt;
+pub use report::check_report;

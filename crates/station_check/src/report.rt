@@ -1,0 +1,81 @@
+// The report of a check.
+ghost use Rattle.std.specs.Prelude.{◌≡◌, ◌++◌, ℕ, Bool, codes, IfOk, OnOk, string_bytes};
+ghost use Rattle.plan_core.specs.Plans.{IsWellFormed};
+ghost use Rattle.fallible_infer.specs.Infallible.{IsMarking, mark_at};
+ghost use Rattle.stations.specs.Reports.{check_report_of, clock_name, fallible_word, main_name};
+ghost use Rattle.station_check.specs.Steps.{sink_line};
+
+use clock_infer::{ClockMap, NodeClock};
+use fallible_infer::infallible;
+use liq_base::Memory;
+use plan_core::{Plan, SinkPlan};
+use stations::Ready;
+use std::alloc::Global;
+
+/// The report of a check: a line for each output, with its clock and whether its source is infallible.
+pub fn check_report(alloc: Global, plan: &Plan, ready: &Ready) -> Result<String, Memory>
+    requires { IsWellFormed plan.now }
+    ensures { IfOk result (λ text. (mark : ℕ → Bool) × IsMarking plan.now.nodes mark × (string_bytes text ≡ check_report_of plan.now ready.now.clocks mark)) }
+{
+    let marks = infallible(alloc, plan)?;
+    let mut text = String::new(alloc);
+    for sink in plan.sinks.as_slice() {
+        push_sink(alloc, &mut text, &ready.clocks, &marks, sink)?;
+    }
+    Ok(text)
+}
+
+// Adds the line of a sink; a feed has none.
+fn push_sink(
+    alloc: Global,
+    text: &mut String,
+    clocks: &ClockMap,
+    marks: &[bool],
+    sink: &SinkPlan,
+) -> Result<(), Memory>
+    ensures { OnOk result (string_bytes text.new ≡ string_bytes text.old ++ sink_line clocks.now (mark_at marks.now) sink.now) }
+{
+    if let SinkPlan::Output { name, node, .. } = sink {
+        let infallible = marks.get(*node as usize).copied().unwrap_or(false);
+        let line = output_line(alloc, name.as_str(), clock_name(clocks, *node), infallible)?;
+        text.push_str(&line)?;
+    }
+    Ok(())
+}
+
+// The line of an output.
+fn output_line(alloc: Global, name: &str, clock: &str, infallible: bool) -> Result<String, Memory>
+    ensures { IfOk result (λ line. string_bytes line
+        ≡ codes "output " ++ name.now ++ codes " clock " ++ clock.now ++ codes " " ++ fallible_word infallible ++ codes "\n") }
+{
+    let word = fallible_word(infallible);
+    Ok(format!(in alloc; "output {name} clock {clock} {word}\n")?)
+}
+
+// How a report names a source that is infallible or not.
+fn fallible_word(infallible: bool) -> &'static str
+    ensures { result.now ≡ fallible_word infallible }
+{
+    if infallible { "infallible" } else { "fallible" }
+}
+
+// The name of the main clock of a node.
+fn clock_name(clocks: &ClockMap, node: u32) -> &str
+    ensures { result.now ≡ clock_name clocks.now node }
+{
+    let clock = clocks.of.as_slice().get(node as usize).copied();
+    main_name(clocks, clock.unwrap_or(NodeClock::Main(0)))
+}
+
+// The name of a main clock; a sub-clock has none.
+fn main_name(clocks: &ClockMap, clock: NodeClock) -> &str
+    ensures { result.now ≡ main_name clocks.now.names clock }
+{
+    match clock {
+        NodeClock::Main(number) => match clocks.names.as_slice().get(number as usize) {
+            Some(name) => name.as_str(),
+            None => "",
+        },
+        NodeClock::Sub(_) => "",
+    }
+}

@@ -1,0 +1,24 @@
+-- A station that is accepted has a meaning.
+use Rattle.std.proofs.Common.{◌≡◌, ℕ, ◌<◌, List, refl}
+use Rattle.std.specs.Prelude.{Ok}
+use Rattle.liq_base.specs.Files.{Files}
+use Rattle.plan_core.specs.Plans.{IsWellFormed}
+use Rattle.stations.specs.Findings.{IsAccepted, rules_of}
+use Rattle.stations.specs.Stations.{Run, Station, setting_of}
+use Rattle.stream_meaning.specs.Settings.{IsSetting}
+use Rattle.station_laws.proofs.Walked.{leaves_long, singles_have_one}
+
+pub is_setting : (files : Files) (station : Station) (run : Run) → IsWellFormed station.plan
+    → IsAccepted files station.plan station.ticks station.library station.clocks → station.start < 604800
+    → IsSetting (setting_of station run) station.clocks
+is_setting files station run plan accepted start =
+    let loaded = accepted.clocked.safe.loaded.loaded in
+    record {
+      plan = plan;
+      map = accepted.clocked.map;
+      each = refl;
+      library = accepted.sounds;
+      leaves = leaves_long (rules_of station.plan) files station.plan.nodes station.library loaded;
+      singles = singles_have_one (rules_of station.plan) files station.plan.nodes station.library loaded;
+      start = start;
+    }

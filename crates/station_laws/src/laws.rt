@@ -1,0 +1,31 @@
+// Laws of stations. Each is a contract of a function that does nothing.
+ghost use Rattle.std.specs.Prelude.{◌≡◌, ℕ, ◌+◌, ◌*◌, ◌++◌, ◌<◌, length};
+ghost use Rattle.clock_infer.specs.declared.clock_map.ClockMap.{ClockMap as Clocks};
+ghost use Rattle.frame_core.specs.Library.{Sounds};
+ghost use Rattle.liq_base.specs.Files.{Files};
+ghost use Rattle.plan_core.specs.Plans.{IsWellFormed};
+ghost use Rattle.plan_core.specs.declared.plan.Plan.{Plan as ThePlan};
+ghost use Rattle.stations.specs.Findings.{IsAccepted};
+ghost use Rattle.stations.specs.Stations.{Run, Station, setting_of};
+ghost use Rattle.stations.specs.Streams.{HasNoGaps, bytes_of, header_for};
+ghost use Rattle.stream_meaning.specs.Sinks.{kind_of, ticks_bytes};
+ghost use Rattle.wav_io.specs.Header.{block_size};
+
+use stream_meaning::infallible_nodes_offer;
+
+/// Whatever buffers answer, an output of an infallible node has no gap.
+pub fn infallible_outputs_have_no_gaps()
+    ensures { (files : Files) (station : Station) (run : Run) → IsWellFormed station.plan
+        → IsAccepted files station.plan station.ticks station.library station.clocks → station.start < 604800
+        → HasNoGaps station run }
+{
+    infallible_nodes_offer();
+}
+
+/// The bytes of an output are its header and then those of all ticks, as many as its samples take.
+pub fn outputs_are_whole()
+    ensures bytes { (station : Station) (run : Run) (node : ℕ)
+        → bytes_of station run node ≡ header_for (setting_of station run) station.ticks node ++ ticks_bytes (setting_of station run) node station.ticks }
+    ensures long { (station : Station) (run : Run) (node : ℕ) → length (bytes_of station run node)
+        ≡ 44 + station.ticks * station.plan.frame * block_size (kind_of (setting_of station run) node) }
+{}

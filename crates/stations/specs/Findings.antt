@@ -1,0 +1,148 @@
+-- Whether a plan is rendered: its audio files and clocks, or why not. The faults are looked for in the order in which they
+-- stand here, and each comes only where the plan has none of those before it.
+use Rattle.std.specs.Prelude.{◌≡◌, ◌≢◌, ◌<◌, ◌≤◌, ℕ, ◌*◌, ◌^◌, Bool, false, List, [], ◌∷◌, Option, Some, None, Result, Ok, Err, is_none, length, slice_get, if◌then◌else◌}
+use Rattle.std.specs.Option.{option_map_or}
+use Rattle.liq_base.specs.Files.{Files}
+use Rattle.liq_base.specs.declared.memory.Kind.{Kind}
+use Rattle.liq_base.specs.declared.memory.Kind.TheVariants.{Stereo}
+use Rattle.frame_core.specs.Library.{Sounds, IsLibrary}
+use Rattle.plan_core.specs.declared.plan.Plan.{Plan}
+use Rattle.plan_core.specs.declared.node.Node.{Node}
+use Rattle.plan_core.specs.declared.node.Op.TheVariants.{Buffer}
+use Rattle.plan_core.specs.declared.sink.SinkPlan.{SinkPlan}
+use Rattle.plan_core.specs.declared.sink.SinkPlan.TheVariants.{Output, Feed}
+use Rattle.plan_core.specs.Plans.{IsWellFormed, sink_node}
+use Rattle.clock_infer.specs.declared.clock_map.ClockMap.{ClockMap}
+use Rattle.clock_infer.specs.declared.clock_map.ClockFault.{ClockFault}
+use Rattle.clock_infer.specs.declared.clock_map.ClockFault.TheVariants.{Memory as no_memory}
+use Rattle.clock_infer.specs.Answers.{IsClockMap, IsCause}
+use Rattle.fallible_infer.specs.Infallible.{IsMarking, refuses}
+use Rattle.wav_io.specs.Header.{header_of}
+use Rattle.track_library.specs.declared.rules.Rules.{Rules}
+use Rattle.track_library.specs.declared.fault.LoadFault.{LoadFault}
+use Rattle.track_library.specs.declared.fault.LoadFault.TheVariants.{Missing, BadAudio, OtherRate, FileTooLarge, AllTooLarge, ReadFault, Memory}
+use Rattle.track_library.specs.Walk.{load_of}
+use Rattle.stations.specs.Stations.{HasNoReader}
+use Rattle.stations.specs.declared.fault.StationFault.{StationFault}
+use Rattle.stations.specs.declared.fault.StationFault.TheVariants.{OtherForm, Files as Unloaded, FallibleOutput, Clocks, OutputTooLong}
+
+-- a node reads a buffer
+pub record HasReader (plan : Plan) : Type 0 where
+  pub number : ℕ
+  pub node : Node
+  pub buffer : ℕ
+  pub there : slice_get plan.nodes number ≡ Some node
+  pub reads : node.op ≡ Buffer buffer
+
+-- what may be loaded: files at the rate of the plan, each of at most 2^28 bytes and all of at most 2^32
+abbrev pub rules_of : Plan → Rules
+rules_of plan = record { rate = plan.rate; file = 2 ^ 28; all = 2 ^ 32 }
+
+-- the name of an output; a feed has none
+abbrev pub name_of : SinkPlan → List ℕ
+name_of (Output name node fallible) = name
+name_of (Feed buffer node) = []
+
+-- the name of the first sink that is such
+abbrev pub first_name : (such : SinkPlan → Bool) → List SinkPlan → Option (List ℕ)
+first_name such [] = None
+first_name such (sink ∷ sinks) = if such sink then Some (name_of sink) else first_name such sinks
+
+abbrev pub kind_at : Plan → (node : ℕ) → Kind
+kind_at plan node = option_map_or (λ node. node.kind) (slice_get plan.nodes node) Stereo
+
+-- after so many ticks an output is too long for the header of its file
+abbrev pub is_too_long : Plan → (ticks : ℕ) → SinkPlan → Bool
+is_too_long plan ticks (Output name node fallible) = is_none (header_of (kind_at plan node) plan.rate (ticks * plan.frame))
+is_too_long plan ticks (Feed buffer node) = false
+
+-- no node reads a buffer, and these are the audio files of the plan
+pub record IsLoaded (files : Files) (plan : Plan) (library : Sounds) : Type 0 where
+  pub readers : HasNoReader plan
+  pub loaded : load_of (rules_of plan) files plan.nodes ≡ Ok library
+
+-- beside that, each output has a node that is infallible, or is written with `fallible=true`
+pub record IsSafe (files : Files) (plan : Plan) (library : Sounds) : Type 0 where
+  pub loaded : IsLoaded files plan library
+  pub mark : ℕ → Bool
+  pub marking : IsMarking plan.nodes mark
+  pub none : first_name (refuses mark) plan.sinks ≡ None
+
+-- beside that, these are the clocks of the plan
+pub record IsClocked (files : Files) (plan : Plan) (library : Sounds) (clocks : ClockMap) : Type 0 where
+  pub safe : IsSafe files plan library
+  pub map : IsClockMap plan clocks
+
+-- the plan is rendered for so many ticks: no output is too long
+pub record IsAccepted (files : Files) (plan : Plan) (ticks : ℕ) (library : Sounds) (clocks : ClockMap) : Type 0 where
+  pub clocked : IsClocked files plan library clocks
+  pub sounds : IsLibrary library
+  pub none : first_name (is_too_long plan ticks) plan.sinks ≡ None
+
+-- the audio files are not loaded, for this fault
+pub record IsUnloaded (files : Files) (plan : Plan) (fault : LoadFault) : Type 0 where
+  pub readers : HasNoReader plan
+  pub fails : load_of (rules_of plan) files plan.nodes ≡ Err fault
+
+-- the output of this name is the first that needs an infallible node and has none
+pub record IsUnsafe (files : Files) (plan : Plan) (name : List ℕ) : Type 0 where
+  pub library : Sounds
+  pub loaded : IsLoaded files plan library
+  pub mark : ℕ → Bool
+  pub marking : IsMarking plan.nodes mark
+  pub first : first_name (refuses mark) plan.sinks ≡ Some name
+
+-- the plan has no clocks, for this cause
+pub record IsUnclocked (files : Files) (plan : Plan) (fault : ClockFault) : Type 0 where
+  pub library : Sounds
+  pub safe : IsSafe files plan library
+  pub of_plan : fault ≢ no_memory
+  pub cause : IsCause plan fault
+
+-- the output of this name is the first that is too long
+pub record IsTooLong (files : Files) (plan : Plan) (ticks : ℕ) (name : List ℕ) : Type 0 where
+  pub library : Sounds
+  pub clocks : ClockMap
+  pub clocked : IsClocked files plan library clocks
+  pub first : first_name (is_too_long plan ticks) plan.sinks ≡ Some name
+
+-- the faults of files; a read that failed and want of memory are none
+abbrev pub IsFileFault : Files → Plan → LoadFault → Type 0
+IsFileFault files plan (Missing name) = IsUnloaded files plan (Missing name)
+IsFileFault files plan (BadAudio name fault) = IsUnloaded files plan (BadAudio name fault)
+IsFileFault files plan (OtherRate name) = IsUnloaded files plan (OtherRate name)
+IsFileFault files plan (FileTooLarge name) = IsUnloaded files plan (FileTooLarge name)
+IsFileFault files plan AllTooLarge = IsUnloaded files plan AllTooLarge
+IsFileFault files plan (ReadFault name) = ⊥
+IsFileFault files plan Memory = ⊥
+
+abbrev pub IsStationFault : Files → Plan → (ticks : ℕ) → StationFault → Type 0
+IsStationFault files plan ticks OtherForm = HasReader plan
+IsStationFault files plan ticks (Unloaded fault) = IsFileFault files plan fault
+IsStationFault files plan ticks (FallibleOutput name) = IsUnsafe files plan name
+IsStationFault files plan ticks (Clocks fault) = IsUnclocked files plan fault
+IsStationFault files plan ticks (OutputTooLong name) = IsTooLong files plan ticks name
+
+-- what is found of a plan: its audio files and clocks, or its first fault
+pub data Finding : Type 0 where
+  Fits : Sounds → ClockMap → Finding
+  Fails : StationFault → Finding
+
+abbrev pub IsFinding : Files → Plan → (ticks : ℕ) → Finding → Type 0
+IsFinding files plan ticks (Fits library clocks) = IsAccepted files plan ticks library clocks
+IsFinding files plan ticks (Fails fault) = IsStationFault files plan ticks fault
+
+-- this is found, and nothing else
+pub record IsFound (files : Files) (plan : Plan) (ticks : ℕ) (finding : Finding) : Type 0 where
+  pub holds : IsFinding files plan ticks finding
+  pub only : (other : Finding) → IsFinding files plan ticks other → other ≡ finding
+
+-- what the rendering of a plan for so many ticks may rely on, whatever the files are
+pub record IsFit (plan : Plan) (library : Sounds) (clocks : ClockMap) (ticks : ℕ) : Type 0 where
+  pub plan_is : IsWellFormed plan
+  pub readers : HasNoReader plan
+  pub sounds : IsLibrary library
+  pub leaves : length library.leaves ≡ length plan.nodes
+  pub map : IsClockMap plan clocks
+  pub few : ticks ≤ 1000000000
+  pub none : first_name (is_too_long plan ticks) plan.sinks ≡ None

@@ -1,0 +1,5 @@
+pub mod Outputs
+pub mod Stations
+pub mod Streams
+pub mod Reports
+pub mod Findings

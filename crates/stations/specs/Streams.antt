@@ -1,0 +1,51 @@
+-- What the outputs of a station hold, and their gaps.
+use Rattle.std.specs.Prelude.{◌≡◌, ℕ, ◌*◌, Bool, true, List, [], ◌∷◌, ◌++◌, Contains}
+use Rattle.plan_core.specs.declared.sink.SinkPlan.{SinkPlan}
+use Rattle.plan_core.specs.declared.sink.SinkPlan.TheVariants.{Output, Feed}
+use Rattle.fallible_infer.specs.Infallible.{IsMarking}
+use Rattle.stream_meaning.specs.Instants.{Setting}
+use Rattle.stream_meaning.specs.Sinks.{kind_of, ticks_bytes, gaps}
+use Rattle.wav_io.specs.Header.{header_bytes}
+use Rattle.stations.specs.Outputs.{OutputFile}
+use Rattle.stations.specs.Stations.{Station, Run, setting_of}
+
+-- the header of an output of a node, for so many ticks
+abbrev pub header_for : Setting → (ticks node : ℕ) → List ℕ
+header_for setting ticks node = header_bytes (kind_of setting node) setting.plan.rate (ticks * setting.plan.frame)
+
+-- all bytes of an output of a node: its header, and tick by tick what the node offers
+abbrev pub output_bytes : Setting → (ticks node : ℕ) → List ℕ
+output_bytes setting ticks node = header_for setting ticks node ++ ticks_bytes setting node ticks
+
+-- the files of the outputs among these sinks, in their order
+abbrev pub outputs_in : Setting → (ticks : ℕ) → List SinkPlan → List OutputFile
+outputs_in setting ticks [] = []
+outputs_in setting ticks (Output name node fallible ∷ sinks) =
+    record { name = name; bytes = output_bytes setting ticks node } ∷ outputs_in setting ticks sinks
+outputs_in setting ticks (Feed buffer node ∷ sinks) = outputs_in setting ticks sinks
+
+-- the gaps of the outputs among these sinks, in their order
+abbrev pub counts_in : Setting → (ticks : ℕ) → List SinkPlan → List ℕ
+counts_in setting ticks [] = []
+counts_in setting ticks (Output name node fallible ∷ sinks) = gaps setting node ticks ∷ counts_in setting ticks sinks
+counts_in setting ticks (Feed buffer node ∷ sinks) = counts_in setting ticks sinks
+
+-- all bytes of an output of a node in a run of the station
+abbrev pub bytes_of : Station → Run → (node : ℕ) → List ℕ
+bytes_of station run node = output_bytes (setting_of station run) station.ticks node
+
+-- at how many instants of a run a node offers nothing
+abbrev pub gaps_of : Station → Run → (node : ℕ) → ℕ
+gaps_of station run node = gaps (setting_of station run) node station.ticks
+
+-- the files that a run writes, and their gaps, in sink order
+abbrev pub outputs_of : Station → Run → List OutputFile
+outputs_of station run = outputs_in (setting_of station run) station.ticks station.plan.sinks
+
+abbrev pub counts_of : Station → Run → List ℕ
+counts_of station run = counts_in (setting_of station run) station.ticks station.plan.sinks
+
+-- an output of an infallible node has no gap
+abbrev pub HasNoGaps : Station → Run → Type 0
+HasNoGaps station run = (mark : ℕ → Bool) (name : List ℕ) (node : ℕ) (fallible : Bool) → IsMarking station.plan.nodes mark
+    → Contains station.plan.sinks (Output name node fallible) → mark node ≡ true → gaps_of station run node ≡ 0

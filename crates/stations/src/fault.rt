@@ -1,0 +1,24 @@
+// Why a plan is not rendered.
+use clock_infer::ClockFault;
+use liq_base::Text;
+use track_library::LoadFault;
+
+/// Why a plan is not rendered, in the order in which the faults are looked for. The line of each stands in
+/// `docs/formats.md`.
+#[derive(Debug, Drop)]
+pub enum StationFault {
+    /// A node reads a buffer, which is not rendered yet.
+    OtherForm,
+
+    /// The audio files are not loaded.
+    Files(LoadFault),
+
+    /// The output of this name needs a source that always has a cell, and has none.
+    FallibleOutput(Text),
+
+    /// There are no clocks for the nodes.
+    Clocks(ClockFault),
+
+    /// The output of this name is too long for the header of its file.
+    OutputTooLong(Text),
+}

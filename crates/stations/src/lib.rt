@@ -1,0 +1,9 @@
+//! Stations: what an accepted script renders, the bytes of its outputs, its report, and why a plan is refused. The
+//! definitions stand in `specs/`; the program over them in `station_check`, `station_render` and `liq_cli`.
+#![tactic(auto)]
+
+mod fault;
+mod ready;
+
+pub use fault::StationFault;
+pub use ready::Ready;

@@ -1,0 +1,11 @@
+pub mod Moving
+pub mod Fronts
+pub mod Fronting
+pub mod Scopes
+pub mod Bridges
+pub mod Naming
+pub mod After
+pub mod Beginning
+pub mod Settled
+pub mod Counting
+pub mod Ending

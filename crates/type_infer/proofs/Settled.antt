@@ -1,0 +1,127 @@
+-- Kinds and uses under the default solution, one after another.
+use Rattle.std.proofs.Common.{◌≡◌, ◌∙◌, sym, ap, subst, refl, ℕ, ◌<◌, ◌≤◌, ◌+◌, length, get_or, take, List, [], ◌∷◌, ◌++◌, map, Option, Some, None, append_assoc}
+use Rattle.std.specs.Borrow.{Bor}
+use Rattle.std.specs.List.{HoldsAt}
+use Rattle.std.specs.Prelude.{IfSome, MatchOption, option_map, slice_get}
+use Rattle.std.proofs.lemmas.Option.{slice_get-get_or, slice_get_past}
+use Rattle.std.proofs.lemmas.List.{append-nil, get_or_default, map_push, take_all, take_more}
+use Rattle.liq_base.specs.declared.memory.Kind.{Kind}
+use Rattle.type_terms.specs.Extends.{HasDefaults}
+use Rattle.type_terms.specs.Ground.{Assignment, source}
+use Rattle.type_terms.specs.Resolved.{IsUnbound}
+use Rattle.type_terms.specs.Table.{Solves, Table}
+use Rattle.type_terms.specs.Term.{kind_meaning, meaning, source_term, term_of}
+use Rattle.type_terms.specs.declared.ty.KindTerm.{KindTerm}
+use Rattle.type_terms.specs.declared.ty.KindTerm.TheVariants as term
+use Rattle.type_terms.specs.declared.ty.Ty.{Ty}
+use Rattle.type_terms.specs.declared.ty.Ty.TheVariants as ty
+use Rattle.type_terms.proofs.Views.{term_Source}
+use Rattle.typing_rules.specs.declared.uses.KindOf.{KindOf}
+use Rattle.typing_rules.specs.declared.uses.Use.{Use}
+use Rattle.type_flow.specs.Environment.{Found, TextUse, settled, settled_use}
+use Rattle.script_flow.specs.Statements.{Done, found_use, uses_in, uses_under}
+use Rattle.value_types.specs.Seen.{found, founds, pending, text_use}
+use Rattle.value_types.specs.declared.environment.FoundUse.{FoundUse}
+use Rattle.value_types.specs.declared.environment.TextKind.{TextKind}
+use Rattle.value_types.specs.declared.environment.TextUse.{TextUse as ATextUse}
+use Rattle.value_types.specs.declared.environment.KnownDef.{KnownDef}
+use Rattle.type_infer.specs.Settling.{AddsDones, AddsFounds, AddsTexts, AreDefaultOf, AreSettledKinds, AreSettledTexts, IsSettledKind, IsSettledText, free_kind}
+use Rattle.type_infer.specs.Steps.{done_in, dones_in}
+use Rattle.type_infer.specs.declared.steps.Step.{Step}
+
+-- ---- a kind
+
+free_at : (s : Table) (k : KindTerm) (d : HasDefaults s) → IsUnbound s (source_term k) → free_kind k ≡ kind_meaning d.at k
+free_at s (term.Fixed k) d h = refl
+free_at s (term.Var n) d h = sym (d.kinds n h.1)
+
+same_source : (j k : Kind) → source j ≡ source k → j ≡ k
+same_source j k e = cc
+
+pub kind_settled : (s : Table) (k k' : KindTerm) (u : Ty) (r : Kind) → IsUnbound s (term_of u) → ((a : Assignment) → Solves a s → meaning a (term_of u) ≡ meaning a (term_of (ty.Source k))) → term_of u ≡ source_term k' → r ≡ free_kind k' → IsSettledKind s k r
+kind_settled s k k' u r unbound same found is = λ d.
+    let sources : source (kind_meaning d.at k') ≡ source (kind_meaning d.at k) = sym (ap (meaning d.at) found) ∙ same d.at d.solves ∙ ap (meaning d.at) (term_Source (ty.Source k) k refl) in
+    is ∙ free_at s k' d (subst (IsUnbound s) found unbound) ∙ same_source (kind_meaning d.at k') (kind_meaning d.at k) sources
+
+-- ---- one after another
+
+added_more : {A B : Type 0} (f : A → B) (start old new : List B) (xs ys : List A) (x : A) (y : B) → ys ≡ xs ++ x ∷ [] → old ≡ start ++ map f xs → new ≡ old ++ y ∷ [] → y ≡ f x → new ≡ start ++ map f ys
+added_more f start old new xs ys x y more before added is =
+    added ∙ ap (λ l. l ++ y ∷ []) before ∙ append_assoc start (map f xs) (y ∷ []) ∙ ap (λ z. start ++ (map f xs ++ z ∷ [])) is
+    ∙ ap (λ l. start ++ l) (sym (map_push f xs x)) ∙ ap (λ l. start ++ map f l) (sym more)
+
+next_item : {A : Type 0} (xs : List A) (i : ℕ) (x : A) → i < length xs → x ≡ get_or xs i x → take (i + 1) xs ≡ take i xs ++ x ∷ []
+next_item xs i x lt is = take_more xs i x lt ∙ ap (λ z. take i xs ++ z ∷ []) (sym is)
+
+next_mapped : {A B : Type 0} (f : A → B) (xs : List A) (i : ℕ) (x : A) → i < length xs → x ≡ get_or xs i x → map f (take (i + 1) xs) ≡ map f (take i xs) ++ f x ∷ []
+next_mapped f xs i x lt is = ap (map f) (next_item xs i x lt is) ∙ map_push f (take i xs) x
+
+all_items : {A : Type 0} (xs : List A) (i : ℕ) → length xs ≤ i → take i xs ≡ xs
+all_items xs i le = take_all i xs le
+
+-- ---- kinds
+
+pub kinds_all : (s : Table) (ks : List KindTerm) (i : ℕ) (rs : List KindOf) → length ks ≤ i → AreSettledKinds s (take i ks) rs → AreSettledKinds s ks rs
+kinds_all s ks i rs le h = subst (λ l. AreSettledKinds s l rs) (all_items ks i le) h
+
+pub texts_more : (s : Table) (ks : List TextKind) (i : ℕ) (k : TextKind) (one : KindOf) (old new : List KindOf) → i < length ks → k ≡ get_or ks i k → AreSettledTexts s (map pending (take i ks)) old → IsSettledText s (pending k) one → new ≡ old ++ one ∷ [] → AreSettledTexts s (map pending (take (i + 1) ks)) new
+texts_more s ks i k one old new lt is h settled_one e = λ d.
+    added_more (settled d.at) [] old new (map pending (take i ks)) (map pending (take (i + 1) ks)) (pending k) one (next_mapped pending ks i k lt is) (h d) e (settled_one d)
+
+-- the same with the item at its place
+pub texts_more_at : (s : Table) (ks : List TextKind) (i : ℕ) (k : TextKind) (one : KindOf) (old new : List KindOf) → i < length ks → AreSettledTexts s (map pending (take i ks)) old → IsSettledText s (pending (get_or ks i k)) one → new ≡ old ++ one ∷ [] → AreSettledTexts s (map pending (take (i + 1) ks)) new
+texts_more_at s ks i k one old new lt h settled_one e = texts_more s ks i (get_or ks i k) one old new lt (get_or_default ks i k (get_or ks i k) lt) h settled_one e
+
+pub texts_all : (s : Table) (ks : List TextKind) (i : ℕ) (rs : List KindOf) → length ks ≤ i → AreSettledTexts s (map pending (take i ks)) rs → AreSettledTexts s (map pending ks) rs
+texts_all s ks i rs le h = subst (λ l. AreSettledTexts s (map pending l) rs) (all_items ks i le) h
+
+-- ---- uses
+
+abbrev pub use_of : FoundUse → List KindOf → Use
+use_of x ks = record { at = x.at; target = x.target; kinds = ks }
+
+abbrev pub text_use_of : ATextUse → List KindOf → Use
+text_use_of x ks = record { at = x.at; target = x.target; kinds = ks }
+
+pub founds_more : (s : Table) (xs : List FoundUse) (i : ℕ) (x : FoundUse) (ks : List KindOf) (start old new : List Use) → i < length xs → x ≡ get_or xs i x → AddsFounds s (founds (take i xs)) start old → AreSettledKinds s x.kinds.items ks → new ≡ old ++ use_of x ks ∷ [] → AddsFounds s (founds (take (i + 1) xs)) start new
+founds_more s xs i x ks start old new lt is h kinds e = λ d.
+    added_more (found_use d.at) start old new (founds (take i xs)) (founds (take (i + 1) xs)) (found x) (use_of x ks) (next_mapped found xs i x lt is) (h d) e (ap (use_of x) (kinds d))
+
+pub founds_all : (s : Table) (xs : List FoundUse) (i : ℕ) (start new : List Use) → length xs ≤ i → AddsFounds s (founds (take i xs)) start new → AddsFounds s (founds xs) start new
+founds_all s xs i start new le h = subst (λ l. AddsFounds s (founds l) start new) (all_items xs i le) h
+
+pub uses_more : (s : Table) (xs : List ATextUse) (i : ℕ) (x : ATextUse) (ks : List KindOf) (start old new : List Use) → i < length xs → x ≡ get_or xs i x → AddsTexts s (map text_use (take i xs)) start old → AreSettledTexts s (map pending x.kinds.items) ks → new ≡ old ++ text_use_of x ks ∷ [] → AddsTexts s (map text_use (take (i + 1) xs)) start new
+uses_more s xs i x ks start old new lt is h kinds e = λ d.
+    added_more (settled_use d.at) start old new (map text_use (take i xs)) (map text_use (take (i + 1) xs)) (text_use x) (text_use_of x ks) (next_mapped text_use xs i x lt is) (h d) e (ap (text_use_of x) (kinds d))
+
+pub uses_all : (s : Table) (xs : List ATextUse) (i : ℕ) (start new : List Use) → length xs ≤ i → AddsTexts s (map text_use (take i xs)) start new → AddsTexts s (map text_use xs) start new
+uses_all s xs i start new le h = subst (λ l. AddsTexts s (map text_use l) start new) (all_items xs i le) h
+
+-- ---- steps
+
+-- what is found at a place
+pub def_found : (o : Option (Bor KnownDef)) (ds : List KnownDef) (i : ℕ) → IfSome o (λ x. x.now ≡ get_or ds i x.now) → MatchOption o (length ds ≤ i) (λ x. (i < length ds) × HoldsAt {X = KnownDef} (λ y. x.now ≡ y) ds i) → option_map (λ x. x.now) o ≡ slice_get ds i
+def_found None ds i is h = sym (slice_get_past ds i h)
+def_found (Some x) ds i is h = ap (λ (d : KnownDef). Some d) is ∙ sym (slice_get-get_or ds i x.now h.0)
+
+pub one_found : (s : Table) (fs : List Found) (x : Done) (old new : List Use) → ((d : HasDefaults s) → uses_in d.at x ≡ map (found_use d.at) fs) → AddsFounds s fs old new → AddsDones s (x ∷ []) old new
+one_found s fs x old new is h = λ d. h d ∙ ap (λ l. old ++ l) (sym (append-nil (uses_in d.at x) ∙ is d))
+
+pub one_text : (s : Table) (us : List TextUse) (x : Done) (old new : List Use) → ((d : HasDefaults s) → uses_in d.at x ≡ map (settled_use d.at) us) → AddsTexts s us old new → AddsDones s (x ∷ []) old new
+one_text s us x old new is h = λ d. h d ∙ ap (λ l. old ++ l) (sym (append-nil (uses_in d.at x) ∙ is d))
+
+uses_append : (a : Assignment) (xs ys : List Done) → uses_under a (xs ++ ys) ≡ uses_under a xs ++ uses_under a ys
+uses_append a [] ys = refl
+uses_append a (x ∷ xs) ys = ap (λ l. uses_in a x ++ l) (uses_append a xs ys) ∙ sym (append_assoc (uses_in a x) (uses_under a xs) (uses_under a ys))
+
+dones_append : (ds : List KnownDef) (xs : List Step) (x : Step) → dones_in ds (xs ++ x ∷ []) ≡ dones_in ds xs ++ done_in ds x
+dones_append ds [] x = append-nil (done_in ds x)
+dones_append ds (y ∷ xs) x = ap (λ l. done_in ds y ++ l) (dones_append ds xs x) ∙ sym (append_assoc (done_in ds y) (dones_in ds xs) (done_in ds x))
+
+pub steps_more : (s : Table) (ds : List KnownDef) (xs : List Step) (i : ℕ) (x : Step) (old new : List Use) → i < length xs → x ≡ get_or xs i x → AreDefaultOf s (dones_in ds (take i xs)) old → AddsDones s (done_in ds x) old new → AreDefaultOf s (dones_in ds (take (i + 1) xs)) new
+steps_more s ds xs i x old new lt is h adds = λ d.
+    adds d ∙ ap (λ l. l ++ uses_under d.at (done_in ds x)) (h d) ∙ sym (uses_append d.at (dones_in ds (take i xs)) (done_in ds x))
+    ∙ ap (uses_under d.at) (sym (dones_append ds (take i xs) x) ∙ ap (dones_in ds) (sym (next_item xs i x lt is)))
+
+pub steps_all : (s : Table) (ds : List KnownDef) (xs : List Step) (i : ℕ) (us : List Use) → length xs ≤ i → AreDefaultOf s (dones_in ds (take i xs)) us → AreDefaultOf s (dones_in ds xs) us
+steps_all s ds xs i us le h = subst (λ l. AreDefaultOf s (dones_in ds l) us) (all_items xs i le) h

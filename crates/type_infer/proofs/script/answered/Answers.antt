@@ -1,0 +1,19 @@
+use Rattle.std.proofs.Common.{map}
+use Rattle.std.proofs.lemmas.Result.{err_from_is_err_and}
+use Rattle.script_grammar.specs.View.{view_stmt}
+use Rattle.name_scope.specs.Noted.{resolved}
+use Rattle.type_infer.proofs.Ending.{early_answer, late_answer, typed_answer}
+use Rattle.type_infer.proofs.script.answered.Goals as goal
+
+pub returns-in_err-typing-clause-fault : goal.returns-in_err-typing-clause-fault
+returns-in_err-typing-clause-fault c =
+    let p = err_from_is_err_and c.from_residual.result c.from_residual.ensures.1 in
+    rw (p.1, p.2) (early_answer (map view_stmt c.args.statements.now) c.args.front.count (map resolved c.args.front.all.items) c.args.front.fault c.in_err-typing.field-0.0 c.requires.front c.in_err-typing.ensures.clash)
+
+pub returns-in_err-uses-clause-fault : goal.returns-in_err-uses-clause-fault
+returns-in_err-uses-clause-fault c =
+    let p = err_from_is_err_and c.from_residual-in_err-uses.result c.from_residual-in_err-uses.ensures.1 in
+    rw (p.1, p.2) (late_answer (map view_stmt c.args.statements.now) c.args.front.count (map resolved c.args.front.all.items) c.args.front.fault c.in_ok-typing.typing c.in_err-uses.field-0.0 c.requires.front c.in_ok-typing.ensures.typed c.in_err-uses.ensures.fault)
+
+pub returns-clause-typed : goal.returns-clause-typed
+returns-clause-typed c = typed_answer (map view_stmt c.args.statements.now) c.args.front.count (map resolved c.args.front.all.items) c.args.front.fault c.in_ok-typing.typing c.in_ok-uses.uses.items c.requires.front c.in_ok-typing.ensures.typed c.in_ok-uses.ensures.uses

@@ -1,0 +1,8 @@
+use Rattle.type_infer.proofs.Settled.{texts_all, texts_more_at}
+use Rattle.type_infer.proofs.settling.settled_texts.Goals as goal
+
+pub loop-kind-preserved : goal.loop-kind-preserved
+loop-kind-preserved c = texts_more_at c.args.subst.now c.args.kinds.now c.loop-kind.kind-index _ c.in_ok-one.one c.loop-kind.settled c.push.new.self c.loop-kind-test.true c.loop-kind.invariant c.in_ok-one.ensures c.in_ok-push.ensures.added
+
+pub returns : goal.returns
+returns c = texts_all c.args.subst.now c.args.kinds.now c.loop-kind.kind-index c.loop-kind.settled c.loop-kind-test.false c.loop-kind.invariant

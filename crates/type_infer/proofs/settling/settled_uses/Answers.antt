@@ -1,0 +1,9 @@
+use Rattle.std.proofs.Common.{IfOk, subst}
+use Rattle.type_infer.specs.Settling.{AreDefaultOf}
+use Rattle.type_infer.specs.Steps.{dones_in}
+use Rattle.type_infer.proofs.settling.settled_uses.Goals as goal
+
+pub returns : goal.returns
+returns c =
+    let steps = subst (λ m. IfOk c.steps_uses.result (λ us. AreDefaultOf c.args.typing.now.subst (dones_in c.deref.result.now m) us.items)) c.deref-2.ensures.value c.steps_uses.ensures in
+    subst (λ l. IfOk c.steps_uses.result (λ us. AreDefaultOf c.args.typing.now.subst (dones_in l c.args.typing.now.steps.items) us.items)) c.deref.ensures.value steps

@@ -1,0 +1,23 @@
+-- A clash among the statements without a fault of names.
+use Rattle.std.specs.Prelude.{ℕ, ◌<◌, ◌≤◌, ◌-◌, ⊤}
+use Rattle.script_grammar.specs.Tree.{Script}
+use Rattle.typing_rules.specs.declared.fault.TypeFault.{TypeFault}
+use Rattle.typing_rules.specs.declared.fault.TypeFault.TheVariants as fault
+use Rattle.typing_rules.specs.Scripts.{HasTyping, Targets, first_of}
+use Rattle.script_flow.specs.Statements.{HasNoTypings}
+
+-- the statements up to the k-th, of the first n, have no typing, and those before it have one
+pub record IsClashAt (targets : Targets) (script : Script) (n k : ℕ) : Type 0 where
+  pub first : 0 < k
+  pub last : k ≤ n
+  pub before : HasTyping targets (first_of (k - 1) script)
+  pub none : HasNoTypings targets (first_of k script)
+
+-- a clash, or want of memory
+abbrev pub IsClashIn : Targets → Script → ℕ → TypeFault → Type 0
+IsClashIn targets script n (fault.TypeClash k) = IsClashAt targets script n k
+IsClashIn targets script n fault.Memory = ⊤
+IsClashIn targets script n (fault.UnknownName k at) = ⊥
+IsClashIn targets script n (fault.MissingArgument k at label) = ⊥
+IsClashIn targets script n (fault.ExtraArgument k at) = ⊥
+IsClashIn targets script n (fault.RepeatedName k at) = ⊥

@@ -1,0 +1,7 @@
+pub mod Clashes
+pub mod Fronts
+pub mod Matches
+pub mod Settling
+pub mod States
+pub mod Steps
+pub mod Turns

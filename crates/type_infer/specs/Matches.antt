@@ -1,0 +1,43 @@
+-- What is known of the uses of a statement by the targets and the defs that the program holds.
+use Rattle.std.specs.Prelude.{◌≡◌, ℕ, List, [], ◌∷◌, length, Some, option_map, ⊤}
+use Rattle.typing_rules.specs.declared.uses.Target.{Target}
+use Rattle.typing_rules.specs.declared.uses.Target.TheVariants as target
+use Rattle.typing_rules.specs.Scoping.{Meaning}
+use Rattle.typing_rules.specs.Scripts.{Targets}
+use Rattle.typing_rules.specs.Table.{signature}
+use Rattle.type_schemes.specs.Schemes.{scheme_of}
+use Rattle.type_flow.specs.Environment.{Found, Known, TextUse}
+use Rattle.script_flow.specs.Counts.{count_at, scheme_count}
+use Rattle.value_types.specs.Seen.{def_seen}
+use Rattle.value_types.specs.declared.environment.KnownDef.{KnownDef}
+
+-- a token, and what the name there means
+abbrev pub aimed : Targets → ℕ → Meaning
+aimed targets t = (t, targets t)
+
+-- the names mean what the targets say at their tokens
+abbrev pub AreAimed : Targets → List Meaning → Type 0
+AreAimed targets [] = ⊤
+AreAimed targets (m ∷ ms) = (targets m.0 ≡ m.1) × AreAimed targets ms
+
+-- how many open kinds the general type of a def has
+abbrev pub opens_of : KnownDef → ℕ
+opens_of d = scheme_count (scheme_of d.general)
+
+-- a use of this has so many kinds: a value has none, and a def or a builtin has its open ones
+abbrev pub HasCountIn : List KnownDef → Target → ℕ → Type 0
+HasCountIn ds (target.Slot t) n = n ≡ 0
+HasCountIn ds (target.Def t) n = option_map opens_of (def_seen t ds) ≡ Some n
+HasCountIn ds (target.Builtin b) n = n ≡ (signature b).kinds
+
+abbrev pub HaveCountsIn : List KnownDef → List Found → Type 0
+HaveCountsIn ds [] = ⊤
+HaveCountsIn ds (f ∷ fs) = HasCountIn ds f.target (length f.kinds) × HaveCountsIn ds fs
+
+abbrev pub IsTextCountedIn : List KnownDef → List TextUse → Type 0
+IsTextCountedIn ds [] = ⊤
+IsTextCountedIn ds (u ∷ us) = HasCountIn ds u.target (length u.kinds) × IsTextCountedIn ds us
+
+-- The text of each def that is found by its token is the newest there, and numbers as many open kinds as its general type has.
+pub record AreNumberedDefs (ds : List KnownDef) (before : List Known) : Type 0 where
+  pub each : (t : ℕ) (d : KnownDef) → def_seen t ds ≡ Some d → count_at t before ≡ Some (opens_of d)

@@ -1,0 +1,132 @@
+-- What typing holds of the statements so far, and what one statement more comes to.
+use Rattle.std.specs.Prelude.{◌≡◌, ℕ, List, [], ◌∷◌, ◌++◌, map, length, Option, Some, None, Bool, true, false}
+use Rattle.script_grammar.specs.Placed.{IsPlaced}
+use Rattle.script_grammar.specs.Tree.{Sort, Tree, APart, AStmt, Stmt, Script}
+use Rattle.type_terms.specs.Agrees.{Follows}
+use Rattle.type_terms.specs.Extends.{HasDefaults}
+use Rattle.type_terms.specs.Ground.{Assignment}
+use Rattle.type_terms.specs.Table.{Table, Solves}
+use Rattle.type_terms.specs.Term.{Term, variable}
+use Rattle.typing_rules.specs.declared.fault.TypeFault.{TypeFault}
+use Rattle.typing_rules.specs.declared.uses.Use.{Use}
+use Rattle.typing_rules.specs.Scoping.{meant, names}
+use Rattle.typing_rules.specs.Scripts.{Targets}
+use Rattle.type_schemes.specs.Holding.{IsHeldBy}
+use Rattle.type_flow.specs.Environment.{Env, Known}
+use Rattle.type_flow.specs.Flow.{HasNoType, Infers}
+use Rattle.script_flow.specs.Counts.{text_count}
+use Rattle.script_flow.specs.Defs.{HoldsBefore}
+use Rattle.script_flow.specs.Statements.{AreTypings, Done, HasNoTypings, found_said, known_of, scope_after, uses_under, with_last}
+use Rattle.script_flow.specs.Whole.{AreWhole}
+use Rattle.value_types.specs.Seen.{founds, newest_first}
+use Rattle.value_types.specs.declared.environment.FoundUse.{FoundUse}
+use Rattle.value_types.specs.declared.environment.Known.TheVariants as known
+use Rattle.value_types.specs.declared.environment.KnownDef.{KnownDef}
+use Rattle.expression_types.specs.Order.{tokens_used}
+use Rattle.def_types.specs.Answers.{text_of}
+use Rattle.def_types.specs.Scope.{AreSeenDefs}
+use Rattle.def_types.specs.declared.defs.TypedDef.{TypedDef}
+use Rattle.type_infer.specs.Matches.{AreAimed, AreNumberedDefs, HaveCountsIn, aimed, opens_of}
+use Rattle.type_infer.specs.Steps.{AreThere, dones_in}
+use Rattle.type_infer.specs.declared.steps.Step.TheVariants as step
+use Rattle.type_infer.specs.declared.steps.Typing.{Typing}
+use Rattle.type_infer.specs.declared.steps.TypedExpr.{TypedExpr}
+
+-- ---- one expression
+
+-- a type and the uses that were found, under a substitution that has a solution
+pub record IsNoted (s : Table) (var : ℕ) (uses : List FoundUse) (t : TypedExpr) : Type 0 where
+  pub some : (a : Assignment) × Solves a s
+  pub same : t.var ≡ var
+  pub uses_are : t.uses.items ≡ uses
+
+-- From s to s' the expression was typed. Its uses are its names in order, with their targets, and each has as many kinds as what it means has open ones.
+pub record IsTypedWith (s s' : Table) (env : Env) (ds : List KnownDef) {r : Sort} (e : Tree r) (t : TypedExpr) : Type 0 where
+  pub infers : Infers s s' env e (variable t.var) [] (founds t.uses.items)
+  pub some : (a : Assignment) × Solves a s'
+  pub named : map found_said (founds t.uses.items) ≡ map (aimed env.targets) (tokens_used e)
+  pub counted : HaveCountsIn ds (founds t.uses.items)
+
+abbrev pub IsTypedAs : Table → Table → Env → List KnownDef → {r : Sort} → Tree r → Option TypedExpr → Type 0
+IsTypedAs s s' env ds e None = HasNoType s env e []
+IsTypedAs s s' env ds e (Some t) = IsTypedWith s s' env ds e t
+
+-- ---- the statements so far
+
+-- what is known, the newest first
+abbrev pub knowns : Typing → List Known
+knowns t = newest_first t.defs.items t.before.items
+
+-- what the statements have left
+abbrev pub dones : Typing → List Done
+dones t = dones_in t.defs.items t.steps.items
+
+-- what is to hold before a statement is typed
+pub record IsReady (targets : Targets) (t : Typing) : Type 0 where
+  pub seen : AreSeenDefs t.subst targets t.before.items t.defs.items
+  pub holds : HoldsBefore t.subst (knowns t) t.held
+  pub numbered : AreNumberedDefs t.defs.items (knowns t)
+  pub there : AreThere (length t.defs.items) t.steps.items
+
+-- The solutions are the typings of the script, and what its statements have left is whole.
+pub record IsTypedSo (targets : Targets) (script : Script) (t : Typing) : Type 0 where
+  pub known : knowns t ≡ known_of (dones t)
+  pub typings : AreTypings t.subst targets script (dones t)
+  pub whole : AreWhole script (dones t)
+
+pub record IsAfter (targets : Targets) (script : Script) (t : Typing) : Type 0 where
+  pub ready : IsReady targets t
+  pub typed : IsTypedSo targets script t
+
+-- The statement stands behind a script: the targets say what its names mean there, and its tokens are placed.
+pub record IsNext (targets : Targets) (script : Script) (s : Tree AStmt) : Type 0 where
+  pub aimed : AreAimed targets (map meant (names (scope_after [] script) s))
+  pub placed : IsPlaced 0 (with_last script s)
+
+-- one statement more was typed, or there is no typing with it
+abbrev pub IsMore : Targets → Tree APart → Typing → Typing → Type 0
+IsMore targets part old new = (script : Script) (semicolon : Bool) → IsTypedSo targets script old → IsNext targets script (Stmt part semicolon) → IsAfter targets (with_last script (Stmt part semicolon)) new
+
+abbrev pub IsNoMore : Targets → Tree APart → Typing → Type 0
+IsNoMore targets part old = (script : Script) (semicolon : Bool) → IsTypedSo targets script old → HasNoTypings targets (with_last script (Stmt part semicolon))
+
+abbrev pub IsStepped : Targets → Tree APart → Typing → Typing → Bool → Type 0
+IsStepped targets part old new true = IsMore targets part old new
+IsStepped targets part old new false = IsNoMore targets part old
+
+-- ---- what is kept of a statement
+
+-- a binding at a token
+pub record IsValueKept (at : ℕ) (e : TypedExpr) (old new : Typing) : Type 0 where
+  pub subst : new.subst ≡ old.subst
+  pub before : new.before.items ≡ old.before.items ++ known.Value (record { at = at; var = e.var }) ∷ []
+  pub defs : new.defs.items ≡ old.defs.items
+  pub steps : new.steps.items ≡ old.steps.items ++ step.Bound (record { at = at; var = e.var }) e.uses ∷ []
+  pub held : (s : Table) (names : List Term) → Follows s old.subst → IsHeldBy s names old.held → IsHeldBy old.subst (variable e.var ∷ names) new.held
+
+-- what runs
+pub record IsRunKept (e : TypedExpr) (old new : Typing) : Type 0 where
+  pub subst : new.subst ≡ old.subst
+  pub before : new.before.items ≡ old.before.items
+  pub defs : new.defs.items ≡ old.defs.items
+  pub steps : new.steps.items ≡ old.steps.items ++ step.Ran e.uses ∷ []
+  pub held : (s : Table) (names : List Term) → Follows s old.subst → IsHeldBy s names old.held → IsHeldBy old.subst names new.held
+
+-- a def
+pub record IsDefKept (d : TypedDef) (old new : Typing) : Type 0 where
+  pub subst : new.subst ≡ old.subst
+  pub before : new.before.items ≡ old.before.items ++ known.Function (length old.defs.items) ∷ []
+  pub defs : new.defs.items ≡ old.defs.items ++ d.known ∷ []
+  pub steps : new.steps.items ≡ old.steps.items ++ step.Defined (length old.defs.items) ∷ []
+  pub held : new.held ≡ d.held
+
+-- what the program has tested of a def
+pub record IsDefChecked (s : Table) (d : TypedDef) : Type 0 where
+  pub some : (a : Assignment) × Solves a s
+  pub numbered : text_count (text_of d.known) ≡ Some (opens_of d.known)
+
+-- the uses of the statements under the default solution, where no fault of names is told
+pub record AreDefaultUses (t : Typing) (fault : Option TypeFault) (uses : List Use) : Type 0 where
+  pub faultless : fault ≡ None
+  pub default : HasDefaults t.subst
+  pub uses_are : uses ≡ uses_under default.at (dones t)

@@ -1,0 +1,80 @@
+// The names of the statements before the first with a fault of names.
+ghost use Rattle.std.specs.Prelude.{◌≡◌, ◌≢◌, ◌++◌, None, Some, IfErr, IfOk, OnOk, map, option_map};
+ghost use Rattle.script_grammar.specs.View.{view_stmt};
+ghost use Rattle.typing_rules.specs.NameFaults.{faults_in, in_statement, told};
+ghost use Rattle.typing_rules.specs.Scoping.{meant, names, with_statement};
+ghost use Rattle.name_scope.specs.Noted.{resolved};
+ghost use Rattle.name_scope.specs.Seen.{in_scope};
+ghost use Rattle.type_infer.specs.Fronts.{IsFront};
+
+use liq_base::Memory;
+use name_scope::{Notes, Resolved, Scope, resolve_statement};
+use script_grammar::tree::Stmt;
+use std::alloc::Global;
+use typing_rules::TypeFault;
+
+/// What the names of the statements before the first with a fault of names mean, in the order of the tokens, and how many
+/// these statements are. Where there is such a fault it is the one that is told of the next statement.
+#[derive(Drop)]
+pub struct Front {
+    pub all: Vec<Resolved>,
+    pub count: usize,
+    pub fault: Option<TypeFault>,
+}
+
+/// What the names of one statement mean, and the scope behind it; or the fault of names that is told of it.
+fn names_of<'a>(
+    alloc: Global,
+    scope: &mut Scope<'a>,
+    stmt: &'a Stmt,
+    number: u32,
+) -> Result<Vec<Resolved>, TypeFault>
+    ensures names { IfOk result (λ found. map resolved found.items ≡ map meant (names (in_scope scope.old) (view_stmt stmt.entry.now))) }
+    ensures faultless { IfOk result (λ found. told (faults_in (in_scope scope.old) (view_stmt stmt.entry.now)) ≡ None) }
+    ensures bound { IfOk result (λ found. in_scope scope.new ≡ with_statement (view_stmt stmt.entry.now) (in_scope scope.old)) }
+    ensures told { IfErr result (λ f. f ≢ TypeFault.Memory → option_map (in_statement number) (told (faults_in (in_scope scope.old) (view_stmt stmt.entry.now))) ≡ Some f) }
+{
+    let mut notes = Notes::new(alloc);
+    resolve_statement(alloc, scope, &mut notes, stmt, number)?;
+    Ok(notes.found)
+}
+
+/// Adds what more names mean.
+fn add_all(all: &mut Vec<Resolved>, more: &[Resolved]) -> Result<(), Memory>
+    ensures { OnOk result (map resolved all.new.items ≡ map resolved all.old.items ++ map resolved more.now) }
+{
+    for one in more {
+        all.push(*one)?;
+    }
+    Ok(())
+}
+
+/// The names of the statements before the first with a fault of names.
+pub fn resolve_front(alloc: Global, statements: &[Stmt]) -> Result<Front, Memory>
+    ensures { IfOk result (λ f. IsFront (map view_stmt statements.now) f.count (map resolved f.all.items) f.fault) }
+{
+    let mut scope = Scope::new(alloc);
+    let mut all = Vec::new(alloc);
+    let mut number: u32 = 0;
+    for stmt in statements {
+        if number == u32::MAX {
+            return Err(Memory);
+        }
+        match names_of(alloc, &mut scope, stmt, number + 1) {
+            Err(fault) => {
+                return Ok(Front {
+                    all,
+                    count: number as usize,
+                    fault: Some(fault),
+                });
+            }
+            Ok(found) => add_all(&mut all, &found)?,
+        }
+        number += 1;
+    }
+    Ok(Front {
+        all,
+        count: number as usize,
+        fault: None,
+    })
+}

@@ -1,0 +1,12 @@
+//! Inference: what typing says of each name of a script, or the first fault.
+#![tactic(auto)]
+
+mod counts;
+mod front;
+mod script;
+mod settling;
+mod statements;
+mod steps;
+mod values;
+
+pub use script::{Typed, infer};

@@ -1,0 +1,192 @@
+// The uses of a script that has a typing, or its first fault.
+ghost use Rattle.std.specs.Prelude.{◌≡◌, ◌≢◌, ◌<◌, map, Some, IfErr, IfOk};
+ghost use Rattle.name_scope.specs.Noted.{resolved};
+ghost use Rattle.script_grammar.specs.Placed.{IsPlaced};
+ghost use Rattle.script_grammar.specs.Tree.{none};
+ghost use Rattle.script_grammar.specs.View.{listed, view_part, view_script, view_stmt};
+ghost use Rattle.typing_rules.specs.Answers.{IsTypeFault, IsTyped};
+ghost use Rattle.typing_rules.specs.Scoping.{target_in};
+ghost use Rattle.typing_rules.specs.Scripts.{Targets, first_of};
+ghost use Rattle.type_infer.specs.Clashes.{IsClashIn};
+ghost use Rattle.type_infer.specs.Fronts.{IsFront};
+ghost use Rattle.type_infer.specs.States.{AreDefaultUses, IsAfter, IsReady, IsStepped, IsTypedSo};
+ghost use Rattle.type_infer.specs.Turns.{IsTurned};
+
+use crate::front::{Front, resolve_front};
+use crate::settling::settled_uses;
+use crate::statements::type_part;
+use crate::steps::Typing;
+use name_scope::Resolved;
+use script_grammar::tree::{Script, Stmt, StmtPart};
+use std::alloc::Global;
+use type_schemes::Held;
+use type_terms::Subst;
+use typing_rules::{TypeFault, Use};
+
+/// A script with what each name in it means, in the order of the tokens, and the kinds of each use.
+#[derive(Drop)]
+pub struct Typed<'a> {
+    pub script: &'a Script,
+    pub uses: Vec<Use>,
+}
+
+/// No statement yet, with a substitution without variables.
+fn begun<'a>(alloc: Global, subst: Subst) -> Typing<'a>
+    ensures { (targets : Targets) → IsAfter targets none result }
+{
+    subst.has_defaults();
+    Typing {
+        subst,
+        before: Vec::new(alloc),
+        defs: Vec::new(alloc),
+        held: Held::new(alloc),
+        steps: Vec::new(alloc),
+    }
+}
+
+/// No statement yet.
+fn start<'a>(alloc: Global) -> Result<Typing<'a>, TypeFault>
+    ensures begun { IfOk result (λ t. (targets : Targets) → IsAfter targets none t) }
+    ensures refused { IfErr result (λ f. f ≡ TypeFault.Memory) }
+{
+    match Subst::new(alloc) {
+        Ok(subst) => Ok(begun(alloc, subst)),
+        Err(_) => Err(TypeFault::Memory),
+    }
+}
+
+/// The typings of the statements without a fault of names, or the first clash among them.
+fn type_statements<'a>(
+    alloc: Global,
+    statements: &'a [Stmt],
+    front: &Front,
+) -> Result<Typing<'a>, TypeFault>
+    requires front { IsFront (map view_stmt statements.now) front.now.count (map resolved front.now.all.items) front.now.fault }
+    requires placed { IsPlaced 0 (listed (map view_stmt statements.now)) }
+    ensures typed { IfOk result (λ t. IsTypedSo (target_in (map resolved front.now.all.items)) (first_of front.now.count (listed (map view_stmt statements.entry.now))) t) }
+    ensures clash { IfErr result (λ f. IsClashIn (target_in (map resolved front.now.all.items)) (listed (map view_stmt statements.entry.now)) front.now.count f) }
+{
+    if front.count > u32::MAX as usize {
+        return Err(TypeFault::Memory);
+    }
+    let mut typing = start(alloc)?;
+    for index in 0..front.count {
+        let typed = type_next(alloc, &mut typing, statements, front, index)?;
+        if !typed {
+            return Err(TypeFault::TypeClash {
+                stmt: index as u32 + 1,
+            });
+        }
+    }
+    Ok(typing)
+}
+
+/// The statement behind so many; whether there is a typing with it.
+fn type_next<'a>(
+    alloc: Global,
+    typing: &mut Typing<'a>,
+    statements: &'a [Stmt],
+    front: &Front,
+    index: usize,
+) -> Result<bool, TypeFault>
+    requires front { IsFront (map view_stmt statements.now) front.now.count (map resolved front.now.all.items) front.now.fault }
+    requires placed { IsPlaced 0 (listed (map view_stmt statements.now)) }
+    requires inside { index < front.now.count }
+    requires before { IsAfter (target_in (map resolved front.now.all.items)) (first_of index (listed (map view_stmt statements.now))) typing.old }
+    ensures turned { IfOk result (λ yes. IsTurned (target_in (map resolved front.now.all.items)) (listed (map view_stmt statements.entry.now)) front.now.count index typing.new yes) }
+    ensures refused { IfErr result (λ f. f ≡ TypeFault.Memory) }
+{
+    let part = &statements[index].part;
+    let yes = next(alloc, typing, &front.all, part)?;
+    Ok(yes)
+}
+
+/// One statement more, with want of memory as a fault of the script.
+fn next<'a>(
+    alloc: Global,
+    typing: &mut Typing<'a>,
+    targets: &[Resolved],
+    part: &'a StmtPart,
+) -> Result<bool, TypeFault>
+    requires ready { IsReady (target_in (map resolved targets.now)) typing.old }
+    ensures stepped { IfOk result (λ yes. IsStepped (target_in (map resolved targets.now)) (view_part part.entry.now) typing.old typing.new yes) }
+    ensures refused { IfErr result (λ f. f ≡ TypeFault.Memory) }
+{
+    match type_part(alloc, typing, targets, part) {
+        Ok(yes) => Ok(yes),
+        Err(_) => Err(TypeFault::Memory),
+    }
+}
+
+/// The names of the statements before the first with a fault of names, with want of memory as a fault of the script.
+fn told_front(alloc: Global, statements: &[Stmt]) -> Result<Front, TypeFault>
+    ensures front { IfOk result (λ f. IsFront (map view_stmt statements.now) f.count (map resolved f.all.items) f.fault) }
+    ensures refused { IfErr result (λ f. f ≡ TypeFault.Memory) }
+{
+    match resolve_front(alloc, statements) {
+        Ok(front) => Ok(front),
+        Err(_) => Err(TypeFault::Memory),
+    }
+}
+
+/// The uses of the statements that were typed, where no fault of names stands behind them; or that fault.
+fn uses_or_fault(
+    alloc: Global,
+    typing: &Typing<'_>,
+    fault: Option<TypeFault>,
+) -> Result<Vec<Use>, TypeFault>
+    ensures uses { IfOk result (λ us. AreDefaultUses typing.now fault us.items) }
+    ensures fault { IfErr result (λ f. f ≢ TypeFault.Memory → fault ≡ Some f) }
+{
+    typing.subst.has_defaults();
+    match fault {
+        Some(fault) => Err(fault),
+        None => match settled_uses(alloc, typing) {
+            Ok(uses) => Ok(uses),
+            Err(_) => Err(TypeFault::Memory),
+        },
+    }
+}
+
+/// The uses of a script behind the names of its statements, or the first fault.
+fn answered(alloc: Global, statements: &[Stmt], front: Front) -> Result<Vec<Use>, TypeFault>
+    requires front { IsFront (map view_stmt statements.now) front.count (map resolved front.all.items) front.fault }
+    requires placed { IsPlaced 0 (listed (map view_stmt statements.now)) }
+    ensures typed { IfOk result (λ us. IsTyped (listed (map view_stmt statements.now)) us.items) }
+    ensures fault { IfErr result (IsTypeFault (listed (map view_stmt statements.now))) }
+{
+    let typing = type_statements(alloc, statements, &front)?;
+    let uses = uses_or_fault(alloc, &typing, front.fault)?;
+    Ok(uses)
+}
+
+/// The uses of statements, or their first fault.
+fn statement_uses(alloc: Global, statements: &[Stmt]) -> Result<Vec<Use>, TypeFault>
+    requires placed { IsPlaced 0 (listed (map view_stmt statements.now)) }
+    ensures typed { IfOk result (λ us. IsTyped (listed (map view_stmt statements.now)) us.items) }
+    ensures fault { IfErr result (IsTypeFault (listed (map view_stmt statements.now))) }
+{
+    match told_front(alloc, statements) {
+        Ok(front) => answered(alloc, statements, front),
+        Err(_) => Err(TypeFault::Memory),
+    }
+}
+
+/// The uses of a script that has a typing: one for each name in the order of the tokens, with what it means and its kinds,
+/// mono exactly where every typing is (`docs/typing.md`). The fields `at` of the script are the indexes of its tokens, as
+/// parsing answers it.
+///
+/// # Errors
+///
+/// The first fault of names, arguments or types. `Memory`: memory was refused, or there are 2^32 statements and more.
+pub fn infer<'a>(alloc: Global, script: &'a Script) -> Result<Typed<'a>, TypeFault>
+    requires placed { IsPlaced 0 (view_script script.now) }
+    ensures typed { IfOk result (λ t. IsTyped (view_script script.entry.now) t.uses.items) }
+    ensures fault { IfErr result (IsTypeFault (view_script script.entry.now)) }
+    ensures script { IfOk result (λ t. t.script ≡ script.entry) }
+{
+    match statement_uses(alloc, &script.statements) {
+        Ok(uses) => Ok(Typed { script, uses }),
+        Err(fault) => Err(fault),
+    }
+}

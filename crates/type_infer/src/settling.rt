@@ -1,0 +1,179 @@
+// The uses of statements under the default solution.
+ghost use Rattle.std.specs.Prelude.{◌≡◌, map, option_map, IfOk, IfSome, OnOk};
+ghost use Rattle.type_terms.specs.Term.{source_term, term_of};
+ghost use Rattle.value_types.specs.Seen.{founds, pending, text_use};
+ghost use Rattle.type_infer.specs.Settling.{AddsDones, AddsFounds, AddsTexts, AreDefaultOf, AreSettledKinds, AreSettledTexts, IsSettledKind, IsSettledText, free_kind as the_free_kind};
+ghost use Rattle.type_infer.specs.States.{dones};
+ghost use Rattle.type_infer.specs.Steps.{defined_as, done_in, dones_in};
+
+use crate::steps::{Step, Typing};
+use liq_base::{Kind, Memory};
+use std::alloc::Global;
+use type_terms::{KindTerm, Subst, Ty, resolved};
+use typing_rules::{KindOf, Use, UseKinds};
+use value_types::{FoundUse, KnownDef, TextKind, TextUse};
+
+/// The kind of a source, if it is the type of one.
+fn source_kind(ty: &Ty) -> Option<KindTerm>
+    ensures { IfSome result (λ k. term_of ty.now ≡ source_term k) }
+{
+    match ty {
+        Ty::Source(kind) => Some(*kind),
+        _ => None,
+    }
+}
+
+/// A kind where nothing binds its variable: stereo.
+fn free_kind(kind: KindTerm) -> Kind
+    ensures { result ≡ the_free_kind kind }
+{
+    match kind {
+        KindTerm::Fixed(kind) => kind,
+        KindTerm::Var(_) => Kind::Stereo,
+    }
+}
+
+/// A kind under the default solution.
+fn settle_kind(alloc: Global, subst: &Subst, kind: KindTerm) -> Result<Kind, Memory>
+    ensures { IfOk result (IsSettledKind subst.now kind) }
+{
+    let ty = Ty::Source(kind);
+    if !subst.covers(alloc, &ty)? {
+        return Err(Memory);
+    }
+    let settled = resolved(alloc, subst, &ty)?;
+    let found = source_kind(&settled).ok_or(Memory)?;
+    Ok(free_kind(found))
+}
+
+/// The kinds of a use outside of defs.
+fn settled_kinds(alloc: Global, subst: &Subst, kinds: &[KindTerm]) -> Result<UseKinds, Memory>
+    ensures { IfOk result (AreSettledKinds subst.now kinds.now) }
+{
+    let mut settled = UseKinds::new(alloc);
+    for kind in kinds {
+        let one = settle_kind(alloc, subst, *kind)?;
+        settled.push(KindOf::Fixed(one))?;
+    }
+    Ok(settled)
+}
+
+/// Adds the uses that were found outside of defs.
+fn add_founds(
+    alloc: Global,
+    subst: &Subst,
+    found: &[FoundUse],
+    uses: &mut Vec<Use>,
+) -> Result<(), Memory>
+    ensures { OnOk result (AddsFounds subst.now (founds found.now) uses.old.items uses.new.items) }
+{
+    for one in found {
+        let kinds = settled_kinds(alloc, subst, &one.kinds)?;
+        uses.push(Use {
+            at: one.at,
+            target: one.target,
+            kinds,
+        })?;
+    }
+    Ok(())
+}
+
+/// A kind in the text of a def.
+fn settle_text(alloc: Global, subst: &Subst, kind: TextKind) -> Result<KindOf, Memory>
+    ensures { IfOk result (IsSettledText subst.now (pending kind)) }
+{
+    match kind {
+        TextKind::Outer(outer) => {
+            let one = settle_kind(alloc, subst, outer)?;
+            Ok(KindOf::Fixed(one))
+        }
+        TextKind::Open(number) => Ok(KindOf::Given(number)),
+    }
+}
+
+/// The kinds of a use in the text of a def.
+fn settled_texts(alloc: Global, subst: &Subst, kinds: &[TextKind]) -> Result<UseKinds, Memory>
+    ensures { IfOk result (AreSettledTexts subst.now (map pending kinds.now)) }
+{
+    let mut settled = UseKinds::new(alloc);
+    for kind in kinds {
+        let one = settle_text(alloc, subst, *kind)?;
+        settled.push(one)?;
+    }
+    Ok(settled)
+}
+
+/// Adds the uses in the text of a def.
+fn add_texts(
+    alloc: Global,
+    subst: &Subst,
+    text: &[TextUse],
+    uses: &mut Vec<Use>,
+) -> Result<(), Memory>
+    ensures { OnOk result (AddsTexts subst.now (map text_use text.now) uses.old.items uses.new.items) }
+{
+    for one in text {
+        let kinds = settled_texts(alloc, subst, &one.kinds)?;
+        uses.push(Use {
+            at: one.at,
+            target: one.target,
+            kinds,
+        })?;
+    }
+    Ok(())
+}
+
+/// Adds the uses of a def, if there is one.
+fn add_def(
+    alloc: Global,
+    subst: &Subst,
+    def: Option<&KnownDef<'_>>,
+    uses: &mut Vec<Use>,
+) -> Result<(), Memory>
+    ensures { OnOk result (AddsDones subst.now (defined_as (option_map (λ d. d.now) def.entry)) uses.old.items uses.new.items) }
+{
+    match def {
+        None => Ok(()),
+        Some(def) => add_texts(alloc, subst, &def.uses, uses),
+    }
+}
+
+/// Adds the uses of what a statement has left.
+fn add_step(
+    alloc: Global,
+    subst: &Subst,
+    defs: &[KnownDef<'_>],
+    step: &Step,
+    uses: &mut Vec<Use>,
+) -> Result<(), Memory>
+    ensures { OnOk result (AddsDones subst.now (done_in defs.now step.now) uses.old.items uses.new.items) }
+{
+    match step {
+        Step::Bound(_, found) => add_founds(alloc, subst, found, uses),
+        Step::Defined(place) => add_def(alloc, subst, defs.get(*place), uses),
+        Step::Ran(found) => add_founds(alloc, subst, found, uses),
+    }
+}
+
+/// The uses of what statements have left, one after another.
+fn steps_uses(
+    alloc: Global,
+    subst: &Subst,
+    defs: &[KnownDef<'_>],
+    steps: &[Step],
+) -> Result<Vec<Use>, Memory>
+    ensures { IfOk result (λ us. AreDefaultOf subst.now (dones_in defs.now steps.now) us.items) }
+{
+    let mut uses = Vec::new(alloc);
+    for step in steps {
+        add_step(alloc, subst, defs, step, &mut uses)?;
+    }
+    Ok(uses)
+}
+
+/// The uses of all statements, in the order of the tokens.
+pub fn settled_uses(alloc: Global, typing: &Typing<'_>) -> Result<Vec<Use>, Memory>
+    ensures { IfOk result (λ us. AreDefaultOf typing.now.subst (dones typing.now) us.items) }
+{
+    steps_uses(alloc, &typing.subst, &typing.defs, &typing.steps)
+}

@@ -1,0 +1,195 @@
+// One statement more.
+ghost use Rattle.std.specs.Prelude.{◌≡◌, [], map, IfOk, OnOk};
+ghost use Rattle.name_scope.specs.Noted.{resolved};
+ghost use Rattle.script_grammar.specs.Tree.{BindPart, CallPart, DefPart, IfPart};
+ghost use Rattle.script_grammar.specs.View.{view_bind, view_call, view_def, view_if, view_part};
+ghost use Rattle.type_schemes.specs.Holding.{AreThere};
+ghost use Rattle.typing_rules.specs.Scoping.{target_in};
+ghost use Rattle.type_terms.specs.Table.{IsOver};
+ghost use Rattle.type_terms.specs.Term.{variable};
+ghost use Rattle.type_infer.specs.States.{IsDefChecked, IsDefKept, IsReady, IsRunKept, IsStepped, IsValueKept};
+
+use crate::counts::{def_count, text_count};
+use crate::steps::{Step, TypedExpr, Typing};
+use crate::values::{choice_type, run_type, value_type};
+use def_types::{TypedDef, type_def};
+use liq_base::Memory;
+use name_scope::Resolved;
+use script_grammar::tree::{Bind, Call, Def, If, StmtPart};
+use std::alloc::Global;
+use type_terms::{Subst, Ty};
+use value_types::{Known, KnownDef, Names, TypedName};
+
+/// What is seen outside of defs.
+fn outside<'n, 'a>(
+    targets: &'n [Resolved],
+    before: &'n [Known],
+    defs: &'n [KnownDef<'a>],
+) -> Names<'n, 'a>
+    ensures targets { result.targets.now ≡ targets.entry.now }
+    ensures inner { result.inner.now ≡ [] }
+    ensures before { result.before.now ≡ before.entry.now }
+    ensures defs { result.defs.now ≡ defs.entry.now }
+{
+    Names {
+        targets,
+        inner: &[],
+        before,
+        defs,
+    }
+}
+
+/// Keeps a binding at a token, with the uses in its value.
+fn keep_value(
+    alloc: Global,
+    typing: &mut Typing<'_>,
+    at: u32,
+    typed: TypedExpr,
+) -> Result<(), Memory>
+    requires there { AreThere typing.old.subst typing.old.held }
+    requires over { IsOver typing.old.subst (variable typed.var) }
+    ensures { OnOk result (IsValueKept at typed typing.old typing.new) }
+{
+    let mut held = typing.held.renewed(alloc, &typing.subst)?;
+    held.add(alloc, &typing.subst, &Ty::Var(typed.var))?;
+    let name = TypedName { at, var: typed.var };
+    typing.before.push(Known::Value(name))?;
+    typing.steps.push(Step::Bound(name, typed.uses))?;
+    typing.held = held;
+    Ok(())
+}
+
+/// Keeps the uses of what runs.
+fn keep_run(alloc: Global, typing: &mut Typing<'_>, typed: TypedExpr) -> Result<(), Memory>
+    requires there { AreThere typing.old.subst typing.old.held }
+    ensures { OnOk result (IsRunKept typed typing.old typing.new) }
+{
+    let held = typing.held.renewed(alloc, &typing.subst)?;
+    typing.steps.push(Step::Ran(typed.uses))?;
+    typing.held = held;
+    Ok(())
+}
+
+/// Keeps a def.
+fn keep_def<'a>(typing: &mut Typing<'a>, def: TypedDef<'a>) -> Result<(), Memory>
+    ensures { OnOk result (IsDefKept def.entry typing.old typing.new) }
+{
+    let place = typing.defs.len();
+    typing.before.push(Known::Function(place))?;
+    typing.steps.push(Step::Defined(place))?;
+    typing.defs.push(def.known)?;
+    typing.held = def.held;
+    Ok(())
+}
+
+/// Fails where the open kinds of a def are not numbered as its text names them first, or are not as many as its general
+/// type has.
+fn check_def(subst: &Subst, def: &TypedDef<'_>) -> Result<(), Memory>
+    ensures { OnOk result (IsDefChecked subst.now def.now) }
+{
+    subst.has_defaults();
+    let count = text_count(&def.known.uses).ok_or(Memory)?;
+    if count != def_count(&def.known) {
+        return Err(Memory);
+    }
+    Ok(())
+}
+
+/// A binding.
+fn type_bind(
+    alloc: Global,
+    typing: &mut Typing<'_>,
+    targets: &[Resolved],
+    bind: &Bind,
+) -> Result<bool, Memory>
+    requires ready { IsReady (target_in (map resolved targets.now)) typing.old }
+    ensures { IfOk result (λ yes. IsStepped (target_in (map resolved targets.now)) (BindPart (view_bind bind.now)) typing.old typing.new yes) }
+{
+    let seen = outside(targets, &typing.before, &typing.defs);
+    match value_type(alloc, &mut typing.subst, seen, &bind.value)? {
+        None => Ok(false),
+        Some(typed) => {
+            keep_value(alloc, typing, bind.at, typed)?;
+            Ok(true)
+        }
+    }
+}
+
+/// A call.
+fn type_run(
+    alloc: Global,
+    typing: &mut Typing<'_>,
+    targets: &[Resolved],
+    call: &Call,
+) -> Result<bool, Memory>
+    requires ready { IsReady (target_in (map resolved targets.now)) typing.old }
+    ensures { IfOk result (λ yes. IsStepped (target_in (map resolved targets.now)) (CallPart (view_call call.now)) typing.old typing.new yes) }
+{
+    let seen = outside(targets, &typing.before, &typing.defs);
+    match run_type(alloc, &mut typing.subst, seen, call)? {
+        None => Ok(false),
+        Some(typed) => {
+            keep_run(alloc, typing, typed)?;
+            Ok(true)
+        }
+    }
+}
+
+/// An `if`.
+fn type_branch(
+    alloc: Global,
+    typing: &mut Typing<'_>,
+    targets: &[Resolved],
+    choice: &If,
+) -> Result<bool, Memory>
+    requires ready { IsReady (target_in (map resolved targets.now)) typing.old }
+    ensures { IfOk result (λ yes. IsStepped (target_in (map resolved targets.now)) (IfPart (view_if choice.now)) typing.old typing.new yes) }
+{
+    let seen = outside(targets, &typing.before, &typing.defs);
+    match choice_type(alloc, &mut typing.subst, seen, choice)? {
+        None => Ok(false),
+        Some(typed) => {
+            keep_run(alloc, typing, typed)?;
+            Ok(true)
+        }
+    }
+}
+
+/// A def.
+fn type_function<'a>(
+    alloc: Global,
+    typing: &mut Typing<'a>,
+    targets: &[Resolved],
+    def: &'a Def,
+) -> Result<bool, Memory>
+    requires ready { IsReady (target_in (map resolved targets.now)) typing.old }
+    ensures { IfOk result (λ yes. IsStepped (target_in (map resolved targets.now)) (DefPart (view_def def.entry.now)) typing.old typing.new yes) }
+{
+    let seen = outside(targets, &typing.before, &typing.defs);
+    match type_def(alloc, &mut typing.subst, seen, &typing.held, def)? {
+        None => Ok(false),
+        Some(typed) => {
+            check_def(&typing.subst, &typed)?;
+            keep_def(typing, typed)?;
+            Ok(true)
+        }
+    }
+}
+
+/// One statement more: whether there is a typing with it.
+pub fn type_part<'a>(
+    alloc: Global,
+    typing: &mut Typing<'a>,
+    targets: &[Resolved],
+    part: &'a StmtPart,
+) -> Result<bool, Memory>
+    requires ready { IsReady (target_in (map resolved targets.now)) typing.old }
+    ensures { IfOk result (λ yes. IsStepped (target_in (map resolved targets.now)) (view_part part.entry.now) typing.old typing.new yes) }
+{
+    match part {
+        StmtPart::Bind(bind) => type_bind(alloc, typing, targets, bind),
+        StmtPart::Def(def) => type_function(alloc, typing, targets, def),
+        StmtPart::Call(call) => type_run(alloc, typing, targets, call),
+        StmtPart::If(choice) => type_branch(alloc, typing, targets, choice),
+    }
+}

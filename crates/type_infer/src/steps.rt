@@ -1,0 +1,31 @@
+// The statements that were typed so far.
+use type_schemes::Held;
+use type_terms::Subst;
+use value_types::{FoundUse, Known, KnownDef, TypedName};
+
+/// The variable that is the type of a value, and the uses in it.
+#[derive(Drop)]
+pub struct TypedExpr {
+    pub var: u64,
+    pub uses: Vec<FoundUse>,
+}
+
+/// What a statement has left: a binding and the uses in its value, a def by its place among the defs, or the uses of what
+/// runs.
+#[derive(Drop)]
+pub enum Step {
+    Bound(TypedName, Vec<FoundUse>),
+    Defined(usize),
+    Ran(Vec<FoundUse>),
+}
+
+/// The typings of statements: the substitution whose solutions they are, what the statements have bound, the newest last,
+/// their defs, the variables that the types of values hold, and what each statement has left.
+#[derive(Drop)]
+pub struct Typing<'a> {
+    pub subst: Subst,
+    pub before: Vec<Known>,
+    pub defs: Vec<KnownDef<'a>>,
+    pub held: Held,
+    pub steps: Vec<Step>,
+}
