@@ -1,13 +1,9 @@
-pub mod Conjunctions
-pub mod Numbers
-pub mod Blocks
-pub mod OneAnswer
-pub mod Results
-pub mod Parts
-pub mod Names
-pub mod Ended
-pub mod Complete
-pub mod Decoded
-pub mod Ends
-pub mod Usage
-pub mod Forms
+mod Asking
+mod Outcomes
+mod Found
+mod Endings
+mod Parts
+mod Leavings
+mod Ended
+mod Complete
+mod Counted

@@ -1,139 +1,86 @@
 -- What a call answers, by its words and the files.
-use Rattle.std.specs.Prelude.{◌≡◌, ◌≤◌, ℕ, ◌*◌, ◌^◌, List, [], ◌∷◌, ◌++◌, length, Option, None, IsSome, IsSomeAnd, codes, decimal}
+use Rattle.std.specs.Prelude.{◌≡◌, ℕ, List, None, Some, codes}
 use Rattle.liq_base.specs.Files.{Files, file_at}
-use Rattle.liq_base.specs.declared.memory.Kind.TheVariants.{Stereo}
-use Rattle.wav_io.specs.Header.{header_bytes, header_of}
-use Rattle.wav_io.specs.Plain.{Wave, IsPlain}
-use Rattle.frame_core.specs.declared.cell.Cell.{Cell}
-use Rattle.frame_core.specs.Bytes.{samples_in}
-use Rattle.frame_core.specs.Sounds.{Sound}
-use Rattle.liq_cli.specs.Outputs.{Output}
-use Rattle.liq_cli.specs.Words.{Asked, asked_by}
-use Rattle.liq_cli.specs.Script.{Names, IsScript}
-use Rattle.frame_core.specs.Streams.{Stream, ticks_bytes, gaps}
-use Rattle.liq_cli.specs.Streams.{single}
-use Rattle.liq_cli.specs.declared.fault.Fault.{Fault}
-use Rattle.liq_cli.specs.declared.fault.Fault.TheVariants.{NoScript, OtherForm, MissingFile}
+use Rattle.plan_core.specs.declared.plan.Plan.{Plan}
+use Rattle.script_plan.specs.declared.fault.ScriptFault.{ScriptFault}
+use Rattle.script_plan.specs.Plans.{IsPlan, IsPlanFault}
+use Rattle.stations.specs.declared.fault.StationFault.{StationFault}
+use Rattle.stations.specs.Stations.{Station}
+use Rattle.stations.specs.Findings.{IsAccepted, IsStationFault}
+use Rattle.refusal_lines.specs.declared.fault.Fault.{Fault}
+use Rattle.refusal_lines.specs.declared.fault.Fault.TheVariants.{NoScript, Script, Station as Unfit}
+use Rattle.liq_cli.specs.Words.{Asked, Check, Render, IsAsked, HasNoForm, file_of, ticks_of}
 
--- samples a second, and the instants of a tick
-abbrev pub rate : ℕ
-rate = 44100
-
-abbrev pub F : ℕ
-F = 1764
-
--- what an accepted script renders: one output over one `single` leaf, for so many ticks
-pub record Station : Type 0 where
-  pub output : List ℕ
-  pub sound : Sound
-  pub ticks : ℕ
-
+-- the usage line, the first fault of the script, a station that is checked, or one that is rendered
 pub data Answer : Type 0 where
   Usage : Answer
   Refused : Fault → Answer
+  Checked : Station → Answer
   Accepted : Station → Answer
-
--- the line of a fault
-abbrev pub line_of : Fault → List ℕ
-line_of NoScript = codes "E01 no script\n"
-line_of OtherForm = codes "E00 other form\n"
-line_of (MissingFile name) = codes "E20 missing file " ++ name ++ codes "\n"
 
 abbrev pub usage_line : List ℕ
 usage_line = codes "usage: check FILE | render FILE N [--one-thread] [--window=W] [--start=D:HH:MM:SS] [--trace=NAME] | make SEED SIZE\n"
 
--- a script of at most 2^20 bytes, of the form that is rendered, with these names
-pub record IsShortScript (script : List ℕ) (names : Names) : Type 0 where
-  pub short : length script ≤ 2 ^ 20
-  pub is_script : IsScript script names
+-- the script is there, and this is its plan
+pub record HasPlan (files : Files) (file : List ℕ) (plan : Plan) : Type 0 where
+  pub script : List ℕ
+  pub there : file_at files file ≡ Some script
+  pub is_plan : IsPlan script plan
 
--- a plain audio file of at most 2^28 bytes, at the rate of the outputs, which holds this sound
-pub record IsAudio (bytes : List ℕ) (sound : Sound) : Type 0 where
-  pub short : length bytes ≤ 2 ^ 28
-  pub wave : Wave
-  pub is_plain : IsPlain bytes wave
-  pub at_rate : wave.rate ≡ rate
-  pub sound_is : sound ≡ record { kind = wave.kind; samples = samples_in wave.body }
+-- the script is there, and has this fault, and no plan
+pub record HasFault (files : Files) (file : List ℕ) (fault : ScriptFault) : Type 0 where
+  pub script : List ℕ
+  pub there : file_at files file ≡ Some script
+  pub is_fault : IsPlanFault script fault
 
--- the file of this name is there, and is such a script; such an audio file; nothing of this kind
-abbrev pub HasScript : Files → List ℕ → Names → Type 0
-HasScript files name names = IsSomeAnd (file_at files name) (λ bytes. IsShortScript bytes names)
+-- the script has a plan, which for so many ticks has this fault
+pub record HasUnfitPlan (files : Files) (file : List ℕ) (ticks : ℕ) (fault : StationFault) : Type 0 where
+  pub plan : Plan
+  pub has_plan : HasPlan files file plan
+  pub is_fault : IsStationFault files plan ticks fault
 
-abbrev pub HasAudio : Files → List ℕ → Sound → Type 0
-HasAudio files name sound = IsSomeAnd (file_at files name) (λ bytes. IsAudio bytes sound)
+-- the first fault of a script, for so many ticks
+abbrev pub IsFault : Files → (file : List ℕ) (ticks : ℕ) → Fault → Type 0
+IsFault files file ticks NoScript = file_at files file ≡ None
+IsFault files file ticks (Script fault) = HasFault files file fault
+IsFault files file ticks (Unfit fault) = HasUnfitPlan files file ticks fault
 
-abbrev pub HasOther : Files → List ℕ → (List ℕ → Type 0) → Type 0
-HasOther files name May = IsSomeAnd (file_at files name) (λ bytes. May bytes → ⊥)
+-- the station of a script that is accepted, for so many ticks from a second on: its plan, with its audio files and clocks
+pub record IsStation (files : Files) (file : List ℕ) (start ticks : ℕ) (station : Station) : Type 0 where
+  pub has_plan : HasPlan files file station.plan
+  pub accepted : IsAccepted files station.plan ticks station.library station.clocks
+  pub start_is : station.start ≡ start
+  pub ticks_are : station.ticks ≡ ticks
 
--- The script, its audio file and the length of the output are such as are rendered, and this is the station.
-pub record IsAccepted (files : Files) (station : Station) (asked : Asked) : Type 0 where
-  pub names : Names
-  pub sound : Sound
-  pub script : HasScript files asked.file names
-  pub audio : HasAudio files names.file sound
-  pub header : IsSome (header_of Stereo rate (asked.ticks * F))
-  pub station_is : station ≡ record { output = names.output; sound = sound; ticks = asked.ticks }
+-- this is the answer to what is asked for
+abbrev pub IsAnswerTo : Asked → Files → Answer → Type 0
+IsAnswerTo asked files Usage = ⊥
+IsAnswerTo asked files (Refused fault) = IsFault files (file_of asked) (ticks_of asked) fault
+IsAnswerTo (Check file) files (Checked station) = IsStation files file 0 0 station
+IsAnswerTo (Check file) files (Accepted station) = ⊥
+IsAnswerTo (Render file start ticks) files (Checked station) = ⊥
+IsAnswerTo (Render file start ticks) files (Accepted station) = IsStation files file start ticks station
 
--- The script is there, and it, its audio file or the length of the output is not such as is rendered.
-pub data IsOther (files : Files) (asked : Asked) : Type 0 where
-  other_script : HasOther files asked.file (λ bytes. (names : Names) × IsShortScript bytes names) → IsOther files asked
-  other_audio : (names : Names) → HasScript files asked.file names
-      → HasOther files names.file (λ bytes. (sound : Sound) × IsAudio bytes sound) → IsOther files asked
-  no_header : (names : Names) (sound : Sound) → HasScript files asked.file names → HasAudio files names.file sound
-      → header_of Stereo rate (asked.ticks * F) ≡ None → IsOther files asked
-
--- what stands against the rendering that is asked for
-abbrev pub IsFault : Files → Fault → Asked → Type 0
-IsFault files NoScript asked = file_at files asked.file ≡ None
-IsFault files OtherForm asked = IsOther files asked
-IsFault files (MissingFile name) asked =
-    (names : Names) × HasScript files asked.file names × (names.file ≡ name) × (file_at files name ≡ None)
+-- the words have a form, and this is the answer to what they ask for
+pub record IsFormed (words : List (List ℕ)) (files : Files) (answer : Answer) : Type 0 where
+  pub asked : Asked
+  pub is_asked : IsAsked words asked
+  pub is_answer : IsAnswerTo asked files answer
 
 -- this is the answer to these words over these files
 abbrev pub IsAnswer : List (List ℕ) → Files → Answer → Type 0
-IsAnswer words files Usage = asked_by words ≡ None
-IsAnswer words files (Refused fault) = IsSomeAnd (asked_by words) (IsFault files fault)
-IsAnswer words files (Accepted station) = IsSomeAnd (asked_by words) (IsAccepted files station)
+IsAnswer words files Usage = HasNoForm words
+IsAnswer words files (Refused fault) = IsFormed words files (Refused fault)
+IsAnswer words files (Checked station) = IsFormed words files (Checked station)
+IsAnswer words files (Accepted station) = IsFormed words files (Accepted station)
 
--- words and files have one answer, and this holds of it
+-- words and files have one answer and no other, and this holds of it
 pub record ForAnswer (words : List (List ℕ)) (files : Files) (P : Answer → Type 0) : Type 0 where
   pub answer : Answer
   pub is_answer : IsAnswer words files answer
   pub only : (other : Answer) → IsAnswer words files other → other ≡ answer
   pub holds : P answer
 
--- One window of a buffer: its puts, each the chunk or nothing where the buffer was full, and its takes, each a chunk or
--- nothing where it was empty.
-abbrev pub Window : Type 0
-Window = List (Option (List Cell)) × List (Option (List Cell))
-
--- What the buffers of a station answered in a run, which no station determines: for each buffer its windows, one after
--- another.
-pub record Run : Type 0 where
-  pub buffers : List (List Window)
-
--- the run is one of this station, to its end or as far as it came; such a station has no buffer
-abbrev pub IsLawful : Station → Run → Type 0
-IsLawful station run = run.buffers ≡ []
-
-abbrev pub IsBegun : Station → Run → Type 0
-IsBegun station run = run.buffers ≡ []
-
-abbrev pub no_buffers : Run
-no_buffers = record { buffers = [] }
-
--- the stream of the output, and all the bytes of its file in a run
-abbrev pub stream_of : Station → Run → Stream
-stream_of station run = single station.sound Stereo
-
-abbrev pub bytes_of : Station → Run → List ℕ
-bytes_of station run = header_bytes Stereo rate (station.ticks * F) ++ ticks_bytes Stereo (stream_of station run) F station.ticks
-
-abbrev pub outputs_of : Station → Run → List Output
-outputs_of station run = record { name = station.output; bytes = bytes_of station run } ∷ []
-
--- the report of a run
-abbrev pub report_of : Station → Run → List ℕ
-report_of station run =
-    codes "output " ++ station.output ++ codes " samples " ++ decimal (station.ticks * F)
-    ++ codes " gaps " ++ decimal (gaps (stream_of station run) (station.ticks * F)) ++ codes "\n"
+-- this holds of each answer to these words over these files
+abbrev pub ForEachAnswer : List (List ℕ) → Files → (Answer → Type 0) → Type 0
+ForEachAnswer words files P = (answer : Answer) → IsAnswer words files answer → P answer

@@ -1,12 +1,17 @@
 -- What one call leaves, for each status.
-use Rattle.std.specs.Prelude.{◌≡◌, ◌≤◌, ◌⊎◌, ℕ, List, Option, Some, None, IsSomeAnd}
+use Rattle.std.specs.Prelude.{◌≡◌, ◌≤◌, ◌⊎◌, ℕ, List, Bool, Option, Some, IsSomeAnd}
 use Rattle.std.specs.Option.{ForSome}
 use Rattle.liq_base.specs.Counts.{Rose}
 use Rattle.liq_base.specs.Pieces.{IsPrefix, grown}
 use Rattle.liq_base.specs.Files.{Files}
-use Rattle.liq_cli.specs.Outputs.{with_outputs, HoldsSome}
-use Rattle.liq_cli.specs.Words.{asked_by}
-use Rattle.liq_cli.specs.Answer.{Answer, Usage, Refused, Accepted, ForAnswer, Station, Run, IsLawful, IsBegun, outputs_of, report_of, line_of, usage_line}
+use Rattle.fallible_infer.specs.Infallible.{IsMarking}
+use Rattle.stations.specs.Outputs.{with_outputs, HoldsSome}
+use Rattle.stations.specs.Stations.{Station, Run, IsLawful, IsBegun}
+use Rattle.stations.specs.Streams.{outputs_of, HasNoGaps}
+use Rattle.stations.specs.Reports.{report_of, check_report_of}
+use Rattle.refusal_lines.specs.Lines.{line_of}
+use Rattle.liq_cli.specs.Words.{HasNoForm}
+use Rattle.liq_cli.specs.Answer.{Answer, Usage, Refused, Checked, Accepted, ForAnswer, ForEachAnswer, IsAnswer, usage_line}
 
 -- what the shelf, `out` and `err` tell at one moment, and how often they failed
 pub record Moment : Type 0 where
@@ -35,10 +40,17 @@ pub record Wrote (station : Station) (files : Files) (after : Option Files) (rep
   pub lawful : IsLawful station run
   pub written : after ≡ Some (with_outputs files (outputs_of station run))
   pub report_is : report ≡ report_of station run
+  pub no_gaps : HasNoGaps station run
+
+-- no file changed, and the report tells the clock of each output, and whether its node is infallible
+pub record Told (station : Station) (files : Files) (after : Option Files) (report : List ℕ) : Type 0 where
+  pub kept : after ≡ Some files
+  pub mark : ℕ → Bool
+  pub marking : IsMarking station.plan.nodes mark
+  pub report_is : report ≡ check_report_of station.plan station.clocks mark
 
 -- A run was broken off: each output holds a prefix of its bytes, or what it held. That a name keeps what it held only
--- where its own creation or closing failed is not said here, where one count stands for all outputs; the clause `part`
--- of `fill` in `src/render.rt` says it of one.
+-- where its own creation or closing failed is not said here, where one count stands for all outputs.
 pub record WrotePart (station : Station) (cause : Type 0) (files : Files) (after : Option Files) : Type 0 where
   pub run : Run
   pub begun : IsBegun station run
@@ -46,17 +58,20 @@ pub record WrotePart (station : Station) (cause : Type 0) (files : Files) (after
 
 abbrev pub Rendered : Answer → Files → Option Files → List ℕ → Type 0
 Rendered (Accepted station) files after report = Wrote station files after report
+Rendered (Checked station) files after report = Told station files after report
 Rendered (Refused fault) files after report = ⊥
 Rendered Usage files after report = ⊥
 
 abbrev pub Broken : Answer → Type 0 → Files → Option Files → Type 0
 Broken (Accepted station) cause files after = WrotePart station cause files after
+Broken (Checked station) cause files after = ⊥
 Broken (Refused fault) cause files after = ⊥
 Broken Usage cause files after = ⊥
 
 -- memory was refused, maybe before anything was created
 abbrev pub Starved : Answer → Type 0 → Files → Option Files → Type 0
 Starved (Accepted station) cause files after = WrotePart station cause files after
+Starved (Checked station) cause files after = after ≡ Some files
 Starved (Refused fault) cause files after = after ≡ Some files
 Starved Usage cause files after = ⊥
 
@@ -86,13 +101,15 @@ pub record LineBroke (line : List ℕ) (old new : Moment) : Type 0 where
   pub cause : Rose old.err_faults new.err_faults
 
 -- what status 1 and 4 say, by the answer
-abbrev pub Told : Answer → Moment → Moment → Type 0
-Told (Refused fault) old new = new.err ≡ grown (line_of fault) old.err
-Told (Accepted station) old new = ⊥
-Told Usage old new = ⊥
+abbrev pub IsRefused : Answer → Moment → Moment → Type 0
+IsRefused (Refused fault) old new = new.err ≡ grown (line_of fault) old.err
+IsRefused (Accepted station) old new = ⊥
+IsRefused (Checked station) old new = ⊥
+IsRefused Usage old new = ⊥
 
 abbrev pub Broke : Answer → Files → Moment → Moment → Type 0
 Broke (Accepted station) files old new = (ReportBroke (Accepted station) files old new ⊎ OutputBroke (Accepted station) files old new) × (new.err ≡ old.err)
+Broke (Checked station) files old new = ReportBroke (Checked station) files old new × (new.err ≡ old.err)
 Broke (Refused fault) files old new = LineBroke (line_of fault) old new
 Broke Usage files old new = LineBroke usage_line old new
 
@@ -103,12 +120,12 @@ WriteFailed old new = Rose old.err_faults new.err_faults ⊎ Rose old.out_faults
 pub record Ends (words : List (List ℕ)) (old new : Moment) (status : ℕ) : Type 0 where
   pub is_status : status ≤ 5
   pub done : status ≡ 0 → ForSome old.files (λ files. ForAnswer words files (λ answer. IsDone answer files old new)) × (new.err ≡ old.err)
-  pub refused : status ≡ 1 → ForSome old.files (λ files. ForAnswer words files (λ answer. Told answer old new)) × (new.files ≡ old.files) × (new.out ≡ old.out)
-  pub usage : status ≡ 2 → (asked_by words ≡ None) × (new.err ≡ grown usage_line old.err) × (new.files ≡ old.files) × (new.out ≡ old.out)
+  pub refused : status ≡ 1 → ForSome old.files (λ files. ForAnswer words files (λ answer. IsRefused answer old new)) × (new.files ≡ old.files) × (new.out ≡ old.out)
+  pub usage : status ≡ 2 → HasNoForm words × (new.err ≡ grown usage_line old.err) × (new.files ≡ old.files) × (new.out ≡ old.out)
   pub read_fault : status ≡ 3 → Rose old.reads new.reads × (new.files ≡ old.files) × (new.out ≡ old.out) × (new.err ≡ old.err)
   pub write_fault : status ≡ 4 → ForSome old.files (λ files. ForAnswer words files (λ answer. Broke answer files old new)) × WriteFailed old new
-  pub memory : status ≡ 5 → ForSome old.files (λ files. ForAnswer words files (λ answer. Starved answer (Rose old.writes new.writes) files new.files)) × (new.out ≡ old.out) × (new.err ≡ old.err)
-  pub no_form : asked_by words ≡ None → (status ≡ 2) ⊎ ((status ≡ 4) × LineBroke usage_line old new)
+  pub memory : status ≡ 5 → ForSome old.files (λ files. ForEachAnswer words files (λ answer. Starved answer (Rose old.writes new.writes) files new.files)) × (new.out ≡ old.out) × (new.err ≡ old.err)
+  pub no_form : HasNoForm words → (status ≡ 2) ⊎ ((status ≡ 4) × LineBroke usage_line old new)
 
 -- no count rose
 pub record Calm (old new : Moment) : Type 0 where
@@ -119,9 +136,15 @@ pub record Calm (old new : Moment) : Type 0 where
 
 abbrev pub Completes : Answer → ℕ → Type 0
 Completes (Accepted station) status = (status ≡ 0) ⊎ (status ≡ 5)
+Completes (Checked station) status = (status ≡ 0) ⊎ (status ≡ 5)
 Completes (Refused fault) status = (status ≡ 1) ⊎ (status ≡ 5)
 Completes Usage status = status ≡ 2
 
--- where no count rose, the answer is the status, or memory was refused
+-- there is an answer to these words over these files
+abbrev pub HasAnswer : List (List ℕ) → Files → Type 0
+HasAnswer words files = (answer : Answer) × IsAnswer words files answer
+
+-- Where no count rose, memory was refused or there is an answer; and each answer is the status, unless memory was refused.
 abbrev pub IsComplete : List (List ℕ) → Moment → Moment → ℕ → Type 0
-IsComplete words old new status = Calm old new → ForSome old.files (λ files. ForAnswer words files (λ answer. Completes answer status))
+IsComplete words old new status = Calm old new → ForSome old.files (λ files.
+    ((status ≡ 5) ⊎ HasAnswer words files) × ForEachAnswer words files (λ answer. Completes answer status))

@@ -1,10 +1,4 @@
 pub mod Words
-pub mod Script
-pub mod Streams
-pub mod Outputs
 pub mod Answer
-pub mod Steps
 pub mod Call
-pub mod Halts
 pub mod Prepared
-pub mod Works

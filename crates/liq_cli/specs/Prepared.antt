@@ -1,12 +1,73 @@
--- What a step before the rendering leaves.
-use Rattle.std.specs.Prelude.{◌≡◌, ◌≤◌, ℕ, Result, Err, Option, IsErrOf}
+-- What is found of a script before anything is rendered. Only what is private cites this.
+use Rattle.std.specs.Prelude.{◌≡◌, ◌≤◌, ℕ, List, Result, Err, Option, IsErrOf}
 use Rattle.std.specs.Option.{ForSome}
 use Rattle.liq_base.specs.Counts.{Rose}
 use Rattle.liq_base.specs.Files.{Files}
-use Rattle.liq_cli.specs.declared.fault.Halt.{Halt}
-use Rattle.liq_cli.specs.declared.fault.Fault.{Fault}
-use Rattle.liq_cli.specs.declared.fault.Halt.TheVariants.{Read, Write, Refused as refused_for}
-use Rattle.liq_cli.specs.Answer.{Answer, Refused}
+use Rattle.frame_core.specs.Library.{Sounds}
+use Rattle.plan_core.specs.declared.plan.Plan.{Plan}
+use Rattle.clock_infer.specs.declared.clock_map.ClockMap.{ClockMap}
+use Rattle.script_plan.specs.declared.fault.ScriptFault.{ScriptFault}
+use Rattle.script_plan.specs.declared.fault.ScriptFault.TheVariants as script_fault
+use Rattle.stations.specs.Findings.{IsAccepted}
+use Rattle.stations.specs.Stations.{Station}
+use Rattle.station_check.specs.declared.halt.Halt.{Halt as CheckHalt}
+use Rattle.station_check.specs.declared.halt.Halt.TheVariants.{Refused as check_refused, Read as check_read, Memory as check_memory}
+use Rattle.station_render.specs.declared.fault.RenderFault.{RenderFault}
+use Rattle.station_render.specs.declared.fault.RenderFault.TheVariants.{Write as render_write, Memory as render_memory}
+use Rattle.refusal_lines.specs.declared.fault.Fault.{Fault}
+use Rattle.refusal_lines.specs.declared.fault.Fault.TheVariants.{Script, Station as Unfit}
+use Rattle.liq_cli.specs.Words.{Asked, Check, Render, start_of, ticks_of}
+use Rattle.liq_cli.specs.Answer.{Answer, Refused, Checked, Accepted, HasPlan, IsFault, IsAnswerTo}
+use Rattle.liq_cli.specs.Call.{Broken, Starved}
+use Rattle.liq_cli.specs.declared.halt.Halt.{Halt}
+use Rattle.liq_cli.specs.declared.halt.Halt.TheVariants.{Read, Write, Memory, Refused as refused_for}
+use Rattle.liq_cli.specs.declared.words.Task.{Task}
+use Rattle.liq_cli.specs.declared.words.Task.TheVariants.{Check as checks, Render as renders}
+use Rattle.liq_cli.specs.declared.words.Form.{Form}
+use Rattle.liq_cli.specs.declared.prepare.Work.{Work}
+
+-- what a form asks for
+abbrev pub asked_for : List ℕ → Task → Asked
+asked_for file checks = Check file
+asked_for file (renders start ticks) = Render file start.second ticks
+
+abbrev pub ticks_in : Task → ℕ
+ticks_in checks = 0
+ticks_in (renders start ticks) = ticks
+
+abbrev pub asked_of : Form → Asked
+asked_of form = asked_for form.file.now form.task
+
+-- a script has a plan with its audio files and clocks, or a fault
+pub data Outcome : Type 0 where
+  Found : Plan → Sounds → ClockMap → Outcome
+  Lost : Fault → Outcome
+
+pub record IsPrepared (files : Files) (file : List ℕ) (ticks : ℕ) (plan : Plan) (library : Sounds) (clocks : ClockMap) : Type 0 where
+  pub has_plan : HasPlan files file plan
+  pub accepted : IsAccepted files plan ticks library clocks
+
+abbrev pub IsOutcome : Files → (file : List ℕ) (ticks : ℕ) → Outcome → Type 0
+IsOutcome files file ticks (Found plan library clocks) = IsPrepared files file ticks plan library clocks
+IsOutcome files file ticks (Lost fault) = IsFault files file ticks fault
+
+-- the station of an outcome, and the answer
+abbrev pub station_for : Asked → Plan → Sounds → ClockMap → Station
+station_for asked plan library clocks =
+    record { plan = plan; library = library; clocks = clocks; start = start_of asked; ticks = ticks_of asked }
+
+abbrev pub answer_of : Asked → Outcome → Answer
+answer_of asked (Lost fault) = Refused fault
+answer_of (Check file) (Found plan library clocks) = Checked (station_for (Check file) plan library clocks)
+answer_of (Render file start ticks) (Found plan library clocks) = Accepted (station_for (Render file start ticks) plan library clocks)
+
+-- this is the outcome, and there is no other
+pub record IsOneOutcome (files : Files) (file : List ℕ) (ticks : ℕ) (outcome : Outcome) : Type 0 where
+  pub holds : IsOutcome files file ticks outcome
+  pub only : (other : Outcome) → IsOutcome files file ticks other → other ≡ outcome
+
+abbrev pub outcome_of : Work → Outcome
+outcome_of work = Found work.plan work.ready.library work.ready.clocks
 
 -- the step only read: its shelf tells the files that it told, and no count fell
 pub record OnlyRead {S : Type 0} (files : S → Option Files) (reads writes : S → ℕ) (old new : S) : Type 0 where
@@ -14,8 +75,47 @@ pub record OnlyRead {S : Type 0} (files : S → Option Files) (reads writes : S 
   pub reads_grew : reads old ≤ reads new
   pub writes_grew : writes old ≤ writes new
 
--- why a step that reads ended: a fault only where the answer is that fault, and a read fault only where a read failed
-pub record EndsFor {T : Type 0} (told : Option Files) (answers : Files → Answer) (reads_before reads_after : ℕ) (result : Result T Halt) : Type 0 where
-  pub fault : (fault : Fault) → result ≡ Err (refused_for fault) → ForSome told (λ files. answers files ≡ Refused fault)
+-- why a step that reads ended: a fault only where it is the outcome, and a read fault only where a read failed
+pub record EndsFor {T : Type 0} (told : Option Files) (file : List ℕ) (ticks reads_before reads_after : ℕ) (result : Result T Halt) : Type 0 where
+  pub fault : (fault : Fault) → result ≡ Err (refused_for fault) → ForSome told (λ files. IsOneOutcome files file ticks (Lost fault))
   pub read : IsErrOf result Read → Rose reads_before reads_after
   pub no_write : IsErrOf result Write → ⊥
+
+-- what is asked for has one answer and no other, and this holds of it
+pub record ForOne (asked : Asked) (files : Files) (P : Answer → Type 0) : Type 0 where
+  pub answer : Answer
+  pub is_answer : IsAnswerTo asked files answer
+  pub only : (other : Answer) → IsAnswerTo asked files other → other ≡ answer
+  pub holds : P answer
+
+-- this holds of each answer to what is asked for
+abbrev pub ForEach : Asked → Files → (Answer → Type 0) → Type 0
+ForEach asked files P = (answer : Answer) → IsAnswerTo asked files answer → P answer
+
+-- why a job ended without a report, and what it left: a fault is the answer, and then and after a read that failed nothing
+-- changed; after a write that failed, and where memory was refused, each output holds what it may
+pub record Stops {T : Type 0} (asked : Asked) (told left : Option Files) (reads_before reads_after writes_before writes_after : ℕ) (result : Result T Halt) : Type 0 where
+  pub fault : (fault : Fault) → result ≡ Err (refused_for fault) → ForSome told (λ files. ForOne asked files (λ answer. answer ≡ Refused fault))
+  pub fault_kept : (fault : Fault) → result ≡ Err (refused_for fault) → left ≡ told
+  pub read : IsErrOf result Read → Rose reads_before reads_after
+  pub read_kept : IsErrOf result Read → left ≡ told
+  pub write : IsErrOf result Write → Rose writes_before writes_after
+  pub broken : IsErrOf result Write → ForSome told (λ files. ForOne asked files (λ answer. Broken answer (Rose writes_before writes_after) files left))
+  pub memory : IsErrOf result Memory → ForSome told (λ files. ForEach asked files (λ answer. Starved answer (Rose writes_before writes_after) files left))
+
+-- how the ends of lower steps go on
+abbrev pub halt_of_script : ScriptFault → Halt
+halt_of_script (script_fault.Lex fault) = refused_for (Script (script_fault.Lex fault))
+halt_of_script (script_fault.Parse fault) = refused_for (Script (script_fault.Parse fault))
+halt_of_script (script_fault.Type fault) = refused_for (Script (script_fault.Type fault))
+halt_of_script (script_fault.Eval fault) = refused_for (Script (script_fault.Eval fault))
+halt_of_script script_fault.Memory = Memory
+
+abbrev pub halt_of_check : CheckHalt → Halt
+halt_of_check (check_refused fault) = refused_for (Unfit fault)
+halt_of_check check_read = Read
+halt_of_check check_memory = Memory
+
+abbrev pub halt_of_render : RenderFault → Halt
+halt_of_render render_write = Write
+halt_of_render render_memory = Memory

@@ -1,20 +1,11 @@
 // The top call.
-ghost use Rattle.std.specs.Prelude.{◌≡◌, ◌≤◌, ◌^◌, IfOk, IsErrOf, None, Err, string_bytes};
-ghost use Rattle.std.specs.Option.{ForSome};
-ghost use Rattle.liq_base.specs.Counts.{Rose};
-ghost use Rattle.liq_base.specs.Files.{file_at};
-ghost use Rattle.liq_cli.specs.Answer.{Refused};
-ghost use Rattle.liq_cli.specs.Steps.{script_step};
-ghost use Rattle.liq_cli.specs.Call.{Ends, IsComplete, moment_of, Rendered, Broken, Starved};
-ghost use Rattle.liq_cli.specs.Halts.{refused_for};
+ghost use Rattle.std.specs.Prelude.{◌≡◌, None};
+ghost use Rattle.liq_cli.specs.Call.{Ends, IsComplete, moment_of};
 ghost use Rattle.liq_cli.specs.Words.{texts};
-ghost use Rattle.liq_cli.specs.declared.fault.Fault.{Fault};
 
-use crate::Halt;
-use crate::prepare::prepare;
-use crate::render::render;
-use crate::report::report;
-use crate::words::{Form, read_words};
+use crate::halt::Halt;
+use crate::jobs::do_job;
+use crate::words::read_words;
 use liq_base::{Failed, Gate, Memory, Shelf, Sink};
 use std::alloc::Global;
 
@@ -84,7 +75,7 @@ fn run<S: Shelf, O: Sink, E: Sink>(
             Err(Failed) => WRITE_FAILED,
         };
     };
-    match job(alloc, form, shelf) {
+    match do_job(alloc, form, shelf) {
         Ok(report) => match out.append(report.as_bytes()) {
             Ok(()) => DONE,
             Err(Failed) => WRITE_FAILED,
@@ -100,25 +91,4 @@ fn run<S: Shelf, O: Sink, E: Sink>(
         Err(Halt::Write) => WRITE_FAILED,
         Err(Halt::Memory) => NO_MEMORY,
     }
-}
-
-// All that is done before the last text is written: it answers the report.
-fn job<S: Shelf>(alloc: Global, form: Form<'_>, shelf: &mut S) -> Result<String, Halt>
-    requires { form.ticks ≤ 10 ^ 9 }
-    ensures done { IfOk result (λ report. ForSome (S.files shelf.old) (λ files.
-        Rendered (script_step form.entry.ticks files (file_at files form.entry.file.now)) files (S.files shelf.new) (string_bytes report))) }
-    ensures fault { (fault : Fault) → result ≡ Err (refused_for fault) → ForSome (S.files shelf.old) (λ files.
-        script_step form.entry.ticks files (file_at files form.entry.file.now) ≡ Refused fault) }
-    ensures fault_files { (fault : Fault) → result ≡ Err (refused_for fault) → S.files shelf.new ≡ S.files shelf.old }
-    ensures read { IsErrOf result Halt.Read → Rose (S.read_count shelf.old) (S.read_count shelf.new) }
-    ensures read_files { IsErrOf result Halt.Read → S.files shelf.new ≡ S.files shelf.old }
-    ensures write { IsErrOf result Halt.Write → Rose (S.write_count shelf.old) (S.write_count shelf.new) }
-    ensures write_files { IsErrOf result Halt.Write → ForSome (S.files shelf.old) (λ files.
-        Broken (script_step form.entry.ticks files (file_at files form.entry.file.now)) (Rose (S.write_count shelf.old) (S.write_count shelf.new)) files (S.files shelf.new)) }
-    ensures memory { IsErrOf result Halt.Memory → ForSome (S.files shelf.old) (λ files.
-        Starved (script_step form.entry.ticks files (file_at files form.entry.file.now)) (Rose (S.write_count shelf.old) (S.write_count shelf.new)) files (S.files shelf.new)) }
-{
-    let work = prepare(alloc, form, shelf)?;
-    render(alloc, &work, shelf)?;
-    Ok(report(alloc, &work)?)
 }

@@ -1,47 +1,136 @@
 // The words of a call.
-ghost use Rattle.std.specs.Prelude.{◌≡◌, ◌^◌, ◌≤◌, MatchOption, IfSome, None, Some, true, false};
-ghost use Rattle.std.specs.Str.Parse.{digits_value};
-ghost use Rattle.liq_cli.specs.Words.{asked_by, is_ticks, texts};
+ghost use Rattle.std.specs.Prelude.{◌≡◌, ◌≢◌, ◌^◌, ◌≤◌, ℕ, codes, decimal, option_map, IfSome, IsSomeAnd, Some, true, false};
+ghost use Rattle.liq_cli.specs.Prepared.{asked_of, ticks_in};
+ghost use Rattle.liq_cli.specs.Words.{Asked, AreOptions, IsAsked, IsCheck, IsOption, IsRender, IsStart, texts};
 
-use fixed_text::read_u64;
+use fixed_text::{WeekSecond, read_start, read_u64};
 
-/// Ticks of a rendering.
+/// Ticks of a rendering, at most.
 const MAX_TICKS: u64 = 1_000_000_000;
 
-/// `render FILE N`
+/// What is done with the script.
+#[derive(Clone, Copy)]
+pub enum Task {
+    /// `check FILE`
+    Check,
+
+    /// `render FILE N` and options
+    Render {
+        /// The second of the week of the first sample.
+        start: WeekSecond,
+
+        /// How many ticks are rendered, at most 1000000000.
+        ticks: u64,
+    },
+}
+
+/// The form of the words.
 #[derive(Clone, Copy)]
 pub struct Form<'a> {
     /// The name of the script.
     pub file: &'a str,
-
-    /// How many ticks are rendered, at most 1000000000.
-    pub ticks: u64,
+    pub task: Task,
 }
 
 /// The form of the words, or nothing where they have none.
 pub fn read_words(words: &[String]) -> Option<Form<'_>>
-    ensures form { MatchOption result (asked_by (texts words.now) ≡ None)
-        (λ form. asked_by (texts words.now) ≡ Some (record { file = form.file.now; ticks = form.ticks })) }
-    ensures ticks { IfSome result (λ form. form.ticks ≤ 10 ^ 9) }
+    ensures found { IfSome result (λ form. IsAsked (texts words.now) (asked_of form)) }
+    ensures only { (asked : Asked) → IsAsked (texts words.now) asked → option_map asked_of result ≡ Some asked }
+    ensures few { IfSome result (λ form. ticks_in form.task ≤ 10 ^ 9) }
 {
-    match words {
-        [verb, file, number] if verb.as_str() == "render" => {
-            let ticks = read_ticks(number.as_bytes())?;
-            let file = file.as_str();
-            Some(Form { file, ticks })
-        }
+    let [verb, rest @ ..] = words else {
+        return None;
+    };
+    match verb.as_str() {
+        "check" => read_check(rest),
+        "render" => read_render(rest),
         _ => None,
     }
 }
 
+// `FILE`
+fn read_check(words: &[String]) -> Option<Form<'_>>
+    ensures found { IfSome result (λ form. IsCheck (texts words.now) (asked_of form)) }
+    ensures only { (asked : Asked) → IsCheck (texts words.now) asked → option_map asked_of result ≡ Some asked }
+    ensures few { IfSome result (λ form. ticks_in form.task ≤ 10 ^ 9) }
+{
+    match words {
+        [file] => Some(Form {
+            file: file.as_str(),
+            task: Task::Check,
+        }),
+        _ => None,
+    }
+}
+
+// `FILE N` and options
+fn read_render(words: &[String]) -> Option<Form<'_>>
+    ensures found { IfSome result (λ form. IsRender (texts words.now) (asked_of form)) }
+    ensures only { (asked : Asked) → IsRender (texts words.now) asked → option_map asked_of result ≡ Some asked }
+    ensures few { IfSome result (λ form. ticks_in form.task ≤ 10 ^ 9) }
+{
+    let [file, number, options @ ..] = words else {
+        return None;
+    };
+    let ticks = read_ticks(number.as_bytes())?;
+    let start = read_options(options)?;
+    Some(Form {
+        file: file.as_str(),
+        task: Task::Render { start, ticks },
+    })
+}
+
 // The number of ticks that a word is.
 fn read_ticks(word: &[u8]) -> Option<u64>
-    ensures ticks { MatchOption result (is_ticks word.now ≡ false) (λ n. (is_ticks word.now ≡ true) × (digits_value 10 word.now ≡ n)) }
-    ensures most { IfSome result (λ n. n ≤ 10 ^ 9) }
+    ensures found { IfSome result (λ n. word.now ≡ decimal n) }
+    ensures few { IfSome result (λ n. n ≤ 10 ^ 9) }
+    ensures only { (n : ℕ) → n ≤ 10 ^ 9 → word.now ≡ decimal n → result ≡ Some n }
 {
     let ticks = read_u64(word)?;
     if ticks > MAX_TICKS {
         return None;
     }
     Some(ticks)
+}
+
+// The start that options give.
+fn read_options(words: &[String]) -> Option<WeekSecond>
+    ensures found { IfSome result (λ start. AreOptions (texts words.now) start.second) }
+    ensures only { (start : ℕ) → AreOptions (texts words.now) start → IsSomeAnd result (λ found. found.second ≡ start) }
+{
+    match words {
+        [] => Some(WeekSecond { second: 0 }),
+        [word] => read_option(word.as_str()),
+        [word, other] if is_one_thread(word.as_str()) => read_start_option(other.as_str()),
+        [word, other] if is_one_thread(other.as_str()) => read_start_option(word.as_str()),
+        _ => None,
+    }
+}
+
+// The start that one option gives.
+fn read_option(word: &str) -> Option<WeekSecond>
+    ensures found { IfSome result (λ start. IsOption word.now start.second) }
+    ensures only { (start : ℕ) → IsOption word.now start → IsSomeAnd result (λ found. found.second ≡ start) }
+{
+    if is_one_thread(word) {
+        return Some(WeekSecond { second: 0 });
+    }
+    read_start_option(word)
+}
+
+// Whether a word is `--one-thread`.
+fn is_one_thread(word: &str) -> bool
+    ensures yes { result ≡ true → word.now ≡ codes "--one-thread" }
+    ensures no { result ≡ false → word.now ≢ codes "--one-thread" }
+{
+    word == "--one-thread"
+}
+
+// The start that a word `--start=D:HH:MM:SS` gives.
+fn read_start_option(word: &str) -> Option<WeekSecond>
+    ensures found { IfSome result (λ start. IsStart word.now start.second) }
+    ensures only { (start : ℕ) → IsStart word.now start → IsSomeAnd result (λ found. found.second ≡ start) }
+{
+    let text = word.as_bytes().strip_prefix(b"--start=")?;
+    read_start(text)
 }

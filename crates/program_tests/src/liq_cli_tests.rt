@@ -95,6 +95,33 @@ fn no_tick_is_a_header_alone(rt: HostRuntime) -> Result<(), Fail> {
 }
 
 #[test]
+fn words_with_options_and_a_check_are_done(rt: HostRuntime) -> Result<(), Fail> {
+    let alloc = rt.alloc();
+    for (words, out, held) in [
+        ("check f", "output A clock main infallible\n", None),
+        ("render f 1 --one-thread", REPORT, Some(7100)),
+        (
+            "render f 1 --start=7:23:59:59 --one-thread",
+            REPORT,
+            Some(7100),
+        ),
+        (
+            "render f 1 --one-thread --start=7:23:59:59",
+            REPORT,
+            Some(7100),
+        ),
+    ] {
+        let mut shelf = shelf(alloc, Some(SCRIPT), Some(ONE_TWO_THREE))?;
+        let called = call(alloc, words, &mut shelf, Vec::new(alloc))?;
+        assert_eq!(rt; called.status, 0, "{words}");
+        assert_eq!(rt; called.out.held(), out.as_bytes(), "{words}");
+        assert_eq!(rt; called.err.held(), b"".as_slice(), "{words}");
+        assert_eq!(rt; shelf.get("A").map(|bytes| bytes.len()), held, "{words}");
+    }
+    Ok(())
+}
+
+#[test]
 fn each_refusal_has_its_line(rt: HostRuntime) -> Result<(), Fail> {
     let alloc = rt.alloc();
     for (script, audio, words, status, line) in [
@@ -110,22 +137,22 @@ fn each_refusal_has_its_line(rt: HostRuntime) -> Result<(), Fail> {
             Some(ONE_TWO_THREE),
             "render f 1",
             1,
-            "E00 other form\n",
+            "E17 no output\n",
         ),
         (Some(SCRIPT), None, "render f 1", 1, "E20 missing file B\n"),
         (
             Some(SCRIPT),
             Some(SCRIPT),
-            "render f 1",
+            "check f",
             1,
-            "E00 other form\n",
+            "E21 bad audio B: 1\n",
         ),
         (
             Some(SCRIPT),
             Some(ONE_TWO_THREE),
             "render f 608700",
             1,
-            "E00 other form\n",
+            "E29 output too long A\n",
         ),
         (Some(SCRIPT), Some(ONE_TWO_THREE), "render f 07", 2, USAGE),
         (
@@ -135,6 +162,21 @@ fn each_refusal_has_its_line(rt: HostRuntime) -> Result<(), Fail> {
             2,
             USAGE,
         ),
+        (
+            Some(SCRIPT),
+            Some(ONE_TWO_THREE),
+            "render f 1 --one-thread --one-thread",
+            2,
+            USAGE,
+        ),
+        (
+            Some(SCRIPT),
+            Some(ONE_TWO_THREE),
+            "render f 1 --start=8:00:00:00",
+            2,
+            USAGE,
+        ),
+        (Some(SCRIPT), Some(ONE_TWO_THREE), "check f 1", 2, USAGE),
         (Some(SCRIPT), Some(ONE_TWO_THREE), "check", 2, USAGE),
         (Some(SCRIPT), Some(ONE_TWO_THREE), "", 2, USAGE),
         (Some(SCRIPT), Some(ONE_TWO_THREE), "render f 1 1", 2, USAGE),

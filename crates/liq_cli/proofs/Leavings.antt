@@ -1,0 +1,136 @@
+-- What a job leaves, by the way that it ends.
+use Rattle.std.proofs.Common.{◌≡◌, ◌≤◌, ℕ, Bool, List, refl, ◌∙◌, arith}
+use Rattle.std.specs.Prelude.{Option, Some, Ok, Err, IsSomeAnd}
+use Rattle.std.specs.Option.{ForSome}
+use Rattle.liq_base.specs.Counts.{Rose}
+use Rattle.liq_base.specs.Files.{Files}
+use Rattle.frame_core.specs.Library.{Sounds}
+use Rattle.plan_core.specs.declared.plan.Plan.{Plan}
+use Rattle.clock_infer.specs.declared.clock_map.ClockMap.{ClockMap}
+use Rattle.fallible_infer.specs.Infallible.{IsMarking}
+use Rattle.stations.specs.Outputs.{HoldsSome, with_outputs}
+use Rattle.stations.specs.Stations.{Station, no_buffers}
+use Rattle.stations.specs.Streams.{HasNoGaps, outputs_of}
+use Rattle.stations.specs.Reports.{check_report_of, report_of}
+use Rattle.station_render.specs.declared.fault.RenderFault.{RenderFault}
+use Rattle.station_render.specs.declared.fault.RenderFault.TheVariants.{Write as render_write, Memory as render_memory}
+use Rattle.liq_cli.specs.declared.halt.Halt.{Halt}
+use Rattle.liq_cli.specs.declared.halt.Halt.TheVariants.{Memory as no_memory}
+use Rattle.liq_cli.specs.Words.{Asked, Check, Render, file_of, ticks_of}
+use Rattle.liq_cli.specs.Answer.{Answer, Usage, Refused, Checked, Accepted, IsAnswerTo}
+use Rattle.liq_cli.specs.Call.{Broken, Rendered, Starved}
+use Rattle.liq_cli.specs.Prepared.{EndsFor, ForOne, Found, IsOneOutcome, Lost, Stops, halt_of_render, station_for}
+use Rattle.liq_cli.proofs.Outcomes.{for_each, for_one}
+use Rattle.liq_cli.proofs.Parts.{none_created, some_later, whole_created}
+
+-- where nothing was created, each answer has what it may
+kept_starved : (asked : Asked) (files : Files) (answer : Answer) (cause : Type 0) (before after : Option Files) → IsAnswerTo asked files answer
+    → before ≡ Some files → after ≡ before → Starved answer cause files after
+kept_starved asked files Usage cause before after is told same = absurd is
+kept_starved asked files (Refused fault) cause before after is told same = same ∙ told
+kept_starved asked files (Checked station) cause before after is told same = same ∙ told
+kept_starved asked files (Accepted station) cause before after is told same =
+    record { run = no_buffers; begun = refl; parts = none_created cause (outputs_of station no_buffers) before after same files told }
+
+-- a job ends as the steps before the rendering do
+pub stopped_early : {T U : Type 0} (asked : Asked) (told left : Option Files) (reads_before reads_after writes_before writes_after : ℕ) (e : Halt)
+    → EndsFor {T = T} told (file_of asked) (ticks_of asked) reads_before reads_after (Err e) → left ≡ told
+    → Stops {T = U} asked told left reads_before reads_after writes_before writes_after (Err e)
+stopped_early asked told left reads_before reads_after writes_before writes_after e ends same = record {
+  fault = λ fault at files t. for_one asked files (Lost fault) (λ a. a ≡ Refused fault) (ends.fault fault (cc) files t) refl;
+  fault_kept = λ fault at. same;
+  read = λ at. ends.read (cc);
+  read_kept = λ at. same;
+  write = λ at. absurd (ends.no_write (cc));
+  broken = λ at. absurd (ends.no_write (cc));
+  memory = λ at files t answer is. kept_starved asked files answer (Rose writes_before writes_after) told left is t same;
+}
+
+-- memory was refused where nothing was created
+pub stopped_for_memory : {U : Type 0} (asked : Asked) (told left : Option Files) (reads_before reads_after writes_before writes_after : ℕ) → left ≡ told
+    → Stops {T = U} asked told left reads_before reads_after writes_before writes_after (Err no_memory)
+stopped_for_memory asked told left reads_before reads_after writes_before writes_after same = record {
+  fault = λ fault at. absurd (cc);
+  fault_kept = λ fault at. absurd (cc);
+  read = λ at. absurd (cc);
+  read_kept = λ at. absurd (cc);
+  write = λ at. absurd (cc);
+  broken = λ at. absurd (cc);
+  memory = λ at files t answer is. kept_starved asked files answer (Rose writes_before writes_after) told left is t same;
+}
+
+-- a job that has its report did not stop
+pub went_on : {U : Type 0} (asked : Asked) (told left : Option Files) (reads_before reads_after writes_before writes_after : ℕ) (v : U)
+    → Stops {T = U} asked told left reads_before reads_after writes_before writes_after (Ok v)
+went_on asked told left reads_before reads_after writes_before writes_after v = record {
+  fault = λ fault at. absurd (cc);
+  fault_kept = λ fault at. absurd (cc);
+  read = λ at. absurd (cc);
+  read_kept = λ at. absurd (cc);
+  write = λ at. absurd (cc);
+  broken = λ at. absurd (cc);
+  memory = λ at. absurd (cc);
+}
+
+-- the report of a check
+pub checked : (file : List ℕ) (told left : Option Files) (plan : Plan) (library : Sounds) (clocks : ClockMap) (report : List ℕ)
+    → ForSome told (λ files. IsOneOutcome files file 0 (Found plan library clocks)) → left ≡ told
+    → (mark : ℕ → Bool) × IsMarking plan.nodes mark × (report ≡ check_report_of plan clocks mark)
+    → ForSome told (λ files. ForOne (Check file) files (λ a. Rendered a files left report))
+checked file told left plan library clocks report one same tells files t =
+    for_one (Check file) files (Found plan library clocks) (λ a. Rendered a files left report) (one files t)
+    (record { kept = same ∙ t; mark = tells.0; marking = tells.1; report_is = tells.2 })
+
+module _ (file : List ℕ) (start ticks : ℕ) (told left : Option Files) (plan : Plan) (library : Sounds) (clocks : ClockMap)
+    (one : ForSome told (λ files. IsOneOutcome files file ticks (Found plan library clocks))) where
+  abbrev station : Station
+  station = station_for (Render file start ticks) plan library clocks
+
+  -- a rendering broke off
+  pub broke_off : {U : Type 0} (reads_before reads_after writes_before writes_between writes_after : ℕ) (e : RenderFault) → writes_before ≤ writes_between
+      → ForSome told (λ files. IsSomeAnd left (HoldsSome (Rose writes_between writes_after) files (outputs_of station no_buffers)))
+      → (e ≡ render_write → Rose writes_between writes_after)
+      → Stops {T = U} (Render file start ticks) told left reads_before reads_after writes_before writes_after (Err (halt_of_render e))
+  broke_off reads_before reads_after writes_before writes_between writes_after render_write le parts cause = record {
+    fault = λ fault at. absurd (cc);
+    fault_kept = λ fault at. absurd (cc);
+    read = λ at. absurd (cc);
+    read_kept = λ at. absurd (cc);
+    write = λ at. let rose = cause refl in omega arith;
+    broken = λ at files t. for_one (Render file start ticks) files (Found plan library clocks) (λ a. Broken a (Rose writes_before writes_after) files left) (one files t)
+        (record { run = no_buffers; begun = refl; parts = some_later (Rose writes_between writes_after) (Rose writes_before writes_after) (λ rose. omega arith) files (outputs_of station no_buffers) left (parts files t) });
+    memory = λ at. absurd (cc);
+  }
+  broke_off reads_before reads_after writes_before writes_between writes_after render_memory le parts cause = record {
+    fault = λ fault at. absurd (cc);
+    fault_kept = λ fault at. absurd (cc);
+    read = λ at. absurd (cc);
+    read_kept = λ at. absurd (cc);
+    write = λ at. absurd (cc);
+    broken = λ at. absurd (cc);
+    memory = λ at files t. for_each (Render file start ticks) files (Found plan library clocks) (λ a. Starved a (Rose writes_before writes_after) files left) (one files t)
+        (record { run = no_buffers; begun = refl; parts = some_later (Rose writes_between writes_after) (Rose writes_before writes_after) (λ rose. omega arith) files (outputs_of station no_buffers) left (parts files t) });
+  }
+
+  -- memory was refused for the report
+  pub unreported : {U : Type 0} (reads_before reads_after writes_before writes_after : ℕ)
+      → ForSome told (λ files. left ≡ Some (with_outputs files (outputs_of station no_buffers)))
+      → Stops {T = U} (Render file start ticks) told left reads_before reads_after writes_before writes_after (Err no_memory)
+  unreported reads_before reads_after writes_before writes_after written = record {
+    fault = λ fault at. absurd (cc);
+    fault_kept = λ fault at. absurd (cc);
+    read = λ at. absurd (cc);
+    read_kept = λ at. absurd (cc);
+    write = λ at. absurd (cc);
+    broken = λ at. absurd (cc);
+    memory = λ at files t. for_each (Render file start ticks) files (Found plan library clocks) (λ a. Starved a (Rose writes_before writes_after) files left) (one files t)
+        (record { run = no_buffers; begun = refl; parts = whole_created (Rose writes_before writes_after) left files (outputs_of station no_buffers) (written files t) });
+  }
+
+  -- the report of a rendering
+  pub rendered : (report : List ℕ) → ForSome told (λ files. left ≡ Some (with_outputs files (outputs_of station no_buffers)))
+      → report ≡ report_of station no_buffers → ((files : Files) → IsOneOutcome files file ticks (Found plan library clocks) → HasNoGaps station no_buffers)
+      → ForSome told (λ files. ForOne (Render file start ticks) files (λ a. Rendered a files left report))
+  rendered report written report_is gapless files t =
+      for_one (Render file start ticks) files (Found plan library clocks) (λ a. Rendered a files left report) (one files t)
+      (record { run = no_buffers; lawful = refl; written = written files t; report_is = report_is; no_gaps = gapless files (one files t) })

@@ -1,0 +1,61 @@
+// What is done before the last text is written.
+ghost use Rattle.std.specs.Prelude.{◌≡◌, ◌≤◌, ◌^◌, IfOk, string_bytes};
+ghost use Rattle.std.specs.Option.{ForSome};
+ghost use Rattle.liq_cli.specs.Call.{Rendered};
+ghost use Rattle.liq_cli.specs.Prepared.{asked_of, ForOne, Stops, ticks_in};
+ghost use Rattle.liq_cli.specs.Words.{Check, Render};
+
+use crate::halt::Halt;
+use crate::prepare::prepare;
+use crate::words::{Form, Task};
+use fixed_text::WeekSecond;
+use liq_base::Shelf;
+use station_check::check_report;
+use station_laws::infallible_outputs_have_no_gaps;
+use station_render::{render, report};
+use std::alloc::Global;
+
+/// All that is done before the last text is written. It answers the report.
+pub fn do_job<S: Shelf>(alloc: Global, form: Form<'_>, shelf: &mut S) -> Result<String, Halt>
+    requires { ticks_in form.task ≤ 10 ^ 9 }
+    ensures done { IfOk result (λ report. ForSome (S.files shelf.old) (λ files.
+        ForOne (asked_of form.entry) files (λ answer. Rendered answer files (S.files shelf.new) (string_bytes report)))) }
+    ensures stops { Stops (asked_of form.entry) (S.files shelf.old) (S.files shelf.new) (S.read_count shelf.old) (S.read_count shelf.new)
+        (S.write_count shelf.old) (S.write_count shelf.new) result }
+{
+    match form.task {
+        Task::Check => check_job(alloc, form.file, shelf),
+        Task::Render { start, ticks } => render_job(alloc, form.file, start, ticks, shelf),
+    }
+}
+
+// The report of a check. No file changes.
+fn check_job<S: Shelf>(alloc: Global, file: &str, shelf: &mut S) -> Result<String, Halt>
+    ensures done { IfOk result (λ report. ForSome (S.files shelf.old) (λ files.
+        ForOne (Check file.now) files (λ answer. Rendered answer files (S.files shelf.new) (string_bytes report)))) }
+    ensures stops { Stops (Check file.now) (S.files shelf.old) (S.files shelf.new) (S.read_count shelf.old) (S.read_count shelf.new)
+        (S.write_count shelf.old) (S.write_count shelf.new) result }
+{
+    let work = prepare(alloc, file, 0, shelf)?;
+    Ok(check_report(alloc, &work.plan, &work.ready)?)
+}
+
+// The report of a rendering, whose outputs are written.
+fn render_job<S: Shelf>(
+    alloc: Global,
+    file: &str,
+    start: WeekSecond,
+    ticks: u64,
+    shelf: &mut S,
+) -> Result<String, Halt>
+    requires { ticks ≤ 10 ^ 9 }
+    ensures done { IfOk result (λ report. ForSome (S.files shelf.old) (λ files.
+        ForOne (Render file.now start.second ticks) files (λ answer. Rendered answer files (S.files shelf.new) (string_bytes report)))) }
+    ensures stops { Stops (Render file.now start.second ticks) (S.files shelf.old) (S.files shelf.new) (S.read_count shelf.old) (S.read_count shelf.new)
+        (S.write_count shelf.old) (S.write_count shelf.new) result }
+{
+    let work = prepare(alloc, file, ticks, shelf)?;
+    infallible_outputs_have_no_gaps();
+    let gaps = render(alloc, &work.plan, &work.ready, start, ticks, shelf)?;
+    Ok(report(alloc, &work.plan, ticks, &gaps)?)
+}

@@ -1,0 +1,132 @@
+-- Sinks that are closed one after another.
+use Rattle.std.proofs.Common.{◌≡◌, ◌<◌, ◌≤◌, ◌+◌, ◌∙◌, ◌++◌, ◌⊎◌, ℕ, zero, suc, true, false, List, [], ◌∷◌, length, set, slice_get, nat_eq, arith, refl, ap, sym, subst, inl, inr, if◌then◌else◌}
+use Rattle.std.specs.Prelude.{Option, Some, None, Result, Ok, Err, OnOk, OnErr, IsSomeAnd}
+use Rattle.std.specs.Option.{ForSome}
+use Rattle.std.proofs.lemmas.Bool.{cases_Bool, eqb-true, eqb-false, eq-eqb}
+use Rattle.liq_base.specs.Counts.{Rose}
+use Rattle.liq_base.specs.Files.{Files, with_file, Closed, ClosedPart}
+use Rattle.liq_base.specs.Kept.{HoldsPartOr, closed_part_or, later_cause, rose_within}
+use Rattle.stations.specs.Outputs.{OutputFile, with_outputs, HoldsParts}
+use Rattle.station_render.specs.Sinks.{AreCreated, AreAllEmpty, HasFailed, HaveSizes, HoldsWhole, HoldsPart, WasTaken, of_clock, count_of}
+use Rattle.station_render.proofs.Lists.{got, within, no_items, set_here, set_many, set_other}
+use Rattle.station_render.proofs.Dealing.{first_so, others_so}
+
+-- nothing was created
+pub no_outputs : {Y S : Type 0} (So : Y → S → Type 0) (ys : List Y) (order : List ℕ) (groups : List (List S)) → length order ≡ 0 → AreCreated So ys order groups → ys ≡ []
+no_outputs So ys order groups none are = no_items ys (are.size ∙ none)
+
+pub all_empty : {S : Type 0} (order : List ℕ) (groups : List (List S)) → length order ≡ 0 → HaveSizes order groups → AreAllEmpty groups
+all_empty [] groups none sizes m group there = no_items group (sizes.each m group there)
+all_empty (c ∷ order) groups none sizes m group there = absurd (omega (arith, none))
+
+pub none_failed : {S P : Type 0} (order : List ℕ) (groups : List (List S)) → length order ≡ 0 → HaveSizes order groups → (faults : S → ℕ) → HasFailed faults groups → P
+none_failed order groups none sizes faults failed =
+    let empty : failed.group ≡ [] = all_empty order groups none sizes failed.clock failed.group failed.there in
+    let at : slice_get [] failed.place ≡ Some failed.sink = ap (λ g. slice_get g failed.place) (sym empty) ∙ failed.stands in
+    absurd (cc)
+
+-- a cause may be told as a wider one
+pub parts_later : (cause more : Type 0) → (cause → more) → (files : Files) (outputs : List OutputFile) (after : Files) → HoldsParts cause files outputs after → HoldsParts more files outputs after
+parts_later cause more f files [] after parts = parts
+parts_later cause more f files (output ∷ outputs) after parts =
+    (parts.0, later_cause cause more files output.name output.bytes parts.0 f parts.1, parts_later cause more f parts.0 outputs after parts.2)
+
+pub in_list : {A : Type 0} (xs : List A) (k : ℕ) → k < length xs → (x : A) × (slice_get xs k ≡ Some x)
+in_list [] k low = absurd (omega (arith, low))
+in_list (x ∷ xs) zero low = (x, refl)
+in_list (x ∷ xs) (suc k) low = in_list xs k (omega (arith, low))
+
+-- one name, and then the others
+one_part : (cause later more : Type 0) → (cause → more) → (later → more) → (files : Files) (output : OutputFile) (outputs : List OutputFile) (mid after : Option Files)
+    → IsSomeAnd mid (HoldsPartOr cause files output.name output.bytes) → ForSome mid (λ found. IsSomeAnd after (HoldsParts later found outputs))
+    → IsSomeAnd after (HoldsParts more files (output ∷ outputs))
+one_part cause later more f g files output outputs None after first rest = absurd first
+one_part cause later more f g files output outputs (Some mid) after first rest = last after (rest mid refl)
+  where
+    last : (after : Option Files) → IsSomeAnd after (HoldsParts later mid outputs) → IsSomeAnd after (HoldsParts more files (output ∷ outputs))
+    last None parts = parts
+    last (Some after) parts = (mid, later_cause cause more files output.name output.bytes mid f first, parts_later later more g mid outputs after parts)
+
+module _ {S : Type 0} (order rest : List ℕ) (clock : ℕ) (split : order ≡ clock ∷ rest) (old new : List (List S)) where
+  some_first : (group : List S) → length group ≡ suc (count_of clock rest) → slice_get old clock ≡ Some group → (first : S) × (others : List S) × (slice_get old clock ≡ Some (first ∷ others))
+  some_first [] size there = absurd (omega (arith, size))
+  some_first (first ∷ others) size there = (first, others, there)
+
+  -- the clock of the first output has a sink
+  pub has_first : HaveSizes order old → (first : S) × (others : List S) × (slice_get old clock ≡ Some (first ∷ others))
+  has_first sizes =
+      let found = in_list old clock (sizes.below 0 clock (ap (λ o. slice_get o 0) split)) in
+      let counts : count_of clock order ≡ suc (count_of clock rest) =
+      ap (count_of clock) split ∙ ap (λ b. if b then suc (count_of clock rest) else count_of clock rest) (eq-eqb clock clock refl) in
+      some_first found.0 (sizes.each clock found.0 found.1 ∙ counts) found.1
+
+  module _ (sink : S) (taken : WasTaken clock old sink new) where
+    -- the others have their sizes
+    pub sizes_left : HaveSizes order old → HaveSizes rest new
+    sizes_left sizes = record {
+      below = λ k c at. subst (λ n. c < n) (sym (ap length taken.is ∙ set_many old clock taken.rest)) (sizes.below (suc k) c (ap (λ o. slice_get o (suc k)) split ∙ at));
+      each = λ m group there. elim (cases_Bool (nat_eq clock m)) [
+        | inl same ↦ (let is_here : clock ≡ m = eqb-true clock m same in
+            let at : Some taken.rest ≡ Some group = sym (set_here old clock taken.rest (within old clock (sink ∷ taken.rest) taken.was))
+            ∙ ap (λ gs. slice_get gs clock) (sym taken.is) ∙ ap (slice_get new) is_here ∙ there in
+            let is : taken.rest ≡ group = cc in
+            let counts : count_of m order ≡ suc (count_of m rest) = ap (count_of m) split ∙ ap (λ b. if b then suc (count_of m rest) else count_of m rest) same in
+            let all : suc (length taken.rest) ≡ count_of m order = sizes.each m (sink ∷ taken.rest) (ap (slice_get old) (sym is_here) ∙ taken.was) in
+            sym (ap length is) ∙ omega (arith, all, counts))
+        | inr other ↦ (let apart : clock ≡ m → ⊥ = eqb-false clock m other in
+            let at : slice_get old m ≡ Some group = sym (set_other old clock m taken.rest apart) ∙ ap (λ gs. slice_get gs m) (sym taken.is) ∙ there in
+            sizes.each m group at ∙ ap (count_of m) split ∙ ap (λ b. if b then suc (count_of m rest) else count_of m rest) other)
+      ];
+    }
+
+    -- a sink that failed is the first, or one of the others
+    pub failed_left : (faults : S → ℕ) → HasFailed faults old → (0 < faults sink) ⊎ HasFailed faults new
+    failed_left faults failed = elim (cases_Bool (nat_eq clock failed.clock)) [
+      | inl same ↦ (let is_here : clock ≡ failed.clock = eqb-true clock failed.clock same in
+          let at : Some (sink ∷ taken.rest) ≡ Some failed.group = sym taken.was ∙ ap (slice_get old) is_here ∙ failed.there in
+          let is : sink ∷ taken.rest ≡ failed.group = cc in
+          first_or_other failed.place (ap (λ g. slice_get g failed.place) is ∙ failed.stands) failed.failed)
+      | inr other ↦ inr (record {
+        clock = failed.clock;
+        place = failed.place;
+        group = failed.group;
+        sink = failed.sink;
+        there = ap (λ gs. slice_get gs failed.clock) taken.is ∙ set_other old clock failed.clock taken.rest (eqb-false clock failed.clock other) ∙ failed.there;
+        stands = failed.stands;
+        failed = failed.failed;
+      })
+    ]
+      where
+        first_or_other : (place : ℕ) → slice_get (sink ∷ taken.rest) place ≡ Some failed.sink → 0 < faults failed.sink → (0 < faults sink) ⊎ HasFailed faults new
+        first_or_other zero at more = (let same : sink ≡ failed.sink = (cc) in inl (subst (λ s. 0 < faults s) (sym same) more))
+        first_or_other (suc place) at more = inr (record {
+          clock = clock;
+          place = place;
+          group = taken.rest;
+          sink = failed.sink;
+          there = ap (λ gs. slice_get gs clock) taken.is ∙ set_here old clock taken.rest (within old clock (sink ∷ taken.rest) taken.was);
+          stands = at;
+          failed = more;
+        })
+
+    module _ (name held : S → Option (List ℕ)) (before mid after : Option Files) where
+      pub whole_then : Closed before (name sink) (held sink) mid
+          → ForSome mid (λ files. (outputs : List OutputFile) → AreCreated (HoldsWhole name held) outputs rest new → after ≡ Some (with_outputs files outputs))
+          → ForSome before (λ files. (outputs : List OutputFile) → AreCreated (HoldsWhole name held) outputs order old → after ≡ Some (with_outputs files outputs))
+      whole_then closed others files told [] are = (let size = are.size in let long = ap length split in absurd (omega (arith, size, long)))
+      whole_then closed others files told (y ∷ ys) are =
+          let these = subst (λ o. AreCreated (HoldsWhole name held) (y ∷ ys) o old) split are in
+          let so = (first_so (HoldsWhole name held) clock rest old new sink taken y ys these).0 in
+          others (with_file files y.name y.bytes) (closed files told y.name so.named y.bytes so.holds) ys (others_so (HoldsWhole name held) clock rest old new sink taken y ys these)
+
+      pub part_then : {E : Type 0} (r : Result (Unit {0}) E) (w0 w1 w2 : ℕ) → w0 ≤ w1 → w1 ≤ w2
+          → OnOk r (Closed before (name sink) (held sink) mid) → OnErr r (ClosedPart before (name sink) (held sink) mid) → OnErr r (Rose w0 w1)
+          → ForSome mid (λ files. (outputs : List OutputFile) → AreCreated (HoldsPart name held) outputs rest new → IsSomeAnd after (HoldsParts (Rose w1 w2) files outputs))
+          → ForSome before (λ files. (outputs : List OutputFile) → AreCreated (HoldsPart name held) outputs order old → IsSomeAnd after (HoldsParts (Rose w0 w2) files outputs))
+      part_then r w0 w1 w2 low high closed part cause others files told [] are = (let size = are.size in let long = ap length split in absurd (omega (arith, size, long)))
+      part_then r w0 w1 w2 low high closed part cause others files told (y ∷ ys) are =
+          let these = subst (λ o. AreCreated (HoldsPart name held) (y ∷ ys) o old) split are in
+          let so = (first_so (HoldsPart name held) clock rest old new sink taken y ys these).0 in
+          one_part (Rose w0 w1) (Rose w1 w2) (Rose w0 w2) (rose_within w0 w0 w1 w2 (omega arith) high) (rose_within w0 w1 w2 w2 low (omega arith)) files y ys mid after
+          (closed_part_or r (Rose w0 w1) before mid (name sink) (held sink) files y.name so.part y.bytes closed part cause told so.named so.holds so.front)
+          (λ found at. others found at ys (others_so (HoldsPart name held) clock rest old new sink taken y ys these))

@@ -1,0 +1,269 @@
+-- Outputs that are created one after another.
+use Rattle.std.proofs.Common.{◌≡◌, ◌<◌, ◌≤◌, ◌+◌, ◌-◌, ◌*◌, ◌∙◌, ◌++◌, ◌⊎◌, ℕ, zero, suc, Bool, List, [], ◌∷◌, length, map, take, drop, slice_get, get_or, arith, refl, ap, sym, subst, inl, inr, true, false, nat_eq, append_assoc, add-one, if◌then◌else◌}
+use Rattle.std.specs.Prelude.{Option, Some, None, IsSome, is_some}
+use Rattle.std.specs.Option.{ForSome}
+use Rattle.std.specs.List.{AllZip}
+use Rattle.std.proofs.lemmas.List.{map-append, append-nil, length-append}
+use Rattle.liq_base.specs.Created.{is_told}
+use Rattle.liq_base.specs.Counts.{Rose}
+use Rattle.liq_base.specs.Files.{Files}
+use Rattle.liq_base.specs.Pieces.{HasRoom, IsPrefix, Took, TookPart, grown, narrowed}
+use Rattle.plan_core.specs.declared.plan.Plan.{Plan}
+use Rattle.plan_core.specs.declared.sink.SinkPlan.{SinkPlan}
+use Rattle.plan_core.specs.declared.sink.SinkPlan.TheVariants.{Output, Feed}
+use Rattle.clock_infer.specs.declared.clock_map.NodeClock.TheVariants.{Main}
+use Rattle.stream_meaning.specs.Instants.{Setting, clock_of}
+use Rattle.stream_meaning.specs.Sinks.{ticks_bytes}
+use Rattle.stations.specs.Outputs.{OutputFile}
+use Rattle.stations.specs.Streams.{header_for, output_bytes, outputs_in}
+use Rattle.station_render.specs.Sinks.{AreCreated, HasFailed, HoldsPart, HoldsWhole, WasAdded, of_clock}
+use Rattle.station_render.specs.Renders.{AreBegun, IsPart, IsReady, IsWhole, NoneCreated, WasBroken, WasCreated, Written, body_size, file_of, main_of, order_of, written}
+use Rattle.station_render.proofs.Lists.{within, got_is, set_here, set_many, many_mapped}
+use Rattle.station_render.proofs.Dealing.{one_added}
+
+pub take_more : {A : Type 0} (xs : List A) (k : ℕ) (x : A) → slice_get xs k ≡ Some x → take (suc k) xs ≡ take k xs ++ x ∷ []
+take_more [] k x at = absurd (cc)
+take_more (y ∷ xs) zero x at = let same : y ≡ x = (cc) in ap (λ z. z ∷ []) same
+take_more (y ∷ xs) (suc k) x at = ap (λ zs. y ∷ zs) (take_more xs k x at)
+
+pub take_whole : {A : Type 0} (xs : List A) (k : ℕ) → length xs ≤ k → take k xs ≡ xs
+take_whole [] zero low = refl
+take_whole [] (suc k) low = refl
+take_whole (x ∷ xs) zero low = absurd (omega (arith, low))
+take_whole (x ∷ xs) (suc k) low = ap (λ zs. x ∷ zs) (take_whole xs k (omega (arith, low)))
+
+pub taken_and_left : {A : Type 0} (xs : List A) (k : ℕ) → xs ≡ take k xs ++ drop k xs
+taken_and_left [] zero = refl
+taken_and_left [] (suc k) = refl
+taken_and_left (x ∷ xs) zero = refl
+taken_and_left (x ∷ xs) (suc k) = ap (λ zs. x ∷ zs) (taken_and_left xs k)
+
+pub written_both : (xs ys : List SinkPlan) → written (xs ++ ys) ≡ written xs ++ written ys
+written_both [] ys = refl
+written_both (Output name node fallible ∷ xs) ys = ap (λ zs. (record { name = name; node = node }) ∷ zs) (written_both xs ys)
+written_both (Feed buffer node ∷ xs) ys = written_both xs ys
+
+pub written_more : (sinks : List SinkPlan) (k : ℕ) (name : List ℕ) (node : ℕ) (fallible : Bool) → slice_get sinks k ≡ Some (Output name node fallible)
+    → written (take (suc k) sinks) ≡ written (take k sinks) ++ (record { name = name; node = node }) ∷ []
+written_more sinks k name node fallible at = ap written (take_more sinks k (Output name node fallible) at) ∙ written_both (take k sinks) (Output name node fallible ∷ [])
+
+pub written_same : (sinks : List SinkPlan) (k buffer node : ℕ) → slice_get sinks k ≡ Some (Feed buffer node) → written (take (suc k) sinks) ≡ written (take k sinks)
+written_same sinks k buffer node at =
+    ap written (take_more sinks k (Feed buffer node) at) ∙ written_both (take k sinks) (Feed buffer node ∷ []) ∙ append-nil (written (take k sinks))
+
+pub files_are : (setting : Setting) (ticks : ℕ) (sinks : List SinkPlan) → outputs_in setting ticks sinks ≡ map (file_of setting ticks) (written sinks)
+files_are setting ticks [] = refl
+files_are setting ticks (Output name node fallible ∷ sinks) = ap (λ zs. (record { name = name; bytes = output_bytes setting ticks node }) ∷ zs) (files_are setting ticks sinks)
+files_are setting ticks (Feed buffer node ∷ sinks) = files_are setting ticks sinks
+
+zip_as : {Y S : Type 0} (So Other : Y → S → Type 0) → ((y : Y) (x : S) → So y x → Other y x) → (ys : List Y) (xs : List S) → AllZip So ys xs → AllZip Other ys xs
+zip_as So Other f [] [] z = tt
+zip_as So Other f [] (x ∷ xs) z = absurd z
+zip_as So Other f (y ∷ ys) [] z = absurd z
+zip_as So Other f (y ∷ ys) (x ∷ xs) z = (f y x z.0, zip_as So Other f ys xs z.1)
+
+pub created_as : {Y S : Type 0} (So Other : Y → S → Type 0) → ((y : Y) (x : S) → So y x → Other y x) → (ys : List Y) (order : List ℕ) (groups : List (List S))
+    → AreCreated So ys order groups → AreCreated Other ys order groups
+created_as So Other f ys order groups are = record {
+  size = are.size;
+  below = are.below;
+  each = λ m group at. zip_as So Other f (of_clock m order ys) group (are.each m group at);
+}
+
+dealt_mapped : {Y Z : Type 0} (f : Y → Z) (m : ℕ) (order : List ℕ) (ys : List Y) → of_clock m order (map f ys) ≡ map f (of_clock m order ys)
+dealt_mapped f m [] ys = refl
+dealt_mapped f m (c ∷ order) [] = refl
+dealt_mapped f m (c ∷ order) (y ∷ ys) = by_test (nat_eq c m) (dealt_mapped f m order ys)
+  where
+    by_test : (b : Bool) → of_clock m order (map f ys) ≡ map f (of_clock m order ys)
+        → (if b then f y ∷ of_clock m order (map f ys) else of_clock m order (map f ys)) ≡ map f (if b then y ∷ of_clock m order ys else of_clock m order ys)
+    by_test true rest = ap (λ zs. f y ∷ zs) rest
+    by_test false rest = rest
+
+zip_mapped : {Y Z S : Type 0} (f : Y → Z) (So : Z → S → Type 0) (ys : List Y) (xs : List S) → AllZip (λ y x. So (f y) x) ys xs → AllZip So (map f ys) xs
+zip_mapped f So [] [] z = tt
+zip_mapped f So [] (x ∷ xs) z = absurd z
+zip_mapped f So (y ∷ ys) [] z = absurd z
+zip_mapped f So (y ∷ ys) (x ∷ xs) z = (z.0, zip_mapped f So ys xs z.1)
+
+-- sinks of outputs are sinks of their files
+pub created_mapped : {Y Z S : Type 0} (f : Y → Z) (So : Z → S → Type 0) (ys : List Y) (order : List ℕ) (groups : List (List S))
+    → AreCreated (λ y x. So (f y) x) ys order groups → AreCreated So (map f ys) order groups
+created_mapped f So ys order groups are = record {
+  size = many_mapped f ys ∙ are.size;
+  below = are.below;
+  each = λ m group at. subst (λ zs. AllZip So zs group) (sym (dealt_mapped f m order ys)) (zip_mapped f So (of_clock m order ys) group (are.each m group at));
+}
+
+-- the room after the header
+pub room_left : (before after : Option ℕ) (header body : ℕ) → ForSome before (λ told. told ≡ header + body) → after ≡ narrowed header before → HasRoom after body
+room_left None after header body told fell = λ left at. absurd (let none : None ≡ Some left = sym fell ∙ at in cc)
+room_left (Some before) after header body told fell = λ left at.
+    let is : Some (before - header) ≡ Some left = sym fell ∙ at in
+    let same : before - header ≡ left = cc in
+    let whole : before ≡ header + body = told before refl in
+    omega (arith, same, whole)
+
+module _ {S : Type 0} (name held : S → Option (List ℕ)) (left : S → Option ℕ) (faults : S → ℕ) (files : Option Files) where
+  -- a new sink that took its header whole, or a part of it
+  pub told_whole : (old new : S) (title bytes : List ℕ) → (IsSome files → IsSome (name old) × IsSome (held old)) → ForSome (name old) (λ told. told ≡ title) → ForSome (held old) (λ told. told ≡ [])
+      → name new ≡ name old → held new ≡ grown bytes (held old) → ForSome files (λ all. HoldsWhole name held (record { name = title; bytes = bytes }) new)
+  told_whole old new title bytes tells named empty kept grew all at =
+      let t = tells (ap is_some at) in
+      record { named = kept ∙ is_told (name old) title t.0 named; holds = grew ∙ ap (grown bytes) (is_told (held old) [] t.1 empty) }
+
+  pub told_part : (old new : S) (title bytes : List ℕ) → (IsSome files → IsSome (name old) × IsSome (held old)) → ForSome (name old) (λ told. told ≡ title) → ForSome (held old) (λ told. told ≡ [])
+      → name new ≡ name old → TookPart held left bytes old new → ForSome files (λ all. HoldsPart name held (record { name = title; bytes = bytes }) new)
+  told_part old new title bytes tells named empty kept part all at =
+      let t = tells (ap is_some at) in
+      record {
+        named = kept ∙ is_told (name old) title t.0 named;
+        part = part.taken;
+        holds = part.took.held_grew ∙ ap (grown part.taken) (is_told (held old) [] t.1 empty);
+        front = part.is_front;
+      }
+
+  pub rose_above : (before after : ℕ) → Rose before after → 0 < after
+  rose_above before after rose = omega (arith, rose)
+
+  module _ (setting : Setting) (ticks : ℕ) where
+    -- the header is a first part of an output
+    pub part_of_ready : (output : Written) (sink : S) → IsReady name held left files setting ticks output sink → IsPart name held files setting ticks output sink
+    part_of_ready output sink ready all at = record {
+      named = (ready.told all at).named;
+      part = header_for setting ticks output.node;
+      holds = (ready.told all at).holds;
+      front = record { rest = ticks_bytes setting output.node ticks; whole_is = refl };
+    }
+
+    pub part_of_whole : (output : Written) (sink : S) → IsWhole name held files setting ticks output sink → IsPart name held files setting ticks output sink
+    part_of_whole output sink whole all at = record {
+      named = (whole all at).named;
+      part = output_bytes setting ticks output.node;
+      holds = (whole all at).holds;
+      front = record { rest = []; whole_is = sym (append-nil (output_bytes setting ticks output.node)) };
+    }
+
+    pub ready_more : (ys : List Written) (output : Written) (clock : ℕ) (header : List ℕ) (body : ℕ) (order order_new : List ℕ) (old new : List (List S)) → clock < length old
+        → header ≡ header_for setting ticks output.node → body ≡ body_size setting ticks output.node
+        → AreCreated (IsReady name held left files setting ticks) ys order old
+        → WasCreated name held left files clock output.name header body order order_new old new
+        → AreCreated (IsReady name held left files setting ticks) (ys ++ output ∷ []) order_new new
+    ready_more ys output clock header body order order_new old new low header_is body_is are was =
+        let ready : IsReady name held left files setting ticks output was.sink = record {
+          told = subst (λ h. ForSome files (λ all. HoldsWhole name held (record { name = output.name; bytes = h }) was.sink)) header_is was.told;
+          room = subst (λ n. HasRoom (left was.sink) n) body_is was.room;
+        } in
+        subst (λ o. AreCreated (IsReady name held left files setting ticks) (ys ++ output ∷ []) o new) (sym was.order_is)
+        (one_added (IsReady name held left files setting ticks) ys order old new output clock was.sink low are ready was.added)
+
+    pub part_more : (ys : List Written) (output : Written) (clock : ℕ) (header : List ℕ) (order order_new : List ℕ) (old new : List (List S)) → clock < length old
+        → header ≡ header_for setting ticks output.node
+        → AreCreated (IsReady name held left files setting ticks) ys order old
+        → WasBroken name held faults files clock output.name header order order_new old new
+        → AreCreated (IsPart name held files setting ticks) (ys ++ output ∷ []) order_new new
+    part_more ys output clock header order order_new old new low header_is are was =
+        let part : IsPart name held files setting ticks output was.sink = λ all at.
+        let told = was.told all at in
+        let whole : output_bytes setting ticks output.node ≡ header ++ ticks_bytes setting output.node ticks = ap (λ h. h ++ ticks_bytes setting output.node ticks) (sym header_is) in
+        record {
+          named = told.named;
+          part = told.part;
+          holds = told.holds;
+          front = record {
+            rest = told.front.rest ++ ticks_bytes setting output.node ticks;
+            whole_is = whole ∙ ap (λ h. h ++ ticks_bytes setting output.node ticks) told.front.whole_is ∙ append_assoc told.part told.front.rest (ticks_bytes setting output.node ticks);
+          };
+        } in
+        subst (λ o. AreCreated (IsPart name held files setting ticks) (ys ++ output ∷ []) o new) (sym was.order_is)
+        (one_added (IsPart name held files setting ticks) ys order old new output clock was.sink low (parts ys order old are) part was.added)
+      where
+        parts : (ys : List Written) (order : List ℕ) (groups : List (List S)) → AreCreated (IsReady name held left files setting ticks) ys order groups → AreCreated (IsPart name held files setting ticks) ys order groups
+        parts ys order groups are = created_as (IsReady name held left files setting ticks) (IsPart name held files setting ticks) part_of_ready ys order groups are
+
+    -- what is begun, where the first sinks were gone through
+    pub begun_here : (k : ℕ) (order : List ℕ) (groups : List (List S)) → AreCreated (IsReady name held left files setting ticks) (written (take k setting.plan.sinks)) order groups
+        → AreBegun name held files setting ticks order groups
+    begun_here k order groups are = record {
+      created = written (take k setting.plan.sinks);
+      others = written (drop k setting.plan.sinks);
+      all = ap written (taken_and_left setting.plan.sinks k) ∙ written_both (take k setting.plan.sinks) (drop k setting.plan.sinks);
+      parts = created_as (IsReady name held left files setting ticks) (IsPart name held files setting ticks) part_of_ready (written (take k setting.plan.sinks)) order groups are;
+    }
+
+    pub begun_next : (k : ℕ) (title : List ℕ) (node : ℕ) (fallible : Bool) (order : List ℕ) (groups : List (List S)) → slice_get setting.plan.sinks k ≡ Some (Output title node fallible)
+        → AreCreated (IsPart name held files setting ticks) (written (take k setting.plan.sinks) ++ (record { name = title; node = node }) ∷ []) order groups
+        → AreBegun name held files setting ticks order groups
+    begun_next k title node fallible order groups at are = record {
+      created = written (take (suc k) setting.plan.sinks);
+      others = written (drop (suc k) setting.plan.sinks);
+      all = ap written (taken_and_left setting.plan.sinks (suc k)) ∙ written_both (take (suc k) setting.plan.sinks) (drop (suc k) setting.plan.sinks);
+      parts = subst (λ ys. AreCreated (IsPart name held files setting ticks) ys order groups) (sym (written_more setting.plan.sinks k title node fallible at)) are;
+    }
+
+    -- after a creation that broke off
+    pub begun_broken : (k : ℕ) (title : List ℕ) (node : ℕ) (fallible : Bool) (clock : ℕ) (header : List ℕ) (order order_new : List ℕ) (old new : List (List S)) → clock < length old
+        → slice_get setting.plan.sinks k ≡ Some (Output title node fallible) → header ≡ header_for setting ticks node
+        → AreCreated (IsReady name held left files setting ticks) (written (take k setting.plan.sinks)) order old
+        → NoneCreated order order_new old new ⊎ WasBroken name held faults files clock title header order order_new old new
+        → AreBegun name held files setting ticks order_new new
+    begun_broken k title node fallible clock header order order_new old new low at header_is are (inl none) =
+        subst (λ o. AreBegun name held files setting ticks o new) (sym none.order_is) (subst (λ gs. AreBegun name held files setting ticks order gs) (sym none.same) (begun_here k order old are))
+    begun_broken k title node fallible clock header order order_new old new low at header_is are (inr broken) =
+        begun_next k title node fallible order_new new at
+        (part_more (written (take k setting.plan.sinks)) (record { name = title; node = node }) clock header order order_new old new low header_is are broken)
+
+pub written_next : (sinks : List SinkPlan) (k : ℕ) (name : List ℕ) (node : ℕ) (fallible : Bool) → slice_get sinks k ≡ Some (Output name node fallible)
+    → written (take (k + 1) sinks) ≡ written (take k sinks) ++ (record { name = name; node = node }) ∷ []
+written_next sinks k name node fallible at = ap (λ n. written (take n sinks)) (add-one k) ∙ written_more sinks k name node fallible at
+
+pub written_still : (sinks : List SinkPlan) (k buffer node : ℕ) → slice_get sinks k ≡ Some (Feed buffer node) → written (take (k + 1) sinks) ≡ written (take k sinks)
+written_still sinks k buffer node at = ap (λ n. written (take n sinks)) (add-one k) ∙ written_same sinks k buffer node at
+
+pub created_by : {S : Type 0} {So : Written → S → Type 0} (ys zs : List Written) (order : List ℕ) (groups : List (List S)) → zs ≡ ys → AreCreated So ys order groups → AreCreated So zs order groups
+created_by {S} {So} ys zs order groups same are = subst (λ ws. AreCreated So ws order groups) (sym same) are
+
+module _ {S : Type 0} (name held : S → Option (List ℕ)) (left : S → Option ℕ) (faults : S → ℕ) (files before : Option Files) (same : before ≡ files) (setting : Setting) (ticks : ℕ) (k : ℕ)
+    (title said : List ℕ) (node : ℕ) (fallible : Bool) (at : slice_get setting.plan.sinks k ≡ Some (Output title node fallible)) (said_is : said ≡ title)
+    (clock : ℕ) (header : List ℕ) (body : ℕ) (order order_new : List ℕ) (old new : List (List S)) (low : clock < length old) (header_is : header ≡ header_for setting ticks node)
+    (are : AreCreated (IsReady name held left files setting ticks) (written (take k setting.plan.sinks)) order old) where
+  -- after one more creation
+  pub next_ready : body ≡ body_size setting ticks node → WasCreated name held left before clock said header body order order_new old new
+      → AreCreated (IsReady name held left files setting ticks) (written (take (k + 1) setting.plan.sinks)) order_new new
+  next_ready body_is was =
+      created_by (written (take k setting.plan.sinks) ++ (record { name = title; node = node }) ∷ []) (written (take (k + 1) setting.plan.sinks)) order_new new (written_next setting.plan.sinks k title node fallible at)
+      (ready_more name held left faults files setting ticks (written (take k setting.plan.sinks)) (record { name = title; node = node }) clock header body order order_new old new low header_is body_is are
+      (subst (λ f. WasCreated name held left f clock title header body order order_new old new) same (subst (λ t. WasCreated name held left before clock t header body order order_new old new) said_is was)))
+
+  -- after one that broke off
+  pub broken_off : NoneCreated order order_new old new ⊎ WasBroken name held faults before clock said header order order_new old new → AreBegun name held files setting ticks order_new new
+  broken_off was =
+      begun_broken name held left faults files setting ticks k title node fallible clock header order order_new old new low at header_is are
+      (subst (λ f. NoneCreated order order_new old new ⊎ WasBroken name held faults f clock title header order order_new old new) same
+      (subst (λ t. NoneCreated order order_new old new ⊎ WasBroken name held faults before clock t header order order_new old new) said_is was))
+
+pub added_many : {S : Type 0} (clock : ℕ) (sink : S) (old new : List (List S)) → WasAdded clock sink old new → length new ≡ length old
+added_many clock sink old new added = ap length added.is ∙ set_many old clock (added.before ++ sink ∷ [])
+
+-- the order, with one output more
+pub order_more : (setting : Setting) (ys : List Written) (output : Written) (clock : ℕ) (order order_new : List ℕ) → order ≡ order_of setting ys → order_new ≡ order ++ clock ∷ []
+    → slice_get setting.clocks output.node ≡ Some (Main clock) → order_new ≡ order_of setting (ys ++ output ∷ [])
+order_more setting ys output clock order order_new is more at =
+    more ∙ ap (λ o. o ++ clock ∷ []) is ∙ ap (λ c. order_of setting ys ++ c ∷ []) (sym (ap main_of (got_is setting.clocks output.node (Main clock) (Main 0) at)))
+    ∙ sym (map-append (λ (output : Written). main_of (clock_of setting output.node)) ys (output ∷ []))
+
+at_last : {A : Type 0} (xs : List A) (x : A) → slice_get (xs ++ x ∷ []) (length xs) ≡ Some x
+at_last [] x = refl
+at_last (y ∷ xs) x = at_last xs x
+
+-- a sink that failed and was added
+pub added_failed : {S : Type 0} (faults : S → ℕ) (clock : ℕ) (sink : S) (old new : List (List S)) → clock < length old → WasAdded clock sink old new → 0 < faults sink → HasFailed faults new
+added_failed faults clock sink old new low added failed = record {
+  clock = clock;
+  place = length added.before;
+  group = added.before ++ sink ∷ [];
+  sink = sink;
+  there = ap (λ gs. slice_get gs clock) added.is ∙ set_here old clock (added.before ++ sink ∷ []) low;
+  stands = at_last added.before sink;
+  failed = failed;
+}

@@ -1,0 +1,74 @@
+-- What a plan that fits is known to have.
+use Rattle.std.proofs.Common.{◌≡◌, ◌<◌, ◌≤◌, ◌+◌, ◌*◌, ◌∙◌, ◌++◌, ℕ, zero, suc, Bool, true, false, List, [], ◌∷◌, length, map, take, slice_get, get_or, arith, refl, ap, sym, subst, if◌then◌else◌}
+use Rattle.std.specs.Prelude.{Option, Some, None, is_none, Contains, All}
+use Rattle.liq_base.specs.Kinds.{channels_of}
+use Rattle.plan_core.specs.declared.plan.Plan.{Plan}
+use Rattle.plan_core.specs.declared.sink.SinkPlan.{SinkPlan}
+use Rattle.plan_core.specs.declared.sink.SinkPlan.TheVariants.{Output, Feed}
+use Rattle.plan_core.specs.Plans.{sink_node, IsWellFormed}
+use Rattle.clock_infer.specs.declared.clock_map.ClockMap.{ClockMap}
+use Rattle.clock_infer.specs.declared.clock_map.NodeClock.TheVariants.{Main}
+use Rattle.clock_infer.proofs.MapLaws as map_law
+use Rattle.frame_core.specs.Library.{Sounds}
+use Rattle.wav_io.specs.Header.{header_of}
+use Rattle.stations.specs.Stations.{HasNoReader}
+use Rattle.stations.specs.Findings.{IsFit, first_name, is_too_long, kind_at, name_of}
+use Rattle.station_render.specs.Renders.{AreMain}
+use Rattle.station_render.proofs.Lists.{within, got_is, no_items}
+
+pub contains : {A : Type 0} (xs : List A) (k : ℕ) (x : A) → slice_get xs k ≡ Some x → Contains xs x
+contains xs k x at = (k, within xs k x at, got_is xs k x x at)
+
+-- a sink that passes is no first one where there is none
+pub none_such : (such : SinkPlan → Bool) (sinks : List SinkPlan) (k : ℕ) (sink : SinkPlan) → first_name such sinks ≡ None → slice_get sinks k ≡ Some sink → such sink ≡ false
+none_such such [] k sink none at = absurd (cc)
+none_such such (x ∷ sinks) k sink none at = by_test (such x) refl k at none (λ j found rest. none_such such sinks j sink rest found)
+  where
+    by_test : (b : Bool) → such x ≡ b → (k : ℕ) → slice_get (x ∷ sinks) k ≡ Some sink
+        → (if b then Some (name_of x) else first_name such sinks) ≡ None → ((j : ℕ) → slice_get sinks j ≡ Some sink → first_name such sinks ≡ None → such sink ≡ false) → such sink ≡ false
+    by_test true is k at none later = absurd (cc)
+    by_test false is zero at none later = (let same : x ≡ sink = (cc) in ap such (sym same) ∙ is)
+    by_test false is (suc k) at none later = later k at none
+
+module _ (plan : Plan) (library : Sounds) (clocks : ClockMap) (ticks : ℕ) (fit : IsFit plan library clocks ticks) where
+  pub are_main : AreMain plan clocks
+  are_main k name node fallible at =
+      map_law.sinks plan clocks (Output name node fallible) fit.plan_is fit.map (contains plan.sinks k (Output name node fallible) at)
+
+  pub node_within : (k : ℕ) (name : List ℕ) (node : ℕ) (fallible : Bool) → slice_get plan.sinks k ≡ Some (Output name node fallible) → node < length plan.nodes
+  node_within k name node fallible at =
+      subst (λ sink. sink_node sink < length plan.nodes) (got_is plan.sinks k (Output name node fallible) (Output name node fallible) at)
+      (fit.plan_is.sinks k (Output name node fallible) (within plan.sinks k (Output name node fallible) at))
+
+  pub header_fits : (k : ℕ) (name : List ℕ) (node : ℕ) (fallible : Bool) → slice_get plan.sinks k ≡ Some (Output name node fallible)
+      → is_none (header_of (kind_at plan node) plan.rate (ticks * plan.frame)) ≡ false
+  header_fits k name node fallible at = none_such (is_too_long plan ticks) plan.sinks k (Output name node fallible) fit.none at
+
+  -- a buffer has a reader, so there is none
+  pub no_buffers : plan.buffers ≡ []
+  no_buffers = by_size (length plan.buffers) refl
+    where
+      by_size : (n : ℕ) → length plan.buffers ≡ n → plan.buffers ≡ []
+      by_size zero size = no_items plan.buffers size
+      by_size (suc n) size =
+          (let reader = fit.plan_is.one_reader 0 (omega (arith, size)) in
+          absurd (fit.readers reader.0 reader.1.0 reader.1.1 0 reader.1.2))
+
+  -- the clock of an output is one of those that run
+  pub clock_below : (k : ℕ) (name : List ℕ) (node : ℕ) (fallible : Bool) → slice_get plan.sinks k ≡ Some (Output name node fallible)
+      → (clock : ℕ) → slice_get clocks.of node ≡ Some (Main clock) → (many : ℕ) → many ≡ clocks.running → clock < many
+  clock_below k name node fallible at clock is many size =
+      let main = are_main k name node fallible at in
+      let both : Some (Main main.0) ≡ Some (Main clock) = sym main.2 ∙ is in
+      let same : main.0 ≡ clock = cc in
+      let low = main.1 in
+      omega (arith, low, same, size)
+
+pub main_below : (plan : Plan) (clocks : ClockMap) → AreMain plan clocks → (k : ℕ) (name : List ℕ) (node : ℕ) (fallible : Bool) → slice_get plan.sinks k ≡ Some (Output name node fallible)
+    → (clock : ℕ) → slice_get clocks.of node ≡ Some (Main clock) → (many : ℕ) → many ≡ clocks.running → clock < many
+main_below plan clocks main k name node fallible at clock is many size =
+    let found = main k name node fallible at in
+    let both : Some (Main found.0) ≡ Some (Main clock) = sym found.2 ∙ is in
+    let same : found.0 ≡ clock = cc in
+    let low = found.1 in
+    omega (arith, low, same, size)

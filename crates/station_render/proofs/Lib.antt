@@ -1,0 +1,11 @@
+pub mod Lists
+pub mod Dealing
+pub mod Closing
+pub mod Fits
+pub mod Creating
+pub mod Reporting
+pub mod Pools
+pub mod Pooling
+pub mod Running
+pub mod Ending
+pub mod Rendered

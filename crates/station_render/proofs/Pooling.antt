@@ -1,0 +1,108 @@
+-- Engines that take sinks and give them back.
+use Rattle.std.proofs.Common.{◌≡◌, ◌<◌, ◌≤◌, ◌+◌, ◌∙◌, ◌++◌, ℕ, zero, suc, Some, List, [], ◌∷◌, length, map, get_or, set, slice_get, arith, refl, ap, sym, subst, vec_len, add-one}
+use Rattle.std.specs.Prelude.{Vec}
+use Rattle.std.specs.declared.alloc.Global.{Global}
+use Rattle.std.proofs.lemmas.List.{map-append, length-append}
+use Rattle.clock_engine.specs.declared.engine.ClockEngine.{ClockEngine}
+use Rattle.stream_meaning.specs.Instants.{Setting}
+use Rattle.station_render.specs.Sinks.{lists_of}
+use Rattle.station_render.specs.Engines.{AreAt, AreEmptyBelow, IsAt, outs_of, pooled}
+use Rattle.station_render.proofs.Lists.{got, got_is, here_is, list_set, many_mapped, mapped, same_set, set_here, set_many, set_other, within}
+use Rattle.station_render.proofs.Closing.{in_list}
+use Rattle.station_render.proofs.Pools.{empty_below_fewer, empty_below_more, pool_back, pool_more}
+
+module _ {S : Type 0} where
+  -- an empty place has no sinks
+  pub empty_here : (groups : List (Vec S Global)) (k : ℕ) (here : Vec S Global) → here ≡ get_or groups k here → slice_get (lists_of groups) k ≡ Some [] → vec_len here ≡ 0
+  empty_here groups k here is there =
+      let at : Some here.items ≡ Some [] = sym (here_is groups k here is (within (lists_of groups) k [] there)) ∙ there in
+      let none : here.items ≡ [] = cc in
+      here.ok.0 ∙ ap length none
+
+  -- what is put back after it was taken out
+  pub put_again : (lists : List (List S)) (k : ℕ) (out again : List S) → slice_get lists k ≡ Some out → again ≡ out → set (set lists k []) k again ≡ lists
+  put_again [] k out again at same = absurd (cc)
+  put_again (list ∷ lists) zero out again at same = (let is : list ≡ out = (cc) in ap (λ l. l ∷ lists) (same ∙ sym is))
+  put_again (list ∷ lists) (suc k) out again at same = ap (λ ls. list ∷ ls) (put_again lists k out again at same)
+
+  pub outs_more : (engines : List (ClockEngine S)) (engine : ClockEngine S) → outs_of (engines ++ engine ∷ []) ≡ outs_of engines ++ engine.outs.items ∷ []
+  outs_more engines engine = map-append (λ (e : ClockEngine S). e.outs.items) engines (engine ∷ [])
+
+  pub outs_many : (engines : List (ClockEngine S)) → length (outs_of engines) ≡ length engines
+  outs_many engines = many_mapped (λ (e : ClockEngine S). e.outs.items) engines
+
+  -- the last engine gives its sinks back
+  pub back_one : (engines front : List (ClockEngine S)) (engine : ClockEngine S) (lists : List (List S)) (outs : List S) → engines ≡ front ++ engine ∷ [] → outs ≡ engine.outs.items
+      → length engines ≤ length lists → pooled (outs_of engines) lists ≡ pooled (outs_of front) (set lists (length front) outs)
+  back_one engines front engine lists outs is same few =
+      let low : length (outs_of front) < length lists = (let many = outs_many front in let all = ap length is ∙ length-append front (engine ∷ []) in omega (arith, many, all, few)) in
+      ap (λ es. pooled (outs_of es) lists) is ∙ ap (λ os. pooled os lists) (outs_more front engine) ∙ pool_back (outs_of front) lists engine.outs.items low
+      ∙ ap (λ n. pooled (outs_of front) (set lists n engine.outs.items)) (outs_many front) ∙ ap (λ o. pooled (outs_of front) (set lists (length front) o)) (sym same)
+
+  at_place : (setting : Setting) (es : List (ClockEngine S)) (last : ClockEngine S) (m : ℕ) (other : ClockEngine S) (from : ℕ) → ((k : ℕ) (e : ClockEngine S) → slice_get es k ≡ Some e → IsAt setting 0 (from + k) e)
+      → IsAt setting 0 (from + length es) last → slice_get (es ++ last ∷ []) m ≡ Some other → IsAt setting 0 (from + m) other
+  at_place setting [] last zero other from each is there = (let same : last ≡ other = (cc) in subst (λ e. IsAt setting 0 (from + 0) e) same is)
+  at_place setting [] last (suc m) other from each is there = absurd (cc)
+  at_place setting (e ∷ es) last zero other from each is there = each 0 other there
+  at_place setting (e ∷ es) last (suc m) other from each is there =
+      let step : suc from + m ≡ from + suc m = omega arith in
+      let last_step : from + suc (length es) ≡ suc from + length es = omega arith in
+      subst (λ n. IsAt setting 0 n other) step
+      (at_place setting es last m other (suc from) (λ k f found. let next : from + suc k ≡ suc from + k = omega arith in subst (λ n. IsAt setting 0 n f) next (each (suc k) f found))
+      (subst (λ n. IsAt setting 0 n last) last_step is) there)
+
+  pub at_more : (setting : Setting) (engines : List (ClockEngine S)) (engine : ClockEngine S) → AreAt setting 0 engines → IsAt setting 0 (length engines) engine → AreAt setting 0 (engines ++ engine ∷ [])
+  at_more setting engines engine at is = record {
+    each = λ m other there.
+        let from_0 : (n : ℕ) → 0 + n ≡ n = λ n. omega arith in
+        subst (λ n. IsAt setting 0 n other) (from_0 m)
+        (at_place setting engines engine m other 0 (λ k e found. subst (λ n. IsAt setting 0 n e) (sym (from_0 k)) (at.each k e found)) (subst (λ n. IsAt setting 0 n engine) (sym (from_0 (length engines))) is) there);
+  }
+
+  -- the last engine gives its sinks back
+  module _ (engines front : List (ClockEngine S)) (engine : ClockEngine S) (lists lists_new : List (List S)) (outs : List S) (n : ℕ) (is : engines ≡ front ++ engine ∷ []) (same : outs ≡ engine.outs.items)
+      (n_is : n ≡ length front) (new_is : lists_new ≡ set lists n outs) (few : length engines ≤ length lists) where
+    one_fewer : length engines ≡ length front + 1
+    one_fewer = ap length is ∙ length-append front (engine ∷ [])
+
+    now_is : lists_new ≡ set lists (length front) outs
+    now_is = new_is ∙ ap (λ k. set lists k outs) n_is
+
+    pub giving_few : length front ≤ length lists_new
+    giving_few = let many = ap length now_is ∙ set_many lists (length front) outs in let less = one_fewer in omega (arith, many, less, few)
+
+    pub giving_empty : AreEmptyBelow (length engines) lists → AreEmptyBelow (length front) lists_new
+    giving_empty empty =
+        let below : AreEmptyBelow (suc (length front)) lists = subst (λ k. AreEmptyBelow k lists) (one_fewer ∙ add-one (length front)) empty in
+        subst (λ ls. AreEmptyBelow (length front) ls) (sym now_is) (empty_below_fewer (length front) lists outs below)
+
+    pub giving_pool : (whole : List (List S)) → pooled (outs_of engines) lists ≡ whole → pooled (outs_of front) lists_new ≡ whole
+    giving_pool whole all = ap (pooled (outs_of front)) now_is ∙ sym (back_one engines front engine lists outs is same few) ∙ all
+
+  -- one more engine takes its sinks
+  module _ (engines engines_new : List (ClockEngine S)) (engine : ClockEngine S) (lists lists_new : List (List S)) (clock : ℕ) (is : engines_new ≡ engines ++ engine ∷ []) (count : length engines ≡ clock)
+      (there : slice_get lists clock ≡ Some engine.outs.items) (taken : lists_new ≡ set lists clock []) where
+    pub taking_many : length lists_new ≡ length lists
+    taking_many = ap length taken ∙ set_many lists clock []
+
+    pub taking_count : length engines_new ≡ clock + 1
+    taking_count = ap length is ∙ length-append engines (engine ∷ []) ∙ ap (λ n. n + 1) count
+
+    pub taking_empty : AreEmptyBelow clock lists → AreEmptyBelow (clock + 1) lists_new
+    taking_empty empty =
+        subst (λ n. AreEmptyBelow n lists_new) (sym (add-one clock))
+        (subst (λ ls. AreEmptyBelow (suc clock) ls) (sym taken) (empty_below_more clock lists (within lists clock engine.outs.items there) empty))
+
+    pub taking_pool : pooled (outs_of engines_new) lists_new ≡ pooled (outs_of engines) lists
+    taking_pool =
+        let place : length (outs_of engines) ≡ clock = outs_many engines ∙ count in
+        ap (λ es. pooled (outs_of es) lists_new) is ∙ ap (λ os. pooled os lists_new) (outs_more engines engine) ∙ ap (pooled (outs_of engines ++ engine.outs.items ∷ [])) taken
+        ∙ ap (λ n. pooled (outs_of engines ++ engine.outs.items ∷ []) (set lists n [])) (sym place)
+        ∙ pool_more (outs_of engines) lists engine.outs.items (ap (slice_get lists) place ∙ there)
+
+    pub taking_left : (m : ℕ) (group : List S) → clock + 1 ≤ m → slice_get lists_new m ≡ Some group → slice_get lists m ≡ Some group
+    taking_left m group above at = sym (set_other lists clock m [] (λ e. omega (arith, above, e))) ∙ ap (λ ls. slice_get ls m) (sym taken) ∙ at
+
+    pub taking_at : (setting : Setting) → AreAt setting 0 engines → IsAt setting 0 clock engine → AreAt setting 0 engines_new
+    taking_at setting at here =
+        subst (λ es. AreAt setting 0 es) (sym is) (at_more setting engines engine at (subst (λ n. IsAt setting 0 n engine) (sym count) here))

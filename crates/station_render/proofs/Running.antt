@@ -1,0 +1,344 @@
+-- What a run leaves in the sinks of a clock, place by place.
+use Rattle.std.proofs.Common.{◌≡◌, ◌<◌, ◌≤◌, ◌+◌, ◌*◌, ◌∙◌, ◌++◌, ℕ, zero, suc, Bool, true, false, List, [], ◌∷◌, length, map, slice_get, get_or, nat_eq, cond, arith, refl, ap, sym, subst, append_assoc, if◌then◌else◌}
+use Rattle.std.specs.Prelude.{Option, Some, None, All}
+use Rattle.std.specs.Option.{ForSome}
+use Rattle.std.specs.List.{AllZip}
+use Rattle.std.proofs.lemmas.Bool.{eq-eqb, false_from_ne_true, eqb-true}
+use Rattle.liq_base.specs.Counts.{Rose}
+use Rattle.liq_base.specs.Files.{Files}
+use Rattle.liq_base.specs.Kinds.{channels_of}
+use Rattle.liq_base.specs.Pieces.{HasRoom, IsPrefix, grown}
+use Rattle.plan_core.specs.declared.plan.Plan.{Plan}
+use Rattle.plan_core.specs.declared.sink.SinkPlan.{SinkPlan}
+use Rattle.plan_core.specs.declared.sink.SinkPlan.TheVariants.{Output, Feed}
+use Rattle.clock_infer.specs.declared.clock_map.NodeClock.{NodeClock}
+use Rattle.clock_infer.specs.declared.clock_map.NodeClock.TheVariants.{Main}
+use Rattle.stream_meaning.specs.Instants.{Setting, clock_of, lies_in, same_clock}
+use Rattle.stream_meaning.specs.Sinks.{gaps, kind_of, ticks_bytes}
+use Rattle.op_leaf.specs.Readers.{Answer}
+use Rattle.clock_infer.specs.declared.clock_map.ClockMap.{ClockMap}
+use Rattle.stream_meaning.proofs.Existence.{same_clock-true}
+use Rattle.node_states.specs.Ticks.{IsOutput, with_rest}
+use Rattle.clock_outputs.specs.declared.port.Port.{Port}
+use Rattle.clock_engine.specs.declared.engine.ClockEngine.{ClockEngine}
+use Rattle.clock_engine.specs.Engines.{AreWorks, EngineStands, held_in, output_of, outputs_from, outputs_of, setting_of}
+use Rattle.clock_engine.specs.Ticks.{HaveTicksRoom}
+use Rattle.clock_engine.proofs.Numbered.{are_there, from_mapped}
+use Rattle.buffer_ends.specs.declared.run_end.End.{End}
+use Rattle.rounds_run.specs.Rounds.{HasRun, HasRunPart, HaveRun, HaveRunPart, IsWriteEnd, MayRun, AreEngines, held_of, nothing}
+use Rattle.stations.specs.Outputs.{OutputFile}
+use Rattle.stations.specs.Streams.{header_for, output_bytes}
+use Rattle.station_render.specs.Sinks.{AreCreated, HasFailed, HoldsPart, HoldsWhole, of_clock}
+use Rattle.station_render.specs.Engines.{AreAt, IsAt, outs_of}
+use Rattle.station_render.specs.Renders.{IsPart, IsReady, IsWhole, Written, body_size, file_of, main_of, order_of, written}
+use Rattle.station_render.proofs.Lists.{got, got_is, mapped, many_mapped, unmapped, within}
+use Rattle.station_render.proofs.Dealing.{zip_at, zip_from, zip_size}
+use Rattle.station_render.proofs.Closing.{in_list}
+
+-- the nodes of these sinks lie in main clocks
+abbrev pub LieInMain : Setting → List SinkPlan → Type 0
+LieInMain setting sinks = (k : ℕ) (name : List ℕ) (node : ℕ) (fallible : Bool) → slice_get sinks k ≡ Some (Output name node fallible) → (m : ℕ) × (clock_of setting node ≡ Main m)
+
+abbrev same_node : Written → ℕ × ℕ → Type 0
+same_node output pair = output.node ≡ pair.1
+
+-- the outputs of a clock stand in one order
+pub same_places : (setting : Setting) (m i : ℕ) (sinks : List SinkPlan) → LieInMain setting sinks
+    → AllZip same_node (of_clock m (order_of setting (written sinks)) (written sinks)) (outputs_from setting m i sinks)
+same_places setting m i [] main = tt
+same_places setting m i (Output name node fallible ∷ sinks) main =
+    let in_clock = main 0 name node fallible refl in
+    subst (λ clock. AllZip same_node
+    (if nat_eq (main_of clock) m then (record { name = name; node = node }) ∷ of_clock m (order_of setting (written sinks)) (written sinks) else of_clock m (order_of setting (written sinks)) (written sinks))
+    (if same_clock clock (Main m) then (i, node) ∷ outputs_from setting m (suc i) sinks else outputs_from setting m (suc i) sinks))
+    (sym in_clock.1) (by_test (nat_eq in_clock.0 m) (same_places setting m (suc i) sinks (λ k. main (suc k))))
+  where
+    by_test : (b : Bool) → AllZip same_node (of_clock m (order_of setting (written sinks)) (written sinks)) (outputs_from setting m (suc i) sinks)
+        → AllZip same_node
+        (if b then (record { name = name; node = node }) ∷ of_clock m (order_of setting (written sinks)) (written sinks) else of_clock m (order_of setting (written sinks)) (written sinks))
+        (if b then (i, node) ∷ outputs_from setting m (suc i) sinks else outputs_from setting m (suc i) sinks)
+    by_test true rest = (refl, rest)
+    by_test false rest = rest
+same_places setting m i (Feed buffer node ∷ sinks) main = same_places setting m (suc i) sinks (λ k. main (suc k))
+
+-- the numbers of the outputs rise
+abbrev Rising : List (ℕ × ℕ) → Type 0
+Rising pairs = (j k : ℕ) (a b : ℕ × ℕ) → j < k → slice_get pairs j ≡ Some a → slice_get pairs k ≡ Some b → a.0 < b.0
+
+rising_step : (t : Bool) (i node : ℕ) (rest : List (ℕ × ℕ)) → Rising rest → ((k : ℕ) (b : ℕ × ℕ) → slice_get rest k ≡ Some b → i < b.0) → Rising (if t then (i, node) ∷ rest else rest)
+rising_step true i node rest rising above zero zero a b low at there = absurd (omega (arith, low))
+rising_step true i node rest rising above zero (suc k) a b low at there = let same : (i, node) ≡ a = (cc) in subst (λ p. p.0 < b.0) same (above k b there)
+rising_step true i node rest rising above (suc j) zero a b low at there = absurd (omega (arith, low))
+rising_step true i node rest rising above (suc j) (suc k) a b low at there = rising j k a b (omega (arith, low)) at there
+rising_step false i node rest rising above j k a b low at there = rising j k a b low at there
+
+no_rising : Rising []
+no_rising zero k a b low at there = absurd (cc)
+no_rising (suc j) k a b low at there = absurd (cc)
+
+pub rising : (setting : Setting) (m i : ℕ) (sinks : List SinkPlan) → Rising (outputs_from setting m i sinks)
+rising setting m i [] = no_rising
+rising setting m i (Output name node fallible ∷ sinks) =
+    rising_step (lies_in setting (Main m) node) i node (outputs_from setting m (suc i) sinks) (rising setting m (suc i) sinks)
+    (λ k b at. let n = (are_there setting m (suc i) sinks k b at).number in omega (arith, n))
+rising setting m i (Feed buffer node ∷ sinks) = rising setting m (suc i) sinks
+
+-- what the sink of a number holds, by its place
+pub held_at : {S : Type 0} (held : S → Option (List ℕ)) (ports : List Port) (outs : List S) (j : ℕ) (port : Port) (out : S)
+    → ((k : ℕ) (other : Port) → k < j → slice_get ports k ≡ Some other → nat_eq other.sink port.sink ≡ false)
+    → slice_get ports j ≡ Some port → slice_get outs j ≡ Some out → held_in held ports outs port.sink ≡ held out
+held_at held [] outs j port out before at there = absurd (cc)
+held_at held (p ∷ ports) [] j port out before at there = absurd (cc)
+held_at held (p ∷ ports) (o ∷ outs) zero port out before at there =
+    let same : p ≡ port = (cc) in
+    let same_out : o ≡ out = (cc) in
+    ap (λ b. if b then held o else held_in held ports outs port.sink) (eq-eqb p.sink port.sink (ap (λ (q : Port). q.sink) same)) ∙ ap held same_out
+held_at held (p ∷ ports) (o ∷ outs) (suc j) port out before at there =
+    ap (λ b. if b then held o else held_in held ports outs port.sink) (before 0 p (omega arith) refl)
+    ∙ held_at held ports outs j port out (λ k other low found. before (suc k) other (omega (arith, low)) found) at there
+
+-- the port of an output of an engine, at its place
+pub record IsPort (setting : Setting) (m j : ℕ) (output : Written) (ports : List Port) : Type 0 where
+  pub port : Port
+  pub there : slice_get ports j ≡ Some port
+  pub same_node : port.node ≡ output.node
+  pub is_output : IsOutput setting m port.sink output.node
+  pub before : (k : ℕ) (other : Port) → k < j → slice_get ports k ≡ Some other → nat_eq other.sink port.sink ≡ false
+
+pub port_at : (setting : Setting) (m : ℕ) (ports : List Port) → map output_of ports ≡ outputs_of setting m → LieInMain setting setting.plan.sinks → (j : ℕ) (output : Written)
+    → slice_get (of_clock m (order_of setting (written setting.plan.sinks)) (written setting.plan.sinks)) j ≡ Some output → IsPort setting m j output ports
+port_at setting m ports outputs main j output at =
+    let places = same_places setting m 0 setting.plan.sinks main in
+    let size = zip_size same_node (of_clock m (order_of setting (written setting.plan.sinks)) (written setting.plan.sinks)) (outputs_of setting m) places in
+    let low = within (of_clock m (order_of setting (written setting.plan.sinks)) (written setting.plan.sinks)) j output at in
+    let found = in_list (outputs_of setting m) j (omega (arith, size, low)) in
+    let node_is : output.node ≡ found.0.1 = zip_at same_node (of_clock m (order_of setting (written setting.plan.sinks)) (written setting.plan.sinks)) (outputs_of setting m) j output found.0 places at found.1 in
+    let port = from_mapped output_of ports j found.0 (ap (λ pairs. slice_get pairs j) outputs ∙ found.1) in
+    let number : port.0.sink ≡ found.0.0 = ap (λ (p : ℕ × ℕ). p.0) port.2 in
+    let there = are_there setting m 0 setting.plan.sinks j found.0 found.1 in
+    record {
+      port = port.0;
+      there = port.1;
+      same_node = ap (λ (p : ℕ × ℕ). p.1) port.2 ∙ sym node_is;
+      is_output = record {
+        name = there.name;
+        fallible = there.fallible;
+        there = ap (slice_get setting.plan.sinks) (number ∙ (let n = there.number in omega (arith, n))) ∙ there.there ∙ ap (λ node. Some (Output there.name node there.fallible)) (sym node_is);
+        in_clock = ap (clock_of setting) node_is ∙ same_clock-true (clock_of setting found.0.1) (Main m) there.inside;
+      };
+      before = λ k other lower at_other.
+          let other_found : slice_get (outputs_of setting m) k ≡ Some (output_of other) = ap (λ pairs. slice_get pairs k) (sym outputs) ∙ mapped output_of ports k other at_other in
+          let less : other.sink < found.0.0 = rising setting m 0 setting.plan.sinks k j (output_of other) found.0 lower other_found found.1 in
+          false_from_ne_true (nat_eq other.sink port.0.sink) (λ e. let same : other.sink ≡ port.0.sink = eqb-true other.sink port.0.sink e in omega (arith, less, same, number));
+    }
+
+module _ {S : Type 0} (held name : S → Option (List ℕ)) (faults : S → ℕ) (ticks : ℕ) (old new : ClockEngine S) (works : AreWorks old.works) (main : LieInMain (setting_of old.works) (setting_of old.works).plan.sinks) where
+  abbrev here : Setting
+  here = setting_of old.works
+
+  abbrev mine : List Written
+  mine = of_clock old.works.clock (order_of here (written here.plan.sinks)) (written here.plan.sinks)
+
+  now_outputs : AreWorks new.works → setting_of new.works ≡ here → new.works.clock ≡ old.works.clock → map output_of new.works.ports.items ≡ outputs_of here old.works.clock
+  now_outputs now over clock = now.outputs ∙ ap (λ s. outputs_of s new.works.clock) over ∙ ap (outputs_of here) clock
+
+  held_both : AreWorks new.works → setting_of new.works ≡ here → new.works.clock ≡ old.works.clock → (j : ℕ) (output : Written) (before after : S)
+      → slice_get mine j ≡ Some output → slice_get old.outs.items j ≡ Some before → slice_get new.outs.items j ≡ Some after
+      → (sink : ℕ) × IsOutput here old.works.clock sink output.node × (held_of held old sink ≡ held before) × (held_of held new sink ≡ held after)
+  held_both now over clock j output before after at was is =
+      let first = port_at here old.works.clock old.works.ports.items works.outputs main j output at in
+      let last = port_at here old.works.clock new.works.ports.items (now_outputs now over clock) main j output at in
+      let numbers : output_of first.port ≡ output_of last.port =
+      (let a : slice_get (outputs_of here old.works.clock) j ≡ Some (output_of first.port) = ap (λ pairs. slice_get pairs j) (sym works.outputs) ∙ mapped output_of old.works.ports.items j first.port first.there in
+      let b : slice_get (outputs_of here old.works.clock) j ≡ Some (output_of last.port) = ap (λ pairs. slice_get pairs j) (sym (now_outputs now over clock)) ∙ mapped output_of new.works.ports.items j last.port last.there in
+      let c : Some (output_of first.port) ≡ Some (output_of last.port) = sym a ∙ b in cc) in
+      let same : first.port.sink ≡ last.port.sink = ap (λ (p : ℕ × ℕ). p.0) numbers in (
+        first.port.sink,
+        first.is_output,
+        held_at held old.works.ports.items old.outs.items j first.port before first.before first.there was,
+        ap (held_of held new) same ∙ held_at held new.works.ports.items new.outs.items j last.port after last.before last.there is,
+      )
+
+  -- after all ticks
+  pub whole_at : HasRun held name faults ticks old new → (j : ℕ) (output : Written) (before after : S)
+      → slice_get mine j ≡ Some output → slice_get old.outs.items j ≡ Some before → slice_get new.outs.items j ≡ Some after
+      → (name after ≡ name before) × (held after ≡ grown (ticks_bytes here output.node ticks) (held before))
+  whole_at run j output before after at was is =
+      let both = held_both run.works run.setting run.clock j output before after at was is in
+      ((run.kept.each j before after was is).0, sym both.3 ∙ run.grew.each nothing both.0 output.node both.1 ∙ ap (grown (ticks_bytes here output.node ticks)) both.2)
+
+  -- after a fault
+  pub part_at : HasRunPart held name faults ticks old new → (j : ℕ) (output : Written) (before after : S)
+      → slice_get mine j ≡ Some output → slice_get old.outs.items j ≡ Some before → slice_get new.outs.items j ≡ Some after
+      → (name after ≡ name before) × ((bytes : List ℕ) × IsPrefix bytes (ticks_bytes here output.node ticks) × (held after ≡ grown bytes (held before)))
+  part_at run j output before after at was is =
+      let both = held_both run.works run.setting run.clock j output before after at was is in
+      let part = run.part nothing both.0 output.node both.1 in
+      ((run.kept.each j before after was is).0, (part.0, part.1, sym both.3 ∙ part.2 ∙ ap (grown part.0) both.2))
+
+  -- the room of each sink is that of its port
+  pub rooms_at : (left : S → Option ℕ) → ((j : ℕ) (output : Written) (out : S) → slice_get mine j ≡ Some output → slice_get old.outs.items j ≡ Some out → HasRoom (left out) (body_size here ticks output.node))
+      → length old.outs.items ≡ length mine → HaveTicksRoom left old.works old.outs.items ticks
+  rooms_at left each size = record {
+    each = λ k port out at there.
+        let low = within old.outs.items k out there in
+        let found = in_list mine k (omega (arith, size, low)) in
+        let mine_port = port_at here old.works.clock old.works.ports.items works.outputs main k found.0 found.1 in
+        let same : mine_port.port ≡ port = (let e : Some mine_port.port ≡ Some port = sym mine_port.there ∙ at in cc) in
+        let node_is : port.node ≡ found.0.node = ap (λ (p : Port). p.node) (sym same) ∙ mine_port.same_node in
+        let kind_is : port.kind ≡ kind_of here port.node =
+        (let kinds = works.kinds k port (within old.works.ports.items k port at) in subst (λ (p : Port). p.kind ≡ kind_of here p.node) (got_is old.works.ports.items k port port at) kinds) in
+        subst (λ kind. HasRoom (left out) (ticks * (here.plan.frame * (2 * channels_of kind)))) (sym (kind_is ∙ ap (kind_of here) node_is)) (each k found.0 out found.1 there);
+  }
+
+-- the sinks of all clocks
+module _ {S : Type 0} (setting : Setting) (ticks : ℕ) (main : LieInMain setting setting.plan.sinks) where
+  main_here : (engine : ClockEngine S) → setting_of engine.works ≡ setting → LieInMain (setting_of engine.works) (setting_of engine.works).plan.sinks
+  main_here engine over = subst (λ s. LieInMain s s.plan.sinks) (sym over) main
+
+  -- a clock has as many sinks as outputs
+  pub many_sinks : (So : Written → S → Type 0) (groups : List (List S)) → AreCreated So (written setting.plan.sinks) (order_of setting (written setting.plan.sinks)) groups → (m : ℕ) (group : List S) → slice_get groups m ≡ Some group
+      → length group ≡ length (outputs_of setting m)
+  many_sinks So groups are m group at =
+      zip_size So (of_clock m (order_of setting (written setting.plan.sinks)) (written setting.plan.sinks)) group (are.each m group at)
+      ∙ sym (zip_size same_node (of_clock m (order_of setting (written setting.plan.sinks)) (written setting.plan.sinks)) (outputs_of setting m) (same_places setting m 0 setting.plan.sinks main))
+
+  mine_is : (engine : ClockEngine S) (m : ℕ) → IsAt setting 0 m engine → of_clock engine.works.clock (order_of (setting_of engine.works) (written (setting_of engine.works).plan.sinks)) (written (setting_of engine.works).plan.sinks)
+      ≡ of_clock m (order_of setting (written setting.plan.sinks)) (written setting.plan.sinks)
+  mine_is engine m is = ap (λ s. of_clock engine.works.clock (order_of s (written s.plan.sinks)) (written s.plan.sinks)) is.over ∙ ap (λ c. of_clock c (order_of setting (written setting.plan.sinks)) (written setting.plan.sinks)) is.clock_is
+
+  -- the engines may run
+  pub may_run : (left : S → Option ℕ) (engines : List (ClockEngine S)) → AreAt setting 0 engines
+      → AreCreated (λ output sink. HasRoom (left sink) (body_size setting ticks output.node)) (written setting.plan.sinks) (order_of setting (written setting.plan.sinks)) (outs_of engines) → AreEngines left ticks engines
+  may_run left engines at rooms = record {
+    each = λ m engine there.
+        let is = at.each m engine there in
+        let zip = rooms.each m engine.outs.items (mapped (λ (e : ClockEngine S). e.outs.items) engines m engine there) in
+        record {
+          works = is.works;
+          sinks = is.sinks;
+          fresh = is.stands;
+          rooms = rooms_at (λ s. None) (λ s. None) (λ s. 0) ticks engine engine is.works (main_here engine is.over) left
+              (λ j output out mine_at out_at.
+              subst (λ s. HasRoom (left out) (body_size s ticks output.node)) (sym is.over)
+              (zip_at (λ output sink. HasRoom (left sink) (body_size setting ticks output.node)) (of_clock m (order_of setting (written setting.plan.sinks)) (written setting.plan.sinks)) engine.outs.items j output out zip
+              (ap (λ ws. slice_get ws j) (sym (mine_is engine m is)) ∙ mine_at) out_at))
+              (zip_size (λ output sink. HasRoom (left sink) (body_size setting ticks output.node)) (of_clock m (order_of setting (written setting.plan.sinks)) (written setting.plan.sinks)) engine.outs.items zip ∙ sym (ap length (mine_is engine m is)));
+        };
+    in_order = λ m engine there. (at.each m engine there).clock_is;
+  }
+
+  -- an engine before a run, at the place of one after it
+  before_at : (old new : List (ClockEngine S)) → length new ≡ length old → (m : ℕ) (group : List S) → slice_get (outs_of new) m ≡ Some group
+      → (before : ClockEngine S) × (after : ClockEngine S) × (slice_get old m ≡ Some before) × (slice_get new m ≡ Some after) × (after.outs.items ≡ group)
+  before_at old new size m group at =
+      let after = unmapped (λ (e : ClockEngine S). e.outs.items) new m group at in
+      let low = within new m after.0 after.1 in
+      let before = in_list old m (omega (arith, low, size)) in
+      (before.0, after.0, before.1, after.1, after.2)
+
+  module _ (name held : S → Option (List ℕ)) (left : S → Option ℕ) (faults : S → ℕ) (files : Option Files) (old new : List (ClockEngine S)) (at : AreAt setting 0 old)
+      (ready : AreCreated (IsReady name held left files setting ticks) (written setting.plan.sinks) (order_of setting (written setting.plan.sinks)) (outs_of old)) where
+    same_many : length new ≡ length old → length (outs_of new) ≡ length (outs_of old)
+    same_many size = many_mapped (λ (e : ClockEngine S). e.outs.items) new ∙ size ∙ sym (many_mapped (λ (e : ClockEngine S). e.outs.items) old)
+
+    pub all_whole : HaveRun held name faults (λ clock. ticks) old new → AreCreated (IsWhole name held files setting ticks) (written setting.plan.sinks) (order_of setting (written setting.plan.sinks)) (outs_of new)
+    all_whole run = record {
+      size = ready.size;
+      below = λ k clock there. subst (λ n. clock < n) (sym (same_many run.size)) (ready.below k clock there);
+      each = λ m group there.
+          let found = before_at old new run.size m group there in
+          let is = at.each m found.0 found.2 in
+          let ran = run.each m found.0 found.1 found.2 found.3 in
+          let zip = ready.each m found.0.outs.items (mapped (λ (e : ClockEngine S). e.outs.items) old m found.0 found.2) in
+          subst (λ g. AllZip (IsWhole name held files setting ticks) (of_clock m (order_of setting (written setting.plan.sinks)) (written setting.plan.sinks)) g) found.4
+          (zip_from (IsWhole name held files setting ticks) (of_clock m (order_of setting (written setting.plan.sinks)) (written setting.plan.sinks)) found.1.outs.items
+          (ran.outs ∙ zip_size (IsReady name held left files setting ticks) (of_clock m (order_of setting (written setting.plan.sinks)) (written setting.plan.sinks)) found.0.outs.items zip)
+          (λ j output after mine_at after_at.
+          let low = within found.1.outs.items j after after_at in
+          let size = ran.outs in
+          let before = in_list found.0.outs.items j (omega (arith, low, size)) in
+          let told = zip_at (IsReady name held left files setting ticks) (of_clock m (order_of setting (written setting.plan.sinks)) (written setting.plan.sinks)) found.0.outs.items j output before.0 zip mine_at before.1 in
+          let did = whole_at held name faults ticks found.0 found.1 is.works (main_here found.0 is.over) ran j output before.0 after
+          (ap (λ ws. slice_get ws j) (mine_is found.0 m is) ∙ mine_at) before.1 after_at in
+          let bytes : held after ≡ grown (ticks_bytes setting output.node ticks) (held before.0) = subst (λ s. held after ≡ grown (ticks_bytes s output.node ticks) (held before.0)) is.over did.1 in
+          λ all here. record {
+            named = did.0 ∙ (told.told all here).named;
+            holds = bytes ∙ ap (grown (ticks_bytes setting output.node ticks)) (told.told all here).holds;
+          }));
+    }
+
+    pub all_part : HaveRunPart held name faults ticks old new → AreCreated (IsPart name held files setting ticks) (written setting.plan.sinks) (order_of setting (written setting.plan.sinks)) (outs_of new)
+    all_part run = record {
+      size = ready.size;
+      below = λ k clock there. subst (λ n. clock < n) (sym (same_many run.size)) (ready.below k clock there);
+      each = λ m group there.
+          let found = before_at old new run.size m group there in
+          let is = at.each m found.0 found.2 in
+          let ran = run.each m found.0 found.1 found.2 found.3 in
+          let zip = ready.each m found.0.outs.items (mapped (λ (e : ClockEngine S). e.outs.items) old m found.0 found.2) in
+          subst (λ g. AllZip (IsPart name held files setting ticks) (of_clock m (order_of setting (written setting.plan.sinks)) (written setting.plan.sinks)) g) found.4
+          (zip_from (IsPart name held files setting ticks) (of_clock m (order_of setting (written setting.plan.sinks)) (written setting.plan.sinks)) found.1.outs.items
+          (ran.outs ∙ zip_size (IsReady name held left files setting ticks) (of_clock m (order_of setting (written setting.plan.sinks)) (written setting.plan.sinks)) found.0.outs.items zip)
+          (λ j output after mine_at after_at.
+          let low = within found.1.outs.items j after after_at in
+          let size = ran.outs in
+          let before = in_list found.0.outs.items j (omega (arith, low, size)) in
+          let told = zip_at (IsReady name held left files setting ticks) (of_clock m (order_of setting (written setting.plan.sinks)) (written setting.plan.sinks)) found.0.outs.items j output before.0 zip mine_at before.1 in
+          let did = part_at held name faults ticks found.0 found.1 is.works (main_here found.0 is.over) ran j output before.0 after
+          (ap (λ ws. slice_get ws j) (mine_is found.0 m is) ∙ mine_at) before.1 after_at in
+          let front : IsPrefix did.1.0 (ticks_bytes setting output.node ticks) = subst (λ s. IsPrefix did.1.0 (ticks_bytes s output.node ticks)) is.over did.1.1 in
+          λ all here. record {
+            named = did.0 ∙ (told.told all here).named;
+            part = header_for setting ticks output.node ++ did.1.0;
+            holds = did.1.2 ∙ ap (grown did.1.0) (told.told all here).holds;
+            front = record {
+              rest = front.rest;
+              whole_is = ap (λ b. header_for setting ticks output.node ++ b) front.whole_is ∙ sym (append_assoc (header_for setting ticks output.node) did.1.0 front.rest);
+            };
+          }));
+    }
+
+-- after a run the engines stand for its ticks
+pub stand_after : {S : Type 0} (held name : S → Option (List ℕ)) (faults : S → ℕ) (setting : Setting) (ticks : ℕ) (old new : List (ClockEngine S)) → AreAt setting 0 old
+    → HaveRun held name faults (λ clock. ticks) old new → AreAt setting ticks new
+stand_after held name faults setting ticks old new at run = record {
+  each = λ m after there.
+      let low = within new m after there in
+      let size = run.size in
+      let before = in_list old m (omega (arith, low, size)) in
+      let is = at.each m before.0 before.1 in
+      let ran = run.each m before.0 after before.1 there in
+      record { works = ran.works; sinks = ran.sinks; over = ran.setting ∙ is.over; clock_is = ran.clock ∙ is.clock_is; stands = ran.stands };
+}
+
+-- the sink of a run that broke off has failed
+pub sink_failed : {S : Type 0} (faults : S → ℕ) (old new : List (ClockEngine S)) (end : End) → IsWriteEnd faults old new end → HasFailed faults (outs_of new)
+sink_failed faults old new end is = record {
+  clock = is.clock;
+  place = is.place;
+  group = is.after.outs.items;
+  sink = is.rose.after;
+  there = mapped (λ engine. engine.outs.items) new is.clock is.after is.is;
+  stands = is.rose.is;
+  failed = (let rose : Rose (faults is.rose.before) (faults is.rose.after) = is.rose.rose in omega (arith, rose));
+}
+
+-- the engine of an output
+module _ {S : Type 0} (plan : Plan) (clocks : ClockMap) (setting : Setting) (ticks : ℕ) (plan_is : setting.plan ≡ plan) (clocks_is : setting.clocks ≡ clocks.of)
+    (k : ℕ) (name : List ℕ) (node : ℕ) (fallible : Bool) (at : slice_get plan.sinks k ≡ Some (Output name node fallible)) (clock : ℕ) (lies : slice_get clocks.of node ≡ Some (Main clock))
+    (engine : ClockEngine S) (is : IsAt setting ticks clock engine) where
+  pub output_here : IsOutput (setting_of engine.works) engine.works.clock k node
+  output_here =
+      subst (λ s. IsOutput s engine.works.clock k node) (sym is.over)
+      (subst (λ c. IsOutput setting c k node) (sym is.clock_is)
+      (record {
+        name = name;
+        fallible = fallible;
+        there = ap (λ (p : Plan). slice_get p.sinks k) plan_is ∙ at;
+        in_clock = ap (λ of. get_or of node (Main 0)) clocks_is ∙ got_is clocks.of node (Main clock) (Main 0) lies;
+      }))
+
+  pub gaps_here : (count : ℕ) → ((t : ℕ) (answers rest : ℕ → List Answer) (other : ℕ) → EngineStands engine.works t answers
+      → IsOutput (setting_of engine.works) engine.works.clock k other → count ≡ gaps (with_rest (setting_of engine.works) answers rest) other t) → count ≡ gaps setting node ticks
+  gaps_here count told = told ticks nothing nothing node is.stands output_here ∙ ap (λ s. gaps s node ticks) is.over

@@ -1,0 +1,105 @@
+use Rattle.std.proofs.Common.{rules, arith, ◌≡◌, ◌<◌, ◌≤◌, ◌+◌, ◌∙◌, ◌++◌, length, take, slice_get, slice_index_or, ap, sym, subst}
+use Rattle.std.specs.Prelude.{Some}
+use Rattle.plan_core.specs.declared.sink.SinkPlan.TheVariants.{Output, Feed}
+use Rattle.clock_infer.specs.declared.clock_map.NodeClock.TheVariants.{Main}
+use Rattle.station_render.specs.Sinks.{lists_of}
+use Rattle.station_render.specs.Renders.{order_of, setting_for, written}
+use Rattle.station_render.proofs.Lists.{got}
+use Rattle.station_render.proofs.Fits.{are_main, clock_below, header_fits}
+use Rattle.station_render.proofs.Creating.{added_many, begun_here, broken_off, created_by, next_ready, order_more, take_whole, written_next, written_still}
+use Rattle.station_render.proofs.create.create_each.Goals as goal
+
+pub loop-sink-preserved-in_default : goal.loop-sink-preserved-in_default
+loop-sink-preserved-in_default g c =
+    let low : c.loop-sink.sink-index < length c.args.plan.now.sinks = search rules in
+    let item : c.sink-item.result ≡ slice_index_or c.args.plan.now.sinks c.loop-sink.sink-index c.sink-item.result = search rules in
+    let at : slice_get c.args.plan.now.sinks c.loop-sink.sink-index ≡ Some (Feed c.in_default.field-0 c.in_default.field-1) =
+    got c.args.plan.now.sinks c.loop-sink.sink-index c.sink-item.result low ∙ ap Some (sym item ∙ c.in_default.is) in
+    let same = written_still c.args.plan.now.sinks c.loop-sink.sink-index c.in_default.field-0 c.in_default.field-1 at in
+    record {
+      created = λ library start. created_by (written (take c.loop-sink.sink-index c.args.plan.now.sinks)) (written (take (c.loop-sink.sink-index + 1) c.args.plan.now.sinks)) _ _ same
+          (c.loop-sink.invariant.created library start);
+      order = λ library start. c.loop-sink.invariant.order library start ∙ ap (order_of (setting_for c.args.plan.now library c.args.clocks.now start)) (sym same);
+      size = c.loop-sink.invariant.size;
+      files = c.loop-sink.invariant.files;
+      reads = c.loop-sink.invariant.reads;
+      writes = c.loop-sink.invariant.writes;
+    }
+
+pub opening_of-opening-requires-clause-clock : goal.opening_of-opening-requires-clause-clock
+opening_of-opening-requires-clause-clock g c =
+    let low : c.loop-sink.sink-index < length c.args.plan.now.sinks = search rules in
+    let item : c.sink-item.result ≡ slice_index_or c.args.plan.now.sinks c.loop-sink.sink-index c.sink-item.result = search rules in
+    let at : slice_get c.args.plan.now.sinks c.loop-sink.sink-index ≡ Some (Output c.in-Output.name c.in-Output.node c.in-Output.fallible) =
+    got c.args.plan.now.sinks c.loop-sink.sink-index c.sink-item.result low ∙ ap Some (sym item ∙ c.in-Output.is) in
+    let main = are_main c.args.plan.now c.requires.fit.0 c.args.clocks.now c.args.ticks c.requires.fit.1 c.loop-sink.sink-index c.in-Output.name c.in-Output.node c.in-Output.fallible at in
+    (main.0, main.2)
+
+pub opening_of-opening-requires-clause-fits : goal.opening_of-opening-requires-clause-fits
+opening_of-opening-requires-clause-fits g c =
+    let low : c.loop-sink.sink-index < length c.args.plan.now.sinks = search rules in
+    let item : c.sink-item.result ≡ slice_index_or c.args.plan.now.sinks c.loop-sink.sink-index c.sink-item.result = search rules in
+    let at : slice_get c.args.plan.now.sinks c.loop-sink.sink-index ≡ Some (Output c.in-Output.name c.in-Output.node c.in-Output.fallible) =
+    got c.args.plan.now.sinks c.loop-sink.sink-index c.sink-item.result low ∙ ap Some (sym item ∙ c.in-Output.is) in
+    header_fits c.args.plan.now c.requires.fit.0 c.args.clocks.now c.args.ticks c.requires.fit.1 c.loop-sink.sink-index c.in-Output.name c.in-Output.node c.in-Output.fallible at
+
+pub create_one-requires-clause-below : goal.create_one-requires-clause-below
+create_one-requires-clause-below g c κs within =
+    let low : c.loop-sink.sink-index < length c.args.plan.now.sinks = search rules in
+    let item : c.sink-item.result ≡ slice_index_or c.args.plan.now.sinks c.loop-sink.sink-index c.sink-item.result = search rules in
+    let at : slice_get c.args.plan.now.sinks c.loop-sink.sink-index ≡ Some (Output c.in-Output.name c.in-Output.node c.in-Output.fallible) =
+    got c.args.plan.now.sinks c.loop-sink.sink-index c.sink-item.result low ∙ ap Some (sym item ∙ c.in-Output.is) in
+    clock_below c.args.plan.now c.requires.fit.0 c.args.clocks.now c.args.ticks c.requires.fit.1 c.loop-sink.sink-index c.in-Output.name c.in-Output.node c.in-Output.fallible at
+    c.opening_of-opening.result.clock c.opening_of-opening.ensures.clock (length (lists_of c.loop-sink.groups.items)) c.loop-sink.invariant.size
+
+pub returns-in_err-create_one-clause-begun : goal.returns-in_err-create_one-clause-begun
+returns-in_err-create_one-clause-begun g c =
+    let low : c.loop-sink.sink-index < length c.args.plan.now.sinks = search rules in
+    let item : c.sink-item.result ≡ slice_index_or c.args.plan.now.sinks c.loop-sink.sink-index c.sink-item.result = search rules in
+    let at : slice_get c.args.plan.now.sinks c.loop-sink.sink-index ≡ Some (Output c.in-Output.name c.in-Output.node c.in-Output.fallible) =
+    got c.args.plan.now.sinks c.loop-sink.sink-index c.sink-item.result low ∙ ap Some (sym item ∙ c.in-Output.is) in
+    let below = clock_below c.args.plan.now c.requires.fit.0 c.args.clocks.now c.args.ticks c.requires.fit.1 c.loop-sink.sink-index c.in-Output.name c.in-Output.node c.in-Output.fallible at
+    c.opening_of-opening.result.clock c.opening_of-opening.ensures.clock (length (lists_of c.loop-sink.groups.items)) c.loop-sink.invariant.size in
+    λ library start. broken_off g.S.Out.Sink.name g.S.Out.Sink.held g.S.Out.Sink.room g.S.Out.Sink.faults (g.S.Shelf.files c.args.shelf.now) (g.S.Shelf.files c.loop-sink.shelf) c.loop-sink.invariant.files
+    (setting_for c.args.plan.now library c.args.clocks.now start) c.args.ticks c.loop-sink.sink-index c.in-Output.name c.as_str.result.now c.in-Output.node c.in-Output.fallible at c.as_str.ensures.same
+    c.opening_of-opening.result.clock c.opening_of-opening.result.header c.opening_of-opening.result.body c.loop-sink.order.items c.create_one.new.order.items
+    (lists_of c.loop-sink.groups.items) (lists_of c.create_one.new.groups.items) below c.opening_of-opening.ensures.header (c.loop-sink.invariant.created library start) c.in_err-create_one.ensures.broken
+
+pub loop-sink-preserved : goal.loop-sink-preserved
+loop-sink-preserved g c =
+    let low : c.loop-sink.sink-index < length c.args.plan.now.sinks = search rules in
+    let item : c.sink-item.result ≡ slice_index_or c.args.plan.now.sinks c.loop-sink.sink-index c.sink-item.result = search rules in
+    let at : slice_get c.args.plan.now.sinks c.loop-sink.sink-index ≡ Some (Output c.in-Output.name c.in-Output.node c.in-Output.fallible) =
+    got c.args.plan.now.sinks c.loop-sink.sink-index c.sink-item.result low ∙ ap Some (sym item ∙ c.in-Output.is) in
+    let below = clock_below c.args.plan.now c.requires.fit.0 c.args.clocks.now c.args.ticks c.requires.fit.1 c.loop-sink.sink-index c.in-Output.name c.in-Output.node c.in-Output.fallible at
+    c.opening_of-opening.result.clock c.opening_of-opening.ensures.clock (length (lists_of c.loop-sink.groups.items)) c.loop-sink.invariant.size in
+    let made = c.in_ok-create_one.ensures.created in
+    record {
+      created = λ library start. next_ready g.S.Out.Sink.name g.S.Out.Sink.held g.S.Out.Sink.room g.S.Out.Sink.faults (g.S.Shelf.files c.args.shelf.now) (g.S.Shelf.files c.loop-sink.shelf) c.loop-sink.invariant.files
+          (setting_for c.args.plan.now library c.args.clocks.now start) c.args.ticks c.loop-sink.sink-index c.in-Output.name c.as_str.result.now c.in-Output.node c.in-Output.fallible at c.as_str.ensures.same
+          c.opening_of-opening.result.clock c.opening_of-opening.result.header c.opening_of-opening.result.body c.loop-sink.order.items c.create_one.new.order.items
+          (lists_of c.loop-sink.groups.items) (lists_of c.create_one.new.groups.items) below c.opening_of-opening.ensures.header (c.loop-sink.invariant.created library start) c.opening_of-opening.ensures.body made;
+      order = λ library start.
+          order_more (setting_for c.args.plan.now library c.args.clocks.now start) (written (take c.loop-sink.sink-index c.args.plan.now.sinks)) (record { name = c.in-Output.name; node = c.in-Output.node })
+          c.opening_of-opening.result.clock c.loop-sink.order.items c.create_one.new.order.items (c.loop-sink.invariant.order library start) made.order_is c.opening_of-opening.ensures.clock
+          ∙ ap (order_of (setting_for c.args.plan.now library c.args.clocks.now start)) (sym (written_next c.args.plan.now.sinks c.loop-sink.sink-index c.in-Output.name c.in-Output.node c.in-Output.fallible at));
+      size = added_many c.opening_of-opening.result.clock made.sink (lists_of c.loop-sink.groups.items) (lists_of c.create_one.new.groups.items) made.added ∙ c.loop-sink.invariant.size;
+      files = c.create_one.ensures.files ∙ c.loop-sink.invariant.files;
+      reads = omega (arith, c.create_one.ensures.reads, c.loop-sink.invariant.reads);
+      writes = omega (arith, c.create_one.ensures.writes, c.loop-sink.invariant.writes);
+    }
+
+pub returns-clause-ready : goal.returns-clause-ready
+returns-clause-ready g c =
+    let all : length c.args.plan.now.sinks ≤ c.loop-sink.sink-index = search rules in
+    λ library start. created_by (written (take c.loop-sink.sink-index c.args.plan.now.sinks)) (written c.args.plan.now.sinks) _ _ (sym (ap written (take_whole c.args.plan.now.sinks c.loop-sink.sink-index all)))
+    (c.loop-sink.invariant.created library start)
+
+pub returns-clause-order : goal.returns-clause-order
+returns-clause-order g c =
+    let all : length c.args.plan.now.sinks ≤ c.loop-sink.sink-index = search rules in
+    λ library start. c.loop-sink.invariant.order library start ∙ ap (λ sinks. order_of (setting_for c.args.plan.now library c.args.clocks.now start) (written sinks)) (take_whole c.args.plan.now.sinks c.loop-sink.sink-index all)
+
+pub returns-clause-begun : goal.returns-clause-begun
+returns-clause-begun g c = λ library start. begun_here g.S.Out.Sink.name g.S.Out.Sink.held g.S.Out.Sink.room g.S.Out.Sink.faults (g.S.Shelf.files c.args.shelf.now)
+    (setting_for c.args.plan.now library c.args.clocks.now start) c.args.ticks c.loop-sink.sink-index c.loop-sink.order.items (lists_of c.loop-sink.groups.items) (c.loop-sink.invariant.created library start)

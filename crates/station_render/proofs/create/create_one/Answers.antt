@@ -1,0 +1,10 @@
+use Rattle.std.proofs.Common.{rules, arith, ◌<◌, length, sym, subst, inr}
+use Rattle.station_render.specs.Sinks.{lists_of}
+use Rattle.station_render.proofs.Creating.{added_failed}
+use Rattle.station_render.proofs.create.create_one.Goals as goal
+
+pub returns-in_err-wrote-clause-cause : goal.returns-in_err-wrote-clause-cause
+returns-in_err-wrote-clause-cause g c =
+    let low : c.args.opening.now.clock < length (lists_of c.reserve_one.new.groups.items) = subst (λ gs. c.args.opening.now.clock < length gs) (sym c.reserve_one.ensures.same) c.requires.below in
+    let failed : 0 < g.S.Out.Sink.faults c.append-wrote.new.self = search (rules, arith) in
+    λ e. inr (added_failed g.S.Out.Sink.faults c.args.opening.now.clock c.append-wrote.new.self (lists_of c.reserve_one.new.groups.items) (lists_of c.add_one.new.groups.items) low c.add_one.ensures failed)

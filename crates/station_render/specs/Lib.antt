@@ -1,0 +1,4 @@
+pub mod Faults
+pub mod Sinks
+pub mod Renders
+pub mod Engines

@@ -1,0 +1,97 @@
+-- What stands behind the outputs of a plan while they are rendered.
+use Rattle.std.specs.Prelude.{◌≡◌, ◌<◌, ℕ, Bool, ◌*◌, List, [], ◌∷◌, ◌++◌, Option, Some, map, length, slice_get}
+use Rattle.std.specs.Option.{ForSome}
+use Rattle.liq_base.specs.Files.{Files}
+use Rattle.liq_base.specs.Kinds.{channels_of}
+use Rattle.liq_base.specs.Pieces.{HasRoom, IsPrefix}
+use Rattle.plan_core.specs.declared.plan.Plan.{Plan}
+use Rattle.plan_core.specs.declared.sink.SinkPlan.{SinkPlan}
+use Rattle.plan_core.specs.declared.sink.SinkPlan.TheVariants.{Output, Feed}
+use Rattle.clock_infer.specs.declared.clock_map.ClockMap.{ClockMap}
+use Rattle.clock_infer.specs.declared.clock_map.NodeClock.{NodeClock}
+use Rattle.clock_infer.specs.declared.clock_map.NodeClock.TheVariants.{Main, Sub}
+use Rattle.frame_core.specs.Library.{Sounds}
+use Rattle.stream_meaning.specs.Instants.{Setting, clock_of}
+use Rattle.stream_meaning.specs.Sinks.{kind_of}
+use Rattle.stations.specs.Outputs.{OutputFile}
+use Rattle.stations.specs.Streams.{header_for, output_bytes}
+use Rattle.station_render.specs.Sinks.{AreCreated, HoldsPart, HoldsWhole, WasAdded}
+
+-- an output of a plan: its name and its node
+pub record Written : Type 0 where
+  pub name : List ℕ
+  pub node : ℕ
+
+-- the outputs among these sinks, in their order
+abbrev pub written : List SinkPlan → List Written
+written [] = []
+written (Output name node fallible ∷ sinks) = record { name = name; node = node } ∷ written sinks
+written (Feed buffer node ∷ sinks) = written sinks
+
+-- the number of a main clock; a sink's node lies in one
+abbrev pub main_of : NodeClock → ℕ
+main_of (Main m) = m
+main_of (Sub k) = 0
+
+-- the clocks of these outputs
+abbrev pub order_of : Setting → List Written → List ℕ
+order_of setting outputs = map (λ output. main_of (clock_of setting output.node)) outputs
+
+-- the file of an output, after so many ticks
+abbrev pub file_of : Setting → (ticks : ℕ) → Written → OutputFile
+file_of setting ticks output = record { name = output.name; bytes = output_bytes setting ticks output.node }
+
+-- a plan with its files, its clocks and its start second, and no buffers
+abbrev pub setting_for : Plan → Sounds → ClockMap → (start : ℕ) → Setting
+setting_for plan library clocks start = record { plan = plan; library = library; clocks = clocks.of; start = start; answers = λ buffer. [] }
+
+-- how many bytes stand behind the header of an output
+abbrev pub body_size : Setting → (ticks node : ℕ) → ℕ
+body_size setting ticks node = ticks * (setting.plan.frame * (2 * channels_of (kind_of setting node)))
+
+-- a sink was created for an output: it holds the header, and has room for the samples
+pub record IsReady {S : Type 0} (name held : S → Option (List ℕ)) (left : S → Option ℕ) (files : Option Files) (setting : Setting) (ticks : ℕ) (output : Written) (sink : S) : Type 0 where
+  pub told : ForSome files (λ all. HoldsWhole name held (record { name = output.name; bytes = header_for setting ticks output.node }) sink)
+  pub room : HasRoom (left sink) (body_size setting ticks output.node)
+
+-- where files are told, a sink holds the bytes of an output, or a first part of them
+abbrev pub IsWhole : {S : Type 0} → (S → Option (List ℕ)) → (S → Option (List ℕ)) → Option Files → Setting → (ticks : ℕ) → Written → S → Type 0
+IsWhole name held files setting ticks output sink = ForSome files (λ all. HoldsWhole name held (file_of setting ticks output) sink)
+
+abbrev pub IsPart : {S : Type 0} → (S → Option (List ℕ)) → (S → Option (List ℕ)) → Option Files → Setting → (ticks : ℕ) → Written → S → Type 0
+IsPart name held files setting ticks output sink = ForSome files (λ all. HoldsPart name held (file_of setting ticks output) sink)
+
+-- the first outputs of a plan were created, and each sink holds a first part of its bytes
+pub record AreBegun {S : Type 0} (name held : S → Option (List ℕ)) (files : Option Files) (setting : Setting) (ticks : ℕ) (order : List ℕ) (groups : List (List S)) : Type 0 where
+  pub created : List Written
+  pub others : List Written
+  pub all : written setting.plan.sinks ≡ created ++ others
+  pub parts : AreCreated (IsPart name held files setting ticks) created order groups
+
+-- a sink of this clock was created, and holds these bytes; it has room for so many more
+pub record WasCreated {S : Type 0} (name held : S → Option (List ℕ)) (left : S → Option ℕ) (files : Option Files) (clock : ℕ) (title bytes : List ℕ) (body : ℕ)
+    (order_old order_new : List ℕ) (old new : List (List S)) : Type 0 where
+  pub sink : S
+  pub order_is : order_new ≡ order_old ++ clock ∷ []
+  pub added : WasAdded clock sink old new
+  pub told : ForSome files (λ all. HoldsWhole name held (record { name = title; bytes = bytes }) sink)
+  pub room : HasRoom (left sink) body
+
+-- so it was, but it holds a first part of the bytes alone, and it failed
+pub record WasBroken {S : Type 0} (name held : S → Option (List ℕ)) (faults : S → ℕ) (files : Option Files) (clock : ℕ) (title bytes : List ℕ)
+    (order_old order_new : List ℕ) (old new : List (List S)) : Type 0 where
+  pub sink : S
+  pub order_is : order_new ≡ order_old ++ clock ∷ []
+  pub added : WasAdded clock sink old new
+  pub told : ForSome files (λ all. HoldsPart name held (record { name = title; bytes = bytes }) sink)
+  pub failed : 0 < faults sink
+
+-- or nothing was created
+pub record NoneCreated {S : Type 0} (order_old order_new : List ℕ) (old new : List (List S)) : Type 0 where
+  pub order_is : order_new ≡ order_old
+  pub same : new ≡ old
+
+-- the node of each output lies in a main clock that runs
+abbrev pub AreMain : Plan → ClockMap → Type 0
+AreMain plan clocks = (k : ℕ) (name : List ℕ) (node : ℕ) (fallible : Bool) → slice_get plan.sinks k ≡ Some (Output name node fallible)
+    → (m : ℕ) × (m < clocks.running) × (slice_get clocks.of node ≡ Some (Main m))

@@ -1,0 +1,82 @@
+-- The sinks of the outputs that were created, clock by clock.
+use Rattle.std.specs.Prelude.{◌≡◌, ◌<◌, ◌≤◌, ◌+◌, ℕ, suc, List, [], ◌∷◌, ◌++◌, Option, Some, Vec, length, map, nat_eq, slice_get, if◌then◌else◌, vec_len, vec_capacity}
+use Rattle.std.specs.List.{AllZip, slice_set}
+use Rattle.std.specs.declared.alloc.Global.{Global}
+use Rattle.liq_base.specs.Pieces.{IsPrefix}
+use Rattle.stations.specs.Outputs.{OutputFile}
+
+-- of these items, one for each of these clocks, those of clock m
+abbrev pub of_clock : {Y : Type 0} → (m : ℕ) → List ℕ → List Y → List Y
+of_clock m [] ys = []
+of_clock m (c ∷ cs) [] = []
+of_clock m (c ∷ cs) (y ∷ ys) = if nat_eq c m then y ∷ of_clock m cs ys else of_clock m cs ys
+
+-- how often clock m stands in a list
+abbrev pub count_of : (m : ℕ) → List ℕ → ℕ
+count_of m [] = 0
+count_of m (c ∷ cs) = if nat_eq c m then suc (count_of m cs) else count_of m cs
+
+-- the sinks of each clock, as lists
+abbrev pub lists_of : {S : Type 0} → List (Vec S Global) → List (List S)
+lists_of groups = map (λ group. group.items) groups
+
+-- each clock of a list is one of so many
+abbrev pub AreBelow : (clocks : ℕ) → List ℕ → Type 0
+AreBelow clocks order = (k clock : ℕ) → slice_get order k ≡ Some clock → clock < clocks
+
+-- for these items, one for each of these clocks, there are sinks: to those of a clock, in order, its sinks stand so
+pub record AreCreated {Y S : Type 0} (So : Y → S → Type 0) (ys : List Y) (order : List ℕ) (groups : List (List S)) : Type 0 where
+  pub size : length ys ≡ length order
+  pub below : AreBelow (length groups) order
+  pub each : (m : ℕ) (group : List S) → slice_get groups m ≡ Some group → AllZip So (of_clock m order ys) group
+
+-- each clock has as many sinks as it stands in a list
+pub record HaveSizes {S : Type 0} (order : List ℕ) (groups : List (List S)) : Type 0 where
+  pub below : AreBelow (length groups) order
+  pub each : (m : ℕ) (group : List S) → slice_get groups m ≡ Some group → length group ≡ count_of m order
+
+-- no clock has a sink
+abbrev pub AreAllEmpty : {S : Type 0} → List (List S) → Type 0
+AreAllEmpty groups = (m : ℕ) (group : List _) → slice_get groups m ≡ Some group → group ≡ []
+
+-- there are so many clocks, and none has a sink
+pub record AreEmpty {S : Type 0} (clocks : ℕ) (groups : List (List S)) : Type 0 where
+  pub size : length groups ≡ clocks
+  pub each : AreAllEmpty groups
+
+-- there is room for one more sink of this clock
+pub record HasPlace {S : Type 0} (clock : ℕ) (groups : List (Vec S Global)) : Type 0 where
+  pub room : (group : Vec S Global) → slice_get groups clock ≡ Some group → vec_len group + 1 ≤ vec_capacity group
+
+-- this clock has a sink more, its last
+pub record WasAdded {S : Type 0} (clock : ℕ) (sink : S) (old new : List (List S)) : Type 0 where
+  pub before : List S
+  pub was : slice_get old clock ≡ Some before
+  pub is : new ≡ slice_set old clock (before ++ sink ∷ [])
+
+-- this clock has a sink less, its first
+pub record WasTaken {S : Type 0} (clock : ℕ) (old : List (List S)) (sink : S) (new : List (List S)) : Type 0 where
+  pub rest : List S
+  pub was : slice_get old clock ≡ Some (sink ∷ rest)
+  pub is : new ≡ slice_set old clock rest
+
+-- the sink has the name of the output, and holds all its bytes, or a first part of them
+pub record HoldsWhole {S : Type 0} (name held : S → Option (List ℕ)) (output : OutputFile) (sink : S) : Type 0 where
+  pub named : name sink ≡ Some output.name
+  pub holds : held sink ≡ Some output.bytes
+
+pub record HoldsPart {S : Type 0} (name held : S → Option (List ℕ)) (output : OutputFile) (sink : S) : Type 0 where
+  pub named : name sink ≡ Some output.name
+  pub part : List ℕ
+  pub holds : held sink ≡ Some part
+  pub front : IsPrefix part output.bytes
+
+-- the count of faults of a sink is above 0
+pub record HasFailed {S : Type 0} (faults : S → ℕ) (groups : List (List S)) : Type 0 where
+  pub clock : ℕ
+  pub place : ℕ
+  pub group : List S
+  pub sink : S
+  pub there : slice_get groups clock ≡ Some group
+  pub stands : slice_get group place ≡ Some sink
+  pub failed : 0 < faults sink

@@ -1,0 +1,56 @@
+// The sinks of the outputs are closed.
+ghost use Rattle.std.specs.Prelude.{◌≡◌, ◌<◌, ◌≤◌, ◌∷◌, [], List, length, slice_get, Some, IsSomeAnd, OnOk, OnErr};
+ghost use Rattle.std.specs.Option.{ForSome};
+ghost use Rattle.liq_base.specs.Counts.{Rose};
+ghost use Rattle.stations.specs.Outputs.{OutputFile, with_outputs, HoldsParts};
+ghost use Rattle.station_render.specs.Sinks.{AreCreated, HasFailed, HaveSizes, HoldsWhole, HoldsPart, AreAllEmpty, WasTaken, lists_of};
+
+use liq_base::{Failed, Shelf};
+
+// Takes the first sink of this clock.
+fn take_first<O>(groups: &mut Vec<Vec<O>>, clock: u32) -> O
+    requires { (first : O) × (rest : List O) × (slice_get (lists_of groups.old.items) clock ≡ Some (first ∷ rest)) }
+    ensures { WasTaken clock (lists_of groups.old.items) result (lists_of groups.new.items) }
+{
+    groups[clock as usize].remove(0)
+}
+
+// Lets go of lists without sinks.
+fn end_all<O>(groups: Vec<Vec<O>>)
+    requires { AreAllEmpty (lists_of groups.items) }
+{
+    let mut groups = groups;
+    while let Some(group) = groups.pop() {
+        group.destroy_empty();
+    }
+    groups.destroy_empty();
+}
+
+/// Closes the sinks in sink order, also those behind one whose closing failed.
+pub(crate) fn close_each<S: Shelf>(
+    shelf: &mut S,
+    order: &[u32],
+    groups: Vec<Vec<S::Out>>,
+) -> Result<(), Failed>
+    requires sizes { HaveSizes order.now (lists_of groups.items) }
+    ensures whole { OnOk result (ForSome (S.files shelf.old) (λ files. (outputs : List OutputFile)
+        → AreCreated (HoldsWhole S.Out.name S.Out.held) outputs order.now (lists_of groups.items) → S.files shelf.new ≡ Some (with_outputs files outputs))) }
+    ensures part { ForSome (S.files shelf.old) (λ files. (outputs : List OutputFile)
+        → AreCreated (HoldsPart S.Out.name S.Out.held) outputs order.now (lists_of groups.items)
+        → IsSomeAnd (S.files shelf.new) (HoldsParts (Rose (S.write_count shelf.old) (S.write_count shelf.new)) files outputs)) }
+    ensures cause { OnErr result (Rose (S.write_count shelf.old) (S.write_count shelf.new)) }
+    ensures failed { HasFailed S.Out.faults (lists_of groups.items) → Rose (S.write_count shelf.old) (S.write_count shelf.new) }
+    ensures reads { S.read_count shelf.old ≤ S.read_count shelf.new }
+    ensures writes { S.write_count shelf.old ≤ S.write_count shelf.new }
+{
+    let Some((clock, rest)) = order.split_first() else {
+        end_all(groups);
+        return Ok(());
+    };
+    let mut groups = groups;
+    let sink = take_first(&mut groups, *clock);
+    let first = shelf.close(sink);
+    let others = close_each(shelf, rest, groups);
+    first?;
+    others
+}

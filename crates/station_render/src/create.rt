@@ -1,0 +1,79 @@
+// The outputs of a plan are created.
+ghost use Rattle.std.specs.Prelude.{◌≡◌, ◌<◌, ◌≤◌, ◌+◌, ◌⊎◌, [], ◌∷◌, ◌++◌, ℕ, length, map, slice_get, Some, IfOk, OnOk, OnErr, IsErrOf};
+ghost use Rattle.liq_base.specs.Counts.{Rose};
+ghost use Rattle.frame_core.specs.Library.{Sounds};
+ghost use Rattle.stations.specs.Findings.{IsFit};
+ghost use Rattle.station_render.specs.Sinks.{AreCreated, AreEmpty, HasFailed, lists_of};
+ghost use Rattle.station_render.specs.Renders.{AreBegun, IsReady, NoneCreated, WasBroken, WasCreated, order_of, setting_for, written};
+
+use crate::RenderFault;
+use crate::headers::{Opening, opening_of};
+use crate::sinks::{add_one, reserve_one};
+use clock_infer::ClockMap;
+use liq_base::{Shelf, Sink};
+use plan_core::{Plan, SinkPlan};
+
+/// Bytes of a header.
+const HEADER_BYTES: u64 = 44;
+
+// Creates an output of this name, with its header as one piece.
+fn create_one<S: Shelf>(
+    shelf: &mut S,
+    name: &str,
+    opening: &Opening,
+    order: &mut Vec<u32>,
+    groups: &mut Vec<Vec<S::Out>>,
+) -> Result<(), RenderFault>
+    requires below { opening.now.clock < length (lists_of groups.old.items) }
+    requires short { opening.now.body ≤ 1000000000000000 }
+    ensures created { OnOk result (WasCreated S.Out.name S.Out.held S.Out.room (S.files shelf.old) opening.now.clock name.now opening.now.header opening.now.body
+        order.old.items order.new.items (lists_of groups.old.items) (lists_of groups.new.items)) }
+    ensures broken { OnErr result (NoneCreated order.old.items order.new.items (lists_of groups.old.items) (lists_of groups.new.items)
+        ⊎ WasBroken S.Out.name S.Out.held S.Out.faults (S.files shelf.old) opening.now.clock name.now opening.now.header
+        order.old.items order.new.items (lists_of groups.old.items) (lists_of groups.new.items)) }
+    ensures cause { IsErrOf result RenderFault.Write → Rose (S.write_count shelf.old) (S.write_count shelf.new) ⊎ HasFailed S.Out.faults (lists_of groups.new.items) }
+    ensures files { S.files shelf.new ≡ S.files shelf.old }
+    ensures reads { S.read_count shelf.old ≤ S.read_count shelf.new }
+    ensures writes { S.write_count shelf.old ≤ S.write_count shelf.new }
+{
+    order.reserve(1)?;
+    reserve_one(groups, opening.clock)?;
+    let mut sink = shelf.create(name, HEADER_BYTES + opening.body)?;
+    let wrote = sink.append(&opening.header);
+    order.push(opening.clock).unwrap();
+    add_one(groups, opening.clock, sink);
+    wrote?;
+    Ok(())
+}
+
+/// Creates the outputs of a plan in sink order, each with its header.
+pub(crate) fn create_each<S: Shelf>(
+    plan: &Plan,
+    clocks: &ClockMap,
+    ticks: u64,
+    shelf: &mut S,
+    order: &mut Vec<u32>,
+    groups: &mut Vec<Vec<S::Out>>,
+) -> Result<(), RenderFault>
+    requires fit { (library : Sounds) × IsFit plan.now library clocks.now ticks }
+    requires none { order.old.items ≡ [] }
+    requires empty { AreEmpty clocks.now.running (lists_of groups.old.items) }
+    ensures ready { OnOk result ((library : Sounds) → (start : ℕ) → AreCreated (IsReady S.Out.name S.Out.held S.Out.room (S.files shelf.old) (setting_for plan.now library clocks.now start) ticks)
+        (written plan.now.sinks) order.new.items (lists_of groups.new.items)) }
+    ensures order { OnOk result ((library : Sounds) → (start : ℕ) → order.new.items ≡ order_of (setting_for plan.now library clocks.now start) (written plan.now.sinks)) }
+    ensures begun { (library : Sounds) → (start : ℕ) → AreBegun S.Out.name S.Out.held (S.files shelf.old) (setting_for plan.now library clocks.now start) ticks order.new.items (lists_of groups.new.items) }
+    ensures size { length (lists_of groups.new.items) ≡ clocks.now.running }
+    ensures cause { IsErrOf result RenderFault.Write → Rose (S.write_count shelf.old) (S.write_count shelf.new) ⊎ HasFailed S.Out.faults (lists_of groups.new.items) }
+    ensures files { S.files shelf.new ≡ S.files shelf.old }
+    ensures reads { S.read_count shelf.old ≤ S.read_count shelf.new }
+    ensures writes { S.write_count shelf.old ≤ S.write_count shelf.new }
+{
+    for sink in plan.sinks.as_slice() {
+        let SinkPlan::Output { name, node, .. } = sink else {
+            continue;
+        };
+        let opening = opening_of(plan, clocks, *node, ticks);
+        create_one(shelf, name.as_str(), &opening, order, groups)?;
+    }
+    Ok(())
+}

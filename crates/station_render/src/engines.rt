@@ -1,0 +1,205 @@
+// The engines of all clocks, and their run.
+ghost use Rattle.std.specs.Prelude.{◌≡◌, ◌<◌, ◌≤◌, ◌^◌, [], ◌∷◌, ℕ, List, Option, length, map, slice_get, Some, IfOk, OnOk, OnErr, IsErrOf};
+ghost use Rattle.std.specs.List.{slice_set};
+ghost use Rattle.liq_base.specs.Files.{Files};
+ghost use Rattle.liq_base.specs.Pieces.{HasRoom};
+ghost use Rattle.buffer_ends.specs.declared.run_end.End.TheVariants.{Done};
+ghost use Rattle.clock_engine.specs.Engines.{outputs_of};
+ghost use Rattle.stream_meaning.specs.Instants.{Setting};
+ghost use Rattle.stations.specs.Findings.{IsFit};
+ghost use Rattle.stations.specs.Streams.{counts_in};
+ghost use Rattle.station_render.specs.Sinks.{AreCreated, HasFailed, lists_of};
+ghost use Rattle.station_render.specs.Engines.{AreAt, AreEmptyBelow, IsAt, outs_of, pooled};
+ghost use Rattle.station_render.specs.Renders.{AreMain, IsPart, IsReady, IsWhole, body_size, order_of, setting_for, written};
+
+use crate::RenderFault;
+use crate::headers::clock_of;
+use buffer_ends::End;
+use clock_engine::ClockEngine;
+use clock_infer::ClockMap;
+use fixed_text::WeekSecond;
+use liq_base::{Memory, Sink};
+use plan_core::{Plan, SinkPlan};
+use rounds_run::run_rounds;
+use stations::Ready;
+use std::alloc::{AllocError, Global};
+use std::mem;
+
+// Puts these sinks into the place of a clock that has none.
+fn put_back<O>(groups: &mut Vec<Vec<O>>, clock: usize, outs: Vec<O>)
+    requires { slice_get (lists_of groups.old.items) clock ≡ Some [] }
+    ensures { lists_of groups.new.items ≡ slice_set (lists_of groups.old.items) clock outs.items }
+{
+    mem::replace(&mut groups[clock], outs).destroy_empty();
+}
+
+// Takes the sinks of a clock out of their place.
+fn take_out<O>(alloc: Global, groups: &mut Vec<Vec<O>>, clock: usize) -> Vec<O>
+    requires { clock < length (lists_of groups.old.items) }
+    ensures outs { slice_get (lists_of groups.old.items) clock ≡ Some result.items }
+    ensures left { lists_of groups.new.items ≡ slice_set (lists_of groups.old.items) clock [] }
+{
+    mem::replace(&mut groups[clock], Vec::new(alloc))
+}
+
+// Makes the engine of a clock, which takes its sinks.
+fn make_engine<'a, O: Sink>(
+    alloc: Global,
+    plan: &'a Plan,
+    ready: &'a Ready,
+    start: WeekSecond,
+    groups: &mut Vec<Vec<O>>,
+    clock: usize,
+) -> Result<ClockEngine<'a, O>, Memory>
+    requires fit { (ticks : ℕ) × IsFit plan.now ready.now.library ready.now.clocks ticks }
+    requires below { clock < length (lists_of groups.old.items) }
+    requires few { clock < 2 ^ 32 }
+    requires sinks { (group : List O) → slice_get (lists_of groups.old.items) clock ≡ Some group
+        → length group ≡ length (outputs_of (setting_for plan.now ready.now.library ready.now.clocks start.second) clock) }
+    ensures made { IfOk result (IsAt (setting_for plan.now ready.now.library ready.now.clocks start.second) 0 clock) }
+    ensures outs { IfOk result (λ engine. slice_get (lists_of groups.old.items) clock ≡ Some engine.outs.items) }
+    ensures taken { OnOk result (lists_of groups.new.items ≡ slice_set (lists_of groups.old.items) clock []) }
+    ensures back { OnErr result (lists_of groups.new.items ≡ lists_of groups.old.items) }
+{
+    let outs = take_out(alloc, groups, clock);
+    match ClockEngine::new(
+        alloc,
+        plan,
+        &ready.clocks,
+        clock as u32,
+        &ready.library,
+        outs,
+        start,
+    ) {
+        Ok(engine) => Ok(engine),
+        Err((outs, refused)) => {
+            put_back(groups, clock, outs);
+            Err(refused)
+        }
+    }
+}
+
+// Takes the sinks of the engines back.
+fn give_back<O: Sink>(engines: Vec<ClockEngine<'_, O>>, groups: &mut Vec<Vec<O>>)
+    requires few { length engines.items ≤ length (lists_of groups.old.items) }
+    requires empty { AreEmptyBelow (length engines.items) (lists_of groups.old.items) }
+    ensures { lists_of groups.new.items ≡ pooled (outs_of engines.entry.items) (lists_of groups.old.items) }
+{
+    let mut engines = engines;
+    while let Some(engine) = engines.pop() {
+        put_back(groups, engines.len(), engine.into_outs());
+    }
+    engines.destroy_empty();
+}
+
+// Makes the engines of all clocks, which take the sinks.
+fn make_engines<'a, O: Sink>(
+    alloc: Global,
+    plan: &'a Plan,
+    ready: &'a Ready,
+    start: WeekSecond,
+    groups: &mut Vec<Vec<O>>,
+) -> Result<Vec<ClockEngine<'a, O>>, Memory>
+    requires fit { (ticks : ℕ) × IsFit plan.now ready.now.library ready.now.clocks ticks }
+    requires few { length (lists_of groups.old.items) < 2 ^ 32 }
+    requires sinks { (clock : ℕ) (group : List O) → slice_get (lists_of groups.old.items) clock ≡ Some group
+        → length group ≡ length (outputs_of (setting_for plan.now ready.now.library ready.now.clocks start.second) clock) }
+    ensures made { IfOk result (λ engines. AreAt (setting_for plan.now ready.now.library ready.now.clocks start.second) 0 engines.items) }
+    ensures outs { IfOk result (λ engines. outs_of engines.items ≡ lists_of groups.old.items) }
+    ensures taken { IfOk result (λ engines. AreEmptyBelow (length engines.items) (lists_of groups.new.items)) }
+    ensures size { OnOk result (length (lists_of groups.new.items) ≡ length (lists_of groups.old.items)) }
+    ensures back { OnErr result (lists_of groups.new.items ≡ lists_of groups.old.items) }
+{
+    let mut engines = Vec::with_capacity(alloc, groups.len())?;
+    for clock in 0..groups.len() {
+        match make_engine(alloc, plan, ready, start, groups, clock) {
+            Ok(engine) => engines.push(engine).unwrap(),
+            Err(refused) => {
+                give_back(engines, groups);
+                return Err(refused);
+            }
+        }
+    }
+    Ok(engines)
+}
+
+// The gaps of the outputs of a plan, in sink order, once the engines have made their ticks.
+fn gaps_of<O: Sink>(
+    alloc: Global,
+    plan: &Plan,
+    clocks: &ClockMap,
+    engines: &[ClockEngine<'_, O>],
+) -> Result<Vec<u64>, AllocError>
+    requires main { AreMain plan.now clocks.now }
+    requires size { length engines.now ≡ clocks.now.running }
+    requires few { length plan.now.sinks < 2 ^ 32 }
+    requires stand { (setting : Setting) × (ticks : ℕ) × (setting.plan ≡ plan.now) × (setting.clocks ≡ clocks.now.of) × AreAt setting ticks engines.now }
+    ensures { IfOk result (λ gaps. (setting : Setting) (ticks : ℕ) → setting.plan ≡ plan.now → setting.clocks ≡ clocks.now.of → AreAt setting ticks engines.now
+        → gaps.items ≡ counts_in setting ticks plan.now.sinks) }
+{
+    let sinks = plan.sinks.as_slice();
+    let mut gaps = Vec::with_capacity(alloc, sinks.len())?;
+    for k in 0..sinks.len() {
+        let SinkPlan::Output { node, .. } = &sinks[k] else {
+            continue;
+        };
+        let clock = clock_of(clocks, *node) as usize;
+        gaps.push(engines[clock].gaps(k as u32))?;
+    }
+    Ok(gaps)
+}
+
+// What a run that ended so answers: the gaps of the outputs, in sink order.
+fn tell<O: Sink>(
+    alloc: Global,
+    plan: &Plan,
+    clocks: &ClockMap,
+    engines: &[ClockEngine<'_, O>],
+    end: End,
+) -> Result<Vec<u64>, RenderFault>
+    requires main { AreMain plan.now clocks.now }
+    requires size { length engines.now ≡ clocks.now.running }
+    requires few { length plan.now.sinks < 2 ^ 32 }
+    requires stand { end ≡ Done → (setting : Setting) × (ticks : ℕ) × (setting.plan ≡ plan.now) × (setting.clocks ≡ clocks.now.of) × AreAt setting ticks engines.now }
+    ensures done { OnOk result (end ≡ Done) }
+    ensures gaps { IfOk result (λ gaps. (setting : Setting) (ticks : ℕ) → setting.plan ≡ plan.now → setting.clocks ≡ clocks.now.of → AreAt setting ticks engines.now
+        → gaps.items ≡ counts_in setting ticks plan.now.sinks) }
+    ensures write { IsErrOf result RenderFault.Write → end ≡ Done → ⊥ }
+{
+    match end {
+        End::Done => Ok(gaps_of(alloc, plan, clocks, engines)?),
+        End::Write { .. } => Err(RenderFault::Write),
+        End::Memory => Err(RenderFault::Memory),
+    }
+}
+
+/// Renders so many ticks into the sinks of all clocks, and answers the gaps of the outputs, in sink order.
+pub(crate) fn run_all<O: Sink>(
+    alloc: Global,
+    plan: &Plan,
+    ready: &Ready,
+    start: WeekSecond,
+    ticks: u64,
+    groups: &mut Vec<Vec<O>>,
+) -> Result<Vec<u64>, RenderFault>
+    requires fit { IsFit plan.now ready.now.library ready.now.clocks ticks }
+    requires size { length (lists_of groups.old.items) ≡ ready.now.clocks.running }
+    requires rooms { AreCreated (λ output sink. HasRoom (O.room sink) (body_size (setting_for plan.now ready.now.library ready.now.clocks start.second) ticks output.node))
+        (written plan.now.sinks) (order_of (setting_for plan.now ready.now.library ready.now.clocks start.second) (written plan.now.sinks)) (lists_of groups.old.items) }
+    ensures whole { OnOk result ((files : Option Files) → AreCreated (IsReady O.name O.held O.room files (setting_for plan.now ready.now.library ready.now.clocks start.second) ticks)
+        (written plan.now.sinks) (order_of (setting_for plan.now ready.now.library ready.now.clocks start.second) (written plan.now.sinks)) (lists_of groups.old.items)
+        → AreCreated (IsWhole O.name O.held files (setting_for plan.now ready.now.library ready.now.clocks start.second) ticks)
+        (written plan.now.sinks) (order_of (setting_for plan.now ready.now.library ready.now.clocks start.second) (written plan.now.sinks)) (lists_of groups.new.items)) }
+    ensures gaps { IfOk result (λ gaps. gaps.items ≡ counts_in (setting_for plan.now ready.now.library ready.now.clocks start.second) ticks plan.now.sinks) }
+    ensures part { OnErr result ((files : Option Files) → AreCreated (IsReady O.name O.held O.room files (setting_for plan.now ready.now.library ready.now.clocks start.second) ticks)
+        (written plan.now.sinks) (order_of (setting_for plan.now ready.now.library ready.now.clocks start.second) (written plan.now.sinks)) (lists_of groups.old.items)
+        → AreCreated (IsPart O.name O.held files (setting_for plan.now ready.now.library ready.now.clocks start.second) ticks)
+        (written plan.now.sinks) (order_of (setting_for plan.now ready.now.library ready.now.clocks start.second) (written plan.now.sinks)) (lists_of groups.new.items)) }
+    ensures cause { IsErrOf result RenderFault.Write → HasFailed O.faults (lists_of groups.new.items) }
+{
+    let mut engines = make_engines(alloc, plan, ready, start, groups)?;
+    let end = run_rounds(alloc, plan, &mut engines, ticks).end;
+    let told = tell(alloc, plan, &ready.clocks, &engines, end);
+    give_back(engines, groups);
+    told
+}

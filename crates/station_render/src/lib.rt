@@ -1,0 +1,16 @@
+//! A station is rendered into its files: outputs are created in sink order, the clocks' ticks are made in rounds on one
+//! thread, and all outputs are closed, also after a fault.
+#![tactic(auto)]
+
+mod close;
+mod create;
+mod engines;
+mod fault;
+mod headers;
+mod rendering;
+mod reports;
+mod sinks;
+
+pub use fault::RenderFault;
+pub use rendering::render;
+pub use reports::report;
