@@ -1,6 +1,6 @@
 use Rattle.std.proofs.Common.{◌∙◌, ap, refl, Err}
 use Rattle.liq_cli.proofs.Asking.{asks_one}
-use Rattle.liq_cli.proofs.Ended.{ended_done, ended_refused, broken_line, broken_output, broken_report, grew_part}
+use Rattle.liq_cli.proofs.Ended.{ended_done, ended_refused, ended_unsaid, broken_line, broken_output, broken_report, grew_part}
 use Rattle.liq_cli.proofs.call.run.Goals as goal
 
 pub returns-in-Ok-append : goal.returns-in-Ok-append
@@ -34,3 +34,10 @@ pub returns-in-Err-Write : goal.returns-in-Err-Write
 returns-in-Err-Write g c =
     let at = c.in-Err-Write.is ∙ ap Err c.in-Err-Write.field-0-is in
     broken_output _ _ _ _ (asks_one _ c.in-Some.form c.in-Some.ensures.found c.in-Some.ensures.only) (c.do_job.ensures.stops.broken at) refl (c.do_job.ensures.stops.write at) refl
+
+-- the line could not be held
+pub returns-in-Err-Refused : goal.returns-in-Err-Refused
+returns-in-Err-Refused g c =
+    let at = c.in-Err-Refused.is ∙ ap Err c.in-Err-Refused.field-0-is in
+    ended_unsaid _ _ _ _ (asks_one _ c.in-Some.form c.in-Some.ensures.found c.in-Some.ensures.only) c.in-Err-Refused.fault
+    (c.do_job.ensures.stops.fault c.in-Err-Refused.fault at) (c.do_job.ensures.stops.fault_kept c.in-Err-Refused.fault at) refl refl
