@@ -1,22 +1,24 @@
 -- Outputs that are created one after another.
-use Rattle.std.proofs.Common.{◌≡◌, ◌<◌, ◌≤◌, ◌+◌, ◌-◌, ◌∙◌, ◌++◌, ◌⊎◌, ℕ, zero, suc, Bool, List, [], ◌∷◌, length, map, take, drop, slice_get, arith, refl, ap, sym, subst, inl, inr, true, false, nat_eq, append_assoc, add-one}
+use Rattle.std.proofs.Common.{◌≡◌, ◌<◌, ◌≤◌, ◌+◌, ◌-◌, ◌*◌, ◌∙◌, ◌++◌, ◌⊎◌, ℕ, zero, suc, Bool, List, [], ◌∷◌, length, map, take, drop, slice_get, get_or, arith, refl, ap, sym, subst, inl, inr, true, false, nat_eq, append_assoc, add-one, if◌then◌else◌}
 use Rattle.std.specs.Prelude.{Option, Some, None, IsSome, is_some}
 use Rattle.std.specs.Option.{ForSome}
 use Rattle.std.specs.List.{AllZip}
-use Rattle.std.proofs.lemmas.List.{map-append, append-nil}
+use Rattle.std.proofs.lemmas.List.{map-append, append-nil, length-append}
 use Rattle.liq_base.specs.Created.{is_told}
 use Rattle.liq_base.specs.Counts.{Rose}
 use Rattle.liq_base.specs.Files.{Files}
-use Rattle.liq_base.specs.Pieces.{HasRoom, TookPart, grown, narrowed}
+use Rattle.liq_base.specs.Pieces.{HasRoom, IsPrefix, Took, TookPart, grown, narrowed}
+use Rattle.plan_core.specs.declared.plan.Plan.{Plan}
 use Rattle.plan_core.specs.declared.sink.SinkPlan.{SinkPlan}
 use Rattle.plan_core.specs.declared.sink.SinkPlan.TheVariants.{Output, Feed}
 use Rattle.clock_infer.specs.declared.clock_map.NodeClock.TheVariants.{Main}
 use Rattle.stream_meaning.specs.Instants.{Setting, clock_of}
 use Rattle.stream_meaning.specs.Sinks.{ticks_bytes}
+use Rattle.stations.specs.Outputs.{OutputFile}
 use Rattle.stations.specs.Streams.{header_for, output_bytes, outputs_in}
 use Rattle.station_render.specs.Sinks.{AreCreated, HasFailed, HoldsPart, HoldsWhole, WasAdded, of_clock}
 use Rattle.station_render.specs.Renders.{AreBegun, IsPart, IsReady, IsWhole, NoneCreated, WasBroken, WasCreated, Written, body_size, file_of, main_of, order_of, written}
-use Rattle.station_render.proofs.Lists.{got_is, set_here, set_many, many_mapped}
+use Rattle.station_render.proofs.Lists.{within, got_is, set_here, set_many, many_mapped}
 use Rattle.station_render.proofs.Dealing.{one_added}
 
 pub take_more : {A : Type 0} (xs : List A) (k : ℕ) (x : A) → slice_get xs k ≡ Some x → take (suc k) xs ≡ take k xs ++ x ∷ []

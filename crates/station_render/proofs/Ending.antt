@@ -1,6 +1,6 @@
 -- What a rendering leaves in the files, once its sinks are closed.
-use Rattle.std.proofs.Common.{◌≡◌, ◌≤◌, ◌∙◌, ◌⊎◌, ℕ, zero, suc, List, [], map, arith, refl, ap, sym, subst, inl, inr}
-use Rattle.std.specs.Prelude.{Option, Some, IsSomeAnd}
+use Rattle.std.proofs.Common.{◌≡◌, ◌<◌, ◌≤◌, ◌+◌, ◌∙◌, ◌++◌, ◌⊎◌, ℕ, zero, suc, List, [], ◌∷◌, length, map, arith, refl, ap, sym, subst, inl, inr}
+use Rattle.std.specs.Prelude.{Option, Some, None, IsSomeAnd}
 use Rattle.std.specs.Option.{ForSome}
 use Rattle.std.proofs.lemmas.List.{append-nil, map-append}
 use mathlib.Core.Path.{fun_ext}
@@ -14,8 +14,8 @@ use Rattle.stream_meaning.specs.Instants.{Setting}
 use Rattle.stations.specs.Outputs.{HoldsParts, HoldsSome, OutputFile, with_outputs}
 use Rattle.stations.specs.Stations.{Station, answers_of, no_buffers, setting_of}
 use Rattle.stations.specs.Streams.{counts_in, counts_of, outputs_in, outputs_of}
-use Rattle.station_render.specs.Sinks.{AreCreated, HoldsPart, HoldsWhole}
-use Rattle.station_render.specs.Renders.{AreBegun, IsPart, IsWhole, file_of, setting_for, written}
+use Rattle.station_render.specs.Sinks.{AreCreated, HasFailed, HoldsPart, HoldsWhole}
+use Rattle.station_render.specs.Renders.{AreBegun, IsPart, IsWhole, Written, file_of, setting_for, written}
 use Rattle.station_render.proofs.Closing.{parts_later}
 use Rattle.station_render.proofs.Creating.{created_as, created_mapped, files_are}
 

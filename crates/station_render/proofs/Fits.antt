@@ -1,15 +1,17 @@
 -- What a plan that fits is known to have.
-use Rattle.std.proofs.Common.{◌≡◌, ◌<◌, ◌*◌, ◌∙◌, ℕ, zero, suc, Bool, true, false, List, [], ◌∷◌, length, map, slice_get, arith, refl, ap, sym, subst}
-use Rattle.std.specs.Prelude.{Some, None, is_none, Contains}
+use Rattle.std.proofs.Common.{◌≡◌, ◌<◌, ◌≤◌, ◌+◌, ◌*◌, ◌∙◌, ◌++◌, ℕ, zero, suc, Bool, true, false, List, [], ◌∷◌, length, map, take, slice_get, get_or, arith, refl, ap, sym, subst, if◌then◌else◌}
+use Rattle.std.specs.Prelude.{Option, Some, None, is_none, Contains, All}
+use Rattle.liq_base.specs.Kinds.{channels_of}
 use Rattle.plan_core.specs.declared.plan.Plan.{Plan}
 use Rattle.plan_core.specs.declared.sink.SinkPlan.{SinkPlan}
-use Rattle.plan_core.specs.declared.sink.SinkPlan.TheVariants.{Output}
-use Rattle.plan_core.specs.Plans.{sink_node}
+use Rattle.plan_core.specs.declared.sink.SinkPlan.TheVariants.{Output, Feed}
+use Rattle.plan_core.specs.Plans.{sink_node, IsWellFormed}
 use Rattle.clock_infer.specs.declared.clock_map.ClockMap.{ClockMap}
 use Rattle.clock_infer.specs.declared.clock_map.NodeClock.TheVariants.{Main}
 use Rattle.clock_infer.proofs.MapLaws as map_law
 use Rattle.frame_core.specs.Library.{Sounds}
 use Rattle.wav_io.specs.Header.{header_of}
+use Rattle.stations.specs.Stations.{HasNoReader}
 use Rattle.stations.specs.Findings.{IsFit, first_name, is_too_long, kind_at, name_of}
 use Rattle.station_render.specs.Renders.{AreMain}
 use Rattle.station_render.proofs.Lists.{within, got_is, no_items}

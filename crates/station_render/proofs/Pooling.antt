@@ -1,5 +1,5 @@
 -- Engines that take sinks and give them back.
-use Rattle.std.proofs.Common.{◌≡◌, ◌<◌, ◌≤◌, ◌+◌, ◌∙◌, ◌++◌, ℕ, zero, suc, Some, List, [], ◌∷◌, length, map, get_or, set, slice_get, arith, ap, sym, subst, vec_len, add-one}
+use Rattle.std.proofs.Common.{◌≡◌, ◌<◌, ◌≤◌, ◌+◌, ◌∙◌, ◌++◌, ℕ, zero, suc, Some, List, [], ◌∷◌, length, map, get_or, set, slice_get, arith, refl, ap, sym, subst, vec_len, add-one}
 use Rattle.std.specs.Prelude.{Vec}
 use Rattle.std.specs.declared.alloc.Global.{Global}
 use Rattle.std.proofs.lemmas.List.{map-append, length-append}
@@ -7,7 +7,8 @@ use Rattle.clock_engine.specs.declared.engine.ClockEngine.{ClockEngine}
 use Rattle.stream_meaning.specs.Instants.{Setting}
 use Rattle.station_render.specs.Sinks.{lists_of}
 use Rattle.station_render.specs.Engines.{AreAt, AreEmptyBelow, IsAt, outs_of, pooled}
-use Rattle.station_render.proofs.Lists.{here_is, many_mapped, set_many, set_other, within}
+use Rattle.station_render.proofs.Lists.{got, got_is, here_is, list_set, many_mapped, mapped, same_set, set_here, set_many, set_other, within}
+use Rattle.station_render.proofs.Closing.{in_list}
 use Rattle.station_render.proofs.Pools.{empty_below_fewer, empty_below_more, pool_back, pool_more}
 
 module _ {S : Type 0} where

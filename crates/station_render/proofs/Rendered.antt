@@ -1,6 +1,6 @@
 -- What a run of all engines leaves in the sinks, once they are given back.
-use Rattle.std.proofs.Common.{◌≡◌, ◌∙◌, ◌⊎◌, ℕ, List, length, refl, ap, sym, subst, inl, inr}
-use Rattle.std.specs.Prelude.{Option, Result, Ok, Err, OnOk, OnErr, IfOk}
+use Rattle.std.proofs.Common.{◌≡◌, ◌<◌, ◌≤◌, ◌∙◌, ◌⊎◌, ℕ, List, [], ◌∷◌, length, slice_get, get_or, refl, ap, sym, subst, inl, inr}
+use Rattle.std.specs.Prelude.{Option, Some, Result, Ok, Err, OnOk, OnErr, IfOk}
 use Rattle.liq_base.specs.Files.{Files}
 use Rattle.liq_base.specs.Pieces.{HasRoom}
 use Rattle.plan_core.specs.declared.plan.Plan.{Plan}

@@ -1,5 +1,5 @@
 -- The lines of a report, output by output.
-use Rattle.std.proofs.Common.{◌≡◌, ◌<◌, ◌+◌, ◌*◌, ◌∙◌, ◌++◌, ℕ, zero, suc, Bool, List, [], ◌∷◌, length, take, slice_get, get_or, arith, refl, ap, sym, append_assoc, add-one}
+use Rattle.std.proofs.Common.{◌≡◌, ◌<◌, ◌≤◌, ◌+◌, ◌*◌, ◌∙◌, ◌++◌, ℕ, zero, suc, Bool, List, [], ◌∷◌, length, take, drop, slice_get, get_or, arith, refl, ap, sym, subst, append_assoc, add-one}
 use Rattle.std.specs.Prelude.{Some}
 use Rattle.std.proofs.lemmas.List.{append-nil, length-append}
 use Rattle.plan_core.specs.declared.sink.SinkPlan.{SinkPlan}
@@ -11,7 +11,7 @@ use Rattle.stations.specs.Stations.{Run, Station, setting_of}
 use Rattle.stations.specs.Streams.{counts_in, counts_of, gaps_of}
 use Rattle.stations.specs.Reports.{rendered_line, rendered_lines}
 use Rattle.station_render.specs.Renders.{written}
-use Rattle.station_render.proofs.Lists.{got_is}
+use Rattle.station_render.proofs.Lists.{got_is, within}
 use Rattle.station_render.proofs.Creating.{take_more, written_next}
 
 pub count_at : (setting : Setting) (ticks : ℕ) (sinks : List SinkPlan) (k : ℕ) (name : List ℕ) (node : ℕ) (fallible : Bool) → slice_get sinks k ≡ Some (Output name node fallible)

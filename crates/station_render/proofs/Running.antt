@@ -1,6 +1,7 @@
 -- What a run leaves in the sinks of a clock, place by place.
-use Rattle.std.proofs.Common.{◌≡◌, ◌<◌, ◌*◌, ◌∙◌, ◌++◌, ℕ, zero, suc, Bool, true, false, List, [], ◌∷◌, length, map, slice_get, get_or, nat_eq, arith, refl, ap, sym, subst, append_assoc}
-use Rattle.std.specs.Prelude.{Option, Some, None}
+use Rattle.std.proofs.Common.{◌≡◌, ◌<◌, ◌≤◌, ◌+◌, ◌*◌, ◌∙◌, ◌++◌, ℕ, zero, suc, Bool, true, false, List, [], ◌∷◌, length, map, slice_get, get_or, nat_eq, cond, arith, refl, ap, sym, subst, append_assoc, if◌then◌else◌}
+use Rattle.std.specs.Prelude.{Option, Some, None, All}
+use Rattle.std.specs.Option.{ForSome}
 use Rattle.std.specs.List.{AllZip}
 use Rattle.std.proofs.lemmas.Bool.{eq-eqb, false_from_ne_true, eqb-true}
 use Rattle.liq_base.specs.Counts.{Rose}
@@ -10,6 +11,7 @@ use Rattle.liq_base.specs.Pieces.{HasRoom, IsPrefix, grown}
 use Rattle.plan_core.specs.declared.plan.Plan.{Plan}
 use Rattle.plan_core.specs.declared.sink.SinkPlan.{SinkPlan}
 use Rattle.plan_core.specs.declared.sink.SinkPlan.TheVariants.{Output, Feed}
+use Rattle.clock_infer.specs.declared.clock_map.NodeClock.{NodeClock}
 use Rattle.clock_infer.specs.declared.clock_map.NodeClock.TheVariants.{Main}
 use Rattle.stream_meaning.specs.Instants.{Setting, clock_of, lies_in, same_clock}
 use Rattle.stream_meaning.specs.Sinks.{gaps, kind_of, ticks_bytes}
@@ -23,12 +25,13 @@ use Rattle.clock_engine.specs.Engines.{AreWorks, EngineStands, held_in, output_o
 use Rattle.clock_engine.specs.Ticks.{HaveTicksRoom}
 use Rattle.clock_engine.proofs.Numbered.{are_there, from_mapped}
 use Rattle.buffer_ends.specs.declared.run_end.End.{End}
-use Rattle.rounds_run.specs.Rounds.{HasRun, HasRunPart, HaveRun, HaveRunPart, IsWriteEnd, AreEngines, held_of, nothing}
-use Rattle.stations.specs.Streams.{header_for}
-use Rattle.station_render.specs.Sinks.{AreCreated, HasFailed, of_clock}
+use Rattle.rounds_run.specs.Rounds.{HasRun, HasRunPart, HaveRun, HaveRunPart, IsWriteEnd, MayRun, AreEngines, held_of, nothing}
+use Rattle.stations.specs.Outputs.{OutputFile}
+use Rattle.stations.specs.Streams.{header_for, output_bytes}
+use Rattle.station_render.specs.Sinks.{AreCreated, HasFailed, HoldsPart, HoldsWhole, of_clock}
 use Rattle.station_render.specs.Engines.{AreAt, IsAt, outs_of}
-use Rattle.station_render.specs.Renders.{IsPart, IsReady, IsWhole, Written, body_size, main_of, order_of, written}
-use Rattle.station_render.proofs.Lists.{got_is, mapped, many_mapped, unmapped, within}
+use Rattle.station_render.specs.Renders.{IsPart, IsReady, IsWhole, Written, body_size, file_of, main_of, order_of, written}
+use Rattle.station_render.proofs.Lists.{got, got_is, mapped, many_mapped, unmapped, within}
 use Rattle.station_render.proofs.Dealing.{zip_at, zip_from, zip_size}
 use Rattle.station_render.proofs.Closing.{in_list}
 

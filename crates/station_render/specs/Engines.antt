@@ -1,9 +1,14 @@
 -- The engines of all clocks, which hold the sinks of the outputs.
 use Rattle.std.specs.Prelude.{◌≡◌, ◌<◌, ℕ, List, [], ◌∷◌, Some, length, map, slice_get}
+use Rattle.plan_core.specs.declared.plan.Plan.{Plan}
+use Rattle.plan_core.specs.declared.sink.SinkPlan.TheVariants.{Output}
+use Rattle.clock_infer.specs.declared.clock_map.ClockMap.{ClockMap}
+use Rattle.clock_infer.specs.declared.clock_map.NodeClock.TheVariants.{Main}
 use Rattle.stream_meaning.specs.Instants.{Setting}
 use Rattle.clock_engine.specs.declared.engine.ClockEngine.{ClockEngine}
 use Rattle.clock_engine.specs.Engines.{AreWorks, EngineStands, setting_of}
 use Rattle.rounds_run.specs.Rounds.{nothing}
+use Rattle.station_render.specs.Sinks.{AreAllEmpty}
 
 -- the sinks of each engine
 abbrev pub outs_of : {S : Type 0} → List (ClockEngine S) → List (List S)

@@ -1,9 +1,9 @@
 -- What stands behind the outputs of a plan while they are rendered.
-use Rattle.std.specs.Prelude.{◌≡◌, ◌<◌, ℕ, Bool, ◌*◌, List, [], ◌∷◌, ◌++◌, Option, Some, map, slice_get}
+use Rattle.std.specs.Prelude.{◌≡◌, ◌<◌, ℕ, Bool, ◌*◌, List, [], ◌∷◌, ◌++◌, Option, Some, map, length, slice_get}
 use Rattle.std.specs.Option.{ForSome}
 use Rattle.liq_base.specs.Files.{Files}
 use Rattle.liq_base.specs.Kinds.{channels_of}
-use Rattle.liq_base.specs.Pieces.{HasRoom}
+use Rattle.liq_base.specs.Pieces.{HasRoom, IsPrefix}
 use Rattle.plan_core.specs.declared.plan.Plan.{Plan}
 use Rattle.plan_core.specs.declared.sink.SinkPlan.{SinkPlan}
 use Rattle.plan_core.specs.declared.sink.SinkPlan.TheVariants.{Output, Feed}

@@ -1,5 +1,5 @@
 -- The sinks of the outputs that were created, clock by clock.
-use Rattle.std.specs.Prelude.{◌≡◌, ◌<◌, ◌≤◌, ◌+◌, ℕ, suc, List, [], ◌∷◌, ◌++◌, Option, Some, Vec, length, map, nat_eq, slice_get, vec_len, vec_capacity}
+use Rattle.std.specs.Prelude.{◌≡◌, ◌<◌, ◌≤◌, ◌+◌, ℕ, suc, List, [], ◌∷◌, ◌++◌, Option, Some, Vec, length, map, nat_eq, slice_get, if◌then◌else◌, vec_len, vec_capacity}
 use Rattle.std.specs.List.{AllZip, slice_set}
 use Rattle.std.specs.declared.alloc.Global.{Global}
 use Rattle.liq_base.specs.Pieces.{IsPrefix}

@@ -1,4 +1,4 @@
-use Rattle.std.proofs.Common.{◌≡◌, ℕ, take}
+use Rattle.std.proofs.Common.{◌≡◌, ◌≤◌, ℕ, length, take}
 use Rattle.stream_meaning.specs.Instants.{Setting}
 use Rattle.stations.specs.Streams.{counts_in}
 use Rattle.station_render.specs.Engines.{AreAt}

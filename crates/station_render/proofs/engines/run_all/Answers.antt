@@ -1,4 +1,4 @@
-use Rattle.std.proofs.Common.{◌≡◌, ◌∙◌, length, ap, sym, subst, refl, vec_len}
+use Rattle.std.proofs.Common.{rules, arith, ◌≡◌, ◌∙◌, length, ap, sym, subst, refl, vec_len}
 use Rattle.buffer_ends.specs.declared.run_end.End.TheVariants.{Done}
 use Rattle.liq_base.specs.Pieces.{HasRoom}
 use Rattle.station_render.specs.Sinks.{lists_of}

@@ -1,4 +1,4 @@
-use Rattle.std.proofs.Common.{sym, subst}
+use Rattle.std.proofs.Common.{◌≡◌, ◌∙◌, ap, sym, subst}
 use Rattle.liq_base.specs.Pieces.{HasRoom}
 use Rattle.station_render.specs.Sinks.{AreCreated, lists_of}
 use Rattle.station_render.specs.Renders.{IsPart, IsReady, IsWhole, body_size, order_of, setting_for, written}

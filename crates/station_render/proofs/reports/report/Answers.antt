@@ -1,6 +1,7 @@
-use Rattle.std.proofs.Common.{rules, arith, ◌≡◌, ◌<◌, ◌+◌, ◌*◌, ◌∙◌, length, slice_get, slice_index_or, ap, sym}
+use Rattle.std.proofs.Common.{rules, arith, ◌≡◌, ◌<◌, ◌≤◌, ◌+◌, ◌*◌, ◌∙◌, ◌++◌, length, take, slice_get, slice_index_or, ap, sym, subst}
 use Rattle.std.specs.Prelude.{Some, string_bytes}
 use Rattle.plan_core.specs.declared.sink.SinkPlan.TheVariants.{Output, Feed}
+use Rattle.station_render.specs.Renders.{written}
 use Rattle.station_render.proofs.Lists.{got}
 use Rattle.station_render.proofs.Creating.{written_still}
 use Rattle.station_render.proofs.Reporting.{line_more, lines_still, one_place, place_below}

@@ -1,4 +1,4 @@
-use Rattle.std.proofs.Common.{◌≡◌, length, take}
+use Rattle.std.proofs.Common.{◌≡◌, ◌++◌, ℕ, length, take}
 use Rattle.std.specs.Prelude.{string_bytes}
 use Rattle.stations.specs.Stations.{Run, Station}
 use Rattle.stations.specs.Streams.{counts_of}
