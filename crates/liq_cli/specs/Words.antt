@@ -32,17 +32,11 @@ pub record IsStart (word : List ℕ) (start : ℕ) : Type 0 where
   pub word_is : word ≡ codes "--start=" ++ text
   pub means : IsStartText text start
 
--- one option
-abbrev pub IsOption : List ℕ → (start : ℕ) → Type 0
-IsOption word start = (word ≡ codes "--one-thread") × (start ≡ 0) ⊎ IsStart word start
-
--- the options of a rendering, in any order, each at most once; without `--start` it begins with the week
+-- the option of a rendering, which may be missing; without it, it begins with the week
 abbrev pub AreOptions : List (List ℕ) → (start : ℕ) → Type 0
 AreOptions [] start = start ≡ 0
-AreOptions (word ∷ []) start = IsOption word start
-AreOptions (word ∷ other ∷ []) start =
-    (word ≡ codes "--one-thread") × IsStart other start ⊎ (other ≡ codes "--one-thread") × IsStart word start
-AreOptions (word ∷ other ∷ more ∷ words) start = ⊥
+AreOptions (word ∷ []) start = IsStart word start
+AreOptions (word ∷ other ∷ words) start = ⊥
 
 -- `FILE N` and options
 pub record IsRendering (file number : List ℕ) (options : List (List ℕ)) (asked : Asked) : Type 0 where

@@ -1,7 +1,7 @@
 // The words of a call.
-ghost use Rattle.std.specs.Prelude.{◌≡◌, ◌≢◌, ◌^◌, ◌≤◌, ℕ, codes, decimal, option_map, IfSome, IsSomeAnd, Some, true, false};
+ghost use Rattle.std.specs.Prelude.{◌≡◌, ◌^◌, ◌≤◌, ℕ, decimal, option_map, IfSome, IsSomeAnd, Some};
 ghost use Rattle.liq_cli.specs.Prepared.{asked_of, ticks_in};
-ghost use Rattle.liq_cli.specs.Words.{Asked, AreOptions, IsAsked, IsCheck, IsOption, IsRender, IsStart, texts};
+ghost use Rattle.liq_cli.specs.Words.{Asked, AreOptions, IsAsked, IsCheck, IsRender, IsStart, texts};
 
 use fixed_text::{WeekSecond, read_start, read_u64};
 
@@ -14,7 +14,7 @@ pub enum Task {
     /// `check FILE`
     Check,
 
-    /// `render FILE N` and options
+    /// `render FILE N`, and perhaps where the week begins
     Render {
         /// The second of the week of the first sample.
         start: WeekSecond,
@@ -100,30 +100,9 @@ fn read_options(words: &[String]) -> Option<WeekSecond>
 {
     match words {
         [] => Some(WeekSecond { second: 0 }),
-        [word] => read_option(word.as_str()),
-        [word, other] if is_one_thread(word.as_str()) => read_start_option(other.as_str()),
-        [word, other] if is_one_thread(other.as_str()) => read_start_option(word.as_str()),
+        [word] => read_start_option(word.as_str()),
         _ => None,
     }
-}
-
-// The start that one option gives.
-fn read_option(word: &str) -> Option<WeekSecond>
-    ensures found { IfSome result (λ start. IsOption word.now start.second) }
-    ensures only { (start : ℕ) → IsOption word.now start → IsSomeAnd result (λ found. found.second ≡ start) }
-{
-    if is_one_thread(word) {
-        return Some(WeekSecond { second: 0 });
-    }
-    read_start_option(word)
-}
-
-// Whether a word is `--one-thread`.
-fn is_one_thread(word: &str) -> bool
-    ensures yes { result ≡ true → word.now ≡ codes "--one-thread" }
-    ensures no { result ≡ false → word.now ≢ codes "--one-thread" }
-{
-    word == "--one-thread"
 }
 
 // The start that a word `--start=D:HH:MM:SS` gives.

@@ -99,17 +99,7 @@ fn words_with_options_and_a_check_are_done(rt: HostRuntime) -> Result<(), Fail> 
     let alloc = rt.alloc();
     for (words, out, held) in [
         ("check f", "output A clock main infallible\n", None),
-        ("render f 1 --one-thread", REPORT, Some(7100)),
-        (
-            "render f 1 --start=7:23:59:59 --one-thread",
-            REPORT,
-            Some(7100),
-        ),
-        (
-            "render f 1 --one-thread --start=7:23:59:59",
-            REPORT,
-            Some(7100),
-        ),
+        ("render f 1 --start=7:23:59:59", REPORT, Some(7100)),
     ] {
         let mut shelf = shelf(alloc, Some(SCRIPT), Some(ONE_TWO_THREE))?;
         let called = call(alloc, words, &mut shelf, Vec::new(alloc))?;
@@ -165,7 +155,7 @@ fn each_refusal_has_its_line(rt: HostRuntime) -> Result<(), Fail> {
         (
             Some(SCRIPT),
             Some(ONE_TWO_THREE),
-            "render f 1 --one-thread --one-thread",
+            "render f 1 --one-thread",
             2,
             USAGE,
         ),
