@@ -1,6 +1,6 @@
 -- Searches through a list, one step at a time.
-use Rattle.std.proofs.Common.{◌≡◌, refl, sym, ap, ◌∙◌, ℕ, zero, suc, arith, ◌+◌, ◌<◌, ◌≤◌, List, [], ◌∷◌, ◌++◌, length, drop, take, get_or, Option, Some, None, Bool, true, false, cond, map, Bor}
-use Rattle.std.proofs.lemmas.List.{at_drop_more, at_drop_all, take_more}
+use Rattle.std.proofs.Common.{◌≡◌, refl, sym, ap, ◌∙◌, ℕ, zero, suc, arith, ◌+◌, ◌<◌, ◌≤◌, List, [], ◌∷◌, ◌++◌, length, drop, get_or, Option, Some, None, Bool, true, false, cond, map, Bor}
+use Rattle.std.proofs.lemmas.List.{at_drop_more, at_drop_all}
 use Rattle.std.specs.Prelude.{bytes_eq}
 use Rattle.typing_rules.specs.declared.uses.Builtin.{Builtin}
 use Rattle.typing_rules.specs.Table.{named_in}
@@ -58,15 +58,6 @@ param_none name = search_none (in_params name)
 pub newest : (bs : List Binding) (b : Binding) → newest_first (bs ++ b ∷ []) ≡ (b.name.now, seen_bound b.bound) ∷ newest_first bs
 newest [] b = refl
 newest (c ∷ bs) b = ap (λ s. s ++ (c.name.now, seen_bound c.bound) ∷ []) (newest bs b)
-
-bound_step : (name : List ℕ) (bs : List Binding) (n : ℕ) (b : Binding) (t : Bool) → n < length bs → b ≡ get_or bs n b → bytes_eq name b.name.now ≡ t → bound name (newest_first (take (n + 1) bs)) ≡ cond t (Some (seen_bound b.bound)) (bound name (newest_first (take n bs)))
-bound_step name bs n b t lt is same = ap (λ l. bound name (newest_first l)) (take_more bs n b lt) ∙ ap (λ y. bound name (newest_first (take n bs ++ y ∷ []))) (sym is) ∙ ap (bound name) (newest (take n bs) b) ∙ ap (λ c. cond c (Some (seen_bound b.bound)) (bound name (newest_first (take n bs)))) same
-
-pub bound_there : (name : List ℕ) (bs : List Binding) (n m : ℕ) (b : Binding) (o : Option Bound) → m ≡ n + 1 → bound name (newest_first (take m bs)) ≡ o → n < length bs → b ≡ get_or bs n b → bytes_eq name b.name.now ≡ true → Some (seen_bound b.bound) ≡ o
-bound_there name bs n m b o after so lt is same = sym (bound_step name bs n b true lt is same) ∙ sym (ap (λ k. bound name (newest_first (take k bs))) after) ∙ so
-
-pub bound_next : (name : List ℕ) (bs : List Binding) (n m : ℕ) (b : Binding) (o : Option Bound) → m ≡ n + 1 → bound name (newest_first (take m bs)) ≡ o → n < length bs → b ≡ get_or bs n b → bytes_eq name b.name.now ≡ false → bound name (newest_first (take n bs)) ≡ o
-bound_next name bs n m b o after so lt is same = sym (bound_step name bs n b false lt is same) ∙ sym (ap (λ k. bound name (newest_first (take k bs))) after) ∙ so
 
 -- two texts compared by their bytes
 pub turned : (a b x y : List ℕ) (t : Bool) → a ≡ x → b ≡ y → bytes_eq a b ≡ t → bytes_eq x y ≡ t

@@ -1,9 +1,12 @@
 // The names in scope.
-ghost use Rattle.std.specs.Prelude.{◌≡◌, ◌∷◌, [], OnOk, option_map};
-ghost use Rattle.typing_rules.specs.Scoping.{bound as the_bound};
-ghost use Rattle.name_scope.specs.Seen.{seen_bound, in_scope, both_scopes};
+ghost use Rattle.std.specs.Prelude.{◌≡◌, ℕ, List, map};
+ghost use Rattle.std.specs.Str.{bytes_eq};
+ghost use Rattle.std.proofs.Props.{props};
+ghost use Rattle.indexmap.specs.IndexMap.{get_by};
+ghost use Rattle.name_scope.specs.Places.{last_place};
 
 use crate::parameter::Parameter;
+use indexmap::IndexMap;
 use liq_base::Memory;
 use std::alloc::Global;
 
@@ -21,19 +24,30 @@ pub struct Binding<'a> {
     pub bound: Bound<'a>,
 }
 
-/// The names that statements bind, or those of one def's parameters and inner bindings; the newest last.
+/// The names that statements bind, or those of one def's parameters and inner bindings.
 #[derive(Drop)]
 pub struct Scope<'a> {
-    pub bindings: Vec<Binding<'a>>,
+    /// The bindings, the newest last.
+    bindings: Vec<Binding<'a>>,
+
+    /// The place of the newest binding of each name.
+    places: IndexMap<&'a str, usize>,
+
+    ghost newest: { (name : List ℕ) → get_by (λ key. bytes_eq name key.now) places ≡ last_place name (map (λ b. b.name.now) bindings.items) } by { Prim.hlevel props },
 }
 
 impl<'a> Scope<'a> {
+    ghost use Rattle.std.specs.Prelude.{◌∷◌, [], OnOk, option_map};
+    ghost use Rattle.typing_rules.specs.Scoping.{bound as the_bound};
+    ghost use Rattle.name_scope.specs.Seen.{seen_bound, in_scope};
+
     /// No names. It takes no memory.
     pub fn new(alloc: Global) -> Scope<'a>
         ensures empty { in_scope result ≡ [] }
     {
         Scope {
             bindings: Vec::new(alloc),
+            places: IndexMap::new(alloc),
         }
     }
 
@@ -41,7 +55,10 @@ impl<'a> Scope<'a> {
     pub fn bind(&mut self, name: &'a str, bound: Bound<'a>) -> Result<(), Memory>
         ensures bound { OnOk result (in_scope self.new ≡ (name.entry.now, seen_bound bound.entry) ∷ in_scope self.old) }
     {
-        self.bindings.push(Binding { name, bound })?;
+        self.bindings.reserve(1)?;
+        let place = self.bindings.len();
+        self.places.insert(name, place)?;
+        self.bindings.push_reserved(Binding { name, bound });
         Ok(())
     }
 
@@ -49,15 +66,10 @@ impl<'a> Scope<'a> {
     pub fn find(&self, name: &str) -> Option<&Bound<'a>>
         ensures found { option_map (λ b. seen_bound b.now) result ≡ the_bound name.now (in_scope self.now) }
     {
-        let mut left = self.bindings.len();
-        while left > 0 {
-            left -= 1;
-            let binding = &self.bindings[left];
-            if name == binding.name {
-                return Some(&binding.bound);
-            }
+        match self.places.get(name) {
+            Some(place) => Some(&self.bindings[*place].bound),
+            None => None,
         }
-        None
     }
 }
 
@@ -69,6 +81,10 @@ pub struct Scopes<'s, 'a> {
 }
 
 impl<'s, 'a> Scopes<'s, 'a> {
+    ghost use Rattle.std.specs.Prelude.{option_map};
+    ghost use Rattle.typing_rules.specs.Scoping.{bound as the_bound};
+    ghost use Rattle.name_scope.specs.Seen.{seen_bound, both_scopes};
+
     /// What a name is bound to by the newest binding of it.
     pub fn find(&self, name: &str) -> Option<&'s Bound<'a>>
         ensures found { option_map (λ b. seen_bound b.now) result ≡ the_bound name.now (both_scopes self.now) }
