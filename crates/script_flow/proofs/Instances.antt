@@ -7,7 +7,7 @@ use Rattle.type_terms.specs.Ground.{Ground, Assignment, base_type}
 use Rattle.type_terms.specs.declared.ty.Base.TheVariants as base
 use Rattle.type_terms.specs.Term.{meaning}
 use Rattle.type_schemes.specs.declared.general.KindParameter.{KindParameter}
-use Rattle.type_schemes.specs.declared.general.KindParameter.TheVariants.{Open, Outer as OuterKind}
+use Rattle.type_schemes.specs.declared.general.KindParameter.TheVariants.{Open, Unread, Outer as OuterKind}
 use Rattle.type_schemes.specs.declared.general.TypeParameter.{TypeParameter}
 use Rattle.type_schemes.specs.declared.general.TypeParameter.TheVariants.{Any, Number, Outer as OuterType}
 use Rattle.type_schemes.specs.Schemes.{IsInstance, KindMayBe, MayBe, Scheme, open_numbers}
@@ -24,6 +24,8 @@ kind_for a [] os i = Stereo
 kind_for a (Open ∷ ks) [] i = Stereo
 kind_for a (Open ∷ ks) (o ∷ os) zero = o
 kind_for a (Open ∷ ks) (o ∷ os) (suc i) = kind_for a ks os i
+kind_for a (Unread ∷ ks) os zero = Stereo
+kind_for a (Unread ∷ ks) os (suc i) = kind_for a ks os i
 kind_for a (OuterKind k ∷ ks) os zero = a.kind_of k
 kind_for a (OuterKind k ∷ ks) os (suc i) = kind_for a ks os i
 
@@ -41,6 +43,7 @@ no_parameter x e = cc
 
 kind_may : (a : Assignment) (ks : List KindParameter) (os : List Kind) (i : ℕ) (x : KindParameter) → length os ≡ length (open_numbers 0 ks) → slice_get ks i ≡ Some x → KindMayBe a x (kind_for a ks os i)
 kind_may a ks os i Open n e = tt
+kind_may a ks os i Unread n e = tt
 kind_may a ks os i (OuterKind k) n e = outer 0 ks os i n e where
   same_kind : (j : ℕ) → Some (OuterKind j) ≡ Some (OuterKind k) → j ≡ k
   same_kind j h = cc
@@ -50,6 +53,8 @@ kind_may a ks os i (OuterKind k) n e = outer 0 ks os i n e where
   outer m (Open ∷ qs) [] l h f = absurd (omega (arith, h))
   outer m (Open ∷ qs) (p ∷ ps) zero h f = let g : Some Open ≡ Some (OuterKind k) = f in cc
   outer m (Open ∷ qs) (p ∷ ps) (suc l) h f = outer (suc m) qs ps l (omega (arith, h)) f
+  outer m (Unread ∷ qs) ps zero h f = let g : Some Unread ≡ Some (OuterKind k) = f in cc
+  outer m (Unread ∷ qs) ps (suc l) h f = outer (suc m) qs ps l h f
   outer m (OuterKind j ∷ qs) ps zero h f = ap a.kind_of (same_kind j f)
   outer m (OuterKind j ∷ qs) ps (suc l) h f = outer (suc m) qs ps l h f
 
@@ -60,6 +65,7 @@ opened_as a f m (Open ∷ ks) [] n h = absurd (omega (arith, n))
 opened_as a f m (Open ∷ ks) (o ∷ os) n h =
     let z : m ≡ m + 0 = omega arith in
     ap₂ (λ (x : Kind) (xs : List Kind). x ∷ xs) (ap f z ∙ h 0) (opened_as a f (suc m) ks os (omega (arith, n)) (λ i. let e : suc m + i ≡ m + suc i = omega arith in ap f e ∙ h (suc i)))
+opened_as a f m (Unread ∷ ks) os n h = opened_as a f (suc m) ks os n (λ i. let e : suc m + i ≡ m + suc i = omega arith in ap f e ∙ h (suc i))
 opened_as a f m (OuterKind k ∷ ks) os n h = opened_as a f (suc m) ks os n (λ i. let e : suc m + i ≡ m + suc i = omega arith in ap f e ∙ h (suc i))
 
 pub record SomeInstance (g : Scheme) (a : Assignment) (os : List Kind) : Type 0 where

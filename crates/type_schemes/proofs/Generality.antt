@@ -14,11 +14,12 @@ use Rattle.type_terms.proofs.Terms.{InTerm-map, meaning_same}
 use Rattle.type_schemes.specs.declared.general.TypeParameter.{TypeParameter}
 use Rattle.type_schemes.specs.declared.general.TypeParameter.TheVariants.{Any, Number, Outer as OuterType}
 use Rattle.type_schemes.specs.declared.general.KindParameter.{KindParameter}
-use Rattle.type_schemes.specs.declared.general.KindParameter.TheVariants.{Open, Outer as OuterKind}
+use Rattle.type_schemes.specs.declared.general.KindParameter.TheVariants.{Open, Unread, Outer as OuterKind}
 use Rattle.type_schemes.specs.Holding.{HeldVariables, IsHeldBy, SameTypes, AgreeOn, is_held}
-use Rattle.type_schemes.specs.Numbering.{type_parameter, kind_parameter}
+use Rattle.type_schemes.specs.Numbering.{type_parameter, kind_parameter, kind_parameters}
 use Rattle.type_schemes.specs.Schemes.{MayBe, KindMayBe}
 use Rattle.type_schemes.proofs.Instancing.{means_at}
+use Rattle.type_schemes.proofs.KindLists.{IsFree, kinds_at, kinds_from}
 use Rattle.type_schemes.proofs.Members.{number_same, same_number}
 use Rattle.type_schemes.proofs.Reading.{none_is, some_is}
 
@@ -58,19 +59,24 @@ solution_may_be s h a b m e k = by (is_held h.types k) refl (number_at s.types k
     by false f true g = m.numbers k g
     by false f false g = tt
 
-solution_kind_may_be : (h : HeldVariables) (a b : Assignment) → AgreeOn h b a → (k : ℕ) → KindMayBe a (kind_parameter h k) (b.kind_of k)
-solution_kind_may_be h a b e k = by (is_held h.kinds k) refl
+free_may_be : (a : Assignment) (free : KindParameter) (c : Kind) → IsFree free → KindMayBe a free c
+free_may_be a Open c f = tt
+free_may_be a Unread c f = tt
+free_may_be a (OuterKind k) c f = absurd f
+
+solution_kind_may_be : (h : HeldVariables) (a b : Assignment) → AgreeOn h b a → (free : KindParameter) → IsFree free → (k : ℕ) → KindMayBe a (kind_parameter h free k) (b.kind_of k)
+solution_kind_may_be h a b e free is k = by (is_held h.kinds k) refl
   where
-    by : (x : Bool) → is_held h.kinds k ≡ x → KindMayBe a (cond x (OuterKind k) Open) (b.kind_of k)
+    by : (x : Bool) → is_held h.kinds k ≡ x → KindMayBe a (cond x (OuterKind k) free) (b.kind_of k)
     by true f = e.kinds k f
-    by false f = tt
+    by false f = free_may_be a free (b.kind_of k) is
 
 -- what may be for a held variable is what it is
 held_value : (s : Table) (h : HeldVariables) (a : Assignment) (k : ℕ) (g : Ground) → is_held h.types k ≡ true → MayBe a (type_parameter s h k) g → g ≡ a.type_of k
 held_value s h a k g e m = subst (λ b. MayBe a (cond b (OuterType k) (cond (number_at s.types k) Number Any)) g) e m
 
-held_kind : (h : HeldVariables) (a : Assignment) (k : ℕ) (c : Kind) → is_held h.kinds k ≡ true → KindMayBe a (kind_parameter h k) c → c ≡ a.kind_of k
-held_kind h a k c e m = subst (λ b. KindMayBe a (cond b (OuterKind k) Open) c) e m
+held_kind : (h : HeldVariables) (a : Assignment) (free : KindParameter) (k : ℕ) (c : Kind) → is_held h.kinds k ≡ true → KindMayBe a (kind_parameter h free k) c → c ≡ a.kind_of k
+held_kind h a free k c e m = subst (λ b. KindMayBe a (cond b (OuterKind k) free) c) e m
 
 -- what may be for a number variable is a number
 number_value : (s : Table) (h : HeldVariables) (a : Assignment) → Solves a s → (k : ℕ) (g : Ground) → number_at s.types k ≡ true → MayBe a (type_parameter s h k) g → IsNumber g
@@ -93,11 +99,11 @@ parameter_from f (y ∷ xs) (suc i) x e = parameter_from f xs i x e
 abbrev pub TypesMayBe : Table → HeldVariables → List ℕ → Assignment → Assignment → Type 0
 TypesMayBe s h ts a at = (i : ℕ) (x : TypeParameter) → slice_get (map (type_parameter s h) ts) i ≡ Some x → MayBe a x (at.type_of i)
 
-abbrev pub KindsMayBe : HeldVariables → List ℕ → Assignment → Assignment → Type 0
-KindsMayBe h ks a at = (i : ℕ) (x : KindParameter) → slice_get (map (kind_parameter h) ks) i ≡ Some x → KindMayBe a x (at.kind_of i)
+abbrev pub KindsMayBe : HeldVariables → List ℕ → ℕ → Assignment → Assignment → Type 0
+KindsMayBe h ks n a at = (i : ℕ) (x : KindParameter) → slice_get (kind_parameters h n ks) i ≡ Some x → KindMayBe a x (at.kind_of i)
 
 -- the numbers of the substitution's variables, and what each may stand for
-module _ (s : Table) (names : List Term) (h : HeldVariables) (holds : IsHeldBy s names h) (ts ks : List ℕ) where
+module _ (s : Table) (names : List Term) (h : HeldVariables) (holds : IsHeldBy s names h) (ts ks : List ℕ) (read : ℕ) where
   -- a solution with the same types of names, seen from the scheme's own variables
   pub types_seen : (a b : Assignment) → Solves a s → Solves b s → SameTypes names a b → TypesMayBe s h ts a (behind ts ks b)
   types_seen a b m n e i x f =
@@ -105,13 +111,13 @@ module _ (s : Table) (names : List Term) (h : HeldVariables) (holds : IsHeldBy s
       let agree : AgreeOn h b a = holds.fixed b a n m (sym e) in
       subst (λ y. MayBe a y (b.type_of (new_number ts i))) p.2 (subst (λ j. MayBe a (type_parameter s h p.0) (b.type_of j)) (sym (ap (number_or i) p.1)) (solution_may_be s h a b n agree p.0))
 
-  pub kinds_seen : (a b : Assignment) → Solves a s → Solves b s → SameTypes names a b → KindsMayBe h ks a (behind ts ks b)
+  pub kinds_seen : (a b : Assignment) → Solves a s → Solves b s → SameTypes names a b → KindsMayBe h ks read a (behind ts ks b)
   kinds_seen a b m n e i x f =
-      let p = parameter_from (kind_parameter h) ks i x f in
+      let p = kinds_from h read ks i x f in
       let agree : AgreeOn h b a = holds.fixed b a n m (sym e) in
-      subst (λ y. KindMayBe a y (b.kind_of (new_number ks i))) p.2 (subst (λ j. KindMayBe a (kind_parameter h p.0) (b.kind_of j)) (sym (ap (number_or i) p.1)) (solution_kind_may_be h a b agree p.0))
+      subst (λ y. KindMayBe a y (b.kind_of (new_number ks i))) p.4 (subst (λ j. KindMayBe a (kind_parameter h p.1 p.0) (b.kind_of j)) (sym (ap (number_or i) p.3)) (solution_kind_may_be h a b agree p.1 p.2 p.0))
 
-  module _ (distinct : IsDistinct nat_eq ts) (distinct_kinds : IsDistinct nat_eq ks) (a at : Assignment) (solves : Solves a s) (types : TypesMayBe s h ts a at) (kinds : KindsMayBe h ks a at) where
+  module _ (distinct : IsDistinct nat_eq ts) (distinct_kinds : IsDistinct nat_eq ks) (a at : Assignment) (solves : Solves a s) (types : TypesMayBe s h ts a at) (kinds : KindsMayBe h ks read a at) where
     -- as `at` at the numbered variables, and as a at the others
     abbrev pub spread : Assignment
     spread = record { type_of = λ k. value_of ts at.type_of (a.type_of k) k; kind_of = λ k. value_of ks at.kind_of (a.kind_of k) k }
@@ -123,7 +129,7 @@ module _ (s : Table) (names : List Term) (h : HeldVariables) (holds : IsHeldBy s
     spread_type k e = value_either (λ g. g ≡ a.type_of k) ts at.type_of (a.type_of k) k refl (λ i g. held_value s h a k (at.type_of i) e (types i (type_parameter s h k) (parameter_at (type_parameter s h) ts i k g)))
 
     spread_kind : (k : ℕ) → is_held h.kinds k ≡ true → spread.kind_of k ≡ a.kind_of k
-    spread_kind k e = value_either (λ c. c ≡ a.kind_of k) ks at.kind_of (a.kind_of k) k refl (λ i g. held_kind h a k (at.kind_of i) e (kinds i (kind_parameter h k) (parameter_at (kind_parameter h) ks i k g)))
+    spread_kind k e = value_either (λ c. c ≡ a.kind_of k) ks at.kind_of (a.kind_of k) k refl (λ i g. (let p = kinds_at h read ks i k g in held_kind h a p.0 k (at.kind_of i) e (kinds i (kind_parameter h p.0 k) p.2)))
 
     module _ (b : Assignment) (extends : Extends s spread b) where
       -- the names have the same types there

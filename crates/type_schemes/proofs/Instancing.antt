@@ -11,7 +11,7 @@ use Rattle.type_terms.specs.declared.ty.KindTerm.TheVariants.{Fixed, Var}
 use Rattle.type_terms.proofs.Renaming.{instance_meaning, instances_map}
 use Rattle.type_terms.proofs.Terms.{InTerm-map, InTerms-map, meaning_same}
 use Rattle.type_schemes.specs.declared.general.KindParameter.{KindParameter}
-use Rattle.type_schemes.specs.declared.general.KindParameter.TheVariants.{Open, Outer}
+use Rattle.type_schemes.specs.declared.general.KindParameter.TheVariants.{Open, Unread, Outer}
 use Rattle.type_schemes.specs.Instances.{Instantiates}
 use Rattle.type_schemes.specs.NewVariables.{AreNewTypes, AreNewKinds, open_terms}
 use Rattle.type_schemes.specs.Schemes.{Scheme, IsInstance, IsSchemeOver, KindMayBe, MayBe, open_numbers}
@@ -42,6 +42,7 @@ pub open_terms_counted : (ps : List KindParameter) (ns : List ℕ) (m : ℕ) →
 open_terms_counted [] ns m e = refl
 open_terms_counted (p ∷ ps) [] m e = absurd (omega (arith, e))
 open_terms_counted (Open ∷ ps) (n ∷ ns) m e = ap suc (open_terms_counted ps ns (suc m) (omega (arith, e)))
+open_terms_counted (Unread ∷ ps) (n ∷ ns) m e = open_terms_counted ps ns (suc m) (omega (arith, e))
 open_terms_counted (Outer k ∷ ps) (n ∷ ns) m e = open_terms_counted ps ns (suc m) (omega (arith, e))
 
 pub open_kinds_are : (f : ℕ → Kind) (a : Assignment) (ps : List KindParameter) (ns : List ℕ) (m : ℕ) → length ns ≡ length ps → ((i n : ℕ) → slice_get ns i ≡ Some n → a.kind_of n ≡ f (m + i)) → map (kind_meaning a) (open_terms ps ns) ≡ map f (open_numbers m ps)
@@ -50,6 +51,8 @@ open_kinds_are f a (p ∷ ps) [] m e h = absurd (omega (arith, e))
 open_kinds_are f a (Open ∷ ps) (n ∷ ns) m e h =
     ap₂ (λ (x : Kind) (xs : List Kind). x ∷ xs) (h 0 n refl ∙ ap f (let z : m + 0 ≡ m = omega arith in z))
     (open_kinds_are f a ps ns (suc m) (let d : length ns ≡ length ps = omega (arith, e) in d) (λ i k g. h (suc i) k g ∙ ap f (let z : m + suc i ≡ suc m + i = omega arith in z)))
+open_kinds_are f a (Unread ∷ ps) (n ∷ ns) m e h =
+    open_kinds_are f a ps ns (suc m) (let d : length ns ≡ length ps = omega (arith, e) in d) (λ i k g. h (suc i) k g ∙ ap f (let z : m + suc i ≡ suc m + i = omega arith in z))
 open_kinds_are f a (Outer j ∷ ps) (n ∷ ns) m e h =
     open_kinds_are f a ps ns (suc m) (let d : length ns ≡ length ps = omega (arith, e) in d) (λ i k g. h (suc i) k g ∙ ap f (let z : m + suc i ≡ suc m + i = omega arith in z))
 
@@ -76,6 +79,7 @@ open_terms_over Q [] ns h i k e = none_is k e
 open_terms_over Q (p ∷ ps) [] h i k e = none_is k e
 open_terms_over Q (Open ∷ ps) (n ∷ ns) h zero k e = subst (InKind Q) (let d : Var n ≡ k = cc in d) (h 0 n refl)
 open_terms_over Q (Open ∷ ps) (n ∷ ns) h (suc i) k e = open_terms_over Q ps ns (λ j m f. h (suc j) m f) i k e
+open_terms_over Q (Unread ∷ ps) (n ∷ ns) h i k e = open_terms_over Q ps ns (λ j m f. h (suc j) m f) i k e
 open_terms_over Q (Outer j ∷ ps) (n ∷ ns) h i k e = open_terms_over Q ps ns (λ j m f. h (suc j) m f) i k e
 
 module _ (s s1 s2 : Table) (g : Scheme) (ns ms : List ℕ) (over : IsSchemeOver s g) (types : AreNewTypes s s1 g.types ns) (kinds : AreNewKinds s1 s2 g.kinds ms) where

@@ -7,6 +7,8 @@ pub mod Names
 pub mod Builtins
 pub mod Openers
 pub mod Places
+pub mod KindLists
+pub mod Ordering
 pub mod Generality
 pub mod TextOver
 pub mod Opening

@@ -9,7 +9,7 @@ use Rattle.type_schemes.specs.Instances.{Grows}
 use Rattle.type_terms.specs.Ground.{Assignment}
 use Rattle.type_terms.specs.Table.{Table, Solves}
 use Rattle.type_schemes.specs.declared.general.KindParameter.{KindParameter}
-use Rattle.type_schemes.specs.declared.general.KindParameter.TheVariants.{Open, Outer}
+use Rattle.type_schemes.specs.declared.general.KindParameter.TheVariants.{Open, Unread, Outer}
 use Rattle.type_schemes.specs.NewVariables.{HasOuterKind, HasOuterKinds, IsNewKind, AreNewKinds}
 use Rattle.type_schemes.specs.Schemes.{KindMayBe}
 use Rattle.type_schemes.proofs.NewTypes.{follows_itself, follows_both, agrees_itself, agrees_both}
@@ -18,10 +18,14 @@ use Rattle.type_schemes.proofs.Reading.{none_is, get_front, get_last, one_last, 
 -- the outer variables say the same under both
 pub kind_may_be_agrees : (s : Table) (a b : Assignment) → Agrees s a b → (x : KindParameter) → HasOuterKind s x → (g : Kind) → KindMayBe a x g → KindMayBe b x g
 kind_may_be_agrees s a b e Open o g h = tt
+kind_may_be_agrees s a b e Unread o g h = tt
 kind_may_be_agrees s a b e (Outer k) o g h = h ∙ e.kinds k (o k refl)
 
 pub open_is_new : (s s' : Table) (n : ℕ) → HasNewKind s s' n → IsNewKind s s' Open n
 open_is_new s s' n h = record { inside = h.inside; follows = h.follows; sound = λ a m. tt; complete = λ a m g p. h.each a m g }
+
+pub unread_is_new : (s s' : Table) (n : ℕ) → HasNewKind s s' n → IsNewKind s s' Unread n
+unread_is_new s s' n h = record { inside = h.inside; follows = h.follows; sound = λ a m. tt; complete = λ a m g p. h.each a m g }
 
 pub outer_kind_is_new : (s : Table) (k : ℕ) → HasOuterKind s (Outer k) → IsNewKind s s (Outer k) k
 outer_kind_is_new s k o = record { inside = o k refl; follows = follows_itself s; sound = λ a m. refl; complete = λ a m g p. (a, m, agrees_itself s a, sym p) }

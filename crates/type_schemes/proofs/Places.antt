@@ -25,7 +25,7 @@ front_insert xs ys k e = by (list_any (nat_eq k) xs) e
     by true f = subst (λ l. IsFront xs l) (sym f) (front_itself xs)
     by false f = subst (λ l. IsFront xs l) (sym f) (record { same = λ i j g. get_front xs (k ∷ []) i j g })
 
-below_front : (xs ys : List ℕ) → IsFront xs ys → (i : ℕ) → i < length xs → i < length ys
+pub below_front : (xs ys : List ℕ) → IsFront xs ys → (i : ℕ) → i < length xs → i < length ys
 below_front xs ys f i l = let p = get_some xs i l in get_below ys i p.0 (f.same i p.0 p.1)
 
 number_front : (xs ys : List ℕ) → IsFront xs ys → (i : ℕ) → i < length xs → new_number ys i ≡ new_number xs i

@@ -1,14 +1,19 @@
 -- One type more of a list.
-use Rattle.std.proofs.Common.{◌≡◌, ◌∙◌, sym, ap, ap₂, subst, refl, ℕ, ◌+◌, ◌<◌, ◌≤◌, List, [], ◌∷◌, ◌++◌, length, map, take, take_all, get_or}
+use Rattle.std.proofs.Common.{◌≡◌, ◌∙◌, sym, ap, ap₂, subst, refl, ℕ, ◌+◌, ◌<◌, ◌≤◌, List, [], ◌∷◌, ◌++◌, length, map, take, take_all, get_or, Some, arith}
+use Rattle.std.specs.List.{flat_map}
 use Rattle.type_terms.specs.Ground.{Ground, Assignment}
 use Rattle.type_terms.specs.Resolved.{IsUnbound}
 use Rattle.type_terms.specs.Table.{Table, Solves}
 use Rattle.type_terms.specs.Term.{Term, meaning, term_of, terms_of, source_term}
+use Rattle.type_terms.specs.declared.ty.KindTerm.{KindTerm}
 use Rattle.type_terms.specs.declared.ty.Ty.{Ty}
+use Rattle.type_terms.specs.declared.ty.Ty.TheVariants as ty
 use Rattle.type_terms.proofs.Parts.{map_take_next}
-use Rattle.type_schemes.specs.Numbering.{AreNumbered, AreSettled, IsFront, IsNumbered}
+use Rattle.type_terms.proofs.Views.{term_Source}
+use Rattle.typing_rules.specs.Kinds.{counted}
+use Rattle.type_schemes.specs.Numbering.{AreNumbered, AreSettled, IsFront, IsNumbered, place_of}
 use Rattle.type_schemes.specs.Texts.{AreOpened, OpenMore, OpensOne, OpensDef}
-use Rattle.type_schemes.proofs.Places.{front_both, insides_later, insides_push, map_later, numbered_more}
+use Rattle.type_schemes.proofs.Places.{below_front, front_both, insides_later, insides_push, map_later, numbered_more}
 
 map_last : (ps : List Ty) (p : Ty) → map term_of (ps ++ (p ∷ [])) ≡ map term_of ps ++ (term_of p ∷ [])
 map_last [] p = refl
@@ -67,9 +72,34 @@ opened_later s ts ks ts' ks' xs us f g h = record {
   same = map_later ts ks ts' ks' f g us h.inside ∙ h.same;
 }
 
-pub opens_def : (s : Table) (ts0 ks0 ts1 ks1 ts2 ks2 ts3 ks3 : List ℕ) (ss vs xs us : List Term) (x u : Term) (kinds : _) → ss ≡ map source_term kinds → OpenMore s ts0 ks0 ts1 ks1 ss vs → OpenMore s ts1 ks1 ts2 ks2 xs us → OpensOne s ts2 ks2 ts3 ks3 x u → OpensDef s xs x kinds ts3 ks3 us u vs
-opens_def s ts0 ks0 ts1 ks1 ts2 ks2 ts3 ks3 ss vs xs us x u kinds e p q r = record {
-  params = opened_later s ts2 ks2 ts3 ks3 xs us r.types r.kinds q.are;
-  result = r.is;
-  sources = subst (λ zs. AreOpened s ts3 ks3 zs vs) e (opened_later s ts1 ks1 ts3 ks3 ss vs (front_both ts1 ts2 ts3 q.types r.types) (front_both ks1 ks2 ks3 q.kinds r.kinds) p.are);
-}
+front_long : (xs ys : List ℕ) → IsFront xs ys → length xs ≤ length ys
+front_long [] ys f = omega arith
+front_long (x ∷ xs) ys f = let l = below_front (x ∷ xs) ys f (length xs) (omega arith) in omega (arith, l)
+
+pub opens_kinds : (s : Table) (ts ks ks' : List ℕ) (xs zs ys ys' : List Term) (cs : List KindTerm) → zs ≡ xs → ys' ≡ ys → AreSettled s zs ys → AreNumbered ts ks ts ks' ys' (map source_term cs) → OpenMore s ts ks ts ks' xs (map source_term cs)
+opens_kinds s ts ks ks' xs zs ys ys' cs e f h n =
+    subst (λ (ws : List Term). OpenMore s ts ks ts ks' ws (map source_term cs)) e
+    (opens_more s ts ks ts ks' zs ys (map source_term cs) h (subst (λ (ws : List Term). AreNumbered ts ks ts ks' ws (map source_term cs)) f n))
+
+pub opens_def : (s : Table) (ts1 ks0 ks1 ts2 ks2 ts3 ks3 : List ℕ) (n : ℕ) (xs us : List Term) (x u : Term) (kinds cs : List KindTerm) → length ks0 ≡ 0 → n ≡ length ks1 →
+    ((ts : List ℕ) → OpenMore s ts ks0 ts ks1 (map source_term kinds) (map source_term cs)) → counted (length ks0) (flat_map place_of cs) ≡ Some (length ks1) → OpenMore s ts1 ks1 ts2 ks2 xs us → OpensOne s ts2 ks2 ts3 ks3 x u → OpensDef s xs x kinds ts3 ks3 n us u cs
+opens_def s ts1 ks0 ks1 ts2 ks2 ts3 ks3 n xs us x u kinds cs none many p order q r =
+    let later : IsFront ks1 ks3 = front_both ks1 ks2 ks3 q.kinds r.kinds in
+    record {
+      params = opened_later s ts2 ks2 ts3 ks3 xs us r.types r.kinds q.are;
+      result = r.is;
+      sources = opened_later s ts1 ks1 ts3 ks3 (map source_term kinds) (map source_term cs) (front_both ts1 ts2 ts3 q.types r.types) later (p ts1).are;
+      order = ap (λ k. counted k (flat_map place_of cs)) (sym none) ∙ order ∙ ap Some (sym many);
+      few = subst (λ k. k ≤ length ks3) (sym many) (front_long ks1 ks3 later);
+    }
+
+-- ---- kinds of sources
+
+map_source_last : (cs : List KindTerm) (c : KindTerm) → map source_term (cs ++ (c ∷ [])) ≡ map source_term cs ++ (source_term c ∷ [])
+map_source_last [] c = refl
+map_source_last (d ∷ cs) c = ap (λ (xs : List Term). source_term d ∷ xs) (map_source_last cs c)
+
+pub source_next : (ts ks ks1 ks2 : List ℕ) (ps : List Ty) (cs cs' : List KindTerm) (i : ℕ) (p : Ty) (c d : KindTerm) → i < length ps → p ≡ get_or ps i p → p ≡ ty.Source c → cs' ≡ cs ++ (d ∷ []) → AreNumbered ts ks ts ks1 (map term_of (take i ps)) (map source_term cs) → IsNumbered ts ks1 ts ks2 (source_term c) (source_term d) → AreNumbered ts ks ts ks2 (map term_of (take (i + 1) ps)) (map source_term cs')
+source_next ts ks ks1 ks2 ps cs cs' i p c d l e is pushed h r =
+    subst (λ xs. AreNumbered ts ks ts ks2 xs (map source_term cs')) (sym (next_taken ps i p l e)) (subst (λ us. AreNumbered ts ks ts ks2 (map term_of (take i ps) ++ (term_of p ∷ [])) us) (sym (ap (map source_term) pushed ∙ map_source_last cs d))
+    (numbered_more ts ks ts ks1 ts ks2 _ _ _ _ h (subst (λ t. IsNumbered ts ks1 ts ks2 t (source_term d)) (sym (term_Source p c is)) r)))

@@ -9,7 +9,7 @@ use Rattle.type_terms.specs.declared.ty.KindTerm.TheVariants.{Var}
 use Rattle.type_schemes.specs.declared.general.TypeParameter.{TypeParameter}
 use Rattle.type_schemes.specs.declared.general.TypeParameter.TheVariants.{Outer as OuterType}
 use Rattle.type_schemes.specs.declared.general.KindParameter.{KindParameter}
-use Rattle.type_schemes.specs.declared.general.KindParameter.TheVariants.{Open, Outer as OuterKind}
+use Rattle.type_schemes.specs.declared.general.KindParameter.TheVariants.{Open, Unread, Outer as OuterKind}
 use Rattle.type_schemes.specs.Schemes.{MayBe, KindMayBe}
 
 -- the outer variables of a list are there
@@ -43,6 +43,7 @@ abbrev pub open_terms : List KindParameter → List ℕ → List KindTerm
 open_terms [] ns = []
 open_terms (x ∷ xs) [] = []
 open_terms (Open ∷ xs) (n ∷ ns) = Var n ∷ open_terms xs ns
+open_terms (Unread ∷ xs) (n ∷ ns) = open_terms xs ns
 open_terms (OuterKind k ∷ xs) (n ∷ ns) = open_terms xs ns
 
 -- the same of a list of variables

@@ -1,14 +1,16 @@
 -- Types whose variables are numbered anew, in the order of first mention. No contract of a public call cites this.
-use Rattle.std.specs.Prelude.{◌≡◌, ℕ, ◌<◌, List, length, map, cond, Some, slice_get}
+use Rattle.std.specs.Prelude.{◌≡◌, ℕ, ◌<◌, List, [], ◌∷◌, ◌++◌, length, map, take, drop, cond, Some, slice_get}
 use Rattle.type_terms.specs.Ground.{Assignment}
 use Rattle.type_terms.specs.Naming.{instance}
 use Rattle.type_terms.specs.Resolved.{IsFreeType, IsFreeKind}
 use Rattle.type_terms.specs.Table.{Table, Solves, number_at}
 use Rattle.type_terms.specs.Term.{Term, InTerm, InTerms, meaning, terms_of}
+use Rattle.type_terms.specs.declared.ty.KindTerm.{KindTerm}
+use Rattle.type_terms.specs.declared.ty.KindTerm.TheVariants.{Fixed, Var}
 use Rattle.type_schemes.specs.declared.general.TypeParameter.{TypeParameter}
 use Rattle.type_schemes.specs.declared.general.TypeParameter.TheVariants.{Any, Number, Outer as OuterType}
 use Rattle.type_schemes.specs.declared.general.KindParameter.{KindParameter}
-use Rattle.type_schemes.specs.declared.general.KindParameter.TheVariants.{Open, Outer as OuterKind}
+use Rattle.type_schemes.specs.declared.general.KindParameter.TheVariants.{Open, Unread, Outer as OuterKind}
 use Rattle.type_schemes.specs.Holding.{HeldVariables, is_held}
 
 -- what stands in the first list stands at its place in the second
@@ -38,5 +40,14 @@ pub record AreSettled (s : Table) (xs us : List Term) : Type 0 where
 abbrev pub type_parameter : Table → HeldVariables → ℕ → TypeParameter
 type_parameter s h k = cond (is_held h.types k) (OuterType k) (cond (number_at s.types k) Number Any)
 
-abbrev pub kind_parameter : HeldVariables → ℕ → KindParameter
-kind_parameter h k = cond (is_held h.kinds k) (OuterKind k) Open
+abbrev pub kind_parameter : HeldVariables → KindParameter → ℕ → KindParameter
+kind_parameter h free k = cond (is_held h.kinds k) (OuterKind k) free
+
+-- the same of all kind variables, where a text names the first n
+abbrev pub kind_parameters : HeldVariables → ℕ → List ℕ → List KindParameter
+kind_parameters h n ks = map (kind_parameter h Open) (take n ks) ++ map (kind_parameter h Unread) (drop n ks)
+
+-- the place that a kind names
+abbrev pub place_of : KindTerm → List ℕ
+place_of (Fixed k) = []
+place_of (Var i) = i ∷ []

@@ -10,7 +10,7 @@ use Rattle.type_schemes.specs.declared.general.General.{General}
 use Rattle.type_schemes.specs.declared.general.TypeParameter.{TypeParameter}
 use Rattle.type_schemes.specs.declared.general.TypeParameter.TheVariants.{Any, Number, Outer as OuterType}
 use Rattle.type_schemes.specs.declared.general.KindParameter.{KindParameter}
-use Rattle.type_schemes.specs.declared.general.KindParameter.TheVariants.{Open, Outer as OuterKind}
+use Rattle.type_schemes.specs.declared.general.KindParameter.TheVariants.{Open, Unread, Outer as OuterKind}
 
 -- The types of all parameters, and of the result, over variables of the scheme's own, from 0. The lists say what each of these may stand for.
 pub record Scheme : Type 0 where
@@ -31,12 +31,14 @@ MayBe a (OuterType k) g = g ≡ a.type_of k
 
 abbrev pub KindMayBe : Assignment → KindParameter → Kind → Type 0
 KindMayBe a Open k = ⊤
+KindMayBe a Unread k = ⊤
 KindMayBe a (OuterKind n) k = k ≡ a.kind_of n
 
 -- the numbers of the open kind variables, where the first of the list has this number
 abbrev pub open_numbers : ℕ → List KindParameter → List ℕ
 open_numbers n [] = []
 open_numbers n (Open ∷ ks) = n ∷ open_numbers (suc n) ks
+open_numbers n (Unread ∷ ks) = open_numbers (suc n) ks
 open_numbers n (OuterKind k ∷ ks) = open_numbers (suc n) ks
 
 -- A call may have parameters of the types ts and the type g, with these open kinds, where the variables outside of the scheme are as in `a`.

@@ -10,9 +10,12 @@ pub enum TypeParameter {
 }
 
 /// What a kind variable of a general type may stand for: either kind, or what a variable of the substitution stands for.
+///
+/// Of those that may be either kind, `Open` are the ones that the text of the def names, and `Unread` all others.
 #[derive(Clone, Copy, Debug, PartialEq, Eq)]
 pub enum KindParameter {
     Open,
+    Unread,
     Outer(u64),
 }
 
@@ -26,7 +29,7 @@ pub enum TextKind {
 /// The type of what a call may call: the types of all parameters, in order, and of the result.
 ///
 /// They are over variables of their own, from 0; `types` and `kinds` say what each may stand for.
-/// The open kinds are those kind variables that may be either kind, in their order.
+/// The open kinds are those kind variables that are `Open`, in their order.
 #[derive(Debug, Drop)]
 pub struct General {
     pub params: Vec<Ty>,

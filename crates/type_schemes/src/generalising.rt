@@ -1,12 +1,12 @@
 // The general type of a def.
-ghost use Rattle.std.specs.Prelude.{◌≡◌, List, length, map, IfOk};
+ghost use Rattle.std.specs.Prelude.{◌≡◌, ◌++◌, ◌≤◌, List, length, map, IfOk, OnOk};
 ghost use Rattle.type_terms.specs.Table.{IsOver};
 ghost use Rattle.type_terms.specs.Term.{Term, source_term, term_of};
-ghost use Rattle.type_schemes.specs.Generals.{AreTextKindsOver, IsGeneral};
+ghost use Rattle.type_schemes.specs.Generals.{AreTextKindsOver, IsGeneral, IsNumberedText};
 ghost use Rattle.type_schemes.specs.Holding.{IsHeldBy};
-ghost use Rattle.type_schemes.specs.Numbering.{kind_parameter, type_parameter};
+ghost use Rattle.type_schemes.specs.Numbering.{kind_parameter, kind_parameters as the_kind_parameters, type_parameter};
 ghost use Rattle.type_schemes.specs.Schemes.{AreAmong, IsSchemeOver, open_numbers, scheme_of};
-ghost use Rattle.type_schemes.specs.Texts.{AreTextKinds, text_kind as the_text_kind};
+ghost use Rattle.type_schemes.specs.Texts.{text_kind as the_text_kind};
 
 use crate::general::{General, KindParameter, TextKind, TypeParameter};
 use crate::holding::Held;
@@ -17,7 +17,7 @@ use type_terms::{KindTerm, Subst, Ty};
 
 /// What a def is to its calls: its general type, and the kinds at the uses of its text, in their order.
 ///
-/// The open kinds are numbered in the order in which the kinds of the text name them first.
+/// The open kinds are those that the text names, and are numbered in the order in which it names them first.
 #[derive(Debug, Drop)]
 pub struct DefType {
     pub general: General,
@@ -53,29 +53,46 @@ fn type_parameters(
     Ok(parameters)
 }
 
-/// What a kind variable of this number may stand for.
-fn kind_parameter_of(held: &Held, number: u64) -> KindParameter
-    ensures { result ≡ kind_parameter held.now number }
+/// What a kind variable of this number may stand for; `free` if it is not held.
+fn kind_parameter_of(held: &Held, free: KindParameter, number: u64) -> KindParameter
+    ensures { result ≡ kind_parameter held.now free number }
 {
     if held.holds_kind(number) {
         KindParameter::Outer(number)
     } else {
-        KindParameter::Open
+        free
     }
 }
 
-/// What the kind variables of these numbers may stand for.
+/// Adds what the kind variables of these numbers may stand for; `free` for each that is not held.
+fn push_parameters(
+    parameters: &mut Vec<KindParameter>,
+    held: &Held,
+    free: KindParameter,
+    numbers: &[u64],
+) -> Result<(), Memory>
+    ensures { OnOk result (parameters.new.items ≡ parameters.old.items ++ map (kind_parameter held.now free) numbers.now) }
+{
+    for number in numbers {
+        parameters.push(kind_parameter_of(held, free, *number))?;
+    }
+    Ok(())
+}
+
+/// What the kind variables of these numbers may stand for. The text names the first `read` of them.
 fn kind_parameters(
     alloc: Global,
     held: &Held,
     numbers: &[u64],
+    read: usize,
 ) -> Result<Vec<KindParameter>, Memory>
-    ensures { IfOk result (λ xs. xs.items ≡ map (kind_parameter held.now) numbers.now) }
+    requires within { read ≤ length numbers.now }
+    ensures { IfOk result (λ xs. xs.items ≡ the_kind_parameters held.now read numbers.now) }
 {
+    let (named, others) = numbers.split_at(read);
     let mut parameters = Vec::new(alloc);
-    for number in numbers {
-        parameters.push(kind_parameter_of(held, *number))?;
-    }
+    push_parameters(&mut parameters, held, KindParameter::Open, named)?;
+    push_parameters(&mut parameters, held, KindParameter::Unread, others)?;
     Ok(parameters)
 }
 
@@ -87,6 +104,7 @@ fn open_count(parameters: &[KindParameter]) -> u64
     for parameter in parameters {
         match parameter {
             KindParameter::Open => count += 1,
+            KindParameter::Unread => continue,
             KindParameter::Outer(_) => continue,
         }
     }
@@ -103,25 +121,23 @@ fn text_kind(parameters: &[KindParameter], kind: KindTerm) -> TextKind
     match parameters.get(number as usize) {
         Some(KindParameter::Outer(outer)) => TextKind::Outer(KindTerm::Var(*outer)),
         Some(KindParameter::Open) => TextKind::Open(open_count(&parameters[..number as usize])),
+        // A text names no others.
+        Some(KindParameter::Unread) => TextKind::Outer(kind),
         None => TextKind::Outer(kind),
     }
 }
 
-/// The kinds of sources of the general type, as the text of the def has them.
+/// Kinds of the general type, as the text of the def has them.
 fn text_kinds(
     alloc: Global,
     parameters: &[KindParameter],
-    sources: &[Ty],
+    kinds: &[KindTerm],
 ) -> Result<Vec<TextKind>, Memory>
-    ensures { IfOk result (λ text. AreTextKinds parameters.now (map term_of sources.now) text.items) }
+    ensures { IfOk result (λ text. text.items ≡ map (the_text_kind parameters.now) kinds.now) }
 {
     let mut text = Vec::new(alloc);
-    for source in sources {
-        match source {
-            Ty::Source(kind) => text.push(text_kind(parameters, *kind))?,
-            // No other types are given.
-            _ => return Err(Memory),
-        }
+    for kind in kinds {
+        text.push(text_kind(parameters, *kind))?;
     }
     Ok(text)
 }
@@ -142,14 +158,15 @@ pub fn generalise(
     requires answer { IsOver subst.now (term_of answer.now) }
     requires kinds { AreAmong (length subst.now.types) (length subst.now.kinds) (map source_term kinds.now) }
     ensures over { IfOk result (λ d. (names : List Term) → IsHeldBy subst.now names held.now → IsSchemeOver subst.now (scheme_of d.general)) }
+    ensures numbered { IfOk result (λ d. IsNumberedText (scheme_of d.general) d.text.items) }
     ensures text_over { IfOk result (λ d. (names : List Term) → IsHeldBy subst.now names held.now → AreTextKindsOver subst.now d.text.items) }
     ensures general { IfOk result (λ d. (names : List Term) → IsHeldBy subst.now names held.now → IsGeneral subst.now names (map term_of params.now) (term_of answer.now) kinds.now (scheme_of d.general) d.text.items) }
 {
     subst.extends_each_assignment();
     let opened = number_def(alloc, subst, params, answer, kinds)?;
     let types = type_parameters(alloc, subst, held, opened.types.as_slice())?;
-    let kinds = kind_parameters(alloc, held, opened.kinds.as_slice())?;
-    let text = text_kinds(alloc, &kinds, &opened.sources)?;
+    let kinds = kind_parameters(alloc, held, opened.kinds.as_slice(), opened.read)?;
+    let text = text_kinds(alloc, &kinds, &opened.text)?;
     Ok(DefType {
         general: General {
             params: opened.params,

@@ -65,6 +65,7 @@ fn new_kind(subst: &mut Subst, parameter: KindParameter) -> Result<u64, Memory>
 {
     match parameter {
         KindParameter::Open => fresh_kind_number(subst),
+        KindParameter::Unread => fresh_kind_number(subst),
         KindParameter::Outer(number) => Ok(number),
     }
 }
@@ -130,6 +131,7 @@ fn opened(
     for i in 0..parameters.len() {
         match parameters[i] {
             KindParameter::Open => kinds.push(KindTerm::Var(numbers[i]))?,
+            KindParameter::Unread => continue,
             KindParameter::Outer(_) => continue,
         }
     }

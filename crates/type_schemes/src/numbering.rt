@@ -1,9 +1,11 @@
 // Types whose variables are numbered anew, in the order of first mention.
-ghost use Rattle.std.specs.Prelude.{◌≡◌, ℕ, List, Some, length, map, slice_get, IfOk, OnOk};
+ghost use Rattle.std.specs.Prelude.{◌≡◌, ◌∷◌, ℕ, List, [], Some, length, map, slice_get, IfOk, OnOk};
+ghost use Rattle.std.specs.List.{flat_map};
 ghost use Rattle.type_terms.specs.Table.{IsOver};
 ghost use Rattle.type_terms.specs.Term.{source_term, term_of};
+ghost use Rattle.typing_rules.specs.Kinds.{counted};
 ghost use Rattle.type_schemes.specs.Texts.{OpenMore, OpensDef, OpensOne};
-ghost use Rattle.type_schemes.specs.Numbering.{AreNumbered, AreSettled, IsFront, IsNumbered};
+ghost use Rattle.type_schemes.specs.Numbering.{AreNumbered, AreSettled, IsFront, IsNumbered, place_of};
 ghost use Rattle.type_schemes.specs.Schemes.{AreAmong};
 
 use indexmap::IndexSet;
@@ -18,6 +20,7 @@ const MOST_LEVELS: u32 = 1000;
 fn place(numbers: &mut IndexSet<u64>, number: u64) -> Result<u64, Memory>
     ensures there { IfOk result (λ i. slice_get numbers.new.keys i ≡ Some number) }
     ensures front { OnOk result (IsFront numbers.old.keys numbers.new.keys) }
+    ensures next { IfOk result (λ i. counted (length numbers.old.keys) (i ∷ []) ≡ Some (length numbers.new.keys)) }
 {
     let (place, _) = numbers.insert_full(number)?;
     Ok(place as u64)
@@ -25,7 +28,8 @@ fn place(numbers: &mut IndexSet<u64>, number: u64) -> Result<u64, Memory>
 
 /// The kind with the place of its variable for its number.
 fn kind_place(kinds: &mut IndexSet<u64>, kind: KindTerm) -> Result<KindTerm, Memory>
-    ensures { IfOk result (λ k. (ts : List ℕ) → IsNumbered ts kinds.old.keys ts kinds.new.keys (source_term kind) (source_term k)) }
+    ensures numbered { IfOk result (λ k. (ts : List ℕ) → IsNumbered ts kinds.old.keys ts kinds.new.keys (source_term kind) (source_term k)) }
+    ensures next { IfOk result (λ k. counted (length kinds.old.keys) (place_of k) ≡ Some (length kinds.new.keys)) }
 {
     match kind {
         KindTerm::Fixed(fixed) => Ok(KindTerm::Fixed(fixed)),
@@ -149,29 +153,57 @@ fn opened_one(
     numbered(alloc, types, kinds, &settled, MOST_LEVELS)
 }
 
-/// The same of sources of these kinds.
-fn opened_sources(
+/// The kinds of sources with the places of their variables for their numbers. New numbers come in the order of first mention.
+fn source_places(
     alloc: Global,
-    subst: &Subst,
-    types: &mut IndexSet<u64>,
     kinds: &mut IndexSet<u64>,
-    given: &[KindTerm],
-) -> Result<Vec<Ty>, Memory>
-    requires over { AreAmong (length subst.now.types) (length subst.now.kinds) (map source_term given.now) }
-    ensures { IfOk result (λ us. OpenMore subst.now types.old.keys kinds.old.keys types.new.keys kinds.new.keys (map source_term given.now) (map term_of us.items)) }
+    sources: &[Ty],
+) -> Result<Vec<KindTerm>, Memory>
+    ensures numbered { IfOk result (λ ks. (ts : List ℕ) → AreNumbered ts kinds.old.keys ts kinds.new.keys (map term_of sources.now) (map source_term ks.items)) }
+    ensures next { IfOk result (λ ks. counted (length kinds.old.keys) (flat_map place_of ks.items) ≡ Some (length kinds.new.keys)) }
 {
-    let given = sources(alloc, given)?;
-    opened(alloc, subst, types, kinds, &given)
+    let mut places = Vec::new(alloc);
+    for source in sources {
+        match source {
+            Ty::Source(kind) => {
+                let place = kind_place(kinds, *kind)?;
+                places.push(place)?;
+            }
+            // No other types are given.
+            _ => return Err(Memory),
+        }
+    }
+    Ok(places)
 }
 
-/// The types of a def over variables of their own, and the numbers of these in the substitution.
+/// The kinds with all that is bound put in, and the places of their variables for their numbers.
+fn opened_kinds(
+    alloc: Global,
+    subst: &Subst,
+    kinds: &mut IndexSet<u64>,
+    given: &[KindTerm],
+) -> Result<Vec<KindTerm>, Memory>
+    requires over { AreAmong (length subst.now.types) (length subst.now.kinds) (map source_term given.now) }
+    ensures opened { IfOk result (λ ks. (ts : List ℕ) → OpenMore subst.now ts kinds.old.keys ts kinds.new.keys (map source_term given.now) (map source_term ks.items)) }
+    ensures next { IfOk result (λ ks. counted (length kinds.old.keys) (flat_map place_of ks.items) ≡ Some (length kinds.new.keys)) }
+{
+    let given = sources(alloc, given)?;
+    let settled = all_resolved(alloc, subst, &given)?;
+    let places = source_places(alloc, kinds, &settled)?;
+    Ok(places)
+}
+
+/// The types of a def and the kinds of its text over variables of their own, and the numbers of these in the substitution.
+///
+/// The text names the first `read` of the kind variables, in their order.
 #[derive(Drop)]
 pub struct OpenedDef {
     pub params: Vec<Ty>,
     pub answer: Ty,
-    pub sources: Vec<Ty>,
+    pub text: Vec<KindTerm>,
     pub types: IndexSet<u64>,
     pub kinds: IndexSet<u64>,
+    pub read: usize,
 }
 
 /// The types of a def over variables of their own, in the order of first mention: the kinds of its text first.
@@ -185,18 +217,20 @@ pub fn number_def(
     requires params { AreAmong (length subst.now.types) (length subst.now.kinds) (map term_of params.now) }
     requires answer { IsOver subst.now (term_of answer.now) }
     requires kinds { AreAmong (length subst.now.types) (length subst.now.kinds) (map source_term kinds.now) }
-    ensures { IfOk result (λ n. OpensDef subst.now (map term_of params.now) (term_of answer.now) kinds.now n.types.keys n.kinds.keys (map term_of n.params.items) (term_of n.answer) (map term_of n.sources.items)) }
+    ensures { IfOk result (λ n. OpensDef subst.now (map term_of params.now) (term_of answer.now) kinds.now n.types.keys n.kinds.keys n.read (map term_of n.params.items) (term_of n.answer) n.text.items) }
 {
     let mut types = IndexSet::new(alloc);
     let mut places = IndexSet::new(alloc);
-    let sources = opened_sources(alloc, subst, &mut types, &mut places, kinds)?;
+    let text = opened_kinds(alloc, subst, &mut places, kinds)?;
+    let read = places.len();
     let params = opened(alloc, subst, &mut types, &mut places, params)?;
     let answer = opened_one(alloc, subst, &mut types, &mut places, answer)?;
     Ok(OpenedDef {
         params,
         answer,
-        sources,
+        text,
         types,
         kinds: places,
+        read,
     })
 }

@@ -19,7 +19,7 @@ numbered-returns-in_ok-kind-in-Source t c =
     numbered_source c.args.types.now.keys c.args.kinds.now.keys _ (term_of c.args.ty.now) _ c.in-Source.kind k
     (term_Source c.args.ty.now _ c.in-Source.is)
     (term_Source (ty.Source k) k refl)
-    (c.in_ok-kind-in-Source.ensures c.args.types.now.keys)
+    (c.in_ok-kind-in-Source.ensures.numbered c.args.types.now.keys)
 
 pub numbered-returns-in_ok-place-in-Var : goal.numbered-returns-in_ok-place-in-Var
 numbered-returns-in_ok-place-in-Var t c =
