@@ -7,5 +7,6 @@ pub mod Naming
 pub mod After
 pub mod Beginning
 pub mod Settled
+pub mod Overs
 pub mod Counting
 pub mod Ending

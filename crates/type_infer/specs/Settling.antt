@@ -1,17 +1,17 @@
 -- Kinds and uses under the default solution.
-use Rattle.std.specs.Prelude.{◌≡◌, List, ◌++◌, map}
+use Rattle.std.specs.Prelude.{◌≡◌, List, [], ◌∷◌, ◌++◌, map, Option, Some, None, ⊤}
 use Rattle.liq_base.specs.declared.memory.Kind.{Kind}
 use Rattle.liq_base.specs.declared.memory.Kind.TheVariants.{Stereo}
 use Rattle.type_terms.specs.Extends.{HasDefaults}
 use Rattle.type_terms.specs.Table.{Table}
-use Rattle.type_terms.specs.Term.{kind_meaning}
+use Rattle.type_terms.specs.Term.{Term, kind_meaning, source_term}
 use Rattle.type_terms.specs.declared.ty.KindTerm.{KindTerm}
 use Rattle.type_terms.specs.declared.ty.KindTerm.TheVariants as term
 use Rattle.typing_rules.specs.declared.uses.KindOf.{KindOf}
 use Rattle.typing_rules.specs.declared.uses.KindOf.TheVariants.{Fixed}
 use Rattle.typing_rules.specs.declared.uses.Use.{Use}
-use Rattle.type_flow.specs.Environment.{Found, Pending, TextUse, settled, settled_use}
-use Rattle.script_flow.specs.Statements.{Done, found_use, uses_under}
+use Rattle.type_flow.specs.Environment.{AreUsesOver, Found, IsTextOver, Pending, TextUse, settled, settled_use}
+use Rattle.script_flow.specs.Statements.{Done, bound, defined, found_use, ran, uses_under}
 
 abbrev pub IsSettledKind : Table → KindTerm → Kind → Type 0
 IsSettledKind s k r = (d : HasDefaults s) → r ≡ kind_meaning d.at k
@@ -43,3 +43,18 @@ AreDefaultOf s xs us = (d : HasDefaults s) → us ≡ uses_under d.at xs
 abbrev pub free_kind : KindTerm → Kind
 free_kind (term.Fixed k) = k
 free_kind (term.Var n) = Stereo
+
+-- the kind of a source
+abbrev pub source_of : Term → Option KindTerm
+source_of (source_term k) = Some k
+source_of _ = None
+
+-- the kinds of what statements have left are over the substitution
+abbrev pub IsDoneOver : Table → Done → Type 0
+IsDoneOver s (bound t u fs) = AreUsesOver s fs
+IsDoneOver s (defined d us) = IsTextOver s us
+IsDoneOver s (ran fs) = AreUsesOver s fs
+
+abbrev pub AreDonesOver : Table → List Done → Type 0
+AreDonesOver s [] = ⊤
+AreDonesOver s (x ∷ xs) = IsDoneOver s x × AreDonesOver s xs

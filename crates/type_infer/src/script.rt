@@ -9,7 +9,8 @@ ghost use Rattle.typing_rules.specs.Scoping.{target_in};
 ghost use Rattle.typing_rules.specs.Scripts.{Targets, first_of};
 ghost use Rattle.type_infer.specs.Clashes.{IsClashIn};
 ghost use Rattle.type_infer.specs.Fronts.{IsFront};
-ghost use Rattle.type_infer.specs.States.{AreDefaultUses, IsAfter, IsReady, IsStepped, IsTypedSo};
+ghost use Rattle.type_infer.specs.Settling.{AreDonesOver};
+ghost use Rattle.type_infer.specs.States.{AreDefaultUses, IsAfter, IsReady, IsStepped, IsTypedSo, dones};
 ghost use Rattle.type_infer.specs.Turns.{IsTurned};
 
 use crate::front::{Front, resolve_front};
@@ -135,6 +136,7 @@ fn uses_or_fault(
     typing: &Typing<'_>,
     fault: Option<TypeFault>,
 ) -> Result<Vec<Use>, TypeFault>
+    requires over { AreDonesOver typing.now.subst (dones typing.now) }
     ensures uses { IfOk result (λ us. AreDefaultUses typing.now fault us.items) }
     ensures fault { IfErr result (λ f. f ≢ TypeFault.Memory → fault ≡ Some f) }
 {

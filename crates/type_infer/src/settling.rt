@@ -1,8 +1,9 @@
 // The uses of statements under the default solution.
-ghost use Rattle.std.specs.Prelude.{◌≡◌, map, option_map, IfOk, IfSome, OnOk};
-ghost use Rattle.type_terms.specs.Term.{source_term, term_of};
+ghost use Rattle.std.specs.Prelude.{◌≡◌, map, option_map, IfOk, OnOk};
+ghost use Rattle.type_flow.specs.Environment.{AreKindsOver, ArePendingOver, AreUsesOver, IsKindOver, IsPendingOver, IsTextOver};
+ghost use Rattle.type_terms.specs.Term.{term_of};
 ghost use Rattle.value_types.specs.Seen.{founds, pending, text_use};
-ghost use Rattle.type_infer.specs.Settling.{AddsDones, AddsFounds, AddsTexts, AreDefaultOf, AreSettledKinds, AreSettledTexts, IsSettledKind, IsSettledText, free_kind as the_free_kind};
+ghost use Rattle.type_infer.specs.Settling.{AddsDones, AddsFounds, AddsTexts, AreDefaultOf, AreDonesOver, AreSettledKinds, AreSettledTexts, IsSettledKind, IsSettledText, free_kind as the_free_kind, source_of};
 ghost use Rattle.type_infer.specs.States.{dones};
 ghost use Rattle.type_infer.specs.Steps.{defined_as, done_in, dones_in};
 
@@ -15,7 +16,7 @@ use value_types::{FoundUse, KnownDef, TextKind, TextUse};
 
 /// The kind of a source, if it is the type of one.
 fn source_kind(ty: &Ty) -> Option<KindTerm>
-    ensures { IfSome result (λ k. term_of ty.now ≡ source_term k) }
+    ensures { result ≡ source_of (term_of ty.now) }
 {
     match ty {
         Ty::Source(kind) => Some(*kind),
@@ -35,19 +36,20 @@ fn free_kind(kind: KindTerm) -> Kind
 
 /// A kind under the default solution.
 fn settle_kind(alloc: Global, subst: &Subst, kind: KindTerm) -> Result<Kind, Memory>
+    requires over { IsKindOver subst.now kind }
     ensures { IfOk result (IsSettledKind subst.now kind) }
 {
-    let ty = Ty::Source(kind);
-    if !subst.covers(alloc, &ty)? {
-        return Err(Memory);
+    subst.has_defaults();
+    let settled = resolved(alloc, subst, &Ty::Source(kind))?;
+    match source_kind(&settled) {
+        Some(found) => Ok(free_kind(found)),
+        None => unreachable!(),
     }
-    let settled = resolved(alloc, subst, &ty)?;
-    let found = source_kind(&settled).ok_or(Memory)?;
-    Ok(free_kind(found))
 }
 
 /// The kinds of a use outside of defs.
 fn settled_kinds(alloc: Global, subst: &Subst, kinds: &[KindTerm]) -> Result<UseKinds, Memory>
+    requires over { AreKindsOver subst.now kinds.now }
     ensures { IfOk result (AreSettledKinds subst.now kinds.now) }
 {
     let mut settled = UseKinds::new(alloc);
@@ -65,6 +67,7 @@ fn add_founds(
     found: &[FoundUse],
     uses: &mut Vec<Use>,
 ) -> Result<(), Memory>
+    requires over { AreUsesOver subst.now (founds found.now) }
     ensures { OnOk result (AddsFounds subst.now (founds found.now) uses.old.items uses.new.items) }
 {
     for one in found {
@@ -80,6 +83,7 @@ fn add_founds(
 
 /// A kind in the text of a def.
 fn settle_text(alloc: Global, subst: &Subst, kind: TextKind) -> Result<KindOf, Memory>
+    requires over { IsPendingOver subst.now (pending kind) }
     ensures { IfOk result (IsSettledText subst.now (pending kind)) }
 {
     match kind {
@@ -93,6 +97,7 @@ fn settle_text(alloc: Global, subst: &Subst, kind: TextKind) -> Result<KindOf, M
 
 /// The kinds of a use in the text of a def.
 fn settled_texts(alloc: Global, subst: &Subst, kinds: &[TextKind]) -> Result<UseKinds, Memory>
+    requires over { ArePendingOver subst.now (map pending kinds.now) }
     ensures { IfOk result (AreSettledTexts subst.now (map pending kinds.now)) }
 {
     let mut settled = UseKinds::new(alloc);
@@ -110,6 +115,7 @@ fn add_texts(
     text: &[TextUse],
     uses: &mut Vec<Use>,
 ) -> Result<(), Memory>
+    requires over { IsTextOver subst.now (map text_use text.now) }
     ensures { OnOk result (AddsTexts subst.now (map text_use text.now) uses.old.items uses.new.items) }
 {
     for one in text {
@@ -130,6 +136,7 @@ fn add_def(
     def: Option<&KnownDef<'_>>,
     uses: &mut Vec<Use>,
 ) -> Result<(), Memory>
+    requires over { AreDonesOver subst.now (defined_as (option_map (λ d. d.now) def)) }
     ensures { OnOk result (AddsDones subst.now (defined_as (option_map (λ d. d.now) def.entry)) uses.old.items uses.new.items) }
 {
     match def {
@@ -146,6 +153,7 @@ fn add_step(
     step: &Step,
     uses: &mut Vec<Use>,
 ) -> Result<(), Memory>
+    requires over { AreDonesOver subst.now (done_in defs.now step.now) }
     ensures { OnOk result (AddsDones subst.now (done_in defs.now step.now) uses.old.items uses.new.items) }
 {
     match step {
@@ -162,6 +170,7 @@ fn steps_uses(
     defs: &[KnownDef<'_>],
     steps: &[Step],
 ) -> Result<Vec<Use>, Memory>
+    requires over { AreDonesOver subst.now (dones_in defs.now steps.now) }
     ensures { IfOk result (λ us. AreDefaultOf subst.now (dones_in defs.now steps.now) us.items) }
 {
     let mut uses = Vec::new(alloc);
@@ -173,6 +182,7 @@ fn steps_uses(
 
 /// The uses of all statements, in the order of the tokens.
 pub fn settled_uses(alloc: Global, typing: &Typing<'_>) -> Result<Vec<Use>, Memory>
+    requires over { AreDonesOver typing.now.subst (dones typing.now) }
     ensures { IfOk result (λ us. AreDefaultOf typing.now.subst (dones typing.now) us.items) }
 {
     steps_uses(alloc, &typing.subst, &typing.defs, &typing.steps)

@@ -1,9 +1,17 @@
 use Rattle.std.proofs.Common.{map}
 use Rattle.std.proofs.lemmas.Result.{err_from_is_err_and}
-use Rattle.script_grammar.specs.View.{view_stmt}
 use Rattle.name_scope.specs.Noted.{resolved}
 use Rattle.type_infer.proofs.Ending.{early_answer, late_answer, typed_answer}
+use Rattle.typing_rules.specs.Scoping.{target_in}
+use Rattle.typing_rules.specs.Scripts.{first_of}
+use Rattle.script_grammar.specs.View.{listed, view_stmt}
+use Rattle.type_infer.proofs.Overs.{typed_over}
 use Rattle.type_infer.proofs.script.answered.Goals as goal
+
+pub uses_or_fault-requires : goal.uses_or_fault-requires
+uses_or_fault-requires c = record {
+  over = typed_over (target_in (map resolved c.args.front.all.items)) (first_of c.args.front.count (listed (map view_stmt c.args.statements.now))) c.in_ok-typing.typing c.in_ok-typing.ensures.typed;
+}
 
 pub returns-in_err-typing-clause-fault : goal.returns-in_err-typing-clause-fault
 returns-in_err-typing-clause-fault c =

@@ -1,7 +1,16 @@
-use Rattle.std.proofs.Common.{subst}
+use Rattle.std.proofs.Common.{subst, sym}
 use Rattle.type_infer.specs.Settling.{AreSettledKinds}
 use Rattle.type_infer.proofs.Settled.{founds_all, founds_more}
+use Rattle.type_flow.specs.Environment.{AreKindsOver}
+use Rattle.type_infer.proofs.Overs.{use_over_at}
 use Rattle.type_infer.proofs.settling.add_founds.Goals as goal
+
+pub settled_kinds-requires : goal.settled_kinds-requires
+settled_kinds-requires c = record {
+  over =
+      subst (AreKindsOver c.args.subst.now) (sym c.deref.ensures.value)
+      (use_over_at c.args.subst.now c.args.found.now c.loop-one.one-index c.one-item.result c.loop-one-test.true c.one-item.is c.requires.over);
+}
 
 pub loop-one-preserved : goal.loop-one-preserved
 loop-one-preserved c =

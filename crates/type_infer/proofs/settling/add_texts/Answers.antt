@@ -1,8 +1,17 @@
-use Rattle.std.proofs.Common.{map, subst}
+use Rattle.std.proofs.Common.{map, subst, sym}
 use Rattle.value_types.specs.Seen.{pending}
 use Rattle.type_infer.specs.Settling.{AreSettledTexts}
 use Rattle.type_infer.proofs.Settled.{uses_all, uses_more}
+use Rattle.type_flow.specs.Environment.{ArePendingOver}
+use Rattle.type_infer.proofs.Overs.{text_over_at}
 use Rattle.type_infer.proofs.settling.add_texts.Goals as goal
+
+pub settled_texts-requires : goal.settled_texts-requires
+settled_texts-requires c = record {
+  over =
+      subst (λ l. ArePendingOver c.args.subst.now (map pending l)) (sym c.deref.ensures.value)
+      (text_over_at c.args.subst.now c.args.text.now c.loop-one.one-index c.one-item.result c.loop-one-test.true c.one-item.is c.requires.over);
+}
 
 pub loop-one-preserved : goal.loop-one-preserved
 loop-one-preserved c =

@@ -1,5 +1,9 @@
 use Rattle.type_infer.proofs.Settled.{kinds_all}
+use Rattle.type_infer.proofs.Overs.{kind_over_at}
 use Rattle.type_infer.proofs.settling.settled_kinds.Goals as goal
+
+pub settle_kind-requires : goal.settle_kind-requires
+settle_kind-requires c = record { over = kind_over_at c.args.subst.now c.args.kinds.now c.loop-kind.kind-index _ c.loop-kind-test.true c.requires.over }
 
 pub returns : goal.returns
 returns c = kinds_all c.args.subst.now c.args.kinds.now c.loop-kind.kind-index c.loop-kind.settled c.loop-kind-test.false c.loop-kind.invariant

@@ -1,5 +1,9 @@
 use Rattle.type_infer.proofs.Settled.{texts_all, texts_more_at}
+use Rattle.type_infer.proofs.Overs.{pending_over_at}
 use Rattle.type_infer.proofs.settling.settled_texts.Goals as goal
+
+pub settle_text-requires : goal.settle_text-requires
+settle_text-requires c = record { over = pending_over_at c.args.subst.now c.args.kinds.now c.loop-kind.kind-index _ c.loop-kind-test.true c.requires.over }
 
 pub loop-kind-preserved : goal.loop-kind-preserved
 loop-kind-preserved c = texts_more_at c.args.subst.now c.args.kinds.now c.loop-kind.kind-index _ c.in_ok-one.one c.loop-kind.settled c.push.new.self c.loop-kind-test.true c.loop-kind.invariant c.in_ok-one.ensures c.in_ok-push.ensures.added

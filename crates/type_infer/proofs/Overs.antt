@@ -1,0 +1,97 @@
+-- The kinds of what statements have left are over the substitution, and such a kind is settled as one of a source.
+use Rattle.std.proofs.Common.{◌≡◌, ◌≢◌, ◌∙◌, sym, ap, subst, refl, ℕ, zero, suc, ◌<◌, ◌+◌, arith, length, get_or, List, [], ◌∷◌, ◌++◌, map, Option, Some, None}
+use Rattle.std.specs.Prelude.{⊤}
+use Rattle.liq_base.specs.declared.memory.Kind.{Kind}
+use Rattle.type_terms.specs.Extends.{HasDefaults}
+use Rattle.type_terms.specs.Ground.{Assignment, Ground, source}
+use Rattle.type_terms.specs.Resolved.{IsUnbound}
+use Rattle.type_terms.specs.Table.{IsOver, Solves, Table}
+use Rattle.type_terms.specs.Term.{Term, base_term, kind_meaning, list_term, meaning, source_term, term_of, tuple_term, variable}
+use Rattle.type_terms.specs.declared.ty.KindTerm.{KindTerm}
+use Rattle.type_terms.specs.declared.ty.Ty.{Ty}
+use Rattle.type_terms.specs.declared.ty.Ty.TheVariants as ty
+use Rattle.type_terms.proofs.Views.{term_Source}
+use Rattle.type_flow.specs.Environment.{AreKindsOver, AreKnownOver, ArePendingOver, AreUsesOver, Found, IsKindOver, IsPendingOver, IsTextOver, Known, Pending, TextUse, function, value}
+use Rattle.script_flow.specs.Statements.{AreFoundsOver, Done, bound, defined, known_after, known_of, ran}
+use Rattle.typing_rules.specs.Scripts.{Targets}
+use Rattle.script_grammar.specs.Tree.{Script}
+use Rattle.value_types.specs.Seen.{found, founds, pending, text_use}
+use Rattle.value_types.specs.declared.environment.FoundUse.{FoundUse}
+use Rattle.value_types.specs.declared.environment.KnownDef.{KnownDef}
+use Rattle.value_types.specs.declared.environment.TextKind.{TextKind}
+use Rattle.value_types.specs.declared.environment.TextUse.{TextUse as ATextUse}
+use Rattle.type_infer.specs.Settling.{AreDonesOver, IsDoneOver, source_of}
+use Rattle.type_infer.specs.States.{IsTypedSo, dones}
+use Rattle.type_infer.specs.Steps.{done_in, dones_in}
+use Rattle.type_infer.specs.declared.steps.Step.{Step}
+use Rattle.type_infer.specs.declared.steps.Typing.{Typing}
+
+-- ---- a kind
+
+pub kind_over : (s : Table) (k : KindTerm) → IsKindOver s k → IsOver s (term_of (ty.Source k))
+kind_over s k h = subst (IsOver s) (sym (term_Source (ty.Source k) k refl)) h
+
+-- what is resolved and means a source at a solution whose free types are int is a source
+is_source : (s : Table) (d : HasDefaults s) (u : Term) (k : Kind) → IsUnbound s u → meaning d.at u ≡ source k → source_of u ≢ None
+is_source s d (base_term b) k h e = absurd cc
+is_source s d (list_term t) k h e = absurd cc
+is_source s d (tuple_term ts) k h e = absurd cc
+is_source s d (source_term j) k h e = λ n. cc
+is_source s d (variable n) k h e = absurd (let int = d.types n h.1 in cc)
+
+pub source_is_found : (s : Table) (d : HasDefaults s) (k : KindTerm) (u : Ty) → IsUnbound s (term_of u) → ((a : Assignment) → Solves a s → meaning a (term_of u) ≡ meaning a (term_of (ty.Source k))) → source_of (term_of u) ≢ None
+source_is_found s d k u unbound same =
+    is_source s d (term_of u) (kind_meaning d.at k) unbound (same d.at d.solves ∙ ap (meaning d.at) (term_Source (ty.Source k) k refl))
+
+source_as : (u : Term) (k : KindTerm) → source_of u ≡ Some k → u ≡ source_term k
+source_as (base_term b) k e = absurd cc
+source_as (list_term t) k e = absurd cc
+source_as (tuple_term ts) k e = absurd cc
+source_as (source_term j) k e = cc
+source_as (variable n) k e = absurd cc
+
+pub is_source_term : (u : Ty) (k : KindTerm) (o : Option KindTerm) → o ≡ source_of (term_of u) → o ≡ Some k → term_of u ≡ source_term k
+is_source_term u k o e f = source_as (term_of u) k (sym e ∙ f)
+
+-- ---- at a place of a list
+
+pub kind_over_at : (s : Table) (ks : List KindTerm) (i : ℕ) (d : KindTerm) → i < length ks → AreKindsOver s ks → IsKindOver s (get_or ks i d)
+kind_over_at s [] i d lt h = absurd (omega (arith, lt))
+kind_over_at s (k ∷ ks) zero d lt h = h.0
+kind_over_at s (k ∷ ks) (suc i) d lt h = kind_over_at s ks i d (omega (arith, lt)) h.1
+
+pub pending_over_at : (s : Table) (ks : List TextKind) (i : ℕ) (d : TextKind) → i < length ks → ArePendingOver s (map pending ks) → IsPendingOver s (pending (get_or ks i d))
+pending_over_at s [] i d lt h = absurd (omega (arith, lt))
+pending_over_at s (k ∷ ks) zero d lt h = h.0
+pending_over_at s (k ∷ ks) (suc i) d lt h = pending_over_at s ks i d (omega (arith, lt)) h.1
+
+pub use_over_at : (s : Table) (xs : List FoundUse) (i : ℕ) (x : FoundUse) → i < length xs → x ≡ get_or xs i x → AreUsesOver s (founds xs) → AreKindsOver s x.kinds.items
+use_over_at s [] i x lt is h = absurd (omega (arith, lt))
+use_over_at s (y ∷ xs) zero x lt is h = subst (λ (z : FoundUse). AreKindsOver s z.kinds.items) (sym is) h.0
+use_over_at s (y ∷ xs) (suc i) x lt is h = use_over_at s xs i x (omega (arith, lt)) is h.1
+
+pub text_over_at : (s : Table) (xs : List ATextUse) (i : ℕ) (x : ATextUse) → i < length xs → x ≡ get_or xs i x → IsTextOver s (map text_use xs) → ArePendingOver s (map pending x.kinds.items)
+text_over_at s [] i x lt is h = absurd (omega (arith, lt))
+text_over_at s (y ∷ xs) zero x lt is h = subst (λ (z : ATextUse). ArePendingOver s (map pending z.kinds.items)) (sym is) h.0
+text_over_at s (y ∷ xs) (suc i) x lt is h = text_over_at s xs i x (omega (arith, lt)) is h.1
+
+-- ---- steps
+
+over_parts : (s : Table) (xs ys : List Done) → AreDonesOver s (xs ++ ys) → AreDonesOver s xs × AreDonesOver s ys
+over_parts s [] ys h = (tt, h)
+over_parts s (x ∷ xs) ys h = let p = over_parts s xs ys h.1 in ((h.0, p.0), p.1)
+
+pub step_over_at : (s : Table) (ds : List KnownDef) (xs : List Step) (i : ℕ) (x : Step) → i < length xs → x ≡ get_or xs i x → AreDonesOver s (dones_in ds xs) → AreDonesOver s (done_in ds x)
+step_over_at s ds [] i x lt is h = absurd (omega (arith, lt))
+step_over_at s ds (y ∷ xs) zero x lt is h = subst (λ (z : Step). AreDonesOver s (done_in ds z)) (sym is) (over_parts s (done_in ds y) (dones_in ds xs) h).0
+step_over_at s ds (y ∷ xs) (suc i) x lt is h = step_over_at s ds xs i x (omega (arith, lt)) is (over_parts s (done_in ds y) (dones_in ds xs) h).1
+
+-- what is known behind statements is over the substitution, and so are their uses
+dones_over : (s : Table) (ks : List Known) (xs : List Done) → AreKnownOver s (known_after ks xs) → AreFoundsOver s xs → AreKnownOver s ks × AreDonesOver s xs
+dones_over s ks [] h f = (h, tt)
+dones_over s ks (bound t u fs ∷ xs) h f = let p = dones_over s (value t u ∷ ks) xs h f.1 in (p.0.1, (f.0, p.1))
+dones_over s ks (defined d us ∷ xs) h f = let p = dones_over s (function d us ∷ ks) xs h f.1 in (p.0.1, (p.0.0, p.1))
+dones_over s ks (ran fs ∷ xs) h f = let p = dones_over s ks xs h f.1 in (p.0, (f.0, p.1))
+
+pub typed_over : (targets : Targets) (script : Script) (t : Typing) → IsTypedSo targets script t → AreDonesOver t.subst (dones t)
+typed_over targets script t so = (dones_over t.subst [] (dones t) so.typings.over so.typings.uses_over).1
