@@ -48,7 +48,7 @@ room_less (Some left) ticks size has = λ x e.
     omega (arith, enough, more, same)
 
 module _ (works other : Works) (parts : AreWorks works)
-    (are_lanes : AreLanes works.shape.plan.now works.shape.library.now other.lanes)
+    (are_lanes : AreLanes works.shape.plan.now works.shape.library.now works.shape.clocks.now other.lanes)
     (heard : Heard works.shape.plan.now works.shape.library.now works.shape.clocks.now (Main works.clock) works.own.items works.shape.plan.now.frame works.lanes other.lanes works.ports.items other.ports.items) where
   -- an output that has heard its node in the tick
   abbrev hear : Port → Port

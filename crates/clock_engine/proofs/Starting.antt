@@ -1,5 +1,7 @@
 -- New states stand for no instant.
-use Rattle.std.proofs.Common.{◌≡◌, ◌*◌, ℕ, List, Some, length, slice_get, arith, refl, subst, sym}
+use Rattle.std.proofs.Common.{◌≡◌, ◌*◌, ◌∙◌, ℕ, List, Some, length, get_or, slice_get, replicate, ap, arith, refl, subst, sym, inl, inr}
+use Rattle.std.proofs.lemmas.Bool.{cases_lt}
+use Rattle.std.proofs.lemmas.List.{get_or-replicate, get_or_past, length-replicate}
 use Rattle.clock_infer.specs.declared.clock_map.NodeClock.{NodeClock}
 use Rattle.stream_meaning.specs.Instants.{Setting, sub_of}
 use Rattle.node_states.specs.declared.time.WeekTime.{WeekTime}
@@ -34,3 +36,10 @@ pub new_stand : (setting : Setting) (clock : NodeClock) (lanes : Lanes) (n : ℕ
 new_stand setting clock lanes n rank ranks new time same =
     let none : 0 ≡ 0 * setting.plan.frame = omega arith in
     subst (λ m. LanesStand setting (sub_of setting) clock m lanes) none (none_made setting clock lanes n rank ranks new time same)
+
+-- a list of like items is that item at each place
+pub all_alike : {A : Type 0} (xs : List A) (n : ℕ) (a : A) → xs ≡ replicate n a → (j : ℕ) → get_or xs j a ≡ a
+all_alike xs n a alike j = ap (λ ys. get_or ys j a) alike ∙ elim (cases_lt j n) [
+  | inl low ↦ get_or-replicate n j a a low
+  | inr high ↦ get_or_past (replicate n a) j a (let long = length-replicate n a in omega (arith, high, long))
+]

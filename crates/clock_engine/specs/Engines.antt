@@ -72,7 +72,7 @@ pub record AreWorks (works : Works) : Type 0 where
   pub feeds : (i buffer node : ℕ) → slice_get works.shape.plan.now.sinks i ≡ Some (Feed buffer node) → ⊥
   pub in_clocks : length works.shape.clocks.now ≡ length works.shape.plan.now.nodes
   pub clocks : AreClocksOf works.shape.plan.now works.shape.clocks.now
-  pub lanes : AreLanes works.shape.plan.now works.shape.library.now works.lanes
+  pub lanes : AreLanes works.shape.plan.now works.shape.library.now works.shape.clocks.now works.lanes
   pub in_own : length works.own.items ≡ length works.shape.plan.now.nodes
   pub own : AreOwnRoots (setting_of works) works.own.items
   pub outputs : map output_of works.ports.items ≡ outputs_of (setting_of works) works.clock

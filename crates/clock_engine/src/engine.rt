@@ -20,7 +20,7 @@ use crate::parts::{most_children, own_roots, states_of, times_of};
 use clock_infer::{ClockMap, NodeClock};
 use clock_outputs::{Port, append_all};
 use engine_clocks::ClockLanes;
-use engine_instants::Shape;
+use engine_instants::{ClockNodes, Latest, Shape};
 use engine_ticks::{Lanes, run_tick};
 use fixed_text::WeekSecond;
 use frame_core::{Library, Taps};
@@ -84,7 +84,7 @@ fn make_works<'a>(
     let times = times_of(alloc, time, states.len())?;
     let parts = vec![in alloc; silent; states.len()]?;
     let marks = vec![in alloc; false; states.len()]?;
-    let roots = vec![in alloc; false; states.len()]?;
+    let nodes = ClockNodes::new(alloc, shape.clocks)?;
     let desk = Desk::new(alloc, most_children(shape.plan))?;
     let own = own_roots(alloc, &shape)?;
     let ports = ports_of(alloc, &shape, clock)?;
@@ -97,9 +97,12 @@ fn make_works<'a>(
             clocks: ClockLanes {
                 states,
                 times,
-                parts,
-                marks,
-                roots,
+                latest: Latest {
+                    clock: NodeClock::Main(clock),
+                    parts,
+                    marks,
+                },
+                nodes,
                 desk,
             },
             time,
@@ -114,7 +117,7 @@ fn make_works<'a>(
 fn run_works(works: &mut Works<'_>)
     requires { AreWorks works.old }
     ensures same { works.new ≡ after_tick works.old works.new works.old.ticks works.old.stopped }
-    ensures lanes { AreLanes works.old.shape.plan.now works.old.shape.library.now works.new.lanes }
+    ensures lanes { AreLanes works.old.shape.plan.now works.old.shape.library.now works.old.shape.clocks.now works.new.lanes }
     ensures heard { Heard works.old.shape.plan.now works.old.shape.library.now works.old.shape.clocks.now (InMain works.old.clock) works.old.own.items works.old.shape.plan.now.frame
         works.old.lanes works.new.lanes works.old.ports.items works.new.ports.items }
 {

@@ -1,5 +1,6 @@
 -- The crossfades of a clock are settled, one after another.
-use Rattle.std.proofs.Common.{◌≡◌, ◌<◌, ◌≤◌, ◌+◌, ◌∙◌, ℕ, Some, List, length, slice_get, arith, refl, ap, sym, subst, inl, inr}
+use Rattle.std.proofs.Common.{◌≡◌, ◌<◌, ◌≤◌, ◌+◌, ◌∙◌, ℕ, suc, Some, List, length, slice_get, arith, refl, ap, sym, subst, inl, inr}
+use Rattle.std.proofs.lemmas.Bool.{cases_lt}
 use Rattle.plan_core.specs.declared.node.Node.{Node}
 use Rattle.clock_infer.specs.declared.clock_map.NodeClock.{NodeClock}
 use Rattle.frame_core.specs.Slots.{Slot}
@@ -7,9 +8,11 @@ use Rattle.op_cross.specs.Runs.{run_of}
 use Rattle.stream_meaning.specs.Instants.{Setting, clock_of, history, position, work_at}
 use Rattle.node_states.specs.States.{IsSettled}
 use Rattle.node_states.specs.Ticks.{past_of}
+use Rattle.engine_instants.specs.Nodes.{IsFirst}
 use Rattle.engine_instants.proofs.Places.{below_or_same}
 use Rattle.engine_clocks.specs.declared.lanes.ClockLanes.{ClockLanes}
 use Rattle.engine_clocks.specs.Clocks.{AreLeft, HasItem, IsReached, Stand, is_in, is_node, is_upto, clock_at}
+use Rattle.engine_clocks.proofs.Equal.{not_same}
 
 -- an item stays where neither the clock nor the crossfade went on
 pub item_stays : (setting : Setting) (sub : ℕ → ℕ → List Slot) (ran ran' : NodeClock → ℕ) (fed fed' : ℕ → ℕ) (k : ℕ) (node : Node)
@@ -22,22 +25,25 @@ item_stays setting sub ran ran' fed fed' k node same same_fed item =
       run = λ overlap op. ap (λ past. run_of overlap (sub k) (position past k)) (sym past_is) ∙ item.run overlap op ∙ sym same_fed;
     }
 
+-- nodes of other clocks are passed over
+pub passed : (setting : Setting) (sub : ℕ → ℕ → List Slot) (rank : NodeClock → ℕ) (clock : NodeClock) (i n : ℕ) (ran : NodeClock → ℕ) (fed : ℕ → ℕ) (lanes : ClockLanes)
+    → IsFirst setting.clocks clock i n
+    → IsReached setting sub rank (rank clock) (is_in setting.clocks clock) (is_upto setting.clocks clock i) ran fed lanes
+    → IsReached setting sub rank (rank clock) (is_in setting.clocks clock) (is_upto setting.clocks clock n) ran fed lanes
+passed setting sub rank clock i n ran fed lanes first u = record {
+  ran_now = u.ran_now;
+  fed_now = u.fed_now;
+  stand = u.stand;
+  others = u.others;
+  held = u.held;
+  items = λ j node done found. elim (cases_lt j i) [
+    | inl low ↦ u.items j node (low, done.1) found
+    | inr high ↦ absurd (not_same (clock_of setting j) clock (first.skips j high done.0) done.1)
+  ];
+}
+
 module _ (setting : Setting) (sub : ℕ → ℕ → List Slot) (rank : NodeClock → ℕ) (clock : NodeClock) (i : ℕ) (ran : NodeClock → ℕ) (fed : ℕ → ℕ) (lanes : ClockLanes)
     (u : IsReached setting sub rank (rank clock) (is_in setting.clocks clock) (is_upto setting.clocks clock i) ran fed lanes) where
-  -- a node of another clock is passed over
-  pub passed : (clock_of setting i ≡ clock → ⊥) → IsReached setting sub rank (rank clock) (is_in setting.clocks clock) (is_upto setting.clocks clock (i + 1)) ran fed lanes
-  passed other = record {
-    ran_now = u.ran_now;
-    fed_now = u.fed_now;
-    stand = u.stand;
-    others = u.others;
-    held = u.held;
-    items = λ j node done found. elim (below_or_same j i done.0) [
-      | inl low ↦ u.items j node (low, done.1) found
-      | inr same ↦ absurd (other (ap (clock_of setting) (sym same) ∙ done.1))
-    ];
-  }
-
   module _ (here : clock_of setting i ≡ clock) where
     level : rank (clock_of setting i) ≡ rank clock
     level = ap rank here
@@ -50,14 +56,14 @@ module _ (setting : Setting) (sub : ℕ → ℕ → List Slot) (rank : NodeClock
       of_clock j inside = let same : rank (clock_of setting j) ≡ rank clock = ap rank inside in let here' = level in omega (arith, same, here')
 
       -- and so is one whose item is settled
-      pub joined : IsReached setting sub rank (rank clock) (is_in setting.clocks clock) (is_upto setting.clocks clock (i + 1)) ran fed new
+      pub joined : IsReached setting sub rank (rank clock) (is_in setting.clocks clock) (is_upto setting.clocks clock (suc i)) ran fed new
       joined = record {
         ran_now = v.ran_now;
         fed_now = v.fed_now;
         stand = subst (λ l. Stand setting sub rank l v.ran_now v.fed_now new) (ap rank here) v.stand;
         others = λ other low. v.others other (let l = level in omega (arith, low, l)) ∙ u.others other low;
         held = λ j apart low. v.held j (λ same. apart (ap (clock_of setting) same ∙ here)) (let l = level in omega (arith, low, l)) ∙ u.held j apart low;
-        items = λ j node done found. elim (below_or_same j i done.0) [
+        items = λ j node done found. elim (below_or_same j i (omega (arith, done.0))) [
           | inl less ↦ item_stays setting sub u.ran_now v.ran_now u.fed_now v.fed_now j node (v.others (clock_of setting j) (of_clock j done.1))
               (v.held j (λ same. omega (arith, less, same)) (of_clock j done.1)) (u.items j node (less, done.1) found)
           | inr same ↦ v.items j node same found

@@ -21,18 +21,10 @@ use Rattle.engine_clocks.specs.Clocks.{AreLeft, AreOwnRoots, HasItem, HasMade, H
 use Rattle.engine_clocks.proofs.Equal.{are_same, bumped, bumped-other, bumped-same, same_or_above, same_or_other, they_differ}
 use Rattle.engine_clocks.proofs.Taking.{needed_below}
 
-own_root : (setting : Setting) (clock : NodeClock) (i : ℕ) (own : Bool) (test : Bool) → same_clock (clock_of setting i) clock ≡ test
-    → own ≡ is_root setting (clock_of setting i) i → (test && own) ≡ (test && is_root setting clock i)
-own_root setting clock i own false e is = refl
-own_root setting clock i own true e is = is ∙ ap (λ c. is_root setting c i) (same_clock-true (clock_of setting i) clock e)
-
 -- the marks of a clock's own roots
-pub roots_are : (setting : Setting) (clock : NodeClock) (own roots : List Bool) → length roots ≡ length setting.plan.nodes
-    → ((i : ℕ) → i < length roots → get_or roots i false ≡ (same_clock (clock_of setting i) clock && get_or own i false))
-    → AreOwnRoots setting own → AreRoots setting clock roots
-roots_are setting clock own roots many marked are = record {
-  size = many;
-  each = λ i within. marked i (omega (arith, within, many)) ∙ own_root setting clock i (get_or own i false) (same_clock (clock_of setting i) clock) refl (are.each i within);
+pub roots_are : (setting : Setting) (clock : NodeClock) (own : List Bool) → AreOwnRoots setting own → AreRoots setting clock own
+roots_are setting clock own are = record {
+  each = λ i within inside. are.each i within ∙ ap (λ c. is_root setting c i) (same_clock-true (clock_of setting i) clock inside);
 }
 
 history_long : (setting : Setting) (sub : ℕ → ℕ → List Slot) (clock : NodeClock) (n : ℕ) → length (history setting sub clock n) ≡ n

@@ -52,7 +52,7 @@ pub record IsFed (setting : Setting) (sub : ℕ → ℕ → List Slot) (k : ℕ)
   pub times : (i : ℕ) → (i ≡ k → ⊥) → slice_get new.times.items i ≡ slice_get old.times.items i
   pub fed : (past : List Moment) (fed : ℕ) (work : Work) (before after : NodeState)
       → slice_get old.states.items k ≡ Some before → slice_get new.states.items k ≡ Some after → StateStands setting sub past fed k work before
-      → sub k (suc fed) ≡ sub k fed ++ (part_at old.parts.items (crossfaded setting.plan.nodes k)).slot ∷ [] → StateStands setting sub past (suc fed) k work after
+      → sub k (suc fed) ≡ sub k fed ++ (part_at old.latest.parts.items (crossfaded setting.plan.nodes k)).slot ∷ [] → StateStands setting sub past (suc fed) k work after
   pub time : (n : ℕ) (before after : WeekTime) → slice_get old.times.items k ≡ Some before → slice_get new.times.items k ≡ Some after
       → TimeStands setting.start n before → TimeStands setting.start (suc n) after
 
@@ -81,7 +81,7 @@ module _ (setting : Setting) (sub : ℕ → ℕ → List Slot) (rank : NodeClock
     second_under time at rate = second_of setting (r.ran_now (Sub k)) time rate (r.stand.time k time (omega arith) at)
 
     module _ (m : HasMade setting sub rank (Sub k) r.ran_now r.fed_now made)
-        (parts : made.parts.items ≡ (moment_after setting sub (Sub k) (history setting sub (Sub k) (r.ran_now (Sub k)))).parts)
+        (parts : made.latest.parts.items ≡ (moment_after setting sub (Sub k) (history setting sub (Sub k) (r.ran_now (Sub k)))).parts)
         (left : AreLeft setting.clocks rank (rank (Sub k)) (is_in setting.clocks (Sub k)) lanes made)
         (in_states : length made.states.items ≡ length setting.plan.nodes) (in_times : length made.times.items ≡ length setting.plan.nodes)
         (feeds : IsFed setting sub k made new) where
@@ -91,7 +91,7 @@ module _ (setting : Setting) (sub : ℕ → ℕ → List Slot) (rank : NodeClock
       fed_is : m.fed_now k ≡ r.ran_now (Sub k)
       fed_is = same_fed ∙ r.stand.even k within (omega arith)
 
-      grows : sub k (suc (m.fed_now k)) ≡ sub k (m.fed_now k) ++ (part_at made.parts.items (crossfaded setting.plan.nodes k)).slot ∷ []
+      grows : sub k (suc (m.fed_now k)) ≡ sub k (m.fed_now k) ++ (part_at made.latest.parts.items (crossfaded setting.plan.nodes k)).slot ∷ []
       grows = meaning_step setting sub k (m.fed_now k) meaning
           ∙ ap (λ n. sub k (m.fed_now k) ++ (part_at (moment_after setting sub (Sub k) (history setting sub (Sub k) n)).parts (crossfaded setting.plan.nodes k)).slot ∷ []) fed_is
           ∙ ap (λ ps. sub k (m.fed_now k) ++ (part_at ps (crossfaded setting.plan.nodes k)).slot ∷ []) (sym parts)

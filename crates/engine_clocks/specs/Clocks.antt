@@ -17,6 +17,7 @@ use Rattle.node_states.specs.declared.time.WeekTime.{WeekTime}
 use Rattle.node_states.specs.States.{IsSettled, StateStands, left, wants}
 use Rattle.node_states.specs.Ticks.{past_of}
 use Rattle.node_states.specs.Times.{TimeStands}
+use Rattle.engine_instants.specs.Nodes.{AreNodesOf, IsLatest}
 use Rattle.engine_instants.specs.States.{AllFit, HasRoomFor}
 use Rattle.engine_clocks.specs.declared.lanes.ClockLanes.{ClockLanes}
 
@@ -34,13 +35,12 @@ pub record HasLevels (clocks : List NodeClock) (clock : NodeClock) (levels : ℕ
   pub ranks : HasRanks clocks rank
   pub enough : (k : ℕ) → k < length clocks → rank (Sub k) ≤ rank clock + levels
 
--- lanes for the nodes of this plan, with these files
-pub record AreClockLanes (plan : Plan) (library : Sounds) (lanes : ClockLanes) : Type 0 where
+-- lanes for the nodes of this plan, with these files and these clocks of its nodes
+pub record AreClockLanes (plan : Plan) (library : Sounds) (clocks : List NodeClock) (lanes : ClockLanes) : Type 0 where
   pub fit : AllFit plan library lanes.states.items
   pub in_times : length lanes.times.items ≡ length plan.nodes
-  pub in_parts : length lanes.parts.items ≡ length plan.nodes
-  pub in_marks : length lanes.marks.items ≡ length plan.nodes
-  pub in_roots : length lanes.roots.items ≡ length plan.nodes
+  pub chains : AreNodesOf clocks lanes.nodes
+  pub latest : IsLatest clocks lanes.latest
   pub room : HasRoomFor plan lanes.desk
   pub rates : (k : ℕ) (time : WeekTime) → slice_get lanes.times.items k ≡ Some time → time.rate ≡ plan.rate
 

@@ -13,7 +13,7 @@ use crate::ClockLanes;
 use crate::feeding::feed_child;
 use crate::finishing::finish;
 use clock_infer::NodeClock;
-use engine_instants::{Shape, is_same_clock};
+use engine_instants::Shape;
 use fixed_text::WeekSecond;
 
 // Feeds node k, if it is a crossfade, until its item is settled.
@@ -23,10 +23,10 @@ fn settle(shape: &Shape<'_>, own: &[bool], lanes: &mut ClockLanes, k: u32, level
     requires few { length shape.now.plan.now.nodes ≤ MAX_NODES }
     requires in_clocks { length shape.now.clocks.now ≡ length shape.now.plan.now.nodes }
     requires in_own { length own.now ≡ length shape.now.plan.now.nodes }
-    requires lanes { AreClockLanes shape.now.plan.now shape.now.library.now lanes.old }
+    requires lanes { AreClockLanes shape.now.plan.now shape.now.library.now shape.now.clocks.now lanes.old }
     requires levels { HasLevels shape.now.clocks.now (slice_index_or shape.now.clocks.now k (InMain 0)) levels }
     requires within { k < length shape.now.plan.now.nodes }
-    ensures lanes { AreClockLanes shape.now.plan.now shape.now.library.now lanes.new }
+    ensures lanes { AreClockLanes shape.now.plan.now shape.now.library.now shape.now.clocks.now lanes.new }
     ensures left { (rank : Clock → ℕ) → HasRanks shape.now.clocks.now rank
         → AreLeft shape.now.clocks.now rank (rank (slice_index_or shape.now.clocks.now k (InMain 0))) (is_node k) lanes.old lanes.new }
     ensures reached { (setting : Setting) (sub : ℕ → ℕ → List TheSlot) (rank ran : Clock → ℕ) (fed : ℕ → ℕ) →
@@ -56,9 +56,9 @@ fn settle_all(
     requires few { length shape.now.plan.now.nodes ≤ MAX_NODES }
     requires in_clocks { length shape.now.clocks.now ≡ length shape.now.plan.now.nodes }
     requires in_own { length own.now ≡ length shape.now.plan.now.nodes }
-    requires lanes { AreClockLanes shape.now.plan.now shape.now.library.now lanes.old }
+    requires lanes { AreClockLanes shape.now.plan.now shape.now.library.now shape.now.clocks.now lanes.old }
     requires levels { HasLevels shape.now.clocks.now clock levels }
-    ensures lanes { AreClockLanes shape.now.plan.now shape.now.library.now lanes.new }
+    ensures lanes { AreClockLanes shape.now.plan.now shape.now.library.now shape.now.clocks.now lanes.new }
     ensures left { (rank : Clock → ℕ) → HasRanks shape.now.clocks.now rank
         → AreLeft shape.now.clocks.now rank (rank clock) (is_in shape.now.clocks.now clock) lanes.old lanes.new }
     ensures reached { (setting : Setting) (sub : ℕ → ℕ → List TheSlot) (rank ran : Clock → ℕ) (fed : ℕ → ℕ) →
@@ -67,11 +67,10 @@ fn settle_all(
         → Stand setting sub rank (rank clock) ran fed lanes.old
         → IsReached setting sub rank (rank clock) (is_in shape.now.clocks.now clock) (is_upto shape.now.clocks.now clock (length shape.now.plan.now.nodes)) ran fed lanes.new }
 {
-    for i in 0..shape.plan.nodes.len() {
-        if !is_same_clock(shape.clocks[i], clock) {
-            continue;
-        }
+    let mut i = lanes.nodes.first(clock);
+    while i < shape.clocks.len() {
         settle(shape, own, lanes, i as u32, levels);
+        i = lanes.nodes.after(i);
     }
 }
 
@@ -92,9 +91,9 @@ pub fn make_instant(
     requires few { length shape.now.plan.now.nodes ≤ MAX_NODES }
     requires in_clocks { length shape.now.clocks.now ≡ length shape.now.plan.now.nodes }
     requires in_own { length own.now ≡ length shape.now.plan.now.nodes }
-    requires lanes { AreClockLanes shape.now.plan.now shape.now.library.now lanes.old }
+    requires lanes { AreClockLanes shape.now.plan.now shape.now.library.now shape.now.clocks.now lanes.old }
     requires levels { HasLevels shape.now.clocks.now clock levels }
-    ensures lanes { AreClockLanes shape.now.plan.now shape.now.library.now lanes.new }
+    ensures lanes { AreClockLanes shape.now.plan.now shape.now.library.now shape.now.clocks.now lanes.new }
     ensures left { (rank : Clock → ℕ) → HasRanks shape.now.clocks.now rank
         → AreLeft shape.now.clocks.now rank (rank clock) (is_in shape.now.clocks.now clock) lanes.old lanes.new }
     ensures stand { (setting : Setting) (sub : ℕ → ℕ → List TheSlot) (rank ran : Clock → ℕ) (fed : ℕ → ℕ) →
@@ -108,7 +107,7 @@ pub fn make_instant(
         HasRanks shape.now.clocks.now rank → IsMeaning setting sub → AreOwnRoots setting own.now
         → Stand setting sub rank (rank clock) ran fed lanes.old
         → at.second ≡ second_at setting (ran clock)
-        → lanes.new.parts.items ≡ (moment_after setting sub clock (history setting sub clock (ran clock))).parts }
+        → lanes.new.latest.parts.items ≡ (moment_after setting sub clock (history setting sub clock (ran clock))).parts }
 {
     settle_all(shape, own, lanes, clock, levels);
     finish(shape, own, lanes, clock, at);

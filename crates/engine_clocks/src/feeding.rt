@@ -48,23 +48,23 @@ fn slot_of(parts: &[Part], number: u32) -> Option<Cell>
 /// Feeds crossfade k, which wants it, the slot that its child has at the instant that its sub-clock made, and takes the time
 /// of the sub-clock on.
 pub fn feed_child(shape: &Shape<'_>, lanes: &mut ClockLanes, k: u32)
-    requires lanes { AreClockLanes shape.now.plan.now shape.now.library.now lanes.old }
+    requires lanes { AreClockLanes shape.now.plan.now shape.now.library.now shape.now.clocks.now lanes.old }
     requires within { k < length shape.now.plan.now.nodes }
     requires wants { wants_at lanes.old.states.items k ≡ true }
-    ensures lanes { AreClockLanes shape.now.plan.now shape.now.library.now lanes.new }
+    ensures lanes { AreClockLanes shape.now.plan.now shape.now.library.now shape.now.clocks.now lanes.new }
     ensures states { (i : ℕ) → (i ≡ k → ⊥) → slice_get lanes.new.states.items i ≡ slice_get lanes.old.states.items i }
     ensures times { (i : ℕ) → (i ≡ k → ⊥) → slice_get lanes.new.times.items i ≡ slice_get lanes.old.times.items i }
     ensures less { left_at lanes.new.states.items k < left_at lanes.old.states.items k }
     ensures fed { (setting : Setting) (sub : ℕ → ℕ → List Slot) (past : List Moment) (fed : ℕ) (work : Work) (before after : State)
         → slice_get lanes.old.states.items k ≡ Some before → slice_get lanes.new.states.items k ≡ Some after
         → StateStands setting sub past fed k work before
-        → sub k (suc fed) ≡ sub k fed ++ (part_at lanes.old.parts.items (crossfaded shape.now.plan.now.nodes k)).slot ∷ []
+        → sub k (suc fed) ≡ sub k fed ++ (part_at lanes.old.latest.parts.items (crossfaded shape.now.plan.now.nodes k)).slot ∷ []
         → StateStands setting sub past (suc fed) k work after }
     ensures time { (start n : ℕ) (before after : Time) → slice_get lanes.old.times.items k ≡ Some before
         → slice_get lanes.new.times.items k ≡ Some after → TimeStands start n before → TimeStands start (suc n) after }
 {
     let child = child_of(shape.plan.nodes.as_slice(), k);
-    let slot = slot_of(&lanes.parts, child);
+    let slot = slot_of(&lanes.latest.parts, child);
     let at = k as usize;
     lanes.states[at].feed(slot);
     lanes.times[at] = lanes.times[at].next();

@@ -9,7 +9,6 @@ ghost use Rattle.engine_instants.specs.States.{AreSettled, ClockStands, over};
 ghost use Rattle.engine_clocks.specs.Clocks.{AreClockLanes, AreOwnRoots};
 
 use crate::ClockLanes;
-use crate::roots::mark_roots;
 use clock_infer::NodeClock;
 use engine_instants::{Shape, finish_instant};
 use fixed_text::WeekSecond;
@@ -25,8 +24,8 @@ pub fn finish(
     requires nodes { AreNodes shape.now.plan.now.nodes }
     requires in_clocks { length shape.now.clocks.now ≡ length shape.now.plan.now.nodes }
     requires in_own { length own.now ≡ length shape.now.plan.now.nodes }
-    requires lanes { AreClockLanes shape.now.plan.now shape.now.library.now lanes.old }
-    ensures lanes { AreClockLanes shape.now.plan.now shape.now.library.now lanes.new }
+    requires lanes { AreClockLanes shape.now.plan.now shape.now.library.now shape.now.clocks.now lanes.old }
+    ensures lanes { AreClockLanes shape.now.plan.now shape.now.library.now shape.now.clocks.now lanes.new }
     ensures others { (i : ℕ) → same_clock (slice_index_or shape.now.clocks.now i (InMain 0)) clock ≡ false
         → slice_get lanes.new.states.items i ≡ slice_get lanes.old.states.items i }
     ensures times { lanes.new.times.items ≡ lanes.old.times.items }
@@ -34,22 +33,21 @@ pub fn finish(
         let setting = over shape.now.plan.now shape.now.library.now shape.now.clocks.now setting in
         at.second ≡ second_at setting (length past) → AreLong sub → ClockStands setting sub clock past fed lanes.old.states.items
         → AreSettled setting sub clock past fed → AreOwnRoots setting own.now
-        → lanes.new.parts.items ≡ (moment_after setting sub clock past).parts }
+        → lanes.new.latest.parts.items ≡ (moment_after setting sub clock past).parts }
     ensures stand { (setting : Setting) (sub : ℕ → ℕ → List TheSlot) (past : List Moment) (fed : ℕ → ℕ) →
         let setting = over shape.now.plan.now shape.now.library.now shape.now.clocks.now setting in
         at.second ≡ second_at setting (length past) → AreLong sub → ClockStands setting sub clock past fed lanes.old.states.items
         → AreSettled setting sub clock past fed → AreOwnRoots setting own.now
         → ClockStands setting sub clock (moment_after setting sub clock past ∷ past) fed lanes.new.states.items }
 {
-    mark_roots(shape.clocks, own, clock, &mut lanes.roots);
     finish_instant(
         shape,
+        &lanes.nodes,
         clock,
         at,
-        &lanes.roots,
+        own,
         &mut lanes.states,
-        &mut lanes.parts,
-        &mut lanes.marks,
+        &mut lanes.latest,
         &mut lanes.desk,
     );
 }

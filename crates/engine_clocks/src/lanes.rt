@@ -1,16 +1,15 @@
 // What changes from instant to instant.
+use engine_instants::{ClockNodes, Latest};
 use node_states::{Desk, NodeState, WeekTime};
-use stream_meaning::Part;
 
 /// What changes from instant to instant in a clock and in the sub-clocks below it: for each node of the plan its state, and
-/// the time of the next instant of its sub-clock, where it is a crossfade; and room for what an instant is made of: what
-/// each node does, whether it is demanded and whether it is so of itself, and the children of a node.
+/// the time of the next instant of its sub-clock, where it is a crossfade; the latest instant of any of the clocks; and room
+/// for the children of a node. With the nodes of each clock, which stay.
 #[derive(Drop)]
 pub struct ClockLanes {
     pub states: Vec<NodeState>,
     pub times: Vec<WeekTime>,
-    pub parts: Vec<Part>,
-    pub marks: Vec<bool>,
-    pub roots: Vec<bool>,
+    pub latest: Latest,
+    pub nodes: ClockNodes,
     pub desk: Desk,
 }

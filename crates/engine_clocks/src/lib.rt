@@ -5,7 +5,6 @@ mod clocks;
 mod feeding;
 mod finishing;
 mod lanes;
-mod roots;
 
 pub use clocks::make_instant;
 pub use feeding::child_of;

@@ -1,6 +1,6 @@
 -- The states of a clock go on by an instant, one node at a time.
-use Rattle.std.proofs.Common.{◌≡◌, ◌<◌, ◌+◌, ◌∙◌, ℕ, Bool, false, List, Some, ◌∷◌, length, set, get_or, slice_get, arith, ap, sym, subst, inl, inr}
-use Rattle.std.proofs.lemmas.Bool.{true≢false}
+use Rattle.std.proofs.Common.{◌≡◌, ◌<◌, ◌+◌, ◌∙◌, ℕ, suc, Bool, false, List, Some, ◌∷◌, length, set, get_or, slice_get, arith, ap, sym, subst, inl, inr}
+use Rattle.std.proofs.lemmas.Bool.{cases_lt, true≢false}
 use Rattle.std.proofs.lemmas.List.{length-map}
 use Rattle.std.proofs.lemmas.Option.{slice_get_within}
 use Rattle.std.proofs.Math.ListN.{length-set}
@@ -13,9 +13,10 @@ use Rattle.stream_meaning.specs.declared.part.Part.{Part}
 use Rattle.stream_meaning.specs.Instants.{Setting, Moment, demanded, lies_in, part_at, part_by, parts_upto, slots_at, work_at}
 use Rattle.node_states.specs.declared.state.NodeState.{NodeState}
 use Rattle.node_states.specs.States.{Fits, IsSettled, StateStands}
+use Rattle.engine_instants.specs.Nodes.{IsFirst}
 use Rattle.engine_instants.specs.States.{AllFit, AreSettled, ClockStands, IsIn}
 use Rattle.engine_instants.proofs.Parts.{own_part}
-use Rattle.engine_instants.proofs.Places.{below_or_same, same_or_other, slice_get-set_other, slice_get-set_same}
+use Rattle.engine_instants.proofs.Places.{same_or_other, slice_get-set_other, slice_get-set_same}
 
 -- the nodes below `below` have gone on by this moment
 pub record IsGoneOn (setting : Setting) (sub : ℕ → ℕ → List Slot) (clock : NodeClock) (past : List Moment) (moment : Moment) (fed : ℕ → ℕ)
@@ -27,13 +28,13 @@ pub gone_none : (setting : Setting) (sub : ℕ → ℕ → List Slot) (clock : N
     → IsGoneOn setting sub clock past moment fed 0 states
 gone_none setting sub clock past moment fed states = record { each = λ k node state below inside found. absurd (omega (arith, below)) }
 
--- a node of another clock stays
-pub gone_skip : (setting : Setting) (sub : ℕ → ℕ → List Slot) (clock : NodeClock) (past : List Moment) (moment : Moment) (fed : ℕ → ℕ) (i : ℕ) (states : List NodeState)
-    → lies_in setting clock i ≡ false → IsGoneOn setting sub clock past moment fed i states → IsGoneOn setting sub clock past moment fed (i + 1) states
-gone_skip setting sub clock past moment fed i states outside gone = record {
-  each = λ k node state below inside found. elim (below_or_same k i below) [
+-- nodes of other clocks stay
+pub gone_skip : (setting : Setting) (sub : ℕ → ℕ → List Slot) (clock : NodeClock) (past : List Moment) (moment : Moment) (fed : ℕ → ℕ) (i n : ℕ) (states : List NodeState)
+    → IsFirst setting.clocks clock i n → IsGoneOn setting sub clock past moment fed i states → IsGoneOn setting sub clock past moment fed n states
+gone_skip setting sub clock past moment fed i n states first gone = record {
+  each = λ k node state below inside found. elim (cases_lt k i) [
     | inl less ↦ gone.each k node state less inside found
-    | inr same ↦ absurd (true≢false (sym inside.inside ∙ ap (λ j. lies_in setting clock j) same ∙ outside))
+    | inr high ↦ absurd (true≢false (sym inside.inside ∙ first.skips k high below))
   ];
 }
 
@@ -41,7 +42,7 @@ gone_skip setting sub clock past moment fed i states outside gone = record {
 pub gone_step : (setting : Setting) (sub : ℕ → ℕ → List Slot) (clock : NodeClock) (past : List Moment) (moment : Moment) (fed : ℕ → ℕ) (i : ℕ) (states : List NodeState) (new : NodeState)
     → i < length states
     → ((node : Node) → IsIn setting clock i node → StateStands setting sub (moment ∷ past) (fed i) i (work_at setting i node) new)
-    → IsGoneOn setting sub clock past moment fed i states → IsGoneOn setting sub clock past moment fed (i + 1) (set states i new)
+    → IsGoneOn setting sub clock past moment fed i states → IsGoneOn setting sub clock past moment fed (suc i) (set states i new)
 gone_step setting sub clock past moment fed i states new within goes gone = record {
   each = λ k node state below inside found. elim (same_or_other i k) [
     | inl same ↦ subst (λ j. IsIn setting clock j node → slice_get (set states i new) j ≡ Some state → StateStands setting sub (moment ∷ past) (fed j) j (work_at setting j node) state) same (here node state) inside found

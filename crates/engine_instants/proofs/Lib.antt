@@ -1,5 +1,9 @@
 pub mod Places
+pub mod Linking
 pub mod Parts
+pub mod Walking
+pub mod Picks
 pub mod Marking
-pub mod Roots
+pub mod Unmarked
+pub mod Demanded
 pub mod Going

@@ -14,13 +14,12 @@ use Rattle.engine_instants.proofs.Places.{below_or_same}
 pub parts_step : (setting : Setting) (sub : ℕ → ℕ → List Slot) (clock : NodeClock) (past : List Moment) (parts : List Part) (i : ℕ) (part : Part)
     → i < length parts → take i parts ≡ parts_upto setting sub clock past i
     → part ≡ part_in setting sub (lies_in setting clock i) past i (slice_get setting.plan.nodes i) (take i parts)
-    → take (i + 1) (set parts i part) ≡ parts_upto setting sub clock past (i + 1)
+    → take (suc i) (set parts i part) ≡ parts_upto setting sub clock past (suc i)
 parts_step setting sub clock past parts i part within before is =
-    take_more_set parts i part within
+    ap (λ n. take n (set parts i part)) (sym (add-one i)) ∙ take_more_set parts i part within
     ∙ ap (λ front. front ++ part ∷ []) before
     ∙ ap (λ p. parts_upto setting sub clock past i ++ p ∷ [])
     (is ∙ ap (λ front. part_in setting sub (lies_in setting clock i) past i (slice_get setting.plan.nodes i) front) before)
-    ∙ ap (λ n. parts_upto setting sub clock past n) (sym (add-one i))
 
 pub parts_long : (setting : Setting) (sub : ℕ → ℕ → List Slot) (clock : NodeClock) (past : List Moment) (n : ℕ)
     → length (parts_upto setting sub clock past n) ≡ n

@@ -4,10 +4,10 @@ ghost use Rattle.clock_infer.specs.declared.clock_map.NodeClock.TheVariants.{Mai
 ghost use Rattle.frame_core.specs.Slots.{Slot as TheSlot};
 ghost use Rattle.stream_meaning.specs.Instants.{Setting, Moment, parts_upto, same_clock};
 ghost use Rattle.node_states.specs.States.{AreLong};
+ghost use Rattle.engine_instants.specs.Nodes.{AreNodesOf};
 ghost use Rattle.engine_instants.specs.States.{AllFit, AreSettled, ClockStands, over};
 
-use crate::Shape;
-use crate::offers::is_same_clock;
+use crate::{ClockNodes, Shape};
 use clock_infer::NodeClock;
 use node_states::NodeState;
 use stream_meaning::Part;
@@ -15,12 +15,14 @@ use stream_meaning::Part;
 /// Takes the nodes of a clock on by an instant at which they did this and these were demanded.
 pub fn advance_all(
     shape: &Shape<'_>,
+    nodes: &ClockNodes,
     clock: NodeClock,
     parts: &[Part],
     marks: &[bool],
     states: &mut [NodeState],
 )
     requires in_clocks { length shape.now.clocks.now ≡ length shape.now.plan.now.nodes }
+    requires chains { AreNodesOf shape.now.clocks.now nodes.now }
     requires in_parts { length parts.now ≡ length shape.now.plan.now.nodes }
     requires in_marks { length marks.now ≡ length shape.now.plan.now.nodes }
     requires fit { AllFit shape.now.plan.now shape.now.library.now states.old }
@@ -33,11 +35,10 @@ pub fn advance_all(
         → moment.parts ≡ parts.now → moment.demands ≡ marks.now
         → ClockStands setting sub clock (moment ∷ past) fed states.new }
 {
-    for i in 0..shape.plan.nodes.len() {
-        if !is_same_clock(shape.clocks[i], clock) {
-            continue;
-        }
+    let mut i = nodes.first(clock);
+    while i < shape.clocks.len() {
         let children = shape.plan.nodes.as_slice()[i].children.len();
         states[i].next(parts[i], marks[i], shape.library, children);
+        i = nodes.after(i);
     }
 }

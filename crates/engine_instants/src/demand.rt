@@ -6,11 +6,14 @@ ghost use Rattle.clock_infer.specs.declared.clock_map.NodeClock.{NodeClock as Cl
 ghost use Rattle.frame_core.specs.Library.{Sounds};
 ghost use Rattle.plan_core.specs.Plans.{AreNodes};
 ghost use Rattle.stream_meaning.specs.Operators.{work_of};
-ghost use Rattle.stream_meaning.specs.Instants.{Setting, demands_from, uses_by, uses_from};
-ghost use Rattle.engine_instants.specs.Demands.{uses_in};
+ghost use Rattle.stream_meaning.specs.Instants.{Setting, child_at, demands_from, offering, part_at, silent, uses_by, uses_from};
+ghost use Rattle.engine_instants.specs.Demands.{PicksOffer, uses_in};
+ghost use Rattle.engine_instants.specs.Nodes.{AreNodesOf, lies_at};
 ghost use Rattle.engine_instants.specs.States.{over};
 
-use plan_core::{Op, Plan};
+use crate::{ClockNodes, Shape};
+use clock_infer::NodeClock;
+use plan_core::Op;
 use stream_meaning::Part;
 
 // Which children a demanded node uses.
@@ -24,6 +27,7 @@ pub enum Demand {
 // Which children a demanded node of this operator uses.
 fn demand_of(op: &Op) -> Demand
     ensures { (rate i : ℕ) (kind : TheKind) (parts : List Part) (children : List ℕ) (pick : Option ℕ)
+        → offering parts (child_at children pick) ≡ child_at children pick
         → uses_by parts (work_of rate i kind op.now) children pick ≡ uses_in result parts children pick }
 {
     match op {
@@ -36,10 +40,11 @@ fn demand_of(op: &Op) -> Demand
     }
 }
 
-// Marks the child at a place.
-fn mark_picked(children: &[u32], pick: Option<u32>, marks: &mut [bool])
+// Marks the child at a place, if it offers.
+fn mark_picked(children: &[u32], parts: &[Part], pick: Option<u32>, marks: &mut [bool])
     requires in_marks { All (λ child. child < length marks.old) children.now }
-    ensures { (j : ℕ) → slice_index_or marks.new j false ≡ (slice_index_or marks.old j false || list_any (nat_eq j) (uses_in Demand.Picked [] children.now pick)) }
+    requires in_parts { All (λ child. child < length parts.now) children.now }
+    ensures { (j : ℕ) → slice_index_or marks.new j false ≡ (slice_index_or marks.old j false || list_any (nat_eq j) (uses_in Demand.Picked parts.now children.now pick)) }
 {
     let Some(place) = pick else {
         return;
@@ -47,7 +52,9 @@ fn mark_picked(children: &[u32], pick: Option<u32>, marks: &mut [bool])
     let Some(child) = children.get(place as usize) else {
         return;
     };
-    marks[*child as usize] = true;
+    if parts[*child as usize].slot.is_some() {
+        marks[*child as usize] = true;
+    }
 }
 
 // Marks the children that offer.
@@ -77,31 +84,44 @@ fn mark_used(
 {
     match demand {
         Demand::Nothing => {}
-        Demand::Picked => mark_picked(children, pick, marks),
+        Demand::Picked => mark_picked(children, parts, pick, marks),
         Demand::Offering => mark_offering(children, parts, marks),
     }
 }
 
-/// Finds the demanded nodes, over marks that are set at those that are demanded of themselves.
-pub fn mark_demanded(plan: &Plan, parts: &[Part], marks: &mut [bool])
-    requires nodes { AreNodes plan.now.nodes }
-    requires in_parts { length parts.now ≡ length plan.now.nodes }
-    requires in_marks { length marks.old ≡ length plan.now.nodes }
-    ensures { (library : Sounds) (clocks : List Clock) (setting : Setting) → marks.new ≡ demands_from (λ j. slice_index_or marks.old j false) 0
-        (uses_from (over plan.now library clocks setting) parts.now 0 plan.now.nodes) }
+/// Finds the demanded nodes of a clock, over marks that are set at those that are demanded of themselves. Nodes of other
+/// clocks do nothing and stay unmarked.
+pub fn mark_demanded(
+    shape: &Shape<'_>,
+    nodes: &ClockNodes,
+    clock: NodeClock,
+    parts: &[Part],
+    marks: &mut [bool],
+)
+    requires nodes { AreNodes shape.now.plan.now.nodes }
+    requires in_clocks { length shape.now.clocks.now ≡ length shape.now.plan.now.nodes }
+    requires chains { AreNodesOf shape.now.clocks.now nodes.now }
+    requires in_parts { length parts.now ≡ length shape.now.plan.now.nodes }
+    requires in_marks { length marks.old ≡ length shape.now.plan.now.nodes }
+    requires parts { (j : ℕ) → lies_at shape.now.clocks.now clock j ≡ false → part_at parts.now j ≡ silent }
+    requires marks { (j : ℕ) → lies_at shape.now.clocks.now clock j ≡ false → slice_index_or marks.old j false ≡ false }
+    ensures others { (j : ℕ) → lies_at shape.now.clocks.now clock j ≡ false → slice_index_or marks.new j false ≡ false }
+    ensures demands { (library : Sounds) (clocks : List Clock) (setting : Setting) → PicksOffer shape.now.plan.now.nodes parts.now
+        → marks.new ≡ demands_from (λ j. slice_index_or marks.old j false) 0 (uses_from (over shape.now.plan.now library clocks setting) parts.now 0 shape.now.plan.now.nodes) }
 {
-    let nodes = plan.nodes.as_slice();
-    let mut i = nodes.len();
+    let all = shape.plan.nodes.as_slice();
+    let mut i = nodes.end(clock);
     while i > 0 {
-        i -= 1;
-        if marks[i] {
-            let node = &nodes[i];
+        let at = i - 1;
+        i = nodes.before(at);
+        if marks[at] {
+            let node = &all[at];
             mark_used(
                 demand_of(&node.op),
                 node.children.as_slice(),
                 parts,
-                parts[i].pick,
-                &mut marks[..i],
+                parts[at].pick,
+                &mut marks[..at],
             );
         }
     }

@@ -4,9 +4,14 @@
 mod advance;
 mod demand;
 mod instant;
+mod latest;
+mod nodes;
 mod offers;
+mod roots;
 mod shape;
 
 pub use instant::finish_instant;
+pub use latest::Latest;
+pub use nodes::ClockNodes;
 pub use offers::is_same_clock;
 pub use shape::Shape;

@@ -1,13 +1,15 @@
 // What the nodes of a clock do at an instant.
-ghost use Rattle.std.specs.Prelude.{◌≡◌, ◌<◌, ◌≤◌, ℕ, List, Some, length, slice_get};
+ghost use Rattle.std.specs.Prelude.{◌≡◌, ◌<◌, ◌≤◌, ℕ, List, Some, true, false, length, slice_get};
 ghost use Rattle.plan_core.specs.declared.node.Node.{Node as PlanNode};
 ghost use Rattle.plan_core.specs.Plans.{AreNodes};
+ghost use Rattle.clock_infer.specs.declared.clock_map.NodeClock.{NodeClock as Clock};
 ghost use Rattle.frame_core.specs.Slots.{Slot as TheSlot};
-ghost use Rattle.stream_meaning.specs.Instants.{Setting, Moment, lies_in, part_in, parts_upto, same_clock, second_at, work_at};
+ghost use Rattle.stream_meaning.specs.Instants.{Setting, Moment, lies_in, part_at, part_in, parts_upto, same_clock, second_at, silent, work_at};
 ghost use Rattle.node_states.specs.States.{AreLong, Fits, IsSettled, StateStands};
+ghost use Rattle.engine_instants.specs.Nodes.{AreNodesOf, lies_at};
 ghost use Rattle.engine_instants.specs.States.{AllFit, AreSettled, ClockStands, HasRoomFor, IsIn, over};
 
-use crate::Shape;
+use crate::{ClockNodes, Shape};
 use clock_infer::NodeClock;
 use fixed_text::WeekSecond;
 use node_states::{Desk, NodeState};
@@ -24,10 +26,9 @@ pub fn is_same_clock(one: NodeClock, other: NodeClock) -> bool
     }
 }
 
-// What node i does, over what the nodes before it do: nothing where it lies in another clock.
-fn offer_in(
+// What node i does, over what the nodes before it do.
+fn offer_of(
     shape: &Shape<'_>,
-    clock: NodeClock,
     state: &NodeState,
     i: usize,
     at: WeekSecond,
@@ -35,31 +36,25 @@ fn offer_in(
     desk: &mut Desk,
 ) -> Part
     requires nodes { AreNodes shape.now.plan.now.nodes }
-    requires in_clocks { length shape.now.clocks.now ≡ length shape.now.plan.now.nodes }
     requires within { i < length shape.now.plan.now.nodes }
     requires fits { (node : PlanNode) → slice_get shape.now.plan.now.nodes i ≡ Some node → Fits shape.now.library.now (length node.children) state.now }
     requires room { HasRoomFor shape.now.plan.now desk.old }
     ensures room { desk.new ≡ desk.old }
-    ensures part { (setting : Setting) (sub : ℕ → ℕ → List TheSlot) (past : List Moment) (fed : ℕ) →
+    ensures part { (setting : Setting) (sub : ℕ → ℕ → List TheSlot) (clock : Clock) (past : List Moment) (fed : ℕ) →
         let setting = over shape.now.plan.now shape.now.library.now shape.now.clocks.now setting in
-        at.second ≡ second_at setting (length past) → AreLong sub
+        at.second ≡ second_at setting (length past) → AreLong sub → lies_in setting clock i ≡ true
         → ((node : PlanNode) → IsIn setting clock i node → StateStands setting sub past fed i (work_at setting i node) state.now)
         → ((node : PlanNode) → IsIn setting clock i node → IsSettled sub past fed i (work_at setting i node))
         → result ≡ part_in setting sub (lies_in setting clock i) past i (slice_get shape.now.plan.now.nodes i) parts.now }
 {
-    if !is_same_clock(shape.clocks[i], clock) {
-        return Part {
-            slot: None,
-            pick: None,
-        };
-    }
     let node = &shape.plan.nodes.as_slice()[i];
     desk.offer(state, node, parts, shape.library, at)
 }
 
-/// What the nodes of a clock do at an instant of this second; the others do nothing.
+/// What the nodes of a clock do at an instant of this second, over parts at which no node does anything.
 pub fn make_parts(
     shape: &Shape<'_>,
+    nodes: &ClockNodes,
     clock: NodeClock,
     states: &[NodeState],
     at: WeekSecond,
@@ -68,17 +63,22 @@ pub fn make_parts(
 )
     requires nodes { AreNodes shape.now.plan.now.nodes }
     requires in_clocks { length shape.now.clocks.now ≡ length shape.now.plan.now.nodes }
+    requires chains { AreNodesOf shape.now.clocks.now nodes.now }
     requires in_parts { length parts.old ≡ length shape.now.plan.now.nodes }
+    requires none { (j : ℕ) → part_at parts.old j ≡ silent }
     requires fit { AllFit shape.now.plan.now shape.now.library.now states.now }
     requires room { HasRoomFor shape.now.plan.now desk.old }
     ensures room { desk.new ≡ desk.old }
+    ensures others { (j : ℕ) → lies_at shape.now.clocks.now clock j ≡ false → part_at parts.new j ≡ silent }
     ensures parts { (setting : Setting) (sub : ℕ → ℕ → List TheSlot) (past : List Moment) (fed : ℕ → ℕ) →
         let setting = over shape.now.plan.now shape.now.library.now shape.now.clocks.now setting in
         at.second ≡ second_at setting (length past) → AreLong sub → ClockStands setting sub clock past fed states.now
         → AreSettled setting sub clock past fed
         → parts.new ≡ parts_upto setting sub clock past (length shape.now.plan.now.nodes) }
 {
-    for i in 0..shape.plan.nodes.len() {
-        parts[i] = offer_in(shape, clock, &states[i], i, at, &parts[..i], desk);
+    let mut i = nodes.first(clock);
+    while i < shape.clocks.len() {
+        parts[i] = offer_of(shape, &states[i], i, at, &parts[..i], desk);
+        i = nodes.after(i);
     }
 }

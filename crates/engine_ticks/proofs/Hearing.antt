@@ -94,14 +94,14 @@ pub heard_more : (plan : Plan) (library : Sounds) (clocks : List NodeClock) (clo
     → LanesStand (over plan library clocks other) sub clock n mid → LanesStand (over plan library clocks other) sub clock (suc n) after)
     → ((other : Setting) (sub : ℕ → ℕ → List Slot) (n : ℕ) → IsMeaning (over plan library clocks other) sub → AreOwnRoots (over plan library clocks other) own
     → LanesStand (over plan library clocks other) sub clock n mid
-    → after.clocks.parts.items ≡ (moment_after (over plan library clocks other) sub clock (history (over plan library clocks other) sub clock n)).parts)
-    → new ≡ map (λ port. after_slot port (part_at after.clocks.parts.items port.node).slot) now
+    → after.clocks.latest.parts.items ≡ (moment_after (over plan library clocks other) sub clock (history (over plan library clocks other) sub clock n)).parts)
+    → new ≡ map (λ port. after_slot port (part_at after.clocks.latest.parts.items port.node).slot) now
     → Heard plan library clocks clock own count before mid first now
     → Heard plan library clocks clock own (count + 1) before after first new
 heard_more plan library clocks clock own count before mid after first now new goes does is heard = record {
-  slots = more_slots heard.slots after.clocks.parts.items;
-  long = λ i. length-append (heard.slots i) ((part_at after.clocks.parts.items i).slot ∷ []) ∙ ap (λ n. n + 1) (heard.long i);
-  ports_are = is ∙ ap (map (λ port. after_slot port (part_at after.clocks.parts.items port.node).slot)) heard.ports_are ∙ heard_all heard.slots after.clocks.parts.items first;
+  slots = more_slots heard.slots after.clocks.latest.parts.items;
+  long = λ i. length-append (heard.slots i) ((part_at after.clocks.latest.parts.items i).slot ∷ []) ∙ ap (λ n. n + 1) (heard.long i);
+  ports_are = is ∙ ap (map (λ port. after_slot port (part_at after.clocks.latest.parts.items port.node).slot)) heard.ports_are ∙ heard_all heard.slots after.clocks.latest.parts.items first;
   run = λ other sub n meaning own_are stand.
       let ran = heard.run other sub n meaning own_are stand in
       let parts = does other sub (n + count) meaning own_are ran.lanes_stand in
@@ -109,7 +109,7 @@ heard_more plan library clocks clock own count before mid after first now new go
         lanes_stand = (let same : suc (n + count) ≡ n + (count + 1) = omega arith in
             subst (λ m. LanesStand (over plan library clocks other) sub clock m after) same (goes other sub (n + count) meaning own_are ran.lanes_stand));
         slots_are = λ i.
-            ap (λ slots. slots ++ (part_at after.clocks.parts.items i).slot ∷ []) (ran.slots_are i)
+            ap (λ slots. slots ++ (part_at after.clocks.latest.parts.items i).slot ∷ []) (ran.slots_are i)
             ∙ ap (λ ps. map (slot_in (over plan library clocks other) sub clock i) (range_with_len n count) ++ (part_at ps i).slot ∷ []) parts
             ∙ sym (map-range_with_len_more (slot_in (over plan library clocks other) sub clock i) n count (n + count) refl);
       };

@@ -15,9 +15,9 @@ use Rattle.engine_ticks.specs.declared.lanes.Lanes.{Lanes}
 pub record HasNoReaders (plan : Plan) : Type 0 where
   pub readers : (i : ℕ) (node : Node) → slice_get plan.nodes i ≡ Some node → IsNoReader node.op
 
--- lanes for the nodes of this plan, with these files
-pub record AreLanes (plan : Plan) (library : Sounds) (lanes : Lanes) : Type 0 where
-  pub clocks : AreClockLanes plan library lanes.clocks
+-- lanes for the nodes of this plan, with these files and these clocks of its nodes
+pub record AreLanes (plan : Plan) (library : Sounds) (clocks : List NodeClock) (lanes : Lanes) : Type 0 where
+  pub below : AreClockLanes plan library clocks lanes.clocks
   pub rate : lanes.time.rate ≡ plan.rate
 
 -- they stand for the first n instants of a clock, and for as many of the sub-clocks below it as its crossfades asked for

@@ -29,8 +29,8 @@ pub fn make_instant(shape: &Shape<'_>, clock: NodeClock, own: &[bool], lanes: &m
     requires in_clocks { length shape.now.clocks.now ≡ length shape.now.plan.now.nodes }
     requires in_own { length own.now ≡ length shape.now.plan.now.nodes }
     requires levels { HasLevels shape.now.clocks.now clock (length shape.now.plan.now.nodes) }
-    requires lanes { AreLanes shape.now.plan.now shape.now.library.now lanes.old }
-    ensures lanes { AreLanes shape.now.plan.now shape.now.library.now lanes.new }
+    requires lanes { AreLanes shape.now.plan.now shape.now.library.now shape.now.clocks.now lanes.old }
+    ensures lanes { AreLanes shape.now.plan.now shape.now.library.now shape.now.clocks.now lanes.new }
     ensures stand { (setting : Setting) (sub : ℕ → ℕ → List TheSlot) (n : ℕ) →
         let setting = over shape.now.plan.now shape.now.library.now shape.now.clocks.now setting in
         IsMeaning setting sub → AreOwnRoots setting own.now → LanesStand setting sub clock n lanes.old
@@ -38,7 +38,7 @@ pub fn make_instant(shape: &Shape<'_>, clock: NodeClock, own: &[bool], lanes: &m
     ensures parts { (setting : Setting) (sub : ℕ → ℕ → List TheSlot) (n : ℕ) →
         let setting = over shape.now.plan.now shape.now.library.now shape.now.clocks.now setting in
         IsMeaning setting sub → AreOwnRoots setting own.now → LanesStand setting sub clock n lanes.old
-        → lanes.new.clocks.parts.items ≡ (moment_after setting sub clock (history setting sub clock n)).parts }
+        → lanes.new.clocks.latest.parts.items ≡ (moment_after setting sub clock (history setting sub clock n)).parts }
 {
     let levels = shape.plan.nodes.len();
     engine_clocks::make_instant(

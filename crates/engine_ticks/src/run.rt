@@ -26,14 +26,14 @@ pub fn run_tick(
     requires in_clocks { length shape.now.clocks.now ≡ length shape.now.plan.now.nodes }
     requires in_own { length own.now ≡ length shape.now.plan.now.nodes }
     requires levels { HasLevels shape.now.clocks.now clock (length shape.now.plan.now.nodes) }
-    requires lanes { AreLanes shape.now.plan.now shape.now.library.now lanes.old }
+    requires lanes { AreLanes shape.now.plan.now shape.now.library.now shape.now.clocks.now lanes.old }
     requires room { AllHaveRoomLeft shape.now.plan.now.frame (map emptied ports.old.items) }
-    ensures lanes { AreLanes shape.now.plan.now shape.now.library.now lanes.new }
+    ensures lanes { AreLanes shape.now.plan.now shape.now.library.now shape.now.clocks.now lanes.new }
     ensures heard { Heard shape.now.plan.now shape.now.library.now shape.now.clocks.now clock own.now shape.now.plan.now.frame lanes.old lanes.new ports.old.items ports.new.items }
 {
     begin_tick(ports);
     for instant in 0..shape.plan.frame {
         make_instant(shape, clock, own, lanes);
-        hear_all(ports, &lanes.clocks.parts);
+        hear_all(ports, &lanes.clocks.latest.parts);
     }
 }

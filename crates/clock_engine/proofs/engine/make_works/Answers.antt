@@ -7,7 +7,7 @@ use Rattle.clock_engine.specs.Beginnings.{IsNewPort}
 use Rattle.clock_engine.proofs.Made.{all_at}
 use Rattle.clock_engine.proofs.Mapped.{has_ranks}
 use Rattle.clock_engine.proofs.Quiet.{no_feeds}
-use Rattle.clock_engine.proofs.Starting.{new_stand}
+use Rattle.clock_engine.proofs.Starting.{all_alike, new_stand}
 use Rattle.clock_engine.proofs.engine.make_works.Goals as goal
 
 pub returns-clause-works : goal.returns-clause-works
@@ -22,16 +22,20 @@ returns-clause-works c =
       in_clocks = c.requires.in_clocks;
       clocks = c.requires.clocks;
       lanes = record {
-        clocks = record {
+        below = record {
           fit = record {
             size = c.in_ok-states.ensures.size;
             each = λ i node state found stored. (c.in_ok-states.ensures.each i node state found stored).fits c.args.shape.library.now c.requires.library
                 (let within = slice_get_within c.args.shape.plan.now.nodes i node found in omega (arith, within, c.requires.leaves));
           };
           in_times = search rules;
-          in_parts = search rules;
-          in_marks = search rules;
-          in_roots = search rules;
+          chains = c.in_ok-nodes.ensures;
+          latest = record {
+            in_parts = search rules;
+            in_marks = search rules;
+            parts = λ j outside. all_alike _ _ _ (c.in_ok-parts.ensures.items_if_clones_equal (λ y e. e)) j;
+            marks = λ j outside. all_alike _ _ _ (c.in_ok-marks.ensures.items_if_clones_equal (λ y e. e)) j;
+          };
           room = search rules;
           rates = λ k time at. ap (λ t. t.rate) (c.in_ok-times.ensures.each k time at) ∙ c.new-time.ensures.rate;
         };

@@ -1,15 +1,14 @@
-use Rattle.std.proofs.Common.{rules, ◌≡◌, ◌<◌, ◌≤◌, ◌∙◌, sym, ap, ℕ, Some, true, false, length, get_or, slice_get, arith, refl, subst}
+use Rattle.std.proofs.Common.{◌≡◌, ◌<◌, ◌≤◌, ◌∙◌, sym, ap, ℕ, suc, Some, false, length, get_or, slice_get, arith, refl, subst}
 use Rattle.std.specs.Option.{option_map_or}
-use Rattle.std.proofs.lemmas.List.{get_or_default}
 use Rattle.std.proofs.lemmas.Option.{slice_get_read}
 use Rattle.clock_infer.specs.declared.clock_map.NodeClock.TheVariants.{Main, Sub}
-use Rattle.stream_meaning.specs.Instants.{Setting, history, moment_after, same_clock, second_at}
+use Rattle.stream_meaning.specs.Instants.{Setting, history, moment_after, second_at}
 use Rattle.stream_meaning.proofs.Existence.{same_clock-true}
 use Rattle.node_states.specs.States.{left, wants}
 use Rattle.node_states.proofs.Begun.{as_many}
 use Rattle.engine_instants.specs.States.{over}
+use Rattle.engine_instants.proofs.Walking.{next_own}
 use Rattle.engine_clocks.specs.Clocks.{IsReached, is_in, is_node, is_none, is_upto}
-use Rattle.engine_clocks.proofs.Equal.{not_same}
 use Rattle.engine_clocks.proofs.Levels.{kept_at, left_fed, left_finished, left_none, left_settled, levels_at, levels_some, levels_under}
 use Rattle.engine_clocks.proofs.Taking.{needed_under, reached_item, reached_none, second_under, stand_under, taken}
 use Rattle.engine_clocks.proofs.Joining.{joined, passed, stand_here}
@@ -85,58 +84,53 @@ settle-returns-clause-reached t c other sub rank ran fed ranks meaning own stand
     (c.loop-lanes.invariant.reached other sub rank ran fed ranks meaning own stand)
 
 pub settle_all-loop-i-init : goal.settle_all-loop-i-init
-settle_all-loop-i-init t c = record {
-  lanes = c.requires.lanes;
-  left = λ rank ranks. left_none c.args.shape.now.clocks.now rank (rank c.args.clock) (is_in c.args.shape.now.clocks.now c.args.clock) c.args.lanes.now;
-  reached = λ other sub rank ran fed ranks meaning own stand.
-      reached_none (over c.args.shape.now.plan.now c.args.shape.now.library.now c.args.shape.now.clocks.now other) sub rank (rank c.args.clock)
-      (is_in c.args.shape.now.clocks.now c.args.clock) (is_upto c.args.shape.now.clocks.now c.args.clock 0) ran fed c.args.lanes.now (λ i done. absurd (omega (arith, done.0))) stand;
-}
+settle_all-loop-i-init t c =
+    let first = c.first-i.ensures c.args.shape.now.clocks.now c.requires.lanes.chains in
+    record {
+      high = first.high;
+      own = first.own;
+      lanes = c.requires.lanes;
+      left = λ rank ranks. left_none c.args.shape.now.clocks.now rank (rank c.args.clock) (is_in c.args.shape.now.clocks.now c.args.clock) c.args.lanes.now;
+      reached = λ other sub rank ran fed ranks meaning own stand.
+          passed (over c.args.shape.now.plan.now c.args.shape.now.library.now c.args.shape.now.clocks.now other) sub rank c.args.clock 0 c.first-i.result ran fed c.args.lanes.now first
+          (reached_none (over c.args.shape.now.plan.now c.args.shape.now.library.now c.args.shape.now.clocks.now other) sub rank (rank c.args.clock)
+          (is_in c.args.shape.now.clocks.now c.args.clock) (is_upto c.args.shape.now.clocks.now c.args.clock 0) ran fed c.args.lanes.now (λ i done. absurd (omega (arith, done.0))) stand);
+    }
 
 pub settle_all-settle-requires : goal.settle_all-settle-requires
 settle_all-settle-requires t c =
-    let here : c.loop-i.i < length c.args.shape.now.clocks.now = omega (arith, c.requires.in_clocks, c.len-i-end.ensures, c.loop-i-test.true) in
-    let within : c.loop-i.i < length c.args.shape.now.plan.now.nodes = omega (arith, c.len-i-end.ensures, c.loop-i-test.true) in
-    let yes : c.is_same_clock.result ≡ true = search rules in
-    let inside : same_clock (get_or c.args.shape.now.clocks.now c.loop-i.i (Main 0)) c.args.clock ≡ true =
-    ap (λ of. same_clock of c.args.clock) (get_or_default _ c.loop-i.i (Main 0) _ here) ∙ sym c.is_same_clock.ensures ∙ yes in
-    let at = levels_at c.args.shape.now.clocks.now c.loop-i.i c.args.levels c.args.clock (same_clock-true (get_or c.args.shape.now.clocks.now c.loop-i.i (Main 0)) c.args.clock inside) c.requires.levels in
+    let within : c.loop-i.i < length c.args.shape.now.plan.now.nodes = omega (arith, c.requires.in_clocks, c.loop-i-test.true) in
+    let at = levels_at c.args.shape.now.clocks.now c.loop-i.i c.args.levels c.args.clock (same_clock-true (get_or c.args.shape.now.clocks.now c.loop-i.i (Main 0)) c.args.clock (c.loop-i.invariant.own c.loop-i-test.true)) c.requires.levels in
     (omega arith, (c.requires.nodes, (c.requires.few, (c.requires.in_clocks, (c.requires.in_own, (c.loop-i.invariant.lanes, (at, within)))))))
 
-pub settle_all-loop-i-preserved-then-not-is_same_clock : goal.settle_all-loop-i-preserved-then-not-is_same_clock
-settle_all-loop-i-preserved-then-not-is_same_clock t c =
-    let here : c.loop-i.i < length c.args.shape.now.clocks.now = omega (arith, c.requires.in_clocks, c.len-i-end.ensures, c.loop-i-test.true) in
-    let no' : c.is_same_clock.result ≡ false = search rules in
-    let outside : same_clock (get_or c.args.shape.now.clocks.now c.loop-i.i (Main 0)) c.args.clock ≡ false =
-    ap (λ of. same_clock of c.args.clock) (get_or_default _ c.loop-i.i (Main 0) _ here) ∙ sym c.is_same_clock.ensures ∙ no' in
-    record {
-      lanes = c.loop-i.invariant.lanes;
-      left = c.loop-i.invariant.left;
-      reached = λ other sub rank ran fed ranks meaning own stand.
-          passed (over c.args.shape.now.plan.now c.args.shape.now.library.now c.args.shape.now.clocks.now other) sub rank c.args.clock c.loop-i.i ran fed c.loop-i.lanes (c.loop-i.invariant.reached other sub rank ran fed ranks meaning own stand)
-          (not_same (get_or c.args.shape.now.clocks.now c.loop-i.i (Main 0)) c.args.clock outside);
-    }
+pub settle_all-loop-i-smaller : goal.settle_all-loop-i-smaller
+settle_all-loop-i-smaller t c =
+    let next = c.after-i.ensures c.args.shape.now.clocks.now c.settle.ensures.lanes.chains in
+    let low = next.low in
+    omega (arith, low, c.loop-i-test.true)
 
 pub settle_all-loop-i-preserved : goal.settle_all-loop-i-preserved
 settle_all-loop-i-preserved t c =
-    let here : c.loop-i.i < length c.args.shape.now.clocks.now = omega (arith, c.requires.in_clocks, c.len-i-end.ensures, c.loop-i-test.true) in
-    let yes : c.is_same_clock.result ≡ true = search rules in
-    let inside : same_clock (get_or c.args.shape.now.clocks.now c.loop-i.i (Main 0)) c.args.clock ≡ true =
-    ap (λ of. same_clock of c.args.clock) (get_or_default _ c.loop-i.i (Main 0) _ here) ∙ sym c.is_same_clock.ensures ∙ yes in
+    let inside = c.loop-i.invariant.own c.loop-i-test.true in
     let own_clock : get_or c.args.shape.now.clocks.now c.loop-i.i (Main 0) ≡ c.args.clock = same_clock-true (get_or c.args.shape.now.clocks.now c.loop-i.i (Main 0)) c.args.clock inside in
+    let next = next_own c.args.shape.now.clocks.now c.args.clock c.loop-i.i c.after-i.result inside (c.after-i.ensures c.args.shape.now.clocks.now c.settle.ensures.lanes.chains) in
     record {
+      high = next.high;
+      own = next.own;
       lanes = c.settle.ensures.lanes;
       left = λ rank ranks. left_settled c.args.shape.now.clocks.now rank c.args.clock c.loop-i.i c.args.lanes.now c.loop-i.lanes c.settle.new.lanes own_clock
           (c.loop-i.invariant.left rank ranks) (c.settle.ensures.left rank ranks);
       reached = λ other sub rank ran fed ranks meaning own stand.
           let u = c.loop-i.invariant.reached other sub rank ran fed ranks meaning own stand in
-          joined (over c.args.shape.now.plan.now c.args.shape.now.library.now c.args.shape.now.clocks.now other) sub rank c.args.clock c.loop-i.i ran fed c.loop-i.lanes u own_clock c.settle.new.lanes
-          (c.settle.ensures.reached other sub rank u.ran_now u.fed_now ranks meaning own (stand_here (over c.args.shape.now.plan.now c.args.shape.now.library.now c.args.shape.now.clocks.now other) sub rank c.args.clock c.loop-i.i ran fed c.loop-i.lanes u own_clock));
+          passed (over c.args.shape.now.plan.now c.args.shape.now.library.now c.args.shape.now.clocks.now other) sub rank c.args.clock (suc c.loop-i.i) c.after-i.result ran fed c.settle.new.lanes next
+          (joined (over c.args.shape.now.plan.now c.args.shape.now.library.now c.args.shape.now.clocks.now other) sub rank c.args.clock c.loop-i.i ran fed c.loop-i.lanes u own_clock c.settle.new.lanes
+          (c.settle.ensures.reached other sub rank u.ran_now u.fed_now ranks meaning own (stand_here (over c.args.shape.now.plan.now c.args.shape.now.library.now c.args.shape.now.clocks.now other) sub rank c.args.clock c.loop-i.i ran fed c.loop-i.lanes u own_clock)));
     }
 
 pub settle_all-returns-clause-reached : goal.settle_all-returns-clause-reached
 settle_all-returns-clause-reached t c other sub rank ran fed ranks meaning own stand =
-    let all : c.loop-i.i ≡ length c.args.shape.now.plan.now.nodes = omega (arith, c.len-i-end.ensures, c.loop-i-test.false) in
+    let high = c.loop-i.invariant.high in
+    let all : c.loop-i.i ≡ length c.args.shape.now.plan.now.nodes = omega (arith, high, c.requires.in_clocks, c.loop-i-test.false) in
     subst (λ n. IsReached (over c.args.shape.now.plan.now c.args.shape.now.library.now c.args.shape.now.clocks.now other) sub rank (rank c.args.clock) (is_in c.args.shape.now.clocks.now c.args.clock) (is_upto c.args.shape.now.clocks.now c.args.clock n) ran fed c.loop-i.lanes) all
     (c.loop-i.invariant.reached other sub rank ran fed ranks meaning own stand)
 

@@ -19,9 +19,8 @@ returns-clause-lanes c =
       fit = fit_set _ _ _ _ _ in_states
           (λ node found. c.feed.ensures.fits _ _ (c.requires.lanes.fit.each c.args.k node c.index_mut.result.now found at)) c.requires.lanes.fit;
       in_times = length-set _ _ _ ∙ c.requires.lanes.in_times;
-      in_parts = c.requires.lanes.in_parts;
-      in_marks = c.requires.lanes.in_marks;
-      in_roots = c.requires.lanes.in_roots;
+      chains = c.requires.lanes.chains;
+      latest = c.requires.lanes.latest;
       room = c.requires.lanes.room;
       rates = λ j time stored. elim (same_or_other c.args.k j) [
         | inl same ↦ (let put : Some c.next.result ≡ Some time = sym (slice_get-set_same c.args.lanes.now.times.items c.args.k c.next.result in_times)
@@ -55,7 +54,7 @@ returns-clause-fed c setting sub past fed work before after was is stands grows 
     let two : Some c.feed.new.self ≡ Some after = sym (slice_get-set_same c.args.lanes.now.states.items c.args.k c.feed.new.self in_states) ∙ is in
     let new : c.feed.new.self ≡ after = cc in
     let slot = c.slot_of-slot.ensures ∙ ap (λ ps. (part_at ps c.child_of-child.result).slot) c.deref.ensures.value
-    ∙ ap (λ n. (part_at c.args.lanes.now.parts.items n).slot) (c.child_of-child.ensures ∙ ap (λ ns. crossfaded ns c.args.k) c.as_slice.ensures) in
+    ∙ ap (λ n. (part_at c.args.lanes.now.latest.parts.items n).slot) (c.child_of-child.ensures ∙ ap (λ ns. crossfaded ns c.args.k) c.as_slice.ensures) in
     subst (λ s. StateStands setting sub past (suc fed) c.args.k work s) new
     (c.feed.ensures.fed setting sub past fed c.args.k work (subst (λ s. StateStands setting sub past fed c.args.k work s) (sym old) stands)
     (grows ∙ ap (λ x. sub c.args.k fed ++ x ∷ []) (sym slot)))

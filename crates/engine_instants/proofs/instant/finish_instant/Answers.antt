@@ -1,16 +1,20 @@
-use Rattle.std.proofs.Common.{◌&&◌, ◌∙◌, false, get_or, arith, ap, sym}
-use Rattle.stream_meaning.specs.Instants.{demands_from, is_root, lies_in, moment_after, uses_from}
-use Rattle.engine_instants.specs.States.{over}
-use Rattle.engine_instants.proofs.Roots.{demands_from-same, length-uses}
+use Rattle.std.proofs.Common.{◌≡◌, ◌∙◌, false, length, get_or, arith, ap, subst, sym}
+use Rattle.std.proofs.lemmas.List.{with_items_is}
+use Rattle.stream_meaning.specs.Instants.{part_at, silent}
 use Rattle.engine_instants.proofs.instant.finish_instant.Goals as goal
 
-pub returns-clause-stand : goal.returns-clause-stand
-returns-clause-stand c setting sub past fed at long stands settled roots =
-    let S = over c.args.shape.now.plan.now c.args.shape.now.library.now c.args.shape.now.clocks.now setting in
-    let parts = c.make_parts.ensures.parts setting sub past fed at long stands settled in
-    c.advance_all.ensures.stand setting sub past (moment_after (over c.args.shape.now.plan.now c.args.shape.now.library.now c.args.shape.now.clocks.now setting) sub c.args.clock past) fed long stands settled parts (sym parts)
-    (sym (c.mark_demanded.ensures c.args.shape.now.library.now c.args.shape.now.clocks.now setting
-    ∙ demands_from-same (λ j. get_or c.copy_from_slice.new.self j false) (λ j. lies_in S c.args.clock j && is_root S c.args.clock j) 0 _
-    (λ j low high. ap (λ marks. get_or marks j false) c.copy_from_slice.ensures.after
-    ∙ roots.each j (let many = length-uses S c.make_parts.new.parts 0 c.args.shape.now.plan.now.nodes in omega (arith, high, many)))
-    ∙ ap (λ ps. demands_from (λ j. lies_in S c.args.clock j && is_root S c.args.clock j) 0 (uses_from S ps 0 c.args.shape.now.plan.now.nodes)) parts))
+pub returns-clause-latest : goal.returns-clause-latest
+returns-clause-latest c =
+    let parts : length c.finish_over.new.parts ≡ c.args.latest.now.parts.len = omega (arith, c.deref_mut.ensures.len) in
+    let marks : length c.finish_over.new.marks ≡ c.args.latest.now.marks.len = omega (arith, c.deref_mut-2.ensures.len) in
+    record {
+      in_parts = ap length (with_items_is c.args.latest.now.parts c.finish_over.new.parts parts) ∙ parts ∙ c.args.latest.now.parts.ok.0 ∙ c.requires.latest.in_parts;
+      in_marks = ap length (with_items_is c.args.latest.now.marks c.finish_over.new.marks marks) ∙ marks ∙ c.args.latest.now.marks.ok.0 ∙ c.requires.latest.in_marks;
+      parts = λ j outside. ap (λ xs. part_at xs j) (with_items_is c.args.latest.now.parts c.finish_over.new.parts parts) ∙ c.finish_over.ensures.silent j outside;
+      marks = λ j outside. ap (λ xs. get_or xs j false) (with_items_is c.args.latest.now.marks c.finish_over.new.marks marks) ∙ c.finish_over.ensures.unmarked j outside;
+    }
+
+pub returns-clause-parts : goal.returns-clause-parts
+returns-clause-parts c setting sub past fed at long stands settled roots =
+    let parts : length c.finish_over.new.parts ≡ c.args.latest.now.parts.len = omega (arith, c.deref_mut.ensures.len) in
+    with_items_is c.args.latest.now.parts c.finish_over.new.parts parts ∙ c.finish_over.ensures.parts setting sub past fed at long stands settled roots

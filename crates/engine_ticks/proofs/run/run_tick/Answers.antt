@@ -22,12 +22,12 @@ hear_all-requires c =
 pub loop-instant-preserved : goal.loop-instant-preserved
 loop-instant-preserved c =
     let left : c.args.shape.now.plan.now.frame - c.loop-instant.instant ≡ suc (c.args.shape.now.plan.now.frame - (c.loop-instant.instant + 1)) = omega (arith, c.loop-instant-test.true) in
-    let is : c.hear_all.new.ports.items ≡ map (λ port. after_slot port (part_at c.make_instant.new.lanes.clocks.parts.items port.node).slot) c.loop-instant.ports.items =
+    let is : c.hear_all.new.ports.items ≡ map (λ port. after_slot port (part_at c.make_instant.new.lanes.clocks.latest.parts.items port.node).slot) c.loop-instant.ports.items =
     c.hear_all.ensures ∙ ap (λ parts. map (λ port. after_slot port (part_at parts port.node).slot) c.loop-instant.ports.items) c.deref.ensures.value in
     record {
       lanes = c.make_instant.ensures.lanes;
       room = subst (λ ports. AllHaveRoomLeft (c.args.shape.now.plan.now.frame - (c.loop-instant.instant + 1)) ports) (sym is)
-          (room_left _ (λ port. (part_at c.make_instant.new.lanes.clocks.parts.items port.node).slot) c.loop-instant.ports.items
+          (room_left _ (λ port. (part_at c.make_instant.new.lanes.clocks.latest.parts.items port.node).slot) c.loop-instant.ports.items
           (subst (λ n. AllHaveRoomLeft n c.loop-instant.ports.items) left c.loop-instant.invariant.room));
       heard = heard_more _ _ _ _ _ _ _ _ _ _ _ _ c.make_instant.ensures.stand c.make_instant.ensures.parts is c.loop-instant.invariant.heard;
     }
