@@ -20,39 +20,54 @@ fn numbered(alloc: Global, number: i16) -> Result<Option<Chunk>, Memory> {
     Chunk::from_frame(alloc, &frame)
 }
 
+// Puts a chunk whose sample is this number, and answers the sample of the chunk that comes back where the queue is full.
+fn put_one<R: Wait>(
+    rt: &R,
+    alloc: Global,
+    queue: &BufferQueue,
+    pass: &mut PutPass,
+    number: i16,
+) -> Result<Option<i16>, Fail>
+    requires { pass.old.queue ≡ queue.now }
+    ensures { pass.new.queue ≡ pass.old.queue }
+{
+    let chunk = numbered(alloc, number)?.ok_or("no chunk")?;
+    match queue.put(rt, pass, chunk) {
+        Ok(Gave::Accepted) => Ok(None),
+        Ok(Gave::Full(back)) => Ok(Some(back.cell(0).left)),
+        Err((_chunk, refused)) => Err(Fail::from(refused)),
+    }
+}
+
+// Takes a chunk, and answers its sample.
+fn take_one<R: Wait>(
+    rt: &R,
+    queue: &BufferQueue,
+    pass: &mut TakePass,
+) -> Result<Option<i16>, Memory>
+    requires { pass.old.queue ≡ queue.now }
+    ensures { pass.new.queue ≡ pass.old.queue }
+{
+    match queue.take(rt, pass)? {
+        Some(chunk) => Ok(Some(chunk.cell(0).left)),
+        None => Ok(None),
+    }
+}
+
 #[test]
 fn one_call_after_another(rt: HostRuntime) -> Result<(), Fail> {
     let alloc = rt.alloc();
-    let (Some(seven), Some(eight), Some(nine)) = (
-        numbered(alloc, 7)?,
-        numbered(alloc, 8)?,
-        numbered(alloc, 9)?,
-    ) else {
-        panic!(rt; "no chunk");
-    };
     let (mut queue, mut put, mut take) = BufferQueue::new(alloc, 1)?;
-    assert!(rt; matches!(queue.put(&rt, &mut put, seven), Ok(Gave::Accepted)));
-    let Ok(Gave::Full(back)) = queue.put(&rt, &mut put, eight) else {
-        panic!(rt; "not full");
-    };
-    assert_eq!(rt; back.cell(0).left, 8);
-    let Some(first) = queue.take(&rt, &mut take)? else {
-        panic!(rt; "empty");
-    };
-    assert_eq!(rt; first.cell(0).left, 7);
-    assert!(rt; queue.take(&rt, &mut take)?.is_none());
-    assert_eq!(rt; put.answers(), [true, false].as_slice());
-    assert_eq!(rt; take.answers(), [true, false].as_slice());
+    assert_eq!(rt; put_one(&rt, alloc, &queue, &mut put, 7)?, None);
+    assert_eq!(rt; put_one(&rt, alloc, &queue, &mut put, 8)?, Some(8));
+    assert_eq!(rt; take_one(&rt, &queue, &mut take)?, Some(7));
+    assert_eq!(rt; take_one(&rt, &queue, &mut take)?, None);
     let (puts, takes) = queue.close_window(alloc, &mut put, &mut take)?;
     assert_eq!(rt; puts.as_slice(), [true, false].as_slice());
     assert_eq!(rt; takes.as_slice(), [true, false].as_slice());
-    assert!(rt; matches!(queue.put(&rt, &mut put, nine), Ok(Gave::Accepted)));
+    assert_eq!(rt; put_one(&rt, alloc, &queue, &mut put, 9)?, None);
     let _ = queue.close_window(alloc, &mut put, &mut take)?;
-    assert!(rt; put.answers().is_empty());
-    let Some(next) = queue.take(&rt, &mut take)? else {
-        panic!(rt; "empty");
-    };
-    assert_eq!(rt; next.cell(0).left, 9);
+    assert_eq!(rt; take_one(&rt, &queue, &mut take)?, Some(9));
     Ok(())
 }
 

@@ -30,15 +30,6 @@ fn with_a_hole(alloc: Global) -> Result<Frame, Memory>
 }
 
 #[test]
-fn a_new_frame_holds_nothings(rt: HostRuntime) -> Result<(), Fail> {
-    let frame = Frame::new(rt.alloc(), 2)?;
-    assert_eq!(rt; frame.len(), 2);
-    assert!(rt; frame.slot(0).is_none() && frame.slot(1).is_none());
-    assert!(rt; Chunk::from_frame(rt.alloc(), &frame)?.is_none());
-    Ok(())
-}
-
-#[test]
 fn a_chunk_is_the_cells_in_order(rt: HostRuntime) -> Result<(), Fail> {
     let frame = with_a_hole(rt.alloc())?;
     assert_eq!(rt; frame.slot(0), Some(LOUD));

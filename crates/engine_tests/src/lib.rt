@@ -14,5 +14,3 @@ mod node_states_tests;
 mod op_cross_tests;
 #[cfg(test)]
 mod op_select_tests;
-#[cfg(test)]
-mod sample_kernels_tests;

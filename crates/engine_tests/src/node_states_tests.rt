@@ -7,7 +7,7 @@ ghost use Rattle.node_states.specs.States.{Fits};
 use fixed_text::WeekSecond;
 use frame_core::{Cell, Library};
 use liq_base::Kind;
-use node_states::{Desk, NodeState, WeekTime};
+use node_states::{Desk, NodeState};
 use plan_core::{Items, Node, Op};
 use std::alloc::{AllocError, Global};
 use std::process::Abort;
@@ -108,14 +108,4 @@ fn a_crossfade_over_one_sample(rt: HostRuntime) -> Result<(), Fail> {
     let part = desk.offer(&state, &node, &[], &library, at);
     assert_eq!(rt; part.slot, sample(20, true));
     Ok(())
-}
-
-#[test]
-fn a_second_of_two_samples_behind_the_end_of_a_week(rt: HostRuntime) {
-    let last = WeekSecond { second: 604_799 };
-    let time = WeekTime::new(last, 2).next();
-    assert_eq!(rt; time.second, last);
-    let time = time.next();
-    assert_eq!(rt; time.second, WeekSecond { second: 0 });
-    assert_eq!(rt; time.next().next().second, WeekSecond { second: 1 });
 }

@@ -67,27 +67,6 @@ fn overlaps_are_as_long_as_their_tracks(rt: HostRuntime) -> Result<(), Fail> {
 }
 
 #[test]
-fn a_track_may_be_wholly_eaten(rt: HostRuntime) -> Result<(), Fail> {
-    let alloc = rt.alloc();
-    let one: &[i16] = &[4, 8];
-    let other: &[i16] = &[2, 6];
-    let slots = cells_of(alloc, &[one, other])?;
-    let items = items_of(alloc, 4, &slots, true, 8)?;
-    assert_eq!(rt; items.as_slice(), [4, 7, 4, 7, 4, 7, 4, 7].as_slice());
-    Ok(())
-}
-
-#[test]
-fn an_end_gives_all_that_is_held(rt: HostRuntime) -> Result<(), Fail> {
-    let alloc = rt.alloc();
-    let once: &[i16] = &[1, 2, 3];
-    let slots = cells_of(alloc, &[once])?;
-    let items = items_of(alloc, 2, &slots, false, 8)?;
-    assert_eq!(rt; items.as_slice(), [1, 2, 3, 0, 0, 0, 0, 0].as_slice());
-    Ok(())
-}
-
-#[test]
 fn an_overlap_of_one_keeps_every_other_sample(rt: HostRuntime) -> Result<(), Fail> {
     let alloc = rt.alloc();
     let one: &[i16] = &[10, 20, 30];

@@ -1,115 +1,64 @@
-//! Selections over a few instants, from the rules of `docs/streams.md`.
+//! Selections over an instant, from the rules of `docs/streams.md`.
 use frame_core::Cell;
-use op_select::{Picked, Rule, SelectState};
+use op_select::{Rule, SelectState};
+use std::process::Abort;
 
-const EACH: [bool; 2] = [true, true];
+const MINDS: Rule = Rule::First { sensitive: true };
 
-// A cell that begins a track.
-fn first(left: i16) -> Option<Cell> {
+const FREE: Rule = Rule::First { sensitive: false };
+
+// What a child offers: with a positive sample a track begins, with a negative one it goes on, and 0 is nothing.
+fn offered(left: i16) -> Option<Cell> {
+    if left == 0 {
+        return None;
+    }
+    let first = left > 0;
     Some(Cell {
         left,
         right: 0,
-        first: true,
+        first,
     })
 }
 
-// A cell in the middle of a track.
-fn inner(left: i16) -> Option<Cell> {
-    Some(Cell {
-        left,
-        right: 0,
-        first: false,
-    })
-}
-
-// The child at this place with this cell.
-fn uses(child: u32, slot: Option<Cell>) -> Option<Picked> {
-    let cell = slot?;
-    Some(Picked { child, cell })
-}
-
-#[test]
-fn a_fallback_that_minds_tracks_plays_a_running_one_on(rt: HostRuntime) {
-    let mut fallback = SelectState::new(Rule::First { sensitive: true }, 2);
-    assert_eq!(rt; fallback.offer(&[None, first(1)], &EACH), uses(1, first(1)));
-    fallback.advance(1);
-    assert_eq!(rt;
-        fallback.offer(&[first(7), inner(2)], &EACH),
-        uses(1, inner(2))
-    );
-    fallback.advance(1);
-    assert_eq!(rt;
-        fallback.offer(&[first(7), first(3)], &EACH),
-        uses(0, first(7))
-    );
+// Each row: the child used last, if any, what the two children offer, whether the first one is eligible, the child that is
+// used, and whether its cell begins a track.
+fn check(rt: &impl Abort, rule: Rule, rows: &[(Option<u32>, i16, i16, bool, Option<(u32, bool)>)]) {
+    for row in rows {
+        let (last, left, right, eligible, used) = *row;
+        let mut state = SelectState::new(rule, 2);
+        if let Some(child) = last {
+            state.advance(child.min(1));
+        }
+        let slots = [offered(left), offered(right)];
+        let picked = state.offer(&slots, &[eligible, true]);
+        assert_eq!(rt; picked.map(|it| (it.child, it.cell.first)), used);
+    }
 }
 
 #[test]
-fn a_fallback_that_does_not_mind_tracks_leaves_a_running_one(rt: HostRuntime) {
-    let mut fallback = SelectState::new(Rule::First { sensitive: false }, 2);
-    fallback.advance(1);
-    assert_eq!(rt;
-        fallback.offer(&[inner(7), inner(2)], &EACH),
-        uses(0, first(7))
-    );
+fn a_child_is_used_until_its_track_ends(rt: HostRuntime) {
+    let rows = [
+        (None, 0, 1, true, Some((1, true))),
+        (Some(1), 7, -2, true, Some((1, false))),
+        (Some(1), 7, 3, true, Some((0, true))),
+        (Some(0), -7, 9, false, Some((0, false))),
+        (Some(0), 7, 9, false, Some((1, true))),
+        (Some(0), 7, 0, false, None),
+    ];
+    check(&rt, MINDS, &rows);
+    check(&rt, FREE, &[(Some(1), -7, -2, true, Some((0, true)))]);
 }
 
 #[test]
-fn a_switch_plays_a_running_track_on_when_its_time_is_over(rt: HostRuntime) {
-    let mut switch = SelectState::new(Rule::First { sensitive: true }, 2);
-    switch.advance(0);
-    assert_eq!(rt;
-        switch.offer(&[inner(7), first(9)], &[false, true]),
-        uses(0, inner(7))
-    );
-    assert_eq!(rt;
-        switch.offer(&[first(7), first(9)], &[false, true]),
-        uses(1, first(9))
-    );
-    assert_eq!(rt; switch.offer(&[first(7), None], &[false, true]), None);
-}
-
-#[test]
-fn a_sequence_skips_a_child_that_is_not_ready(rt: HostRuntime) {
-    let mut sequence = SelectState::new(Rule::Turns, 3);
-    let marks = [true, true, true];
-    assert_eq!(rt;
-        sequence.offer(&[None, first(5), first(0)], &marks),
-        uses(1, first(5))
-    );
-    sequence.advance(1);
-    assert_eq!(rt;
-        sequence.offer(&[first(4), first(5), first(0)], &marks),
-        uses(2, first(0))
-    );
-    sequence.advance(2);
-    assert_eq!(rt;
-        sequence.offer(&[first(4), first(5), inner(0)], &marks),
-        uses(2, inner(0))
-    );
-    assert_eq!(rt; sequence.offer(&[first(4), first(5), None], &marks), None);
-}
-
-#[test]
-fn a_source_at_two_places_of_a_sequence_is_two_children(rt: HostRuntime) {
-    let mut sequence = SelectState::new(Rule::Turns, 2);
-    assert_eq!(rt;
-        sequence.offer(&[first(1), first(1)], &EACH),
-        uses(0, first(1))
-    );
-    sequence.advance(0);
-    assert_eq!(rt;
-        sequence.offer(&[inner(2), inner(2)], &EACH),
-        uses(0, inner(2))
-    );
-    sequence.advance(0);
-    assert_eq!(rt;
-        sequence.offer(&[first(1), first(1)], &EACH),
-        uses(1, first(1))
-    );
-    sequence.advance(1);
-    assert_eq!(rt;
-        sequence.offer(&[inner(2), inner(2)], &EACH),
-        uses(1, inner(2))
-    );
+fn a_sequence_goes_on_at_the_end_of_a_track(rt: HostRuntime) {
+    let rows = [
+        (None, 0, 5, true, Some((1, true))),
+        (None, 1, 1, true, Some((0, true))),
+        (Some(0), -2, -2, true, Some((0, false))),
+        (Some(0), 1, 1, true, Some((1, true))),
+        (Some(1), 4, -3, true, Some((1, false))),
+        (Some(1), 4, 3, true, Some((1, true))),
+        (Some(1), 4, 0, true, None),
+    ];
+    check(&rt, Rule::Turns, &rows);
 }
