@@ -1,0 +1,251 @@
+//! Ticks of the engine of one clock, from the rules of `docs/streams.md`: three ticks of two samples each. The file has
+//! the samples 1, 2 and 3; each is written as two bytes, the low one first.
+ghost use Rattle.std.specs.Prelude.{◌≡◌, ◌∷◌, [], Some, length, slice_get, false, true, IfOk};
+ghost use Rattle.plan_core.specs.Plans.{IsWellFormed};
+ghost use Rattle.clock_infer.specs.Answers.{IsClockMap};
+ghost use Rattle.frame_core.specs.Library.{IsLibrary};
+ghost use Rattle.engine_ticks.specs.Lanes.{HasNoReaders};
+ghost use Rattle.clock_engine.specs.Engines.{AreWorks};
+
+use buffer_ends::LocalTaps;
+use clock_engine::{ClockEngine, TickFault, has_no_readers};
+use clock_infer::{ClockMap, NodeClock, assign};
+use fixed_text::WeekSecond;
+use frame_core::{Library, Track};
+use liq_base::{Kind, MemSink, Memory, Text};
+use plan_core::{Items, Node, Op, Plan, SinkPlan};
+use std::alloc::{AllocError, Global};
+use std::process::Abort;
+use std::test::Fail;
+
+fn mono(op: Op, children: Vec<u32>) -> Node
+    ensures op { result.op ≡ op }
+    ensures kind { result.kind ≡ Kind.Mono }
+    ensures children { result.children ≡ children.items }
+{
+    Node {
+        op,
+        kind: Kind::Mono,
+        children: Items::from_vec(children),
+    }
+}
+
+fn output(alloc: Global, node: u32) -> SinkPlan
+    ensures { result ≡ SinkPlan.Output [] node false }
+{
+    SinkPlan::Output {
+        name: Text::from_string(String::new(alloc)),
+        node,
+        fallible: false,
+    }
+}
+
+// The file alone, played again and again.
+fn looped(alloc: Global) -> Result<Plan, AllocError>
+    ensures well_formed { IfOk result IsWellFormed }
+    ensures size { IfOk result (λ plan. length plan.nodes ≡ 1) }
+    ensures sinks { IfOk result (λ plan. plan.sinks ≡ SinkPlan.Output [] 0 false ∷ []) }
+{
+    let file = Text::from_string(String::new(alloc));
+    let single = mono(Op::Single(file), Vec::new(alloc));
+    Ok(Plan {
+        rate: 8000,
+        frame: 2,
+        nodes: Items::from_vec(vec![in alloc; single]?),
+        sinks: Items::from_vec(vec![in alloc; output(alloc, 0)]?),
+        buffers: Items::new(alloc),
+    })
+}
+
+// The file played once, and zeros after it.
+fn once(alloc: Global) -> Result<Plan, AllocError>
+    ensures well_formed { IfOk result IsWellFormed }
+    ensures size { IfOk result (λ plan. length plan.nodes ≡ 3) }
+    ensures sinks { IfOk result (λ plan. plan.sinks ≡ SinkPlan.Output [] 2 false ∷ []) }
+{
+    let file = Text::from_string(String::new(alloc));
+    let list = mono(Op::Playlist { file, again: false }, Vec::new(alloc));
+    let blank = mono(Op::Blank { track: 0 }, Vec::new(alloc));
+    let choice = mono(Op::Fallback { sensitive: true }, vec![in alloc; 0, 1]?);
+    Ok(Plan {
+        rate: 8000,
+        frame: 2,
+        nodes: Items::from_vec(vec![in alloc; list, blank, choice]?),
+        sinks: Items::from_vec(vec![in alloc; output(alloc, 2)]?),
+        buffers: Items::new(alloc),
+    })
+}
+
+// The file, which the first of these nodes plays.
+fn one_file(alloc: Global) -> Result<Library, AllocError>
+    ensures library { IfOk result (λ library. IsLibrary library) }
+    ensures leaves { IfOk result (λ library. length library.leaves ≡ 1) }
+{
+    let file = Track::new(Kind::Mono, Vec::from_slice(alloc, &[1, 2, 3])?);
+    let leaves = Vec::from_array(alloc, [Vec::from_slice(alloc, &[0])?])?;
+    Ok(Library::new(Vec::from_array(alloc, [file])?, leaves))
+}
+
+// The file, which the first of three nodes plays.
+fn one_of_three(alloc: Global) -> Result<Library, AllocError>
+    ensures library { IfOk result (λ library. IsLibrary library) }
+    ensures leaves { IfOk result (λ library. length library.leaves ≡ 3) }
+{
+    let file = Track::new(Kind::Mono, Vec::from_slice(alloc, &[1, 2, 3])?);
+    let first = Vec::from_slice(alloc, &[0])?;
+    let leaves = Vec::from_array(alloc, [first, Vec::new(alloc), Vec::new(alloc)])?;
+    Ok(Library::new(Vec::from_array(alloc, [file])?, leaves))
+}
+
+// Whether this is the main clock 0.
+fn is_first(clock: NodeClock) -> bool
+    ensures { result ≡ true → clock ≡ NodeClock.Main 0 }
+{
+    match clock {
+        NodeClock::Main(number) => number == 0,
+        NodeClock::Sub(_) => false,
+    }
+}
+
+// Whether a node lies in the main clock 0.
+fn lies_in_first(clocks: &ClockMap, node: u32) -> bool
+    ensures { result ≡ true → slice_get clocks.now.of node ≡ Some (NodeClock.Main 0) }
+{
+    match clocks.of.as_slice().get(node as usize) {
+        Some(clock) => is_first(*clock),
+        None => false,
+    }
+}
+
+// A sink with ample room that fails so.
+fn one_sink(alloc: Global, fails: Vec<(u64, u64)>) -> Result<Vec<MemSink>, Fail>
+    ensures { IfOk result (λ outs. length outs.items ≡ 1) }
+{
+    let out = MemSink::new(alloc, 64, fails)?;
+    let outs = vec![in alloc; out]?;
+    Ok(outs)
+}
+
+// The engine of the main clock 0, which writes this node alone.
+fn begun<'a>(
+    alloc: Global,
+    plan: &'a Plan,
+    clocks: &'a ClockMap,
+    node: u32,
+    library: &'a Library,
+    outs: Vec<MemSink>,
+    start: WeekSecond,
+) -> Result<ClockEngine<'a, MemSink>, (Vec<MemSink>, Memory)>
+    requires plan { IsWellFormed plan.now }
+    requires readers { HasNoReaders plan.now }
+    requires clocks { IsClockMap plan.now clocks.now }
+    requires library { IsLibrary library.now }
+    requires leaves { length library.now.leaves ≡ length plan.now.nodes }
+    requires sinks { plan.now.sinks ≡ SinkPlan.Output [] node false ∷ [] }
+    requires clock { slice_get clocks.now.of node ≡ Some (NodeClock.Main 0) }
+    requires one { length outs.items ≡ 1 }
+    ensures works { IfOk result (λ engine. AreWorks engine.works) }
+    ensures sinks { IfOk result (λ engine. length engine.outs.items ≡ length engine.works.ports.items) }
+{
+    ClockEngine::new(alloc, plan, clocks, 0, library, outs, start)
+}
+
+// Makes a tick of an engine that runs.
+fn tick(
+    rt: &impl Abort,
+    engine: &mut ClockEngine<'_, MemSink>,
+    taps: &mut LocalTaps,
+) -> Result<(), TickFault>
+    requires works { AreWorks engine.old.works }
+    requires sinks { length engine.old.outs.items ≡ length engine.old.works.ports.items }
+    ensures works { AreWorks engine.new.works }
+    ensures sinks { length engine.new.outs.items ≡ length engine.new.works.ports.items }
+{
+    assert!(rt; engine.works.ticks < 1_000_000_000);
+    assert!(rt; engine.works.stopped.is_none());
+    engine.tick(taps)
+}
+
+// Three ticks of the plan's node: the first two are made, the third ends so, and so many bytes are held.
+fn check(
+    rt: &impl Abort,
+    alloc: Global,
+    plan: &Plan,
+    node: u32,
+    library: &Library,
+    fails: Vec<(u64, u64)>,
+    ending: Result<(), TickFault>,
+    held: &[u8],
+) -> Result<(), Fail>
+    requires plan { IsWellFormed plan.now }
+    requires library { IsLibrary library.now }
+    requires leaves { length library.now.leaves ≡ length plan.now.nodes }
+    requires sinks { plan.now.sinks ≡ SinkPlan.Output [] node false ∷ [] }
+{
+    let clocks = assign(alloc, plan)?;
+    assert!(rt; has_no_readers(plan));
+    assert!(rt; lies_in_first(&clocks, node));
+    let mut taps = LocalTaps::new(alloc, plan)?;
+    let outs = one_sink(alloc, fails)?;
+    let start = WeekSecond { second: 0 };
+    match begun(alloc, plan, &clocks, node, library, outs, start) {
+        Ok(mut engine) => {
+            assert_eq!(rt; tick(rt, &mut engine, &mut taps), Ok(()));
+            assert_eq!(rt; tick(rt, &mut engine, &mut taps), Ok(()));
+            assert_eq!(rt; tick(rt, &mut engine, &mut taps), ending);
+            assert_eq!(rt; engine.stopped(), ending.err());
+            assert_eq!(rt; engine.works.ticks, if ending.is_ok() { 3 } else { 2 });
+            let outs = engine.into_outs();
+            assert_eq!(rt; outs.len(), 1);
+            for out in &outs {
+                assert_eq!(rt; out.held(), held);
+            }
+            Ok(())
+        }
+        Err((_, refused)) => Err(Fail::from(refused)),
+    }
+}
+
+#[test]
+fn a_file_is_played_again_and_again(rt: HostRuntime) -> Result<(), Fail> {
+    let alloc = rt.alloc();
+    let (plan, library) = (looped(alloc)?, one_file(alloc)?);
+    let held = [1, 0, 2, 0, 3, 0, 1, 0, 2, 0, 3, 0];
+    check(
+        &rt,
+        alloc,
+        &plan,
+        0,
+        &library,
+        Vec::new(alloc),
+        Ok(()),
+        &held,
+    )
+}
+
+#[test]
+fn a_fallback_goes_on_behind_a_file(rt: HostRuntime) -> Result<(), Fail> {
+    let alloc = rt.alloc();
+    let (plan, library) = (once(alloc)?, one_of_three(alloc)?);
+    let held = [1, 0, 2, 0, 3, 0, 0, 0, 0, 0, 0, 0];
+    check(
+        &rt,
+        alloc,
+        &plan,
+        2,
+        &library,
+        Vec::new(alloc),
+        Ok(()),
+        &held,
+    )
+}
+
+#[test]
+fn a_sink_fails_at_its_third_append(rt: HostRuntime) -> Result<(), Fail> {
+    let alloc = rt.alloc();
+    let (plan, library) = (looped(alloc)?, one_file(alloc)?);
+    let fails = vec![in alloc; (2, 3)]?;
+    let fault = Err(TickFault::Write { sink: 0 });
+    let held = [1, 0, 2, 0, 3, 0, 1, 0, 2, 0, 3];
+    check(&rt, alloc, &plan, 0, &library, fails, fault, &held)
+}
