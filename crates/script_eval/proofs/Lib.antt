@@ -6,3 +6,4 @@ pub mod Statements
 pub mod Predicates
 pub mod CallsHeld
 pub mod Answered
+pub mod Tables

@@ -3,16 +3,11 @@ use Rattle.std.proofs.Common.{◌≡◌, ℕ, ◌+◌, ◌<◌, ◌≤◌, List,
 use Rattle.std.proofs.lemmas.List.{at_drop_more, at_drop_all}
 use Rattle.std.specs.Prelude.{map}
 use Rattle.liq_base.specs.declared.memory.Kind.{Kind}
-use Rattle.script_grammar.specs.Tree.{Tree, Many, ADef, AStmt, more, Stmt, BindPart, DefPart, CallPart, IfPart}
-use Rattle.script_grammar.specs.View.{listed, view_stmt}
-use Rattle.script_grammar.specs.declared.tree.Stmt.{Stmt as ProgramStmt}
 use Rattle.typing_rules.specs.declared.uses.KindOf.{KindOf}
-use Rattle.typing_rules.specs.Defs.{def_at}
 use Rattle.typing_rules.specs.Kinds.{kind_at, kinds_of, put}
-use Rattle.typing_rules.specs.Scripts.{def_token}
 use Rattle.script_values.specs.Slots.{Slot, slot_at}
 use Rattle.script_values.specs.Values.{Value}
-use Rattle.script_eval.specs.Scopes.{def_if, first, prefixed}
+use Rattle.script_eval.specs.Scopes.{prefixed}
 
 by_test : (b : Bool) (u : Value) (one other : Option Value) (v : Value) → (Some v ≡ one → Some v ≡ other) → Some v ≡ cond b (Some u) one → Some v ≡ cond b (Some u) other
 by_test true u one other v later is = is
@@ -50,29 +45,3 @@ kinds_stop given ws i w ks whole so lt is found =
 
 pub kinds_end : (given : List Kind) (ws : List KindOf) (i : ℕ) (ks : List Kind) (whole : Option (List Kind)) → prefixed ks (kinds_of given (drop i ws)) ≡ whole → length ws ≤ i → Some ks ≡ whole
 kinds_end given ws i ks whole so over = ap (λ (l : List Kind). Some l) (sym (append-nil ks)) ∙ sym (at_drop_all (λ (l : List KindOf). prefixed ks (kinds_of given l)) ws i over) ∙ so
-
-by_bool : (b : Bool) (d : Tree ADef) (o : Option (Tree ADef)) → (elim b [ true ↦ Some d | false ↦ o ]) ≡ first (elim b [ true ↦ Some d | false ↦ None ]) o
-by_bool true d o = refl
-by_bool false d o = refl
-
-def_opens : (at : ℕ) (t : Tree AStmt) (ts : Tree (Many AStmt)) → def_at at (more t ts) ≡ first (def_if at t) (def_at at ts)
-def_opens at (Stmt (DefPart d) semicolon) ts = by_bool (nat_eq (def_token d) at) d (def_at at ts)
-def_opens at (Stmt (BindPart b) semicolon) ts = refl
-def_opens at (Stmt (CallPart c) semicolon) ts = refl
-def_opens at (Stmt (IfPart i) semicolon) ts = refl
-
-def_step : (at i : ℕ) (stmts : List ProgramStmt) (s : ProgramStmt) (o whole : Option (Tree ADef)) → def_at at (listed (map view_stmt (drop i stmts))) ≡ whole → i < length stmts → s ≡ get_or stmts i s → o ≡ def_if at (view_stmt s) → first o (def_at at (listed (map view_stmt (drop (i + 1) stmts)))) ≡ whole
-def_step at i stmts s o whole so lt is found =
-    let rest : Option (Tree ADef) → Option (Tree ADef) = λ x. first x (def_at at (listed (map view_stmt (drop (i + 1) stmts)))) in
-    ap rest found ∙ ap (λ (v : ProgramStmt). rest (def_if at (view_stmt v))) is
-    ∙ sym (def_opens at (view_stmt (get_or stmts i s)) (listed (map view_stmt (drop (i + 1) stmts))))
-    ∙ sym (at_drop_more (λ (l : List ProgramStmt). def_at at (listed (map view_stmt l))) stmts i s lt) ∙ so
-
-pub def_there : (at i : ℕ) (stmts : List ProgramStmt) (s : ProgramStmt) (d : Tree ADef) (whole : Option (Tree ADef)) → def_at at (listed (map view_stmt (drop i stmts))) ≡ whole → i < length stmts → s ≡ get_or stmts i s → Some d ≡ def_if at (view_stmt s) → Some d ≡ whole
-def_there at i stmts s d whole so lt is found = def_step at i stmts s (Some d) whole so lt is found
-
-pub def_next : (at i : ℕ) (stmts : List ProgramStmt) (s : ProgramStmt) (whole : Option (Tree ADef)) → def_at at (listed (map view_stmt (drop i stmts))) ≡ whole → i < length stmts → s ≡ get_or stmts i s → None ≡ def_if at (view_stmt s) → def_at at (listed (map view_stmt (drop (i + 1) stmts))) ≡ whole
-def_next at i stmts s whole so lt is found = def_step at i stmts s None whole so lt is found
-
-pub def_none : (at i : ℕ) (stmts : List ProgramStmt) (whole : Option (Tree ADef)) → def_at at (listed (map view_stmt (drop i stmts))) ≡ whole → length stmts ≤ i → None ≡ whole
-def_none at i stmts whole so over = sym (at_drop_all (λ (l : List ProgramStmt). def_at at (listed (map view_stmt l))) stmts i over) ∙ so

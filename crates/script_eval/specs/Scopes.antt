@@ -1,6 +1,6 @@
 -- The scope that a program's scope stands for.
-use Rattle.std.specs.Prelude.{ℕ, List, ◌++◌, map, Option, Some, None, nat_eq, true, false, Ok}
-use Rattle.script_grammar.specs.Tree.{Tree, APOr, ADef, AStmt, Stmt, BindPart, DefPart, CallPart, IfPart}
+use Rattle.std.specs.Prelude.{ℕ, List, ◌++◌, map, Option, Some, None, Ok}
+use Rattle.script_grammar.specs.Tree.{Tree, APOr}
 use Rattle.liq_base.specs.declared.memory.Kind.{Kind}
 use Rattle.script_grammar.specs.View.{view_script}
 use Rattle.script_eval.specs.declared.scope.Scope as program
@@ -10,36 +10,23 @@ use Rattle.script_values.specs.Values.{Pred as a_pred}
 use Rattle.eval_meaning.specs.Preds.{or_pred}
 use Rattle.script_values.specs.declared.machine.Machine.{Machine}
 use Rattle.typing_rules.specs.Arguments.{Given}
-use Rattle.typing_rules.specs.Scripts.{def_token}
 use Rattle.script_values.specs.Values.{Value}
 use Rattle.script_values.specs.Views.{view_slot}
 use Rattle.eval_meaning.specs.Meaning.{Scope, World, call_by}
 
 abbrev pub world_of : program.Scope → World
-world_of s = record { script = view_script s.script.now; uses = s.uses.now; globals = map view_slot s.globals.now }
+world_of s = record { script = view_script s.defs.now.script.now; uses = s.uses.now.all.now; globals = map view_slot s.globals.now.all.items }
 
 abbrev pub scope_of : program.Scope → Scope
-scope_of s = record { uses = s.uses.now; slots = map view_slot s.locals.now ++ map view_slot s.globals.now; kinds = s.kinds.now; call = call_by (world_of s) s.calls }
+scope_of s = record { uses = s.uses.now.all.now; slots = map view_slot s.locals.now ++ map view_slot s.globals.now.all.items; kinds = s.kinds.now; call = call_by (world_of s) s.calls }
 
 -- the scope without the bindings of the def
 abbrev pub base_of : program.Scope → Scope
-base_of s = record { uses = s.uses.now; slots = map view_slot s.globals.now; kinds = s.kinds.now; call = call_by (world_of s) s.calls }
+base_of s = record { uses = s.uses.now.all.now; slots = map view_slot s.globals.now.all.items; kinds = s.kinds.now; call = call_by (world_of s) s.calls }
 
 -- a call of the def at this token
 abbrev pub called : program.Scope → ℕ → List Kind → List (Given Value) → Machine → Outcome
 called s at kinds given m = call_by (world_of s) s.calls at kinds given m
-
--- the def of a statement, if its name stands at this token
-abbrev pub def_if : ℕ → Tree AStmt → Option (Tree ADef)
-def_if at (Stmt (DefPart d) semicolon) = elim (nat_eq (def_token d) at) [ true ↦ Some d | false ↦ None ]
-def_if at (Stmt (BindPart b) semicolon) = None
-def_if at (Stmt (CallPart c) semicolon) = None
-def_if at (Stmt (IfPart i) semicolon) = None
-
--- the first of two that is there
-abbrev pub first : Option (Tree ADef) → Option (Tree ADef) → Option (Tree ADef)
-first None other = other
-first (Some d) other = Some d
 
 -- kinds before those that are still to be read
 abbrev pub prefixed : List Kind → Option (List Kind) → Option (List Kind)

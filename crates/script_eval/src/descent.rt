@@ -13,7 +13,7 @@ ghost use Rattle.script_values.specs.Views.{view_given, view_slot};
 ghost use Rattle.script_values.specs.View.{view_value};
 
 use crate::preds::counted_pred;
-use crate::scope::{Scope, def_at, format, kinds_of, named};
+use crate::scope::{Scope, format, kinds_of, named};
 use crate::single::single;
 use builtin_calls::builtin;
 use liq_base::Kind;
@@ -26,7 +26,7 @@ use script_values::{
     either, listed, literal, multiplied, negative, opposite, truth_of, tuple,
 };
 use std::alloc::Global;
-use typing_rules::{Target, Use, use_at};
+use typing_rules::{Target, Use};
 
 #[cycle(value)]
 #[tactic(auto, unfolding(eval_meaning::specs::Meaning::full))]
@@ -534,9 +534,9 @@ fn applied(
     at: u32,
     given: Vec<Given>,
 ) -> Result<Value, Fault>
-    ensures { Gives (λ v. (view_value v, machine.new)) result (applied (scope_of scope.now) (use_at at scope.now.uses.now) at (map view_given given.items) machine.old) }
+    ensures { Gives (λ v. (view_value v, machine.new)) result (applied (scope_of scope.now) (use_at at scope.now.uses.now.all.now) at (map view_given given.items) machine.old) }
 {
-    match use_at(scope.uses, at) {
+    match scope.uses.find(at) {
         None => Err(Fault::Stuck),
         Some(found) => applied_to(alloc, scope, left, machine, found, at, given),
     }
@@ -580,14 +580,14 @@ fn call_def(
         return Err(Fault::TooLarge(Limit::Calls));
     }
     let inside = Scope {
-        script: scope.script,
+        defs: scope.defs,
         uses: scope.uses,
         globals: scope.globals,
         locals: &[],
         kinds,
         calls: scope.calls - 1,
     };
-    match def_at(scope.script, at) {
+    match scope.defs.find(at) {
         None => Err(Fault::Stuck),
         Some(def) => body(alloc, &inside, left, machine, def, given),
     }
@@ -611,7 +611,7 @@ fn body(
     let mut locals = parameters(alloc, scope, left, machine, &def.params, given)?;
     inners(alloc, scope, left, machine, &def.inner, &mut locals)?;
     let inside = Scope {
-        script: scope.script,
+        defs: scope.defs,
         uses: scope.uses,
         globals: scope.globals,
         locals: &locals,
@@ -671,7 +671,7 @@ fn parameter(
         ParamForm::Optional(default) => match argument(given, Some(param.name.as_str())) {
             None => {
                 let outer = Scope {
-                    script: scope.script,
+                    defs: scope.defs,
                     uses: scope.uses,
                     globals: scope.globals,
                     locals: &[],
@@ -723,7 +723,7 @@ fn inner(
     ensures { Gives (λ v. (view_slot v, machine.new)) result (inner (base_of scope.now) (view_inner binding.now) (map view_slot slots.now) machine.old) }
 {
     let inside = Scope {
-        script: scope.script,
+        defs: scope.defs,
         uses: scope.uses,
         globals: scope.globals,
         locals: slots,

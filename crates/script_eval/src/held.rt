@@ -6,14 +6,15 @@ ghost use Rattle.script_grammar.specs.declared.tree.StmtPart.TheVariants.{Call a
 ghost use Rattle.script_grammar.specs.View.{view_added, view_and, view_arg, view_compare, view_expr, view_full, view_if, view_multiplied, view_not, view_part, view_prim, view_product, view_sum};
 ghost use Rattle.typing_rules.specs.Uses.{use_at};
 
+use crate::uses::Uses;
 use script_grammar::tree::{
     self, Added, And, Arg, Call, Compare, Expr, Full, If, Multiplied, Not, Product, StmtPart, Sum,
 };
-use typing_rules::{Builtin, Target, Use, use_at};
+use typing_rules::{Builtin, Target};
 
 /// Whether the statement is a call of the builtin `set` that holds no other call, evaluated or not.
-pub fn is_setting(uses: &[Use], part: &StmtPart) -> bool
-    ensures { result ≡ is_setting uses.now (view_part part.now) }
+pub fn is_setting(uses: &Uses<'_>, part: &StmtPart) -> bool
+    ensures { result ≡ is_setting uses.now.all.now (view_part part.now) }
 {
     match part {
         StmtPart::Call(call) => is_setting_call(uses, call),
@@ -21,8 +22,8 @@ pub fn is_setting(uses: &[Use], part: &StmtPart) -> bool
     }
 }
 
-fn is_setting_call(uses: &[Use], call: &Call) -> bool
-    ensures { result ≡ is_setting uses.now (view_part (a_call call.now)) }
+fn is_setting_call(uses: &Uses<'_>, call: &Call) -> bool
+    ensures { result ≡ is_setting uses.now.all.now (view_part (a_call call.now)) }
 {
     if means_set(uses, call.at) {
         return !args_hold(&call.args);
@@ -30,10 +31,10 @@ fn is_setting_call(uses: &[Use], call: &Call) -> bool
     false
 }
 
-fn means_set(uses: &[Use], at: u32) -> bool
-    ensures { result ≡ means_set (target_of (use_at at uses.now)) }
+fn means_set(uses: &Uses<'_>, at: u32) -> bool
+    ensures { result ≡ means_set (target_of (use_at at uses.now.all.now)) }
 {
-    match use_at(uses, at) {
+    match uses.find(at) {
         None => false,
         Some(found) => is_set(found.target),
     }

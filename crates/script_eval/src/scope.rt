@@ -1,28 +1,28 @@
 // Where an expression stands, and what names stand for there.
 ghost use Rattle.std.specs.Prelude.{◌≡◌, IfOk, map, option_map};
 ghost use Rattle.typing_rules.specs.Uses.{use_at};
-ghost use Rattle.script_grammar.specs.View.{listed, view_def, view_script, view_stmt};
 ghost use Rattle.script_values.specs.Gives.{Gives};
 ghost use Rattle.eval_meaning.specs.Meaning.{format, named, value_at};
-ghost use Rattle.typing_rules.specs.Defs.{def_at};
 ghost use Rattle.typing_rules.specs.Kinds.{kind_at, kinds_of};
-ghost use Rattle.script_eval.specs.Scopes.{def_if, scope_of};
+ghost use Rattle.script_eval.specs.Scopes.{scope_of};
 ghost use Rattle.script_values.specs.Slots.{slot_at};
 ghost use Rattle.script_values.specs.View.{view_value};
 
+use crate::defs::Defs;
+use crate::globals::Globals;
+use crate::uses::Uses;
 use liq_base::{Kind, Memory};
-use script_grammar::tree::{Def, Script, Stmt, StmtPart};
 use script_values::{Fault, Machine, Slot, Value, copy, count_value, slot_at};
 use std::alloc::Global;
-use typing_rules::{KindOf, Target, Use, use_at};
+use typing_rules::{KindOf, Target};
 
-/// Where an expression stands: the script, what its names stand for, the values of bindings, and the open kinds of
+/// Where an expression stands: the defs of the script, what its names stand for, the values of bindings, and the open kinds of
 /// the def around. So many more calls of defs may run.
 #[derive(Clone, Copy)]
 pub struct Scope<'a> {
-    pub script: &'a Script,
-    pub uses: &'a [Use],
-    pub globals: &'a [Slot],
+    pub defs: &'a Defs<'a>,
+    pub uses: &'a Uses<'a>,
+    pub globals: &'a Globals,
     pub locals: &'a [Slot],
     pub kinds: &'a [Kind],
     pub calls: usize,
@@ -36,9 +36,9 @@ pub fn named(
     machine: &mut Machine,
     at: u32,
 ) -> Result<Value, Fault>
-    ensures { Gives (λ v. (view_value v, machine.new)) result (named (scope_of scope.now) (use_at at scope.now.uses.now) machine.old) }
+    ensures { Gives (λ v. (view_value v, machine.new)) result (named (scope_of scope.now) (use_at at scope.now.uses.now.all.now) machine.old) }
 {
-    match use_at(scope.uses, at) {
+    match scope.uses.find(at) {
         None => Err(Fault::Stuck),
         Some(found) => match found.target {
             Target::Slot(slot) => slot_value(alloc, scope, machine, slot),
@@ -72,7 +72,7 @@ fn lookup<'a>(scope: &Scope<'a>, at: u32) -> Option<&'a Value>
 {
     match slot_at(scope.locals, at) {
         Some(value) => Some(value),
-        None => slot_at(scope.globals, at),
+        None => scope.globals.find(at),
     }
 }
 
@@ -116,32 +116,5 @@ pub fn format(at: u32, size: Option<i64>) -> Result<Value, Fault>
                 Err(Fault::BadValue(at))
             }
         }
-    }
-}
-
-/// The def whose name stands at this token.
-pub fn def_at(script: &Script, at: u32) -> Option<&Def>
-    ensures { option_map (λ d. view_def d.now) result ≡ def_at at (view_script script.now) }
-{
-    def_in(&script.statements, at)
-}
-
-fn def_in(stmts: &[Stmt], at: u32) -> Option<&Def>
-    ensures { option_map (λ d. view_def d.now) result ≡ def_at at (listed (map view_stmt stmts.now)) }
-{
-    for stmt in stmts {
-        if let Some(def) = def_of(stmt, at) {
-            return Some(def);
-        }
-    }
-    None
-}
-
-fn def_of(stmt: &Stmt, at: u32) -> Option<&Def>
-    ensures { option_map (λ d. view_def d.now) result ≡ def_if at (view_stmt stmt.now) }
-{
-    match &stmt.part {
-        StmtPart::Def(def) => { if def.at == at { Some(def) } else { None } }
-        _ => None,
     }
 }

@@ -15,9 +15,12 @@ ghost use Rattle.script_values.specs.View.{view_value};
 ghost use Rattle.script_values.specs.Views.{view_slot};
 ghost use Rattle.typing_rules.specs.Answers.{IsTypedScript};
 
+use crate::defs::Defs;
 use crate::descent::{call, choice, full};
+use crate::globals::Globals;
 use crate::held::is_setting;
 use crate::scope::Scope;
+use crate::uses::Uses;
 use fixed_text::Decimal;
 use liq_base::limits::{MAX_CALLS, MAX_FRAME};
 use plan_core::{Plan, SinkPlan};
@@ -47,7 +50,13 @@ fn answered(alloc: Global, script: &Script, uses: &[Use]) -> Result<Plan, EvalFa
     ensures { Answers (λ p. p) result (evaluation (view_script script.now) uses.now) }
 {
     let mut machine = Machine::new(alloc);
-    run(alloc, script, uses, &script.statements, &mut machine)?;
+    let Ok(defs) = Defs::new(alloc, script) else {
+        return Err(EvalFault::Memory);
+    };
+    let Ok(uses) = Uses::new(alloc, uses) else {
+        return Err(EvalFault::Memory);
+    };
+    run(alloc, &defs, &uses, &script.statements, &mut machine)?;
     if has_output(machine.plan.plan().sinks.as_slice()) {
         Ok(machine.plan.into_plan())
     } else {
@@ -72,30 +81,22 @@ fn is_output(sink: &SinkPlan) -> bool
 
 fn run(
     alloc: Global,
-    script: &Script,
-    uses: &[Use],
+    defs: &Defs<'_>,
+    uses: &Uses<'_>,
     stmts: &[Stmt],
     machine: &mut Machine,
 ) -> Result<(), EvalFault>
-    requires { IsNotStuck (statements (view_script script.now) uses.now (listed (map view_stmt stmts.now)) 0 [] machine.old) }
-    ensures { Answers (λ _. machine.new) result (statements (view_script script.now) uses.now (listed (map view_stmt stmts.now)) 0 [] machine.old) }
+    requires { IsNotStuck (statements (view_script defs.now.script.now) uses.now.all.now (listed (map view_stmt stmts.now)) 0 [] machine.old) }
+    ensures { Answers (λ _. machine.new) result (statements (view_script defs.now.script.now) uses.now.all.now (listed (map view_stmt stmts.now)) 0 [] machine.old) }
 {
-    let mut globals = Vec::new(alloc);
+    let mut globals = Globals::new(alloc);
     let mut number: u32 = 0;
     'turns: for stmt in stmts {
         if number == u32::MAX {
             return Err(EvalFault::Memory);
         }
         number += 1;
-        turn(
-            alloc,
-            script,
-            uses,
-            &stmt.part,
-            number,
-            &mut globals,
-            machine,
-        )?;
+        turn(alloc, defs, uses, &stmt.part, number, &mut globals, machine)?;
     }
     settle(machine, false)
 }
@@ -104,19 +105,19 @@ fn run(
 #[tactic(auto, unfolding(eval_meaning::specs::Scripts::turned), using(crate::proofs::Statements::fault_is_told))]
 fn turn(
     alloc: Global,
-    script: &Script,
-    uses: &[Use],
+    defs: &Defs<'_>,
+    uses: &Uses<'_>,
     part: &StmtPart,
     number: u32,
-    globals: &mut Vec<Slot>,
+    globals: &mut Globals,
     machine: &mut Machine,
 ) -> Result<(), EvalFault>
-    requires { IsNotStuck (turned (view_script script.now) uses.now (view_part part.now) number (map view_slot globals.old.items) machine.old) }
-    ensures { Answers (λ _. (map view_slot globals.new.items, machine.new)) result (turned (view_script script.now) uses.now (view_part part.now) number (map view_slot globals.old.items) machine.old) }
+    requires { IsNotStuck (turned (view_script defs.now.script.now) uses.now.all.now (view_part part.now) number (map view_slot globals.old.all.items) machine.old) }
+    ensures { Answers (λ _. (map view_slot globals.new.all.items, machine.new)) result (turned (view_script defs.now.script.now) uses.now.all.now (view_part part.now) number (map view_slot globals.old.all.items) machine.old) }
 {
     settle(machine, is_setting(uses, part))?;
     machine.settings.statement = number;
-    match statement(alloc, script, uses, part, globals, machine) {
+    match statement(alloc, defs, uses, part, globals, machine) {
         Ok(()) => Ok(()),
         Err(fault) => Err(told(number, fault)),
     }
@@ -186,27 +187,27 @@ fn tick(duration: Decimal, rate: u32) -> Option<u32>
 #[tactic(auto, unfolding(eval_meaning::specs::Scripts::statement))]
 fn statement(
     alloc: Global,
-    script: &Script,
-    uses: &[Use],
+    defs: &Defs<'_>,
+    uses: &Uses<'_>,
     part: &StmtPart,
-    globals: &mut Vec<Slot>,
+    globals: &mut Globals,
     machine: &mut Machine,
 ) -> Result<(), Fault>
-    ensures { Gives (λ _. (map view_slot globals.new.items, machine.new)) result (statement (top_scope (view_script script.now) uses.now (map view_slot globals.old.items)) (view_part part.now) (map view_slot globals.old.items) machine.old) }
+    ensures { Gives (λ _. (map view_slot globals.new.all.items, machine.new)) result (statement (top_scope (view_script defs.now.script.now) uses.now.all.now (map view_slot globals.old.all.items)) (view_part part.now) (map view_slot globals.old.all.items) machine.old) }
 {
     match part {
         StmtPart::Bind(bind) => {
-            let value = top_full(alloc, script, uses, globals, machine, &bind.value)?;
+            let value = top_full(alloc, defs, uses, globals, machine, &bind.value)?;
             globals.push(Slot { at: bind.at, value })?;
             Ok(())
         }
         StmtPart::Def(_) => Ok(()),
         StmtPart::Call(inside) => {
-            let _value = top_call(alloc, script, uses, globals, machine, inside)?;
+            let _value = top_call(alloc, defs, uses, globals, machine, inside)?;
             Ok(())
         }
         StmtPart::If(inside) => {
-            let _value = top_choice(alloc, script, uses, globals, machine, inside)?;
+            let _value = top_choice(alloc, defs, uses, globals, machine, inside)?;
             Ok(())
         }
     }
@@ -214,16 +215,16 @@ fn statement(
 
 fn top_full(
     alloc: Global,
-    script: &Script,
-    uses: &[Use],
-    globals: &[Slot],
+    defs: &Defs<'_>,
+    uses: &Uses<'_>,
+    globals: &Globals,
     machine: &mut Machine,
     node: &Full,
 ) -> Result<Value, Fault>
-    ensures { Gives (λ v. (view_value v, machine.new)) result (full (top_scope (view_script script.now) uses.now (map view_slot globals.now)) (view_full node.now) machine.old) }
+    ensures { Gives (λ v. (view_value v, machine.new)) result (full (top_scope (view_script defs.now.script.now) uses.now.all.now (map view_slot globals.now.all.items)) (view_full node.now) machine.old) }
 {
     let scope = Scope {
-        script,
+        defs,
         uses,
         globals,
         locals: &[],
@@ -235,16 +236,16 @@ fn top_full(
 
 fn top_call(
     alloc: Global,
-    script: &Script,
-    uses: &[Use],
-    globals: &[Slot],
+    defs: &Defs<'_>,
+    uses: &Uses<'_>,
+    globals: &Globals,
     machine: &mut Machine,
     node: &Call,
 ) -> Result<Value, Fault>
-    ensures { Gives (λ v. (view_value v, machine.new)) result (call (top_scope (view_script script.now) uses.now (map view_slot globals.now)) (view_call node.now) machine.old) }
+    ensures { Gives (λ v. (view_value v, machine.new)) result (call (top_scope (view_script defs.now.script.now) uses.now.all.now (map view_slot globals.now.all.items)) (view_call node.now) machine.old) }
 {
     let scope = Scope {
-        script,
+        defs,
         uses,
         globals,
         locals: &[],
@@ -256,16 +257,16 @@ fn top_call(
 
 fn top_choice(
     alloc: Global,
-    script: &Script,
-    uses: &[Use],
-    globals: &[Slot],
+    defs: &Defs<'_>,
+    uses: &Uses<'_>,
+    globals: &Globals,
     machine: &mut Machine,
     node: &If,
 ) -> Result<Value, Fault>
-    ensures { Gives (λ v. (view_value v, machine.new)) result (choice (top_scope (view_script script.now) uses.now (map view_slot globals.now)) (view_if node.now) machine.old) }
+    ensures { Gives (λ v. (view_value v, machine.new)) result (choice (top_scope (view_script defs.now.script.now) uses.now.all.now (map view_slot globals.now.all.items)) (view_if node.now) machine.old) }
 {
     let scope = Scope {
-        script,
+        defs,
         uses,
         globals,
         locals: &[],

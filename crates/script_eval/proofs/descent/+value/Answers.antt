@@ -176,13 +176,13 @@ call_def-returns-then-scope-eq0 t c = calls_end (world_of c.args.scope.now) c.ar
 pub call_def-returns-in-None : goal.call_def-returns-in-None
 call_def-returns-in-None t c =
     calls_turn (world_of c.args.scope.now) c.args.scope.now.calls (c.args.scope.now.calls - 1) c.args.at c.args.kinds.now (map view_given c.args.given.items) c.args.machine.now (omega arith)
-    ∙ ap (λ (o : Option (Tree ADef)). meaning.run (record { uses = c.args.scope.now.uses.now; slots = map view_slot c.args.scope.now.globals.now; kinds = c.args.kinds.now; call = meaning.call_by (world_of c.args.scope.now) (c.args.scope.now.calls - 1) }) o (map view_given c.args.given.items) c.args.machine.now) (sym c.in-None.ensures)
+    ∙ ap (λ (o : Option (Tree ADef)). meaning.run (record { uses = c.args.scope.now.uses.now.all.now; slots = map view_slot c.args.scope.now.globals.now.all.items; kinds = c.args.kinds.now; call = meaning.call_by (world_of c.args.scope.now) (c.args.scope.now.calls - 1) }) o (map view_given c.args.given.items) c.args.machine.now) (sym c.in-None.ensures)
 
 pub call_def-returns-in-Some : goal.call_def-returns-in-Some
 call_def-returns-in-Some t c =
     let turned =
     calls_turn (world_of c.args.scope.now) c.args.scope.now.calls (c.args.scope.now.calls - 1) c.args.at c.args.kinds.now (map view_given c.args.given.items) c.args.machine.now (omega arith)
-    ∙ ap (λ (o : Option (Tree ADef)). meaning.run (record { uses = c.args.scope.now.uses.now; slots = map view_slot c.args.scope.now.globals.now; kinds = c.args.kinds.now; call = meaning.call_by (world_of c.args.scope.now) (c.args.scope.now.calls - 1) }) o (map view_given c.args.given.items) c.args.machine.now) (sym c.in-Some.ensures) in
+    ∙ ap (λ (o : Option (Tree ADef)). meaning.run (record { uses = c.args.scope.now.uses.now.all.now; slots = map view_slot c.args.scope.now.globals.now.all.items; kinds = c.args.kinds.now; call = meaning.call_by (world_of c.args.scope.now) (c.args.scope.now.calls - 1) }) o (map view_given c.args.given.items) c.args.machine.now) (sym c.in-Some.ensures) in
     subst (λ (r : Outcome). Gives (λ v. (view_value v, c.body.new.machine)) c.body.result r) (sym turned) c.body.ensures
 
 pub prim-returns-in-Tuple : goal.prim-returns-in-Tuple

@@ -6,4 +6,4 @@ use Rattle.script_values.specs.Views.{view_slot}
 use Rattle.script_eval.proofs.script.run.Given as goal
 
 abbrev pub invariant-turns : goal.invariant-turns
-invariant-turns l = statements (view_script l.script) l.uses (listed (map view_stmt (drop l.stmt-index l.stmts))) l.number (map view_slot l.globals.items) l.machine ≡ statements (view_script l.script) l.uses (listed (map view_stmt l.stmts)) 0 [] l.fn.machine
+invariant-turns l = statements (view_script l.defs.script.now) l.uses.all.now (listed (map view_stmt (drop l.stmt-index l.stmts))) l.number (map view_slot l.globals.all.items) l.machine ≡ statements (view_script l.defs.script.now) l.uses.all.now (listed (map view_stmt l.stmts)) 0 [] l.fn.machine

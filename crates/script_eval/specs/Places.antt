@@ -1,0 +1,44 @@
+-- Where tokens stand in a list, by a table.
+use Rattle.std.specs.Prelude.{◌≡◌, ℕ, Bool, List, Option, Some, None, cond, nat_eq, true, false}
+use Rattle.std.specs.List.{position}
+use Rattle.std.specs.Option.{option_or}
+use Rattle.indexmap.specs.IndexMap.{IndexMap, get}
+use Rattle.script_grammar.specs.Tree.{Tree, ADef, AStmt, Stmt, BindPart, DefPart, CallPart, IfPart}
+use Rattle.script_grammar.specs.View.{view_stmt}
+use Rattle.script_grammar.specs.declared.tree.Stmt.{Stmt as ProgramStmt}
+use Rattle.script_values.specs.declared.slots.Slot.{Slot}
+use Rattle.typing_rules.specs.Scripts.{def_token}
+use Rattle.typing_rules.specs.declared.uses.Use.{Use}
+
+-- the table has, for each token, the first place in the list at which the test finds it
+abbrev pub IsTable : {X S : Type 0} → (ℕ → X → Bool) → IndexMap ℕ ℕ S → List X → Type 0
+IsTable test places xs = (at : ℕ) → get nat_eq places at ≡ position (test at) xs
+
+-- each token that passes has this place now, unless it had one, and every other token has what it had
+abbrev pub Notes : {S : Type 0} → (ℕ → Bool) → IndexMap ℕ ℕ S → ℕ → IndexMap ℕ ℕ S → Type 0
+Notes test old place new = (at : ℕ) → get nat_eq new at ≡ option_or (get nat_eq old at) (cond (test at) (Some place) None)
+
+-- whether the use stands for the name at the token
+abbrev pub is_use : ℕ → Use → Bool
+is_use at u = nat_eq u.at at
+
+-- whether the binding is of the name at the token
+abbrev pub is_slot : ℕ → Slot → Bool
+is_slot at s = nat_eq s.at at
+
+-- the def of a statement, if its name stands at this token
+abbrev pub def_if : ℕ → Tree AStmt → Option (Tree ADef)
+def_if at (Stmt (DefPart d) semicolon) = elim (nat_eq (def_token d) at) [ true ↦ Some d | false ↦ None ]
+def_if at (Stmt (BindPart b) semicolon) = None
+def_if at (Stmt (CallPart c) semicolon) = None
+def_if at (Stmt (IfPart i) semicolon) = None
+
+-- whether the statement is the def whose name stands at the token
+abbrev pub names : Tree AStmt → ℕ → Bool
+names (Stmt (DefPart d) semicolon) at = nat_eq (def_token d) at
+names (Stmt (BindPart b) semicolon) at = false
+names (Stmt (CallPart c) semicolon) at = false
+names (Stmt (IfPart i) semicolon) at = false
+
+abbrev pub is_def : ℕ → ProgramStmt → Bool
+is_def at s = names (view_stmt s) at
