@@ -1,5 +1,5 @@
 -- New states stand for no instant.
-use Rattle.std.proofs.Common.{◌≡◌, ◌*◌, ◌∙◌, ℕ, List, Some, length, get_or, slice_get, replicate, ap, arith, refl, subst, sym, inl, inr}
+use Rattle.std.proofs.Common.{◌≡◌, ◌*◌, ◌∙◌, ℕ, List, Some, get_or, slice_get, replicate, ap, arith, refl, subst, sym, inl, inr}
 use Rattle.std.proofs.lemmas.Bool.{cases_lt}
 use Rattle.std.proofs.lemmas.List.{get_or-replicate, get_or_past, length-replicate}
 use Rattle.clock_infer.specs.declared.clock_map.NodeClock.{NodeClock}

@@ -8,7 +8,7 @@ ghost use Rattle.engine_ticks.specs.Runs.{Heard};
 ghost use Rattle.clock_infer.specs.declared.clock_map.NodeClock.TheVariants.{Main as InMain};
 ghost use Rattle.op_leaf.specs.Readers.{Answer};
 ghost use Rattle.clock_outputs.specs.Appends.{AreKept};
-ghost use Rattle.clock_engine.specs.Engines.{AreClocksOf, AreWorks, EngineStands, after_tick, held_in, outputs_of, setting_of};
+ghost use Rattle.clock_engine.specs.Engines.{AreClocksOf, AreWorks, EngineStands, after_tick, outputs_of, setting_of};
 ghost use Rattle.clock_outputs.specs.Appends.{NoneFell};
 ghost use Rattle.stream_meaning.specs.Sinks.{gaps};
 ghost use Rattle.node_states.specs.Ticks.{IsOutput, with_rest};

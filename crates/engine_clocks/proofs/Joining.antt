@@ -1,5 +1,5 @@
 -- The crossfades of a clock are settled, one after another.
-use Rattle.std.proofs.Common.{◌≡◌, ◌<◌, ◌≤◌, ◌+◌, ◌∙◌, ℕ, suc, Some, List, length, slice_get, arith, refl, ap, sym, subst, inl, inr}
+use Rattle.std.proofs.Common.{◌≡◌, ◌≤◌, ◌∙◌, ℕ, suc, List, arith, ap, sym, subst, inl, inr}
 use Rattle.std.proofs.lemmas.Bool.{cases_lt}
 use Rattle.plan_core.specs.declared.node.Node.{Node}
 use Rattle.clock_infer.specs.declared.clock_map.NodeClock.{NodeClock}
@@ -11,7 +11,7 @@ use Rattle.node_states.specs.Ticks.{past_of}
 use Rattle.engine_instants.specs.Nodes.{IsFirst}
 use Rattle.engine_instants.proofs.Places.{below_or_same}
 use Rattle.engine_clocks.specs.declared.lanes.ClockLanes.{ClockLanes}
-use Rattle.engine_clocks.specs.Clocks.{AreLeft, HasItem, IsReached, Stand, is_in, is_node, is_upto, clock_at}
+use Rattle.engine_clocks.specs.Clocks.{HasItem, IsReached, Stand, is_in, is_node, is_upto}
 use Rattle.engine_clocks.proofs.Equal.{not_same}
 
 -- an item stays where neither the clock nor the crossfade went on

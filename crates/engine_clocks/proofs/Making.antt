@@ -1,13 +1,13 @@
 -- A clock whose crossfades have their items makes its instant.
-use Rattle.std.proofs.Common.{◌≡◌, ◌<◌, ◌≤◌, ◌∙◌, ◌&&◌, ℕ, zero, suc, Bool, true, false, Some, List, [], ◌∷◌, length, get_or, slice_get, arith, refl, ap, sym, subst, inl, inr}
+use Rattle.std.proofs.Common.{◌≡◌, ◌<◌, ◌≤◌, ◌∙◌, ℕ, zero, suc, Bool, false, Some, List, ◌∷◌, length, slice_get, arith, refl, ap, sym, subst, inl, inr}
 use Rattle.std.proofs.lemmas.Option.{slice_get_within}
 use Rattle.plan_core.specs.declared.node.Node.{Node}
 use Rattle.plan_core.specs.declared.node.Op.TheVariants.{Crossfade}
 use Rattle.clock_infer.specs.declared.clock_map.NodeClock.{NodeClock}
-use Rattle.clock_infer.specs.declared.clock_map.NodeClock.TheVariants.{Main, Sub}
+use Rattle.clock_infer.specs.declared.clock_map.NodeClock.TheVariants.{Sub}
 use Rattle.frame_core.specs.Slots.{Slot}
 use Rattle.op_cross.specs.Runs.{run_of}
-use Rattle.stream_meaning.specs.Instants.{Setting, Moment, clock_of, history, is_root, lies_in, moment_after, position, same_clock, work_at}
+use Rattle.stream_meaning.specs.Instants.{Setting, clock_of, history, is_root, moment_after, position, same_clock, work_at}
 use Rattle.stream_meaning.specs.Calls.{ran_by}
 use Rattle.stream_meaning.proofs.Existence.{same_clock-true}
 use Rattle.node_states.specs.declared.state.NodeState.{NodeState}
@@ -15,9 +15,9 @@ use Rattle.node_states.specs.declared.time.WeekTime.{WeekTime}
 use Rattle.node_states.specs.States.{IsSettled, StateStands}
 use Rattle.node_states.specs.Ticks.{past_of}
 use Rattle.node_states.specs.Times.{TimeStands}
-use Rattle.engine_instants.specs.States.{AreRoots, AreSettled, ClockStands, IsIn}
+use Rattle.engine_instants.specs.States.{AreRoots, AreSettled, ClockStands}
 use Rattle.engine_clocks.specs.declared.lanes.ClockLanes.{ClockLanes}
-use Rattle.engine_clocks.specs.Clocks.{AreLeft, AreOwnRoots, HasItem, HasMade, HasRanks, IsReached, RanAsNeeded, Stand, clock_at, is_in, is_upto}
+use Rattle.engine_clocks.specs.Clocks.{AreOwnRoots, HasMade, HasRanks, IsReached, RanAsNeeded, Stand, is_in, is_upto}
 use Rattle.engine_clocks.proofs.Equal.{are_same, bumped, bumped-other, bumped-same, same_or_above, same_or_other, they_differ}
 use Rattle.engine_clocks.proofs.Taking.{needed_below}
 

@@ -1,8 +1,7 @@
 -- A crossfade is fed one slot more, and then no more.
-use Rattle.std.proofs.Common.{◌≡◌, ◌<◌, ◌≤◌, ◌+◌, ◌/◌, ◌%◌, ◌∙◌, ◌++◌, ℕ, zero, suc, Some, List, [], ◌∷◌, length, slice_get, arith, refl, ap, sym, subst, inl, inr}
+use Rattle.std.proofs.Common.{◌≡◌, ◌<◌, ◌≤◌, ◌+◌, ◌/◌, ◌%◌, ◌∙◌, ◌++◌, ℕ, suc, Some, List, [], ◌∷◌, length, slice_get, arith, refl, ap, sym, subst, inl, inr}
 use Rattle.std.proofs.lemmas.Option.{slice_get_within}
 use Rattle.plan_core.specs.declared.node.Node.{Node}
-use Rattle.plan_core.specs.declared.node.Op.TheVariants.{Crossfade}
 use Rattle.clock_infer.specs.declared.clock_map.NodeClock.{NodeClock}
 use Rattle.clock_infer.specs.declared.clock_map.NodeClock.TheVariants.{Sub}
 use Rattle.frame_core.specs.Slots.{Slot}

@@ -7,7 +7,7 @@ ghost use Rattle.clock_infer.specs.declared.clock_map.NodeClock.TheVariants.{Mai
 ghost use Rattle.frame_core.specs.Slots.{Slot as TheSlot};
 ghost use Rattle.stream_meaning.specs.Instants.{Setting, IsMeaning, history, moment_after, second_at};
 ghost use Rattle.engine_instants.specs.States.{over};
-ghost use Rattle.engine_clocks.specs.Clocks.{AreClockLanes, AreLeft, AreOwnRoots, HasLevels, HasMade, HasRanks, IsReached, RanAsNeeded, Stand, is_in, is_node, is_none, is_upto};
+ghost use Rattle.engine_clocks.specs.Clocks.{AreClockLanes, AreLeft, AreOwnRoots, HasLevels, HasMade, HasRanks, IsReached, RanAsNeeded, Stand, is_in, is_node, is_upto};
 
 use crate::ClockLanes;
 use crate::feeding::feed_child;

@@ -1,5 +1,5 @@
 -- A node picks a child that offers.
-use Rattle.std.proofs.Common.{◌≡◌, ◌<◌, ◌≤◌, ◌∙◌, ℕ, zero, suc, Bool, true, false, Option, None, Some, List, [], ◌∷◌, length, slice_get, arith, refl, ap, sym, subst, inl, inr}
+use Rattle.std.proofs.Common.{◌≡◌, ◌≤◌, ◌∙◌, ℕ, zero, suc, Bool, true, false, Option, None, Some, List, [], ◌∷◌, length, slice_get, arith, refl, ap, sym, subst, inl, inr}
 use Rattle.std.proofs.lemmas.Bool.{cases_lt}
 use Rattle.std.proofs.lemmas.List.{get_or_past}
 use Rattle.std.proofs.lemmas.Option.{none-some, slice_get_within}
@@ -10,7 +10,7 @@ use Rattle.frame_core.specs.Slots.{Slot, slot_at}
 use Rattle.op_select.specs.Selection.{pick_of, picked, picked_cell}
 use Rattle.stream_meaning.specs.declared.part.Part.{Part}
 use Rattle.stream_meaning.specs.Operators.{Work, Plays, Picks, Mixes, Fades, Reads, marks_at}
-use Rattle.stream_meaning.specs.Instants.{Setting, Moment, child_at, last_pick, lies_in, offering, part_at, part_by, part_in, parts_upto, picked_part, second_at, silent, slots_at, work_at}
+use Rattle.stream_meaning.specs.Instants.{Setting, Moment, child_at, last_pick, lies_in, offering, part_at, part_by, parts_upto, picked_part, second_at, silent, slots_at, work_at}
 use Rattle.engine_instants.specs.Demands.{PicksOffer}
 use Rattle.engine_instants.specs.States.{IsIn}
 use Rattle.engine_instants.proofs.Parts.{part_in-inside, parts_are, parts_long}

@@ -13,5 +13,4 @@ mod shape;
 pub use instant::finish_instant;
 pub use latest::Latest;
 pub use nodes::ClockNodes;
-pub use offers::is_same_clock;
 pub use shape::Shape;

@@ -1,10 +1,10 @@
 // What the nodes of a clock do at an instant.
-ghost use Rattle.std.specs.Prelude.{◌≡◌, ◌<◌, ◌≤◌, ℕ, List, Some, true, false, length, slice_get};
+ghost use Rattle.std.specs.Prelude.{◌≡◌, ◌<◌, ℕ, List, Some, true, false, length, slice_get};
 ghost use Rattle.plan_core.specs.declared.node.Node.{Node as PlanNode};
 ghost use Rattle.plan_core.specs.Plans.{AreNodes};
 ghost use Rattle.clock_infer.specs.declared.clock_map.NodeClock.{NodeClock as Clock};
 ghost use Rattle.frame_core.specs.Slots.{Slot as TheSlot};
-ghost use Rattle.stream_meaning.specs.Instants.{Setting, Moment, lies_in, part_at, part_in, parts_upto, same_clock, second_at, silent, work_at};
+ghost use Rattle.stream_meaning.specs.Instants.{Setting, Moment, lies_in, part_at, part_in, parts_upto, second_at, silent, work_at};
 ghost use Rattle.node_states.specs.States.{AreLong, Fits, IsSettled, StateStands};
 ghost use Rattle.engine_instants.specs.Nodes.{AreNodesOf, lies_at};
 ghost use Rattle.engine_instants.specs.States.{AllFit, AreSettled, ClockStands, HasRoomFor, IsIn, over};
@@ -14,17 +14,6 @@ use clock_infer::NodeClock;
 use fixed_text::WeekSecond;
 use node_states::{Desk, NodeState};
 use stream_meaning::Part;
-
-/// Whether these are one clock.
-pub fn is_same_clock(one: NodeClock, other: NodeClock) -> bool
-    ensures { result ≡ same_clock one other }
-{
-    match (one, other) {
-        (NodeClock::Main(m), NodeClock::Main(n)) => m == n,
-        (NodeClock::Sub(j), NodeClock::Sub(k)) => j == k,
-        _ => false,
-    }
-}
 
 // What node i does, over what the nodes before it do.
 fn offer_of(

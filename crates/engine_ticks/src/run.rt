@@ -1,5 +1,5 @@
 // The instants of a tick.
-ghost use Rattle.std.specs.Prelude.{◌≡◌, ◌≤◌, ℕ, List, length, map};
+ghost use Rattle.std.specs.Prelude.{◌≡◌, ◌≤◌, length, map};
 ghost use Rattle.liq_base.specs.declared.limits.TheConstants.{MAX_NODES};
 ghost use Rattle.plan_core.specs.Plans.{AreNodes};
 ghost use Rattle.clock_outputs.specs.Ports.{AllHaveRoomLeft, emptied};

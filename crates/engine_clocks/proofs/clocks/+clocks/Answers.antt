@@ -1,8 +1,8 @@
-use Rattle.std.proofs.Common.{◌≡◌, ◌<◌, ◌≤◌, ◌∙◌, sym, ap, ℕ, suc, Some, false, length, get_or, slice_get, arith, refl, subst}
+use Rattle.std.proofs.Common.{◌≡◌, ◌<◌, ◌∙◌, sym, ap, suc, Some, false, length, get_or, slice_get, arith, refl, subst}
 use Rattle.std.specs.Option.{option_map_or}
 use Rattle.std.proofs.lemmas.Option.{slice_get_read}
-use Rattle.clock_infer.specs.declared.clock_map.NodeClock.TheVariants.{Main, Sub}
-use Rattle.stream_meaning.specs.Instants.{Setting, history, moment_after, second_at}
+use Rattle.clock_infer.specs.declared.clock_map.NodeClock.TheVariants.{Main}
+use Rattle.stream_meaning.specs.Instants.{history, moment_after, second_at}
 use Rattle.stream_meaning.proofs.Existence.{same_clock-true}
 use Rattle.node_states.specs.States.{left, wants}
 use Rattle.node_states.proofs.Begun.{as_many}

@@ -1,4 +1,4 @@
-use Rattle.std.proofs.Common.{◌≡◌, ◌∙◌, ◌&&◌, Bool, true, false, get_or, arith, ap, refl, sym, subst}
+use Rattle.std.proofs.Common.{◌∙◌, ◌&&◌, false, get_or, arith, ap, refl, sym, subst}
 use Rattle.stream_meaning.specs.Instants.{demands_from, is_root, lies_in, moment_after, uses_from}
 use Rattle.engine_instants.specs.Demands.{PicksOffer}
 use Rattle.engine_instants.specs.States.{over}

@@ -1,4 +1,4 @@
-use Rattle.std.proofs.Common.{◌≡◌, ◌<◌, length, arith}
+use Rattle.std.proofs.Common.{◌<◌, length, arith}
 use Rattle.engine_instants.proofs.Walking.{cleared_all, cleared_first, cleared_next, next_own}
 use Rattle.engine_instants.proofs.latest.clear.Goals as goal
 

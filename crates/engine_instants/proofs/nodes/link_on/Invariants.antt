@@ -1,4 +1,4 @@
-use Rattle.std.proofs.Common.{◌≡◌, ◌<◌, ◌≤◌, ℕ, suc, length, get_or}
+use Rattle.std.proofs.Common.{◌<◌, ◌≤◌, ℕ, suc, length, get_or}
 use Rattle.clock_infer.specs.declared.clock_map.NodeClock.{NodeClock}
 use Rattle.clock_infer.specs.declared.clock_map.NodeClock.TheVariants.{Main}
 use Rattle.engine_instants.specs.Nodes.{IsFirst, number_of}

@@ -1,4 +1,4 @@
-use Rattle.std.proofs.Common.{◌≡◌, ◌<◌, ◌∙◌, false, length, arith}
+use Rattle.std.proofs.Common.{◌<◌, false, length, arith}
 use Rattle.std.proofs.lemmas.List.{get_or_default}
 use Rattle.engine_instants.proofs.Walking.{marked_first, marked_next, next_own}
 use Rattle.engine_instants.proofs.roots.mark_roots.Goals as goal

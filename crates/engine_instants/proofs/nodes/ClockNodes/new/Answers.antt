@@ -1,4 +1,4 @@
-use Rattle.std.proofs.Common.{◌≡◌, ◌<◌, ◌∙◌, suc, length, get_or, arith, ap, subst, sym}
+use Rattle.std.proofs.Common.{◌≡◌, ◌∙◌, suc, length, get_or, arith, ap, subst, sym}
 use Rattle.std.proofs.lemmas.List.{with_items_is}
 use Rattle.clock_infer.specs.declared.clock_map.NodeClock.TheVariants.{Main}
 use Rattle.engine_instants.specs.Nodes.{IsEnd, IsFirst, number_of}
