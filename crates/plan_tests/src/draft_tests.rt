@@ -1,22 +1,11 @@
 //! Plans that are being made.
-ghost use Rattle.std.specs.Prelude.{◌≡◌, [], ◌∷◌, IfOk};
+ghost use Rattle.std.specs.Prelude.{◌≡◌, []};
 
 use fixed_text::Decimal;
 use liq_base::{Kind, Text};
 use plan_core::{BufferPlan, Draft, Items, Node, Op, SinkPlan};
 use std::alloc::Global;
 use std::test::Fail;
-
-/// A crossfade of this node.
-fn crossfade(alloc: Global, child: u32) -> Result<Node, Fail>
-    ensures { IfOk result (λ node. node.children ≡ child ∷ []) }
-{
-    Ok(Node {
-        op: Op::Crossfade { overlap: 4410 },
-        kind: Kind::Mono,
-        children: Items::from_vec(vec![in alloc; child]?),
-    })
-}
 
 fn square(alloc: Global) -> Node
     ensures leaf { result.children ≡ [] }
@@ -31,24 +20,6 @@ fn square(alloc: Global) -> Node
         kind: Kind::Mono,
         children: Items::new(alloc),
     }
-}
-
-#[test]
-fn four_crossfades_stand_on_a_path(rt: HostRuntime) -> Result<(), Fail> {
-    let alloc = rt.alloc();
-    let mut draft = Draft::new(alloc, 44_100, 1764);
-    let mut last = draft.push_node(square(alloc))?;
-    for count in 1..=4 {
-        let node = crossfade(alloc, last)?;
-        assert_eq!(rt; draft.crossfades_from(&node), count);
-        assert!(rt; (last as usize) < draft.plan().nodes.len());
-        last = draft.push_node(node)?;
-        assert_eq!(rt; draft.crossfades_of(last), count);
-    }
-    assert_eq!(rt; draft.crossfades_from(&crossfade(alloc, last)?), 5);
-    assert_eq!(rt; draft.crossfades_of(0), 0);
-    assert_eq!(rt; draft.crossfades_of(9), 0);
-    Ok(())
 }
 
 #[test]

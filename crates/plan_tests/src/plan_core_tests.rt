@@ -2,10 +2,9 @@
 ghost use Rattle.std.specs.Prelude.{◌≡◌, []};
 
 use liq_base::Kind;
-use plan_core::{Items, Node, Op, Plan, PlanFault, Preds};
+use plan_core::{Items, Node, Op, Plan, PlanFault};
 use std::alloc::Global;
 use std::test::Fail;
-use time_pred::Pred;
 
 fn blank(alloc: Global) -> Node
     ensures leaf { result.children ≡ [] }
@@ -42,24 +41,5 @@ fn the_4097th_node_is_refused(rt: HostRuntime) -> Result<(), Fail> {
     );
     assert_eq!(rt; plan.nodes.len(), 4096);
     assert_eq!(rt; plan.rate, 44_100);
-    Ok(())
-}
-
-#[test]
-fn a_vec_is_given_back(rt: HostRuntime) -> Result<(), Fail> {
-    let alloc = rt.alloc();
-    let items = Items::from_vec(vec![in alloc; 3, 4]?);
-    assert_eq!(rt; items.as_slice(), [3, 4].as_slice());
-    assert_eq!(rt; items.into_vec().as_slice(), [3, 4].as_slice());
-    let preds = Preds::from_vec(vec![in alloc; Pred::Never, Pred::Always]?);
-    assert_eq!(rt; preds.len(), 2);
-    let preds = preds.into_vec();
-    assert_eq!(rt; preds.len(), 2);
-    assert_eq!(rt; preds[0].always(), false);
-    assert_eq!(rt; preds[1].always(), true);
-    assert_eq!(rt;
-        format!(in alloc; "{}", PlanFault::TooManySources)?.as_str(),
-        "too many sources"
-    );
     Ok(())
 }

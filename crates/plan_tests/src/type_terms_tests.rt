@@ -16,18 +16,34 @@ fn pair(alloc: Global, first: Ty, second: Ty) -> Result<Ty, Memory> {
     Ok(Ty::Tuple(parts))
 }
 
-fn single(alloc: Global, only: Ty) -> Result<Ty, Memory> {
-    let mut parts = Vec::new(alloc);
-    parts.push(only)?;
-    Ok(Ty::Tuple(parts))
+// The type of this name, among variables 0 and 1, number variables 2 and 3 and kind variables 0 and 1.
+fn named(name: &str) -> Ty {
+    match name {
+        "int" => Ty::Int,
+        "decimal" => Ty::Decimal,
+        "text" => Ty::Text,
+        "bool" => Ty::Bool,
+        "pred" => Ty::Pred,
+        "format" => Ty::Format,
+        "var 0" => Ty::Var(0),
+        "var 1" => Ty::Var(1),
+        "number 2" => Ty::Var(2),
+        "number 3" => Ty::Var(3),
+        "mono" => Ty::Source(KindTerm::Fixed(Kind::Mono)),
+        "stereo" => Ty::Source(KindTerm::Fixed(Kind::Stereo)),
+        "kind 0" => Ty::Source(KindTerm::Var(0)),
+        "kind 1" => Ty::Source(KindTerm::Var(1)),
+        _ => Ty::Unit,
+    }
 }
 
-fn source(kind: Kind) -> Ty {
-    Ty::Source(KindTerm::Fixed(kind))
-}
-
-fn open_source(number: u64) -> Ty {
-    Ty::Source(KindTerm::Var(number))
+// The type of this name, or its list, or its pair with another one.
+fn made(alloc: Global, name: &str, beside: &str) -> Result<Ty, Memory> {
+    match beside {
+        "" => Ok(named(name)),
+        "list" => list(alloc, named(name)),
+        other => pair(alloc, named(name), named(other)),
+    }
 }
 
 // Type variables 0 and 1, number variables 2 and 3, kind variables 0 and 1.
@@ -92,126 +108,55 @@ fn check_row(
     Ok(())
 }
 
-// The same for two lists.
-fn check_lists(
+// Each row: a name and what stands beside it, twice, and the text of both types once they are made equal.
+fn check_rows(
     rt: &impl Abort,
     alloc: Global,
-    left: Ty,
-    right: Ty,
-    want: &str,
+    rows: &[(&str, &str, &str, &str, &str)],
 ) -> Result<(), Fail> {
-    let left = list(alloc, left)?;
-    let right = list(alloc, right)?;
-    check_row(rt, alloc, &left, &right, want)
-}
-
-// The same for two pairs.
-fn check_pairs(
-    rt: &impl Abort,
-    alloc: Global,
-    left: Ty,
-    left_too: Ty,
-    right: Ty,
-    right_too: Ty,
-    want: &str,
-) -> Result<(), Fail> {
-    let left = pair(alloc, left, left_too)?;
-    let right = pair(alloc, right, right_too)?;
-    check_row(rt, alloc, &left, &right, want)
-}
-
-// A type clashes with a list in a tuple of one part, and with its tuple of two parts.
-fn check_nested(rt: &impl Abort, alloc: Global, left: &Ty, inner: Ty) -> Result<(), Fail> {
-    let right = list(alloc, inner)?;
-    check_row(rt, alloc, left, &right, "")?;
-    let right = single(alloc, right)?;
-    check_row(rt, alloc, left, &right, "")?;
-    let two = pair(alloc, Ty::Int, Ty::Text)?;
-    check_row(rt, alloc, &two, &right, "")
+    for row in rows {
+        let (left, left_too, right, right_too, want) = *row;
+        let left = made(alloc, left, left_too)?;
+        let right = made(alloc, right, right_too)?;
+        check_row(rt, alloc, &left, &right, want)?;
+    }
+    Ok(())
 }
 
 #[test]
 fn types_that_can_be_made_equal_and_not(rt: HostRuntime) -> Result<(), Fail> {
     let rows = [
-        (Ty::Int, Ty::Text, ""),
-        (Ty::Bool, Ty::Bool, "Bool"),
-        (Ty::Pred, Ty::Bool, ""),
-        (Ty::Var(0), Ty::Var(0), "Var(0)"),
-        (Ty::Var(0), Ty::Var(1), "Var(0)"),
-        (Ty::Var(1), Ty::Var(0), "Var(0)"),
-        (Ty::Var(0), Ty::Format, "Format"),
-        (Ty::Var(2), Ty::Int, "Int"),
-        (Ty::Decimal, Ty::Var(2), "Decimal"),
-        (Ty::Var(2), Ty::Text, ""),
-        (Ty::Var(2), Ty::Var(3), "Var(2)"),
-        (Ty::Var(0), Ty::Var(2), "Var(2)"),
-        (Ty::Var(2), Ty::Var(0), "Var(2)"),
-        (source(Kind::Mono), source(Kind::Stereo), ""),
-        (open_source(0), source(Kind::Mono), "Source(Fixed(Mono))"),
-        (
-            source(Kind::Stereo),
-            open_source(1),
-            "Source(Fixed(Stereo))",
-        ),
-        (open_source(0), open_source(1), "Source(Var(0))"),
-        (open_source(0), Ty::Unit, ""),
+        ("int", "", "text", "", ""),
+        ("bool", "", "bool", "", "Bool"),
+        ("pred", "", "bool", "", ""),
+        ("var 0", "", "var 0", "", "Var(0)"),
+        ("var 0", "", "var 1", "", "Var(0)"),
+        ("var 1", "", "var 0", "", "Var(0)"),
+        ("var 0", "", "format", "", "Format"),
+        ("number 2", "", "int", "", "Int"),
+        ("decimal", "", "number 2", "", "Decimal"),
+        ("number 2", "", "text", "", ""),
+        ("number 2", "", "number 3", "", "Var(2)"),
+        ("var 0", "", "number 2", "", "Var(2)"),
+        ("number 2", "", "var 0", "", "Var(2)"),
+        ("mono", "", "stereo", "", ""),
+        ("kind 0", "", "mono", "", "Source(Fixed(Mono))"),
+        ("stereo", "", "kind 1", "", "Source(Fixed(Stereo))"),
+        ("kind 0", "", "kind 1", "", "Source(Var(0))"),
+        ("kind 0", "", "unit", "", ""),
+        ("var 0", "list", "int", "list", "List(Int)"),
+        ("number 2", "list", "decimal", "list", "List(Decimal)"),
+        ("number 2", "list", "bool", "list", ""),
+        ("var 0", "text", "int", "var 1", "Tuple([Int, Text])"),
+        ("var 0", "text", "int", "bool", ""),
+        ("var 0", "var 0", "int", "text", ""),
+        ("var 0", "var 0", "var 1", "text", "Tuple([Text, Text])"),
+        ("int", "", "int", "list", ""),
+        ("number 2", "", "int", "list", ""),
+        ("var 0", "", "var 0", "list", ""),
+        ("int", "text", "int", "list", ""),
     ];
-    for (left, right, want) in rows {
-        check_row(&rt, rt.alloc(), &left, &right, want)?;
-    }
-    Ok(())
-}
-
-#[test]
-fn lists(rt: HostRuntime) -> Result<(), Fail> {
-    let rows = [
-        (Ty::Var(0), Ty::Int, "List(Int)"),
-        (Ty::Var(2), Ty::Decimal, "List(Decimal)"),
-        (Ty::Var(2), Ty::Bool, ""),
-    ];
-    for (left, right, want) in rows {
-        check_lists(&rt, rt.alloc(), left, right, want)?;
-    }
-    Ok(())
-}
-
-#[test]
-fn tuples(rt: HostRuntime) -> Result<(), Fail> {
-    let rows = [
-        (
-            Ty::Var(0),
-            Ty::Text,
-            Ty::Int,
-            Ty::Var(1),
-            "Tuple([Int, Text])",
-        ),
-        (Ty::Var(0), Ty::Text, Ty::Int, Ty::Bool, ""),
-        (Ty::Var(0), Ty::Var(0), Ty::Int, Ty::Text, ""),
-        (
-            Ty::Var(0),
-            Ty::Var(0),
-            Ty::Var(1),
-            Ty::Text,
-            "Tuple([Text, Text])",
-        ),
-    ];
-    for (left, left_too, right, right_too, want) in rows {
-        check_pairs(&rt, rt.alloc(), left, left_too, right, right_too, want)?;
-    }
-    Ok(())
-}
-
-#[test]
-fn unlike_shapes_and_types_inside_themselves(rt: HostRuntime) -> Result<(), Fail> {
-    let rows = [
-        (Ty::Int, Ty::Int),
-        (Ty::Var(2), Ty::Int),
-        (Ty::Var(0), Ty::Var(0)),
-    ];
-    for (left, inner) in rows {
-        check_nested(&rt, rt.alloc(), &left, inner)?;
-    }
-    Ok(())
+    check_rows(&rt, rt.alloc(), &rows)
 }
 
 // Each variable is bound to what `make` makes of the one before.
@@ -244,40 +189,32 @@ fn tower(
     Ok(top)
 }
 
-#[test]
-fn a_chain_of_170000_lists(rt: HostRuntime) -> Result<(), Fail> {
-    let mut subst = Subst::new(rt.alloc())?;
-    let top = tower(&rt, rt.alloc(), &mut subst, 170_000, false)?;
-    let again = unified(&rt, rt.alloc(), &mut subst, &top, &top)?;
+// Two such towers are made equal, and none can be built.
+fn check_towers(rt: &impl Abort, alloc: Global, height: u64, double: bool) -> Result<(), Fail> {
+    let mut subst = Subst::new(alloc)?;
+    let top = tower(rt, alloc, &mut subst, height, double)?;
+    let again = unified(rt, alloc, &mut subst, &top, &top)?;
     assert!(rt; again);
-    let other = tower(&rt, rt.alloc(), &mut subst, 170_000, false)?;
-    let both = unified(&rt, rt.alloc(), &mut subst, &top, &other)?;
+    let other = tower(rt, alloc, &mut subst, height, double)?;
+    let both = unified(rt, alloc, &mut subst, &top, &other)?;
     assert!(rt; both);
-    let covered = subst.covers(rt.alloc(), &top)?;
+    let covered = subst.covers(alloc, &top)?;
     assert!(rt; covered);
     assert!(rt;
-        resolved(rt.alloc(), &subst, &top).is_err(),
-        "too deep to be built"
+        resolved(alloc, &subst, &top).is_err(),
+        "too large to be built"
     );
     Ok(())
 }
 
 #[test]
+fn a_chain_of_170000_lists(rt: HostRuntime) -> Result<(), Fail> {
+    check_towers(&rt, rt.alloc(), 170_000, false)
+}
+
+#[test]
 fn a_type_that_doubles_thirty_times(rt: HostRuntime) -> Result<(), Fail> {
-    let mut subst = Subst::new(rt.alloc())?;
-    let top = tower(&rt, rt.alloc(), &mut subst, 30, true)?;
-    let again = unified(&rt, rt.alloc(), &mut subst, &top, &top)?;
-    assert!(rt; again);
-    let other = tower(&rt, rt.alloc(), &mut subst, 30, true)?;
-    let both = unified(&rt, rt.alloc(), &mut subst, &top, &other)?;
-    assert!(rt; both);
-    let covered = subst.covers(rt.alloc(), &top)?;
-    assert!(rt; covered);
-    assert!(rt;
-        resolved(rt.alloc(), &subst, &top).is_err(),
-        "too large to be built"
-    );
-    Ok(())
+    check_towers(&rt, rt.alloc(), 30, true)
 }
 
 #[test]
@@ -297,24 +234,8 @@ fn a_thousand_levels_are_bound_and_no_more(rt: HostRuntime) -> Result<(), Fail> 
 }
 
 #[test]
-fn free_variables_against_ints(rt: HostRuntime) -> Result<(), Fail> {
-    let mut subst = Subst::new(rt.alloc())?;
-    let mut free = Vec::new(rt.alloc());
-    let mut ints = Vec::new(rt.alloc());
-    for _part in 0..4000 {
-        free.push(subst.fresh(false)?)?;
-        ints.push(Ty::Int)?;
-    }
-    let free = Ty::Tuple(free);
-    let ints = Ty::Tuple(ints);
-    let yes = unified(&rt, rt.alloc(), &mut subst, &free, &ints)?;
-    assert!(rt; yes);
-    Ok(())
-}
-
-#[test]
 fn the_variables_of_a_type_and_an_instance(rt: HostRuntime) -> Result<(), Fail> {
-    let inner = pair(rt.alloc(), Ty::Var(1), open_source(0))?;
+    let inner = made(rt.alloc(), "var 1", "kind 0")?;
     let ty = pair(rt.alloc(), inner, Ty::Var(0))?;
     let found = variables(rt.alloc(), &ty)?;
     assert_eq!(rt;
