@@ -40,5 +40,6 @@ names (Stmt (BindPart b) semicolon) at = false
 names (Stmt (CallPart c) semicolon) at = false
 names (Stmt (IfPart i) semicolon) at = false
 
+-- the same of a statement of the program
 abbrev pub is_def : ℕ → ProgramStmt → Bool
 is_def at s = names (view_stmt s) at

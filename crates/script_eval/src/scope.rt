@@ -1,5 +1,5 @@
 // Where an expression stands, and what names stand for there.
-ghost use Rattle.std.specs.Prelude.{◌≡◌, IfOk, map, option_map};
+ghost use Rattle.std.specs.Prelude.{◌≡◌, IfOk, option_map};
 ghost use Rattle.typing_rules.specs.Uses.{use_at};
 ghost use Rattle.script_values.specs.Gives.{Gives};
 ghost use Rattle.eval_meaning.specs.Meaning.{format, named, value_at};
@@ -16,8 +16,8 @@ use script_values::{Fault, Machine, Slot, Value, copy, count_value, slot_at};
 use std::alloc::Global;
 use typing_rules::{KindOf, Target};
 
-/// Where an expression stands: the defs of the script, what its names stand for, the values of bindings, and the open kinds of
-/// the def around. So many more calls of defs may run.
+/// Where an expression stands: the defs of the script, what its names stand for, the values of bindings, and the open
+/// kinds of the def around. So many more calls of defs may run.
 #[derive(Clone, Copy)]
 pub struct Scope<'a> {
     pub defs: &'a Defs<'a>,
