@@ -1,5 +1,6 @@
 -- What is answered of a def.
-use Rattle.std.proofs.Common.{◌≡◌, ◌∙◌, sym, ap, ap₂, subst, refl, arith, ℕ, suc, length, List, [], ◌∷◌, ◌++◌, map, take, drop, Option, Some, None}
+use Rattle.std.proofs.Common.{◌≡◌, ◌∙◌, sym, ap, ap₂, subst, refl, arith, ℕ, zero, suc, length, List, [], ◌∷◌, ◌++◌, map, take, drop, append_assoc, Option, Some, None}
+use Rattle.std.specs.List.{flat_map}
 use Rattle.liq_base.specs.declared.memory.Kind.{Kind}
 use Rattle.script_grammar.specs.View.{view_def}
 use Rattle.script_grammar.specs.declared.tree.Def.{Def}
@@ -8,16 +9,18 @@ use Rattle.type_terms.specs.Ground.{Assignment}
 use Rattle.type_terms.specs.Table.{Table}
 use Rattle.type_terms.specs.Term.{Term, kind_meaning}
 use Rattle.type_terms.specs.declared.ty.KindTerm.{KindTerm}
-use Rattle.typing_rules.specs.Kinds.{kind_at, kinds_of, put}
+use Rattle.typing_rules.specs.Kinds.{counted, kind_at, kinds_of, put}
 use Rattle.typing_rules.specs.Scripts.{Targets}
 use Rattle.type_schemes.specs.declared.general.TextKind.{TextKind}
-use Rattle.type_schemes.specs.Generals.{IsGeneral, settled as settled_text}
-use Rattle.type_schemes.specs.Holding.{AreThere, HeldVariables}
+use Rattle.type_schemes.specs.declared.general.TextKind.TheVariants.{Open, Outer}
+use Rattle.type_schemes.specs.Generals.{IsGeneral, open_of, settled as settled_text}
+use Rattle.type_schemes.specs.Holding.{AreThere, HeldVariables, IsHeldBy}
 use Rattle.type_flow.specs.Environment.{AreKnownOver, Found, Known, TextUse, function}
 use Rattle.value_types.specs.declared.environment.Names.{Names}
 use Rattle.expression_types.specs.Order.{AreAdded, Said, said_at, said_of}
+use Rattle.script_flow.specs.Counts.{open_in, opens_in}
 use Rattle.script_flow.specs.Defs.{HasNoTyping, HoldsBefore, IsTypingOf, outside, terms_before}
-use Rattle.def_types.specs.Answers.{AreSaidAs, IsTypedDef, said_in, text_of}
+use Rattle.def_types.specs.Answers.{AreSaidAs, IsNumberedDef, IsTypedDef, said_in, text_of}
 use Rattle.def_types.specs.PartsOf.{HasNoDef, InfersDef}
 use Rattle.def_types.specs.Steps.{IsGeneralDef}
 use Rattle.def_types.specs.TextUses.{kinds_in, pending_of, text_uses}
@@ -93,10 +96,41 @@ said_same [] text long = refl
 said_same (f ∷ fs) text long =
     ap₂ (λ (n : ℕ) (l : List Said). (f.at, Some f.target, Some n) ∷ l) (said_taken (length f.kinds) text (kinds_in fs) f.kinds refl long) (said_same fs (drop (length f.kinds) text) (rest_long f.kinds (kinds_in fs) text long))
 
+-- the text has as many kinds as the uses
+text_long : (s : Table) (d : Def) (p : TypedParts) (fs : List Found) (h : HeldVariables) (t : TypedDef) (s0 : Table) (names : List Term) → Follows s0 s → IsHeldBy s0 names h → (g : IsGeneralDef s h d p fs t) → length g.text ≡ length (kinds_in fs)
+text_long s d p fs h t s0 names f held g =
+    let a : Assignment = g.solution.0 in
+    let q = (g.general names (g.held s0 names f held)).complete a a g.solution.1 g.solution.1 refl in
+    lengths q.0 a g.text (map (kind_meaning a) (kinds_in fs)) q.2 ∙ length_meanings a (kinds_in fs)
+
 pub is_said : (s s1 : Table) (targets : Targets) (before : List Known) (ns : Names) (d : Def) (p : TypedParts) (fs : List Found) (h : HeldVariables) (t : TypedDef) (ts : List ℕ) (old : List Found) → old ≡ [] → HoldsBefore s before h → InfersDef s s1 (outside targets before) (view_def d) p.params.items p.result fs → IsGeneralDef s1 h d p fs t → AreAdded ns ts old fs → AreSaidAs ns ts (text_of t.known)
 is_said s s1 targets before ns d p fs h t ts old none was i g added =
-    let held = g.held s (terms_before before) i.follows was.held in
-    let a : Assignment = g.solution.0 in
-    let q = (g.general (terms_before before) held).complete a a g.solution.1 g.solution.1 refl in
-    let long : length g.text ≡ length (kinds_in fs) = lengths q.0 a g.text (map (kind_meaning a) (kinds_in fs)) q.2 ∙ length_meanings a (kinds_in fs) in
+    let long = text_long s1 d p fs h t s (terms_before before) i.follows was.held g in
     ap (map said_in) g.text_is ∙ said_same fs g.text long ∙ added ∙ ap (λ (l : List Found). map said_of l ++ map (said_at ns) ts) none
+
+-- ---- the open kinds of the uses are those of the text
+
+pending_opens : (text : List TextKind) → flat_map open_in (map pending_of text) ≡ flat_map open_of text
+pending_opens [] = refl
+pending_opens (Outer k ∷ text) = pending_opens text
+pending_opens (Open j ∷ text) = ap (λ (js : List ℕ). j ∷ js) (pending_opens text)
+
+split_opens : (n : ℕ) (text : List TextKind) → flat_map open_of (take n text) ++ flat_map open_of (drop n text) ≡ flat_map open_of text
+split_opens zero text = refl
+split_opens (suc n) [] = refl
+split_opens (suc n) (t ∷ text) = append_assoc (open_of t) (flat_map open_of (take n text)) (flat_map open_of (drop n text)) ∙ ap (λ (js : List ℕ). open_of t ++ js) (split_opens n text)
+
+uses_open : (fs : List Found) (text : List TextKind) → length text ≡ length (kinds_in fs) → opens_in (text_uses fs text) ≡ flat_map open_of text
+uses_open [] [] long = refl
+uses_open [] (t ∷ text) long = absurd cc
+uses_open (f ∷ fs) text long =
+    let n = length f.kinds in
+    ap₂ (λ (js ks : List ℕ). js ++ ks) (pending_opens (take n text)) (uses_open fs (drop n text) (rest_long f.kinds (kinds_in fs) text long)) ∙ split_opens n text
+
+pub is_numbered : (s s1 : Table) (targets : Targets) (before : List Known) (d : Def) (p : TypedParts) (fs : List Found) (h : HeldVariables) (t : TypedDef) → HoldsBefore s before h → InfersDef s s1 (outside targets before) (view_def d) p.params.items p.result fs → IsGeneralDef s1 h d p fs t → IsNumberedDef s1 t.known
+is_numbered s s1 targets before d p fs h t was i g =
+    let long = text_long s1 d p fs h t s (terms_before before) i.follows was.held g in
+    record {
+      some = g.solution;
+      numbered = ap (λ (us : List TextUse). counted 0 (opens_in us)) g.text_is ∙ ap (counted 0) (uses_open fs g.text long) ∙ g.numbered;
+    }

@@ -3,7 +3,8 @@ use Rattle.std.specs.Prelude.{◌≡◌, ℕ, List, ◌∷◌, map, length, Opti
 use Rattle.script_grammar.specs.View.{view_def}
 use Rattle.script_grammar.specs.declared.tree.Def.{Def}
 use Rattle.type_terms.specs.Agrees.{Follows}
-use Rattle.type_terms.specs.Table.{Table}
+use Rattle.type_terms.specs.Ground.{Assignment}
+use Rattle.type_terms.specs.Table.{Solves, Table}
 use Rattle.typing_rules.specs.Scripts.{Targets, def_token, params_of}
 use Rattle.type_schemes.specs.Schemes.{scheme_of}
 use Rattle.name_scope.specs.Seen.{seen_parameter}
@@ -12,6 +13,7 @@ use Rattle.value_types.specs.Seen.{text_use}
 use Rattle.value_types.specs.declared.environment.KnownDef.{KnownDef}
 use Rattle.value_types.specs.declared.environment.Names.{Names}
 use Rattle.expression_types.specs.Order.{Said, said_at}
+use Rattle.script_flow.specs.Counts.{scheme_count, text_count}
 use Rattle.script_flow.specs.Defs.{HasNoTyping, HoldsBefore, IsTypingOf, KeepsTypings}
 use Rattle.def_types.specs.declared.defs.TypedDef.{TypedDef}
 
@@ -36,6 +38,11 @@ pub record IsTypedDef (s s' : Table) (targets : Targets) (before : List Known) (
   pub complete : KeepsTypings s s' targets before (view_def d)
   pub typing : IsTypingOf s' targets before (view_def d) (scheme_of t.known.general) (text_of t.known)
   pub held : HoldsBefore s' (function (view_def d) (text_of t.known) ∷ before) t.held
+
+-- There is a solution, and the open kinds of the text have the numbers from 0 in the order of first mention and are as many as the general type has.
+pub record IsNumberedDef (s : Table) (d : KnownDef) : Type 0 where
+  pub some : (a : Assignment) × Solves a s
+  pub numbered : text_count (text_of d) ≡ Some (scheme_count (scheme_of d.general))
 
 abbrev pub IsDefTyped : Table → Table → Targets → List Known → Def → Option TypedDef → Type 0
 IsDefTyped s s' targets before d None = HasNoTyping s targets before (view_def d)

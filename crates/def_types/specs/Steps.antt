@@ -10,7 +10,7 @@ use Rattle.type_terms.specs.Term.{Term, variable}
 use Rattle.typing_rules.specs.Scripts.{Places, Targets, def_token, params_of}
 use Rattle.typing_rules.specs.Typing.{Has, InnersHave, Types, token_of, within}
 use Rattle.type_schemes.specs.declared.general.TextKind.{TextKind}
-use Rattle.type_schemes.specs.Generals.{AreTextKindsOver, IsGeneral}
+use Rattle.type_schemes.specs.Generals.{AreTextKindsOver, IsGeneral, IsNumberedText}
 use Rattle.type_schemes.specs.Holding.{HeldVariables, IsHeldBy}
 use Rattle.type_schemes.specs.Schemes.{IsSchemeOver, scheme_of}
 use Rattle.name_scope.specs.Seen.{seen_parameter}
@@ -80,6 +80,7 @@ pub record IsGeneralDef (s : Table) (h : HeldVariables) (d : Def) (p : TypedPart
   pub params : map seen_parameter t.known.params.items ≡ params_of (view_def d)
   pub text : List TextKind
   pub text_is : text_of t.known ≡ text_uses fs text
+  pub numbered : IsNumberedText (scheme_of t.known.general) text
   pub solution : (a : Assignment) × Solves a s
   pub held : (s0 : Table) (names : List Term) → Follows s0 s → IsHeldBy s0 names h → IsHeldBy s names t.held
   pub over : (names : List Term) → IsHeldBy s names t.held → IsSchemeOver s (scheme_of t.known.general)

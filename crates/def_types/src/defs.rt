@@ -7,7 +7,7 @@ ghost use Rattle.type_flow.specs.Environment.{AreUsesOver};
 ghost use Rattle.value_types.specs.Seen.{IsSeen, env_of, founds};
 ghost use Rattle.expression_types.specs.Order.{tokens_used};
 ghost use Rattle.script_flow.specs.Defs.{HoldsBefore};
-ghost use Rattle.def_types.specs.Answers.{AreSaidAs, IsDefTyped, text_of};
+ghost use Rattle.def_types.specs.Answers.{AreSaidAs, IsDefTyped, IsNumberedDef, text_of};
 ghost use Rattle.def_types.specs.PartsOf.{AreVars};
 ghost use Rattle.def_types.specs.Steps.{IsGeneralDef};
 
@@ -71,7 +71,8 @@ fn general_def<'a>(
 /// The general type of a def and the uses in its text; `None` where it has no typing. It fails only where memory is refused.
 ///
 /// `seen` is what is seen outside of defs, and `held` what the types of earlier values hold.
-/// Where the def has a typing, its text has one use for each of its names, in the order of the tokens.
+/// Where the def has a typing, its text has one use for each of its names, in the order of the tokens. Its open kinds are
+/// numbered as the text names them first, and are all that the general type has.
 pub fn type_def<'a>(
     alloc: Global,
     subst: &mut Subst,
@@ -84,6 +85,7 @@ pub fn type_def<'a>(
     requires held { HoldsBefore subst.old (env_of seen).before held.now }
     ensures typed { IfOk result (λ r. IsDefTyped subst.old subst.new (env_of seen.entry).targets (env_of seen.entry).before def.entry.now r) }
     ensures order { IfOk result (λ r. IfSome r (λ t. AreSaidAs seen.entry (tokens_used (view_def def.entry.now)) (text_of t.known))) }
+    ensures numbered { IfOk result (λ r. IfSome r (λ t. IsNumberedDef subst.new t.known)) }
 {
     let mut uses = Vec::new(alloc);
     match type_parts(alloc, subst, seen, &mut uses, def)? {

@@ -28,6 +28,7 @@ returns c = record {
     params = rw c.deref-4.ensures.value at c.in_ok-named.ensures.same;
     text = c.in_ok-general.general.text.items;
     text_is = rw c.as_slice.ensures.value at c.in_ok-text.ensures;
+    numbered = c.in_ok-general.ensures.numbered;
     solution = (c.has_defaults.ensures.at, c.has_defaults.ensures.solves);
     held = c.in_ok-held.ensures.held;
     over = c.in_ok-general.ensures.over;

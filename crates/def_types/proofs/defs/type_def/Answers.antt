@@ -2,7 +2,7 @@ use Rattle.std.proofs.Common.{◌≡◌, ap, []}
 use Rattle.script_grammar.specs.View.{view_def}
 use Rattle.value_types.specs.Seen.{env_of, founds}
 use Rattle.expression_types.specs.Order.{tokens_used}
-use Rattle.def_types.proofs.Typings.{is_said, is_typed, no_typing}
+use Rattle.def_types.proofs.Typings.{is_numbered, is_said, is_typed, no_typing}
 use Rattle.def_types.proofs.defs.type_def.Goals as goal
 
 pub returns-in-None-clause-typed : goal.returns-in-None-clause-typed
@@ -18,3 +18,8 @@ returns-clause-order c =
     let empty : c.new-uses.result.items ≡ [] = cc in
     is_said c.args.subst.now c.type_parts.new.subst (env_of c.args.seen).targets (env_of c.args.seen).before c.args.seen c.args.def.now c.in-Some.parts (founds c.type_parts.new.uses.items) c.args.held.now c.in_ok-typed-in-Some.typed (tokens_used (view_def c.args.def.now)) (founds c.new-uses.result.items) (ap founds empty) c.requires.held
     (rw c.in-Some.is at c.in_ok-type_parts.ensures.typed) (rw c.deref.ensures.value at c.in_ok-typed-in-Some.ensures.general) (rw c.in-Some.is at c.in_ok-type_parts.ensures.order)
+
+pub returns-clause-numbered : goal.returns-clause-numbered
+returns-clause-numbered c =
+    is_numbered c.args.subst.now c.type_parts.new.subst (env_of c.args.seen).targets (env_of c.args.seen).before c.args.def.now c.in-Some.parts (founds c.type_parts.new.uses.items) c.args.held.now c.in_ok-typed-in-Some.typed c.requires.held
+    (rw c.in-Some.is at c.in_ok-type_parts.ensures.typed) (rw c.deref.ensures.value at c.in_ok-typed-in-Some.ensures.general)
