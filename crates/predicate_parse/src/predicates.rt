@@ -9,7 +9,8 @@ ghost use Rattle.script_grammar.specs.Whole.{IsWholePAnd, IsWholePAtom, IsWholeP
 ghost use Rattle.parse_base.specs.Gives.{kinds, Gives};
 
 use fixed_text::TimeMark;
-use parse_base::{Fault, token};
+use parse_base::Fault;
+use parse_base::token::{self, Class};
 use script_grammar::make;
 use script_grammar::predicate::{PAnd, PAtom, PNot, POr};
 use script_lex::{Keyword, Symbol, Token, TokenKind};
@@ -62,7 +63,7 @@ fn pands(alloc: Global, levels: usize, tokens: &[Token]) -> Result<(Vec<PAnd>, &
 {
     let mut items = Vec::new(alloc);
     let mut rest = tokens;
-    'turns: while token::at_or(rest) {
+    'turns: while token::next_is(rest, Class::Or) {
         let (item, after) = or_pand(alloc, levels, rest)?;
         items.push(item)?;
         rest = after;
@@ -77,7 +78,7 @@ fn or_pand(alloc: Global, levels: usize, tokens: &[Token]) -> Result<(PAnd, &[To
     ensures gives { Gives (λ x. (view_pand x.0, kinds x.1.now)) result (behind is_or (pand (por_by levels)) (kinds tokens.now)) }
     ensures whole { IfOk result (λ x. IsWholePAnd x.0) }
 {
-    let ((), rest) = token::expect_or(tokens)?;
+    let ((), rest) = token::expect(tokens, Class::Or)?;
     pand(alloc, levels, rest)
 }
 
@@ -101,7 +102,7 @@ fn pnots(alloc: Global, levels: usize, tokens: &[Token]) -> Result<(Vec<PNot>, &
 {
     let mut items = Vec::new(alloc);
     let mut rest = tokens;
-    'turns: while token::at_and(rest) {
+    'turns: while token::next_is(rest, Class::And) {
         let (item, after) = and_pnot(alloc, levels, rest)?;
         items.push(item)?;
         rest = after;
@@ -116,7 +117,7 @@ fn and_pnot(alloc: Global, levels: usize, tokens: &[Token]) -> Result<(PNot, &[T
     ensures gives { Gives (λ x. (view_pnot x.0, kinds x.1.now)) result (behind is_and (pnot (por_by levels)) (kinds tokens.now)) }
     ensures whole { IfOk result (λ x. IsWholePNot x.0) }
 {
-    let ((), rest) = token::expect_and(tokens)?;
+    let ((), rest) = token::expect(tokens, Class::And)?;
     pnot(alloc, levels, rest)
 }
 
@@ -127,7 +128,7 @@ fn pnot(alloc: Global, levels: usize, tokens: &[Token]) -> Result<(PNot, &[Token
     ensures gives { Gives (λ x. (view_pnot x.0, kinds x.1.now)) result (pnot (por_by levels) (kinds tokens.now)) }
     ensures whole { IfOk result (λ x. IsWholePNot x.0) }
 {
-    let (negated, rest) = token::perhaps_not(tokens);
+    let (negated, rest) = token::perhaps(tokens, Class::Not);
     let (atom, rest) = patom(alloc, levels, rest)?;
     Ok((PNot { negated, atom }, rest))
 }
@@ -148,7 +149,7 @@ fn patom(alloc: Global, levels: usize, tokens: &[Token]) -> Result<(PAtom, &[Tok
         TokenKind::Time(from) => interval(*from, rest),
         TokenKind::Symbol(Symbol::OpenRound) => {
             let (inside, rest) = por(alloc, levels, rest)?;
-            let ((), rest) = token::expect_close_round(rest)?;
+            let ((), rest) = token::expect(rest, Class::CloseRound)?;
             Ok((PAtom::Paren(Box::new(alloc, inside)?), rest))
         }
         _ => Err(Fault::Syntax(tokens.len())),

@@ -1,8 +1,7 @@
 -- Parts of what is read, as the functions read them. The number at is the index of a token that was read before.
 use Rattle.std.specs.Prelude.{ℕ, List, ◌∷◌, length, Bool, true, false, Ok, Err}
 use Rattle.script_lex.specs.declared.token.TokenKind.{TokenKind}
-use Rattle.script_lex.specs.declared.token.TokenKind.TheVariants.{Name, NameOpen, Keyword, Symbol}
-use Rattle.script_lex.specs.declared.token.Keyword.TheVariants as word
+use Rattle.script_lex.specs.declared.token.TokenKind.TheVariants.{Name, NameOpen, Symbol}
 use Rattle.script_lex.specs.declared.token.Symbol.TheVariants as sign
 use Rattle.script_grammar.specs.Tree.{Tree, ABind, AParam, ADef, APart, AnExpr, Bind, Labelled, Optional, Def, BindPart, DefPart, CallPart, IfPart}
 use Rattle.script_grammar.specs.Read.{Reader, ◌>>=◌, made, both, expect, perhaps, many, closed}
@@ -18,23 +17,6 @@ a_name w = Err (length w)
 abbrev pub an_open_name : Reader (List ℕ)
 an_open_name (NameOpen n ∷ r) = Ok (n, r)
 an_open_name w = Err (length w)
-
--- what the first token of a statement can be
-abbrev pub is_name : TokenKind → Bool
-is_name (Name n) = true
-is_name k = false
-
-abbrev pub is_open_name : TokenKind → Bool
-is_open_name (NameOpen n) = true
-is_open_name k = false
-
-abbrev pub is_def : TokenKind → Bool
-is_def (Keyword word.Def) = true
-is_def k = false
-
-abbrev pub is_if : TokenKind → Bool
-is_if (Keyword word.If) = true
-is_if k = false
 
 -- a binding behind its name
 abbrev pub bind_of : Bool → (ℕ → ℕ) → ℕ → List ℕ → Reader (Tree ABind)

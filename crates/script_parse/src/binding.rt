@@ -13,7 +13,7 @@ ghost use Rattle.parse_base.specs.Gives.{kinds, Gives, places};
 use crate::tokens::{at_binding, name};
 use liq_base::Text;
 use parse_base::Fault;
-use parse_base::token::{expect_assign, perhaps_semicolon, place};
+use parse_base::token::{self, Class, place};
 use script_grammar::tree::{Bind, Inner};
 use script_lex::Token;
 use std::alloc::Global;
@@ -54,7 +54,7 @@ fn bind_of<'a>(
     ensures whole { IfOk result (λ x. IsWholeBind x.0) }
 {
     let name = name.copy(alloc)?;
-    let (_assign, rest) = expect_assign(tokens)?;
+    let (_assign, rest) = token::expect(tokens, Class::Assign)?;
     let (value, rest) = value(alloc, total, loose, rest)?;
     Ok((Bind { at, name, value }, rest))
 }
@@ -69,7 +69,7 @@ fn inner(alloc: Global, total: usize, tokens: &[Token]) -> Result<(Inner, &[Toke
     ensures whole { IfOk result (λ x. IsWholeInner x.0) }
 {
     let (bind, rest) = bind(alloc, total, true, tokens)?;
-    let (semicolon, rest) = perhaps_semicolon(rest);
+    let (semicolon, rest) = token::perhaps(rest, Class::Semicolon);
     Ok((Inner { bind, semicolon }, rest))
 }
 

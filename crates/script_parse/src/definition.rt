@@ -8,10 +8,10 @@ ghost use Rattle.parse_base.specs.Gives.{kinds, Gives, places};
 
 use crate::binding::inners;
 use crate::parameter::params;
-use crate::tokens::{expect_def, open_name};
+use crate::tokens::open_name;
 use liq_base::Text;
 use parse_base::Fault;
-use parse_base::token::{expect_end, perhaps_assign, place};
+use parse_base::token::{self, Class, place};
 use script_grammar::tree::{Def, Expr};
 use script_lex::Token;
 use std::alloc::Global;
@@ -26,7 +26,7 @@ pub fn def(alloc: Global, total: usize, tokens: &[Token]) -> Result<(Def, &[Toke
     ensures gives { Gives (λ x. (view_def x.0, kinds x.1.now)) result (def (places total) (kinds tokens.now)) }
     ensures whole { IfOk result (λ x. IsWholeDef x.0) }
 {
-    let (_def, rest) = expect_def(tokens)?;
+    let (_def, rest) = token::expect(tokens, Class::Def)?;
     let at = place(total, rest);
     let (name, after) = open_name(rest)?;
     def_of(alloc, total, at, name, after)
@@ -48,7 +48,7 @@ fn def_of<'a>(
 {
     let name = name.copy(alloc)?;
     let (params, rest) = params(alloc, total, tokens)?;
-    let (equals, rest) = perhaps_assign(rest);
+    let (equals, rest) = token::perhaps(rest, Class::Assign);
     let (inner, rest) = inners(alloc, total, rest)?;
     let (result, rest) = ended(alloc, total, rest)?;
     Ok((
@@ -73,6 +73,6 @@ fn ended(alloc: Global, total: usize, tokens: &[Token]) -> Result<(Expr, &[Token
     ensures whole { IfOk result (λ x. IsWholeExpr x.0) }
 {
     let (result, rest) = result(alloc, total, tokens)?;
-    let (_end, rest) = expect_end(rest)?;
+    let (_end, rest) = token::expect(rest, Class::End)?;
     Ok((result, rest))
 }

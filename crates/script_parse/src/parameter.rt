@@ -13,9 +13,7 @@ ghost use Rattle.parse_base.specs.Gives.{kinds, Gives, places};
 use crate::tokens::name;
 use liq_base::Text;
 use parse_base::Fault;
-use parse_base::token::{
-    at_close_round, at_comma, expect_close_round, expect_comma, perhaps_assign, place,
-};
+use parse_base::token::{self, Class, place};
 use script_grammar::tree::{Param, ParamForm};
 use script_lex::{Symbol, Token, TokenKind};
 use std::alloc::Global;
@@ -34,8 +32,8 @@ pub fn params(
     ensures gives { Gives (λ x. (listed (map view_param x.0.items), kinds x.1.now)) result (closed is_comma is_close_round (param (places total)) (kinds tokens.now)) }
     ensures whole { IfOk result (λ x. All IsWholeParam x.0.items) }
 {
-    if at_close_round(tokens) {
-        let (_close, rest) = expect_close_round(tokens)?;
+    if token::next_is(tokens, Class::CloseRound) {
+        let (_close, rest) = token::expect(tokens, Class::CloseRound)?;
         Ok((Vec::new(alloc), rest))
     } else {
         some_params(alloc, total, tokens)
@@ -57,7 +55,7 @@ fn some_params(
 {
     let (first, rest) = param(alloc, total, tokens)?;
     let (mut items, rest) = more_params(alloc, total, rest)?;
-    let (_close, rest) = expect_close_round(rest)?;
+    let (_close, rest) = token::expect(rest, Class::CloseRound)?;
     items.insert(0, first)?;
     Ok((items, rest))
 }
@@ -76,7 +74,7 @@ fn more_params(
 {
     let mut items = Vec::new(alloc);
     let mut rest = tokens;
-    'turns: while at_comma(rest) {
+    'turns: while token::next_is(rest, Class::Comma) {
         let (item, after) = comma_param(alloc, total, rest)?;
         items.push(item)?;
         rest = after;
@@ -93,7 +91,7 @@ fn comma_param(alloc: Global, total: usize, tokens: &[Token]) -> Result<(Param, 
     ensures gives { Gives (λ x. (view_param x.0, kinds x.1.now)) result (behind is_comma (param (places total)) (kinds tokens.now)) }
     ensures whole { IfOk result (λ x. IsWholeParam x.0) }
 {
-    let (_comma, after) = expect_comma(tokens)?;
+    let (_comma, after) = token::expect(tokens, Class::Comma)?;
     param(alloc, total, after)
 }
 
@@ -159,7 +157,7 @@ fn label_of<'a>(
     ensures gives { Gives (λ x. (view_param x.0, kinds x.1.now)) result (label_of (places total) at name.now (kinds tokens.now)) }
     ensures whole { IfOk result (λ x. IsWholeParam x.0) }
 {
-    let (assign, rest) = perhaps_assign(tokens);
+    let (assign, rest) = token::perhaps(tokens, Class::Assign);
     if assign {
         default_of(alloc, total, at, name, rest)
     } else {

@@ -11,9 +11,8 @@ ghost use Rattle.parse_base.specs.Gives.{kinds, Gives, places};
 
 use crate::binding::bind;
 use crate::definition::def;
-use crate::tokens::{at_def, at_if, at_name, at_open_name};
 use parse_base::Fault;
-use parse_base::token::{at_any, perhaps_semicolon};
+use parse_base::token::{self, Class};
 use script_grammar::tree::{Stmt, StmtPart};
 use script_lex::Token;
 use std::alloc::Global;
@@ -32,7 +31,7 @@ pub fn statements(
 {
     let mut items = Vec::new(alloc);
     let mut rest = tokens;
-    'turns: while at_any(rest) {
+    'turns: while token::next_is(rest, Class::Any) {
         let (item, after) = statement(alloc, total, rest)?;
         items.push(item)?;
         rest = after;
@@ -50,7 +49,7 @@ fn statement(alloc: Global, total: usize, tokens: &[Token]) -> Result<(Stmt, &[T
     ensures whole { IfOk result (λ x. IsWholeStmt x.0) }
 {
     let (part, rest) = part(alloc, total, tokens)?;
-    let (semicolon, rest) = perhaps_semicolon(rest);
+    let (semicolon, rest) = token::perhaps(rest, Class::Semicolon);
     Ok((Stmt { part, semicolon }, rest))
 }
 
@@ -62,13 +61,13 @@ fn part(alloc: Global, total: usize, tokens: &[Token]) -> Result<(StmtPart, &[To
     ensures gives { Gives (λ x. (view_part x.0, kinds x.1.now)) result (part (places total) (kinds tokens.now)) }
     ensures whole { IfOk result (λ x. IsWholePart x.0) }
 {
-    if at_name(tokens) {
+    if token::next_is(tokens, Class::Name) {
         bind_part(alloc, total, tokens)
-    } else if at_def(tokens) {
+    } else if token::next_is(tokens, Class::Def) {
         def_part(alloc, total, tokens)
-    } else if at_open_name(tokens) {
+    } else if token::next_is(tokens, Class::OpenName) {
         call_part(alloc, total, tokens)
-    } else if at_if(tokens) {
+    } else if token::next_is(tokens, Class::If) {
         if_part(alloc, total, tokens)
     } else {
         Err(Fault::Syntax(tokens.len()))

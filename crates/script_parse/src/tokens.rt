@@ -1,13 +1,12 @@
 // Single tokens that begin a statement or a part of one.
 ghost use Rattle.std.specs.Prelude.{◌≡◌, ◌<◌, IfOk, length};
-ghost use Rattle.script_grammar.specs.Read.{next, expect};
-ghost use Rattle.script_parse.specs.Reads.{a_name, an_open_name, is_name, is_open_name, is_def, is_if};
+ghost use Rattle.script_parse.specs.Reads.{a_name, an_open_name};
 ghost use Rattle.script_grammar.specs.ReadValue.{binds};
 ghost use Rattle.parse_base.specs.Gives.{kinds, Gives};
 
 use liq_base::Text;
 use parse_base::Fault;
-use script_lex::{Keyword, Symbol, Token, TokenKind};
+use script_lex::{Symbol, Token, TokenKind};
 
 /// Whether a binding stands first: a Name and `=`.
 pub fn at_binding(tokens: &[Token]) -> bool
@@ -27,87 +26,6 @@ pub fn at_binding(tokens: &[Token]) -> bool
             ..
         ]
     )
-}
-
-/// Whether a Name stands first.
-pub fn at_name(tokens: &[Token]) -> bool
-    ensures { result ≡ next is_name (kinds tokens.now) }
-{
-    matches!(
-        tokens,
-        [
-            Token {
-                kind: TokenKind::Name(_),
-                ..
-            },
-            ..
-        ]
-    )
-}
-
-/// Whether a NameOpen stands first.
-pub fn at_open_name(tokens: &[Token]) -> bool
-    ensures { result ≡ next is_open_name (kinds tokens.now) }
-{
-    matches!(
-        tokens,
-        [
-            Token {
-                kind: TokenKind::NameOpen(_),
-                ..
-            },
-            ..
-        ]
-    )
-}
-
-/// Whether `def` stands first.
-pub fn at_def(tokens: &[Token]) -> bool
-    ensures { result ≡ next is_def (kinds tokens.now) }
-{
-    matches!(
-        tokens,
-        [
-            Token {
-                kind: TokenKind::Keyword(Keyword::Def),
-                ..
-            },
-            ..
-        ]
-    )
-}
-
-/// Whether `if` stands first.
-pub fn at_if(tokens: &[Token]) -> bool
-    ensures { result ≡ next is_if (kinds tokens.now) }
-{
-    matches!(
-        tokens,
-        [
-            Token {
-                kind: TokenKind::Keyword(Keyword::If),
-                ..
-            },
-            ..
-        ]
-    )
-}
-
-/// The tokens behind a `def`. Any other token, or none, is a fault there.
-pub fn expect_def(tokens: &[Token]) -> Result<((), &[Token]), Fault>
-    ensures shorter { IfOk result (λ x. length x.1.now < length tokens.now) }
-    ensures gives { Gives (λ x. (tt, kinds x.1.now)) result (expect is_def (kinds tokens.now)) }
-{
-    match tokens {
-        [
-            Token {
-                kind: TokenKind::Keyword(Keyword::Def),
-                ..
-            },
-            rest @ ..,
-        ] => Ok(((), rest)),
-        _ => Err(Fault::Syntax(tokens.len())),
-    }
 }
 
 /// The Name at the front, and the tokens behind it.

@@ -9,7 +9,8 @@ use Rattle.script_grammar.specs.ReadValue.{choice}
 use Rattle.parse_base.specs.declared.fault.Fault.{Fault}
 use Rattle.parse_base.specs.declared.fault.Fault.TheVariants as faults
 use Rattle.parse_base.specs.Gives.{Fails}
-use Rattle.value_parse.specs.Operand.{is_if, chosen}
+use Rattle.parse_base.specs.Classes.{is_if}
+use Rattle.value_parse.specs.Operand.{chosen}
 
 by_word : (stamp : ℕ → ℕ) (full : Reader (Tree AFull)) (w : List TokenKind) → choice stamp full w ≡ (expect is_if w >>= λ x. chosen (stamp (length w)) full x.1)
 unfolding choice

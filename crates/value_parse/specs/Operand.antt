@@ -68,10 +68,6 @@ seen_otherwise f = (tt, (f, tt))
 abbrev pub seen_branches : Tree AFull → Tree AFull → Unit {0} × (Tree AFull × (Unit {0} × (Tree AFull × Unit {0})))
 seen_branches f g = (tt, (f, seen_otherwise g))
 
-abbrev pub is_if : TokenKind → Bool
-is_if (Keyword word.If) = true
-is_if k = false
-
 -- an `if` behind that word
 abbrev pub chosen : ℕ → Reader (Tree AFull) → Reader (Tree AnIf)
 chosen at full w = both full (branches full) w >>= made (λ x. If at x.0 x.1.1.0 x.1.1.1.1.0)

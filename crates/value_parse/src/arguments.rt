@@ -14,7 +14,7 @@ use crate::number::argument_label;
 use crate::values::full;
 use liq_base::Text;
 use parse_base::Fault;
-use parse_base::token::{at_close_round, at_comma, expect_close_round, expect_comma, place};
+use parse_base::token::{self, Class, place};
 use script_grammar::make;
 use script_grammar::tree::{Arg, Call, Full};
 use script_lex::{Token, TokenKind};
@@ -69,8 +69,8 @@ fn args(
     ensures gives { Gives (λ x. (listed (map view_arg x.0.items), kinds x.1.now)) result (args (places total) (full_by levels (places total)) (kinds tokens.now)) }
     ensures whole { IfOk result (λ x. All IsWholeArg x.0.items) }
 {
-    if at_close_round(tokens) {
-        let ((), rest) = expect_close_round(tokens)?;
+    if token::next_is(tokens, Class::CloseRound) {
+        let ((), rest) = token::expect(tokens, Class::CloseRound)?;
         return Ok((Vec::new(alloc), rest));
     }
     args_of(
@@ -104,7 +104,7 @@ fn args_of<'a>(
 {
     let (first, rest) = read?;
     let (mut items, rest) = more_args(alloc, total, levels, rest)?;
-    let ((), rest) = expect_close_round(rest)?;
+    let ((), rest) = token::expect(rest, Class::CloseRound)?;
     items.insert(0, first)?;
     Ok((items, rest))
 }
@@ -125,7 +125,7 @@ fn more_args(
 {
     let mut items = Vec::new(alloc);
     let mut rest = tokens;
-    'turns: while at_comma(rest) {
+    'turns: while token::next_is(rest, Class::Comma) {
         let (item, after) = comma_arg(alloc, total, levels, rest)?;
         items.push(item)?;
         rest = after;
@@ -148,7 +148,7 @@ fn comma_arg(
     ensures gives { Gives (λ x. (view_arg x.0, kinds x.1.now)) result (behind is_comma (arg (places total) (full_by levels (places total))) (kinds tokens.now)) }
     ensures whole { IfOk result (λ x. IsWholeArg x.0) }
 {
-    let ((), rest) = expect_comma(tokens)?;
+    let ((), rest) = token::expect(tokens, Class::Comma)?;
     arg(alloc, total, levels, rest)
 }
 

@@ -11,7 +11,7 @@ ghost use Rattle.parse_base.specs.Gives.{kinds, Gives, places};
 use crate::number::{next_op, product_sign, sum_sign};
 use crate::operands::operand;
 use parse_base::Fault;
-use parse_base::token::{at_added, at_multiplied, place};
+use parse_base::token::{self, Class, place};
 use script_grammar::make;
 use script_grammar::tree::{self, Added, Compare, Compared, Multiplied, Product, Sum};
 use script_lex::Token;
@@ -147,7 +147,7 @@ fn addeds(
 {
     let mut items = Vec::new(alloc);
     let mut rest = tokens;
-    'turns: while at_added(rest) {
+    'turns: while token::next_is(rest, Class::Added) {
         let (item, after) = added(alloc, total, levels, loose, rest)?;
         items.push(item)?;
         rest = after;
@@ -252,7 +252,7 @@ fn multiplieds(
 {
     let mut items = Vec::new(alloc);
     let mut rest = tokens;
-    'turns: while at_multiplied(rest) {
+    'turns: while token::next_is(rest, Class::Multiplied) {
         let (item, after) = multiplied(alloc, total, levels, loose, rest)?;
         items.push(item)?;
         rest = after;

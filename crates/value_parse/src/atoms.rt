@@ -10,7 +10,7 @@ ghost use Rattle.value_parse.specs.Operand.{braces_at, holds_values, no_value};
 
 use crate::number::wav;
 use parse_base::Fault;
-use parse_base::token::{expect_close_curly, place};
+use parse_base::token::{self, Class, place};
 use predicate_parse::predicate;
 use script_grammar::tree::{self, Full, If, Literal};
 use script_lex::{Keyword, Symbol, Token, TokenKind};
@@ -22,7 +22,7 @@ fn braces(alloc: Global, at: u32, tokens: &[Token]) -> Result<(tree::Operand, &[
     ensures whole { IfOk result (λ x. IsWholePrim x.0) }
 {
     let (pred, rest) = predicate(alloc, tokens)?;
-    let ((), rest) = expect_close_curly(rest)?;
+    let ((), rest) = token::expect(rest, Class::CloseCurly)?;
     Ok((tree::Operand::Braces { at, pred }, rest))
 }
 

@@ -7,10 +7,9 @@ ghost use Rattle.parse_base.specs.Gives.{kinds, Gives, places};
 ghost use Rattle.value_parse.specs.Operand.{chosen, branches, otherwise, seen_branches, seen_otherwise};
 
 use crate::atoms::make_choice;
-use crate::number::expect_if;
 use crate::values::full_box;
 use parse_base::Fault;
-use parse_base::token::{expect_else, expect_end, expect_then, place};
+use parse_base::token::{self, Class, place};
 use script_grammar::tree::{Full, If};
 use script_lex::Token;
 use std::alloc::Global;
@@ -33,7 +32,7 @@ pub fn choice(
     ensures whole { IfOk result (λ x. IsWholeIf x.0) }
 {
     let at = place(total, tokens);
-    let ((), rest) = expect_if(tokens)?;
+    let ((), rest) = token::expect(tokens, Class::If)?;
     chosen(alloc, total, levels, at, rest)
 }
 
@@ -71,7 +70,7 @@ fn branches(
     ensures gives { Gives (λ x. (seen_branches (view_full x.0.value) (view_full x.1.value), kinds x.2.now)) result (branches (full_by levels (places total)) (kinds tokens.now)) }
     ensures whole { IfOk result (λ x. IsWholeFull x.0.value × IsWholeFull x.1.value) }
 {
-    let ((), rest) = expect_then(tokens)?;
+    let ((), rest) = token::expect(tokens, Class::Then)?;
     let (then_part, rest) = full_box(alloc, total, levels, rest)?;
     let (else_part, rest) = otherwise(alloc, total, levels, rest)?;
     Ok((then_part, else_part, rest))
@@ -91,8 +90,8 @@ fn otherwise(
     ensures gives { Gives (λ x. (seen_otherwise (view_full x.0.value), kinds x.1.now)) result (otherwise (full_by levels (places total)) (kinds tokens.now)) }
     ensures whole { IfOk result (λ x. IsWholeFull x.0.value) }
 {
-    let ((), rest) = expect_else(tokens)?;
+    let ((), rest) = token::expect(tokens, Class::Else)?;
     let (part, rest) = full_box(alloc, total, levels, rest)?;
-    let ((), rest) = expect_end(rest)?;
+    let ((), rest) = token::expect(rest, Class::End)?;
     Ok((part, rest))
 }

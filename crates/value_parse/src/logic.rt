@@ -12,7 +12,7 @@ ghost use Rattle.value_parse.specs.Operand.{behind_not};
 
 use crate::arithmetic::{compare_of, sum};
 use parse_base::Fault;
-use parse_base::token::{at_and, at_or, expect_and, expect_or, perhaps_not};
+use parse_base::token::{self, Class};
 use script_grammar::make;
 use script_grammar::tree::{And, Compare, Expr, Not};
 use script_lex::Token;
@@ -85,7 +85,7 @@ fn ands(
 {
     let mut items = Vec::new(alloc);
     let mut rest = tokens;
-    'turns: while at_or(rest) {
+    'turns: while token::next_is(rest, Class::Or) {
         let (item, after) = or_and(alloc, total, levels, loose, rest)?;
         items.push(item)?;
         rest = after;
@@ -109,7 +109,7 @@ fn or_and(
     ensures gives { Gives (λ x. (view_and x.0, kinds x.1.now)) result (behind is_or (and_ loose (places total) (full_by levels (places total))) (kinds tokens.now)) }
     ensures whole { IfOk result (λ x. IsWholeAnd x.0) }
 {
-    let ((), rest) = expect_or(tokens)?;
+    let ((), rest) = token::expect(tokens, Class::Or)?;
     and_of(
         alloc,
         total,
@@ -188,7 +188,7 @@ fn nots(
 {
     let mut items = Vec::new(alloc);
     let mut rest = tokens;
-    'turns: while at_and(rest) {
+    'turns: while token::next_is(rest, Class::And) {
         let (item, after) = and_not(alloc, total, levels, loose, rest)?;
         items.push(item)?;
         rest = after;
@@ -212,8 +212,8 @@ fn and_not(
     ensures gives { Gives (λ x. (view_not x.0, kinds x.1.now)) result (behind is_and (not_ loose (places total) (full_by levels (places total))) (kinds tokens.now)) }
     ensures whole { IfOk result (λ x. IsWholeNot x.0) }
 {
-    let ((), rest) = expect_and(tokens)?;
-    let (negated, rest) = perhaps_not(rest);
+    let ((), rest) = token::expect(tokens, Class::And)?;
+    let (negated, rest) = token::perhaps(rest, Class::Not);
     not_of(
         negated,
         compare_of(
@@ -243,7 +243,7 @@ fn not_term(
     ensures gives { Gives (λ x. (view_not x.0, kinds x.1.now)) result (not_ loose (places total) (full_by levels (places total)) (kinds tokens.now)) }
     ensures whole { IfOk result (λ x. IsWholeNot x.0) }
 {
-    let (negated, rest) = perhaps_not(tokens);
+    let (negated, rest) = token::perhaps(tokens, Class::Not);
     not_of(
         negated,
         compare_of(

@@ -4,14 +4,13 @@ ghost use Rattle.script_grammar.specs.Kinds.{op_of};
 ghost use Rattle.script_lex.specs.declared.token.TokenKind.TheVariants.{Symbol as a_symbol};
 ghost use Rattle.script_grammar.specs.ReadValue.{digits, whole_number, the_name, size, wav, takes_option, optional, opens_name, next_op, binds};
 ghost use Rattle.parse_base.specs.Gives.{kinds, Gives};
-ghost use Rattle.value_parse.specs.Operand.{is_if, label_of, product_sign, sum_sign};
-ghost use Rattle.script_grammar.specs.Read.{expect};
+ghost use Rattle.value_parse.specs.Operand.{label_of, product_sign, sum_sign};
 
 use liq_base::{Memory, Text};
 use parse_base::Fault;
-use parse_base::token::{at_open_round, expect_assign, expect_close_round, expect_open_round};
+use parse_base::token::{self, Class};
 use script_grammar::tree::{CompareOp, Literal};
-use script_lex::{Keyword, Symbol, Token, TokenKind};
+use script_lex::{Symbol, Token, TokenKind};
 use std::alloc::Global;
 
 /// A number.
@@ -120,7 +119,7 @@ fn takes_option(loose: bool, tokens: &[Token]) -> bool
     if loose {
         optional(tokens)
     } else {
-        at_open_round(tokens)
+        token::next_is(tokens, Class::OpenRound)
     }
 }
 
@@ -129,11 +128,11 @@ fn size(tokens: &[Token]) -> Result<(i64, &[Token]), Fault>
     ensures shorter { IfOk result (λ x. length x.1.now < length tokens.now) }
     ensures gives { Gives (λ x. (x.0, kinds x.1.now)) result (size (kinds tokens.now)) }
 {
-    let ((), rest) = expect_open_round(tokens)?;
+    let ((), rest) = token::expect(tokens, Class::OpenRound)?;
     let ((), rest) = the_name(rest)?;
-    let ((), rest) = expect_assign(rest)?;
+    let ((), rest) = token::expect(rest, Class::Assign)?;
     let (number, rest) = whole_number(rest)?;
-    let ((), rest) = expect_close_round(rest)?;
+    let ((), rest) = token::expect(rest, Class::CloseRound)?;
     Ok((number, rest))
 }
 
@@ -199,23 +198,6 @@ pub fn argument_label(alloc: Global, tokens: &[Token]) -> Result<(Option<Text>, 
             rest @ ..,
         ] => Ok((Some(name.copy(alloc)?), rest)),
         _ => Ok((None, tokens)),
-    }
-}
-
-/// The tokens behind an `if`. Any other token, or none, is a fault there.
-pub fn expect_if(tokens: &[Token]) -> Result<((), &[Token]), Fault>
-    ensures shorter { IfOk result (λ x. length x.1.now < length tokens.now) }
-    ensures gives { Gives (λ x. (tt, kinds x.1.now)) result (expect is_if (kinds tokens.now)) }
-{
-    match tokens {
-        [
-            Token {
-                kind: TokenKind::Keyword(Keyword::If),
-                ..
-            },
-            rest @ ..,
-        ] => Ok(((), rest)),
-        _ => Err(Fault::Syntax(tokens.len())),
     }
 }
 

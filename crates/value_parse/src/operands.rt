@@ -14,10 +14,7 @@ use crate::atoms::atom;
 use crate::conditionals::choice;
 use crate::values::full;
 use parse_base::Fault;
-use parse_base::token::{
-    at_close_round, at_close_square, at_comma, expect_close_round, expect_close_square,
-    expect_comma, place,
-};
+use parse_base::token::{self, Class, place};
 use script_grammar::make;
 use script_grammar::tree::{self, Full};
 use script_lex::{Keyword, Symbol, Token, TokenKind};
@@ -101,8 +98,8 @@ fn round(
     ensures gives { Gives (λ x. (view_prim x.0, kinds x.1.now)) result (round_at at (full_by levels (places total)) (kinds tokens.now)) }
     ensures whole { IfOk result (λ x. IsWholePrim x.0) }
 {
-    if at_close_round(tokens) {
-        let ((), rest) = expect_close_round(tokens)?;
+    if token::next_is(tokens, Class::CloseRound) {
+        let ((), rest) = token::expect(tokens, Class::CloseRound)?;
         return Ok((tree::Operand::Unit { at }, rest));
     }
     closed_of(
@@ -132,8 +129,8 @@ fn list(
     ensures gives { Gives (λ x. (view_prim x.0, kinds x.1.now)) result (list_at at (full_by levels (places total)) (kinds tokens.now)) }
     ensures whole { IfOk result (λ x. IsWholePrim x.0) }
 {
-    if at_close_square(tokens) {
-        let ((), rest) = expect_close_square(tokens)?;
+    if token::next_is(tokens, Class::CloseSquare) {
+        let ((), rest) = token::expect(tokens, Class::CloseSquare)?;
         return Ok((make::list(at, Vec::new(alloc)), rest));
     }
     closed_of(
@@ -173,11 +170,11 @@ fn closed_of<'a>(
     let (others, rest) = fulls(alloc, total, levels, rest)?;
     match bracket {
         Bracket::Round => {
-            let ((), rest) = expect_close_round(rest)?;
+            let ((), rest) = token::expect(rest, Class::CloseRound)?;
             Ok((make::round(alloc, at, first, others)?, rest))
         }
         Bracket::Square => {
-            let ((), rest) = expect_close_square(rest)?;
+            let ((), rest) = token::expect(rest, Class::CloseSquare)?;
             let mut items = others;
             items.insert(0, first)?;
             Ok((make::list(at, items), rest))
@@ -201,7 +198,7 @@ fn fulls(
 {
     let mut items = Vec::new(alloc);
     let mut rest = tokens;
-    'turns: while at_comma(rest) {
+    'turns: while token::next_is(rest, Class::Comma) {
         let (item, after) = comma_full(alloc, total, levels, rest)?;
         items.push(item)?;
         rest = after;
@@ -224,6 +221,6 @@ fn comma_full(
     ensures gives { Gives (λ x. (view_full x.0, kinds x.1.now)) result (behind is_comma (full_by levels (places total)) (kinds tokens.now)) }
     ensures whole { IfOk result (λ x. IsWholeFull x.0) }
 {
-    let ((), rest) = expect_comma(tokens)?;
+    let ((), rest) = token::expect(tokens, Class::Comma)?;
     full(alloc, total, levels, rest)
 }

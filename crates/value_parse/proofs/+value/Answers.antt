@@ -26,17 +26,17 @@ logic::ands-turns-init t c =
 pub logic::ands-returns-in_err-item-clause-gives : goal.logic::ands-returns-in_err-item-clause-gives
 logic::ands-returns-in_err-item-clause-gives t c =
     let p = err_from_is_err_and c.from_residual.result c.from_residual.ensures.1 in
-    rw (p.1, p.2) (fails c.turns.invariant.1 c.in_err-item.field-0.0 refl (sym c.at_or.ensures ∙ c.turns-test.true) c.in_err-item.ensures.gives)
+    rw (p.1, p.2) (fails c.turns.invariant.1 c.in_err-item.field-0.0 refl (sym c.next_is.ensures ∙ c.turns-test.true) c.in_err-item.ensures.gives)
 
 pub logic::ands-turns-preserved : goal.logic::ands-turns-preserved
 logic::ands-turns-preserved t c = (
   omega (arith, c.turns.invariant.0, c.in_ok-item.ensures.shorter),
-  goes_on c.turns.invariant.1 c.in_ok-item.item c.in_ok-item.after.now c.push.new.self.items (sym c.at_or.ensures ∙ c.turns-test.true) c.in_ok-item.ensures.gives c.in_ok-item.ensures.shorter c.in_ok-push.ensures.items,
+  goes_on c.turns.invariant.1 c.in_ok-item.item c.in_ok-item.after.now c.push.new.self.items (sym c.next_is.ensures ∙ c.turns-test.true) c.in_ok-item.ensures.gives c.in_ok-item.ensures.shorter c.in_ok-push.ensures.items,
   rw c.in_ok-push.ensures.items (All-push IsWholeAnd c.turns.items.items c.in_ok-item.item c.turns.invariant.2 c.in_ok-item.ensures.whole),
 )
 
 pub logic::ands-returns-clause-gives : goal.logic::ands-returns-clause-gives
-logic::ands-returns-clause-gives t c = ends c.turns.invariant.1 (sym c.at_or.ensures ∙ c.turns-test.false)
+logic::ands-returns-clause-gives t c = ends c.turns.invariant.1 (sym c.next_is.ensures ∙ c.turns-test.false)
 
 pub logic::nots-turns-init : goal.logic::nots-turns-init
 logic::nots-turns-init t c =
@@ -46,17 +46,17 @@ logic::nots-turns-init t c =
 pub logic::nots-returns-in_err-item-clause-gives : goal.logic::nots-returns-in_err-item-clause-gives
 logic::nots-returns-in_err-item-clause-gives t c =
     let p = err_from_is_err_and c.from_residual.result c.from_residual.ensures.1 in
-    rw (p.1, p.2) (fails c.turns.invariant.1 c.in_err-item.field-0.0 refl (sym c.at_and.ensures ∙ c.turns-test.true) c.in_err-item.ensures.gives)
+    rw (p.1, p.2) (fails c.turns.invariant.1 c.in_err-item.field-0.0 refl (sym c.next_is.ensures ∙ c.turns-test.true) c.in_err-item.ensures.gives)
 
 pub logic::nots-turns-preserved : goal.logic::nots-turns-preserved
 logic::nots-turns-preserved t c = (
   omega (arith, c.turns.invariant.0, c.in_ok-item.ensures.shorter),
-  goes_on c.turns.invariant.1 c.in_ok-item.item c.in_ok-item.after.now c.push.new.self.items (sym c.at_and.ensures ∙ c.turns-test.true) c.in_ok-item.ensures.gives c.in_ok-item.ensures.shorter c.in_ok-push.ensures.items,
+  goes_on c.turns.invariant.1 c.in_ok-item.item c.in_ok-item.after.now c.push.new.self.items (sym c.next_is.ensures ∙ c.turns-test.true) c.in_ok-item.ensures.gives c.in_ok-item.ensures.shorter c.in_ok-push.ensures.items,
   rw c.in_ok-push.ensures.items (All-push IsWholeNot c.turns.items.items c.in_ok-item.item c.turns.invariant.2 c.in_ok-item.ensures.whole),
 )
 
 pub logic::nots-returns-clause-gives : goal.logic::nots-returns-clause-gives
-logic::nots-returns-clause-gives t c = ends c.turns.invariant.1 (sym c.at_and.ensures ∙ c.turns-test.false)
+logic::nots-returns-clause-gives t c = ends c.turns.invariant.1 (sym c.next_is.ensures ∙ c.turns-test.false)
 
 pub arithmetic::addeds-turns-init : goal.arithmetic::addeds-turns-init
 arithmetic::addeds-turns-init t c =
@@ -66,17 +66,17 @@ arithmetic::addeds-turns-init t c =
 pub arithmetic::addeds-returns-in_err-item-clause-gives : goal.arithmetic::addeds-returns-in_err-item-clause-gives
 arithmetic::addeds-returns-in_err-item-clause-gives t c =
     let p = err_from_is_err_and c.from_residual.result c.from_residual.ensures.1 in
-    rw (p.1, p.2) (fails c.turns.invariant.1 c.in_err-item.field-0.0 refl (sym c.at_added.ensures ∙ c.turns-test.true) c.in_err-item.ensures.gives)
+    rw (p.1, p.2) (fails c.turns.invariant.1 c.in_err-item.field-0.0 refl (sym c.next_is.ensures ∙ c.turns-test.true) c.in_err-item.ensures.gives)
 
 pub arithmetic::addeds-turns-preserved : goal.arithmetic::addeds-turns-preserved
 arithmetic::addeds-turns-preserved t c = (
   omega (arith, c.turns.invariant.0, c.in_ok-item.ensures.shorter),
-  goes_on c.turns.invariant.1 c.in_ok-item.item c.in_ok-item.after.now c.push.new.self.items (sym c.at_added.ensures ∙ c.turns-test.true) c.in_ok-item.ensures.gives c.in_ok-item.ensures.shorter c.in_ok-push.ensures.items,
+  goes_on c.turns.invariant.1 c.in_ok-item.item c.in_ok-item.after.now c.push.new.self.items (sym c.next_is.ensures ∙ c.turns-test.true) c.in_ok-item.ensures.gives c.in_ok-item.ensures.shorter c.in_ok-push.ensures.items,
   rw c.in_ok-push.ensures.items (All-push IsWholeAdded c.turns.items.items c.in_ok-item.item c.turns.invariant.2 c.in_ok-item.ensures.whole),
 )
 
 pub arithmetic::addeds-returns-clause-gives : goal.arithmetic::addeds-returns-clause-gives
-arithmetic::addeds-returns-clause-gives t c = ends c.turns.invariant.1 (sym c.at_added.ensures ∙ c.turns-test.false)
+arithmetic::addeds-returns-clause-gives t c = ends c.turns.invariant.1 (sym c.next_is.ensures ∙ c.turns-test.false)
 
 pub arithmetic::multiplieds-turns-init : goal.arithmetic::multiplieds-turns-init
 arithmetic::multiplieds-turns-init t c =
@@ -86,17 +86,17 @@ arithmetic::multiplieds-turns-init t c =
 pub arithmetic::multiplieds-returns-in_err-item-clause-gives : goal.arithmetic::multiplieds-returns-in_err-item-clause-gives
 arithmetic::multiplieds-returns-in_err-item-clause-gives t c =
     let p = err_from_is_err_and c.from_residual.result c.from_residual.ensures.1 in
-    rw (p.1, p.2) (fails c.turns.invariant.1 c.in_err-item.field-0.0 refl (sym c.at_multiplied.ensures ∙ c.turns-test.true) c.in_err-item.ensures.gives)
+    rw (p.1, p.2) (fails c.turns.invariant.1 c.in_err-item.field-0.0 refl (sym c.next_is.ensures ∙ c.turns-test.true) c.in_err-item.ensures.gives)
 
 pub arithmetic::multiplieds-turns-preserved : goal.arithmetic::multiplieds-turns-preserved
 arithmetic::multiplieds-turns-preserved t c = (
   omega (arith, c.turns.invariant.0, c.in_ok-item.ensures.shorter),
-  goes_on c.turns.invariant.1 c.in_ok-item.item c.in_ok-item.after.now c.push.new.self.items (sym c.at_multiplied.ensures ∙ c.turns-test.true) c.in_ok-item.ensures.gives c.in_ok-item.ensures.shorter c.in_ok-push.ensures.items,
+  goes_on c.turns.invariant.1 c.in_ok-item.item c.in_ok-item.after.now c.push.new.self.items (sym c.next_is.ensures ∙ c.turns-test.true) c.in_ok-item.ensures.gives c.in_ok-item.ensures.shorter c.in_ok-push.ensures.items,
   rw c.in_ok-push.ensures.items (All-push IsWholeMultiplied c.turns.items.items c.in_ok-item.item c.turns.invariant.2 c.in_ok-item.ensures.whole),
 )
 
 pub arithmetic::multiplieds-returns-clause-gives : goal.arithmetic::multiplieds-returns-clause-gives
-arithmetic::multiplieds-returns-clause-gives t c = ends c.turns.invariant.1 (sym c.at_multiplied.ensures ∙ c.turns-test.false)
+arithmetic::multiplieds-returns-clause-gives t c = ends c.turns.invariant.1 (sym c.next_is.ensures ∙ c.turns-test.false)
 
 pub operands::fulls-turns-init : goal.operands::fulls-turns-init
 operands::fulls-turns-init t c =
@@ -106,17 +106,17 @@ operands::fulls-turns-init t c =
 pub operands::fulls-returns-in_err-item-clause-gives : goal.operands::fulls-returns-in_err-item-clause-gives
 operands::fulls-returns-in_err-item-clause-gives t c =
     let p = err_from_is_err_and c.from_residual.result c.from_residual.ensures.1 in
-    rw (p.1, p.2) (fails c.turns.invariant.1 c.in_err-item.field-0.0 refl (sym c.at_comma.ensures ∙ c.turns-test.true) c.in_err-item.ensures.gives)
+    rw (p.1, p.2) (fails c.turns.invariant.1 c.in_err-item.field-0.0 refl (sym c.next_is.ensures ∙ c.turns-test.true) c.in_err-item.ensures.gives)
 
 pub operands::fulls-turns-preserved : goal.operands::fulls-turns-preserved
 operands::fulls-turns-preserved t c = (
   omega (arith, c.turns.invariant.0, c.in_ok-item.ensures.shorter),
-  goes_on c.turns.invariant.1 c.in_ok-item.item c.in_ok-item.after.now c.push.new.self.items (sym c.at_comma.ensures ∙ c.turns-test.true) c.in_ok-item.ensures.gives c.in_ok-item.ensures.shorter c.in_ok-push.ensures.items,
+  goes_on c.turns.invariant.1 c.in_ok-item.item c.in_ok-item.after.now c.push.new.self.items (sym c.next_is.ensures ∙ c.turns-test.true) c.in_ok-item.ensures.gives c.in_ok-item.ensures.shorter c.in_ok-push.ensures.items,
   rw c.in_ok-push.ensures.items (All-push IsWholeFull c.turns.items.items c.in_ok-item.item c.turns.invariant.2 c.in_ok-item.ensures.whole),
 )
 
 pub operands::fulls-returns-clause-gives : goal.operands::fulls-returns-clause-gives
-operands::fulls-returns-clause-gives t c = ends c.turns.invariant.1 (sym c.at_comma.ensures ∙ c.turns-test.false)
+operands::fulls-returns-clause-gives t c = ends c.turns.invariant.1 (sym c.next_is.ensures ∙ c.turns-test.false)
 
 pub arguments::more_args-turns-init : goal.arguments::more_args-turns-init
 arguments::more_args-turns-init t c =
@@ -126,17 +126,17 @@ arguments::more_args-turns-init t c =
 pub arguments::more_args-returns-in_err-item-clause-gives : goal.arguments::more_args-returns-in_err-item-clause-gives
 arguments::more_args-returns-in_err-item-clause-gives t c =
     let p = err_from_is_err_and c.from_residual.result c.from_residual.ensures.1 in
-    rw (p.1, p.2) (fails c.turns.invariant.1 c.in_err-item.field-0.0 refl (sym c.at_comma.ensures ∙ c.turns-test.true) c.in_err-item.ensures.gives)
+    rw (p.1, p.2) (fails c.turns.invariant.1 c.in_err-item.field-0.0 refl (sym c.next_is.ensures ∙ c.turns-test.true) c.in_err-item.ensures.gives)
 
 pub arguments::more_args-turns-preserved : goal.arguments::more_args-turns-preserved
 arguments::more_args-turns-preserved t c = (
   omega (arith, c.turns.invariant.0, c.in_ok-item.ensures.shorter),
-  goes_on c.turns.invariant.1 c.in_ok-item.item c.in_ok-item.after.now c.push.new.self.items (sym c.at_comma.ensures ∙ c.turns-test.true) c.in_ok-item.ensures.gives c.in_ok-item.ensures.shorter c.in_ok-push.ensures.items,
+  goes_on c.turns.invariant.1 c.in_ok-item.item c.in_ok-item.after.now c.push.new.self.items (sym c.next_is.ensures ∙ c.turns-test.true) c.in_ok-item.ensures.gives c.in_ok-item.ensures.shorter c.in_ok-push.ensures.items,
   rw c.in_ok-push.ensures.items (All-push IsWholeArg c.turns.items.items c.in_ok-item.item c.turns.invariant.2 c.in_ok-item.ensures.whole),
 )
 
 pub arguments::more_args-returns-clause-gives : goal.arguments::more_args-returns-clause-gives
-arguments::more_args-returns-clause-gives t c = ends c.turns.invariant.1 (sym c.at_comma.ensures ∙ c.turns-test.false)
+arguments::more_args-returns-clause-gives t c = ends c.turns.invariant.1 (sym c.next_is.ensures ∙ c.turns-test.false)
 
 pub values::full-returns-then-levels-eq0-clause-gives : goal.values::full-returns-then-levels-eq0-clause-gives
 values::full-returns-then-levels-eq0-clause-gives t c = full_ends c.args.levels (places c.args.total) c.args.tokens.now (omega arith)

@@ -24,17 +24,17 @@ pands-turns-init t c =
 pub pands-returns-in_err-item-clause-gives : goal.pands-returns-in_err-item-clause-gives
 pands-returns-in_err-item-clause-gives t c =
     let p = err_from_is_err_and c.from_residual.result c.from_residual.ensures.1 in
-    rw (p.1, p.2) (fails c.turns.invariant.1 c.in_err-item.field-0.0 refl (sym c.at_or.ensures ∙ c.turns-test.true) c.in_err-item.ensures.gives)
+    rw (p.1, p.2) (fails c.turns.invariant.1 c.in_err-item.field-0.0 refl (sym c.next_is.ensures ∙ c.turns-test.true) c.in_err-item.ensures.gives)
 
 pub pands-turns-preserved : goal.pands-turns-preserved
 pands-turns-preserved t c = (
   omega (arith, c.turns.invariant.0, c.in_ok-item.ensures.shorter),
-  goes_on c.turns.invariant.1 c.in_ok-item.item c.in_ok-item.after.now c.push.new.self.items (sym c.at_or.ensures ∙ c.turns-test.true) c.in_ok-item.ensures.gives c.in_ok-item.ensures.shorter c.in_ok-push.ensures.items,
+  goes_on c.turns.invariant.1 c.in_ok-item.item c.in_ok-item.after.now c.push.new.self.items (sym c.next_is.ensures ∙ c.turns-test.true) c.in_ok-item.ensures.gives c.in_ok-item.ensures.shorter c.in_ok-push.ensures.items,
   rw c.in_ok-push.ensures.items (All-push IsWholePAnd c.turns.items.items c.in_ok-item.item c.turns.invariant.2 c.in_ok-item.ensures.whole),
 )
 
 pub pands-returns-clause-gives : goal.pands-returns-clause-gives
-pands-returns-clause-gives t c = ends c.turns.invariant.1 (sym c.at_or.ensures ∙ c.turns-test.false)
+pands-returns-clause-gives t c = ends c.turns.invariant.1 (sym c.next_is.ensures ∙ c.turns-test.false)
 
 pub pnots-turns-init : goal.pnots-turns-init
 pnots-turns-init t c =
@@ -44,14 +44,14 @@ pnots-turns-init t c =
 pub pnots-returns-in_err-item-clause-gives : goal.pnots-returns-in_err-item-clause-gives
 pnots-returns-in_err-item-clause-gives t c =
     let p = err_from_is_err_and c.from_residual.result c.from_residual.ensures.1 in
-    rw (p.1, p.2) (fails c.turns.invariant.1 c.in_err-item.field-0.0 refl (sym c.at_and.ensures ∙ c.turns-test.true) c.in_err-item.ensures.gives)
+    rw (p.1, p.2) (fails c.turns.invariant.1 c.in_err-item.field-0.0 refl (sym c.next_is.ensures ∙ c.turns-test.true) c.in_err-item.ensures.gives)
 
 pub pnots-turns-preserved : goal.pnots-turns-preserved
 pnots-turns-preserved t c = (
   omega (arith, c.turns.invariant.0, c.in_ok-item.ensures.shorter),
-  goes_on c.turns.invariant.1 c.in_ok-item.item c.in_ok-item.after.now c.push.new.self.items (sym c.at_and.ensures ∙ c.turns-test.true) c.in_ok-item.ensures.gives c.in_ok-item.ensures.shorter c.in_ok-push.ensures.items,
+  goes_on c.turns.invariant.1 c.in_ok-item.item c.in_ok-item.after.now c.push.new.self.items (sym c.next_is.ensures ∙ c.turns-test.true) c.in_ok-item.ensures.gives c.in_ok-item.ensures.shorter c.in_ok-push.ensures.items,
   rw c.in_ok-push.ensures.items (All-push IsWholePNot c.turns.items.items c.in_ok-item.item c.turns.invariant.2 c.in_ok-item.ensures.whole),
 )
 
 pub pnots-returns-clause-gives : goal.pnots-returns-clause-gives
-pnots-returns-clause-gives t c = ends c.turns.invariant.1 (sym c.at_and.ensures ∙ c.turns-test.false)
+pnots-returns-clause-gives t c = ends c.turns.invariant.1 (sym c.next_is.ensures ∙ c.turns-test.false)

@@ -3,4 +3,4 @@ use Rattle.script_parse.proofs.parameter.label_of.Goals as goal
 
 pub returns-then-assign-clause-gives : goal.returns-then-assign-clause-gives
 unfolding label_of
-returns-then-assign-clause-gives c = rw (c.perhaps_assign-assign.ensures.gives, c.if-assign.true) c.default_of.ensures.gives
+returns-then-assign-clause-gives c = rw (c.perhaps-assign.ensures.gives, c.if-assign.true) c.default_of.ensures.gives

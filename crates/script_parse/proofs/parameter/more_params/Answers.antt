@@ -18,14 +18,14 @@ turns-init c =
 pub returns-in_err-item-clause-gives : goal.returns-in_err-item-clause-gives
 returns-in_err-item-clause-gives c =
     let p = err_from_is_err_and c.from_residual.result c.from_residual.ensures.1 in
-    rw (p.1, p.2) (fails c.turns.invariant.1 c.in_err-item.field-0.0 refl (sym c.at_comma.ensures ∙ c.turns-test.true) c.in_err-item.ensures.gives)
+    rw (p.1, p.2) (fails c.turns.invariant.1 c.in_err-item.field-0.0 refl (sym c.next_is.ensures ∙ c.turns-test.true) c.in_err-item.ensures.gives)
 
 pub turns-preserved : goal.turns-preserved
 turns-preserved c = (
   omega (arith, c.turns.invariant.0, c.in_ok-item.ensures.shorter),
-  goes_on c.turns.invariant.1 c.in_ok-item.item c.in_ok-item.after.now c.push.new.self.items (sym c.at_comma.ensures ∙ c.turns-test.true) c.in_ok-item.ensures.gives c.in_ok-item.ensures.shorter c.in_ok-push.ensures.items,
+  goes_on c.turns.invariant.1 c.in_ok-item.item c.in_ok-item.after.now c.push.new.self.items (sym c.next_is.ensures ∙ c.turns-test.true) c.in_ok-item.ensures.gives c.in_ok-item.ensures.shorter c.in_ok-push.ensures.items,
   rw c.in_ok-push.ensures.items (All-push IsWholeParam c.turns.items.items c.in_ok-item.item c.turns.invariant.2 c.in_ok-item.ensures.whole),
 )
 
 pub returns-clause-gives : goal.returns-clause-gives
-returns-clause-gives c = ends c.turns.invariant.1 (sym c.at_comma.ensures ∙ c.turns-test.false)
+returns-clause-gives c = ends c.turns.invariant.1 (sym c.next_is.ensures ∙ c.turns-test.false)

@@ -4,19 +4,19 @@ use Rattle.parse_base.specs.Gives.{kind_of, kinds, places}
 use Rattle.script_parse.proofs.Arms.{part_bind, part_def, part_call, part_if, part_other}
 use Rattle.script_parse.proofs.statement.part.Goals as goal
 
-pub returns-then-at_name-clause-gives : goal.returns-then-at_name-clause-gives
-returns-then-at_name-clause-gives c = rw (part_bind (places c.args.total) (kinds c.args.tokens.now) (sym c.at_name.ensures ∙ c.if-at_name.true)) c.bind_part.ensures.gives
+pub returns-then-next_is-clause-gives : goal.returns-then-next_is-clause-gives
+returns-then-next_is-clause-gives c = rw (part_bind (places c.args.total) (kinds c.args.tokens.now) (sym c.next_is.ensures ∙ c.if-next_is.true)) c.bind_part.ensures.gives
 
-pub returns-then-at_def-clause-gives : goal.returns-then-at_def-clause-gives
-returns-then-at_def-clause-gives c = rw (part_def (places c.args.total) (kinds c.args.tokens.now) (sym c.at_def.ensures ∙ c.if-at_def.true)) c.def_part.ensures.gives
+pub returns-then-next_is-2-clause-gives : goal.returns-then-next_is-2-clause-gives
+returns-then-next_is-2-clause-gives c = rw (part_def (places c.args.total) (kinds c.args.tokens.now) (sym c.next_is-else-next_is.ensures ∙ c.if-next_is-2.true)) c.def_part.ensures.gives
 
-pub returns-then-at_open_name-clause-gives : goal.returns-then-at_open_name-clause-gives
-returns-then-at_open_name-clause-gives c = rw (part_call (places c.args.total) (kinds c.args.tokens.now) (length c.args.tokens.now) (length-map c.args.tokens.now kind_of) (sym c.at_open_name.ensures ∙ c.if-at_open_name.true)) c.call_part.ensures.gives
+pub returns-then-next_is-3-clause-gives : goal.returns-then-next_is-3-clause-gives
+returns-then-next_is-3-clause-gives c = rw (part_call (places c.args.total) (kinds c.args.tokens.now) (length c.args.tokens.now) (length-map c.args.tokens.now kind_of) (sym c.next_is-else-next_is-2.ensures ∙ c.if-next_is-3.true)) c.call_part.ensures.gives
 
-pub returns-then-at_if-clause-gives : goal.returns-then-at_if-clause-gives
-returns-then-at_if-clause-gives c = rw (part_if (places c.args.total) (kinds c.args.tokens.now) (length c.args.tokens.now) (length-map c.args.tokens.now kind_of) (sym c.at_if.ensures ∙ c.if-at_if.true)) c.if_part.ensures.gives
+pub returns-then-next_is-4-clause-gives : goal.returns-then-next_is-4-clause-gives
+returns-then-next_is-4-clause-gives c = rw (part_if (places c.args.total) (kinds c.args.tokens.now) (length c.args.tokens.now) (length-map c.args.tokens.now kind_of) (sym c.next_is-else-next_is-3.ensures ∙ c.if-next_is-4.true)) c.if_part.ensures.gives
 
-pub returns-else-at_if-clause-gives : goal.returns-else-at_if-clause-gives
-returns-else-at_if-clause-gives c =
+pub returns-else-next_is-4-clause-gives : goal.returns-else-next_is-4-clause-gives
+returns-else-next_is-4-clause-gives c =
     let size : length (kinds c.args.tokens.now) ≡ length c.args.tokens.now = length-map c.args.tokens.now kind_of in
-    rw (← size) (part_other (places c.args.total) (kinds c.args.tokens.now) (sym c.at_name.ensures ∙ c.if-at_name.false) (sym c.at_def.ensures ∙ c.if-at_def.false) (sym c.at_open_name.ensures ∙ c.if-at_open_name.false) (sym c.at_if.ensures ∙ c.if-at_if.false))
+    rw (← size) (part_other (places c.args.total) (kinds c.args.tokens.now) (sym c.next_is.ensures ∙ c.if-next_is.false) (sym c.next_is-else-next_is.ensures ∙ c.if-next_is-2.false) (sym c.next_is-else-next_is-2.ensures ∙ c.if-next_is-3.false) (sym c.next_is-else-next_is-3.ensures ∙ c.if-next_is-4.false))
