@@ -136,6 +136,13 @@ fn types_that_can_be_made_equal_and_not(rt: HostRuntime) -> Result<(), Fail> {
         ("number 2", "", "int", "", "Int"),
         ("decimal", "", "number 2", "", "Decimal"),
         ("number 2", "", "text", "", ""),
+    ];
+    check_rows(&rt, rt.alloc(), &rows)
+}
+
+#[test]
+fn variables_that_can_be_made_equal_and_not(rt: HostRuntime) -> Result<(), Fail> {
+    let rows = [
         ("number 2", "", "number 3", "", "Var(2)"),
         ("var 0", "", "number 2", "", "Var(2)"),
         ("number 2", "", "var 0", "", "Var(2)"),
@@ -144,6 +151,13 @@ fn types_that_can_be_made_equal_and_not(rt: HostRuntime) -> Result<(), Fail> {
         ("stereo", "", "kind 1", "", "Source(Fixed(Stereo))"),
         ("kind 0", "", "kind 1", "", "Source(Var(0))"),
         ("kind 0", "", "unit", "", ""),
+    ];
+    check_rows(&rt, rt.alloc(), &rows)
+}
+
+#[test]
+fn lists_and_tuples_that_can_be_made_equal_and_not(rt: HostRuntime) -> Result<(), Fail> {
+    let rows = [
         ("var 0", "list", "int", "list", "List(Int)"),
         ("number 2", "list", "decimal", "list", "List(Decimal)"),
         ("number 2", "list", "bool", "list", ""),
