@@ -1,10 +1,6 @@
-// Headers against the bytes that the format's fields give, and where a file is plain.
-ghost use Rattle.std.specs.Prelude.{◌≤◌};
-
+// Headers against the bytes that the format's fields give.
 use liq_base::Kind;
-use std::alloc::Global;
-use std::test::Fail;
-use wav_io::{header, plain};
+use wav_io::header;
 
 #[test]
 fn a_header_has_its_fields(rt: HostRuntime) {
@@ -34,46 +30,4 @@ fn the_file_size_has_four_bytes(rt: HostRuntime) {
             "{samples} samples"
         );
     }
-}
-
-#[test]
-fn our_own_file_is_plain(rt: HostRuntime) -> Result<(), Fail> {
-    let alloc = rt.alloc();
-    for (kind, rate, body, is_plain) in [
-        (Kind::Stereo, 44_100, &b"abcdefgh"[..], true),
-        (Kind::Mono, 192_000, &b"ab"[..], true),
-        (Kind::Mono, 0, &b"ab"[..], true),
-        (Kind::Mono, 44_100, &b""[..], false),
-        (Kind::Mono, 44_100, &b"abc"[..], false),
-        (Kind::Stereo, 44_100, &b"abcdef"[..], false),
-    ] {
-        let samples = body.len() as u64 / if kind == Kind::Mono { 2 } else { 4 };
-        let file = joined(alloc, kind, rate, samples, body)?;
-        let found = plain(&file);
-        assert_eq!(rt; found.is_some(), is_plain);
-        if let Some(wav) = found {
-            assert!(rt; wav.kind == kind && wav.rate == rate && wav.body == body);
-        }
-        // One more sample in the header than in the file.
-        assert!(rt; plain(&joined(alloc, kind, rate, samples.saturating_add(1), body)?).is_none());
-    }
-    Ok(())
-}
-
-/// A header, where there is one, and then these bytes.
-fn joined(
-    alloc: Global,
-    kind: Kind,
-    rate: u32,
-    samples: u64,
-    body: &[u8],
-) -> Result<Vec<u8>, std::alloc::AllocError>
-    requires { rate ≤ 192000 }
-{
-    let mut file = Vec::new(alloc);
-    if let Some(front) = header(kind, rate, samples) {
-        file.extend_from_slice(&front)?;
-    }
-    file.extend_from_slice(body)?;
-    Ok(file)
 }

@@ -8,8 +8,7 @@ use Rattle.liq_base.specs.Files.{Files, file_at}
 use Rattle.plan_core.specs.declared.node.Node.{Node}
 use Rattle.plan_core.specs.declared.node.Op.{Op}
 use Rattle.plan_core.specs.declared.node.Op.TheVariants.{Single, Playlist, Blank, Square, Fail, Fallback, Switch, Sequence, Add, Amplify, Mean, Stereo, Crossfade, Buffer, Clock}
-use Rattle.wav_io.specs.Plain.{Wave}
-use Rattle.wav_io.specs.Reading.{read_of}
+use Rattle.wav_io.specs.Reading.{Wav, read_of}
 use Rattle.frame_core.specs.Bytes.{samples_in}
 use Rattle.frame_core.specs.Library.{Sounds}
 use Rattle.frame_core.specs.Sounds.{Sound}
@@ -32,9 +31,9 @@ items_of (Err fault) = Err fault
 items_of (Ok bytes) = Ok bytes.items
 
 -- the sound of what was read, at the rate of the script
-abbrev pub sound_in : ℕ → Result Wave WavFault → Result Sound Unusable
+abbrev pub sound_in : ℕ → Result Wav WavFault → Result Sound Unusable
 sound_in rate (Err fault) = Err (NotWav fault)
-sound_in rate (Ok wave) = if nat_eq wave.rate rate then Ok (record { kind = wave.kind; samples = samples_in wave.body }) else Err AnotherRate
+sound_in rate (Ok wav) = if nat_eq wav.rate rate then Ok (record { kind = wav.kind; samples = samples_in wav.body }) else Err AnotherRate
 
 -- the sound of an audio file, and how many bytes the file has
 abbrev pub Audio : Type 0

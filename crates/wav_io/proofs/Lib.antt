@@ -1,3 +1,4 @@
+pub mod Headers
 pub mod Steps
 pub mod Own
 pub mod Blocks

@@ -8,7 +8,7 @@ use Rattle.byteorder.specs.Numbers.{little_from-bytes}
 use Rattle.liq_base.specs.declared.memory.Kind.{Kind}
 use Rattle.liq_base.specs.declared.memory.Kind.TheVariants.{Mono, Stereo}
 use Rattle.wav_io.specs.Header.{block_size, header_bytes, header_of}
-use Rattle.wav_io.specs.Opened.{header_is, rate_behind, body_behind}
+use Rattle.wav_io.proofs.Headers.{header_is, rate_behind, body_behind}
 use Rattle.wav_io.specs.Chunks.{chunk_at, chunks_of, chunks_behind, first_named, behind}
 use Rattle.wav_io.specs.Reading.{read_of, is_riff, format_chunk, body_of, format_in, checked_format, whole_blocks, with_blocks, chunk_step, format_step}
 use Rattle.wav_io.specs.declared.chunks.Chunk.{Chunk}

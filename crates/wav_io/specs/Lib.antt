@@ -1,5 +1,3 @@
 pub mod Header
-pub mod Plain
-pub mod Opened
 pub mod Chunks
 pub mod Reading

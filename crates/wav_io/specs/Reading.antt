@@ -5,12 +5,17 @@ use Rattle.byteorder.specs.Endian.{little_number}
 use Rattle.liq_base.specs.declared.memory.Kind.{Kind}
 use Rattle.liq_base.specs.declared.memory.Kind.TheVariants.{Mono, Stereo}
 use Rattle.wav_io.specs.Header.{block_size}
-use Rattle.wav_io.specs.Plain.{Wave}
 use Rattle.wav_io.specs.Chunks.{chunks_of, first_named, before_named}
 use Rattle.wav_io.specs.declared.chunks.Chunk.{Chunk}
 use Rattle.wav_io.specs.declared.format.Format.{Format}
 use Rattle.wav_io.specs.declared.fault.WavFault.{WavFault}
 use Rattle.wav_io.specs.declared.fault.WavFault.TheVariants.{NotRiff, NoFormat, BadFormat, NotPcm16, NoData, Empty}
+
+-- what a file holds: its kind, its samples a second, and the bytes of its blocks
+pub record Wav : Type 0 where
+  pub kind : Kind
+  pub rate : ℕ
+  pub body : List ℕ
 
 -- `RIFF`, four bytes that are not looked at, and `WAVE`
 abbrev pub is_riff : List ℕ → Bool
@@ -71,21 +76,21 @@ pub record AreBlocks (kind : Kind) (body : List ℕ) : Type 0 where
   pub whole : length body ≡ count * block_size kind
 
 -- the whole blocks, of which there is at least one
-abbrev pub with_blocks : Format → List ℕ → Result Wave WavFault
+abbrev pub with_blocks : Format → List ℕ → Result Wav WavFault
 with_blocks format blocks = if nat_eq (length blocks) 0 then Err Empty else Ok (record { kind = format.kind; rate = format.rate; body = blocks })
 
-abbrev pub data_step : List ℕ → Format → Option Chunk → Result Wave WavFault
+abbrev pub data_step : List ℕ → Format → Option Chunk → Result Wav WavFault
 data_step bytes format None = Err NoData
 data_step bytes format (Some chunk) = with_blocks format (whole_blocks format.kind (body_of bytes chunk))
 
-abbrev pub format_step : List ℕ → Result Format WavFault → Option Chunk → Result Wave WavFault
+abbrev pub format_step : List ℕ → Result Format WavFault → Option Chunk → Result Wav WavFault
 format_step bytes (Err fault) samples = Err fault
 format_step bytes (Ok format) samples = data_step bytes format samples
 
-abbrev pub chunk_step : List ℕ → Option Chunk → Option Chunk → Result Wave WavFault
+abbrev pub chunk_step : List ℕ → Option Chunk → Option Chunk → Result Wav WavFault
 chunk_step bytes None samples = Err NoFormat
 chunk_step bytes (Some chunk) samples = format_step bytes (format_in (body_of bytes chunk) chunk.size) samples
 
 -- the file, or the first fault that it has
-abbrev pub read_of : List ℕ → Result Wave WavFault
+abbrev pub read_of : List ℕ → Result Wav WavFault
 read_of bytes = if is_riff bytes then chunk_step bytes (format_chunk (chunks_of bytes)) (first_named (codes "data") (chunks_of bytes)) else Err NotRiff

@@ -7,10 +7,8 @@ mod fields;
 mod format;
 mod laws;
 mod read;
-mod wave;
 
 pub use fault::WavFault;
 pub use fields::header;
 pub use laws::{chunks_are_all, own_files_are_read};
-pub use read::read_wav;
-pub use wave::{Wav, plain};
+pub use read::{Wav, read_wav};

@@ -2,11 +2,23 @@
 ghost use Rattle.std.specs.Prelude.{◌≡◌, ◌≤◌, ◌<◌, length, Ok, Err, IfOk, MatchResult};
 ghost use Rattle.wav_io.specs.Reading.{read_of, is_riff, whole_blocks, AreBlocks};
 
+use crate::WavFault;
 use crate::chunks::{chunk_body, find_data, find_format};
 use crate::fields::block_len;
 use crate::format::read_format;
-use crate::{Wav, WavFault};
 use liq_base::Kind;
+
+/// A WAV file with 16-bit samples, whose blocks lie in the bytes that were read.
+#[derive(Clone, Copy, Debug)]
+pub struct Wav<'a> {
+    pub kind: Kind,
+
+    /// Samples a second.
+    pub rate: u32,
+
+    /// Whole blocks: of each channel one signed sample of 16 bits, the lower byte first, left before right.
+    pub body: &'a [u8],
+}
 
 /// The kind, the rate in samples a second, and the whole blocks of a WAV file of 16-bit samples, or the first fault of
 /// the table in `docs/formats.md`. It takes no memory, and what lies behind the first `data` chunk is not looked at.
@@ -15,7 +27,7 @@ pub fn read_wav(bytes: &[u8]) -> Result<Wav<'_>, WavFault>
         (λ fault. read_of bytes.now ≡ Err fault) }
     ensures blocks { IfOk result (λ wav. AreBlocks wav.kind wav.body.now) }
 {
-    if !begins_as_wave(bytes) {
+    if !is_riff(bytes) {
         return Err(WavFault::NotRiff);
     }
     let chunk = find_format(bytes).ok_or(WavFault::NoFormat)?;
@@ -33,7 +45,7 @@ pub fn read_wav(bytes: &[u8]) -> Result<Wav<'_>, WavFault>
 }
 
 /// Whether `RIFF` and `WAVE` stand at their places.
-fn begins_as_wave(bytes: &[u8]) -> bool
+fn is_riff(bytes: &[u8]) -> bool
     ensures { result ≡ is_riff bytes.now }
 {
     bytes.len() >= 12 && &bytes[..4] == b"RIFF".as_slice() && &bytes[8..12] == b"WAVE".as_slice()
