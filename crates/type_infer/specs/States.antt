@@ -55,7 +55,7 @@ IsTypedAs s s' env ds e (Some t) = IsTypedWith s s' env ds e t
 
 -- what is known, the newest first
 abbrev pub knowns : Typing → List Known
-knowns t = newest_first t.defs.items t.before.items
+knowns t = newest_first t.defs.items t.before
 
 -- what the statements have left
 abbrev pub dones : Typing → List Done
@@ -63,7 +63,7 @@ dones t = dones_in t.defs.items t.steps.items
 
 -- what is to hold before a statement is typed
 pub record IsReady (targets : Targets) (t : Typing) : Type 0 where
-  pub seen : AreSeenDefs t.subst targets t.before.items t.defs.items
+  pub seen : AreSeenDefs t.subst targets t.before t.defs.items
   pub holds : HoldsBefore t.subst (knowns t) t.held
   pub numbered : AreNumberedDefs t.defs.items (knowns t)
   pub there : AreThere (length t.defs.items) t.steps.items
@@ -99,7 +99,7 @@ IsStepped targets part old new false = IsNoMore targets part old
 -- a binding at a token
 pub record IsValueKept (at : ℕ) (e : TypedExpr) (old new : Typing) : Type 0 where
   pub subst : new.subst ≡ old.subst
-  pub before : new.before.items ≡ old.before.items ++ known.Value (record { at = at; var = e.var }) ∷ []
+  pub before : new.before ≡ old.before ++ known.Value (record { at = at; var = e.var }) ∷ []
   pub defs : new.defs.items ≡ old.defs.items
   pub steps : new.steps.items ≡ old.steps.items ++ step.Bound (record { at = at; var = e.var }) e.uses ∷ []
   pub held : (s : Table) (names : List Term) → Follows s old.subst → IsHeldBy s names old.held → IsHeldBy old.subst (variable e.var ∷ names) new.held
@@ -107,7 +107,7 @@ pub record IsValueKept (at : ℕ) (e : TypedExpr) (old new : Typing) : Type 0 wh
 -- what runs
 pub record IsRunKept (e : TypedExpr) (old new : Typing) : Type 0 where
   pub subst : new.subst ≡ old.subst
-  pub before : new.before.items ≡ old.before.items
+  pub before : new.before ≡ old.before
   pub defs : new.defs.items ≡ old.defs.items
   pub steps : new.steps.items ≡ old.steps.items ++ step.Ran e.uses ∷ []
   pub held : (s : Table) (names : List Term) → Follows s old.subst → IsHeldBy s names old.held → IsHeldBy old.subst names new.held
@@ -115,7 +115,7 @@ pub record IsRunKept (e : TypedExpr) (old new : Typing) : Type 0 where
 -- a def
 pub record IsDefKept (d : TypedDef) (old new : Typing) : Type 0 where
   pub subst : new.subst ≡ old.subst
-  pub before : new.before.items ≡ old.before.items ++ known.Function (length old.defs.items) ∷ []
+  pub before : new.before ≡ old.before ++ known.Function (length old.defs.items) ∷ []
   pub defs : new.defs.items ≡ old.defs.items ++ d.known ∷ []
   pub steps : new.steps.items ≡ old.steps.items ++ step.Defined (length old.defs.items) ∷ []
   pub held : new.held ≡ d.held
