@@ -29,11 +29,11 @@ use Rattle.value_types.specs.declared.environment.KnownDef.{KnownDef}
 use Rattle.value_types.specs.declared.environment.Names.{Names}
 use Rattle.value_types.specs.declared.environment.TypedName.{TypedName}
 use Rattle.expression_types.specs.Order.{AreAdded, said_at, said_of, tokens_used}
-use Rattle.def_types.specs.Answers.{AreSaidAs, IsTypedDef, text_of}
+use Rattle.def_types.specs.Answers.{AreSaidAs, IsNumberedDef, IsTypedDef, text_of}
 use Rattle.def_types.specs.Scope.{AreSeenDefs}
 use Rattle.def_types.specs.declared.defs.TypedDef.{TypedDef}
 use Rattle.type_infer.specs.Matches.{AreNumberedDefs, HaveCountsIn, IsTextCountedIn, aimed, opens_of}
-use Rattle.type_infer.specs.States.{IsAfter, IsDefChecked, IsDefKept, IsMore, IsNext, IsNoMore, IsNoted, IsReady, IsRunKept, IsTypedSo, IsTypedWith, IsValueKept, knowns}
+use Rattle.type_infer.specs.States.{IsAfter, IsDefKept, IsMore, IsNext, IsNoMore, IsNoted, IsReady, IsRunKept, IsTypedSo, IsTypedWith, IsValueKept, knowns}
 use Rattle.type_infer.specs.Steps.{AreThere, done_in, dones_in}
 use Rattle.type_infer.specs.declared.steps.Step.{Step}
 use Rattle.type_infer.specs.declared.steps.Step.TheVariants as step
@@ -54,7 +54,7 @@ pub record State (s : Table) (h : HeldVariables) (bs : List AKnown) (ds : List K
   pub typings : AreTypings s targets script (dones_in ds xs)
   pub whole : AreWhole script (dones_in ds xs)
 
-state_of : (targets : Targets) (script : Script) (t : Typing) → IsReady targets t → IsTypedSo targets script t → State t.subst t.held t.before.items t.defs.items t.steps.items targets script
+state_of : (targets : Targets) (script : Script) (t : Typing) → IsReady targets t → IsTypedSo targets script t → State t.subst t.held t.before t.defs.items t.steps.items targets script
 state_of targets script t ready so = record {
   seen = ready.seen;
   holds = ready.holds;
@@ -65,20 +65,20 @@ state_of targets script t ready so = record {
   whole = so.whole;
 }
 
-after_of : (targets : Targets) (script : Script) (t : Typing) → State t.subst t.held t.before.items t.defs.items t.steps.items targets script → IsAfter targets script t
+after_of : (targets : Targets) (script : Script) (t : Typing) → State t.subst t.held t.before t.defs.items t.steps.items targets script → IsAfter targets script t
 after_of targets script t st = record {
   ready = record { seen = st.seen; holds = st.holds; numbered = st.numbered; there = st.there };
   typed = record { known = st.known; typings = st.typings; whole = st.whole };
 }
 
-pub state_as : (t : Typing) (s : Table) (h : HeldVariables) (bs : List AKnown) (ds : List KnownDef) (xs : List Step) (targets : Targets) (script : Script) → t.subst ≡ s → t.held ≡ h → t.before.items ≡ bs → t.defs.items ≡ ds → t.steps.items ≡ xs →
+pub state_as : (t : Typing) (s : Table) (h : HeldVariables) (bs : List AKnown) (ds : List KnownDef) (xs : List Step) (targets : Targets) (script : Script) → t.subst ≡ s → t.held ≡ h → t.before ≡ bs → t.defs.items ≡ ds → t.steps.items ≡ xs →
     State s h bs ds xs targets script → IsAfter targets script t
 state_as t s h bs ds xs targets script es eh eb ed ex st =
     let a : State t.subst h bs ds xs targets script = subst (λ (y : Table). State y h bs ds xs targets script) (sym es) st in
     let b : State t.subst t.held bs ds xs targets script = subst (λ (y : HeldVariables). State t.subst y bs ds xs targets script) (sym eh) a in
-    let c : State t.subst t.held t.before.items ds xs targets script = subst (λ (y : List AKnown). State t.subst t.held y ds xs targets script) (sym eb) b in
-    let d : State t.subst t.held t.before.items t.defs.items xs targets script = subst (λ (y : List KnownDef). State t.subst t.held t.before.items y xs targets script) (sym ed) c in
-    after_of targets script t (subst (λ (y : List Step). State t.subst t.held t.before.items t.defs.items y targets script) (sym ex) d)
+    let c : State t.subst t.held t.before ds xs targets script = subst (λ (y : List AKnown). State t.subst t.held y ds xs targets script) (sym eb) b in
+    let d : State t.subst t.held t.before t.defs.items xs targets script = subst (λ (y : List KnownDef). State t.subst t.held t.before y xs targets script) (sym ed) c in
+    after_of targets script t (subst (λ (y : List Step). State t.subst t.held t.before t.defs.items y targets script) (sym ex) d)
 
 -- ---- an expression, with what is known by the definitions
 
@@ -192,7 +192,7 @@ if_stops s h bs ds xs targets script c semicolon st none =
 -- ---- a def
 
 def_state : (s s' : Table) (h : HeldVariables) (bs : List AKnown) (ds : List KnownDef) (xs : List Step) (targets : Targets) (script : Script) (d : Def) (semicolon : Bool) (t : TypedDef) →
-    State s h bs ds xs targets script → IsTypedDef s s' targets (newest_first ds bs) d t → IsDefChecked s' t → map text_said (text_of t.known) ≡ map (aimed targets) (tokens_used (view_def d)) → IsTextCountedIn ds (text_of t.known) → IsNext targets script (Stmt (DefPart (view_def d)) semicolon) →
+    State s h bs ds xs targets script → IsTypedDef s s' targets (newest_first ds bs) d t → IsNumberedDef s' t.known → map text_said (text_of t.known) ≡ map (aimed targets) (tokens_used (view_def d)) → IsTextCountedIn ds (text_of t.known) → IsNext targets script (Stmt (DefPart (view_def d)) semicolon) →
     State s' t.held (bs ++ known.Function (length ds) ∷ []) (ds ++ t.known ∷ []) (xs ++ step.Defined (length ds) ∷ []) targets (with_last script (Stmt (DefPart (view_def d)) semicolon))
 def_state s s' h bs ds xs targets script d semicolon t st td check named few next =
     let us = text_of t.known in
@@ -288,7 +288,7 @@ typed_known s s' names targets bs ds e x env ed t =
 pub value_more : (targets : Targets) (b : ABind) (old mid new : Typing) (names : Names) (e : TypedExpr) → IsReady targets old → GoesOn old mid → env_of names ≡ outside targets (knowns old) → names.defs.now ≡ old.defs.items →
     IsTypedWith old.subst mid.subst (env_of names) names.defs.now (view_full b.value) e → IsValueKept b.at e mid new → IsMore targets (BindPart (view_bind b)) old new
 value_more targets b old mid new names e ready on env ed typed kept script semicolon so next =
-    let bs = old.before.items in
+    let bs = old.before in
     let ds = old.defs.items in
     let xs = old.steps.items in
     let t = typed_known old.subst mid.subst names targets bs ds (view_full b.value) e env ed typed in
@@ -296,51 +296,51 @@ value_more targets b old mid new names e ready on env ed typed kept script semic
     let st = bound_state old.subst mid.subst old.held new.held bs ds xs targets script b.at b.name (view_full b.value) semicolon e (state_of targets script old ready so) t (kept.held old.subst (terms_before (knowns old)) t.infers.follows held) next in
     state_as new mid.subst new.held (bs ++ known.Value (name_as b.at e) ∷ []) ds (xs ++ step.Bound (name_as b.at e) e.uses ∷ []) targets (with_last script (Bind' b.at b.name (view_full b.value) semicolon))
     kept.subst refl
-    (kept.before ∙ ap (λ v. v.items ++ known.Value (name_as b.at e) ∷ []) on.before)
+    (kept.before ∙ ap (λ (v : List AKnown). v ++ known.Value (name_as b.at e) ∷ []) on.before)
     (kept.defs ∙ ap (λ v. v.items) on.defs)
     (kept.steps ∙ ap (λ v. v.items ++ step.Bound (name_as b.at e) e.uses ∷ []) on.steps) st
 
 pub value_no_more : (targets : Targets) (b : ABind) (old : Typing) (names : Names) → IsReady targets old → env_of names ≡ outside targets (knowns old) → HasNoType old.subst (env_of names) (view_full b.value) [] → IsNoMore targets (BindPart (view_bind b)) old
 value_no_more targets b old names ready env none script semicolon so =
-    bound_stops old.subst old.held old.before.items old.defs.items old.steps.items targets script b.at b.name (view_full b.value) semicolon (state_of targets script old ready so)
+    bound_stops old.subst old.held old.before old.defs.items old.steps.items targets script b.at b.name (view_full b.value) semicolon (state_of targets script old ready so)
     (subst (λ (y : Env). HasNoType old.subst y (view_full b.value) []) env none)
 
 pub call_more : (targets : Targets) (b : Tree ACall) (old mid new : Typing) (names : Names) (e : TypedExpr) → IsReady targets old → GoesOn old mid → env_of names ≡ outside targets (knowns old) → names.defs.now ≡ old.defs.items →
     IsTypedWith old.subst mid.subst (env_of names) names.defs.now b e → IsRunKept e mid new → IsMore targets (CallPart b) old new
 call_more targets b old mid new names e ready on env ed typed kept script semicolon so next =
-    let bs = old.before.items in
+    let bs = old.before in
     let ds = old.defs.items in
     let xs = old.steps.items in
     let t = typed_known old.subst mid.subst names targets bs ds b e env ed typed in
     let held : IsHeldBy old.subst (terms_before (knowns old)) mid.held = subst (λ (h : HeldVariables). IsHeldBy old.subst (terms_before (knowns old)) h) (sym on.held) ready.holds.held in
     let st = call_state old.subst mid.subst old.held new.held bs ds xs targets script b semicolon e (state_of targets script old ready so) t (kept.held old.subst (terms_before (knowns old)) t.infers.follows held) next in
     state_as new mid.subst new.held bs ds (xs ++ step.Ran e.uses ∷ []) targets (with_last script (Stmt (CallPart b) semicolon))
-    kept.subst refl (kept.before ∙ ap (λ v. v.items) on.before) (kept.defs ∙ ap (λ v. v.items) on.defs) (kept.steps ∙ ap (λ v. v.items ++ step.Ran e.uses ∷ []) on.steps) st
+    kept.subst refl (kept.before ∙ on.before) (kept.defs ∙ ap (λ v. v.items) on.defs) (kept.steps ∙ ap (λ v. v.items ++ step.Ran e.uses ∷ []) on.steps) st
 
 pub call_no_more : (targets : Targets) (b : Tree ACall) (old : Typing) (names : Names) → IsReady targets old → env_of names ≡ outside targets (knowns old) → HasNoType old.subst (env_of names) b [] → IsNoMore targets (CallPart b) old
 call_no_more targets b old names ready env none script semicolon so =
-    call_stops old.subst old.held old.before.items old.defs.items old.steps.items targets script b semicolon (state_of targets script old ready so) (subst (λ (y : Env). HasNoType old.subst y b []) env none)
+    call_stops old.subst old.held old.before old.defs.items old.steps.items targets script b semicolon (state_of targets script old ready so) (subst (λ (y : Env). HasNoType old.subst y b []) env none)
 
 pub if_more : (targets : Targets) (b : Tree AnIf) (old mid new : Typing) (names : Names) (e : TypedExpr) → IsReady targets old → GoesOn old mid → env_of names ≡ outside targets (knowns old) → names.defs.now ≡ old.defs.items →
     IsTypedWith old.subst mid.subst (env_of names) names.defs.now b e → IsRunKept e mid new → IsMore targets (IfPart b) old new
 if_more targets b old mid new names e ready on env ed typed kept script semicolon so next =
-    let bs = old.before.items in
+    let bs = old.before in
     let ds = old.defs.items in
     let xs = old.steps.items in
     let t = typed_known old.subst mid.subst names targets bs ds b e env ed typed in
     let held : IsHeldBy old.subst (terms_before (knowns old)) mid.held = subst (λ (h : HeldVariables). IsHeldBy old.subst (terms_before (knowns old)) h) (sym on.held) ready.holds.held in
     let st = if_state old.subst mid.subst old.held new.held bs ds xs targets script b semicolon e (state_of targets script old ready so) t (kept.held old.subst (terms_before (knowns old)) t.infers.follows held) next in
     state_as new mid.subst new.held bs ds (xs ++ step.Ran e.uses ∷ []) targets (with_last script (Stmt (IfPart b) semicolon))
-    kept.subst refl (kept.before ∙ ap (λ v. v.items) on.before) (kept.defs ∙ ap (λ v. v.items) on.defs) (kept.steps ∙ ap (λ v. v.items ++ step.Ran e.uses ∷ []) on.steps) st
+    kept.subst refl (kept.before ∙ on.before) (kept.defs ∙ ap (λ v. v.items) on.defs) (kept.steps ∙ ap (λ v. v.items ++ step.Ran e.uses ∷ []) on.steps) st
 
 pub if_no_more : (targets : Targets) (b : Tree AnIf) (old : Typing) (names : Names) → IsReady targets old → env_of names ≡ outside targets (knowns old) → HasNoType old.subst (env_of names) b [] → IsNoMore targets (IfPart b) old
 if_no_more targets b old names ready env none script semicolon so =
-    if_stops old.subst old.held old.before.items old.defs.items old.steps.items targets script b semicolon (state_of targets script old ready so) (subst (λ (y : Env). HasNoType old.subst y b []) env none)
+    if_stops old.subst old.held old.before old.defs.items old.steps.items targets script b semicolon (state_of targets script old ready so) (subst (λ (y : Env). HasNoType old.subst y b []) env none)
 
 pub def_more : (targets : Targets) (d : Def) (old mid new : Typing) (names : Names) (t : TypedDef) → IsReady targets old → GoesOn old mid → env_of names ≡ outside targets (knowns old) → names.defs.now ≡ old.defs.items →
-    IsTypedDef old.subst mid.subst (env_of names).targets (env_of names).before d t → IsDefChecked mid.subst t → AreSaidAs names (tokens_used (view_def d)) (text_of t.known) → IsDefKept t mid new → IsMore targets (DefPart (view_def d)) old new
+    IsTypedDef old.subst mid.subst (env_of names).targets (env_of names).before d t → IsNumberedDef mid.subst t.known → AreSaidAs names (tokens_used (view_def d)) (text_of t.known) → IsDefKept t mid new → IsMore targets (DefPart (view_def d)) old new
 def_more targets d old mid new names t ready on env ed typed check said kept script semicolon so next =
-    let bs = old.before.items in
+    let bs = old.before in
     let ds = old.defs.items in
     let xs = old.steps.items in
     let td : IsTypedDef old.subst mid.subst targets (knowns old) d t = subst (λ (y : Env). IsTypedDef old.subst mid.subst y.targets y.before d t) env typed in
@@ -351,13 +351,13 @@ def_more targets d old mid new names t ready on env ed typed check said kept scr
     let st = def_state old.subst mid.subst old.held bs ds xs targets script d semicolon t (state_of targets script old ready so) td check named few next in
     state_as new mid.subst t.held (bs ++ known.Function (length ds) ∷ []) (ds ++ t.known ∷ []) (xs ++ step.Defined (length ds) ∷ []) targets (with_last script (Stmt (DefPart (view_def d)) semicolon))
     kept.subst kept.held
-    (kept.before ∙ ap (λ v. v.items ++ known.Function (length mid.defs.items) ∷ []) on.before ∙ ap (λ (y : List KnownDef). bs ++ known.Function (length y) ∷ []) same)
+    (kept.before ∙ ap (λ (v : List AKnown). v ++ known.Function (length mid.defs.items) ∷ []) on.before ∙ ap (λ (y : List KnownDef). bs ++ known.Function (length y) ∷ []) same)
     (kept.defs ∙ ap (λ (y : List KnownDef). y ++ t.known ∷ []) same)
     (kept.steps ∙ ap (λ v. v.items ++ step.Defined (length mid.defs.items) ∷ []) on.steps ∙ ap (λ (y : List KnownDef). xs ++ step.Defined (length y) ∷ []) same) st
 
 pub def_no_more : (targets : Targets) (d : Tree ADef) (old : Typing) (names : Names) → IsReady targets old → env_of names ≡ outside targets (knowns old) → HasNoTyping old.subst (env_of names).targets (env_of names).before d → IsNoMore targets (DefPart d) old
 def_no_more targets d old names ready env none script semicolon so =
-    def_stops old.subst old.held old.before.items old.defs.items old.steps.items targets script d semicolon (state_of targets script old ready so) (subst (λ (y : Env). HasNoTyping old.subst y.targets y.before d) env none)
+    def_stops old.subst old.held old.before old.defs.items old.steps.items targets script d semicolon (state_of targets script old ready so) (subst (λ (y : Env). HasNoTyping old.subst y.targets y.before d) env none)
 
 -- ---- one expression
 

@@ -83,6 +83,9 @@ turned xs n all o i x old new false f lt xis placed so step = stopped (target_in
 
 -- ---- the answers
 
+pub memory_clash : (targets : Targets) (script : Script) (n : ℕ) (f : TypeFault) → f ≡ fault.Memory → IsClashIn targets script n f
+memory_clash targets script n f e = subst (λ (g : TypeFault). IsClashIn targets script n g) (sym e) tt
+
 count_at_most : (xs : List (Tree AStmt)) (n : ℕ) → n ≡ length xs → count (listed xs) ≤ n
 count_at_most xs n e = let c = count_listed xs in omega (arith, c, e)
 

@@ -8,5 +8,4 @@ pub mod After
 pub mod Beginning
 pub mod Settled
 pub mod Overs
-pub mod Counting
 pub mod Ending

@@ -1,9 +1,8 @@
 -- The kinds of what statements have left are over the substitution, and such a kind is settled as one of a source.
-use Rattle.std.proofs.Common.{◌≡◌, ◌≢◌, ◌∙◌, sym, ap, subst, refl, ℕ, zero, suc, ◌<◌, ◌+◌, arith, length, get_or, List, [], ◌∷◌, ◌++◌, map, Option, Some, None}
-use Rattle.std.specs.Prelude.{⊤}
+use Rattle.std.proofs.Common.{◌≡◌, ◌≢◌, ◌∙◌, sym, ap, subst, refl, ℕ, zero, suc, ◌<◌, arith, length, get_or, List, [], ◌∷◌, ◌++◌, map, Option, Some, None}
 use Rattle.liq_base.specs.declared.memory.Kind.{Kind}
 use Rattle.type_terms.specs.Extends.{HasDefaults}
-use Rattle.type_terms.specs.Ground.{Assignment, Ground, source}
+use Rattle.type_terms.specs.Ground.{Assignment, source}
 use Rattle.type_terms.specs.Resolved.{IsUnbound}
 use Rattle.type_terms.specs.Table.{IsOver, Solves, Table}
 use Rattle.type_terms.specs.Term.{Term, base_term, kind_meaning, list_term, meaning, source_term, term_of, tuple_term, variable}
@@ -11,16 +10,16 @@ use Rattle.type_terms.specs.declared.ty.KindTerm.{KindTerm}
 use Rattle.type_terms.specs.declared.ty.Ty.{Ty}
 use Rattle.type_terms.specs.declared.ty.Ty.TheVariants as ty
 use Rattle.type_terms.proofs.Views.{term_Source}
-use Rattle.type_flow.specs.Environment.{AreKindsOver, AreKnownOver, ArePendingOver, AreUsesOver, Found, IsKindOver, IsPendingOver, IsTextOver, Known, Pending, TextUse, function, value}
-use Rattle.script_flow.specs.Statements.{AreFoundsOver, Done, bound, defined, known_after, known_of, ran}
+use Rattle.type_flow.specs.Environment.{AreKindsOver, AreKnownOver, ArePendingOver, AreUsesOver, IsKindOver, IsPendingOver, IsTextOver, Known, function, value}
+use Rattle.script_flow.specs.Statements.{AreFoundsOver, Done, bound, defined, known_after, ran}
 use Rattle.typing_rules.specs.Scripts.{Targets}
 use Rattle.script_grammar.specs.Tree.{Script}
-use Rattle.value_types.specs.Seen.{found, founds, pending, text_use}
+use Rattle.value_types.specs.Seen.{founds, pending, text_use}
 use Rattle.value_types.specs.declared.environment.FoundUse.{FoundUse}
 use Rattle.value_types.specs.declared.environment.KnownDef.{KnownDef}
 use Rattle.value_types.specs.declared.environment.TextKind.{TextKind}
 use Rattle.value_types.specs.declared.environment.TextUse.{TextUse as ATextUse}
-use Rattle.type_infer.specs.Settling.{AreDonesOver, IsDoneOver, source_of}
+use Rattle.type_infer.specs.Settling.{AreDonesOver, source_of}
 use Rattle.type_infer.specs.States.{IsTypedSo, dones}
 use Rattle.type_infer.specs.Steps.{done_in, dones_in}
 use Rattle.type_infer.specs.declared.steps.Step.{Step}

@@ -14,7 +14,6 @@ use Rattle.typing_rules.specs.Scripts.{Targets}
 use Rattle.type_schemes.specs.Holding.{IsHeldBy}
 use Rattle.type_flow.specs.Environment.{Env, Known}
 use Rattle.type_flow.specs.Flow.{HasNoType, Infers}
-use Rattle.script_flow.specs.Counts.{text_count}
 use Rattle.script_flow.specs.Defs.{HoldsBefore}
 use Rattle.script_flow.specs.Statements.{AreTypings, Done, HasNoTypings, found_said, known_of, scope_after, uses_under, with_last}
 use Rattle.script_flow.specs.Whole.{AreWhole}
@@ -23,10 +22,9 @@ use Rattle.value_types.specs.declared.environment.FoundUse.{FoundUse}
 use Rattle.value_types.specs.declared.environment.Known.TheVariants as known
 use Rattle.value_types.specs.declared.environment.KnownDef.{KnownDef}
 use Rattle.expression_types.specs.Order.{tokens_used}
-use Rattle.def_types.specs.Answers.{text_of}
 use Rattle.def_types.specs.Scope.{AreSeenDefs}
 use Rattle.def_types.specs.declared.defs.TypedDef.{TypedDef}
-use Rattle.type_infer.specs.Matches.{AreAimed, AreNumberedDefs, HaveCountsIn, aimed, opens_of}
+use Rattle.type_infer.specs.Matches.{AreAimed, AreNumberedDefs, HaveCountsIn, aimed}
 use Rattle.type_infer.specs.Steps.{AreThere, dones_in}
 use Rattle.type_infer.specs.declared.steps.Step.TheVariants as step
 use Rattle.type_infer.specs.declared.steps.Typing.{Typing}
@@ -55,7 +53,7 @@ IsTypedAs s s' env ds e (Some t) = IsTypedWith s s' env ds e t
 
 -- what is known, the newest first
 abbrev pub knowns : Typing → List Known
-knowns t = newest_first t.defs.items t.before.items
+knowns t = newest_first t.defs.items t.before
 
 -- what the statements have left
 abbrev pub dones : Typing → List Done
@@ -63,7 +61,7 @@ dones t = dones_in t.defs.items t.steps.items
 
 -- what is to hold before a statement is typed
 pub record IsReady (targets : Targets) (t : Typing) : Type 0 where
-  pub seen : AreSeenDefs t.subst targets t.before.items t.defs.items
+  pub seen : AreSeenDefs t.subst targets t.before t.defs.items
   pub holds : HoldsBefore t.subst (knowns t) t.held
   pub numbered : AreNumberedDefs t.defs.items (knowns t)
   pub there : AreThere (length t.defs.items) t.steps.items
@@ -99,7 +97,7 @@ IsStepped targets part old new false = IsNoMore targets part old
 -- a binding at a token
 pub record IsValueKept (at : ℕ) (e : TypedExpr) (old new : Typing) : Type 0 where
   pub subst : new.subst ≡ old.subst
-  pub before : new.before.items ≡ old.before.items ++ known.Value (record { at = at; var = e.var }) ∷ []
+  pub before : new.before ≡ old.before ++ known.Value (record { at = at; var = e.var }) ∷ []
   pub defs : new.defs.items ≡ old.defs.items
   pub steps : new.steps.items ≡ old.steps.items ++ step.Bound (record { at = at; var = e.var }) e.uses ∷ []
   pub held : (s : Table) (names : List Term) → Follows s old.subst → IsHeldBy s names old.held → IsHeldBy old.subst (variable e.var ∷ names) new.held
@@ -107,7 +105,7 @@ pub record IsValueKept (at : ℕ) (e : TypedExpr) (old new : Typing) : Type 0 wh
 -- what runs
 pub record IsRunKept (e : TypedExpr) (old new : Typing) : Type 0 where
   pub subst : new.subst ≡ old.subst
-  pub before : new.before.items ≡ old.before.items
+  pub before : new.before ≡ old.before
   pub defs : new.defs.items ≡ old.defs.items
   pub steps : new.steps.items ≡ old.steps.items ++ step.Ran e.uses ∷ []
   pub held : (s : Table) (names : List Term) → Follows s old.subst → IsHeldBy s names old.held → IsHeldBy old.subst names new.held
@@ -115,15 +113,10 @@ pub record IsRunKept (e : TypedExpr) (old new : Typing) : Type 0 where
 -- a def
 pub record IsDefKept (d : TypedDef) (old new : Typing) : Type 0 where
   pub subst : new.subst ≡ old.subst
-  pub before : new.before.items ≡ old.before.items ++ known.Function (length old.defs.items) ∷ []
+  pub before : new.before ≡ old.before ++ known.Function (length old.defs.items) ∷ []
   pub defs : new.defs.items ≡ old.defs.items ++ d.known ∷ []
   pub steps : new.steps.items ≡ old.steps.items ++ step.Defined (length old.defs.items) ∷ []
   pub held : new.held ≡ d.held
-
--- what the program has tested of a def
-pub record IsDefChecked (s : Table) (d : TypedDef) : Type 0 where
-  pub some : (a : Assignment) × Solves a s
-  pub numbered : text_count (text_of d.known) ≡ Some (opens_of d.known)
 
 -- the uses of the statements under the default solution, where no fault of names is told
 pub record AreDefaultUses (t : Typing) (fault : Option TypeFault) (uses : List Use) : Type 0 where

@@ -1,7 +1,6 @@
 //! Inference: what typing says of each name of a script, or the first fault.
 #![tactic(auto)]
 
-mod counts;
 mod front;
 mod script;
 mod settling;

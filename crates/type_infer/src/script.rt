@@ -12,17 +12,20 @@ ghost use Rattle.type_infer.specs.Fronts.{IsFront};
 ghost use Rattle.type_infer.specs.Settling.{AreDonesOver};
 ghost use Rattle.type_infer.specs.States.{AreDefaultUses, IsAfter, IsReady, IsStepped, IsTypedSo, dones};
 ghost use Rattle.type_infer.specs.Turns.{IsTurned};
+ghost use Rattle.value_types.specs.Tables.{targets_of};
 
 use crate::front::{Front, resolve_front};
 use crate::settling::settled_uses;
 use crate::statements::type_part;
 use crate::steps::Typing;
+use indexmap::IndexMap;
 use name_scope::Resolved;
 use script_grammar::tree::{Script, Stmt, StmtPart};
 use std::alloc::Global;
 use type_schemes::Held;
 use type_terms::Subst;
-use typing_rules::{TypeFault, Use};
+use typing_rules::{Target, TypeFault, Use};
+use value_types::{Bindings, target_table};
 
 /// A script with what each name in it means, in the order of the tokens, and the kinds of each use.
 #[derive(Drop)]
@@ -38,7 +41,7 @@ fn begun<'a>(alloc: Global, subst: Subst) -> Typing<'a>
     subst.has_defaults();
     Typing {
         subst,
-        before: Vec::new(alloc),
+        before: Bindings::new(alloc),
         defs: Vec::new(alloc),
         held: Held::new(alloc),
         steps: Vec::new(alloc),
@@ -70,9 +73,10 @@ fn type_statements<'a>(
     if front.count > u32::MAX as usize {
         return Err(TypeFault::Memory);
     }
+    let targets = told_table(alloc, &front.all)?;
     let mut typing = start(alloc)?;
     for index in 0..front.count {
-        let typed = type_next(alloc, &mut typing, statements, front, index)?;
+        let typed = type_next(alloc, &mut typing, &targets, statements, front, index)?;
         if !typed {
             return Err(TypeFault::TypeClash {
                 stmt: index as u32 + 1,
@@ -82,23 +86,36 @@ fn type_statements<'a>(
     Ok(typing)
 }
 
+/// What names mean, by their tokens, with want of memory as a fault of the script.
+fn told_table(alloc: Global, names: &[Resolved]) -> Result<IndexMap<u32, Target>, TypeFault>
+    ensures table { IfOk result (λ m. targets_of m ≡ target_in (map resolved names.now)) }
+    ensures refused { IfErr result (λ f. f ≡ TypeFault.Memory) }
+{
+    match target_table(alloc, names) {
+        Ok(table) => Ok(table),
+        Err(_) => Err(TypeFault::Memory),
+    }
+}
+
 /// The statement behind so many; whether there is a typing with it.
 fn type_next<'a>(
     alloc: Global,
     typing: &mut Typing<'a>,
+    targets: &IndexMap<u32, Target>,
     statements: &'a [Stmt],
     front: &Front,
     index: usize,
 ) -> Result<bool, TypeFault>
     requires front { IsFront (map view_stmt statements.now) front.now.count (map resolved front.now.all.items) front.now.fault }
     requires placed { IsPlaced 0 (listed (map view_stmt statements.now)) }
+    requires table { targets_of targets.now ≡ target_in (map resolved front.now.all.items) }
     requires inside { index < front.now.count }
     requires before { IsAfter (target_in (map resolved front.now.all.items)) (first_of index (listed (map view_stmt statements.now))) typing.old }
     ensures turned { IfOk result (λ yes. IsTurned (target_in (map resolved front.now.all.items)) (listed (map view_stmt statements.entry.now)) front.now.count index typing.new yes) }
     ensures refused { IfErr result (λ f. f ≡ TypeFault.Memory) }
 {
     let part = &statements[index].part;
-    let yes = next(alloc, typing, &front.all, part)?;
+    let yes = next(alloc, typing, targets, part)?;
     Ok(yes)
 }
 
@@ -106,11 +123,11 @@ fn type_next<'a>(
 fn next<'a>(
     alloc: Global,
     typing: &mut Typing<'a>,
-    targets: &[Resolved],
+    targets: &IndexMap<u32, Target>,
     part: &'a StmtPart,
 ) -> Result<bool, TypeFault>
-    requires ready { IsReady (target_in (map resolved targets.now)) typing.old }
-    ensures stepped { IfOk result (λ yes. IsStepped (target_in (map resolved targets.now)) (view_part part.entry.now) typing.old typing.new yes) }
+    requires ready { IsReady (targets_of targets.now) typing.old }
+    ensures stepped { IfOk result (λ yes. IsStepped (targets_of targets.now) (view_part part.entry.now) typing.old typing.new yes) }
     ensures refused { IfErr result (λ f. f ≡ TypeFault.Memory) }
 {
     match type_part(alloc, typing, targets, part) {

@@ -1,29 +1,29 @@
 // One statement more.
-ghost use Rattle.std.specs.Prelude.{◌≡◌, [], map, IfOk, OnOk};
-ghost use Rattle.name_scope.specs.Noted.{resolved};
+ghost use Rattle.std.specs.Prelude.{◌≡◌, [], IfOk, OnOk};
 ghost use Rattle.script_grammar.specs.Tree.{BindPart, CallPart, DefPart, IfPart};
 ghost use Rattle.script_grammar.specs.View.{view_bind, view_call, view_def, view_if, view_part};
 ghost use Rattle.type_schemes.specs.Holding.{AreThere};
-ghost use Rattle.typing_rules.specs.Scoping.{target_in};
+ghost use Rattle.value_types.specs.Tables.{targets_of};
 ghost use Rattle.type_terms.specs.Table.{IsOver};
 ghost use Rattle.type_terms.specs.Term.{variable};
-ghost use Rattle.type_infer.specs.States.{IsDefChecked, IsDefKept, IsReady, IsRunKept, IsStepped, IsValueKept};
+ghost use Rattle.type_infer.specs.States.{IsDefKept, IsReady, IsRunKept, IsStepped, IsValueKept};
 
-use crate::counts::{def_count, text_count};
 use crate::steps::{Step, TypedExpr, Typing};
 use crate::values::{choice_type, run_type, value_type};
 use def_types::{TypedDef, type_def};
+use indexmap::IndexMap;
 use liq_base::Memory;
-use name_scope::Resolved;
 use script_grammar::tree::{Bind, Call, Def, If, StmtPart};
 use std::alloc::Global;
-use type_terms::{Subst, Ty};
-use value_types::{Known, KnownDef, Names, TypedName};
+use std::mem;
+use type_terms::Ty;
+use typing_rules::Target;
+use value_types::{Bindings, Known, KnownDef, Names, TypedName};
 
 /// What is seen outside of defs.
 fn outside<'n, 'a>(
-    targets: &'n [Resolved],
-    before: &'n [Known],
+    targets: &'n IndexMap<u32, Target>,
+    before: &'n Bindings,
     defs: &'n [KnownDef<'a>],
 ) -> Names<'n, 'a>
     ensures targets { result.targets.now ≡ targets.entry.now }
@@ -53,7 +53,8 @@ fn keep_value(
     let mut held = typing.held.renewed(alloc, &typing.subst)?;
     held.add(alloc, &typing.subst, &Ty::Var(typed.var))?;
     let name = TypedName { at, var: typed.var };
-    typing.before.push(Known::Value(name))?;
+    let before = mem::replace(&mut typing.before, Bindings::new(alloc));
+    typing.before = before.with(Known::Value(name))?;
     typing.steps.push(Step::Bound(name, typed.uses))?;
     typing.held = held;
     Ok(())
@@ -71,27 +72,15 @@ fn keep_run(alloc: Global, typing: &mut Typing<'_>, typed: TypedExpr) -> Result<
 }
 
 /// Keeps a def.
-fn keep_def<'a>(typing: &mut Typing<'a>, def: TypedDef<'a>) -> Result<(), Memory>
+fn keep_def<'a>(alloc: Global, typing: &mut Typing<'a>, def: TypedDef<'a>) -> Result<(), Memory>
     ensures { OnOk result (IsDefKept def.entry typing.old typing.new) }
 {
     let place = typing.defs.len();
-    typing.before.push(Known::Function(place))?;
+    let before = mem::replace(&mut typing.before, Bindings::new(alloc));
+    typing.before = before.with(Known::Function(place))?;
     typing.steps.push(Step::Defined(place))?;
     typing.defs.push(def.known)?;
     typing.held = def.held;
-    Ok(())
-}
-
-/// Fails where the open kinds of a def are not numbered as its text names them first, or are not as many as its general
-/// type has.
-fn check_def(subst: &Subst, def: &TypedDef<'_>) -> Result<(), Memory>
-    ensures { OnOk result (IsDefChecked subst.now def.now) }
-{
-    subst.has_defaults();
-    let count = text_count(&def.known.uses).ok_or(Memory)?;
-    if count != def_count(&def.known) {
-        return Err(Memory);
-    }
     Ok(())
 }
 
@@ -99,11 +88,11 @@ fn check_def(subst: &Subst, def: &TypedDef<'_>) -> Result<(), Memory>
 fn type_bind(
     alloc: Global,
     typing: &mut Typing<'_>,
-    targets: &[Resolved],
+    targets: &IndexMap<u32, Target>,
     bind: &Bind,
 ) -> Result<bool, Memory>
-    requires ready { IsReady (target_in (map resolved targets.now)) typing.old }
-    ensures { IfOk result (λ yes. IsStepped (target_in (map resolved targets.now)) (BindPart (view_bind bind.now)) typing.old typing.new yes) }
+    requires ready { IsReady (targets_of targets.now) typing.old }
+    ensures { IfOk result (λ yes. IsStepped (targets_of targets.now) (BindPart (view_bind bind.now)) typing.old typing.new yes) }
 {
     let seen = outside(targets, &typing.before, &typing.defs);
     match value_type(alloc, &mut typing.subst, seen, &bind.value)? {
@@ -119,11 +108,11 @@ fn type_bind(
 fn type_run(
     alloc: Global,
     typing: &mut Typing<'_>,
-    targets: &[Resolved],
+    targets: &IndexMap<u32, Target>,
     call: &Call,
 ) -> Result<bool, Memory>
-    requires ready { IsReady (target_in (map resolved targets.now)) typing.old }
-    ensures { IfOk result (λ yes. IsStepped (target_in (map resolved targets.now)) (CallPart (view_call call.now)) typing.old typing.new yes) }
+    requires ready { IsReady (targets_of targets.now) typing.old }
+    ensures { IfOk result (λ yes. IsStepped (targets_of targets.now) (CallPart (view_call call.now)) typing.old typing.new yes) }
 {
     let seen = outside(targets, &typing.before, &typing.defs);
     match run_type(alloc, &mut typing.subst, seen, call)? {
@@ -139,11 +128,11 @@ fn type_run(
 fn type_branch(
     alloc: Global,
     typing: &mut Typing<'_>,
-    targets: &[Resolved],
+    targets: &IndexMap<u32, Target>,
     choice: &If,
 ) -> Result<bool, Memory>
-    requires ready { IsReady (target_in (map resolved targets.now)) typing.old }
-    ensures { IfOk result (λ yes. IsStepped (target_in (map resolved targets.now)) (IfPart (view_if choice.now)) typing.old typing.new yes) }
+    requires ready { IsReady (targets_of targets.now) typing.old }
+    ensures { IfOk result (λ yes. IsStepped (targets_of targets.now) (IfPart (view_if choice.now)) typing.old typing.new yes) }
 {
     let seen = outside(targets, &typing.before, &typing.defs);
     match choice_type(alloc, &mut typing.subst, seen, choice)? {
@@ -159,18 +148,17 @@ fn type_branch(
 fn type_function<'a>(
     alloc: Global,
     typing: &mut Typing<'a>,
-    targets: &[Resolved],
+    targets: &IndexMap<u32, Target>,
     def: &'a Def,
 ) -> Result<bool, Memory>
-    requires ready { IsReady (target_in (map resolved targets.now)) typing.old }
-    ensures { IfOk result (λ yes. IsStepped (target_in (map resolved targets.now)) (DefPart (view_def def.entry.now)) typing.old typing.new yes) }
+    requires ready { IsReady (targets_of targets.now) typing.old }
+    ensures { IfOk result (λ yes. IsStepped (targets_of targets.now) (DefPart (view_def def.entry.now)) typing.old typing.new yes) }
 {
     let seen = outside(targets, &typing.before, &typing.defs);
     match type_def(alloc, &mut typing.subst, seen, &typing.held, def)? {
         None => Ok(false),
         Some(typed) => {
-            check_def(&typing.subst, &typed)?;
-            keep_def(typing, typed)?;
+            keep_def(alloc, typing, typed)?;
             Ok(true)
         }
     }
@@ -180,11 +168,11 @@ fn type_function<'a>(
 pub fn type_part<'a>(
     alloc: Global,
     typing: &mut Typing<'a>,
-    targets: &[Resolved],
+    targets: &IndexMap<u32, Target>,
     part: &'a StmtPart,
 ) -> Result<bool, Memory>
-    requires ready { IsReady (target_in (map resolved targets.now)) typing.old }
-    ensures { IfOk result (λ yes. IsStepped (target_in (map resolved targets.now)) (view_part part.entry.now) typing.old typing.new yes) }
+    requires ready { IsReady (targets_of targets.now) typing.old }
+    ensures { IfOk result (λ yes. IsStepped (targets_of targets.now) (view_part part.entry.now) typing.old typing.new yes) }
 {
     match part {
         StmtPart::Bind(bind) => type_bind(alloc, typing, targets, bind),

@@ -1,7 +1,7 @@
 // The statements that were typed so far.
 use type_schemes::Held;
 use type_terms::Subst;
-use value_types::{FoundUse, Known, KnownDef, TypedName};
+use value_types::{Bindings, FoundUse, KnownDef, TypedName};
 
 /// The variable that is the type of a value, and the uses in it.
 #[derive(Drop)]
@@ -24,7 +24,7 @@ pub enum Step {
 #[derive(Drop)]
 pub struct Typing<'a> {
     pub subst: Subst,
-    pub before: Vec<Known>,
+    pub before: Bindings,
     pub defs: Vec<KnownDef<'a>>,
     pub held: Held,
     pub steps: Vec<Step>,

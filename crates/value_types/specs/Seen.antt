@@ -10,10 +10,8 @@ use Rattle.type_schemes.specs.Schemes.{Scheme, IsInstance, IsSchemeOver, open_nu
 use Rattle.typing_rules.specs.declared.uses.Target.{Target}
 use Rattle.typing_rules.specs.declared.uses.Target.TheVariants as target
 use Rattle.typing_rules.specs.Arguments.{Parameter}
-use Rattle.typing_rules.specs.Scoping.{target_in}
-use Rattle.name_scope.specs.Noted.{resolved}
 use Rattle.name_scope.specs.Seen.{seen_parameter}
-use Rattle.type_flow.specs.Environment.{Env, Found, TextUse, Pending, of_term, of_def, Known, value, function, IsEnvOver, AreUsesOver, or_else, with_use}
+use Rattle.type_flow.specs.Environment.{Env, Found, TextUse, Pending, of_term, of_def, Known, value, function, IsEnvOver, AreUsesOver, with_use}
 use Rattle.type_flow.specs.Flow.{IsCallable, IsInstantiated, HasNoCall}
 use Rattle.value_types.specs.declared.environment.FoundUse.{FoundUse}
 use Rattle.value_types.specs.declared.environment.TextUse.{TextUse as ATextUse}
@@ -23,6 +21,7 @@ use Rattle.value_types.specs.declared.environment.Known.{Known as AKnown}
 use Rattle.value_types.specs.declared.environment.Known.TheVariants as known
 use Rattle.value_types.specs.declared.environment.Names.{Names}
 use Rattle.value_types.specs.declared.calls.Callee.{Callee}
+use Rattle.value_types.specs.Tables.{targets_of}
 
 abbrev pub found : FoundUse → Found
 found f = record { at = f.at; target = f.target; kinds = f.kinds.items }
@@ -54,17 +53,8 @@ abbrev pub newest_first : List KnownDef → List AKnown → List Known
 newest_first ds [] = []
 newest_first ds (k ∷ ks) = newest_first ds ks ++ known_seen ds k
 
--- the type of a statement's binding at a token, and of the newest such binding
-abbrev pub var_known : ℕ → AKnown → Option Term
-var_known t (known.Value n) = cond (nat_eq n.at t) (Some (variable n.var)) None
-var_known t (known.Function i) = None
-
-abbrev pub newest_var : ℕ → List AKnown → Option Term
-newest_var t [] = None
-newest_var t (k ∷ ks) = or_else (newest_var t ks) (var_known t k)
-
 abbrev pub env_of : Names → Env
-env_of n = record { targets = target_in (map resolved n.targets.now); before = newest_first n.defs.now n.before.now; inner = types_seen n.inner.now }
+env_of n = record { targets = targets_of n.targets.now; before = newest_first n.defs.now n.before.now; inner = types_seen n.inner.now }
 
 -- the first def whose name stands at a token
 abbrev pub def_seen : ℕ → List KnownDef → Option KnownDef

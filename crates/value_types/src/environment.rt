@@ -1,12 +1,12 @@
 // What is seen where an expression stands.
-ghost use Rattle.std.specs.Prelude.{◌≡◌, ◌<◌, get_or, length, map, option_map};
-ghost use Rattle.typing_rules.specs.Scoping.{target_in};
-ghost use Rattle.name_scope.specs.Noted.{resolved};
+ghost use Rattle.std.specs.Prelude.{◌≡◌, option_map};
 ghost use Rattle.type_terms.specs.Term.{variable};
 ghost use Rattle.type_flow.specs.Environment.{term_at, term_seen};
-ghost use Rattle.value_types.specs.Seen.{def_seen, env_of, newest_var, types_seen, var_known};
+ghost use Rattle.value_types.specs.Seen.{def_seen, env_of, types_seen};
 
-use name_scope::{Parameter, Resolved};
+use crate::bindings::Bindings;
+use indexmap::IndexMap;
+use name_scope::Parameter;
 use script_grammar::tree::Def;
 use type_schemes::General;
 use type_terms::KindTerm;
@@ -62,22 +62,10 @@ pub enum Known {
 /// What names mean, the parameters and inner bindings of the def around, what statements have bound, the newest last, and their defs.
 #[derive(Clone, Copy)]
 pub struct Names<'n, 'a> {
-    pub targets: &'n [Resolved],
+    pub targets: &'n IndexMap<u32, Target>,
     pub inner: &'n [TypedName],
-    pub before: &'n [Known],
+    pub before: &'n Bindings,
     pub defs: &'n [KnownDef<'a>],
-}
-
-/// What the name at a token means.
-fn target_at(targets: &[Resolved], at: u32) -> Option<Target>
-    ensures { result ≡ target_in (map resolved targets.now) at }
-{
-    for one in targets {
-        if one.at == at {
-            return Some(one.target);
-        }
-    }
-    None
 }
 
 /// The variable of the first binding at a token.
@@ -87,39 +75,6 @@ fn var_in(names: &[TypedName], at: u32) -> Option<u64>
     for name in names {
         if name.at == at {
             return Some(name.var);
-        }
-    }
-    None
-}
-
-/// The variable of a binding at this token.
-fn var_of(known: Known, at: u32) -> Option<u64>
-    ensures { option_map variable result ≡ var_known at known }
-{
-    match known {
-        Known::Function(_) => None,
-        Known::Value(name) => { if name.at == at { Some(name.var) } else { None } }
-    }
-}
-
-/// What stands at an index.
-fn known_at(before: &[Known], i: usize) -> Known
-    requires inside { i < length before.now }
-    ensures at { result ≡ get_or before.now i result }
-{
-    before[i]
-}
-
-/// The variable of the newest binding of a statement at a token.
-fn var_before(before: &[Known], at: u32) -> Option<u64>
-    ensures { option_map variable result ≡ newest_var at before.now }
-{
-    let mut left = before.len();
-    while left > 0 {
-        left -= 1;
-        let var = var_of(known_at(before, left), at);
-        if var.is_some() {
-            return var;
         }
     }
     None
@@ -142,7 +97,7 @@ impl<'n, 'a> Names<'n, 'a> {
     pub fn target(&self, at: u32) -> Option<Target>
         ensures { result ≡ (env_of self.now).targets at }
     {
-        target_at(self.targets, at)
+        self.targets.get(&at).copied()
     }
 
     /// The variable that is the type of the binding at a token.
@@ -151,7 +106,7 @@ impl<'n, 'a> Names<'n, 'a> {
     {
         match var_in(self.inner, at) {
             Some(var) => Some(var),
-            None => var_before(self.before, at),
+            None => self.before.var(at),
         }
     }
 

@@ -1,10 +1,14 @@
 //! What the inference of an expression's type sees and finds: names, uses, and the beginning of a call.
 #![tactic(auto)]
 
+mod bindings;
 mod calls;
 mod environment;
 mod leaves;
+mod targets;
 
+pub use bindings::Bindings;
 pub use calls::{Callee, begin_call};
 pub use environment::{FoundUse, Known, KnownDef, Names, TextKind, TextUse, TypedName};
 pub use leaves::{literal_type, push_use, some_if, type_name};
+pub use targets::target_table;

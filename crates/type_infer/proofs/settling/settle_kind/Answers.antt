@@ -1,4 +1,4 @@
-use Rattle.std.proofs.Common.{◌∙◌, refl, sym}
+use Rattle.std.proofs.Common.{◌∙◌, sym}
 use Rattle.type_infer.proofs.Overs.{is_source_term, kind_over, source_is_found}
 use Rattle.type_infer.proofs.Settled.{kind_settled}
 use Rattle.type_infer.proofs.settling.settle_kind.Goals as goal

@@ -1,27 +1,26 @@
-use Rattle.std.proofs.Common.{◌∙◌, ap, map, refl}
+use Rattle.std.proofs.Common.{◌∙◌, ap, refl}
 use Rattle.script_grammar.specs.View.{view_def}
-use Rattle.name_scope.specs.Noted.{resolved}
-use Rattle.typing_rules.specs.Scoping.{target_in}
+use Rattle.value_types.specs.Tables.{targets_of}
 use Rattle.type_infer.proofs.After.{def_more, def_no_more, env_is, holds_outside, seen_outside}
 use Rattle.type_infer.proofs.statements.type_function.Goals as goal
 
 pub type_def-requires-clause-seen : goal.type_def-requires-clause-seen
-type_def-requires-clause-seen c = seen_outside (target_in (map resolved c.args.targets.now)) c.args.typing.now c.outside-seen.result c.requires.ready
-    (env_is c.outside-seen.result (target_in (map resolved c.args.targets.now)) c.args.typing.now.before.items c.args.typing.now.defs.items (ap (λ x. target_in (map resolved x)) c.outside-seen.ensures.targets) c.outside-seen.ensures.inner (c.outside-seen.ensures.before ∙ c.deref.ensures.value) (c.outside-seen.ensures.defs ∙ c.deref-2.ensures.value))
-    (c.outside-seen.ensures.defs ∙ c.deref-2.ensures.value)
+type_def-requires-clause-seen c = seen_outside (targets_of c.args.targets.now) c.args.typing.now c.outside-seen.result c.requires.ready
+    (env_is c.outside-seen.result (targets_of c.args.targets.now) c.args.typing.now.before c.args.typing.now.defs.items (ap (λ x. targets_of x) c.outside-seen.ensures.targets) c.outside-seen.ensures.inner c.outside-seen.ensures.before (c.outside-seen.ensures.defs ∙ c.deref.ensures.value))
+    (c.outside-seen.ensures.defs ∙ c.deref.ensures.value)
 
 pub type_def-requires-clause-held : goal.type_def-requires-clause-held
-type_def-requires-clause-held c = holds_outside (target_in (map resolved c.args.targets.now)) c.args.typing.now c.outside-seen.result c.requires.ready
-    (env_is c.outside-seen.result (target_in (map resolved c.args.targets.now)) c.args.typing.now.before.items c.args.typing.now.defs.items (ap (λ x. target_in (map resolved x)) c.outside-seen.ensures.targets) c.outside-seen.ensures.inner (c.outside-seen.ensures.before ∙ c.deref.ensures.value) (c.outside-seen.ensures.defs ∙ c.deref-2.ensures.value))
+type_def-requires-clause-held c = holds_outside (targets_of c.args.targets.now) c.args.typing.now c.outside-seen.result c.requires.ready
+    (env_is c.outside-seen.result (targets_of c.args.targets.now) c.args.typing.now.before c.args.typing.now.defs.items (ap (λ x. targets_of x) c.outside-seen.ensures.targets) c.outside-seen.ensures.inner c.outside-seen.ensures.before (c.outside-seen.ensures.defs ∙ c.deref.ensures.value))
 
 pub returns-in-None : goal.returns-in-None
-returns-in-None c = def_no_more (target_in (map resolved c.args.targets.now)) (view_def c.args.def.now) c.args.typing.now c.outside-seen.result c.requires.ready
-    (env_is c.outside-seen.result (target_in (map resolved c.args.targets.now)) c.args.typing.now.before.items c.args.typing.now.defs.items (ap (λ x. target_in (map resolved x)) c.outside-seen.ensures.targets) c.outside-seen.ensures.inner (c.outside-seen.ensures.before ∙ c.deref.ensures.value) (c.outside-seen.ensures.defs ∙ c.deref-2.ensures.value))
+returns-in-None c = def_no_more (targets_of c.args.targets.now) (view_def c.args.def.now) c.args.typing.now c.outside-seen.result c.requires.ready
+    (env_is c.outside-seen.result (targets_of c.args.targets.now) c.args.typing.now.before c.args.typing.now.defs.items (ap (λ x. targets_of x) c.outside-seen.ensures.targets) c.outside-seen.ensures.inner c.outside-seen.ensures.before (c.outside-seen.ensures.defs ∙ c.deref.ensures.value))
     (rw c.in-None.is at c.in_ok-type_def.ensures.typed)
 
 pub returns-in_ok-keep_def-in-Some : goal.returns-in_ok-keep_def-in-Some
 returns-in_ok-keep_def-in-Some c =
-    def_more (target_in (map resolved c.args.targets.now)) c.args.def.now c.args.typing.now _ c.keep_def.new.typing c.outside-seen.result c.in-Some.typed c.requires.ready (record { held = refl; before = refl; defs = refl; steps = refl })
-    (env_is c.outside-seen.result (target_in (map resolved c.args.targets.now)) c.args.typing.now.before.items c.args.typing.now.defs.items (ap (λ x. target_in (map resolved x)) c.outside-seen.ensures.targets) c.outside-seen.ensures.inner (c.outside-seen.ensures.before ∙ c.deref.ensures.value) (c.outside-seen.ensures.defs ∙ c.deref-2.ensures.value))
-    (c.outside-seen.ensures.defs ∙ c.deref-2.ensures.value)
-    (rw c.in-Some.is at c.in_ok-type_def.ensures.typed) c.in_ok-check_def-in-Some.ensures (rw c.in-Some.is at c.in_ok-type_def.ensures.order) c.in_ok-keep_def-in-Some.ensures
+    def_more (targets_of c.args.targets.now) c.args.def.now c.args.typing.now _ c.keep_def.new.typing c.outside-seen.result c.in-Some.typed c.requires.ready (record { held = refl; before = refl; defs = refl; steps = refl })
+    (env_is c.outside-seen.result (targets_of c.args.targets.now) c.args.typing.now.before c.args.typing.now.defs.items (ap (λ x. targets_of x) c.outside-seen.ensures.targets) c.outside-seen.ensures.inner c.outside-seen.ensures.before (c.outside-seen.ensures.defs ∙ c.deref.ensures.value))
+    (c.outside-seen.ensures.defs ∙ c.deref.ensures.value)
+    (rw c.in-Some.is at c.in_ok-type_def.ensures.typed) (rw c.in-Some.is at c.in_ok-type_def.ensures.numbered) (rw c.in-Some.is at c.in_ok-type_def.ensures.order) c.in_ok-keep_def-in-Some.ensures

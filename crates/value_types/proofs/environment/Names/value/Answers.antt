@@ -4,4 +4,4 @@ use Rattle.value_types.proofs.Lookups.{value_older}
 use Rattle.value_types.proofs.environment.Names.value.Goals as goal
 
 pub returns-in-None : goal.returns-in-None
-returns-in-None c = value_older c.args.at c.args.self.now.defs.now c.args.self.now.before.now (term_at c.args.at (types_seen c.args.self.now.inner.now)) c.var_in.result c.var_before.result c.var_before.ensures c.var_in.ensures c.in-None.is
+returns-in-None c = value_older c.args.at c.args.self.now.defs.now c.args.self.now.before.now (term_at c.args.at (types_seen c.args.self.now.inner.now)) c.var_in.result c.var.result c.var.ensures c.var_in.ensures c.in-None.is
