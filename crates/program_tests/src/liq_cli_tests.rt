@@ -2,6 +2,7 @@
 use liq_base::{FreeGate, MemShelf, MemSink, Memory};
 use liq_cli::liq;
 use std::alloc::{AllocError, Global};
+use std::process::Abort;
 use std::test::Fail;
 
 const SCRIPT: &[u8] = b"output.file(%wav, \"A\", single(\"B\"))";
@@ -11,9 +12,6 @@ const ONE_TWO_THREE: &[u8] =
     b"RIFF\x2a\0\0\0WAVEfmt \x10\0\0\0\x01\0\x01\0\x44\xac\0\0\x88\x58\x01\0\x02\0\x10\0data\x06\0\0\0\x01\0\x02\0\x03\0";
 
 const FIRST_CYCLE: &[u8] = b"\x01\0\x01\0\x02\0\x02\0\x03\0\x03\0";
-
-const USAGE: &str =
-    "usage: check FILE | render FILE N [--one-thread] [--window=W] [--start=D:HH:MM:SS] [--trace=NAME] | make SEED SIZE\n";
 
 const REPORT: &str = "output A samples 1764 gaps 0\n";
 
@@ -25,19 +23,11 @@ struct Called {
     err: MemSink,
 }
 
-fn shelf(
-    alloc: Global,
-    script: Option<&[u8]>,
-    audio: Option<&[u8]>,
-) -> Result<MemShelf, AllocError> {
-    let mut files = Vec::new(alloc);
-    if let Some(script) = script {
-        files.push((String::from_str(alloc, "f")?, script.to_vec(alloc)?))?;
-    }
-    if let Some(audio) = audio {
-        files.push((String::from_str(alloc, "B")?, audio.to_vec(alloc)?))?;
-    }
-    Ok(MemShelf::new(alloc, files))
+// The script, and the audio file that it names.
+fn shelf(alloc: Global) -> Result<MemShelf, AllocError> {
+    let script = (String::from_str(alloc, "f")?, SCRIPT.to_vec(alloc)?);
+    let audio = (String::from_str(alloc, "B")?, ONE_TWO_THREE.to_vec(alloc)?);
+    Ok(MemShelf::new(alloc, vec![in alloc; script, audio]?))
 }
 
 fn call(
@@ -47,10 +37,8 @@ fn call(
     out_fails: Vec<(u64, u64)>,
 ) -> Result<Called, Memory> {
     let mut words = Vec::new(alloc);
-    if !line.is_empty() {
-        for word in line.split(' ') {
-            words.push(String::from_str(alloc, word)?)?;
-        }
+    for word in line.split(' ') {
+        words.push(String::from_str(alloc, word)?)?;
     }
     let mut out = MemSink::new(alloc, 1000, out_fails)?;
     let mut err = MemSink::new(alloc, 1000, Vec::new(alloc))?;
@@ -61,7 +49,7 @@ fn call(
 #[test]
 fn renders_with_ample_memory(rt: HostRuntime) -> Result<(), Fail> {
     let alloc = rt.alloc();
-    let mut shelf = shelf(alloc, Some(SCRIPT), Some(ONE_TWO_THREE))?;
+    let mut shelf = shelf(alloc)?;
     let called = call(alloc, "render f 1", &mut shelf, Vec::new(alloc))?;
     assert_eq!(rt; called.status, 0);
     assert_eq!(rt; called.out.held(), REPORT.as_bytes());
@@ -74,110 +62,6 @@ fn renders_with_ample_memory(rt: HostRuntime) -> Result<(), Fail> {
         assert!(rt; cycle.0 == cycle.1);
     }
     assert!(rt; output.ends_with(b"\x03\0\x03\0"));
-    Ok(())
-}
-
-#[test]
-fn no_tick_is_a_header_alone(rt: HostRuntime) -> Result<(), Fail> {
-    let alloc = rt.alloc();
-    let mut shelf = shelf(alloc, Some(SCRIPT), Some(ONE_TWO_THREE))?;
-    let called = call(alloc, "render f 0", &mut shelf, Vec::new(alloc))?;
-    assert_eq!(rt; called.status, 0);
-    assert_eq!(rt;
-        called.out.held(),
-        b"output A samples 0 gaps 0\n".as_slice()
-    );
-    let output = shelf.get("A").ok_or("no output")?;
-    assert_eq!(rt; output.len(), 44);
-    assert!(rt; output.starts_with(b"RIFF\x24\0\0\0WAVE"));
-    assert!(rt; output.ends_with(b"data\0\0\0\0"));
-    Ok(())
-}
-
-#[test]
-fn words_with_options_and_a_check_are_done(rt: HostRuntime) -> Result<(), Fail> {
-    let alloc = rt.alloc();
-    for (words, out, held) in [
-        ("check f", "output A clock main infallible\n", None),
-        ("render f 1 --start=7:23:59:59", REPORT, Some(7100)),
-    ] {
-        let mut shelf = shelf(alloc, Some(SCRIPT), Some(ONE_TWO_THREE))?;
-        let called = call(alloc, words, &mut shelf, Vec::new(alloc))?;
-        assert_eq!(rt; called.status, 0, "{words}");
-        assert_eq!(rt; called.out.held(), out.as_bytes(), "{words}");
-        assert_eq!(rt; called.err.held(), b"".as_slice(), "{words}");
-        assert_eq!(rt; shelf.get("A").map(|bytes| bytes.len()), held, "{words}");
-    }
-    Ok(())
-}
-
-#[test]
-fn each_refusal_has_its_line(rt: HostRuntime) -> Result<(), Fail> {
-    let alloc = rt.alloc();
-    for (script, audio, words, status, line) in [
-        (
-            None,
-            Some(ONE_TWO_THREE),
-            "render f 1",
-            1,
-            "E01 no script\n",
-        ),
-        (
-            Some(b"x = 1".as_slice()),
-            Some(ONE_TWO_THREE),
-            "render f 1",
-            1,
-            "E17 no output\n",
-        ),
-        (Some(SCRIPT), None, "render f 1", 1, "E20 missing file B\n"),
-        (
-            Some(SCRIPT),
-            Some(SCRIPT),
-            "check f",
-            1,
-            "E21 bad audio B: 1\n",
-        ),
-        (
-            Some(SCRIPT),
-            Some(ONE_TWO_THREE),
-            "render f 608700",
-            1,
-            "E29 output too long A\n",
-        ),
-        (Some(SCRIPT), Some(ONE_TWO_THREE), "render f 07", 2, USAGE),
-        (
-            Some(SCRIPT),
-            Some(ONE_TWO_THREE),
-            "render f 1000000001",
-            2,
-            USAGE,
-        ),
-        (
-            Some(SCRIPT),
-            Some(ONE_TWO_THREE),
-            "render f 1 --one-thread",
-            2,
-            USAGE,
-        ),
-        (
-            Some(SCRIPT),
-            Some(ONE_TWO_THREE),
-            "render f 1 --start=8:00:00:00",
-            2,
-            USAGE,
-        ),
-        (Some(SCRIPT), Some(ONE_TWO_THREE), "check f 1", 2, USAGE),
-        (Some(SCRIPT), Some(ONE_TWO_THREE), "check", 2, USAGE),
-        (Some(SCRIPT), Some(ONE_TWO_THREE), "", 2, USAGE),
-        (Some(SCRIPT), Some(ONE_TWO_THREE), "render f 1 1", 2, USAGE),
-    ] {
-        let mut shelf = shelf(alloc, script, audio)?;
-        let called = call(alloc, words, &mut shelf, Vec::new(alloc))?;
-        assert_eq!(rt; called.status, status, "{words}");
-        assert_eq!(rt; called.err.held(), line.as_bytes(), "{words}");
-        assert_eq!(rt; called.out.held(), b"".as_slice(), "{words}");
-        assert_eq!(rt; shelf.get("A"), None, "{words}");
-    }
     Ok(())
 }
 
@@ -198,30 +82,15 @@ enum Failing {
     SecondReport,
 }
 
-#[test]
-fn a_failing_call_leaves_a_prefix_and_others_are_not_made(rt: HostRuntime) -> Result<(), Fail> {
-    let alloc = rt.alloc();
-    for (failing, words, status, held, out) in [
-        (Failing::ReadOfScript, "render f 1", 3, None, ""),
-        (Failing::ReadOfAudio, "render f 1", 3, None, ""),
-        (Failing::Creation, "render f 1", 4, None, ""),
-        (Failing::FirstTick, "render f 1", 4, Some(49), ""),
-        (Failing::SecondTick, "render f 2", 4, Some(7106), ""),
-        (Failing::Closing, "render f 1", 4, None, ""),
-        (Failing::Report, "render f 1", 4, Some(7100), "outp"),
-        (Failing::ThirdRead, "render f 1", 0, Some(7100), REPORT),
-        (Failing::SecondCreation, "render f 1", 0, Some(7100), REPORT),
-        (
-            Failing::AppendBehindAll,
-            "render f 1",
-            0,
-            Some(7100),
-            REPORT,
-        ),
-        (Failing::SecondClosing, "render f 1", 0, Some(7100), REPORT),
-        (Failing::SecondReport, "render f 1", 0, Some(7100), REPORT),
-    ] {
-        let mut shelf = shelf(alloc, Some(SCRIPT), Some(ONE_TWO_THREE))?;
+// Each row: what fails, the words, the status, the bytes of the output and the report.
+fn check(
+    rt: &impl Abort,
+    alloc: Global,
+    rows: &[(Failing, &str, u8, Option<usize>, &str)],
+) -> Result<(), Fail> {
+    for row in rows {
+        let (failing, words, status, held, out) = *row;
+        let mut shelf = shelf(alloc)?;
         let mut fails = Vec::new(alloc);
         match failing {
             Failing::ReadOfScript => shelf.fail_read(0)?,
@@ -244,4 +113,24 @@ fn a_failing_call_leaves_a_prefix_and_others_are_not_made(rt: HostRuntime) -> Re
         assert_eq!(rt; called.err.held(), b"".as_slice());
     }
     Ok(())
+}
+
+#[test]
+fn a_failing_call_leaves_a_prefix_and_others_are_not_made(rt: HostRuntime) -> Result<(), Fail> {
+    let one = "render f 1";
+    let rows = [
+        (Failing::ReadOfScript, one, 3, None, ""),
+        (Failing::ReadOfAudio, one, 3, None, ""),
+        (Failing::Creation, one, 4, None, ""),
+        (Failing::FirstTick, one, 4, Some(49), ""),
+        (Failing::SecondTick, "render f 2", 4, Some(7106), ""),
+        (Failing::Closing, one, 4, None, ""),
+        (Failing::Report, one, 4, Some(7100), "outp"),
+        (Failing::ThirdRead, one, 0, Some(7100), REPORT),
+        (Failing::SecondCreation, one, 0, Some(7100), REPORT),
+        (Failing::AppendBehindAll, one, 0, Some(7100), REPORT),
+        (Failing::SecondClosing, one, 0, Some(7100), REPORT),
+        (Failing::SecondReport, one, 0, Some(7100), REPORT),
+    ];
+    check(&rt, rt.alloc(), &rows)
 }

@@ -6,6 +6,7 @@ use script_grammar::predicate::{PAtom, POr};
 use script_lex::{Token, lex};
 use std::alloc::{AllocError, Global};
 use std::fmt::Write;
+use std::process::Abort;
 use std::test::Fail;
 
 // An hour as the text that it is read from.
@@ -66,26 +67,32 @@ fn read(alloc: Global, source: &[u8]) -> Result<String, AllocError> {
     }
 }
 
+// Of each text this is read.
+fn check(rt: &impl Abort, alloc: Global, rows: &[(&str, &str)]) -> Result<(), Fail> {
+    for row in rows {
+        let (source, want) = *row;
+        assert_eq!(rt; read(alloc, source.as_bytes())?.as_str(), want);
+    }
+    Ok(())
+}
+
 #[test]
 fn and_binds_before_or_and_a_fault_is_the_first_token_that_cannot_go_on(
     rt: HostRuntime,
 ) -> Result<(), Fail> {
     let rows = [
-        (b"22h-6h}".as_slice(), "[ 22h-6h ] 1"),
+        ("22h-6h}", "[ 22h-6h ] 1"),
         (
-            b"2h or not true and 3h-4h or false}".as_slice(),
+            "2h or not true and 3h-4h or false}",
             "[ 2h ][ !true 3h-4h ][ false ] 1",
         ),
-        (b"not (2h or true) and 5h".as_slice(), "[ !() 5h ] 0"),
-        (b"".as_slice(), "fault 0"),
-        (b"2h - 3h or}".as_slice(), "fault 1"),
-        (b"2h - true and 3h".as_slice(), "fault 3"),
-        (b"not not true".as_slice(), "fault 2"),
-        (b"(2h or true".as_slice(), "fault 0"),
-        (b"(2h 3h)".as_slice(), "fault 2"),
+        ("not (2h or true) and 5h", "[ !() 5h ] 0"),
+        ("", "fault 0"),
+        ("2h - 3h or}", "fault 1"),
+        ("2h - true and 3h", "fault 3"),
+        ("not not true", "fault 2"),
+        ("(2h or true", "fault 0"),
+        ("(2h 3h)", "fault 2"),
     ];
-    for (source, want) in rows {
-        assert_eq!(rt; read(rt.alloc(), source)?.as_str(), want);
-    }
-    Ok(())
+    check(&rt, rt.alloc(), &rows)
 }

@@ -2,6 +2,7 @@
 use script_lex::{LexFault, Token, TokenKind, lex};
 use std::alloc::{AllocError, Global};
 use std::fmt::Write;
+use std::process::Abort;
 use std::test::Fail;
 
 fn part(alloc: Global, value: Option<u8>) -> Result<String, AllocError> {
@@ -59,6 +60,28 @@ fn lexed(alloc: Global, source: &[u8]) -> Result<String, AllocError> {
     }
 }
 
+// Each text has these tokens or this fault.
+fn check(rt: &impl Abort, alloc: Global, rows: &[(&[u8], &str)]) -> Result<(), Fail> {
+    for row in rows {
+        let (source, tokens) = *row;
+        assert_eq!(rt; lexed(alloc, source)?.as_str(), tokens, "{source:?}");
+    }
+    Ok(())
+}
+
+// The same of texts that are UTF-8.
+fn check_texts(rt: &impl Abort, alloc: Global, rows: &[(&str, &str)]) -> Result<(), Fail> {
+    for row in rows {
+        let (source, tokens) = *row;
+        assert_eq!(rt;
+            lexed(alloc, source.as_bytes())?.as_str(),
+            tokens,
+            "{source}"
+        );
+    }
+    Ok(())
+}
+
 #[test]
 fn words_and_signs(rt: HostRuntime) -> Result<(), Fail> {
     let rows = [
@@ -89,14 +112,7 @@ fn words_and_signs(rt: HostRuntime) -> Result<(), Fail> {
         ("%wav(", "Wav@0..4 OpenRound@4..5 "),
         ("é", "BadByte(0)"),
     ];
-    for (source, tokens) in rows {
-        assert_eq!(rt;
-            lexed(rt.alloc(), source.as_bytes())?.as_str(),
-            tokens,
-            "{source}"
-        );
-    }
-    Ok(())
+    check_texts(&rt, rt.alloc(), &rows)
 }
 
 #[test]
@@ -113,14 +129,7 @@ fn numbers(rt: HostRuntime) -> Result<(), Fail> {
         ("x 1000000000.000001", "NumberTooLarge(2)"),
         ("1.5h", "Number(1500000)@0..3 Name(h)@3..4 "),
     ];
-    for (source, tokens) in rows {
-        assert_eq!(rt;
-            lexed(rt.alloc(), source.as_bytes())?.as_str(),
-            tokens,
-            "{source}"
-        );
-    }
-    Ok(())
+    check_texts(&rt, rt.alloc(), &rows)
 }
 
 #[test]
@@ -142,14 +151,7 @@ fn times(rt: HostRuntime) -> Result<(), Fail> {
         ("5m30", "Time(-,-,5,-)@0..2 Int(30)@2..4 "),
         ("5s3m", "Time(-,-,-,5)@0..2 Time(-,-,3,-)@2..4 "),
     ];
-    for (source, tokens) in rows {
-        assert_eq!(rt;
-            lexed(rt.alloc(), source.as_bytes())?.as_str(),
-            tokens,
-            "{source}"
-        );
-    }
-    Ok(())
+    check_texts(&rt, rt.alloc(), &rows)
 }
 
 #[test]
@@ -184,10 +186,7 @@ fn texts_blanks_and_comments(rt: HostRuntime) -> Result<(), Fail> {
         (b"a\x0b".as_slice(), "BadByte(1)"),
         (b"1.0000000 $ \"".as_slice(), "NumberTooLarge(0)"),
     ];
-    for (source, tokens) in rows {
-        assert_eq!(rt; lexed(rt.alloc(), source)?.as_str(), tokens, "{source:?}");
-    }
-    Ok(())
+    check(&rt, rt.alloc(), &rows)
 }
 
 fn filled(alloc: Global, byte: u8, count: usize) -> Result<Vec<u8>, AllocError> {
@@ -218,18 +217,17 @@ fn long_digits_and_long_scripts(rt: HostRuntime) -> Result<(), Fail> {
 
 #[test]
 fn faults_are_printed(rt: HostRuntime) -> Result<(), Fail> {
-    let rows = [
-        (LexFault::BadByte(3), "a byte that may not stand here, at 3"),
-        (
-            LexFault::UnclosedString(0),
-            "a text without its closing quote, at 0",
-        ),
-        (LexFault::NumberTooLarge(7), "a number past its bound, at 7"),
-        (LexFault::TextTooLong, "a script of more than 1048576 bytes"),
-        (LexFault::Memory, "out of memory"),
-    ];
-    for (fault, text) in rows {
-        assert_eq!(rt; format!(in rt.alloc(); "{fault}")?.as_str(), text);
-    }
+    let first = LexFault::BadByte(3);
+    let second = LexFault::UnclosedString(0);
+    let third = LexFault::NumberTooLarge(7);
+    let text = format!(in rt.alloc();
+        "{first}; {second}; {third}; {}; {}",
+        LexFault::TextTooLong,
+        LexFault::Memory
+    )?;
+    assert_eq!(rt;
+        text.as_str(),
+        "a byte that may not stand here, at 3; a text without its closing quote, at 0; a number past its bound, at 7; a script of more than 1048576 bytes; out of memory"
+    );
     Ok(())
 }

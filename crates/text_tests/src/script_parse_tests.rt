@@ -5,6 +5,7 @@ use script_lex::{Token, lex};
 use script_parse::{ParseFault, parse};
 use std::alloc::{AllocError, Global};
 use std::fmt::Write;
+use std::process::Abort;
 use std::test::Fail;
 
 fn tokens(alloc: Global, source: &[u8]) -> Vec<Token> {
@@ -41,6 +42,15 @@ fn answer(alloc: Global, source: &str) -> Result<String, AllocError> {
         Ok(script) => String::from_str(alloc, spelled(alloc, &script, &tokens)?),
         Err(fault) => format!(in alloc; "{fault:?}"),
     }
+}
+
+// Each text has this answer.
+fn check(rt: &impl Abort, alloc: Global, rows: &[(&str, &str)]) -> Result<(), Fail> {
+    for row in rows {
+        let (source, want) = *row;
+        assert_eq!(rt; answer(alloc, source)?.as_str(), want, "{source}");
+    }
+    Ok(())
 }
 
 #[test]
@@ -80,10 +90,7 @@ fn scripts_and_no_scripts(rt: HostRuntime) -> Result<(), Fail> {
         ("x = -3 * 2", "Syntax(4)"),
         ("f(1) + 2", "Syntax(3)"),
     ];
-    for (source, want) in rows {
-        assert_eq!(rt; answer(rt.alloc(), source)?.as_str(), want, "{source}");
-    }
-    Ok(())
+    check(&rt, rt.alloc(), &rows)
 }
 
 // So many openings, what stands between, and so many closings.
@@ -104,25 +111,34 @@ fn nested(
     Ok(text)
 }
 
-#[test]
-fn two_hundred_levels_and_no_more(rt: HostRuntime) -> Result<(), Fail> {
-    let alloc = rt.alloc();
-    let rows = [
-        (("(", 200), "1", (")", 200), "script"),
-        (("[", 200), "1", ("]", 200), "script"),
-        (("f(", 200), "1", (")", 200), "script"),
-        (("if ", 200), "a", (" then b else c end", 200), "script"),
-        (("(", 200), "1", (")", 199), "Syntax(402)"),
-        (("(", 201), "1", (")", 201), "TooDeep(202)"),
-        (("(", 201), "", (")", 0), "TooDeep(202)"),
-        (("(", 200), "+ (1", (")", 201), "Syntax(202)"),
-        (("(", 200), "1 (1", (")", 201), "Syntax(203)"),
-    ];
-    for (open, between, close, want) in rows {
-        let source = nested(alloc, open, between, close)?;
+// Each text of so many openings, what stands between and so many closings has this answer.
+fn check_nested(
+    rt: &impl Abort,
+    alloc: Global,
+    rows: &[(&str, usize, &str, &str, usize, &str)],
+) -> Result<(), Fail> {
+    for row in rows {
+        let (open, opened, between, close, closed, want) = *row;
+        let source = nested(alloc, (open, opened), between, (close, closed))?;
         assert_eq!(rt; answer(alloc, source.as_str())?.as_str(), want);
     }
     Ok(())
+}
+
+#[test]
+fn two_hundred_levels_and_no_more(rt: HostRuntime) -> Result<(), Fail> {
+    let rows = [
+        ("(", 200, "1", ")", 200, "script"),
+        ("[", 200, "1", "]", 200, "script"),
+        ("f(", 200, "1", ")", 200, "script"),
+        ("if ", 200, "a", " then b else c end", 200, "script"),
+        ("(", 200, "1", ")", 199, "Syntax(402)"),
+        ("(", 201, "1", ")", 201, "TooDeep(202)"),
+        ("(", 201, "", ")", 0, "TooDeep(202)"),
+        ("(", 200, "+ (1", ")", 201, "Syntax(202)"),
+        ("(", 200, "1 (1", ")", 201, "Syntax(203)"),
+    ];
+    check_nested(&rt, rt.alloc(), &rows)
 }
 
 // How many statements a script of so many times `x=1;` has, and the place of the last one's name.
@@ -155,20 +171,12 @@ fn the_longest_script(rt: HostRuntime) -> Result<(), Fail> {
 
 #[test]
 fn faults_are_printed(rt: HostRuntime) -> Result<(), Fail> {
-    let alloc = rt.alloc();
-    let rows = [
-        (
-            ParseFault::Syntax(4),
-            "no script begins with the tokens up to token 4",
-        ),
-        (
-            ParseFault::TooDeep(202),
-            "more than 200 levels are nested at token 202",
-        ),
-        (ParseFault::Memory, "out of memory"),
-    ];
-    for (fault, want) in rows {
-        assert_eq!(rt; format!(in alloc; "{fault}")?.as_str(), want);
-    }
+    let first = ParseFault::Syntax(4);
+    let second = ParseFault::TooDeep(202);
+    let text = format!(in rt.alloc(); "{first}; {second}; {}", ParseFault::Memory)?;
+    assert_eq!(rt;
+        text.as_str(),
+        "no script begins with the tokens up to token 4; more than 200 levels are nested at token 202; out of memory"
+    );
     Ok(())
 }

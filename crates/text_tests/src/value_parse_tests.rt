@@ -6,6 +6,7 @@ use script_grammar::tree::{self, Full, Literal};
 use script_lex::{Token, lex};
 use std::alloc::{AllocError, Global};
 use std::fmt::Write;
+use std::process::Abort;
 use std::test::Fail;
 use value_parse::{call, choice, result, value};
 
@@ -73,23 +74,29 @@ fn read(alloc: Global, loose: bool, source: &[u8]) -> Result<String, AllocError>
     }
 }
 
+// Of each text this is read, where a format is loose or not.
+fn check(rt: &impl Abort, alloc: Global, rows: &[(bool, &str, &str)]) -> Result<(), Fail> {
+    for row in rows {
+        let (loose, source, want) = *row;
+        assert_eq!(rt; read(alloc, loose, source.as_bytes())?.as_str(), want);
+    }
+    Ok(())
+}
+
 #[test]
 fn brackets_hold_values_and_a_loose_format_leaves_a_tuple(rt: HostRuntime) -> Result<(), Fail> {
     let rows = [
-        (false, b"()".as_slice(), "nothing, 0"),
-        (false, b"(1)".as_slice(), "parentheses, 0"),
-        (false, b"(1, 2) x".as_slice(), "tuple of 2, 1"),
-        (false, b"[1, -2, [3]]".as_slice(), "list of 3, 0"),
-        (false, b"1 - -2".as_slice(), "fault 2"),
-        (false, b"-2 - 1".as_slice(), "negative, 2"),
-        (true, b"%wav(samplesize=16)".as_slice(), "wav of 16, 0"),
-        (true, b"%wav (1, 2)".as_slice(), "wav, 5"),
-        (false, b"%wav (1, 2)".as_slice(), "fault 4"),
+        (false, "()", "nothing, 0"),
+        (false, "(1)", "parentheses, 0"),
+        (false, "(1, 2) x", "tuple of 2, 1"),
+        (false, "[1, -2, [3]]", "list of 3, 0"),
+        (false, "1 - -2", "fault 2"),
+        (false, "-2 - 1", "negative, 2"),
+        (true, "%wav(samplesize=16)", "wav of 16, 0"),
+        (true, "%wav (1, 2)", "wav, 5"),
+        (false, "%wav (1, 2)", "fault 4"),
     ];
-    for (loose, source, want) in rows {
-        assert_eq!(rt; read(rt.alloc(), loose, source)?.as_str(), want);
-    }
-    Ok(())
+    check(&rt, rt.alloc(), &rows)
 }
 
 // Each argument of the call: its label, and its value's first operand.
