@@ -142,16 +142,6 @@ impl<'a> TakeEnd<'a> {
     }
 }
 
-// How many answers are true, and how many are not.
-fn counted(answers: &[bool]) -> (u64, u64)
-    ensures yes { result.0 ≡ count_by yes answers.now }
-    ensures no { result.1 ≡ count_by not answers.now }
-{
-    let yes = answers.iter().filter(|answer| **answer).count() as u64;
-    let no = answers.iter().filter(|answer| !**answer).count() as u64;
-    (yes, no)
-}
-
 // The counts of a buffer with those of the puts of its end, if one is there.
 pub(crate) fn with_puts(ends: &Vec<PutEnd<'_>>, buffer: u32, counts: Counts) -> Counts
     requires { Apart ends.now.items }
@@ -245,4 +235,14 @@ pub(crate) fn take_at<R: Wait>(
     ensures apart { Apart ends.old.items → Apart ends.new.items }
 {
     ends[place].take(rt)
+}
+
+// How many answers are true, and how many are not.
+fn counted(answers: &[bool]) -> (u64, u64)
+    ensures yes { result.0 ≡ count_by yes answers.now }
+    ensures no { result.1 ≡ count_by not answers.now }
+{
+    let yes = answers.iter().filter(|answer| **answer).count() as u64;
+    let no = answers.iter().filter(|answer| !**answer).count() as u64;
+    (yes, no)
 }

@@ -204,18 +204,6 @@ pub(crate) fn close_all(alloc: Global, lists: &mut Vec<LocalList>) -> Result<(),
     Ok(())
 }
 
-// Opens the windows again that were closed last, of the first lists.
-fn reopen_first(lists: &mut Vec<LocalList>, many: usize)
-    requires { (bs : List LocalBuffer) × (many ≤ length bs) × (lists.old.items ≡ closed_first many bs) }
-    ensures { (bs : List LocalBuffer) → many ≤ length bs → lists.old.items ≡ closed_first many bs → lists.new.items ≡ bs }
-{
-    let mut left = many;
-    while left > 0 {
-        left -= 1;
-        lists[left].reopen();
-    }
-}
-
 // The closed windows of each list, in a list that has room for them.
 pub(crate) fn into_logs(lists: Vec<LocalList>, mut logs: Vec<BufferLog>) -> Vec<BufferLog>
     requires empty { logs.items ≡ [] }
@@ -226,4 +214,16 @@ pub(crate) fn into_logs(lists: Vec<LocalList>, mut logs: Vec<BufferLog>) -> Vec<
         logs.push_reserved(list.into_log());
     }
     logs
+}
+
+// Opens the windows again that were closed last, of the first lists.
+fn reopen_first(lists: &mut Vec<LocalList>, many: usize)
+    requires { (bs : List LocalBuffer) × (many ≤ length bs) × (lists.old.items ≡ closed_first many bs) }
+    ensures { (bs : List LocalBuffer) → many ≤ length bs → lists.old.items ≡ closed_first many bs → lists.new.items ≡ bs }
+{
+    let mut left = many;
+    while left > 0 {
+        left -= 1;
+        lists[left].reopen();
+    }
 }

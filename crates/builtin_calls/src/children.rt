@@ -15,48 +15,6 @@ use plan_core::{Draft, Items, Op, Preds};
 use script_values::{Fault, Given, Machine, Value};
 use std::alloc::Global;
 
-// The next plain parameter, a list of sources, not too many of them.
-#[tactic(auto, unfolding(crate::specs::Builtins::few_sources))]
-fn few_sources(
-    alloc: Global,
-    plan: &Draft,
-    kind: Kind,
-    given: &mut Vec<Given>,
-) -> Result<Vec<u32>, Fault>
-    ensures given { Gives (λ ns. ns.items) result (few_sources plan.now.nodes kind (map view_given given.old.items)) }
-    ensures there { IfOk result (λ ns. All (λ n. n < length plan.now.nodes) ns.items) }
-    ensures short { IfOk result (λ ns. length ns.items ≤ MAX_CHILDREN) }
-{
-    let sources = plain_sources(alloc, plan, kind, given)?;
-    few(&sources)?;
-    Ok(sources)
-}
-
-// The next plain parameter, a list of predicates and sources, not too many of them.
-#[tactic(auto, unfolding(crate::specs::Builtins::few_pairs))]
-fn few_pairs(
-    alloc: Global,
-    plan: &Draft,
-    kind: Kind,
-    given: &mut Vec<Given>,
-) -> Result<Pairs, Fault>
-    ensures given { Gives (λ ps. (map view_pred ps.preds.items, ps.sources.items)) result (few_pairs plan.now.nodes kind (map view_given given.old.items)) }
-    ensures there { IfOk result (λ ps. All (λ n. n < length plan.now.nodes) ps.sources.items) }
-    ensures short { IfOk result (λ ps. length ps.sources.items ≤ MAX_CHILDREN) }
-{
-    let pairs = plain_pairs(alloc, plan, kind, given)?;
-    few(&pairs.sources)?;
-    Ok(pairs)
-}
-
-// Whether a child plays on to the end of its track.
-#[tactic(auto, unfolding(crate::specs::Builtins::sensitive_or))]
-fn sensitive_or(given: &mut Vec<Given>) -> Result<bool, Fault>
-    ensures { Gives (λ b. (b, map view_given given.new.items)) result (sensitive_or (map view_given given.old.items)) }
-{
-    bool_or(given, "track_sensitive", true)
-}
-
 /// `fallback(track_sensitive=true, sources)`.
 #[tactic(auto, unfolding(crate::specs::Builtins::fallback))]
 pub(crate) fn fallback(
@@ -142,4 +100,46 @@ pub(crate) fn sum(
         Items::from_vec(children),
     )?;
     Ok(made)
+}
+
+// The next plain parameter, a list of sources, not too many of them.
+#[tactic(auto, unfolding(crate::specs::Builtins::few_sources))]
+fn few_sources(
+    alloc: Global,
+    plan: &Draft,
+    kind: Kind,
+    given: &mut Vec<Given>,
+) -> Result<Vec<u32>, Fault>
+    ensures given { Gives (λ ns. ns.items) result (few_sources plan.now.nodes kind (map view_given given.old.items)) }
+    ensures there { IfOk result (λ ns. All (λ n. n < length plan.now.nodes) ns.items) }
+    ensures short { IfOk result (λ ns. length ns.items ≤ MAX_CHILDREN) }
+{
+    let sources = plain_sources(alloc, plan, kind, given)?;
+    few(&sources)?;
+    Ok(sources)
+}
+
+// The next plain parameter, a list of predicates and sources, not too many of them.
+#[tactic(auto, unfolding(crate::specs::Builtins::few_pairs))]
+fn few_pairs(
+    alloc: Global,
+    plan: &Draft,
+    kind: Kind,
+    given: &mut Vec<Given>,
+) -> Result<Pairs, Fault>
+    ensures given { Gives (λ ps. (map view_pred ps.preds.items, ps.sources.items)) result (few_pairs plan.now.nodes kind (map view_given given.old.items)) }
+    ensures there { IfOk result (λ ps. All (λ n. n < length plan.now.nodes) ps.sources.items) }
+    ensures short { IfOk result (λ ps. length ps.sources.items ≤ MAX_CHILDREN) }
+{
+    let pairs = plain_pairs(alloc, plan, kind, given)?;
+    few(&pairs.sources)?;
+    Ok(pairs)
+}
+
+// Whether a child plays on to the end of its track.
+#[tactic(auto, unfolding(crate::specs::Builtins::sensitive_or))]
+fn sensitive_or(given: &mut Vec<Given>) -> Result<bool, Fault>
+    ensures { Gives (λ b. (b, map view_given given.new.items)) result (sensitive_or (map view_given given.old.items)) }
+{
+    bool_or(given, "track_sensitive", true)
 }

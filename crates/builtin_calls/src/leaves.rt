@@ -30,16 +30,6 @@ pub(crate) fn single(
     Ok(made)
 }
 
-// The one mode of a playlist.
-fn is_normal(at: u32, mode: &str) -> Result<(), Fault>
-    ensures { Gives (λ _. tt) result (is_normal at mode.now) }
-{
-    if mode == "normal" {
-        return Ok(());
-    }
-    Err(Fault::BadValue(at))
-}
-
 /// `playlist(loop=true, mode="normal", file)`.
 #[tactic(auto, unfolding(crate::specs::Builtins::playlist))]
 pub(crate) fn playlist(
@@ -113,4 +103,14 @@ pub(crate) fn fail(alloc: Global, kinds: &[Kind], machine: &mut Machine) -> Resu
     let kind = one_kind(kinds)?;
     let made = add(machine, Op::Fail, kind, Items::new(alloc))?;
     Ok(made)
+}
+
+// The one mode of a playlist.
+fn is_normal(at: u32, mode: &str) -> Result<(), Fault>
+    ensures { Gives (λ _. tt) result (is_normal at mode.now) }
+{
+    if mode == "normal" {
+        return Ok(());
+    }
+    Err(Fault::BadValue(at))
 }

@@ -14,6 +14,25 @@ use liq_base::{Kind, Text};
 use plan_core::SinkPlan;
 use script_values::{Fault, Given, Limit, Machine, Value};
 
+/// `output.file(fallible=false, format, name, s)`.
+#[tactic(auto, unfolding(crate::specs::Builtins::output_file))]
+pub(crate) fn output_file(
+    kinds: &[Kind],
+    given: Vec<Given>,
+    machine: &mut Machine,
+) -> Result<Value, Fault>
+    ensures { Gives (λ v. (view_value v, machine.new)) result (output_file kinds.now (map view_given given.items) machine.old) }
+{
+    let mut rest = given;
+    let fallible = bool_or(&mut rest, "fallible", false)?;
+    plain_format(&mut rest)?;
+    let name = plain_text(&mut rest)?;
+    let kind = one_kind(kinds)?;
+    let source = plain_source(&machine.plan, kind, &mut rest)?;
+    let done = add_output(machine, name, source, fallible)?;
+    Ok(done)
+}
+
 fn is_output(sink: &SinkPlan) -> bool
     ensures { result ≡ is_output sink.now }
 {
@@ -70,23 +89,4 @@ fn add_output(machine: &mut Machine, name: Text, node: u32, fallible: bool) -> R
     }
     machine.plan.push_output(name, node, fallible)?;
     Ok(Value::Nothing)
-}
-
-/// `output.file(fallible=false, format, name, s)`.
-#[tactic(auto, unfolding(crate::specs::Builtins::output_file))]
-pub(crate) fn output_file(
-    kinds: &[Kind],
-    given: Vec<Given>,
-    machine: &mut Machine,
-) -> Result<Value, Fault>
-    ensures { Gives (λ v. (view_value v, machine.new)) result (output_file kinds.now (map view_given given.items) machine.old) }
-{
-    let mut rest = given;
-    let fallible = bool_or(&mut rest, "fallible", false)?;
-    plain_format(&mut rest)?;
-    let name = plain_text(&mut rest)?;
-    let kind = one_kind(kinds)?;
-    let source = plain_source(&machine.plan, kind, &mut rest)?;
-    let done = add_output(machine, name, source, fallible)?;
-    Ok(done)
 }

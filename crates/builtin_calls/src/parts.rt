@@ -19,46 +19,6 @@ pub(crate) fn one_kind(kinds: &[Kind]) -> Result<Kind, Fault>
     }
 }
 
-#[tactic(auto, unfolding(crate::specs::Parts::text_of))]
-fn text_of(value: Value) -> Result<Text, Fault>
-    ensures { Gives (λ t. t) result (text_of (view_value value)) }
-{
-    match value {
-        Value::Text(text) => Ok(text),
-        _ => Err(Fault::Stuck),
-    }
-}
-
-#[tactic(auto, unfolding(crate::specs::Parts::decimal_of))]
-fn decimal_of(value: &Value) -> Result<Decimal, Fault>
-    ensures { Gives (λ d. d) result (decimal_of (view_value value.now)) }
-{
-    match value {
-        Value::Decimal(number) => Ok(*number),
-        _ => Err(Fault::Stuck),
-    }
-}
-
-#[tactic(auto, unfolding(crate::specs::Parts::bool_of))]
-fn bool_of(value: &Value) -> Result<bool, Fault>
-    ensures { Gives (λ b. b) result (bool_of (view_value value.now)) }
-{
-    match value {
-        Value::Truth(truth) => Ok(*truth),
-        _ => Err(Fault::Stuck),
-    }
-}
-
-#[tactic(auto, unfolding(crate::specs::Parts::format_of))]
-fn format_of(value: &Value) -> Result<(), Fault>
-    ensures { Gives (λ _. tt) result (format_of (view_value value.now)) }
-{
-    match value {
-        Value::Format => Ok(()),
-        _ => Err(Fault::Stuck),
-    }
-}
-
 /// The value of the next plain parameter.
 #[tactic(auto, unfolding(crate::specs::Parts::plain))]
 pub(crate) fn plain(given: &mut Vec<Given>) -> Result<Value, Fault>
@@ -143,5 +103,45 @@ pub(crate) fn text_or(given: &mut Vec<Given>, label: &str, default: Text) -> Res
             let text = text_of(value)?;
             Ok(text)
         }
+    }
+}
+
+#[tactic(auto, unfolding(crate::specs::Parts::text_of))]
+fn text_of(value: Value) -> Result<Text, Fault>
+    ensures { Gives (λ t. t) result (text_of (view_value value)) }
+{
+    match value {
+        Value::Text(text) => Ok(text),
+        _ => Err(Fault::Stuck),
+    }
+}
+
+#[tactic(auto, unfolding(crate::specs::Parts::decimal_of))]
+fn decimal_of(value: &Value) -> Result<Decimal, Fault>
+    ensures { Gives (λ d. d) result (decimal_of (view_value value.now)) }
+{
+    match value {
+        Value::Decimal(number) => Ok(*number),
+        _ => Err(Fault::Stuck),
+    }
+}
+
+#[tactic(auto, unfolding(crate::specs::Parts::bool_of))]
+fn bool_of(value: &Value) -> Result<bool, Fault>
+    ensures { Gives (λ b. b) result (bool_of (view_value value.now)) }
+{
+    match value {
+        Value::Truth(truth) => Ok(*truth),
+        _ => Err(Fault::Stuck),
+    }
+}
+
+#[tactic(auto, unfolding(crate::specs::Parts::format_of))]
+fn format_of(value: &Value) -> Result<(), Fault>
+    ensures { Gives (λ _. tt) result (format_of (view_value value.now)) }
+{
+    match value {
+        Value::Format => Ok(()),
+        _ => Err(Fault::Stuck),
     }
 }

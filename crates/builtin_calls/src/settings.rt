@@ -11,6 +11,18 @@ use fixed_text::Decimal;
 use liq_base::limits::{MAX_RATE, MIN_RATE};
 use script_values::{Fault, Given, Machine, Value};
 
+/// `set(key, value)`.
+#[tactic(auto, unfolding(crate::specs::Builtins::set))]
+pub(crate) fn set(given: Vec<Given>, machine: &mut Machine) -> Result<Value, Fault>
+    ensures { Gives (λ v. (view_value v, machine.new)) result (set (map view_given given.items) machine.old) }
+{
+    let mut rest = given;
+    let key = plain_text(&mut rest)?;
+    let value = plain(&mut rest)?;
+    let done = setting(machine, key.as_str(), &value)?;
+    Ok(done)
+}
+
 // A setting may stand here; it is the last one so far.
 fn opened(machine: &mut Machine) -> Result<(), Fault>
     ensures { Gives (λ _. machine.new) result (opened machine.old) }
@@ -87,16 +99,4 @@ fn setting(machine: &mut Machine, key: &str, value: &Value) -> Result<Value, Fau
         return set_duration(machine, value);
     }
     Ok(Value::Nothing)
-}
-
-/// `set(key, value)`.
-#[tactic(auto, unfolding(crate::specs::Builtins::set))]
-pub(crate) fn set(given: Vec<Given>, machine: &mut Machine) -> Result<Value, Fault>
-    ensures { Gives (λ v. (view_value v, machine.new)) result (set (map view_given given.items) machine.old) }
-{
-    let mut rest = given;
-    let key = plain_text(&mut rest)?;
-    let value = plain(&mut rest)?;
-    let done = setting(machine, key.as_str(), &value)?;
-    Ok(done)
 }

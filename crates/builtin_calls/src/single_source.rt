@@ -84,17 +84,6 @@ pub(crate) fn crossfade(
     Ok(made)
 }
 
-// The overlap of a crossfade of this source, in samples.
-#[tactic(auto, unfolding(crate::specs::Builtins::short_overlap))]
-fn short_overlap(at: u32, plan: &Draft, source: u32, duration: Decimal) -> Result<u32, Fault>
-    ensures { Gives (λ n. n) result (short_overlap at source duration plan.now) }
-{
-    let samples = overlap_of(at, plan.plan().rate, duration)?;
-    room_over(plan, source)?;
-    let overlap = at_most(MAX_OVERLAP, Limit::Overlap, samples)?;
-    Ok(overlap)
-}
-
 /// `mksafe(s)`: an endless blank, and a fallback to it.
 #[tactic(auto, unfolding(crate::specs::Builtins::mksafe))]
 pub(crate) fn mksafe(
@@ -109,22 +98,6 @@ pub(crate) fn mksafe(
     let kind = one_kind(kinds)?;
     let source = plain_source(&machine.plan, kind, &mut rest)?;
     let made = safe(alloc, machine, kind, source)?;
-    Ok(made)
-}
-
-#[tactic(auto, unfolding(crate::specs::Builtins::safe))]
-fn safe(alloc: Global, machine: &mut Machine, kind: Kind, source: u32) -> Result<Value, Fault>
-    requires { source < length machine.old.plan.nodes }
-    ensures { Gives (λ v. (view_value v, machine.new)) result (safe kind source machine.old) }
-{
-    let blank = Node {
-        op: Op::Blank { track: 0 },
-        kind,
-        children: Items::new(alloc),
-    };
-    let silence = push(machine, blank)?;
-    let children = two_children(alloc, source, silence)?;
-    let made = add(machine, Op::Fallback { sensitive: false }, kind, children)?;
     Ok(made)
 }
 
@@ -149,23 +122,6 @@ pub(crate) fn buffer(
     Ok(made)
 }
 
-// A buffer whose reader holds this time before it plays, and that holds at most the other time.
-#[tactic(auto, unfolding(crate::specs::Builtins::buffer_plan))]
-fn buffer_plan(at: u32, plan: &Draft, held: Decimal, most: Decimal) -> Result<BufferPlan, Fault>
-    ensures { Gives (λ b. b) result (buffer_plan at held most plan.now) }
-{
-    let rate = plan.plan().rate;
-    let samples = samples_of(at, rate, held)?;
-    let room = samples_of(at, rate, most)?;
-    let pre = at_most(MAX_PREFILL, Limit::Prefill, samples)?;
-    let whole = chunks(room, plan.plan().frame);
-    let capacity = at_most(MAX_CAPACITY, Limit::Capacity, whole)?;
-    Ok(BufferPlan {
-        pre: u64::from(pre),
-        capacity,
-    })
-}
-
 /// `clock(id="", s)`.
 #[tactic(auto, unfolding(crate::specs::Builtins::clock))]
 pub(crate) fn clock(
@@ -184,4 +140,48 @@ pub(crate) fn clock(
     let children = one_child(alloc, source)?;
     let made = add(machine, Op::Clock(id), kind, children)?;
     Ok(made)
+}
+
+// The overlap of a crossfade of this source, in samples.
+#[tactic(auto, unfolding(crate::specs::Builtins::short_overlap))]
+fn short_overlap(at: u32, plan: &Draft, source: u32, duration: Decimal) -> Result<u32, Fault>
+    ensures { Gives (λ n. n) result (short_overlap at source duration plan.now) }
+{
+    let samples = overlap_of(at, plan.plan().rate, duration)?;
+    room_over(plan, source)?;
+    let overlap = at_most(MAX_OVERLAP, Limit::Overlap, samples)?;
+    Ok(overlap)
+}
+
+#[tactic(auto, unfolding(crate::specs::Builtins::safe))]
+fn safe(alloc: Global, machine: &mut Machine, kind: Kind, source: u32) -> Result<Value, Fault>
+    requires { source < length machine.old.plan.nodes }
+    ensures { Gives (λ v. (view_value v, machine.new)) result (safe kind source machine.old) }
+{
+    let blank = Node {
+        op: Op::Blank { track: 0 },
+        kind,
+        children: Items::new(alloc),
+    };
+    let silence = push(machine, blank)?;
+    let children = two_children(alloc, source, silence)?;
+    let made = add(machine, Op::Fallback { sensitive: false }, kind, children)?;
+    Ok(made)
+}
+
+// A buffer whose reader holds this time before it plays, and that holds at most the other time.
+#[tactic(auto, unfolding(crate::specs::Builtins::buffer_plan))]
+fn buffer_plan(at: u32, plan: &Draft, held: Decimal, most: Decimal) -> Result<BufferPlan, Fault>
+    ensures { Gives (λ b. b) result (buffer_plan at held most plan.now) }
+{
+    let rate = plan.plan().rate;
+    let samples = samples_of(at, rate, held)?;
+    let room = samples_of(at, rate, most)?;
+    let pre = at_most(MAX_PREFILL, Limit::Prefill, samples)?;
+    let whole = chunks(room, plan.plan().frame);
+    let capacity = at_most(MAX_CAPACITY, Limit::Capacity, whole)?;
+    Ok(BufferPlan {
+        pre: u64::from(pre),
+        capacity,
+    })
 }

@@ -14,6 +14,56 @@ use script_values::{Fault, Given, Value};
 use std::alloc::Global;
 use time_pred::Pred;
 
+/// The sources of a `switch`, and the predicate of each.
+#[derive(Drop)]
+pub(crate) struct Pairs {
+    pub(crate) preds: Vec<Pred>,
+    pub(crate) sources: Vec<u32>,
+}
+
+/// The next plain parameter, a source of this kind, by the number of its node.
+#[tactic(auto, unfolding(crate::specs::Parts::plain_source))]
+pub(crate) fn plain_source(plan: &Draft, kind: Kind, given: &mut Vec<Given>) -> Result<u32, Fault>
+    ensures given { Gives (λ n. (n, map view_given given.new.items)) result (plain_source plan.now.nodes kind (map view_given given.old.items)) }
+    ensures there { IfOk result (λ n. n < length plan.now.nodes) }
+{
+    let value = plain(given)?;
+    let source = source_of(plan, kind, &value)?;
+    Ok(source)
+}
+
+/// The next plain parameter, a list of sources of this kind.
+#[tactic(auto, unfolding(crate::specs::Parts::plain_sources))]
+pub(crate) fn plain_sources(
+    alloc: Global,
+    plan: &Draft,
+    kind: Kind,
+    given: &mut Vec<Given>,
+) -> Result<Vec<u32>, Fault>
+    ensures given { Gives (λ ns. (ns.items, map view_given given.new.items)) result (plain_sources plan.now.nodes kind (map view_given given.old.items)) }
+    ensures there { IfOk result (λ ns. All (λ n. n < length plan.now.nodes) ns.items) }
+{
+    let value = plain(given)?;
+    let sources = sources_of(alloc, plan, kind, &value)?;
+    Ok(sources)
+}
+
+/// The next plain parameter, a list of predicates and sources of this kind.
+#[tactic(auto, unfolding(crate::specs::Parts::plain_pairs))]
+pub(crate) fn plain_pairs(
+    alloc: Global,
+    plan: &Draft,
+    kind: Kind,
+    given: &mut Vec<Given>,
+) -> Result<Pairs, Fault>
+    ensures given { Gives (λ ps. ((map view_pred ps.preds.items, ps.sources.items), map view_given given.new.items)) result (plain_pairs plan.now.nodes kind (map view_given given.old.items)) }
+    ensures there { IfOk result (λ ps. All (λ n. n < length plan.now.nodes) ps.sources.items) }
+{
+    let value = plain(given)?;
+    let pairs = pairs_of(alloc, plan, kind, &value)?;
+    Ok(pairs)
+}
+
 fn is_kind(wanted: Kind, kind: Kind) -> bool
     ensures { result ≡ is_kind wanted kind }
 {
@@ -116,13 +166,6 @@ fn pair_in(alloc: Global, plan: &Draft, kind: Kind, parts: &[Value]) -> Result<(
     }
 }
 
-/// The sources of a `switch`, and the predicate of each.
-#[derive(Drop)]
-pub(crate) struct Pairs {
-    pub(crate) preds: Vec<Pred>,
-    pub(crate) sources: Vec<u32>,
-}
-
 fn pairs_in(alloc: Global, plan: &Draft, kind: Kind, parts: &[Value]) -> Result<Pairs, Fault>
     ensures given { Gives (λ ps. (map view_pred ps.preds.items, ps.sources.items)) result (pairs_from plan.now.nodes kind (many (map view_value parts.now)) [] []) }
     ensures there { IfOk result (λ ps. All (λ n. n < length plan.now.nodes) ps.sources.items) }
@@ -146,47 +189,4 @@ fn pairs_of(alloc: Global, plan: &Draft, kind: Kind, value: &Value) -> Result<Pa
         Value::Listed(parts) => pairs_in(alloc, plan, kind, parts),
         _ => Err(Fault::Stuck),
     }
-}
-
-/// The next plain parameter, a source of this kind, by the number of its node.
-#[tactic(auto, unfolding(crate::specs::Parts::plain_source))]
-pub(crate) fn plain_source(plan: &Draft, kind: Kind, given: &mut Vec<Given>) -> Result<u32, Fault>
-    ensures given { Gives (λ n. (n, map view_given given.new.items)) result (plain_source plan.now.nodes kind (map view_given given.old.items)) }
-    ensures there { IfOk result (λ n. n < length plan.now.nodes) }
-{
-    let value = plain(given)?;
-    let source = source_of(plan, kind, &value)?;
-    Ok(source)
-}
-
-/// The next plain parameter, a list of sources of this kind.
-#[tactic(auto, unfolding(crate::specs::Parts::plain_sources))]
-pub(crate) fn plain_sources(
-    alloc: Global,
-    plan: &Draft,
-    kind: Kind,
-    given: &mut Vec<Given>,
-) -> Result<Vec<u32>, Fault>
-    ensures given { Gives (λ ns. (ns.items, map view_given given.new.items)) result (plain_sources plan.now.nodes kind (map view_given given.old.items)) }
-    ensures there { IfOk result (λ ns. All (λ n. n < length plan.now.nodes) ns.items) }
-{
-    let value = plain(given)?;
-    let sources = sources_of(alloc, plan, kind, &value)?;
-    Ok(sources)
-}
-
-/// The next plain parameter, a list of predicates and sources of this kind.
-#[tactic(auto, unfolding(crate::specs::Parts::plain_pairs))]
-pub(crate) fn plain_pairs(
-    alloc: Global,
-    plan: &Draft,
-    kind: Kind,
-    given: &mut Vec<Given>,
-) -> Result<Pairs, Fault>
-    ensures given { Gives (λ ps. ((map view_pred ps.preds.items, ps.sources.items), map view_given given.new.items)) result (plain_pairs plan.now.nodes kind (map view_given given.old.items)) }
-    ensures there { IfOk result (λ ps. All (λ n. n < length plan.now.nodes) ps.sources.items) }
-{
-    let value = plain(given)?;
-    let pairs = pairs_of(alloc, plan, kind, &value)?;
-    Ok(pairs)
 }

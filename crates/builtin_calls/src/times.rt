@@ -19,22 +19,6 @@ pub(crate) fn samples_of(at: u32, rate: u32, time: Decimal) -> Result<u64, Fault
     }
 }
 
-// The samples of a time above zero, at least one.
-fn some_samples(at: u32, rate: u32, time: Decimal) -> Result<u64, Fault>
-    requires { pos 0 <ℤ time.millionths }
-    ensures { Gives (λ n. n) result (some_samples at (samples_in time.millionths rate)) }
-{
-    match time.samples(rate) {
-        None => Err(Fault::BadValue(at)),
-        Some(samples) => {
-            if samples == 0 {
-                return Err(Fault::BadValue(at));
-            }
-            Ok(samples)
-        }
-    }
-}
-
 /// The samples of an overlap, which is above zero and has at least one.
 #[tactic(auto, unfolding(crate::specs::Times::overlap_of))]
 pub(crate) fn overlap_of(at: u32, rate: u32, time: Decimal) -> Result<u64, Fault>
@@ -111,5 +95,21 @@ pub(crate) fn ten_seconds() -> Decimal
 {
     Decimal {
         millionths: 10_000_000,
+    }
+}
+
+// The samples of a time above zero, at least one.
+fn some_samples(at: u32, rate: u32, time: Decimal) -> Result<u64, Fault>
+    requires { pos 0 <ℤ time.millionths }
+    ensures { Gives (λ n. n) result (some_samples at (samples_in time.millionths rate)) }
+{
+    match time.samples(rate) {
+        None => Err(Fault::BadValue(at)),
+        Some(samples) => {
+            if samples == 0 {
+                return Err(Fault::BadValue(at));
+            }
+            Ok(samples)
+        }
     }
 }

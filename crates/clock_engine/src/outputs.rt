@@ -13,25 +13,6 @@ use liq_base::Memory;
 use plan_core::SinkPlan;
 use std::alloc::Global;
 
-// The output of a node.
-fn port_of(alloc: Global, shape: &Shape<'_>, sink: u32, node: u32) -> Result<Port, Memory>
-    requires within { node < length shape.now.plan.now.nodes }
-    requires frame { shape.now.plan.now.frame ≤ 65536 }
-    ensures output { IfOk result (λ port. output_of port ≡ (sink, node)) }
-    ensures new { IfOk result (λ port. (other : Setting) → IsNewPort (over shape.now.plan.now shape.now.library.now shape.now.clocks.now other) port) }
-{
-    let kind = shape.plan.nodes.as_slice()[node as usize].kind;
-    let room = shape.plan.frame as usize * (2 * kind.channels() as usize);
-    let piece = Piece::new(alloc, room)?;
-    Ok(Port {
-        sink,
-        node,
-        kind,
-        piece,
-        gaps: 0,
-    })
-}
-
 /// The outputs of a main clock, in sink order.
 pub fn ports_of(alloc: Global, shape: &Shape<'_>, clock: u32) -> Result<Vec<Port>, Memory>
     requires in_clocks { length shape.now.clocks.now ≡ length shape.now.plan.now.nodes }
@@ -53,4 +34,23 @@ pub fn ports_of(alloc: Global, shape: &Shape<'_>, clock: u32) -> Result<Vec<Port
         ports.push(port_of(alloc, shape, i as u32, *node)?)?;
     }
     Ok(ports)
+}
+
+// The output of a node.
+fn port_of(alloc: Global, shape: &Shape<'_>, sink: u32, node: u32) -> Result<Port, Memory>
+    requires within { node < length shape.now.plan.now.nodes }
+    requires frame { shape.now.plan.now.frame ≤ 65536 }
+    ensures output { IfOk result (λ port. output_of port ≡ (sink, node)) }
+    ensures new { IfOk result (λ port. (other : Setting) → IsNewPort (over shape.now.plan.now shape.now.library.now shape.now.clocks.now other) port) }
+{
+    let kind = shape.plan.nodes.as_slice()[node as usize].kind;
+    let room = shape.plan.frame as usize * (2 * kind.channels() as usize);
+    let piece = Piece::new(alloc, room)?;
+    Ok(Port {
+        sink,
+        node,
+        kind,
+        piece,
+        gaps: 0,
+    })
 }

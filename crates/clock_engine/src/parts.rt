@@ -19,17 +19,6 @@ use node_states::{NodeState, WeekTime};
 use plan_core::{Node, Plan, SinkPlan};
 use std::alloc::Global;
 
-// The state of a node.
-fn state_of(alloc: Global, node: &Node, i: u32, rate: u32) -> Result<NodeState, Memory>
-    requires rate { 0 < rate }
-    requires range { IsInRange node.now.op }
-    requires few { length node.now.children ≤ MAX_CHILDREN }
-    requires reads { IsNoReader node.now.op }
-    ensures { IfOk result (λ state. IsNewState rate i node.now state) }
-{
-    NodeState::new(alloc, node, i, rate)
-}
-
 /// The states of the nodes before the first instant.
 pub fn states_of(alloc: Global, plan: &Plan) -> Result<Vec<NodeState>, Memory>
     requires rate { 0 < plan.now.rate }
@@ -46,28 +35,6 @@ pub fn states_of(alloc: Global, plan: &Plan) -> Result<Vec<NodeState>, Memory>
     Ok(states)
 }
 
-// The node of a sink.
-fn node_of(sink: &SinkPlan) -> u32
-    ensures { result ≡ sink_node sink.now }
-{
-    match sink {
-        SinkPlan::Output { node, .. } => *node,
-        SinkPlan::Feed { node, .. } => *node,
-    }
-}
-
-// Whether a sink has this node.
-fn has_sink(sinks: &[SinkPlan], i: usize) -> bool
-    ensures { result ≡ list_any (λ sink. nat_eq (sink_node sink) i) sinks.now }
-{
-    for sink in sinks {
-        if node_of(sink) as usize == i {
-            return true;
-        }
-    }
-    false
-}
-
 // Whether this is the main clock of this number.
 pub fn is_main(of: NodeClock, clock: u32) -> bool
     ensures { result ≡ same_clock of (InMain clock) }
@@ -75,16 +42,6 @@ pub fn is_main(of: NodeClock, clock: u32) -> bool
     match of {
         NodeClock::Main(m) => m == clock,
         NodeClock::Sub(_) => false,
-    }
-}
-
-// Whether its own clock demands node i of itself: a main clock the nodes of sinks, a sub-clock its crossfade's child.
-fn is_own_root(shape: &Shape<'_>, of: NodeClock, i: usize) -> bool
-    ensures { (other : Setting) → result ≡ is_root (over shape.now.plan.now shape.now.library.now shape.now.clocks.now other) of i }
-{
-    match of {
-        NodeClock::Main(_) => has_sink(shape.plan.sinks.as_slice(), i),
-        NodeClock::Sub(k) => child_of(shape.plan.nodes.as_slice(), k) as usize == i,
     }
 }
 
@@ -119,4 +76,47 @@ pub fn most_children(plan: &Plan) -> usize
         most = node.children.len().max(most);
     }
     most
+}
+
+// The state of a node.
+fn state_of(alloc: Global, node: &Node, i: u32, rate: u32) -> Result<NodeState, Memory>
+    requires rate { 0 < rate }
+    requires range { IsInRange node.now.op }
+    requires few { length node.now.children ≤ MAX_CHILDREN }
+    requires reads { IsNoReader node.now.op }
+    ensures { IfOk result (λ state. IsNewState rate i node.now state) }
+{
+    NodeState::new(alloc, node, i, rate)
+}
+
+// The node of a sink.
+fn node_of(sink: &SinkPlan) -> u32
+    ensures { result ≡ sink_node sink.now }
+{
+    match sink {
+        SinkPlan::Output { node, .. } => *node,
+        SinkPlan::Feed { node, .. } => *node,
+    }
+}
+
+// Whether a sink has this node.
+fn has_sink(sinks: &[SinkPlan], i: usize) -> bool
+    ensures { result ≡ list_any (λ sink. nat_eq (sink_node sink) i) sinks.now }
+{
+    for sink in sinks {
+        if node_of(sink) as usize == i {
+            return true;
+        }
+    }
+    false
+}
+
+// Whether its own clock demands node i of itself: a main clock the nodes of sinks, a sub-clock its crossfade's child.
+fn is_own_root(shape: &Shape<'_>, of: NodeClock, i: usize) -> bool
+    ensures { (other : Setting) → result ≡ is_root (over shape.now.plan.now shape.now.library.now shape.now.clocks.now other) of i }
+{
+    match of {
+        NodeClock::Main(_) => has_sink(shape.plan.sinks.as_slice(), i),
+        NodeClock::Sub(k) => child_of(shape.plan.nodes.as_slice(), k) as usize == i,
+    }
 }

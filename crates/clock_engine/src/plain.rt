@@ -5,6 +5,19 @@ ghost use Rattle.engine_ticks.specs.Lanes.{HasNoReaders};
 
 use plan_core::{Op, Plan};
 
+/// Whether an engine can run this plan: whether it has no reader of a buffer.
+pub fn has_no_readers(plan: &Plan) -> bool
+    ensures yes { result ≡ true → HasNoReaders plan.now }
+    ensures no { result ≡ false → HasNoReaders plan.now → ⊥ }
+{
+    for node in plan.nodes.as_slice() {
+        if is_reader(&node.op) {
+            return false;
+        }
+    }
+    true
+}
+
 // Whether a node of this operator is a reader.
 fn is_reader(op: &Op) -> bool
     ensures no { result ≡ false → IsNoReader op.now }
@@ -19,17 +32,4 @@ fn is_reader(op: &Op) -> bool
         Op::Crossfade { .. } => false,
         Op::Buffer(_) => true,
     }
-}
-
-/// Whether an engine can run this plan: whether it has no reader of a buffer.
-pub fn has_no_readers(plan: &Plan) -> bool
-    ensures yes { result ≡ true → HasNoReaders plan.now }
-    ensures no { result ≡ false → HasNoReaders plan.now → ⊥ }
-{
-    for node in plan.nodes.as_slice() {
-        if is_reader(&node.op) {
-            return false;
-        }
-    }
-    true
 }

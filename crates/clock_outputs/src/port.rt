@@ -32,16 +32,6 @@ impl Port {
     }
 }
 
-// What a node offers, by what the nodes do.
-fn slot_of(parts: &[Part], node: u32) -> Option<Cell>
-    ensures { result ≡ (part_at parts.now node).slot }
-{
-    match parts.get(node as usize) {
-        Some(part) => part.slot,
-        None => None,
-    }
-}
-
 /// Begins a tick: no output has bytes yet.
 pub fn begin_tick(ports: &mut Vec<Port>)
     ensures { ports.new.items ≡ map emptied ports.old.items }
@@ -59,5 +49,15 @@ pub fn hear_all(ports: &mut Vec<Port>, parts: &[Part])
     for k in 0..ports.len() {
         let slot = slot_of(parts, ports[k].node);
         ports[k].hear(slot);
+    }
+}
+
+// What a node offers, by what the nodes do.
+fn slot_of(parts: &[Part], node: u32) -> Option<Cell>
+    ensures { result ≡ (part_at parts.now node).slot }
+{
+    match parts.get(node as usize) {
+        Some(part) => part.slot,
+        None => None,
     }
 }

@@ -28,6 +28,35 @@ pub struct TypedDef<'a> {
     pub held: Held,
 }
 
+/// The general type of a def and the uses in its text; `None` where it has no typing. It fails only where memory is refused.
+///
+/// `seen` is what is seen outside of defs, and `held` what the types of earlier values hold.
+/// Where the def has a typing, its text has one use for each of its names, in the order of the tokens. Its open kinds are
+/// numbered as the text names them first, and are all that the general type has.
+pub fn type_def<'a>(
+    alloc: Global,
+    subst: &mut Subst,
+    seen: Names<'_, '_>,
+    held: &Held,
+    def: &'a Def,
+) -> Result<Option<TypedDef<'a>>, Memory>
+    requires seen { IsSeen subst.old seen [] }
+    requires outside { seen.inner.now ≡ [] }
+    requires held { HoldsBefore subst.old (env_of seen).before held.now }
+    ensures typed { IfOk result (λ r. IsDefTyped subst.old subst.new (env_of seen.entry).targets (env_of seen.entry).before def.entry.now r) }
+    ensures order { IfOk result (λ r. IfSome r (λ t. AreSaidAs seen.entry (tokens_used (view_def def.entry.now)) (text_of t.known))) }
+    ensures numbered { IfOk result (λ r. IfSome r (λ t. IsNumberedDef subst.new t.known)) }
+{
+    let mut uses = Vec::new(alloc);
+    match type_parts(alloc, subst, seen, &mut uses, def)? {
+        None => Ok(None),
+        Some(parts) => {
+            let typed = general_def(alloc, subst, held, def, &parts, &uses)?;
+            Ok(Some(typed))
+        }
+    }
+}
+
 /// A type variable as a type.
 fn answer_of(parts: &TypedParts) -> Ty
     ensures { term_of result ≡ variable parts.now.result }
@@ -66,33 +95,4 @@ fn general_def<'a>(
         uses: text,
     };
     Ok(TypedDef { known, held })
-}
-
-/// The general type of a def and the uses in its text; `None` where it has no typing. It fails only where memory is refused.
-///
-/// `seen` is what is seen outside of defs, and `held` what the types of earlier values hold.
-/// Where the def has a typing, its text has one use for each of its names, in the order of the tokens. Its open kinds are
-/// numbered as the text names them first, and are all that the general type has.
-pub fn type_def<'a>(
-    alloc: Global,
-    subst: &mut Subst,
-    seen: Names<'_, '_>,
-    held: &Held,
-    def: &'a Def,
-) -> Result<Option<TypedDef<'a>>, Memory>
-    requires seen { IsSeen subst.old seen [] }
-    requires outside { seen.inner.now ≡ [] }
-    requires held { HoldsBefore subst.old (env_of seen).before held.now }
-    ensures typed { IfOk result (λ r. IsDefTyped subst.old subst.new (env_of seen.entry).targets (env_of seen.entry).before def.entry.now r) }
-    ensures order { IfOk result (λ r. IfSome r (λ t. AreSaidAs seen.entry (tokens_used (view_def def.entry.now)) (text_of t.known))) }
-    ensures numbered { IfOk result (λ r. IfSome r (λ t. IsNumberedDef subst.new t.known)) }
-{
-    let mut uses = Vec::new(alloc);
-    match type_parts(alloc, subst, seen, &mut uses, def)? {
-        None => Ok(None),
-        Some(parts) => {
-            let typed = general_def(alloc, subst, held, def, &parts, &uses)?;
-            Ok(Some(typed))
-        }
-    }
 }

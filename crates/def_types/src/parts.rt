@@ -23,6 +23,32 @@ pub struct TypedParts {
     pub result: u64,
 }
 
+/// The variables of a def's parameters and of its result; `None` where it has no typing.
+pub fn type_parts(
+    alloc: Global,
+    subst: &mut Subst,
+    seen: Names<'_, '_>,
+    uses: &mut Vec<FoundUse>,
+    def: &Def,
+) -> Result<Option<TypedParts>, Memory>
+    requires seen { IsSeen subst.old seen uses.old.items }
+    requires outside { seen.inner.now ≡ [] }
+    requires first { uses.old.items ≡ [] }
+    ensures typed { IfOk result (λ r. ArePartsOf subst.old subst.new (env_of seen.entry).targets (env_of seen.entry).before (view_def def.now) (founds uses.new.items) r) }
+    ensures order { IfOk result (λ r. AreAddedIf seen.entry (tokens_used (view_def def.now)) (founds uses.old.items) (founds uses.new.items) r) }
+{
+    match type_params(alloc, subst, seen, uses, &def.params)? {
+        None => Ok(None),
+        Some(typed) => {
+            let params = vars_of(alloc, &typed)?;
+            match type_body(alloc, subst, seen, typed, uses, def)? {
+                None => Ok(None),
+                Some(result) => Ok(Some(TypedParts { params, result })),
+            }
+        }
+    }
+}
+
 /// The variable of a parameter: that of its default, where it has one, and a new one otherwise.
 fn type_param(
     alloc: Global,
@@ -182,30 +208,4 @@ fn type_body(
         return Ok(None);
     }
     type_result(alloc, subst, seen, bindings.as_slice(), uses, &def.result)
-}
-
-/// The variables of a def's parameters and of its result; `None` where it has no typing.
-pub fn type_parts(
-    alloc: Global,
-    subst: &mut Subst,
-    seen: Names<'_, '_>,
-    uses: &mut Vec<FoundUse>,
-    def: &Def,
-) -> Result<Option<TypedParts>, Memory>
-    requires seen { IsSeen subst.old seen uses.old.items }
-    requires outside { seen.inner.now ≡ [] }
-    requires first { uses.old.items ≡ [] }
-    ensures typed { IfOk result (λ r. ArePartsOf subst.old subst.new (env_of seen.entry).targets (env_of seen.entry).before (view_def def.now) (founds uses.new.items) r) }
-    ensures order { IfOk result (λ r. AreAddedIf seen.entry (tokens_used (view_def def.now)) (founds uses.old.items) (founds uses.new.items) r) }
-{
-    match type_params(alloc, subst, seen, uses, &def.params)? {
-        None => Ok(None),
-        Some(typed) => {
-            let params = vars_of(alloc, &typed)?;
-            match type_body(alloc, subst, seen, typed, uses, def)? {
-                None => Ok(None),
-                Some(result) => Ok(Some(TypedParts { params, result })),
-            }
-        }
-    }
 }

@@ -11,13 +11,6 @@ use type_schemes::TextKind as KindInText;
 use type_terms::{KindTerm, Ty};
 use value_types::{FoundUse, TextKind, TextUse};
 
-/// A variable as a type.
-fn variable_type(number: u64) -> Ty
-    ensures { term_of result ≡ variable number }
-{
-    Ty::Var(number)
-}
-
 /// Variables as types.
 pub fn variables(alloc: Global, numbers: &[u64]) -> Result<Vec<Ty>, Memory>
     ensures { IfOk result (λ ts. map term_of ts.items ≡ map variable numbers.now) }
@@ -29,14 +22,6 @@ pub fn variables(alloc: Global, numbers: &[u64]) -> Result<Vec<Ty>, Memory>
     Ok(types)
 }
 
-/// Adds the kinds of a use.
-fn push_kinds(kinds: &mut Vec<KindTerm>, found: &FoundUse) -> Result<(), Memory>
-    ensures { OnOk result (kinds.new.items ≡ kinds.old.items ++ found.now.kinds.items) }
-{
-    kinds.extend_from_slice(&found.kinds)?;
-    Ok(())
-}
-
 /// The kinds of uses, one after another.
 pub fn all_kinds(alloc: Global, uses: &[FoundUse]) -> Result<Vec<KindTerm>, Memory>
     ensures { IfOk result (λ ks. ks.items ≡ kinds_in (founds uses.now)) }
@@ -46,6 +31,39 @@ pub fn all_kinds(alloc: Global, uses: &[FoundUse]) -> Result<Vec<KindTerm>, Memo
         push_kinds(&mut kinds, found)?;
     }
     Ok(kinds)
+}
+
+/// The uses of the text: each takes as many of these kinds as it has.
+pub fn text_of_uses(
+    alloc: Global,
+    uses: &[FoundUse],
+    text: &[KindInText],
+) -> Result<Vec<TextUse>, Memory>
+    ensures { IfOk result (λ us. map text_use us.items ≡ text_uses (founds uses.now) text.now) }
+{
+    let mut done = Vec::new(alloc);
+    let mut left = text;
+    for found in uses {
+        let (own, rest) = left.split_at(min(found.kinds.len(), left.len()));
+        done.push(use_with(alloc, found, own)?)?;
+        left = rest;
+    }
+    Ok(done)
+}
+
+/// A variable as a type.
+fn variable_type(number: u64) -> Ty
+    ensures { term_of result ≡ variable number }
+{
+    Ty::Var(number)
+}
+
+/// Adds the kinds of a use.
+fn push_kinds(kinds: &mut Vec<KindTerm>, found: &FoundUse) -> Result<(), Memory>
+    ensures { OnOk result (kinds.new.items ≡ kinds.old.items ++ found.now.kinds.items) }
+{
+    kinds.extend_from_slice(&found.kinds)?;
+    Ok(())
 }
 
 /// A kind of the text as the uses have it.
@@ -79,22 +97,4 @@ fn use_with(alloc: Global, one: &FoundUse, text: &[KindInText]) -> Result<TextUs
         target: one.target,
         kinds,
     })
-}
-
-/// The uses of the text: each takes as many of these kinds as it has.
-pub fn text_of_uses(
-    alloc: Global,
-    uses: &[FoundUse],
-    text: &[KindInText],
-) -> Result<Vec<TextUse>, Memory>
-    ensures { IfOk result (λ us. map text_use us.items ≡ text_uses (founds uses.now) text.now) }
-{
-    let mut done = Vec::new(alloc);
-    let mut left = text;
-    for found in uses {
-        let (own, rest) = left.split_at(min(found.kinds.len(), left.len()));
-        done.push(use_with(alloc, found, own)?)?;
-        left = rest;
-    }
-    Ok(done)
 }

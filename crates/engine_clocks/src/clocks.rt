@@ -16,6 +16,45 @@ use clock_infer::NodeClock;
 use engine_instants::Shape;
 use fixed_text::WeekSecond;
 
+/// Makes one instant of a clock, at a second of the week: its crossfades run their sub-clocks until their items are settled,
+/// and no instant more. `own` tells of each node whether its own clock demands it of itself, and `levels` bounds how deep
+/// sub-clocks nest below the clock. Whatever instants the lanes stood for, they stand for one more of this clock. No memory
+/// is taken.
+#[cycle(clocks)]
+pub fn make_instant(
+    shape: &Shape<'_>,
+    own: &[bool],
+    lanes: &mut ClockLanes,
+    clock: NodeClock,
+    at: WeekSecond,
+    levels: usize,
+)
+    requires nodes { AreNodes shape.now.plan.now.nodes }
+    requires few { length shape.now.plan.now.nodes ≤ MAX_NODES }
+    requires in_clocks { length shape.now.clocks.now ≡ length shape.now.plan.now.nodes }
+    requires in_own { length own.now ≡ length shape.now.plan.now.nodes }
+    requires lanes { AreClockLanes shape.now.plan.now shape.now.library.now shape.now.clocks.now lanes.old }
+    requires levels { HasLevels shape.now.clocks.now clock levels }
+    ensures lanes { AreClockLanes shape.now.plan.now shape.now.library.now shape.now.clocks.now lanes.new }
+    ensures left { (rank : Clock → ℕ) → HasRanks shape.now.clocks.now rank
+        → AreLeft shape.now.clocks.now rank (rank clock) (is_in shape.now.clocks.now clock) lanes.old lanes.new }
+    ensures stand { (setting : Setting) (sub : ℕ → ℕ → List TheSlot) (rank ran : Clock → ℕ) (fed : ℕ → ℕ) →
+        let setting = over shape.now.plan.now shape.now.library.now shape.now.clocks.now setting in
+        HasRanks shape.now.clocks.now rank → IsMeaning setting sub → AreOwnRoots setting own.now
+        → Stand setting sub rank (rank clock) ran fed lanes.old → RanAsNeeded setting sub rank (rank clock) ran
+        → at.second ≡ second_at setting (ran clock)
+        → HasMade setting sub rank clock ran fed lanes.new }
+    ensures parts { (setting : Setting) (sub : ℕ → ℕ → List TheSlot) (rank ran : Clock → ℕ) (fed : ℕ → ℕ) →
+        let setting = over shape.now.plan.now shape.now.library.now shape.now.clocks.now setting in
+        HasRanks shape.now.clocks.now rank → IsMeaning setting sub → AreOwnRoots setting own.now
+        → Stand setting sub rank (rank clock) ran fed lanes.old
+        → at.second ≡ second_at setting (ran clock)
+        → lanes.new.latest.parts.items ≡ (moment_after setting sub clock (history setting sub clock (ran clock))).parts }
+{
+    settle_all(shape, own, lanes, clock, levels);
+    finish(shape, own, lanes, clock, at);
+}
+
 // Feeds node k, if it is a crossfade, until its item is settled.
 #[cycle(clocks)]
 fn settle(shape: &Shape<'_>, own: &[bool], lanes: &mut ClockLanes, k: u32, levels: usize)
@@ -72,43 +111,4 @@ fn settle_all(
         settle(shape, own, lanes, i as u32, levels);
         i = lanes.nodes.after(i);
     }
-}
-
-/// Makes one instant of a clock, at a second of the week: its crossfades run their sub-clocks until their items are settled,
-/// and no instant more. `own` tells of each node whether its own clock demands it of itself, and `levels` bounds how deep
-/// sub-clocks nest below the clock. Whatever instants the lanes stood for, they stand for one more of this clock. No memory
-/// is taken.
-#[cycle(clocks)]
-pub fn make_instant(
-    shape: &Shape<'_>,
-    own: &[bool],
-    lanes: &mut ClockLanes,
-    clock: NodeClock,
-    at: WeekSecond,
-    levels: usize,
-)
-    requires nodes { AreNodes shape.now.plan.now.nodes }
-    requires few { length shape.now.plan.now.nodes ≤ MAX_NODES }
-    requires in_clocks { length shape.now.clocks.now ≡ length shape.now.plan.now.nodes }
-    requires in_own { length own.now ≡ length shape.now.plan.now.nodes }
-    requires lanes { AreClockLanes shape.now.plan.now shape.now.library.now shape.now.clocks.now lanes.old }
-    requires levels { HasLevels shape.now.clocks.now clock levels }
-    ensures lanes { AreClockLanes shape.now.plan.now shape.now.library.now shape.now.clocks.now lanes.new }
-    ensures left { (rank : Clock → ℕ) → HasRanks shape.now.clocks.now rank
-        → AreLeft shape.now.clocks.now rank (rank clock) (is_in shape.now.clocks.now clock) lanes.old lanes.new }
-    ensures stand { (setting : Setting) (sub : ℕ → ℕ → List TheSlot) (rank ran : Clock → ℕ) (fed : ℕ → ℕ) →
-        let setting = over shape.now.plan.now shape.now.library.now shape.now.clocks.now setting in
-        HasRanks shape.now.clocks.now rank → IsMeaning setting sub → AreOwnRoots setting own.now
-        → Stand setting sub rank (rank clock) ran fed lanes.old → RanAsNeeded setting sub rank (rank clock) ran
-        → at.second ≡ second_at setting (ran clock)
-        → HasMade setting sub rank clock ran fed lanes.new }
-    ensures parts { (setting : Setting) (sub : ℕ → ℕ → List TheSlot) (rank ran : Clock → ℕ) (fed : ℕ → ℕ) →
-        let setting = over shape.now.plan.now shape.now.library.now shape.now.clocks.now setting in
-        HasRanks shape.now.clocks.now rank → IsMeaning setting sub → AreOwnRoots setting own.now
-        → Stand setting sub rank (rank clock) ran fed lanes.old
-        → at.second ≡ second_at setting (ran clock)
-        → lanes.new.latest.parts.items ≡ (moment_after setting sub clock (history setting sub clock (ran clock))).parts }
-{
-    settle_all(shape, own, lanes, clock, levels);
-    finish(shape, own, lanes, clock, at);
 }

@@ -15,16 +15,6 @@ use frame_core::Cell;
 use plan_core::Node;
 use stream_meaning::Part;
 
-// The first of some numbers, or 0.
-fn first_of(numbers: &[u32]) -> u32
-    ensures { result ≡ slice_index_or numbers.now 0 0 }
-{
-    match numbers.get(0) {
-        Some(number) => *number,
-        None => 0,
-    }
-}
-
 /// The child of crossfade k.
 pub fn child_of(nodes: &[Node], k: u32) -> u32
     ensures { result ≡ crossfaded nodes.now k }
@@ -32,16 +22,6 @@ pub fn child_of(nodes: &[Node], k: u32) -> u32
     match nodes.get(k as usize) {
         Some(node) => first_of(node.children.as_slice()),
         None => 0,
-    }
-}
-
-// The slot of a node at the instant; nothing where there is none of this number.
-fn slot_of(parts: &[Part], number: u32) -> Option<Cell>
-    ensures { result ≡ (part_at parts.now number).slot }
-{
-    match parts.get(number as usize) {
-        Some(part) => part.slot,
-        None => None,
     }
 }
 
@@ -68,4 +48,24 @@ pub fn feed_child(shape: &Shape<'_>, lanes: &mut ClockLanes, k: u32)
     let at = k as usize;
     lanes.states[at].feed(slot);
     lanes.times[at] = lanes.times[at].next();
+}
+
+// The first of some numbers, or 0.
+fn first_of(numbers: &[u32]) -> u32
+    ensures { result ≡ slice_index_or numbers.now 0 0 }
+{
+    match numbers.get(0) {
+        Some(number) => *number,
+        None => 0,
+    }
+}
+
+// The slot of a node at the instant; nothing where there is none of this number.
+fn slot_of(parts: &[Part], number: u32) -> Option<Cell>
+    ensures { result ≡ (part_at parts.now number).slot }
+{
+    match parts.get(number as usize) {
+        Some(part) => part.slot,
+        None => None,
+    }
 }

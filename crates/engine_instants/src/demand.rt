@@ -24,6 +24,44 @@ pub enum Demand {
     Offering,
 }
 
+/// Finds the demanded nodes of a clock, over marks that are set at those that are demanded of themselves. Nodes of other
+/// clocks do nothing and stay unmarked.
+pub fn mark_demanded(
+    shape: &Shape<'_>,
+    nodes: &ClockNodes,
+    clock: NodeClock,
+    parts: &[Part],
+    marks: &mut [bool],
+)
+    requires nodes { AreNodes shape.now.plan.now.nodes }
+    requires in_clocks { length shape.now.clocks.now ≡ length shape.now.plan.now.nodes }
+    requires chains { AreNodesOf shape.now.clocks.now nodes.now }
+    requires in_parts { length parts.now ≡ length shape.now.plan.now.nodes }
+    requires in_marks { length marks.old ≡ length shape.now.plan.now.nodes }
+    requires parts { (j : ℕ) → lies_at shape.now.clocks.now clock j ≡ false → part_at parts.now j ≡ silent }
+    requires marks { (j : ℕ) → lies_at shape.now.clocks.now clock j ≡ false → slice_index_or marks.old j false ≡ false }
+    ensures others { (j : ℕ) → lies_at shape.now.clocks.now clock j ≡ false → slice_index_or marks.new j false ≡ false }
+    ensures demands { (library : Sounds) (clocks : List Clock) (setting : Setting) → PicksOffer shape.now.plan.now.nodes parts.now
+        → marks.new ≡ demands_from (λ j. slice_index_or marks.old j false) 0 (uses_from (over shape.now.plan.now library clocks setting) parts.now 0 shape.now.plan.now.nodes) }
+{
+    let all = shape.plan.nodes.as_slice();
+    let mut i = nodes.end(clock);
+    while i > 0 {
+        let at = i - 1;
+        i = nodes.before(at);
+        if marks[at] {
+            let node = &all[at];
+            mark_used(
+                demand_of(&node.op),
+                node.children.as_slice(),
+                parts,
+                parts[at].pick,
+                &mut marks[..at],
+            );
+        }
+    }
+}
+
 // Which children a demanded node of this operator uses.
 fn demand_of(op: &Op) -> Demand
     ensures { (rate i : ℕ) (kind : TheKind) (parts : List Part) (children : List ℕ) (pick : Option ℕ)
@@ -86,43 +124,5 @@ fn mark_used(
         Demand::Nothing => {}
         Demand::Picked => mark_picked(children, parts, pick, marks),
         Demand::Offering => mark_offering(children, parts, marks),
-    }
-}
-
-/// Finds the demanded nodes of a clock, over marks that are set at those that are demanded of themselves. Nodes of other
-/// clocks do nothing and stay unmarked.
-pub fn mark_demanded(
-    shape: &Shape<'_>,
-    nodes: &ClockNodes,
-    clock: NodeClock,
-    parts: &[Part],
-    marks: &mut [bool],
-)
-    requires nodes { AreNodes shape.now.plan.now.nodes }
-    requires in_clocks { length shape.now.clocks.now ≡ length shape.now.plan.now.nodes }
-    requires chains { AreNodesOf shape.now.clocks.now nodes.now }
-    requires in_parts { length parts.now ≡ length shape.now.plan.now.nodes }
-    requires in_marks { length marks.old ≡ length shape.now.plan.now.nodes }
-    requires parts { (j : ℕ) → lies_at shape.now.clocks.now clock j ≡ false → part_at parts.now j ≡ silent }
-    requires marks { (j : ℕ) → lies_at shape.now.clocks.now clock j ≡ false → slice_index_or marks.old j false ≡ false }
-    ensures others { (j : ℕ) → lies_at shape.now.clocks.now clock j ≡ false → slice_index_or marks.new j false ≡ false }
-    ensures demands { (library : Sounds) (clocks : List Clock) (setting : Setting) → PicksOffer shape.now.plan.now.nodes parts.now
-        → marks.new ≡ demands_from (λ j. slice_index_or marks.old j false) 0 (uses_from (over shape.now.plan.now library clocks setting) parts.now 0 shape.now.plan.now.nodes) }
-{
-    let all = shape.plan.nodes.as_slice();
-    let mut i = nodes.end(clock);
-    while i > 0 {
-        let at = i - 1;
-        i = nodes.before(at);
-        if marks[at] {
-            let node = &all[at];
-            mark_used(
-                demand_of(&node.op),
-                node.children.as_slice(),
-                parts,
-                parts[at].pick,
-                &mut marks[..at],
-            );
-        }
     }
 }

@@ -15,31 +15,6 @@ use fixed_text::WeekSecond;
 use node_states::{Desk, NodeState};
 use stream_meaning::Part;
 
-// What node i does, over what the nodes before it do.
-fn offer_of(
-    shape: &Shape<'_>,
-    state: &NodeState,
-    i: usize,
-    at: WeekSecond,
-    parts: &[Part],
-    desk: &mut Desk,
-) -> Part
-    requires nodes { AreNodes shape.now.plan.now.nodes }
-    requires within { i < length shape.now.plan.now.nodes }
-    requires fits { (node : PlanNode) → slice_get shape.now.plan.now.nodes i ≡ Some node → Fits shape.now.library.now (length node.children) state.now }
-    requires room { HasRoomFor shape.now.plan.now desk.old }
-    ensures room { desk.new ≡ desk.old }
-    ensures part { (setting : Setting) (sub : ℕ → ℕ → List TheSlot) (clock : Clock) (past : List Moment) (fed : ℕ) →
-        let setting = over shape.now.plan.now shape.now.library.now shape.now.clocks.now setting in
-        at.second ≡ second_at setting (length past) → AreLong sub → lies_in setting clock i ≡ true
-        → ((node : PlanNode) → IsIn setting clock i node → StateStands setting sub past fed i (work_at setting i node) state.now)
-        → ((node : PlanNode) → IsIn setting clock i node → IsSettled sub past fed i (work_at setting i node))
-        → result ≡ part_in setting sub (lies_in setting clock i) past i (slice_get shape.now.plan.now.nodes i) parts.now }
-{
-    let node = &shape.plan.nodes.as_slice()[i];
-    desk.offer(state, node, parts, shape.library, at)
-}
-
 /// What the nodes of a clock do at an instant of this second, over parts at which no node does anything.
 pub fn make_parts(
     shape: &Shape<'_>,
@@ -70,4 +45,29 @@ pub fn make_parts(
         parts[i] = offer_of(shape, &states[i], i, at, &parts[..i], desk);
         i = nodes.after(i);
     }
+}
+
+// What node i does, over what the nodes before it do.
+fn offer_of(
+    shape: &Shape<'_>,
+    state: &NodeState,
+    i: usize,
+    at: WeekSecond,
+    parts: &[Part],
+    desk: &mut Desk,
+) -> Part
+    requires nodes { AreNodes shape.now.plan.now.nodes }
+    requires within { i < length shape.now.plan.now.nodes }
+    requires fits { (node : PlanNode) → slice_get shape.now.plan.now.nodes i ≡ Some node → Fits shape.now.library.now (length node.children) state.now }
+    requires room { HasRoomFor shape.now.plan.now desk.old }
+    ensures room { desk.new ≡ desk.old }
+    ensures part { (setting : Setting) (sub : ℕ → ℕ → List TheSlot) (clock : Clock) (past : List Moment) (fed : ℕ) →
+        let setting = over shape.now.plan.now shape.now.library.now shape.now.clocks.now setting in
+        at.second ≡ second_at setting (length past) → AreLong sub → lies_in setting clock i ≡ true
+        → ((node : PlanNode) → IsIn setting clock i node → StateStands setting sub past fed i (work_at setting i node) state.now)
+        → ((node : PlanNode) → IsIn setting clock i node → IsSettled sub past fed i (work_at setting i node))
+        → result ≡ part_in setting sub (lies_in setting clock i) past i (slice_get shape.now.plan.now.nodes i) parts.now }
+{
+    let node = &shape.plan.nodes.as_slice()[i];
+    desk.offer(state, node, parts, shape.library, at)
 }

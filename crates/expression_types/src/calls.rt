@@ -20,6 +20,51 @@ use type_terms::Subst;
 use typing_rules::Target;
 use value_types::{FoundUse, Names, begin_call, some_if};
 
+/// The type of a call; `None` where it has no type. It fails only where memory is refused.
+///
+/// Where it has a type, one use for each name of its text was added, in the order of the tokens.
+#[cycle(value)]
+pub fn type_call(
+    alloc: Global,
+    subst: &mut Subst,
+    names: Names<'_, '_>,
+    uses: &mut Vec<FoundUse>,
+    call: &Call,
+) -> Result<Option<u64>, Memory>
+    requires seen { IsSeen subst.old names uses.old.items }
+    ensures typed { IfOk result (λ r. IsTypeOf subst.old subst.new (env_of names.entry) (view_call call.now) (founds uses.old.items) (founds uses.new.items) r) }
+    ensures order { IfOk result (λ r. AreAddedIf names.entry (tokens_used (view_call call.now)) (founds uses.old.items) (founds uses.new.items) r) }
+{
+    match names.target(call.at) {
+        None => Ok(None),
+        Some(target) => match target {
+            Target::Slot(_) => Ok(None),
+            Target::Def(def) => match names.function(def) {
+                None => Ok(None),
+                Some(known) => {
+                    let typed = apply(
+                        alloc,
+                        subst,
+                        names,
+                        uses,
+                        call,
+                        target,
+                        &known.params,
+                        &known.general,
+                    )?;
+                    Ok(typed)
+                }
+            },
+            Target::Builtin(builtin) => {
+                let params = builtin_params(builtin);
+                let general = builtin_general(alloc, builtin)?;
+                let typed = apply(alloc, subst, names, uses, call, target, params, &general)?;
+                Ok(typed)
+            }
+        },
+    }
+}
+
 /// An argument of this type, by its label.
 fn argument_of<'s>(arg: &'s Arg, var: u64) -> Argument<'s>
     ensures { seen_argument result ≡ (arg.now.label, var) }
@@ -81,50 +126,5 @@ fn apply(
             let yes = fit(alloc, subst, params, &callee.params, &mut given)?;
             Ok(some_if(yes, callee.result))
         }
-    }
-}
-
-/// The type of a call; `None` where it has no type. It fails only where memory is refused.
-///
-/// Where it has a type, one use for each name of its text was added, in the order of the tokens.
-#[cycle(value)]
-pub fn type_call(
-    alloc: Global,
-    subst: &mut Subst,
-    names: Names<'_, '_>,
-    uses: &mut Vec<FoundUse>,
-    call: &Call,
-) -> Result<Option<u64>, Memory>
-    requires seen { IsSeen subst.old names uses.old.items }
-    ensures typed { IfOk result (λ r. IsTypeOf subst.old subst.new (env_of names.entry) (view_call call.now) (founds uses.old.items) (founds uses.new.items) r) }
-    ensures order { IfOk result (λ r. AreAddedIf names.entry (tokens_used (view_call call.now)) (founds uses.old.items) (founds uses.new.items) r) }
-{
-    match names.target(call.at) {
-        None => Ok(None),
-        Some(target) => match target {
-            Target::Slot(_) => Ok(None),
-            Target::Def(def) => match names.function(def) {
-                None => Ok(None),
-                Some(known) => {
-                    let typed = apply(
-                        alloc,
-                        subst,
-                        names,
-                        uses,
-                        call,
-                        target,
-                        &known.params,
-                        &known.general,
-                    )?;
-                    Ok(typed)
-                }
-            },
-            Target::Builtin(builtin) => {
-                let params = builtin_params(builtin);
-                let general = builtin_general(alloc, builtin)?;
-                let typed = apply(alloc, subst, names, uses, call, target, params, &general)?;
-                Ok(typed)
-            }
-        },
     }
 }

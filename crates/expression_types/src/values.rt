@@ -86,6 +86,39 @@ pub fn type_prim(
     }
 }
 
+/// The type of an `if`; `None` where it has no type. It fails only where memory is refused.
+///
+/// Where it has a type, one use for each name of its text was added, in the order of the tokens.
+#[cycle(value)]
+pub fn type_choice(
+    alloc: Global,
+    subst: &mut Subst,
+    names: Names<'_, '_>,
+    uses: &mut Vec<FoundUse>,
+    choice: &If,
+) -> Result<Option<u64>, Memory>
+    requires seen { IsSeen subst.old names uses.old.items }
+    ensures typed { IfOk result (λ r. IsTypeOf subst.old subst.new (env_of names.entry) (view_if choice.now) (founds uses.old.items) (founds uses.new.items) r) }
+    ensures order { IfOk result (λ r. AreAddedIf names.entry (tokens_used (view_if choice.now)) (founds uses.old.items) (founds uses.new.items) r) }
+{
+    match type_full(alloc, subst, names, uses, &choice.condition)? {
+        None => Ok(None),
+        Some(condition) => {
+            let yes = is_truth(alloc, subst, condition)?;
+            if !yes {
+                return Ok(None);
+            }
+            match type_full(alloc, subst, names, uses, &choice.then_part)? {
+                None => Ok(None),
+                Some(n) => {
+                    let joined = join_full(alloc, subst, names, uses, n, &choice.else_part)?;
+                    Ok(some_if(joined, n))
+                }
+            }
+        }
+    }
+}
+
 /// Makes one value have the type of another.
 #[cycle(value)]
 fn join_full(
@@ -207,39 +240,6 @@ fn type_tuple(
         Some(vars) => {
             let tuple = new_tuple(alloc, subst, &vars)?;
             Ok(Some(tuple))
-        }
-    }
-}
-
-/// The type of an `if`; `None` where it has no type. It fails only where memory is refused.
-///
-/// Where it has a type, one use for each name of its text was added, in the order of the tokens.
-#[cycle(value)]
-pub fn type_choice(
-    alloc: Global,
-    subst: &mut Subst,
-    names: Names<'_, '_>,
-    uses: &mut Vec<FoundUse>,
-    choice: &If,
-) -> Result<Option<u64>, Memory>
-    requires seen { IsSeen subst.old names uses.old.items }
-    ensures typed { IfOk result (λ r. IsTypeOf subst.old subst.new (env_of names.entry) (view_if choice.now) (founds uses.old.items) (founds uses.new.items) r) }
-    ensures order { IfOk result (λ r. AreAddedIf names.entry (tokens_used (view_if choice.now)) (founds uses.old.items) (founds uses.new.items) r) }
-{
-    match type_full(alloc, subst, names, uses, &choice.condition)? {
-        None => Ok(None),
-        Some(condition) => {
-            let yes = is_truth(alloc, subst, condition)?;
-            if !yes {
-                return Ok(None);
-            }
-            match type_full(alloc, subst, names, uses, &choice.then_part)? {
-                None => Ok(None),
-                Some(n) => {
-                    let joined = join_full(alloc, subst, names, uses, n, &choice.else_part)?;
-                    Ok(some_if(joined, n))
-                }
-            }
         }
     }
 }

@@ -12,6 +12,22 @@ use plan_core::{Node, Op, Plan};
 use std::alloc::Global;
 use time_pred::Pred;
 
+/// For each node, by its number, whether it is infallible: whether it offers a cell at each instant, whatever the time of
+/// the week is and whatever buffers answer. `docs/fallible.md` has the rule.
+pub fn infallible(alloc: Global, plan: &Plan) -> Result<Vec<bool>, Memory>
+    requires { IsWellFormed plan.now }
+    ensures size { IfOk result (λ marks. length marks.items ≡ length plan.now.nodes) }
+    ensures exact { IfOk result (λ marks. IsMarking plan.now.nodes (mark_at marks.items)) }
+{
+    let nodes = plan.nodes.as_slice();
+    let mut marks = Vec::with_capacity(alloc, nodes.len())?;
+    for node in nodes {
+        let mark = follows(node, &marks);
+        marks.push(mark)?;
+    }
+    Ok(marks)
+}
+
 // Whether some child is infallible.
 fn some_child(children: &[u32], marks: &[bool]) -> bool
     requires { All (λ child. child < length marks.now) children.now }
@@ -74,20 +90,4 @@ fn follows(node: &Node, marks: &[bool]) -> bool
         Op::Buffer(_) => false,
         Op::Clock(_) => some_child(children, marks),
     }
-}
-
-/// For each node, by its number, whether it is infallible: whether it offers a cell at each instant, whatever the time of
-/// the week is and whatever buffers answer. `docs/fallible.md` has the rule.
-pub fn infallible(alloc: Global, plan: &Plan) -> Result<Vec<bool>, Memory>
-    requires { IsWellFormed plan.now }
-    ensures size { IfOk result (λ marks. length marks.items ≡ length plan.now.nodes) }
-    ensures exact { IfOk result (λ marks. IsMarking plan.now.nodes (mark_at marks.items)) }
-{
-    let nodes = plan.nodes.as_slice();
-    let mut marks = Vec::with_capacity(alloc, nodes.len())?;
-    for node in nodes {
-        let mark = follows(node, &marks);
-        marks.push(mark)?;
-    }
-    Ok(marks)
 }

@@ -14,18 +14,6 @@ pub struct Fallible {
     pub sink: u32,
 }
 
-// Whether a sink needs an infallible node and has none.
-fn refuses(marks: &[bool], sink: &SinkPlan) -> bool
-    ensures { result ≡ refuses (mark_at marks.now) sink.now }
-{
-    match sink {
-        SinkPlan::Output { node, fallible, .. } => {
-            !*fallible && !marks.get(*node as usize).copied().unwrap_or(false)
-        }
-        SinkPlan::Feed { .. } => false,
-    }
-}
-
 /// Refuses the first output without `fallible=true` whose node is not marked as infallible. A feed is never refused. It takes
 /// no memory. A node without a mark counts as one that is not infallible.
 pub fn check_outputs(plan: &Plan, marks: &[bool]) -> Result<(), Fallible>
@@ -42,4 +30,16 @@ pub fn check_outputs(plan: &Plan, marks: &[bool]) -> Result<(), Fallible>
         }
     }
     Ok(())
+}
+
+// Whether a sink needs an infallible node and has none.
+fn refuses(marks: &[bool], sink: &SinkPlan) -> bool
+    ensures { result ≡ refuses (mark_at marks.now) sink.now }
+{
+    match sink {
+        SinkPlan::Output { node, fallible, .. } => {
+            !*fallible && !marks.get(*node as usize).copied().unwrap_or(false)
+        }
+        SinkPlan::Feed { .. } => false,
+    }
 }

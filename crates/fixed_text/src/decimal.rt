@@ -5,22 +5,6 @@ ghost use Rattle.fixed_text.specs.Texts.{millionths, samples_in, IsDecimalText};
 
 use crate::digits::{are_digits, value_up_to};
 
-// What one unit of the last of these places is worth, in millionths.
-fn scale(places: usize) -> Option<u64>
-    ensures { result ≡ (if nat_le places 6 then Some (10 ^ (6 - places)) else None) }
-{
-    match places {
-        0 => Some(1_000_000),
-        1 => Some(100_000),
-        2 => Some(10_000),
-        3 => Some(1000),
-        4 => Some(100),
-        5 => Some(10),
-        6 => Some(1),
-        _ => None,
-    }
-}
-
 /// A decimal of a script, exact to a millionth: `0.04` is 40000. `docs/language.md`, "Numbers", has the rule.
 #[derive(Clone, Copy, Debug, PartialEq, Eq)]
 pub struct Decimal {
@@ -62,6 +46,32 @@ impl Decimal {
     }
 }
 
+/// The decimal that a text writes: digits, a point, and at most six digits.
+/// `None` exactly where the text has another form, or where it passes 10^9 units. It takes no memory.
+pub fn read_decimal(text: &[u8]) -> Option<Decimal>
+    ensures found { IfSome result (λ d. (n : ℕ) × (d.millionths ≡ pos n) × IsDecimalText text.now n) }
+    ensures only { (n : ℕ) → IsDecimalText text.now n → option_map (λ d. d.millionths) result ≡ Some (pos n) }
+{
+    let (whole, fraction) = parts(text)?;
+    Decimal::from_digits(whole, fraction)
+}
+
+// What one unit of the last of these places is worth, in millionths.
+fn scale(places: usize) -> Option<u64>
+    ensures { result ≡ (if nat_le places 6 then Some (10 ^ (6 - places)) else None) }
+{
+    match places {
+        0 => Some(1_000_000),
+        1 => Some(100_000),
+        2 => Some(10_000),
+        3 => Some(1000),
+        4 => Some(100),
+        5 => Some(10),
+        6 => Some(1),
+        _ => None,
+    }
+}
+
 // Where the first point of a text stands.
 fn first_point(text: &[u8]) -> Option<usize>
     ensures { result ≡ position (λ b. b == 46) text.now }
@@ -87,14 +97,4 @@ fn parts(text: &[u8]) -> Option<(&[u8], &[u8])>
         return None;
     }
     Some((whole, fraction))
-}
-
-/// The decimal that a text writes: digits, a point, and at most six digits.
-/// `None` exactly where the text has another form, or where it passes 10^9 units. It takes no memory.
-pub fn read_decimal(text: &[u8]) -> Option<Decimal>
-    ensures found { IfSome result (λ d. (n : ℕ) × (d.millionths ≡ pos n) × IsDecimalText text.now n) }
-    ensures only { (n : ℕ) → IsDecimalText text.now n → option_map (λ d. d.millionths) result ≡ Some (pos n) }
-{
-    let (whole, fraction) = parts(text)?;
-    Decimal::from_digits(whole, fraction)
 }

@@ -7,17 +7,6 @@ use crate::digits::{are_digits, value_up_to};
 use itoa::Buffer;
 use liq_base::Memory;
 
-// Digits, at least one, without a leading zero.
-fn is_plain(text: &[u8]) -> bool
-    ensures { result ≡ is_plain text.now }
-{
-    match text {
-        [] => false,
-        [only] => only.is_ascii_digit(),
-        [first, ..] => *first != b'0' && are_digits(text),
-    }
-}
-
 /// The number whose decimal text this is: digits without a sign and without a leading zero (`docs/language.md`,
 /// "Numbers"). `None` exactly where no number below 2^64 has this text. It takes no memory.
 pub fn read_u64(text: &[u8]) -> Option<u64>
@@ -49,4 +38,15 @@ pub fn write_i64(into: &mut Vec<u8>, value: i64) -> Result<(), Memory>
     let mut buffer = Buffer::new();
     into.extend_from_slice(buffer.format(value).as_bytes())?;
     Ok(())
+}
+
+// Digits, at least one, without a leading zero.
+fn is_plain(text: &[u8]) -> bool
+    ensures { result ≡ is_plain text.now }
+{
+    match text {
+        [] => false,
+        [only] => only.is_ascii_digit(),
+        [first, ..] => *first != b'0' && are_digits(text),
+    }
 }

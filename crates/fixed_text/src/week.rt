@@ -10,19 +10,6 @@ pub struct WeekSecond {
     ghost in_week: { second < 604800 },
 }
 
-// The number below 100 that two digits write, if it is at most `most`.
-fn two_digits(tens: u8, ones: u8, most: u32) -> Option<u32>
-    requires { most < 100 }
-    ensures found { IfSome result (λ n. (n ≤ most) × (tens ≡ 48 + n / 10) × (ones ≡ 48 + n % 10)) }
-    ensures only { (n : ℕ) → n ≤ most → tens ≡ 48 + n / 10 → ones ≡ 48 + n % 10 → result ≡ Some n }
-{
-    if !tens.is_ascii_digit() || !ones.is_ascii_digit() {
-        return None;
-    }
-    let value = u32::from(tens - b'0') * 10 + u32::from(ones - b'0');
-    if value <= most { Some(value) } else { None }
-}
-
 /// The second of the week that a text `D:HH:MM:SS` names: D is a digit from 1 (Monday) to 7, and HH, MM and SS have
 /// two digits up to 23, 59 and 59. `None` exactly for any other text. It takes no memory.
 pub fn read_start(text: &[u8]) -> Option<WeekSecond>
@@ -44,4 +31,17 @@ pub fn read_start(text: &[u8]) -> Option<WeekSecond>
         }
         _ => None,
     }
+}
+
+// The number below 100 that two digits write, if it is at most `most`.
+fn two_digits(tens: u8, ones: u8, most: u32) -> Option<u32>
+    requires { most < 100 }
+    ensures found { IfSome result (λ n. (n ≤ most) × (tens ≡ 48 + n / 10) × (ones ≡ 48 + n % 10)) }
+    ensures only { (n : ℕ) → n ≤ most → tens ≡ 48 + n / 10 → ones ≡ 48 + n % 10 → result ≡ Some n }
+{
+    if !tens.is_ascii_digit() || !ones.is_ascii_digit() {
+        return None;
+    }
+    let value = u32::from(tens - b'0') * 10 + u32::from(ones - b'0');
+    if value <= most { Some(value) } else { None }
 }

@@ -12,17 +12,6 @@ use script_grammar::tree::{Arg, Param, ParamForm};
 use std::alloc::Global;
 use typing_rules::Form;
 
-/// The form of a parameter of a def.
-fn form_of(form: &ParamForm) -> Form
-    ensures same { result ≡ form_seen form.now }
-{
-    match form {
-        ParamForm::Plain => Form::InPlace,
-        ParamForm::Labelled => Form::ByLabel,
-        ParamForm::Optional(_) => Form::Perhaps,
-    }
-}
-
 /// The parameters of a def, in order.
 pub fn parameters<'a>(alloc: Global, params: &'a [Param]) -> Result<Vec<Parameter<'a>>, Memory>
     ensures same { IfOk result (λ r. map seen_parameter r.items ≡ parameters_of (listed (map view_param params.now))) }
@@ -86,6 +75,30 @@ pub fn is_label(wanted: Option<&str>, label: Option<&str>) -> bool
     }
 }
 
+/// Takes out each argument that a parameter takes, and answers the first parameter that must have one and finds none.
+pub fn match_arguments<'a>(params: &[Parameter<'a>], given: &mut Vec<Given<'_>>) -> Option<&'a str>
+    ensures missing { seen_label result ≡ first_missing (map seen_parameter params.now) (map seen_given given.old.items) }
+    ensures left { map seen_given given.new.items ≡ left_over (map seen_parameter params.now) (map seen_given given.old.items) }
+{
+    let mut missing = None;
+    for param in params {
+        let taken = take_argument(given, label_of(*param));
+        missing = missing_or(missing, *param, taken);
+    }
+    missing
+}
+
+/// The form of a parameter of a def.
+fn form_of(form: &ParamForm) -> Form
+    ensures same { result ≡ form_seen form.now }
+{
+    match form {
+        ParamForm::Plain => Form::InPlace,
+        ParamForm::Labelled => Form::ByLabel,
+        ParamForm::Optional(_) => Form::Perhaps,
+    }
+}
+
 /// Takes out the first argument with this label, or the first without one, and answers whether there is any.
 fn take_argument(given: &mut Vec<Given<'_>>, label: Option<&str>) -> bool
     ensures taken { result ≡ is_some (argument (seen_label label.entry) (map seen_given given.old.items)) }
@@ -114,17 +127,4 @@ fn missing_or<'a>(missing: Option<&'a str>, param: Parameter<'a>, taken: bool) -
             }
         }
     }
-}
-
-/// Takes out each argument that a parameter takes, and answers the first parameter that must have one and finds none.
-pub fn match_arguments<'a>(params: &[Parameter<'a>], given: &mut Vec<Given<'_>>) -> Option<&'a str>
-    ensures missing { seen_label result ≡ first_missing (map seen_parameter params.now) (map seen_given given.old.items) }
-    ensures left { map seen_given given.new.items ≡ left_over (map seen_parameter params.now) (map seen_given given.old.items) }
-{
-    let mut missing = None;
-    for param in params {
-        let taken = take_argument(given, label_of(*param));
-        missing = missing_or(missing, *param, taken);
-    }
-    missing
 }

@@ -27,18 +27,6 @@ const BUILTINS: [(&str, Builtin); 18] = [
     ("clock", Builtin::Clock),
 ];
 
-/// The builtin of a name in a table.
-fn named_in(rows: &[(&str, Builtin)], name: &str) -> Option<Builtin>
-    ensures same { result ≡ the_named_in name.now (map seen_row rows.now) }
-{
-    for row in rows {
-        if name == row.0 {
-            return Some(row.1);
-        }
-    }
-    None
-}
-
 /// The builtin of this name.
 pub fn builtin_named(name: &str) -> Option<Builtin>
     ensures same { result ≡ the_builtin_named name.now }
@@ -112,4 +100,16 @@ pub fn builtin_params(builtin: Builtin) -> &'static [Parameter<'static>]
         ],
         Builtin::Clock => &[labelled!("id"), plain!("s")],
     }
+}
+
+/// The builtin of a name in a table.
+fn named_in(rows: &[(&str, Builtin)], name: &str) -> Option<Builtin>
+    ensures same { result ≡ the_named_in name.now (map seen_row rows.now) }
+{
+    for row in rows {
+        if name == row.0 {
+            return Some(row.1);
+        }
+    }
+    None
 }

@@ -13,6 +13,47 @@ use script_grammar::tree::{Script, Stmt};
 use std::alloc::Global;
 use typing_rules::{NameFault, TypeFault};
 
+/// The names of one statement more, behind statements without a fault of names, and the scope behind it. Statements are
+/// counted from 1.
+///
+/// # Errors
+///
+/// The fault of names and arguments that is told of the statement, with its number (`docs/typing.md`). `Memory`: memory
+/// was refused.
+pub fn resolve_statement<'a>(
+    alloc: Global,
+    scope: &mut Scope<'a>,
+    notes: &mut Notes,
+    stmt: &'a Stmt,
+    number: u32,
+) -> Result<(), TypeFault>
+    requires clear { notes.old.fault ≡ None }
+    ensures names { OnOk result (found_in notes.new ≡ found_in notes.old ++ map meant (names (in_scope scope.old) (view_stmt stmt.entry.now))) }
+    ensures bound { OnOk result (in_scope scope.new ≡ with_statement (view_stmt stmt.entry.now) (in_scope scope.old)) }
+    ensures clear { OnOk result (notes.new.fault ≡ None) }
+    ensures faultless { OnOk result (told (faults_in (in_scope scope.old) (view_stmt stmt.entry.now)) ≡ None) }
+    ensures told { IfErr result (λ f. f ≢ TypeFault.Memory → option_map (the_fault_in number) (told (faults_in (in_scope scope.old) (view_stmt stmt.entry.now))) ≡ Some f) }
+{
+    note_or_refuse(alloc, scope, notes, stmt)?;
+    check_fault(notes, number)?;
+    Ok(())
+}
+
+/// What each name that a script uses stands for, in the order of the tokens (`docs/typing.md`).
+///
+/// # Errors
+///
+/// The fault of names and arguments that is told: in the first statement that has any, the one at the least token, and
+/// at one token the one with the lesser number. `Memory`: memory was refused, or there are 2^32 statements and more,
+/// which have no number.
+pub fn resolve_names(alloc: Global, script: &Script) -> Result<Vec<Resolved>, TypeFault>
+    ensures names { IfOk result (λ r. map resolved r.items ≡ meanings_of (view_script script.now)) }
+    ensures faultless { IfOk result (λ r. first_told (view_script script.now) ≡ None) }
+    ensures told { IfErr result (λ f. f ≢ TypeFault.Memory → first_told (view_script script.now) ≡ Some f) }
+{
+    resolve_statements(alloc, &script.statements)
+}
+
 /// A fault of names as that of a statement.
 fn in_statement(number: u32, fault: NameFault) -> TypeFault
     ensures same { result ≡ the_fault_in number fault }
@@ -61,32 +102,6 @@ fn note_or_refuse<'a>(
     }
 }
 
-/// The names of one statement more, behind statements without a fault of names, and the scope behind it. Statements are
-/// counted from 1.
-///
-/// # Errors
-///
-/// The fault of names and arguments that is told of the statement, with its number (`docs/typing.md`). `Memory`: memory
-/// was refused.
-pub fn resolve_statement<'a>(
-    alloc: Global,
-    scope: &mut Scope<'a>,
-    notes: &mut Notes,
-    stmt: &'a Stmt,
-    number: u32,
-) -> Result<(), TypeFault>
-    requires clear { notes.old.fault ≡ None }
-    ensures names { OnOk result (found_in notes.new ≡ found_in notes.old ++ map meant (names (in_scope scope.old) (view_stmt stmt.entry.now))) }
-    ensures bound { OnOk result (in_scope scope.new ≡ with_statement (view_stmt stmt.entry.now) (in_scope scope.old)) }
-    ensures clear { OnOk result (notes.new.fault ≡ None) }
-    ensures faultless { OnOk result (told (faults_in (in_scope scope.old) (view_stmt stmt.entry.now)) ≡ None) }
-    ensures told { IfErr result (λ f. f ≢ TypeFault.Memory → option_map (the_fault_in number) (told (faults_in (in_scope scope.old) (view_stmt stmt.entry.now))) ≡ Some f) }
-{
-    note_or_refuse(alloc, scope, notes, stmt)?;
-    check_fault(notes, number)?;
-    Ok(())
-}
-
 /// The names of statements, or the fault that is told of them.
 fn resolve_statements<'a>(alloc: Global, statements: &'a [Stmt]) -> Result<Vec<Resolved>, TypeFault>
     ensures names { IfOk result (λ r. map resolved r.items ≡ meanings_of (listed (map view_stmt statements.entry.now))) }
@@ -104,19 +119,4 @@ fn resolve_statements<'a>(alloc: Global, statements: &'a [Stmt]) -> Result<Vec<R
         resolve_statement(alloc, &mut scope, &mut notes, stmt, number)?;
     }
     Ok(notes.found)
-}
-
-/// What each name that a script uses stands for, in the order of the tokens (`docs/typing.md`).
-///
-/// # Errors
-///
-/// The fault of names and arguments that is told: in the first statement that has any, the one at the least token, and
-/// at one token the one with the lesser number. `Memory`: memory was refused, or there are 2^32 statements and more,
-/// which have no number.
-pub fn resolve_names(alloc: Global, script: &Script) -> Result<Vec<Resolved>, TypeFault>
-    ensures names { IfOk result (λ r. map resolved r.items ≡ meanings_of (view_script script.now)) }
-    ensures faultless { IfOk result (λ r. first_told (view_script script.now) ≡ None) }
-    ensures told { IfErr result (λ f. f ≢ TypeFault.Memory → first_told (view_script script.now) ≡ Some f) }
-{
-    resolve_statements(alloc, &script.statements)
 }

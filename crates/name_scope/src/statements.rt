@@ -16,6 +16,46 @@ use liq_base::Memory;
 use script_grammar::tree::{Bind, Call, Def, Full, If, Inner, Param, ParamForm, Stmt, StmtPart};
 use std::alloc::Global;
 
+/// The names that a def's text uses.
+pub fn note_def<'a>(
+    alloc: Global,
+    outer: &Scope<'a>,
+    notes: &mut Notes,
+    def: &'a Def,
+) -> Result<(), Memory>
+    ensures noted { OnOk result (noted notes.new ≡ with_names (noted notes.old) (names (in_scope outer.now) (view_def def.entry.now))) }
+{
+    let mut inner: Scope<'a> = Scope::new(alloc);
+    note_defaults(
+        alloc,
+        Scopes {
+            inner: &inner,
+            outer,
+        },
+        notes,
+        &def.params,
+    )?;
+    note_body(alloc, outer, &mut inner, notes, def)?;
+    Ok(())
+}
+
+/// The names that a statement uses behind statements without a fault of names, with the fault that is told of it; and
+/// the scope behind it.
+pub(crate) fn note_statement<'a>(
+    alloc: Global,
+    scope: &mut Scope<'a>,
+    notes: &mut Notes,
+    stmt: &'a Stmt,
+) -> Result<(), Memory>
+    requires clear { notes.old.fault ≡ None }
+    ensures fault { OnOk result (notes.new.fault ≡ told (faults_in (in_scope scope.old) (view_stmt stmt.entry.now))) }
+    ensures names { OnOk result (notes.new.fault ≡ None → found_in notes.new ≡ found_in notes.old ++ map meant (names (in_scope scope.old) (view_stmt stmt.entry.now))) }
+    ensures bound { OnOk result (in_scope scope.new ≡ with_statement (view_stmt stmt.entry.now) (in_scope scope.old)) }
+{
+    note_part(alloc, scope, notes, &stmt.part, stmt.semicolon)?;
+    Ok(())
+}
+
 /// The names that the default of a parameter uses, if it has one.
 fn note_default(
     alloc: Global,
@@ -104,29 +144,6 @@ fn note_body<'a>(
         notes,
         &def.result,
     )?;
-    Ok(())
-}
-
-/// The names that a def's text uses.
-pub fn note_def<'a>(
-    alloc: Global,
-    outer: &Scope<'a>,
-    notes: &mut Notes,
-    def: &'a Def,
-) -> Result<(), Memory>
-    ensures noted { OnOk result (noted notes.new ≡ with_names (noted notes.old) (names (in_scope outer.now) (view_def def.entry.now))) }
-{
-    let mut inner: Scope<'a> = Scope::new(alloc);
-    note_defaults(
-        alloc,
-        Scopes {
-            inner: &inner,
-            outer,
-        },
-        notes,
-        &def.params,
-    )?;
-    note_body(alloc, outer, &mut inner, notes, def)?;
     Ok(())
 }
 
@@ -257,21 +274,4 @@ fn note_part<'a>(
             Ok(())
         }
     }
-}
-
-/// The names that a statement uses behind statements without a fault of names, with the fault that is told of it; and
-/// the scope behind it.
-pub(crate) fn note_statement<'a>(
-    alloc: Global,
-    scope: &mut Scope<'a>,
-    notes: &mut Notes,
-    stmt: &'a Stmt,
-) -> Result<(), Memory>
-    requires clear { notes.old.fault ≡ None }
-    ensures fault { OnOk result (notes.new.fault ≡ told (faults_in (in_scope scope.old) (view_stmt stmt.entry.now))) }
-    ensures names { OnOk result (notes.new.fault ≡ None → found_in notes.new ≡ found_in notes.old ++ map meant (names (in_scope scope.old) (view_stmt stmt.entry.now))) }
-    ensures bound { OnOk result (in_scope scope.new ≡ with_statement (view_stmt stmt.entry.now) (in_scope scope.old)) }
-{
-    note_part(alloc, scope, notes, &stmt.part, stmt.semicolon)?;
-    Ok(())
 }

@@ -44,6 +44,37 @@ pub fn note_expr(
     Ok(())
 }
 
+/// The name of a call and the names that its arguments use. It fails only where memory is refused.
+#[cycle(value)]
+pub fn note_call(
+    alloc: Global,
+    scopes: Scopes<'_, '_>,
+    notes: &mut Notes,
+    call: &Call,
+) -> Result<(), Memory>
+    ensures { OnOk result (noted notes.new ≡ with_names (noted notes.old) (names (both_scopes scopes.entry) (view_call call.now))) }
+{
+    notes.add_call(alloc, scopes, call.at, &call.name, &call.args)?;
+    note_args(alloc, scopes, notes, &call.args)?;
+    Ok(())
+}
+
+/// The names that an `if` uses, in the order of its parts. It fails only where memory is refused.
+#[cycle(value)]
+pub fn note_choice(
+    alloc: Global,
+    scopes: Scopes<'_, '_>,
+    notes: &mut Notes,
+    choice: &If,
+) -> Result<(), Memory>
+    ensures { OnOk result (noted notes.new ≡ with_names (noted notes.old) (names (both_scopes scopes.entry) (view_if choice.now))) }
+{
+    note_full(alloc, scopes, notes, &choice.condition)?;
+    note_full(alloc, scopes, notes, &choice.then_part)?;
+    note_full(alloc, scopes, notes, &choice.else_part)?;
+    Ok(())
+}
+
 #[cycle(value)]
 fn note_ands(
     alloc: Global,
@@ -241,21 +272,6 @@ fn note_fulls(
     Ok(())
 }
 
-/// The name of a call and the names that its arguments use. It fails only where memory is refused.
-#[cycle(value)]
-pub fn note_call(
-    alloc: Global,
-    scopes: Scopes<'_, '_>,
-    notes: &mut Notes,
-    call: &Call,
-) -> Result<(), Memory>
-    ensures { OnOk result (noted notes.new ≡ with_names (noted notes.old) (names (both_scopes scopes.entry) (view_call call.now))) }
-{
-    notes.add_call(alloc, scopes, call.at, &call.name, &call.args)?;
-    note_args(alloc, scopes, notes, &call.args)?;
-    Ok(())
-}
-
 #[cycle(value)]
 fn note_args(
     alloc: Global,
@@ -281,20 +297,4 @@ fn note_arg(
     ensures { OnOk result (noted notes.new ≡ with_names (noted notes.old) (names (both_scopes scopes.entry) (view_arg arg.now))) }
 {
     note_full(alloc, scopes, notes, &arg.value)
-}
-
-/// The names that an `if` uses, in the order of its parts. It fails only where memory is refused.
-#[cycle(value)]
-pub fn note_choice(
-    alloc: Global,
-    scopes: Scopes<'_, '_>,
-    notes: &mut Notes,
-    choice: &If,
-) -> Result<(), Memory>
-    ensures { OnOk result (noted notes.new ≡ with_names (noted notes.old) (names (both_scopes scopes.entry) (view_if choice.now))) }
-{
-    note_full(alloc, scopes, notes, &choice.condition)?;
-    note_full(alloc, scopes, notes, &choice.then_part)?;
-    note_full(alloc, scopes, notes, &choice.else_part)?;
-    Ok(())
 }

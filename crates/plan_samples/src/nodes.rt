@@ -12,59 +12,6 @@ use plan_core::{
 };
 use std::alloc::Global;
 
-// Adds a mono node, and answers its number.
-fn push_mono(draft: &mut Draft, op: Op, children: Vec<u32>) -> Result<u32, PlanFault>
-    requires mono { IsMono draft.old }
-    requires below { All (λ child. child < length draft.old.nodes) children.items }
-    requires few { length children.items ≤ MAX_CHILDREN }
-    requires count { HasChildren op (length children.items) }
-    requires kind { HasKind op Kind.Mono Kind.Mono }
-    requires range { IsInRange op }
-    requires reader { IsNoReader op }
-    requires crossfades { crossfades_from draft.old.nodes (mono_node op children.items) ≤ MAX_CROSSFADES }
-    ensures mono { OnOk result (IsMono draft.new) }
-    ensures added { OnOk result (draft.new ≡ with_node draft.old (mono_node op children.items)) }
-    ensures number { IfOk result (λ number. number ≡ length draft.old.nodes) }
-{
-    let number = draft.push_node(Node {
-        op,
-        kind: Kind::Mono,
-        children: Items::from_vec(children),
-    })?;
-    Ok(number)
-}
-
-// Adds a mono node that is no crossfade, and answers its number.
-fn push_plain(draft: &mut Draft, op: Op, children: Vec<u32>) -> Result<u32, PlanFault>
-    requires mono { IsMono draft.old }
-    requires below { All (λ child. child < length draft.old.nodes) children.items }
-    requires few { length children.items ≤ MAX_CHILDREN }
-    requires count { HasChildren op (length children.items) }
-    requires kind { HasKind op Kind.Mono Kind.Mono }
-    requires range { IsInRange op }
-    requires reader { IsNoReader op }
-    requires plain { own_crossfades op ≡ 0 }
-    ensures mono { OnOk result (IsMono draft.new) }
-    ensures added { OnOk result (draft.new ≡ with_node draft.old (mono_node op children.items)) }
-    ensures number { IfOk result (λ number. number ≡ length draft.old.nodes) }
-{
-    only_crossfades_add_crossfades();
-    let number = push_mono(draft, op, children)?;
-    Ok(number)
-}
-
-fn one(alloc: Global, child: u32) -> Result<Vec<u32>, Memory>
-    ensures { IfOk result (λ children. children.items ≡ child ∷ []) }
-{
-    Ok(vec![in alloc; child]?)
-}
-
-fn two(alloc: Global, first: u32, second: u32) -> Result<Vec<u32>, Memory>
-    ensures { IfOk result (λ children. children.items ≡ first ∷ second ∷ []) }
-{
-    Ok(vec![in alloc; first, second]?)
-}
-
 // Adds a blank, and answers its number.
 pub(crate) fn push_blank(alloc: Global, draft: &mut Draft) -> Result<u32, PlanFault>
     requires { IsMono draft.old }
@@ -139,4 +86,57 @@ pub(crate) fn push_sum(
         two(alloc, first, second)?,
     )?;
     Ok(())
+}
+
+// Adds a mono node, and answers its number.
+fn push_mono(draft: &mut Draft, op: Op, children: Vec<u32>) -> Result<u32, PlanFault>
+    requires mono { IsMono draft.old }
+    requires below { All (λ child. child < length draft.old.nodes) children.items }
+    requires few { length children.items ≤ MAX_CHILDREN }
+    requires count { HasChildren op (length children.items) }
+    requires kind { HasKind op Kind.Mono Kind.Mono }
+    requires range { IsInRange op }
+    requires reader { IsNoReader op }
+    requires crossfades { crossfades_from draft.old.nodes (mono_node op children.items) ≤ MAX_CROSSFADES }
+    ensures mono { OnOk result (IsMono draft.new) }
+    ensures added { OnOk result (draft.new ≡ with_node draft.old (mono_node op children.items)) }
+    ensures number { IfOk result (λ number. number ≡ length draft.old.nodes) }
+{
+    let number = draft.push_node(Node {
+        op,
+        kind: Kind::Mono,
+        children: Items::from_vec(children),
+    })?;
+    Ok(number)
+}
+
+// Adds a mono node that is no crossfade, and answers its number.
+fn push_plain(draft: &mut Draft, op: Op, children: Vec<u32>) -> Result<u32, PlanFault>
+    requires mono { IsMono draft.old }
+    requires below { All (λ child. child < length draft.old.nodes) children.items }
+    requires few { length children.items ≤ MAX_CHILDREN }
+    requires count { HasChildren op (length children.items) }
+    requires kind { HasKind op Kind.Mono Kind.Mono }
+    requires range { IsInRange op }
+    requires reader { IsNoReader op }
+    requires plain { own_crossfades op ≡ 0 }
+    ensures mono { OnOk result (IsMono draft.new) }
+    ensures added { OnOk result (draft.new ≡ with_node draft.old (mono_node op children.items)) }
+    ensures number { IfOk result (λ number. number ≡ length draft.old.nodes) }
+{
+    only_crossfades_add_crossfades();
+    let number = push_mono(draft, op, children)?;
+    Ok(number)
+}
+
+fn one(alloc: Global, child: u32) -> Result<Vec<u32>, Memory>
+    ensures { IfOk result (λ children. children.items ≡ child ∷ []) }
+{
+    Ok(vec![in alloc; child]?)
+}
+
+fn two(alloc: Global, first: u32, second: u32) -> Result<Vec<u32>, Memory>
+    ensures { IfOk result (λ children. children.items ≡ first ∷ second ∷ []) }
+{
+    Ok(vec![in alloc; first, second]?)
 }

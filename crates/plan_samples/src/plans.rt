@@ -8,6 +8,52 @@ use liq_base::{Memory, Text};
 use plan_core::{Draft, Plan, PlanFault, an_empty_plan_is_well_formed};
 use std::alloc::Global;
 
+/// A mono plan of so many nodes: a blank, and nodes that amplify it by 1. With `chained` each stands over the one before
+/// it, and otherwise all stand over the blank. An output writes the blank. `TooManySources` comes for more than 4096
+/// nodes.
+pub fn plan_over(alloc: Global, count: u32, chained: bool) -> Result<Plan, PlanFault>
+    ensures well_formed { IfOk result IsWellFormed }
+{
+    let mut draft = begun(alloc);
+    push_blank(alloc, &mut draft)?;
+    for number in 1..count {
+        let child = if chained { number - 1 } else { 0 };
+        push_amplified(alloc, &mut draft, child)?;
+    }
+    write(alloc, &mut draft, 0)?;
+    Ok(draft.into_plan())
+}
+
+/// A mono plan of so many main clocks, `c0` to `cN`: node 2n is a blank, which node 2n + 1 puts into the clock `cn`. An
+/// output writes each clock, the last one first. `TooManySources` comes for more than 2048 clocks.
+pub fn plan_of_clocks(alloc: Global, count: u32) -> Result<Plan, PlanFault>
+    ensures well_formed { IfOk result IsWellFormed }
+{
+    let mut draft = begun(alloc);
+    for number in 0..count {
+        push_clocked(alloc, &mut draft, number)?;
+    }
+    write_back(alloc, &mut draft, count)?;
+    Ok(draft.into_plan())
+}
+
+/// A mono plan of so many crossfades, at least one, each in the sub-clock of the one before it: nodes 0 and 1 are a blank
+/// and its crossfade, which an output writes, and nodes 3n - 1, 3n and 3n + 1 are another blank, its crossfade, and the
+/// sum of that crossfade and of the blank before, which nobody uses. `TooManySources` comes for more than 1365
+/// crossfades.
+pub fn plan_of_nested_crossfades(alloc: Global, count: u32) -> Result<Plan, PlanFault>
+    ensures well_formed { IfOk result IsWellFormed }
+{
+    let mut draft = begun(alloc);
+    let mut blank = push_blank(alloc, &mut draft)?;
+    push_crossfade(alloc, &mut draft, blank)?;
+    for _ in 1..count {
+        blank = push_nested(alloc, &mut draft, blank)?;
+    }
+    write(alloc, &mut draft, 1)?;
+    Ok(draft.into_plan())
+}
+
 // A draft without nodes, at 44100 samples a second in ticks of 1764.
 fn begun(alloc: Global) -> Draft
     ensures mono { IsMono result }
@@ -26,22 +72,6 @@ fn write(alloc: Global, draft: &mut Draft, node: u32) -> Result<(), Memory>
 {
     draft.push_output(Text::from_string(String::new(alloc)), node, false)?;
     Ok(())
-}
-
-/// A mono plan of so many nodes: a blank, and nodes that amplify it by 1. With `chained` each stands over the one before
-/// it, and otherwise all stand over the blank. An output writes the blank. `TooManySources` comes for more than 4096
-/// nodes.
-pub fn plan_over(alloc: Global, count: u32, chained: bool) -> Result<Plan, PlanFault>
-    ensures well_formed { IfOk result IsWellFormed }
-{
-    let mut draft = begun(alloc);
-    push_blank(alloc, &mut draft)?;
-    for number in 1..count {
-        let child = if chained { number - 1 } else { 0 };
-        push_amplified(alloc, &mut draft, child)?;
-    }
-    write(alloc, &mut draft, 0)?;
-    Ok(draft.into_plan())
 }
 
 // Adds a blank, and that blank under the clock `cN` of this number.
@@ -71,19 +101,6 @@ fn write_back(alloc: Global, draft: &mut Draft, count: u32) -> Result<(), Memory
     Ok(())
 }
 
-/// A mono plan of so many main clocks, `c0` to `cN`: node 2n is a blank, which node 2n + 1 puts into the clock `cn`. An
-/// output writes each clock, the last one first. `TooManySources` comes for more than 2048 clocks.
-pub fn plan_of_clocks(alloc: Global, count: u32) -> Result<Plan, PlanFault>
-    ensures well_formed { IfOk result IsWellFormed }
-{
-    let mut draft = begun(alloc);
-    for number in 0..count {
-        push_clocked(alloc, &mut draft, number)?;
-    }
-    write_back(alloc, &mut draft, count)?;
-    Ok(draft.into_plan())
-}
-
 // Adds a blank, a crossfade of it, and the sum of that crossfade and of this node, which nobody uses. Answers the blank.
 fn push_nested(alloc: Global, draft: &mut Draft, outer: u32) -> Result<u32, PlanFault>
     requires mono { IsMono draft.old }
@@ -96,21 +113,4 @@ fn push_nested(alloc: Global, draft: &mut Draft, outer: u32) -> Result<u32, Plan
     let crossfade = push_crossfade(alloc, draft, inner)?;
     push_sum(alloc, draft, crossfade, outer)?;
     Ok(inner)
-}
-
-/// A mono plan of so many crossfades, at least one, each in the sub-clock of the one before it: nodes 0 and 1 are a blank
-/// and its crossfade, which an output writes, and nodes 3n - 1, 3n and 3n + 1 are another blank, its crossfade, and the
-/// sum of that crossfade and of the blank before, which nobody uses. `TooManySources` comes for more than 1365
-/// crossfades.
-pub fn plan_of_nested_crossfades(alloc: Global, count: u32) -> Result<Plan, PlanFault>
-    ensures well_formed { IfOk result IsWellFormed }
-{
-    let mut draft = begun(alloc);
-    let mut blank = push_blank(alloc, &mut draft)?;
-    push_crossfade(alloc, &mut draft, blank)?;
-    for _ in 1..count {
-        blank = push_nested(alloc, &mut draft, blank)?;
-    }
-    write(alloc, &mut draft, 1)?;
-    Ok(draft.into_plan())
 }

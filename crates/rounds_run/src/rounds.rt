@@ -10,6 +10,33 @@ use liq_base::Sink;
 use plan_core::Plan;
 use std::alloc::Global;
 
+/// Renders so many ticks, at most 1000000000, of each clock, on one thread: tick r of clock 0, of clock 1 and so on, then
+/// tick r + 1. The engines stand in clock order, made no tick, and are over this plan, which has no buffers. The first fault
+/// ends the run. No memory is taken.
+pub fn run_rounds<O: Sink>(
+    alloc: Global,
+    plan: &Plan,
+    engines: &mut [ClockEngine<'_, O>],
+    ticks: u64,
+) -> RunEnd
+    requires buffers { plan.now.buffers ≡ [] }
+    requires engines { AreEngines O.room ticks engines.old }
+    requires few { ticks ≤ 1000000000 }
+    ensures done { result.end ≡ Done → HaveRun O.held O.name O.faults (λ clock. ticks) engines.old engines.new }
+    ensures stopped { (result.end ≡ Done → ⊥) → HaveRunPart O.held O.name O.faults ticks engines.old engines.new }
+    ensures write { (result.end ≡ Done → ⊥) → IsWriteEnd O.faults engines.old engines.new result.end }
+    ensures counts { result.counts.items ≡ [] }
+    ensures logs { result.logs.items ≡ [] }
+{
+    let Ok(mut taps) = LocalTaps::new(alloc, plan) else {
+        return ended(alloc, End::Memory);
+    };
+    match make_rounds(engines, &mut taps, ticks) {
+        Ok(()) => ended(alloc, End::Done),
+        Err(end) => ended(alloc, end),
+    }
+}
+
 // How a run ends at a fault of the engine of this clock.
 fn end_of(clock: u32, fault: TickFault) -> End
     ensures { (sink : ℕ) → fault ≡ TickWrite sink → result ≡ Write clock sink }
@@ -52,32 +79,5 @@ fn ended(alloc: Global, end: End) -> RunEnd
         counts: Vec::new(alloc),
         logs: Vec::new(alloc),
         end,
-    }
-}
-
-/// Renders so many ticks, at most 1000000000, of each clock, on one thread: tick r of clock 0, of clock 1 and so on, then
-/// tick r + 1. The engines stand in clock order, made no tick, and are over this plan, which has no buffers. The first fault
-/// ends the run. No memory is taken.
-pub fn run_rounds<O: Sink>(
-    alloc: Global,
-    plan: &Plan,
-    engines: &mut [ClockEngine<'_, O>],
-    ticks: u64,
-) -> RunEnd
-    requires buffers { plan.now.buffers ≡ [] }
-    requires engines { AreEngines O.room ticks engines.old }
-    requires few { ticks ≤ 1000000000 }
-    ensures done { result.end ≡ Done → HaveRun O.held O.name O.faults (λ clock. ticks) engines.old engines.new }
-    ensures stopped { (result.end ≡ Done → ⊥) → HaveRunPart O.held O.name O.faults ticks engines.old engines.new }
-    ensures write { (result.end ≡ Done → ⊥) → IsWriteEnd O.faults engines.old engines.new result.end }
-    ensures counts { result.counts.items ≡ [] }
-    ensures logs { result.logs.items ≡ [] }
-{
-    let Ok(mut taps) = LocalTaps::new(alloc, plan) else {
-        return ended(alloc, End::Memory);
-    };
-    match make_rounds(engines, &mut taps, ticks) {
-        Ok(()) => ended(alloc, End::Done),
-        Err(end) => ended(alloc, end),
     }
 }

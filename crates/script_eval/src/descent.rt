@@ -70,6 +70,39 @@ pub fn expr(
 }
 
 #[cycle(value)]
+#[tactic(auto, unfolding(eval_meaning::specs::Meaning::choice))]
+pub fn choice(
+    alloc: Global,
+    scope: &Scope<'_>,
+    left: usize,
+    machine: &mut Machine,
+    node: &If,
+) -> Result<Value, Fault>
+    ensures { Gives (λ v. (view_value v, machine.new)) result (choice (scope_of scope.now) (view_if node.now) machine.old) }
+{
+    let condition = full(alloc, scope, left, machine, &node.condition)?;
+    if truth_of(&condition)? {
+        full(alloc, scope, left, machine, &node.then_part)
+    } else {
+        full(alloc, scope, left, machine, &node.else_part)
+    }
+}
+
+#[cycle(value)]
+pub fn call(
+    alloc: Global,
+    scope: &Scope<'_>,
+    left: usize,
+    machine: &mut Machine,
+    node: &Call,
+) -> Result<Value, Fault>
+    ensures { Gives (λ v. (view_value v, machine.new)) result (call (scope_of scope.now) (view_call node.now) machine.old) }
+{
+    let given = arguments(alloc, scope, left, machine, &node.args)?;
+    applied(alloc, scope, left, machine, node.at, given)
+}
+
+#[cycle(value)]
 fn ors(
     alloc: Global,
     scope: &Scope<'_>,
@@ -455,39 +488,6 @@ fn fulls(
         values.push(value)?;
     }
     Ok(values)
-}
-
-#[cycle(value)]
-#[tactic(auto, unfolding(eval_meaning::specs::Meaning::choice))]
-pub fn choice(
-    alloc: Global,
-    scope: &Scope<'_>,
-    left: usize,
-    machine: &mut Machine,
-    node: &If,
-) -> Result<Value, Fault>
-    ensures { Gives (λ v. (view_value v, machine.new)) result (choice (scope_of scope.now) (view_if node.now) machine.old) }
-{
-    let condition = full(alloc, scope, left, machine, &node.condition)?;
-    if truth_of(&condition)? {
-        full(alloc, scope, left, machine, &node.then_part)
-    } else {
-        full(alloc, scope, left, machine, &node.else_part)
-    }
-}
-
-#[cycle(value)]
-pub fn call(
-    alloc: Global,
-    scope: &Scope<'_>,
-    left: usize,
-    machine: &mut Machine,
-    node: &Call,
-) -> Result<Value, Fault>
-    ensures { Gives (λ v. (view_value v, machine.new)) result (call (scope_of scope.now) (view_call node.now) machine.old) }
-{
-    let given = arguments(alloc, scope, left, machine, &node.args)?;
-    applied(alloc, scope, left, machine, node.at, given)
 }
 
 #[cycle(value)]

@@ -48,6 +48,40 @@ pub fn named(
     }
 }
 
+/// The kinds of a use, where the def around has these.
+pub fn kinds_of(
+    alloc: Global,
+    given: &[Kind],
+    wanted: &[KindOf],
+) -> Result<Option<Vec<Kind>>, Memory>
+    ensures { IfOk result (λ r. option_map (λ v. v.items) r ≡ kinds_of given.now wanted.now) }
+{
+    let mut kinds = Vec::new(alloc);
+    for kind in wanted {
+        match kind_at(given, *kind) {
+            None => return Ok(None),
+            Some(found) => kinds.push(found)?,
+        }
+    }
+    Ok(Some(kinds))
+}
+
+/// The format that `%wav` names.
+pub fn format(at: u32, size: Option<i64>) -> Result<Value, Fault>
+    ensures { Gives (λ v. view_value v) result (format at size) }
+{
+    match size {
+        None => Ok(Value::Format),
+        Some(bits) => {
+            if bits == 16 {
+                Ok(Value::Format)
+            } else {
+                Err(Fault::BadValue(at))
+            }
+        }
+    }
+}
+
 fn slot_value(
     alloc: Global,
     scope: &Scope<'_>,
@@ -76,45 +110,11 @@ fn lookup<'a>(scope: &Scope<'a>, at: u32) -> Option<&'a Value>
     }
 }
 
-/// The kinds of a use, where the def around has these.
-pub fn kinds_of(
-    alloc: Global,
-    given: &[Kind],
-    wanted: &[KindOf],
-) -> Result<Option<Vec<Kind>>, Memory>
-    ensures { IfOk result (λ r. option_map (λ v. v.items) r ≡ kinds_of given.now wanted.now) }
-{
-    let mut kinds = Vec::new(alloc);
-    for kind in wanted {
-        match kind_at(given, *kind) {
-            None => return Ok(None),
-            Some(found) => kinds.push(found)?,
-        }
-    }
-    Ok(Some(kinds))
-}
-
 fn kind_at(given: &[Kind], wanted: KindOf) -> Option<Kind>
     ensures { result ≡ kind_at given.now wanted }
 {
     match wanted {
         KindOf::Fixed(kind) => Some(kind),
         KindOf::Given(number) => given.get(number as usize).copied(),
-    }
-}
-
-/// The format that `%wav` names.
-pub fn format(at: u32, size: Option<i64>) -> Result<Value, Fault>
-    ensures { Gives (λ v. view_value v) result (format at size) }
-{
-    match size {
-        None => Ok(Value::Format),
-        Some(bits) => {
-            if bits == 16 {
-                Ok(Value::Format)
-            } else {
-                Err(Fault::BadValue(at))
-            }
-        }
     }
 }

@@ -11,6 +11,15 @@ use liq_base::{Memory, Text};
 use script_lex::{Keyword, Symbol, TokenKind};
 use std::alloc::Global;
 
+/// The one list of token kinds that spells a script, as `docs/grammar.md` gives it.
+pub fn spell(alloc: Global, script: &Script) -> Result<Vec<TokenKind>, Memory>
+    ensures spelled { IfOk result (λ kinds. kinds.items ≡ spelling (view_script script.now)) }
+{
+    let mut out = Vec::new(alloc);
+    put_stmts(alloc, &mut out, &script.statements)?;
+    Ok(out)
+}
+
 fn put_bind(alloc: Global, out: &mut Vec<TokenKind>, bind: &Bind) -> Result<(), Memory>
     ensures { OnOk result (out.new.items ≡ out.old.items ++ spell (view_bind bind.now)) }
 {
@@ -139,13 +148,4 @@ fn put_stmts(alloc: Global, out: &mut Vec<TokenKind>, stmts: &[Stmt]) -> Result<
         put_stmt(alloc, out, stmt)?;
     }
     Ok(())
-}
-
-/// The one list of token kinds that spells a script, as `docs/grammar.md` gives it.
-pub fn spell(alloc: Global, script: &Script) -> Result<Vec<TokenKind>, Memory>
-    ensures spelled { IfOk result (λ kinds. kinds.items ≡ spelling (view_script script.now)) }
-{
-    let mut out = Vec::new(alloc);
-    put_stmts(alloc, &mut out, &script.statements)?;
-    Ok(out)
 }

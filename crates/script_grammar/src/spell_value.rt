@@ -16,6 +16,53 @@ use liq_base::{Memory, Text};
 use script_lex::{Keyword, Symbol, TokenKind};
 use std::alloc::Global;
 
+#[cycle(value)]
+pub fn put_full(alloc: Global, out: &mut Vec<TokenKind>, full: &Full) -> Result<(), Memory>
+    ensures { OnOk result (out.new.items ≡ out.old.items ++ spell (view_full full.now)) }
+{
+    match full {
+        Full::Minus { at: _, number } => {
+            out.push(TokenKind::Symbol(Symbol::Minus))?;
+            out.push(literal_token(*number))?;
+            Ok(())
+        }
+        Full::Plain(expr) => put_expr(alloc, out, expr),
+    }
+}
+
+#[cycle(value)]
+pub fn put_expr(alloc: Global, out: &mut Vec<TokenKind>, expr: &Expr) -> Result<(), Memory>
+    ensures { OnOk result (out.new.items ≡ out.old.items ++ spell (view_expr expr.now)) }
+{
+    put_and(alloc, out, &expr.first)?;
+    put_ands(alloc, out, &expr.rest)?;
+    Ok(())
+}
+
+#[cycle(value)]
+pub fn put_call(alloc: Global, out: &mut Vec<TokenKind>, call: &Call) -> Result<(), Memory>
+    ensures { OnOk result (out.new.items ≡ out.old.items ++ spell (view_call call.now)) }
+{
+    out.push(TokenKind::NameOpen(call.name.copy(alloc)?))?;
+    put_args(alloc, out, &call.args)?;
+    out.push(TokenKind::Symbol(Symbol::CloseRound))?;
+    Ok(())
+}
+
+#[cycle(value)]
+pub fn put_choice(alloc: Global, out: &mut Vec<TokenKind>, choice: &If) -> Result<(), Memory>
+    ensures { OnOk result (out.new.items ≡ out.old.items ++ spell (view_if choice.now)) }
+{
+    out.push(TokenKind::Keyword(Keyword::If))?;
+    put_full(alloc, out, &choice.condition)?;
+    out.push(TokenKind::Keyword(Keyword::Then))?;
+    put_full(alloc, out, &choice.then_part)?;
+    out.push(TokenKind::Keyword(Keyword::Else))?;
+    put_full(alloc, out, &choice.else_part)?;
+    out.push(TokenKind::Keyword(Keyword::End))?;
+    Ok(())
+}
+
 fn literal_token(number: Literal) -> TokenKind
     ensures { result ≡ literal_token number }
 {
@@ -66,29 +113,6 @@ fn multiplied_token(divide: bool) -> TokenKind
     } else {
         TokenKind::Symbol(Symbol::Star)
     }
-}
-
-#[cycle(value)]
-pub fn put_full(alloc: Global, out: &mut Vec<TokenKind>, full: &Full) -> Result<(), Memory>
-    ensures { OnOk result (out.new.items ≡ out.old.items ++ spell (view_full full.now)) }
-{
-    match full {
-        Full::Minus { at: _, number } => {
-            out.push(TokenKind::Symbol(Symbol::Minus))?;
-            out.push(literal_token(*number))?;
-            Ok(())
-        }
-        Full::Plain(expr) => put_expr(alloc, out, expr),
-    }
-}
-
-#[cycle(value)]
-pub fn put_expr(alloc: Global, out: &mut Vec<TokenKind>, expr: &Expr) -> Result<(), Memory>
-    ensures { OnOk result (out.new.items ≡ out.old.items ++ spell (view_expr expr.now)) }
-{
-    put_and(alloc, out, &expr.first)?;
-    put_ands(alloc, out, &expr.rest)?;
-    Ok(())
 }
 
 #[cycle(value)]
@@ -311,16 +335,6 @@ fn put_fulls(alloc: Global, out: &mut Vec<TokenKind>, parts: &[Full]) -> Result<
     }
 }
 
-#[cycle(value)]
-pub fn put_call(alloc: Global, out: &mut Vec<TokenKind>, call: &Call) -> Result<(), Memory>
-    ensures { OnOk result (out.new.items ≡ out.old.items ++ spell (view_call call.now)) }
-{
-    out.push(TokenKind::NameOpen(call.name.copy(alloc)?))?;
-    put_args(alloc, out, &call.args)?;
-    out.push(TokenKind::Symbol(Symbol::CloseRound))?;
-    Ok(())
-}
-
 // Arguments with commas between.
 #[cycle(value)]
 fn put_args(alloc: Global, out: &mut Vec<TokenKind>, args: &[Arg]) -> Result<(), Memory>
@@ -358,18 +372,4 @@ fn put_label(alloc: Global, out: &mut Vec<TokenKind>, name: &Option<Text>) -> Re
             Ok(())
         }
     }
-}
-
-#[cycle(value)]
-pub fn put_choice(alloc: Global, out: &mut Vec<TokenKind>, choice: &If) -> Result<(), Memory>
-    ensures { OnOk result (out.new.items ≡ out.old.items ++ spell (view_if choice.now)) }
-{
-    out.push(TokenKind::Keyword(Keyword::If))?;
-    put_full(alloc, out, &choice.condition)?;
-    out.push(TokenKind::Keyword(Keyword::Then))?;
-    put_full(alloc, out, &choice.then_part)?;
-    out.push(TokenKind::Keyword(Keyword::Else))?;
-    put_full(alloc, out, &choice.else_part)?;
-    out.push(TokenKind::Keyword(Keyword::End))?;
-    Ok(())
 }

@@ -13,6 +13,25 @@ use crate::token::{LexFault, Token};
 use liq_base::limits::MAX_SCRIPT_BYTES;
 use std::alloc::Global;
 
+/// The tokens of a script, each the longest that stands at its place (`docs/language.md`, "Tokens").
+///
+/// It answers the list of tokens exactly where the script has one, and else the fault that stands first in it;
+/// only want of memory may come in place of either.
+pub fn lex(alloc: Global, text: &[u8]) -> Result<Vec<Token>, LexFault>
+    ensures tokens { IfOk result (λ v. AreTokens text.now v.items) }
+    ensures only { (ts : List Token) → AreTokens text.now ts → IsOkUnless result faults.Memory × IfOk result (λ v. v.items ≡ ts) }
+    ensures fault { IfErr result (λ e. e ≢ faults.Memory → HasFault text.now e) }
+    ensures only_fault { (e : LexFault) → HasFault text.now e → (result ≡ Err e) ⊎ (result ≡ Err faults.Memory) }
+{
+    if text.len() as u64 > MAX_SCRIPT_BYTES {
+        return Err(LexFault::TextTooLong);
+    }
+    match tokens(alloc, text) {
+        Ok(tokens) => Ok(tokens),
+        Err(refusal) => Err(told_as(text.len(), refusal)),
+    }
+}
+
 // Where the rest of a text begins.
 fn place(text: &[u8], rest: &[u8]) -> u32
     requires within { length rest.now ≤ length text.now }
@@ -53,23 +72,4 @@ fn tokens(alloc: Global, text: &[u8]) -> Result<Vec<Token>, Refusal>
         rest = after_blanks(after);
     }
     Ok(made)
-}
-
-/// The tokens of a script, each the longest that stands at its place (`docs/language.md`, "Tokens").
-///
-/// It answers the list of tokens exactly where the script has one, and else the fault that stands first in it;
-/// only want of memory may come in place of either.
-pub fn lex(alloc: Global, text: &[u8]) -> Result<Vec<Token>, LexFault>
-    ensures tokens { IfOk result (λ v. AreTokens text.now v.items) }
-    ensures only { (ts : List Token) → AreTokens text.now ts → IsOkUnless result faults.Memory × IfOk result (λ v. v.items ≡ ts) }
-    ensures fault { IfErr result (λ e. e ≢ faults.Memory → HasFault text.now e) }
-    ensures only_fault { (e : LexFault) → HasFault text.now e → (result ≡ Err e) ⊎ (result ≡ Err faults.Memory) }
-{
-    if text.len() as u64 > MAX_SCRIPT_BYTES {
-        return Err(LexFault::TextTooLong);
-    }
-    match tokens(alloc, text) {
-        Ok(tokens) => Ok(tokens),
-        Err(refusal) => Err(told_as(text.len(), refusal)),
-    }
 }

@@ -11,6 +11,24 @@ use crate::time::time_at;
 use crate::token::TokenKind;
 use fixed_text::{Decimal, value_up_to};
 
+/// The number or time at the front, whose first digit was seen.
+#[tactic(auto, unfolding(crate::specs::Reading::number_at), using(crate::proofs::Fronts::digits_front))]
+pub fn number_at(bytes: &[u8]) -> Result<(TokenKind, &[u8]), Refusal>
+    ensures within { IfErr result (λ e. left_of e ≤ length bytes.now) }
+    ensures gives { Gives (λ x. x.0) (λ x. x.1.now) (Ok (number_at bytes.now)) (length bytes.now) result }
+{
+    let rest = after_digits(bytes);
+    let digits = front(bytes, rest);
+    match rest {
+        [b'.', behind @ ..] => {
+            let after = after_digits(behind);
+            pointed(digits, front(behind, after), after, bytes.len())
+        }
+        [first, ..] if is_unit(*first) => time_at(bytes),
+        _ => whole(digits, rest, bytes.len()),
+    }
+}
+
 fn whole<'a>(digits: &[u8], rest: &'a [u8], left: usize) -> Result<(TokenKind, &'a [u8]), Refusal>
     requires { AllDigits 10 digits.now }
     ensures within { IfErr result (λ e. left_of e ≤ left) }
@@ -36,23 +54,5 @@ fn pointed<'a>(
     match Decimal::from_digits(digits, fraction) {
         Some(value) => Ok((TokenKind::Number(value), rest)),
         None => Err(Refusal::NumberTooLarge(left)),
-    }
-}
-
-/// The number or time at the front, whose first digit was seen.
-#[tactic(auto, unfolding(crate::specs::Reading::number_at), using(crate::proofs::Fronts::digits_front))]
-pub fn number_at(bytes: &[u8]) -> Result<(TokenKind, &[u8]), Refusal>
-    ensures within { IfErr result (λ e. left_of e ≤ length bytes.now) }
-    ensures gives { Gives (λ x. x.0) (λ x. x.1.now) (Ok (number_at bytes.now)) (length bytes.now) result }
-{
-    let rest = after_digits(bytes);
-    let digits = front(bytes, rest);
-    match rest {
-        [b'.', behind @ ..] => {
-            let after = after_digits(behind);
-            pointed(digits, front(behind, after), after, bytes.len())
-        }
-        [first, ..] if is_unit(*first) => time_at(bytes),
-        _ => whole(digits, rest, bytes.len()),
     }
 }

@@ -16,6 +16,29 @@ use liq_base::limits::MAX_SCRIPT_BYTES;
 use liq_base::{Memory, Text};
 use std::alloc::Global;
 
+/// The token at the front.
+#[tactic(auto, unfolding(crate::specs::Reading::shape_at))]
+pub fn token_at(alloc: Global, bytes: &[u8]) -> Result<(TokenKind, &[u8]), Refusal>
+    requires { length bytes.now ≤ MAX_SCRIPT_BYTES }
+    ensures within { IfErr result (λ e. left_of e ≤ length bytes.now) }
+    ensures gives { Gives (λ x. x.0) (λ x. x.1.now) (shape_at bytes.now) (length bytes.now) result }
+{
+    match bytes {
+        [] => Err(Refusal::BadByte(0)),
+        [first, after @ ..] => {
+            if is_letter(*first) {
+                word_at(alloc, bytes)
+            } else if first.is_ascii_digit() {
+                number_at(bytes)
+            } else if is_quote(*first) {
+                text_at(alloc, *first, after)
+            } else {
+                sign_at(*first, after, bytes)
+            }
+        }
+    }
+}
+
 // The text that bytes are.
 fn held(bytes: Vec<u8>) -> Text
     requires { IsUtf8 bytes.items }
@@ -61,28 +84,5 @@ fn text_at(alloc: Global, quote: u8, bytes: &[u8]) -> Result<(TokenKind, &[u8]),
     match str::from_utf8(body) {
         Ok(_) => text_from(alloc, body, rest, end, bytes.len() + 1),
         Err(error) => Err(Refusal::BadByte(bytes.len() - error.valid_up_to())),
-    }
-}
-
-/// The token at the front.
-#[tactic(auto, unfolding(crate::specs::Reading::shape_at))]
-pub fn token_at(alloc: Global, bytes: &[u8]) -> Result<(TokenKind, &[u8]), Refusal>
-    requires { length bytes.now ≤ MAX_SCRIPT_BYTES }
-    ensures within { IfErr result (λ e. left_of e ≤ length bytes.now) }
-    ensures gives { Gives (λ x. x.0) (λ x. x.1.now) (shape_at bytes.now) (length bytes.now) result }
-{
-    match bytes {
-        [] => Err(Refusal::BadByte(0)),
-        [first, after @ ..] => {
-            if is_letter(*first) {
-                word_at(alloc, bytes)
-            } else if first.is_ascii_digit() {
-                number_at(bytes)
-            } else if is_quote(*first) {
-                text_at(alloc, *first, after)
-            } else {
-                sign_at(*first, after, bytes)
-            }
-        }
     }
 }

@@ -8,6 +8,26 @@ ghost use Rattle.script_lex.specs.Gives.{Gives, left_of};
 use crate::refusal::Refusal;
 use crate::token::{Symbol, TokenKind};
 
+/// The symbol or `%wav` at the front, whose first byte is given too.
+pub fn sign_at<'a>(
+    first: u8,
+    after: &'a [u8],
+    bytes: &'a [u8],
+) -> Result<(TokenKind, &'a [u8]), Refusal>
+    ensures within { IfErr result (λ e. left_of e ≤ length bytes.now) }
+    ensures gives { Gives (λ x. x.0) (λ x. x.1.now)
+        (sign_or_bad (first_of_two (wav_at bytes.now) (symbol_at first after.now)) (length bytes.now))
+        (length bytes.now) result }
+{
+    if let Some(rest) = after_wav(bytes) {
+        return Ok((TokenKind::Wav, rest));
+    }
+    match symbol_at(first, after) {
+        Some((symbol, rest)) => Ok((TokenKind::Symbol(symbol), rest)),
+        None => Err(Refusal::BadByte(bytes.len())),
+    }
+}
+
 #[tactic(auto, unfolding(crate::specs::Words::symbol_of))]
 fn symbol_of(b: u8) -> Option<Symbol>
     ensures { result ≡ symbol_of b }
@@ -68,25 +88,5 @@ fn after_wav(bytes: &[u8]) -> Option<&[u8]>
     match bytes {
         [b'%', b'w', b'a', b'v', rest @ ..] => Some(rest),
         _ => None,
-    }
-}
-
-/// The symbol or `%wav` at the front, whose first byte is given too.
-pub fn sign_at<'a>(
-    first: u8,
-    after: &'a [u8],
-    bytes: &'a [u8],
-) -> Result<(TokenKind, &'a [u8]), Refusal>
-    ensures within { IfErr result (λ e. left_of e ≤ length bytes.now) }
-    ensures gives { Gives (λ x. x.0) (λ x. x.1.now)
-        (sign_or_bad (first_of_two (wav_at bytes.now) (symbol_at first after.now)) (length bytes.now))
-        (length bytes.now) result }
-{
-    if let Some(rest) = after_wav(bytes) {
-        return Ok((TokenKind::Wav, rest));
-    }
-    match symbol_at(first, after) {
-        Some((symbol, rest)) => Ok((TokenKind::Symbol(symbol), rest)),
-        None => Err(Refusal::BadByte(bytes.len())),
     }
 }

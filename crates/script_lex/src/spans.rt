@@ -16,12 +16,6 @@ pub fn is_word(b: u8) -> bool
     is_letter(b) || b.is_ascii_digit()
 }
 
-fn is_blank(b: u8) -> bool
-    ensures { result ≡ is_blank b }
-{
-    b == b' ' || b == b'\t' || b == b'\r' || b == b'\n'
-}
-
 pub fn is_quote(b: u8) -> bool
     ensures { result ≡ is_quote b }
 {
@@ -46,15 +40,6 @@ pub fn is_inner(b: u8) -> bool
     ensures { result ≡ is_inner b }
 {
     (32 <= b && b <= 126) || 128 <= b
-}
-
-fn starts_part(bytes: &[u8]) -> bool
-    ensures { result ≡ starts_part bytes.now }
-{
-    match bytes {
-        [] => false,
-        [first, ..] => is_letter(*first),
-    }
 }
 
 pub fn starts_digit(bytes: &[u8]) -> bool
@@ -133,5 +118,20 @@ pub fn tail(bytes: &[u8]) -> &[u8]
     match bytes {
         [] => bytes,
         [_, after @ ..] => after,
+    }
+}
+
+fn is_blank(b: u8) -> bool
+    ensures { result ≡ is_blank b }
+{
+    b == b' ' || b == b'\t' || b == b'\r' || b == b'\n'
+}
+
+fn starts_part(bytes: &[u8]) -> bool
+    ensures { result ≡ starts_part bytes.now }
+{
+    match bytes {
+        [] => false,
+        [first, ..] => is_letter(*first),
     }
 }

@@ -19,6 +19,32 @@ struct Parts<'a> {
     second: Option<&'a [u8]>,
 }
 
+/// The time at the front.
+#[tactic(auto, unfolding(crate::specs::Reading::time_at), using(crate::proofs::Fronts::digits_front))]
+pub fn time_at(bytes: &[u8]) -> Result<(TokenKind, &[u8]), Refusal>
+    ensures within { IfErr result (λ e. left_of e ≤ length bytes.now) }
+    ensures gives { Gives (λ x. x.0) (λ x. x.1.now) (Ok (time_at bytes.now)) (length bytes.now) result }
+{
+    let (day, rest) = part_at(b'w', bytes);
+    let (hour, rest) = part_at(b'h', rest);
+    let (minute, rest) = part_at(b'm', rest);
+    let (second, rest) = part_at(b's', rest);
+    let parts = Parts {
+        day,
+        hour,
+        minute,
+        second,
+    };
+    match (hour, minute, second) {
+        (Some(_), None, None) if starts_digit(rest) => {
+            let after = after_digits(rest);
+            let minute = Some(front(rest, after));
+            timed(Parts { minute, ..parts }, after, bytes.len())
+        }
+        _ => timed(parts, rest, bytes.len()),
+    }
+}
+
 // The part of a time with this unit, if it stands at the front.
 #[tactic(auto, unfolding(crate::specs::Reading::part_at), using(crate::proofs::Fronts::digits_front))]
 fn part_at(unit: u8, bytes: &[u8]) -> (Option<&[u8]>, &[u8])
@@ -74,31 +100,5 @@ fn timed<'a>(
     match mark_in(parts) {
         Some(mark) => Ok((TokenKind::Time(mark), rest)),
         None => Err(Refusal::NumberTooLarge(left)),
-    }
-}
-
-/// The time at the front.
-#[tactic(auto, unfolding(crate::specs::Reading::time_at), using(crate::proofs::Fronts::digits_front))]
-pub fn time_at(bytes: &[u8]) -> Result<(TokenKind, &[u8]), Refusal>
-    ensures within { IfErr result (λ e. left_of e ≤ length bytes.now) }
-    ensures gives { Gives (λ x. x.0) (λ x. x.1.now) (Ok (time_at bytes.now)) (length bytes.now) result }
-{
-    let (day, rest) = part_at(b'w', bytes);
-    let (hour, rest) = part_at(b'h', rest);
-    let (minute, rest) = part_at(b'm', rest);
-    let (second, rest) = part_at(b's', rest);
-    let parts = Parts {
-        day,
-        hour,
-        minute,
-        second,
-    };
-    match (hour, minute, second) {
-        (Some(_), None, None) if starts_digit(rest) => {
-            let after = after_digits(rest);
-            let minute = Some(front(rest, after));
-            timed(Parts { minute, ..parts }, after, bytes.len())
-        }
-        _ => timed(parts, rest, bytes.len()),
     }
 }

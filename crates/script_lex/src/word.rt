@@ -10,6 +10,31 @@ use crate::token::{Keyword, TokenKind};
 use liq_base::{Memory, Text};
 use std::alloc::Global;
 
+/// A copy of bytes that are a text.
+pub fn copied(alloc: Global, bytes: &[u8]) -> Result<Text, Memory>
+    requires { IsUtf8 bytes.now }
+    ensures { IfOk result (λ t. t ≡ bytes.now) }
+{
+    match str::from_utf8(bytes) {
+        Ok(text) => Text::from_str(alloc, text),
+        Err(_) => unreachable!(),
+    }
+}
+
+/// The word at the front, whose first letter was seen.
+#[tactic(auto, unfolding(crate::specs::Reading::word_at), using(crate::proofs::Ascii::name_utf8))]
+pub fn word_at(alloc: Global, bytes: &[u8]) -> Result<(TokenKind, &[u8]), Refusal>
+    ensures within { IfErr result (λ e. left_of e ≤ length bytes.now) }
+    ensures gives { Gives (λ x. x.0) (λ x. x.1.now) (Ok (word_at bytes.now)) (length bytes.now) result }
+{
+    let rest = after_name(bytes);
+    let word = front(bytes, rest);
+    match keyword_of(word) {
+        Some(keyword) => Ok((TokenKind::Keyword(keyword), rest)),
+        None => name_or_open(alloc, word, rest, bytes.len()),
+    }
+}
+
 #[tactic(auto, unfolding(crate::specs::Words::keyword_of))]
 fn keyword_of(word: &[u8]) -> Option<Keyword>
     ensures { result ≡ keyword_of word.now }
@@ -29,17 +54,6 @@ fn keyword_of(word: &[u8]) -> Option<Keyword>
     }
 }
 
-/// A copy of bytes that are a text.
-pub fn copied(alloc: Global, bytes: &[u8]) -> Result<Text, Memory>
-    requires { IsUtf8 bytes.now }
-    ensures { IfOk result (λ t. t ≡ bytes.now) }
-{
-    match str::from_utf8(bytes) {
-        Ok(text) => Text::from_str(alloc, text),
-        Err(_) => unreachable!(),
-    }
-}
-
 fn name_or_open<'a>(
     alloc: Global,
     word: &[u8],
@@ -55,19 +69,5 @@ fn name_or_open<'a>(
     match rest {
         [b'(', behind @ ..] => Ok((TokenKind::NameOpen(name), behind)),
         _ => Ok((TokenKind::Name(name), rest)),
-    }
-}
-
-/// The word at the front, whose first letter was seen.
-#[tactic(auto, unfolding(crate::specs::Reading::word_at), using(crate::proofs::Ascii::name_utf8))]
-pub fn word_at(alloc: Global, bytes: &[u8]) -> Result<(TokenKind, &[u8]), Refusal>
-    ensures within { IfErr result (λ e. left_of e ≤ length bytes.now) }
-    ensures gives { Gives (λ x. x.0) (λ x. x.1.now) (Ok (word_at bytes.now)) (length bytes.now) result }
-{
-    let rest = after_name(bytes);
-    let word = front(bytes, rest);
-    match keyword_of(word) {
-        Some(keyword) => Ok((TokenKind::Keyword(keyword), rest)),
-        None => name_or_open(alloc, word, rest, bytes.len()),
     }
 }

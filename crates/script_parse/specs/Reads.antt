@@ -1,6 +1,5 @@
 -- Parts of what is read, as the functions read them. The number at is the index of a token that was read before.
 use Rattle.std.specs.Prelude.{ℕ, List, ◌∷◌, length, Bool, true, false, Ok, Err}
-use Rattle.script_lex.specs.declared.token.TokenKind.{TokenKind}
 use Rattle.script_lex.specs.declared.token.TokenKind.TheVariants.{Name, NameOpen, Symbol}
 use Rattle.script_lex.specs.declared.token.Symbol.TheVariants as sign
 use Rattle.script_grammar.specs.Tree.{Tree, ABind, AParam, ADef, APart, AnExpr, Bind, Labelled, Optional, Def, BindPart, DefPart, CallPart, IfPart}

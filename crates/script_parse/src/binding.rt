@@ -38,6 +38,28 @@ pub fn bind(
     bind_of(alloc, total, loose, at, name, after)
 }
 
+/// inner*
+pub fn inners(
+    alloc: Global,
+    total: usize,
+    tokens: &[Token],
+) -> Result<(Vec<Inner>, &[Token]), Fault>
+    requires within { length tokens.now ≤ total }
+    requires small { total < 2 ^ 32 }
+    ensures shorter { IfOk result (λ x. length x.1.now ≤ length tokens.now) }
+    ensures gives { Gives (λ x. (listed (map view_inner x.0.items), kinds x.1.now)) result (many binds (inner (places total)) (kinds tokens.now)) }
+    ensures whole { IfOk result (λ x. All IsWholeInner x.0.items) }
+{
+    let mut items = Vec::new(alloc);
+    let mut rest = tokens;
+    'turns: while at_binding(rest) {
+        let (item, after) = inner(alloc, total, rest)?;
+        items.push(item)?;
+        rest = after;
+    }
+    Ok((items, rest))
+}
+
 // `=` value, behind the name.
 fn bind_of<'a>(
     alloc: Global,
@@ -71,26 +93,4 @@ fn inner(alloc: Global, total: usize, tokens: &[Token]) -> Result<(Inner, &[Toke
     let (bind, rest) = bind(alloc, total, true, tokens)?;
     let (semicolon, rest) = token::perhaps(rest, Class::Semicolon);
     Ok((Inner { bind, semicolon }, rest))
-}
-
-/// inner*
-pub fn inners(
-    alloc: Global,
-    total: usize,
-    tokens: &[Token],
-) -> Result<(Vec<Inner>, &[Token]), Fault>
-    requires within { length tokens.now ≤ total }
-    requires small { total < 2 ^ 32 }
-    ensures shorter { IfOk result (λ x. length x.1.now ≤ length tokens.now) }
-    ensures gives { Gives (λ x. (listed (map view_inner x.0.items), kinds x.1.now)) result (many binds (inner (places total)) (kinds tokens.now)) }
-    ensures whole { IfOk result (λ x. All IsWholeInner x.0.items) }
-{
-    let mut items = Vec::new(alloc);
-    let mut rest = tokens;
-    'turns: while at_binding(rest) {
-        let (item, after) = inner(alloc, total, rest)?;
-        items.push(item)?;
-        rest = after;
-    }
-    Ok((items, rest))
 }

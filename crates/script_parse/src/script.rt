@@ -20,6 +20,32 @@ use script_lex::{Keyword, Symbol, Token, TokenKind};
 use script_reading::law::{faults_are_steady, reads_spellings};
 use std::alloc::Global;
 
+/// The script that the tokens spell, those of a text (`docs/grammar.md`). It answers the script exactly where there is
+/// one and brackets nest at most `MAX_NESTING` deep, each field `at` being the index of its token; and else the first
+/// fault; only want of memory may come in place of either. The text itself is not read: tokens hold all that a script's
+/// tree is made of.
+///
+/// # Errors
+///
+/// `Syntax`: the least token such that no script begins with the tokens up to it, or the number of tokens where only more
+/// of them are missing. `TooDeep`: the first token at which more brackets are open. The lesser place decides, and at equal
+/// places it is `Syntax`. `Memory`: memory was refused, or there are 2^32 tokens and more, whose places have no number.
+pub fn parse(alloc: Global, _text: &[u8], tokens: &[Token]) -> Result<Script, ParseFault>
+    ensures spelled { IfOk result (λ s. spelling (view_script s) ≡ kinds tokens.now) }
+    ensures placed { IfOk result (λ s. IsPlaced 0 (view_script s)) }
+    ensures whole { IfOk result IsWhole }
+    ensures shallow { IfOk result (λ s. IsShallow (kinds tokens.now)) }
+    ensures only { (s : PlainScript) → spelling s ≡ kinds tokens.now → IsPlaced 0 s → IsShallow (kinds tokens.now)
+        → IsOkUnless result ParseFault.Memory × IfOk result (λ found. view_script found ≡ s) }
+    ensures fault { IfErr result (λ e. e ≢ ParseFault.Memory → IsFault (kinds tokens.now) e) }
+    ensures only_fault { (e : FaultOfTokens) → IsFault (kinds tokens.now) e
+        → (result ≡ Err e) ⊎ (result ≡ Err ParseFault.Memory) }
+{
+    // a law of the grammar, which the proof rests on: this call does nothing
+    one_placed_script();
+    answer(alloc, tokens)
+}
+
 fn opens(kind: &TokenKind) -> bool
     ensures { result ≡ opens kind.now }
 {
@@ -113,30 +139,4 @@ fn answer(alloc: Global, tokens: &[Token]) -> Result<Script, ParseFault>
             Err(Refusal::Memory) => Err(ParseFault::Memory),
         },
     }
-}
-
-/// The script that the tokens spell, those of a text (`docs/grammar.md`). It answers the script exactly where there is
-/// one and brackets nest at most `MAX_NESTING` deep, each field `at` being the index of its token; and else the first
-/// fault; only want of memory may come in place of either. The text itself is not read: tokens hold all that a script's
-/// tree is made of.
-///
-/// # Errors
-///
-/// `Syntax`: the least token such that no script begins with the tokens up to it, or the number of tokens where only more
-/// of them are missing. `TooDeep`: the first token at which more brackets are open. The lesser place decides, and at equal
-/// places it is `Syntax`. `Memory`: memory was refused, or there are 2^32 tokens and more, whose places have no number.
-pub fn parse(alloc: Global, _text: &[u8], tokens: &[Token]) -> Result<Script, ParseFault>
-    ensures spelled { IfOk result (λ s. spelling (view_script s) ≡ kinds tokens.now) }
-    ensures placed { IfOk result (λ s. IsPlaced 0 (view_script s)) }
-    ensures whole { IfOk result IsWhole }
-    ensures shallow { IfOk result (λ s. IsShallow (kinds tokens.now)) }
-    ensures only { (s : PlainScript) → spelling s ≡ kinds tokens.now → IsPlaced 0 s → IsShallow (kinds tokens.now)
-        → IsOkUnless result ParseFault.Memory × IfOk result (λ found. view_script found ≡ s) }
-    ensures fault { IfErr result (λ e. e ≢ ParseFault.Memory → IsFault (kinds tokens.now) e) }
-    ensures only_fault { (e : FaultOfTokens) → IsFault (kinds tokens.now) e
-        → (result ≡ Err e) ⊎ (result ≡ Err ParseFault.Memory) }
-{
-    // a law of the grammar, which the proof rests on: this call does nothing
-    one_placed_script();
-    answer(alloc, tokens)
 }

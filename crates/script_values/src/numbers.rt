@@ -8,34 +8,6 @@ use crate::{Fault, Value};
 use fixed_text::Decimal;
 use script_grammar::tree::{CompareOp, Literal};
 
-// An int that a script may have.
-fn int(at: u32, number: i128) -> Result<Value, Fault>
-    ensures { Gives (λ v. view_value v) result (int_at at number) }
-{
-    if number < -9_223_372_036_854_775_808 {
-        return Err(Fault::BadValue(at));
-    }
-    if number > 9_223_372_036_854_775_807 {
-        return Err(Fault::BadValue(at));
-    }
-    Ok(Value::Int(number as i64))
-}
-
-// A decimal of so many millionths.
-fn decimal(at: u32, millionths: i128) -> Result<Value, Fault>
-    ensures { Gives (λ v. view_value v) result (decimal_at at millionths) }
-{
-    if millionths < -1_000_000_000_000_000 {
-        return Err(Fault::BadValue(at));
-    }
-    if millionths > 1_000_000_000_000_000 {
-        return Err(Fault::BadValue(at));
-    }
-    Ok(Value::Decimal(Decimal {
-        millionths: millionths as i64,
-    }))
-}
-
 /// A number as its token holds it.
 pub fn literal(number: Literal) -> Value
     ensures { view_value result ≡ literal_value number }
@@ -54,28 +26,6 @@ pub fn negative(at: u32, number: Literal) -> Result<Value, Fault>
     match number {
         Literal::Int(value) => int(at, -i128::from(value)),
         Literal::Number(value) => decimal(at, -i128::from(value.millionths)),
-    }
-}
-
-// A sum of ints, or with `minus` a difference.
-fn int_sum(minus: bool, at: u32, a: i64, b: i64) -> Result<Value, Fault>
-    ensures { Gives (λ v. view_value v) result (int_at at (plus_or_minus minus a b)) }
-{
-    if minus {
-        int(at, i128::from(a) - i128::from(b))
-    } else {
-        int(at, i128::from(a) + i128::from(b))
-    }
-}
-
-// The same of decimals.
-fn decimal_sum(minus: bool, at: u32, a: Decimal, b: Decimal) -> Result<Value, Fault>
-    ensures { Gives (λ v. view_value v) result (decimal_at at (plus_or_minus minus a.millionths b.millionths)) }
-{
-    if minus {
-        decimal(at, i128::from(a.millionths) - i128::from(b.millionths))
-    } else {
-        decimal(at, i128::from(a.millionths) + i128::from(b.millionths))
     }
 }
 
@@ -135,6 +85,94 @@ pub fn truth_of(value: &Value) -> Result<bool, Fault>
     }
 }
 
+/// A product, or with `divide` a quotient.
+#[tactic(auto, unfolding(crate::specs::Numbers::multiplied))]
+pub fn multiplied(divide: bool, at: u32, left: &Value, right: &Value) -> Result<Value, Fault>
+    ensures { Gives (λ v. view_value v) result (multiplied divide at (view_value left.now) (view_value right.now)) }
+{
+    match (left, right) {
+        (Value::Int(a), Value::Int(b)) => {
+            if divide {
+                int_quotient(at, *a, *b)
+            } else {
+                int_product(at, *a, *b)
+            }
+        }
+        (Value::Decimal(a), Value::Decimal(b)) => {
+            if divide {
+                decimal_quotient(at, *a, *b)
+            } else {
+                decimal_product(at, *a, *b)
+            }
+        }
+        _ => Err(Fault::Stuck),
+    }
+}
+
+/// Whether two numbers compare so.
+#[tactic(auto, unfolding(crate::specs::Numbers::compared))]
+pub fn compared(op: CompareOp, left: &Value, right: &Value) -> Result<Value, Fault>
+    ensures { Gives (λ v. view_value v) result (compared op (view_value left.now) (view_value right.now)) }
+{
+    match (left, right) {
+        (Value::Int(a), Value::Int(b)) => Ok(Value::Truth(holds(op, *a, *b))),
+        (Value::Decimal(a), Value::Decimal(b)) => {
+            Ok(Value::Truth(holds(op, a.millionths, b.millionths)))
+        }
+        _ => Err(Fault::Stuck),
+    }
+}
+
+// An int that a script may have.
+fn int(at: u32, number: i128) -> Result<Value, Fault>
+    ensures { Gives (λ v. view_value v) result (int_at at number) }
+{
+    if number < -9_223_372_036_854_775_808 {
+        return Err(Fault::BadValue(at));
+    }
+    if number > 9_223_372_036_854_775_807 {
+        return Err(Fault::BadValue(at));
+    }
+    Ok(Value::Int(number as i64))
+}
+
+// A decimal of so many millionths.
+fn decimal(at: u32, millionths: i128) -> Result<Value, Fault>
+    ensures { Gives (λ v. view_value v) result (decimal_at at millionths) }
+{
+    if millionths < -1_000_000_000_000_000 {
+        return Err(Fault::BadValue(at));
+    }
+    if millionths > 1_000_000_000_000_000 {
+        return Err(Fault::BadValue(at));
+    }
+    Ok(Value::Decimal(Decimal {
+        millionths: millionths as i64,
+    }))
+}
+
+// A sum of ints, or with `minus` a difference.
+fn int_sum(minus: bool, at: u32, a: i64, b: i64) -> Result<Value, Fault>
+    ensures { Gives (λ v. view_value v) result (int_at at (plus_or_minus minus a b)) }
+{
+    if minus {
+        int(at, i128::from(a) - i128::from(b))
+    } else {
+        int(at, i128::from(a) + i128::from(b))
+    }
+}
+
+// The same of decimals.
+fn decimal_sum(minus: bool, at: u32, a: Decimal, b: Decimal) -> Result<Value, Fault>
+    ensures { Gives (λ v. view_value v) result (decimal_at at (plus_or_minus minus a.millionths b.millionths)) }
+{
+    if minus {
+        decimal(at, i128::from(a.millionths) - i128::from(b.millionths))
+    } else {
+        decimal(at, i128::from(a.millionths) + i128::from(b.millionths))
+    }
+}
+
 // A quotient toward zero, of a number that was made so many times as large.
 #[tactic(auto, unfolding(crate::specs::Numbers::quotient))]
 fn divided(a: i128, b: i64) -> Option<i128>
@@ -190,30 +228,6 @@ fn decimal_product(at: u32, a: Decimal, b: Decimal) -> Result<Value, Fault>
     decimal(at, in_units(product(a.millionths, b.millionths)))
 }
 
-/// A product, or with `divide` a quotient.
-#[tactic(auto, unfolding(crate::specs::Numbers::multiplied))]
-pub fn multiplied(divide: bool, at: u32, left: &Value, right: &Value) -> Result<Value, Fault>
-    ensures { Gives (λ v. view_value v) result (multiplied divide at (view_value left.now) (view_value right.now)) }
-{
-    match (left, right) {
-        (Value::Int(a), Value::Int(b)) => {
-            if divide {
-                int_quotient(at, *a, *b)
-            } else {
-                int_product(at, *a, *b)
-            }
-        }
-        (Value::Decimal(a), Value::Decimal(b)) => {
-            if divide {
-                decimal_quotient(at, *a, *b)
-            } else {
-                decimal_product(at, *a, *b)
-            }
-        }
-        _ => Err(Fault::Stuck),
-    }
-}
-
 fn holds(op: CompareOp, a: i64, b: i64) -> bool
     ensures { result ≡ holds op a b }
 {
@@ -224,19 +238,5 @@ fn holds(op: CompareOp, a: i64, b: i64) -> bool
         CompareOp::AtMost => a <= b,
         CompareOp::Greater => b < a,
         CompareOp::AtLeast => b <= a,
-    }
-}
-
-/// Whether two numbers compare so.
-#[tactic(auto, unfolding(crate::specs::Numbers::compared))]
-pub fn compared(op: CompareOp, left: &Value, right: &Value) -> Result<Value, Fault>
-    ensures { Gives (λ v. view_value v) result (compared op (view_value left.now) (view_value right.now)) }
-{
-    match (left, right) {
-        (Value::Int(a), Value::Int(b)) => Ok(Value::Truth(holds(op, *a, *b))),
-        (Value::Decimal(a), Value::Decimal(b)) => {
-            Ok(Value::Truth(holds(op, a.millionths, b.millionths)))
-        }
-        _ => Err(Fault::Stuck),
     }
 }

@@ -36,6 +36,27 @@ pub fn slot_at(slots: &[Slot], at: u32) -> Option<&Value>
     None
 }
 
+/// Takes the first argument with this label, or the first without one.
+pub fn argument(given: &mut Vec<Given>, label: Option<&str>) -> Option<Value>
+    ensures taken { option_map (λ v. (view_value v, map view_given given.new.items)) result ≡ argument (option_map (λ t. t.now) label.entry) (map view_given given.old.items) }
+    ensures unchanged { IsNone result → given.new ≡ given.old }
+{
+    match place_of(given, label) {
+        None => None,
+        Some(place) => Some(given.remove(place).value),
+    }
+}
+
+/// A copy of an argument's label.
+pub fn copy_label(alloc: Global, label: &Option<Text>) -> Result<Option<Text>, Memory>
+    ensures { IfOk result (λ copied. copied ≡ label.now) }
+{
+    match label {
+        None => Ok(None),
+        Some(text) => Ok(Some(text.copy(alloc)?)),
+    }
+}
+
 fn is_label(wanted: Option<&str>, label: &Option<Text>) -> bool
     ensures { result ≡ is_label (option_map (λ t. t.now) wanted.entry) label.now }
 {
@@ -57,25 +78,4 @@ fn place_of(given: &[Given], label: Option<&str>) -> Option<usize>
         }
     }
     None
-}
-
-/// Takes the first argument with this label, or the first without one.
-pub fn argument(given: &mut Vec<Given>, label: Option<&str>) -> Option<Value>
-    ensures taken { option_map (λ v. (view_value v, map view_given given.new.items)) result ≡ argument (option_map (λ t. t.now) label.entry) (map view_given given.old.items) }
-    ensures unchanged { IsNone result → given.new ≡ given.old }
-{
-    match place_of(given, label) {
-        None => None,
-        Some(place) => Some(given.remove(place).value),
-    }
-}
-
-/// A copy of an argument's label.
-pub fn copy_label(alloc: Global, label: &Option<Text>) -> Result<Option<Text>, Memory>
-    ensures { IfOk result (λ copied. copied ≡ label.now) }
-{
-    match label {
-        None => Ok(None),
-        Some(text) => Ok(Some(text.copy(alloc)?)),
-    }
 }

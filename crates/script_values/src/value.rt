@@ -54,17 +54,6 @@ pub fn size(value: &Value) -> u64
     }
 }
 
-#[cycle(size)]
-fn sizes(parts: &[Value]) -> u64
-    ensures { result ≡ min (size (many (map view_value parts.now))) u64.MAX }
-{
-    let mut sum: u64 = 0;
-    for part in parts {
-        sum = sum.saturating_add(size(part));
-    }
-    sum
-}
-
 /// A copy of a value.
 #[cycle(copy)]
 pub fn copy(alloc: Global, value: &Value) -> Result<Value, Memory>
@@ -84,17 +73,6 @@ pub fn copy(alloc: Global, value: &Value) -> Result<Value, Memory>
     }
 }
 
-#[cycle(copy)]
-fn copies(alloc: Global, parts: &[Value]) -> Result<Vec<Value>, Memory>
-    ensures { IfOk result (λ copies. map view_value copies.items ≡ map view_value parts.now) }
-{
-    let mut copies = Vec::new(alloc);
-    for part in parts {
-        copies.push(copy(alloc, part)?)?;
-    }
-    Ok(copies)
-}
-
 /// A list of values.
 pub fn listed(parts: Vec<Value>) -> Value
     ensures { view_value result ≡ a_list (many (map view_value parts.items)) }
@@ -107,4 +85,26 @@ pub fn tuple(parts: Vec<Value>) -> Value
     ensures { view_value result ≡ a_tuple (many (map view_value parts.items)) }
 {
     Value::Tuple(parts)
+}
+
+#[cycle(size)]
+fn sizes(parts: &[Value]) -> u64
+    ensures { result ≡ min (size (many (map view_value parts.now))) u64.MAX }
+{
+    let mut sum: u64 = 0;
+    for part in parts {
+        sum = sum.saturating_add(size(part));
+    }
+    sum
+}
+
+#[cycle(copy)]
+fn copies(alloc: Global, parts: &[Value]) -> Result<Vec<Value>, Memory>
+    ensures { IfOk result (λ copies. map view_value copies.items ≡ map view_value parts.now) }
+{
+    let mut copies = Vec::new(alloc);
+    for part in parts {
+        copies.push(copy(alloc, part)?)?;
+    }
+    Ok(copies)
 }

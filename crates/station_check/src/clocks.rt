@@ -10,16 +10,6 @@ use plan_core::Plan;
 use stations::StationFault;
 use std::alloc::Global;
 
-// How a check ends at a fault of clocks.
-fn halt_of(fault: ClockFault) -> Halt
-    ensures { result ≡ clock_halt fault }
-{
-    match fault {
-        ClockFault::Memory => Halt::Memory,
-        _ => Halt::Refused(StationFault::Clocks(fault)),
-    }
-}
-
 /// The clocks of a plan, or the cause for which it has none.
 pub fn find_clocks(alloc: Global, plan: &Plan) -> Result<ClockMap, Halt>
     requires { IsWellFormed plan.now }
@@ -29,5 +19,15 @@ pub fn find_clocks(alloc: Global, plan: &Plan) -> Result<ClockMap, Halt>
     match assign(alloc, plan) {
         Ok(clocks) => Ok(clocks),
         Err(fault) => Err(halt_of(fault)),
+    }
+}
+
+// How a check ends at a fault of clocks.
+fn halt_of(fault: ClockFault) -> Halt
+    ensures { result ≡ clock_halt fault }
+{
+    match fault {
+        ClockFault::Memory => Halt::Memory,
+        _ => Halt::Refused(StationFault::Clocks(fault)),
     }
 }

@@ -15,17 +15,6 @@ use stations::StationFault;
 use std::alloc::Global;
 use track_library::{LoadFault, Sizes, load};
 
-// How a check ends at a fault of files.
-fn halt_of(fault: LoadFault) -> Halt
-    ensures { result ≡ load_halt fault }
-{
-    match fault {
-        LoadFault::ReadFault(_) => Halt::Read,
-        LoadFault::Memory => Halt::Memory,
-        _ => Halt::Refused(StationFault::Files(fault)),
-    }
-}
-
 /// The audio files of a plan that reads no buffer, each read once; or the first fault of their loading.
 pub fn load_files<S: Shelf>(alloc: Global, plan: &Plan, shelf: &mut S) -> Result<Library, Halt>
     requires { HasNoReader plan.now }
@@ -45,5 +34,16 @@ pub fn load_files<S: Shelf>(alloc: Global, plan: &Plan, shelf: &mut S) -> Result
     match load(alloc, plan, shelf, sizes) {
         Ok(library) => Ok(library),
         Err(fault) => Err(halt_of(fault)),
+    }
+}
+
+// How a check ends at a fault of files.
+fn halt_of(fault: LoadFault) -> Halt
+    ensures { result ≡ load_halt fault }
+{
+    match fault {
+        LoadFault::ReadFault(_) => Halt::Read,
+        LoadFault::Memory => Halt::Memory,
+        _ => Halt::Refused(StationFault::Files(fault)),
     }
 }

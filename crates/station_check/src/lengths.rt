@@ -12,6 +12,22 @@ use stations::StationFault;
 use std::alloc::Global;
 use wav_io::header;
 
+/// Refuses the first output that is too long for the header of its file after so many ticks, at most 1000000000.
+pub fn check_lengths(alloc: Global, plan: &Plan, ticks: u64) -> Result<(), Halt>
+    requires plan { IsWellFormed plan.now }
+    requires few { ticks ≤ 1000000000 }
+    ensures short { OnOk result (first_name (is_too_long plan.now ticks) plan.now.sinks ≡ None) }
+    ensures fault { IfErr result (LengthHalts plan.now ticks) }
+{
+    for sink in plan.sinks.as_slice() {
+        if is_too_long(plan, ticks, sink) {
+            let name = output_name(alloc, sink)?;
+            return Err(Halt::Refused(StationFault::OutputTooLong(name)));
+        }
+    }
+    Ok(())
+}
+
 // The kind of a node.
 fn kind_at(plan: &Plan, node: u32) -> Kind
     ensures { result ≡ kind_at plan.now node }
@@ -35,20 +51,4 @@ fn is_too_long(plan: &Plan, ticks: u64, sink: &SinkPlan) -> bool
         }
         SinkPlan::Feed { .. } => false,
     }
-}
-
-/// Refuses the first output that is too long for the header of its file after so many ticks, at most 1000000000.
-pub fn check_lengths(alloc: Global, plan: &Plan, ticks: u64) -> Result<(), Halt>
-    requires plan { IsWellFormed plan.now }
-    requires few { ticks ≤ 1000000000 }
-    ensures short { OnOk result (first_name (is_too_long plan.now ticks) plan.now.sinks ≡ None) }
-    ensures fault { IfErr result (LengthHalts plan.now ticks) }
-{
-    for sink in plan.sinks.as_slice() {
-        if is_too_long(plan, ticks, sink) {
-            let name = output_name(alloc, sink)?;
-            return Err(Halt::Refused(StationFault::OutputTooLong(name)));
-        }
-    }
-    Ok(())
 }

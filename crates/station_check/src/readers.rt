@@ -6,16 +6,6 @@ ghost use Rattle.station_check.specs.Steps.{is_reader};
 
 use plan_core::{Op, Plan};
 
-// Whether a node of this operator reads a buffer.
-fn is_reader(op: &Op) -> bool
-    ensures { result ≡ is_reader op.now }
-{
-    match op {
-        Op::Buffer(_) => true,
-        _ => false,
-    }
-}
-
 /// Whether a node of the plan reads a buffer.
 pub fn reads_buffer(plan: &Plan) -> bool
     ensures some { result ≡ true → HasReader plan.now }
@@ -27,4 +17,14 @@ pub fn reads_buffer(plan: &Plan) -> bool
         }
     }
     false
+}
+
+// Whether a node of this operator reads a buffer.
+fn is_reader(op: &Op) -> bool
+    ensures { result ≡ is_reader op.now }
+{
+    match op {
+        Op::Buffer(_) => true,
+        _ => false,
+    }
 }

@@ -7,25 +7,6 @@ ghost use Rattle.station_render.specs.Sinks.{AreCreated, HasFailed, HaveSizes, H
 
 use liq_base::{Failed, Shelf};
 
-// Takes the first sink of this clock.
-fn take_first<O>(groups: &mut Vec<Vec<O>>, clock: u32) -> O
-    requires { (first : O) × (rest : List O) × (slice_get (lists_of groups.old.items) clock ≡ Some (first ∷ rest)) }
-    ensures { WasTaken clock (lists_of groups.old.items) result (lists_of groups.new.items) }
-{
-    groups[clock as usize].remove(0)
-}
-
-// Lets go of lists without sinks.
-fn end_all<O>(groups: Vec<Vec<O>>)
-    requires { AreAllEmpty (lists_of groups.items) }
-{
-    let mut groups = groups;
-    while let Some(group) = groups.pop() {
-        group.destroy_empty();
-    }
-    groups.destroy_empty();
-}
-
 /// Closes the sinks in sink order, also those behind one whose closing failed.
 pub(crate) fn close_each<S: Shelf>(
     shelf: &mut S,
@@ -53,4 +34,23 @@ pub(crate) fn close_each<S: Shelf>(
     let others = close_each(shelf, rest, groups);
     first?;
     others
+}
+
+// Takes the first sink of this clock.
+fn take_first<O>(groups: &mut Vec<Vec<O>>, clock: u32) -> O
+    requires { (first : O) × (rest : List O) × (slice_get (lists_of groups.old.items) clock ≡ Some (first ∷ rest)) }
+    ensures { WasTaken clock (lists_of groups.old.items) result (lists_of groups.new.items) }
+{
+    groups[clock as usize].remove(0)
+}
+
+// Lets go of lists without sinks.
+fn end_all<O>(groups: Vec<Vec<O>>)
+    requires { AreAllEmpty (lists_of groups.items) }
+{
+    let mut groups = groups;
+    while let Some(group) = groups.pop() {
+        group.destroy_empty();
+    }
+    groups.destroy_empty();
 }

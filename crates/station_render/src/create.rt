@@ -16,36 +16,6 @@ use plan_core::{Plan, SinkPlan};
 /// Bytes of a header.
 const HEADER_BYTES: u64 = 44;
 
-// Creates an output of this name, with its header as one piece.
-fn create_one<S: Shelf>(
-    shelf: &mut S,
-    name: &str,
-    opening: &Opening,
-    order: &mut Vec<u32>,
-    groups: &mut Vec<Vec<S::Out>>,
-) -> Result<(), RenderFault>
-    requires below { opening.now.clock < length (lists_of groups.old.items) }
-    requires short { opening.now.body ≤ 1000000000000000 }
-    ensures created { OnOk result (WasCreated S.Out.name S.Out.held S.Out.room (S.files shelf.old) opening.now.clock name.now opening.now.header opening.now.body
-        order.old.items order.new.items (lists_of groups.old.items) (lists_of groups.new.items)) }
-    ensures broken { OnErr result (NoneCreated order.old.items order.new.items (lists_of groups.old.items) (lists_of groups.new.items)
-        ⊎ WasBroken S.Out.name S.Out.held S.Out.faults (S.files shelf.old) opening.now.clock name.now opening.now.header
-        order.old.items order.new.items (lists_of groups.old.items) (lists_of groups.new.items)) }
-    ensures cause { IsErrOf result RenderFault.Write → Rose (S.write_count shelf.old) (S.write_count shelf.new) ⊎ HasFailed S.Out.faults (lists_of groups.new.items) }
-    ensures files { S.files shelf.new ≡ S.files shelf.old }
-    ensures reads { S.read_count shelf.old ≤ S.read_count shelf.new }
-    ensures writes { S.write_count shelf.old ≤ S.write_count shelf.new }
-{
-    order.reserve(1)?;
-    reserve_one(groups, opening.clock)?;
-    let mut sink = shelf.create(name, HEADER_BYTES + opening.body)?;
-    let wrote = sink.append(&opening.header);
-    order.push(opening.clock).unwrap();
-    add_one(groups, opening.clock, sink);
-    wrote?;
-    Ok(())
-}
-
 /// Creates the outputs of a plan in sink order, each with its header.
 pub(crate) fn create_each<S: Shelf>(
     plan: &Plan,
@@ -75,5 +45,35 @@ pub(crate) fn create_each<S: Shelf>(
         let opening = opening_of(plan, clocks, *node, ticks);
         create_one(shelf, name.as_str(), &opening, order, groups)?;
     }
+    Ok(())
+}
+
+// Creates an output of this name, with its header as one piece.
+fn create_one<S: Shelf>(
+    shelf: &mut S,
+    name: &str,
+    opening: &Opening,
+    order: &mut Vec<u32>,
+    groups: &mut Vec<Vec<S::Out>>,
+) -> Result<(), RenderFault>
+    requires below { opening.now.clock < length (lists_of groups.old.items) }
+    requires short { opening.now.body ≤ 1000000000000000 }
+    ensures created { OnOk result (WasCreated S.Out.name S.Out.held S.Out.room (S.files shelf.old) opening.now.clock name.now opening.now.header opening.now.body
+        order.old.items order.new.items (lists_of groups.old.items) (lists_of groups.new.items)) }
+    ensures broken { OnErr result (NoneCreated order.old.items order.new.items (lists_of groups.old.items) (lists_of groups.new.items)
+        ⊎ WasBroken S.Out.name S.Out.held S.Out.faults (S.files shelf.old) opening.now.clock name.now opening.now.header
+        order.old.items order.new.items (lists_of groups.old.items) (lists_of groups.new.items)) }
+    ensures cause { IsErrOf result RenderFault.Write → Rose (S.write_count shelf.old) (S.write_count shelf.new) ⊎ HasFailed S.Out.faults (lists_of groups.new.items) }
+    ensures files { S.files shelf.new ≡ S.files shelf.old }
+    ensures reads { S.read_count shelf.old ≤ S.read_count shelf.new }
+    ensures writes { S.write_count shelf.old ≤ S.write_count shelf.new }
+{
+    order.reserve(1)?;
+    reserve_one(groups, opening.clock)?;
+    let mut sink = shelf.create(name, HEADER_BYTES + opening.body)?;
+    let wrote = sink.append(&opening.header);
+    order.push(opening.clock).unwrap();
+    add_one(groups, opening.clock, sink);
+    wrote?;
     Ok(())
 }

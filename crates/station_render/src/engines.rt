@@ -25,6 +25,37 @@ use stations::Ready;
 use std::alloc::{AllocError, Global};
 use std::mem;
 
+/// Renders so many ticks into the sinks of all clocks, and answers the gaps of the outputs, in sink order.
+pub(crate) fn run_all<O: Sink>(
+    alloc: Global,
+    plan: &Plan,
+    ready: &Ready,
+    start: WeekSecond,
+    ticks: u64,
+    groups: &mut Vec<Vec<O>>,
+) -> Result<Vec<u64>, RenderFault>
+    requires fit { IsFit plan.now ready.now.library ready.now.clocks ticks }
+    requires size { length (lists_of groups.old.items) ≡ ready.now.clocks.running }
+    requires rooms { AreCreated (λ output sink. HasRoom (O.room sink) (body_size (setting_for plan.now ready.now.library ready.now.clocks start.second) ticks output.node))
+        (written plan.now.sinks) (order_of (setting_for plan.now ready.now.library ready.now.clocks start.second) (written plan.now.sinks)) (lists_of groups.old.items) }
+    ensures whole { OnOk result ((files : Option Files) → AreCreated (IsReady O.name O.held O.room files (setting_for plan.now ready.now.library ready.now.clocks start.second) ticks)
+        (written plan.now.sinks) (order_of (setting_for plan.now ready.now.library ready.now.clocks start.second) (written plan.now.sinks)) (lists_of groups.old.items)
+        → AreCreated (IsWhole O.name O.held files (setting_for plan.now ready.now.library ready.now.clocks start.second) ticks)
+        (written plan.now.sinks) (order_of (setting_for plan.now ready.now.library ready.now.clocks start.second) (written plan.now.sinks)) (lists_of groups.new.items)) }
+    ensures gaps { IfOk result (λ gaps. gaps.items ≡ counts_in (setting_for plan.now ready.now.library ready.now.clocks start.second) ticks plan.now.sinks) }
+    ensures part { OnErr result ((files : Option Files) → AreCreated (IsReady O.name O.held O.room files (setting_for plan.now ready.now.library ready.now.clocks start.second) ticks)
+        (written plan.now.sinks) (order_of (setting_for plan.now ready.now.library ready.now.clocks start.second) (written plan.now.sinks)) (lists_of groups.old.items)
+        → AreCreated (IsPart O.name O.held files (setting_for plan.now ready.now.library ready.now.clocks start.second) ticks)
+        (written plan.now.sinks) (order_of (setting_for plan.now ready.now.library ready.now.clocks start.second) (written plan.now.sinks)) (lists_of groups.new.items)) }
+    ensures cause { IsErrOf result RenderFault.Write → HasFailed O.faults (lists_of groups.new.items) }
+{
+    let mut engines = make_engines(alloc, plan, ready, start, groups)?;
+    let end = run_rounds(alloc, plan, &mut engines, ticks).end;
+    let told = tell(alloc, plan, &ready.clocks, &engines, end);
+    give_back(engines, groups);
+    told
+}
+
 // Puts these sinks into the place of a clock that has none.
 fn put_back<O>(groups: &mut Vec<Vec<O>>, clock: usize, outs: Vec<O>)
     requires { slice_get (lists_of groups.old.items) clock ≡ Some [] }
@@ -171,35 +202,4 @@ fn tell<O: Sink>(
         End::Write { .. } => Err(RenderFault::Write),
         End::Memory => Err(RenderFault::Memory),
     }
-}
-
-/// Renders so many ticks into the sinks of all clocks, and answers the gaps of the outputs, in sink order.
-pub(crate) fn run_all<O: Sink>(
-    alloc: Global,
-    plan: &Plan,
-    ready: &Ready,
-    start: WeekSecond,
-    ticks: u64,
-    groups: &mut Vec<Vec<O>>,
-) -> Result<Vec<u64>, RenderFault>
-    requires fit { IsFit plan.now ready.now.library ready.now.clocks ticks }
-    requires size { length (lists_of groups.old.items) ≡ ready.now.clocks.running }
-    requires rooms { AreCreated (λ output sink. HasRoom (O.room sink) (body_size (setting_for plan.now ready.now.library ready.now.clocks start.second) ticks output.node))
-        (written plan.now.sinks) (order_of (setting_for plan.now ready.now.library ready.now.clocks start.second) (written plan.now.sinks)) (lists_of groups.old.items) }
-    ensures whole { OnOk result ((files : Option Files) → AreCreated (IsReady O.name O.held O.room files (setting_for plan.now ready.now.library ready.now.clocks start.second) ticks)
-        (written plan.now.sinks) (order_of (setting_for plan.now ready.now.library ready.now.clocks start.second) (written plan.now.sinks)) (lists_of groups.old.items)
-        → AreCreated (IsWhole O.name O.held files (setting_for plan.now ready.now.library ready.now.clocks start.second) ticks)
-        (written plan.now.sinks) (order_of (setting_for plan.now ready.now.library ready.now.clocks start.second) (written plan.now.sinks)) (lists_of groups.new.items)) }
-    ensures gaps { IfOk result (λ gaps. gaps.items ≡ counts_in (setting_for plan.now ready.now.library ready.now.clocks start.second) ticks plan.now.sinks) }
-    ensures part { OnErr result ((files : Option Files) → AreCreated (IsReady O.name O.held O.room files (setting_for plan.now ready.now.library ready.now.clocks start.second) ticks)
-        (written plan.now.sinks) (order_of (setting_for plan.now ready.now.library ready.now.clocks start.second) (written plan.now.sinks)) (lists_of groups.old.items)
-        → AreCreated (IsPart O.name O.held files (setting_for plan.now ready.now.library ready.now.clocks start.second) ticks)
-        (written plan.now.sinks) (order_of (setting_for plan.now ready.now.library ready.now.clocks start.second) (written plan.now.sinks)) (lists_of groups.new.items)) }
-    ensures cause { IsErrOf result RenderFault.Write → HasFailed O.faults (lists_of groups.new.items) }
-{
-    let mut engines = make_engines(alloc, plan, ready, start, groups)?;
-    let end = run_rounds(alloc, plan, &mut engines, ticks).end;
-    let told = tell(alloc, plan, &ready.clocks, &engines, end);
-    give_back(engines, groups);
-    told
 }

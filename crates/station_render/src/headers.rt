@@ -35,24 +35,6 @@ pub(crate) fn clock_of(clocks: &ClockMap, node: u32) -> u32
     }
 }
 
-// The kind of a node.
-fn kind_of(plan: &Plan, node: u32) -> Kind
-    requires { node < length plan.now.nodes }
-    ensures { result ≡ kind_at plan.now node }
-{
-    plan.nodes.as_slice()[node as usize].kind
-}
-
-// The header of an output of this kind.
-fn header_for(plan: &Plan, kind: Kind, ticks: u64) -> [u8; 44]
-    requires plan { IsWellFormed plan.now }
-    requires few { ticks ≤ 1000000000 }
-    requires fits { is_none (header_of kind plan.now.rate (ticks * plan.now.frame)) ≡ false }
-    ensures { result ≡ header_bytes kind plan.now.rate (ticks * plan.now.frame) }
-{
-    header(kind, plan.rate, ticks * u64::from(plan.frame)).unwrap()
-}
-
 /// What the output of a node is created with.
 pub(crate) fn opening_of(plan: &Plan, clocks: &ClockMap, node: u32, ticks: u64) -> Opening
     requires plan { IsWellFormed plan.now }
@@ -72,4 +54,22 @@ pub(crate) fn opening_of(plan: &Plan, clocks: &ClockMap, node: u32, ticks: u64) 
         header: header_for(plan, kind, ticks),
         body: ticks * (u64::from(plan.frame) * block),
     }
+}
+
+// The kind of a node.
+fn kind_of(plan: &Plan, node: u32) -> Kind
+    requires { node < length plan.now.nodes }
+    ensures { result ≡ kind_at plan.now node }
+{
+    plan.nodes.as_slice()[node as usize].kind
+}
+
+// The header of an output of this kind.
+fn header_for(plan: &Plan, kind: Kind, ticks: u64) -> [u8; 44]
+    requires plan { IsWellFormed plan.now }
+    requires few { ticks ≤ 1000000000 }
+    requires fits { is_none (header_of kind plan.now.rate (ticks * plan.now.frame)) ≡ false }
+    ensures { result ≡ header_bytes kind plan.now.rate (ticks * plan.now.frame) }
+{
+    header(kind, plan.rate, ticks * u64::from(plan.frame)).unwrap()
 }

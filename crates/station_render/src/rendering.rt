@@ -20,34 +20,6 @@ use plan_core::Plan;
 use stations::Ready;
 use std::alloc::Global;
 
-// Creates the outputs and renders into them. `order` and `groups` get the clock of each sink that is created, and the
-// sinks of each clock.
-fn write_each<S: Shelf>(
-    alloc: Global,
-    plan: &Plan,
-    ready: &Ready,
-    start: WeekSecond,
-    ticks: u64,
-    shelf: &mut S,
-    order: &mut Vec<u32>,
-    groups: &mut Vec<Vec<S::Out>>,
-) -> Result<Vec<u64>, RenderFault>
-    requires fit { IsFit plan.now ready.now.library ready.now.clocks ticks }
-    requires none { order.old.items ≡ [] }
-    requires empty { AreEmpty ready.now.clocks.running (lists_of groups.old.items) }
-    ensures whole { OnOk result (AreCreated (IsWhole S.Out.name S.Out.held (S.files shelf.old) (setting_for plan.now ready.now.library ready.now.clocks start.second) ticks)
-        (written plan.now.sinks) order.new.items (lists_of groups.new.items)) }
-    ensures gaps { IfOk result (λ gaps. gaps.items ≡ counts_in (setting_for plan.now ready.now.library ready.now.clocks start.second) ticks plan.now.sinks) }
-    ensures begun { AreBegun S.Out.name S.Out.held (S.files shelf.old) (setting_for plan.now ready.now.library ready.now.clocks start.second) ticks order.new.items (lists_of groups.new.items) }
-    ensures cause { IsErrOf result RenderFault.Write → Rose (S.write_count shelf.old) (S.write_count shelf.new) ⊎ HasFailed S.Out.faults (lists_of groups.new.items) }
-    ensures files { S.files shelf.new ≡ S.files shelf.old }
-    ensures reads { S.read_count shelf.old ≤ S.read_count shelf.new }
-    ensures writes { S.write_count shelf.old ≤ S.write_count shelf.new }
-{
-    create_each(plan, &ready.clocks, ticks, shelf, order, groups)?;
-    Ok(run_all(alloc, plan, ready, start, ticks, groups)?)
-}
-
 /// Renders so many ticks of a plan, from a second of the week on, into the files of its outputs, and answers the gaps of
 /// each output in sink order. The outputs are created in sink order, each with room for exactly its bytes and with its
 /// header as one piece; then every clock makes its ticks, in rounds; then all outputs are closed in sink order, whatever
@@ -85,4 +57,32 @@ pub fn render<S: Shelf>(
     let gaps = wrote?;
     closed?;
     Ok(gaps)
+}
+
+// Creates the outputs and renders into them. `order` and `groups` get the clock of each sink that is created, and the
+// sinks of each clock.
+fn write_each<S: Shelf>(
+    alloc: Global,
+    plan: &Plan,
+    ready: &Ready,
+    start: WeekSecond,
+    ticks: u64,
+    shelf: &mut S,
+    order: &mut Vec<u32>,
+    groups: &mut Vec<Vec<S::Out>>,
+) -> Result<Vec<u64>, RenderFault>
+    requires fit { IsFit plan.now ready.now.library ready.now.clocks ticks }
+    requires none { order.old.items ≡ [] }
+    requires empty { AreEmpty ready.now.clocks.running (lists_of groups.old.items) }
+    ensures whole { OnOk result (AreCreated (IsWhole S.Out.name S.Out.held (S.files shelf.old) (setting_for plan.now ready.now.library ready.now.clocks start.second) ticks)
+        (written plan.now.sinks) order.new.items (lists_of groups.new.items)) }
+    ensures gaps { IfOk result (λ gaps. gaps.items ≡ counts_in (setting_for plan.now ready.now.library ready.now.clocks start.second) ticks plan.now.sinks) }
+    ensures begun { AreBegun S.Out.name S.Out.held (S.files shelf.old) (setting_for plan.now ready.now.library ready.now.clocks start.second) ticks order.new.items (lists_of groups.new.items) }
+    ensures cause { IsErrOf result RenderFault.Write → Rose (S.write_count shelf.old) (S.write_count shelf.new) ⊎ HasFailed S.Out.faults (lists_of groups.new.items) }
+    ensures files { S.files shelf.new ≡ S.files shelf.old }
+    ensures reads { S.read_count shelf.old ≤ S.read_count shelf.new }
+    ensures writes { S.write_count shelf.old ≤ S.write_count shelf.new }
+{
+    create_each(plan, &ready.clocks, ticks, shelf, order, groups)?;
+    Ok(run_all(alloc, plan, ready, start, ticks, groups)?)
 }

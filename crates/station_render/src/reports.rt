@@ -9,25 +9,6 @@ use liq_base::Memory;
 use plan_core::{Plan, SinkPlan};
 use std::alloc::{AllocError, Global};
 
-// The line of an output.
-fn push_line(
-    alloc: Global,
-    text: &mut String,
-    name: &str,
-    samples: u64,
-    gaps: u64,
-) -> Result<(), AllocError>
-    ensures { OnOk result (string_bytes text.new ≡ string_bytes text.old ++ rendered_line name.now samples gaps) }
-{
-    text.push_str("output ")?;
-    text.push_str(name)?;
-    text.push_str(" samples ")?;
-    text.push_str(&samples.to_string(alloc)?)?;
-    text.push_str(" gaps ")?;
-    text.push_str(&gaps.to_string(alloc)?)?;
-    text.push_str("\n")
-}
-
 /// The report of a rendering of so many ticks, at most 1000000000: a line for each output, in sink order, with its gaps.
 pub fn report(alloc: Global, plan: &Plan, ticks: u64, gaps: &[u64]) -> Result<String, Memory>
     requires few { ticks ≤ 1000000000 }
@@ -46,4 +27,23 @@ pub fn report(alloc: Global, plan: &Plan, ticks: u64, gaps: &[u64]) -> Result<St
         place += 1;
     }
     Ok(text)
+}
+
+// The line of an output.
+fn push_line(
+    alloc: Global,
+    text: &mut String,
+    name: &str,
+    samples: u64,
+    gaps: u64,
+) -> Result<(), AllocError>
+    ensures { OnOk result (string_bytes text.new ≡ string_bytes text.old ++ rendered_line name.now samples gaps) }
+{
+    text.push_str("output ")?;
+    text.push_str(name)?;
+    text.push_str(" samples ")?;
+    text.push_str(&samples.to_string(alloc)?)?;
+    text.push_str(" gaps ")?;
+    text.push_str(&gaps.to_string(alloc)?)?;
+    text.push_str("\n")
 }

@@ -12,6 +12,28 @@ const DAY: u32 = 86_400;
 
 const WEEK: u32 = 604_800;
 
+// Whether a mark alone holds at a second of the week.
+pub fn is_at(mark: TimeMark, at: WeekSecond) -> bool
+    ensures { result ≡ is_at mark at.second }
+{
+    let period = period(mark);
+    let since = i64::from(at.second % period) - i64::from(value(mark));
+    since.rem_euclid(i64::from(period)) < i64::from(finest(mark))
+}
+
+// Whether the interval from one mark to another holds at a second of the week.
+pub fn is_between(from: TimeMark, to: TimeMark, at: WeekSecond) -> bool
+    ensures { result ≡ is_between from to at.second }
+{
+    let since = at.second % period(from).max(period(to));
+    let (first, end) = (value(from), value(to));
+    if first <= end {
+        first <= since && since < end
+    } else {
+        first <= since || since < end
+    }
+}
+
 // The value of a mark: the sum of its parts, in seconds.
 fn value(mark: TimeMark) -> u32
     ensures { result ≡ value_of mark }
@@ -56,27 +78,5 @@ fn finest(mark: TimeMark) -> u32
         HOUR
     } else {
         DAY
-    }
-}
-
-// Whether a mark alone holds at a second of the week.
-pub fn is_at(mark: TimeMark, at: WeekSecond) -> bool
-    ensures { result ≡ is_at mark at.second }
-{
-    let period = period(mark);
-    let since = i64::from(at.second % period) - i64::from(value(mark));
-    since.rem_euclid(i64::from(period)) < i64::from(finest(mark))
-}
-
-// Whether the interval from one mark to another holds at a second of the week.
-pub fn is_between(from: TimeMark, to: TimeMark, at: WeekSecond) -> bool
-    ensures { result ≡ is_between from to at.second }
-{
-    let since = at.second % period(from).max(period(to));
-    let (first, end) = (value(from), value(to));
-    if first <= end {
-        first <= since && since < end
-    } else {
-        first <= since || since < end
     }
 }

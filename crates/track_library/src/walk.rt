@@ -24,69 +24,6 @@ pub struct Walk {
     pub audio: AudioFiles,
 }
 
-/// The files that a `single` plays.
-fn find_single<S: Shelf>(
-    alloc: Global,
-    shelf: &mut S,
-    audio: &mut AudioFiles,
-    name: &str,
-    rules: Rules,
-) -> Result<Vec<u32>, LoadFault>
-    requires { IsHeard (heard_of audio.old) }
-    ensures leaf { IfOk result (λ leaf. ForSome (S.files shelf.old) (λ files. single_leaf name.now (use_audio rules files (heard_of audio.old) name.now) ≡ Ok (heard_of audio.new, leaf.items))) }
-    ensures fault { IfErr result (Ends (S.files shelf.old) (S.read_count shelf.old) (S.read_count shelf.new) (λ _. FirstRead (heard_of audio.old).names name.now) (λ files. single_leaf name.now (use_audio rules files (heard_of audio.old) name.now))) }
-    ensures plays { IfOk result (λ leaf. Plays (heard_of audio.old) (heard_of audio.new) leaf.items) }
-    ensures files { S.files shelf.new ≡ S.files shelf.old }
-    ensures reads { S.read_count shelf.old ≤ S.read_count shelf.new }
-    ensures writes { S.write_count shelf.old ≤ S.write_count shelf.new }
-{
-    match audio.find(alloc, shelf, name, rules)? {
-        Ok(number) => {
-            let mut leaf = Vec::new(alloc);
-            leaf.push(number)?;
-            Ok(leaf)
-        }
-        Err(fault) => Err(fault_of(alloc, name, fault)?),
-    }
-}
-
-/// Adds the number of a file that can be used.
-fn push_found(leaf: &mut Vec<u32>, found: Result<u32, Unusable>) -> Result<(), Memory>
-    ensures { OnOk result (leaf.new.items ≡ with_found leaf.old.items found) }
-{
-    if let Ok(number) = found {
-        leaf.push(number)?;
-    }
-    Ok(())
-}
-
-/// The files of a list's entries that can be used.
-fn play_entries<S: Shelf>(
-    alloc: Global,
-    shelf: &mut S,
-    audio: &mut AudioFiles,
-    names: &[Text],
-    rules: Rules,
-) -> Result<Vec<u32>, LoadFault>
-    requires { IsHeard (heard_of audio.old) }
-    ensures leaf { IfOk result (λ leaf. ForSome (S.files shelf.old) (λ files. entries_played rules files names.now (Ok (heard_of audio.old, [])) ≡ Ok (heard_of audio.new, leaf.items))) }
-    ensures fault { IfErr result (Ends (S.files shelf.old) (S.read_count shelf.old) (S.read_count shelf.new) (λ files. EntriesRead rules files names.now (Ok (heard_of audio.old, []))) (λ files. entries_played rules files names.now (Ok (heard_of audio.old, [])))) }
-    ensures plays { IfOk result (λ leaf. Plays (heard_of audio.old) (heard_of audio.new) leaf.items) }
-    ensures files { S.files shelf.new ≡ S.files shelf.old }
-    ensures reads { S.read_count shelf.old ≤ S.read_count shelf.new }
-    ensures writes { S.write_count shelf.old ≤ S.write_count shelf.new }
-{
-    let mut leaf = Vec::new(alloc);
-    for name in names {
-        let found = audio.find(alloc, shelf, name.as_str(), rules)?;
-        push_found(&mut leaf, found)?;
-    }
-    match u32::try_from(leaf.len()) {
-        Ok(_) => Ok(leaf),
-        Err(_) => Err(LoadFault::Memory),
-    }
-}
-
 impl Walk {
     /// A walk that has read nothing.
     fn new(alloc: Global) -> Walk
@@ -178,4 +115,67 @@ pub fn load<S: Shelf>(
         leaves.push(leaf)?;
     }
     Ok(walk.into_library(leaves))
+}
+
+/// The files that a `single` plays.
+fn find_single<S: Shelf>(
+    alloc: Global,
+    shelf: &mut S,
+    audio: &mut AudioFiles,
+    name: &str,
+    rules: Rules,
+) -> Result<Vec<u32>, LoadFault>
+    requires { IsHeard (heard_of audio.old) }
+    ensures leaf { IfOk result (λ leaf. ForSome (S.files shelf.old) (λ files. single_leaf name.now (use_audio rules files (heard_of audio.old) name.now) ≡ Ok (heard_of audio.new, leaf.items))) }
+    ensures fault { IfErr result (Ends (S.files shelf.old) (S.read_count shelf.old) (S.read_count shelf.new) (λ _. FirstRead (heard_of audio.old).names name.now) (λ files. single_leaf name.now (use_audio rules files (heard_of audio.old) name.now))) }
+    ensures plays { IfOk result (λ leaf. Plays (heard_of audio.old) (heard_of audio.new) leaf.items) }
+    ensures files { S.files shelf.new ≡ S.files shelf.old }
+    ensures reads { S.read_count shelf.old ≤ S.read_count shelf.new }
+    ensures writes { S.write_count shelf.old ≤ S.write_count shelf.new }
+{
+    match audio.find(alloc, shelf, name, rules)? {
+        Ok(number) => {
+            let mut leaf = Vec::new(alloc);
+            leaf.push(number)?;
+            Ok(leaf)
+        }
+        Err(fault) => Err(fault_of(alloc, name, fault)?),
+    }
+}
+
+/// Adds the number of a file that can be used.
+fn push_found(leaf: &mut Vec<u32>, found: Result<u32, Unusable>) -> Result<(), Memory>
+    ensures { OnOk result (leaf.new.items ≡ with_found leaf.old.items found) }
+{
+    if let Ok(number) = found {
+        leaf.push(number)?;
+    }
+    Ok(())
+}
+
+/// The files of a list's entries that can be used.
+fn play_entries<S: Shelf>(
+    alloc: Global,
+    shelf: &mut S,
+    audio: &mut AudioFiles,
+    names: &[Text],
+    rules: Rules,
+) -> Result<Vec<u32>, LoadFault>
+    requires { IsHeard (heard_of audio.old) }
+    ensures leaf { IfOk result (λ leaf. ForSome (S.files shelf.old) (λ files. entries_played rules files names.now (Ok (heard_of audio.old, [])) ≡ Ok (heard_of audio.new, leaf.items))) }
+    ensures fault { IfErr result (Ends (S.files shelf.old) (S.read_count shelf.old) (S.read_count shelf.new) (λ files. EntriesRead rules files names.now (Ok (heard_of audio.old, []))) (λ files. entries_played rules files names.now (Ok (heard_of audio.old, [])))) }
+    ensures plays { IfOk result (λ leaf. Plays (heard_of audio.old) (heard_of audio.new) leaf.items) }
+    ensures files { S.files shelf.new ≡ S.files shelf.old }
+    ensures reads { S.read_count shelf.old ≤ S.read_count shelf.new }
+    ensures writes { S.write_count shelf.old ≤ S.write_count shelf.new }
+{
+    let mut leaf = Vec::new(alloc);
+    for name in names {
+        let found = audio.find(alloc, shelf, name.as_str(), rules)?;
+        push_found(&mut leaf, found)?;
+    }
+    match u32::try_from(leaf.len()) {
+        Ok(_) => Ok(leaf),
+        Err(_) => Err(LoadFault::Memory),
+    }
 }

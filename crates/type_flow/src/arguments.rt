@@ -20,6 +20,32 @@ pub struct Argument<'a> {
     pub var: u64,
 }
 
+/// Makes the arguments match parameters of these types, if they can.
+pub fn fit(
+    alloc: Global,
+    subst: &mut Subst,
+    params: &[Parameter<'_>],
+    types: &[Ty],
+    given: &mut Vec<Argument<'_>>,
+) -> Result<bool, Memory>
+    requires over { AreTermsOver subst.old (map term_of types.now) }
+    requires inside { AreInside subst.old (map seen_argument given.old.items) }
+    ensures { IfOk result (λ yes. IsMade yes subst.old subst.new (λ a. Matched (map seen_parameter params.now) (given_under a (map seen_argument given.old.items)) (map (meaning a) (map term_of types.now)))) }
+{
+    if params.len() != types.len() {
+        return Ok(false);
+    }
+    for i in 0..params.len() {
+        let param = param_at(params, i);
+        let taken = take_argument(given, label_of(param));
+        let fits = fit_one(alloc, subst, param, &types[i], taken)?;
+        if !fits {
+            return Ok(false);
+        }
+    }
+    Ok(given.is_empty())
+}
+
 /// Takes out the first argument with this label, or the first without one.
 fn take_argument(given: &mut Vec<Argument<'_>>, label: Option<&str>) -> Option<u64>
     ensures taken { result ≡ option_map (λ x. x.0) (argument (seen_label label.entry) (map seen_argument given.old.items)) }
@@ -59,30 +85,4 @@ fn param_at<'a>(params: &[Parameter<'a>], i: usize) -> Parameter<'a>
     ensures at { result ≡ get_or params.now i result }
 {
     params[i]
-}
-
-/// Makes the arguments match parameters of these types, if they can.
-pub fn fit(
-    alloc: Global,
-    subst: &mut Subst,
-    params: &[Parameter<'_>],
-    types: &[Ty],
-    given: &mut Vec<Argument<'_>>,
-) -> Result<bool, Memory>
-    requires over { AreTermsOver subst.old (map term_of types.now) }
-    requires inside { AreInside subst.old (map seen_argument given.old.items) }
-    ensures { IfOk result (λ yes. IsMade yes subst.old subst.new (λ a. Matched (map seen_parameter params.now) (given_under a (map seen_argument given.old.items)) (map (meaning a) (map term_of types.now)))) }
-{
-    if params.len() != types.len() {
-        return Ok(false);
-    }
-    for i in 0..params.len() {
-        let param = param_at(params, i);
-        let taken = take_argument(given, label_of(param));
-        let fits = fit_one(alloc, subst, param, &types[i], taken)?;
-        if !fits {
-            return Ok(false);
-        }
-    }
-    Ok(given.is_empty())
 }

@@ -11,13 +11,6 @@ use liq_base::Memory;
 use std::alloc::Global;
 use type_terms::{Subst, Ty, unify};
 
-/// A type variable as a type.
-fn var(n: u64) -> Ty
-    ensures { term_of result ≡ variable n }
-{
-    Ty::Var(n)
-}
-
 /// Makes a variable a type, if it can be.
 pub fn is_type(alloc: Global, subst: &mut Subst, n: u64, ty: &Ty) -> Result<bool, Memory>
     requires inside { n < length subst.old.types }
@@ -93,17 +86,6 @@ pub fn new_list(alloc: Global, subst: &mut Subst, item: u64) -> Result<u64, Memo
     Ok(n)
 }
 
-/// The variables as types.
-fn vars(alloc: Global, parts: &[u64]) -> Result<Vec<Ty>, Memory>
-    ensures { IfOk result (λ ts. map term_of ts.items ≡ map variable parts.now) }
-{
-    let mut types = Vec::new(alloc);
-    for part in parts {
-        types.push(var(*part))?;
-    }
-    Ok(types)
-}
-
 /// A new variable that is bound to a tuple of variables.
 pub fn new_tuple(alloc: Global, subst: &mut Subst, parts: &[u64]) -> Result<u64, Memory>
     requires over { IsOver subst.old (tuple_term (terms_of (map variable parts.now))) }
@@ -147,4 +129,22 @@ pub fn is_number_of_many(
     } else {
         is_number(alloc, subst, n)
     }
+}
+
+/// A type variable as a type.
+fn var(n: u64) -> Ty
+    ensures { term_of result ≡ variable n }
+{
+    Ty::Var(n)
+}
+
+/// The variables as types.
+fn vars(alloc: Global, parts: &[u64]) -> Result<Vec<Ty>, Memory>
+    ensures { IfOk result (λ ts. map term_of ts.items ≡ map variable parts.now) }
+{
+    let mut types = Vec::new(alloc);
+    for part in parts {
+        types.push(var(*part))?;
+    }
+    Ok(types)
 }

@@ -22,33 +22,6 @@ pub struct Front {
     pub fault: Option<TypeFault>,
 }
 
-/// What the names of one statement mean, and the scope behind it; or the fault of names that is told of it.
-fn names_of<'a>(
-    alloc: Global,
-    scope: &mut Scope<'a>,
-    stmt: &'a Stmt,
-    number: u32,
-) -> Result<Vec<Resolved>, TypeFault>
-    ensures names { IfOk result (λ found. map resolved found.items ≡ map meant (names (in_scope scope.old) (view_stmt stmt.entry.now))) }
-    ensures faultless { IfOk result (λ found. told (faults_in (in_scope scope.old) (view_stmt stmt.entry.now)) ≡ None) }
-    ensures bound { IfOk result (λ found. in_scope scope.new ≡ with_statement (view_stmt stmt.entry.now) (in_scope scope.old)) }
-    ensures told { IfErr result (λ f. f ≢ TypeFault.Memory → option_map (in_statement number) (told (faults_in (in_scope scope.old) (view_stmt stmt.entry.now))) ≡ Some f) }
-{
-    let mut notes = Notes::new(alloc);
-    resolve_statement(alloc, scope, &mut notes, stmt, number)?;
-    Ok(notes.found)
-}
-
-/// Adds what more names mean.
-fn add_all(all: &mut Vec<Resolved>, more: &[Resolved]) -> Result<(), Memory>
-    ensures { OnOk result (map resolved all.new.items ≡ map resolved all.old.items ++ map resolved more.now) }
-{
-    for one in more {
-        all.push(*one)?;
-    }
-    Ok(())
-}
-
 /// The names of the statements before the first with a fault of names.
 pub fn resolve_front(alloc: Global, statements: &[Stmt]) -> Result<Front, Memory>
     ensures { IfOk result (λ f. IsFront (map view_stmt statements.now) f.count (map resolved f.all.items) f.fault) }
@@ -77,4 +50,31 @@ pub fn resolve_front(alloc: Global, statements: &[Stmt]) -> Result<Front, Memory
         count: number as usize,
         fault: None,
     })
+}
+
+/// What the names of one statement mean, and the scope behind it; or the fault of names that is told of it.
+fn names_of<'a>(
+    alloc: Global,
+    scope: &mut Scope<'a>,
+    stmt: &'a Stmt,
+    number: u32,
+) -> Result<Vec<Resolved>, TypeFault>
+    ensures names { IfOk result (λ found. map resolved found.items ≡ map meant (names (in_scope scope.old) (view_stmt stmt.entry.now))) }
+    ensures faultless { IfOk result (λ found. told (faults_in (in_scope scope.old) (view_stmt stmt.entry.now)) ≡ None) }
+    ensures bound { IfOk result (λ found. in_scope scope.new ≡ with_statement (view_stmt stmt.entry.now) (in_scope scope.old)) }
+    ensures told { IfErr result (λ f. f ≢ TypeFault.Memory → option_map (in_statement number) (told (faults_in (in_scope scope.old) (view_stmt stmt.entry.now))) ≡ Some f) }
+{
+    let mut notes = Notes::new(alloc);
+    resolve_statement(alloc, scope, &mut notes, stmt, number)?;
+    Ok(notes.found)
+}
+
+/// Adds what more names mean.
+fn add_all(all: &mut Vec<Resolved>, more: &[Resolved]) -> Result<(), Memory>
+    ensures { OnOk result (map resolved all.new.items ≡ map resolved all.old.items ++ map resolved more.now) }
+{
+    for one in more {
+        all.push(*one)?;
+    }
+    Ok(())
 }

@@ -34,6 +34,25 @@ pub struct Typed<'a> {
     pub uses: Vec<Use>,
 }
 
+/// The uses of a script that has a typing: one for each name in the order of the tokens, with what it means and its kinds,
+/// mono exactly where every typing is (`docs/typing.md`). The fields `at` of the script are the indexes of its tokens, as
+/// parsing answers it.
+///
+/// # Errors
+///
+/// The first fault of names, arguments or types. `Memory`: memory was refused, or there are 2^32 statements and more.
+pub fn infer<'a>(alloc: Global, script: &'a Script) -> Result<Typed<'a>, TypeFault>
+    requires placed { IsPlaced 0 (view_script script.now) }
+    ensures typed { IfOk result (λ t. IsTyped (view_script script.entry.now) t.uses.items) }
+    ensures fault { IfErr result (IsTypeFault (view_script script.entry.now)) }
+    ensures script { IfOk result (λ t. t.script ≡ script.entry) }
+{
+    match statement_uses(alloc, &script.statements) {
+        Ok(uses) => Ok(Typed { script, uses }),
+        Err(fault) => Err(fault),
+    }
+}
+
 /// No statement yet, with a substitution without variables.
 fn begun<'a>(alloc: Global, subst: Subst) -> Typing<'a>
     ensures { (targets : Targets) → IsAfter targets none result }
@@ -188,24 +207,5 @@ fn statement_uses(alloc: Global, statements: &[Stmt]) -> Result<Vec<Use>, TypeFa
     match told_front(alloc, statements) {
         Ok(front) => answered(alloc, statements, front),
         Err(_) => Err(TypeFault::Memory),
-    }
-}
-
-/// The uses of a script that has a typing: one for each name in the order of the tokens, with what it means and its kinds,
-/// mono exactly where every typing is (`docs/typing.md`). The fields `at` of the script are the indexes of its tokens, as
-/// parsing answers it.
-///
-/// # Errors
-///
-/// The first fault of names, arguments or types. `Memory`: memory was refused, or there are 2^32 statements and more.
-pub fn infer<'a>(alloc: Global, script: &'a Script) -> Result<Typed<'a>, TypeFault>
-    requires placed { IsPlaced 0 (view_script script.now) }
-    ensures typed { IfOk result (λ t. IsTyped (view_script script.entry.now) t.uses.items) }
-    ensures fault { IfErr result (IsTypeFault (view_script script.entry.now)) }
-    ensures script { IfOk result (λ t. t.script ≡ script.entry) }
-{
-    match statement_uses(alloc, &script.statements) {
-        Ok(uses) => Ok(Typed { script, uses }),
-        Err(fault) => Err(fault),
     }
 }

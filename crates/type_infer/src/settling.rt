@@ -14,6 +14,14 @@ use type_terms::{KindTerm, Subst, Ty, resolved};
 use typing_rules::{KindOf, Use, UseKinds};
 use value_types::{FoundUse, KnownDef, TextKind, TextUse};
 
+/// The uses of all statements, in the order of the tokens.
+pub fn settled_uses(alloc: Global, typing: &Typing<'_>) -> Result<Vec<Use>, Memory>
+    requires over { AreDonesOver typing.now.subst (dones typing.now) }
+    ensures { IfOk result (λ us. AreDefaultOf typing.now.subst (dones typing.now) us.items) }
+{
+    steps_uses(alloc, &typing.subst, &typing.defs, &typing.steps)
+}
+
 /// The kind of a source, if it is the type of one.
 fn source_kind(ty: &Ty) -> Option<KindTerm>
     ensures { result ≡ source_of (term_of ty.now) }
@@ -178,12 +186,4 @@ fn steps_uses(
         add_step(alloc, subst, defs, step, &mut uses)?;
     }
     Ok(uses)
-}
-
-/// The uses of all statements, in the order of the tokens.
-pub fn settled_uses(alloc: Global, typing: &Typing<'_>) -> Result<Vec<Use>, Memory>
-    requires over { AreDonesOver typing.now.subst (dones typing.now) }
-    ensures { IfOk result (λ us. AreDefaultOf typing.now.subst (dones typing.now) us.items) }
-{
-    steps_uses(alloc, &typing.subst, &typing.defs, &typing.steps)
 }

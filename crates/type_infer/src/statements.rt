@@ -20,6 +20,24 @@ use type_terms::Ty;
 use typing_rules::Target;
 use value_types::{Bindings, Known, KnownDef, Names, TypedName};
 
+/// One statement more: whether there is a typing with it.
+pub fn type_part<'a>(
+    alloc: Global,
+    typing: &mut Typing<'a>,
+    targets: &IndexMap<u32, Target>,
+    part: &'a StmtPart,
+) -> Result<bool, Memory>
+    requires ready { IsReady (targets_of targets.now) typing.old }
+    ensures { IfOk result (λ yes. IsStepped (targets_of targets.now) (view_part part.entry.now) typing.old typing.new yes) }
+{
+    match part {
+        StmtPart::Bind(bind) => type_bind(alloc, typing, targets, bind),
+        StmtPart::Def(def) => type_function(alloc, typing, targets, def),
+        StmtPart::Call(call) => type_run(alloc, typing, targets, call),
+        StmtPart::If(choice) => type_branch(alloc, typing, targets, choice),
+    }
+}
+
 /// What is seen outside of defs.
 fn outside<'n, 'a>(
     targets: &'n IndexMap<u32, Target>,
@@ -161,23 +179,5 @@ fn type_function<'a>(
             keep_def(alloc, typing, typed)?;
             Ok(true)
         }
-    }
-}
-
-/// One statement more: whether there is a typing with it.
-pub fn type_part<'a>(
-    alloc: Global,
-    typing: &mut Typing<'a>,
-    targets: &IndexMap<u32, Target>,
-    part: &'a StmtPart,
-) -> Result<bool, Memory>
-    requires ready { IsReady (targets_of targets.now) typing.old }
-    ensures { IfOk result (λ yes. IsStepped (targets_of targets.now) (view_part part.entry.now) typing.old typing.new yes) }
-{
-    match part {
-        StmtPart::Bind(bind) => type_bind(alloc, typing, targets, bind),
-        StmtPart::Def(def) => type_function(alloc, typing, targets, def),
-        StmtPart::Call(call) => type_run(alloc, typing, targets, call),
-        StmtPart::If(choice) => type_branch(alloc, typing, targets, choice),
     }
 }

@@ -12,14 +12,6 @@ use std::alloc::Global;
 use type_terms::Subst;
 use value_types::{FoundUse, Names};
 
-/// A type and the uses that were found.
-fn noted(subst: &Subst, var: u64, uses: Vec<FoundUse>) -> TypedExpr
-    ensures { IsNoted subst.now var uses.items result }
-{
-    subst.has_defaults();
-    TypedExpr { var, uses }
-}
-
 /// The type of a value, and the uses in it; `None` where it has no type.
 pub fn value_type(
     alloc: Global,
@@ -69,4 +61,12 @@ pub fn choice_type(
         None => Ok(None),
         Some(var) => Ok(Some(noted(subst, var, uses))),
     }
+}
+
+/// A type and the uses that were found.
+fn noted(subst: &Subst, var: u64, uses: Vec<FoundUse>) -> TypedExpr
+    ensures { IsNoted subst.now var uses.items result }
+{
+    subst.has_defaults();
+    TypedExpr { var, uses }
 }

@@ -49,6 +49,26 @@ macro_rules! source_row {
     };
 }
 
+const SOURCE: KindTerm = KindTerm::Var(0);
+
+/// The type of a builtin, as the table of the builtins says it. Nothing is outside of it.
+pub fn builtin_general(alloc: Global, builtin: Builtin) -> Result<General, Memory>
+    ensures same { IfOk result (λ g. scheme_of g ≡ builtin_scheme builtin) }
+    ensures over { IfOk result (λ g. (s : Table) → IsSchemeOver s (scheme_of g)) }
+{
+    let row = builtin_row(builtin);
+    let types = row_types(builtin).to_vec(alloc)?;
+    let kinds = row_kinds(builtin).to_vec(alloc)?;
+    let params = row_types_of(alloc, row.params)?;
+    let call = row_type(alloc, row.result)?;
+    Ok(General {
+        params,
+        result: call,
+        types,
+        kinds,
+    })
+}
+
 /// The row of a builtin.
 fn builtin_row(builtin: Builtin) -> Row
     ensures params { map row_term result.params.now ≡ map (λ p. p.1) (signature builtin).params }
@@ -116,8 +136,6 @@ fn row_kinds(builtin: Builtin) -> &'static [KindParameter]
     }
 }
 
-const SOURCE: KindTerm = KindTerm::Var(0);
-
 /// A list of sources.
 fn sources(alloc: Global) -> Result<Ty, Memory>
     ensures { IfOk result (λ t. term_of t ≡ list_term (source_term (Var 0))) }
@@ -174,22 +192,4 @@ fn row_types_of(alloc: Global, row: &[RowType]) -> Result<Vec<Ty>, Memory>
         types.push(next)?;
     }
     Ok(types)
-}
-
-/// The type of a builtin, as the table of the builtins says it. Nothing is outside of it.
-pub fn builtin_general(alloc: Global, builtin: Builtin) -> Result<General, Memory>
-    ensures same { IfOk result (λ g. scheme_of g ≡ builtin_scheme builtin) }
-    ensures over { IfOk result (λ g. (s : Table) → IsSchemeOver s (scheme_of g)) }
-{
-    let row = builtin_row(builtin);
-    let types = row_types(builtin).to_vec(alloc)?;
-    let kinds = row_kinds(builtin).to_vec(alloc)?;
-    let params = row_types_of(alloc, row.params)?;
-    let call = row_type(alloc, row.result)?;
-    Ok(General {
-        params,
-        result: call,
-        types,
-        kinds,
-    })
 }

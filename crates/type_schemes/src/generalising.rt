@@ -24,6 +24,42 @@ pub struct DefType {
     pub text: Vec<TextKind>,
 }
 
+/// Makes the types of a def general in all variables that are bound to nothing and that earlier names do not hold.
+///
+/// `params` and `answer` are what the types of its parameters and of its result were found to be, and `kinds` the kinds at the uses of its text.
+/// It takes time that grows with these alone, as they are with all that is bound put in.
+pub fn generalise(
+    alloc: Global,
+    subst: &Subst,
+    held: &Held,
+    params: &[Ty],
+    answer: &Ty,
+    kinds: &[KindTerm],
+) -> Result<DefType, Memory>
+    requires params { AreAmong (length subst.now.types) (length subst.now.kinds) (map term_of params.now) }
+    requires answer { IsOver subst.now (term_of answer.now) }
+    requires kinds { AreAmong (length subst.now.types) (length subst.now.kinds) (map source_term kinds.now) }
+    ensures over { IfOk result (λ d. (names : List Term) → IsHeldBy subst.now names held.now → IsSchemeOver subst.now (scheme_of d.general)) }
+    ensures numbered { IfOk result (λ d. IsNumberedText (scheme_of d.general) d.text.items) }
+    ensures text_over { IfOk result (λ d. (names : List Term) → IsHeldBy subst.now names held.now → AreTextKindsOver subst.now d.text.items) }
+    ensures general { IfOk result (λ d. (names : List Term) → IsHeldBy subst.now names held.now → IsGeneral subst.now names (map term_of params.now) (term_of answer.now) kinds.now (scheme_of d.general) d.text.items) }
+{
+    subst.extends_each_assignment();
+    let opened = number_def(alloc, subst, params, answer, kinds)?;
+    let types = type_parameters(alloc, subst, held, opened.types.as_slice())?;
+    let kinds = kind_parameters(alloc, held, opened.kinds.as_slice(), opened.read)?;
+    let text = text_kinds(alloc, &kinds, &opened.text)?;
+    Ok(DefType {
+        general: General {
+            params: opened.params,
+            result: opened.answer,
+            types,
+            kinds,
+        },
+        text,
+    })
+}
+
 /// What a variable of this number may stand for.
 fn type_parameter_of(subst: &Subst, held: &Held, number: u64) -> TypeParameter
     ensures { result ≡ type_parameter subst.now held.now number }
@@ -140,40 +176,4 @@ fn text_kinds(
         text.push(text_kind(parameters, *kind))?;
     }
     Ok(text)
-}
-
-/// Makes the types of a def general in all variables that are bound to nothing and that earlier names do not hold.
-///
-/// `params` and `answer` are what the types of its parameters and of its result were found to be, and `kinds` the kinds at the uses of its text.
-/// It takes time that grows with these alone, as they are with all that is bound put in.
-pub fn generalise(
-    alloc: Global,
-    subst: &Subst,
-    held: &Held,
-    params: &[Ty],
-    answer: &Ty,
-    kinds: &[KindTerm],
-) -> Result<DefType, Memory>
-    requires params { AreAmong (length subst.now.types) (length subst.now.kinds) (map term_of params.now) }
-    requires answer { IsOver subst.now (term_of answer.now) }
-    requires kinds { AreAmong (length subst.now.types) (length subst.now.kinds) (map source_term kinds.now) }
-    ensures over { IfOk result (λ d. (names : List Term) → IsHeldBy subst.now names held.now → IsSchemeOver subst.now (scheme_of d.general)) }
-    ensures numbered { IfOk result (λ d. IsNumberedText (scheme_of d.general) d.text.items) }
-    ensures text_over { IfOk result (λ d. (names : List Term) → IsHeldBy subst.now names held.now → AreTextKindsOver subst.now d.text.items) }
-    ensures general { IfOk result (λ d. (names : List Term) → IsHeldBy subst.now names held.now → IsGeneral subst.now names (map term_of params.now) (term_of answer.now) kinds.now (scheme_of d.general) d.text.items) }
-{
-    subst.extends_each_assignment();
-    let opened = number_def(alloc, subst, params, answer, kinds)?;
-    let types = type_parameters(alloc, subst, held, opened.types.as_slice())?;
-    let kinds = kind_parameters(alloc, held, opened.kinds.as_slice(), opened.read)?;
-    let text = text_kinds(alloc, &kinds, &opened.text)?;
-    Ok(DefType {
-        general: General {
-            params: opened.params,
-            result: opened.answer,
-            types,
-            kinds,
-        },
-        text,
-    })
 }

@@ -20,6 +20,27 @@ pub struct Instance {
     pub kinds: Vec<KindTerm>,
 }
 
+/// The general type with new variables for those that it is general in. It takes time that grows with the type alone.
+///
+/// Where memory runs out, the substitution may have new variables that nothing names.
+pub fn instantiate(alloc: Global, subst: &mut Subst, general: &General) -> Result<Instance, Memory>
+    requires over { IsSchemeOver subst.old (scheme_of general.now) }
+    ensures instance { IfOk result (λ i. Instantiates subst.old subst.new (scheme_of general.now) (instance_params i) (term_of i.result) i.kinds.items) }
+    ensures counted { IfOk result (λ i. length i.kinds.items ≡ length (open_numbers 0 (scheme_of general.now).kinds)) }
+    ensures grows { Grows subst.old subst.new }
+{
+    let types = new_types(alloc, subst, &general.types)?;
+    let numbers = new_kinds(alloc, subst, &general.kinds)?;
+    let params = renamed_all(alloc, &general.params, &types, &numbers)?;
+    let call = renamed(alloc, &general.result, &types, &numbers)?;
+    let kinds = opened(alloc, &general.kinds, &numbers)?;
+    Ok(Instance {
+        params,
+        result: call,
+        kinds,
+    })
+}
+
 /// The number of a new type variable.
 fn fresh_number(subst: &mut Subst, number: bool) -> Result<u64, Memory>
     ensures free { IfOk result (λ n. HasNewType subst.old subst.new (IsTrue number) n) }
@@ -136,25 +157,4 @@ fn opened(
         }
     }
     Ok(kinds)
-}
-
-/// The general type with new variables for those that it is general in. It takes time that grows with the type alone.
-///
-/// Where memory runs out, the substitution may have new variables that nothing names.
-pub fn instantiate(alloc: Global, subst: &mut Subst, general: &General) -> Result<Instance, Memory>
-    requires over { IsSchemeOver subst.old (scheme_of general.now) }
-    ensures instance { IfOk result (λ i. Instantiates subst.old subst.new (scheme_of general.now) (instance_params i) (term_of i.result) i.kinds.items) }
-    ensures counted { IfOk result (λ i. length i.kinds.items ≡ length (open_numbers 0 (scheme_of general.now).kinds)) }
-    ensures grows { Grows subst.old subst.new }
-{
-    let types = new_types(alloc, subst, &general.types)?;
-    let numbers = new_kinds(alloc, subst, &general.kinds)?;
-    let params = renamed_all(alloc, &general.params, &types, &numbers)?;
-    let call = renamed(alloc, &general.result, &types, &numbers)?;
-    let kinds = opened(alloc, &general.kinds, &numbers)?;
-    Ok(Instance {
-        params,
-        result: call,
-        kinds,
-    })
 }

@@ -16,6 +16,48 @@ use type_terms::{KindTerm, Subst, Ty, resolved};
 /// How many levels a type may have whose variables are numbered anew.
 const MOST_LEVELS: u32 = 1000;
 
+/// The types of a def and the kinds of its text over variables of their own, and the numbers of these in the substitution.
+///
+/// The text names the first `read` of the kind variables, in their order.
+#[derive(Drop)]
+pub struct OpenedDef {
+    pub params: Vec<Ty>,
+    pub answer: Ty,
+    pub text: Vec<KindTerm>,
+    pub types: IndexSet<u64>,
+    pub kinds: IndexSet<u64>,
+    pub read: usize,
+}
+
+/// The types of a def over variables of their own, in the order of first mention: the kinds of its text first.
+pub fn number_def(
+    alloc: Global,
+    subst: &Subst,
+    params: &[Ty],
+    answer: &Ty,
+    kinds: &[KindTerm],
+) -> Result<OpenedDef, Memory>
+    requires params { AreAmong (length subst.now.types) (length subst.now.kinds) (map term_of params.now) }
+    requires answer { IsOver subst.now (term_of answer.now) }
+    requires kinds { AreAmong (length subst.now.types) (length subst.now.kinds) (map source_term kinds.now) }
+    ensures { IfOk result (λ n. OpensDef subst.now (map term_of params.now) (term_of answer.now) kinds.now n.types.keys n.kinds.keys n.read (map term_of n.params.items) (term_of n.answer) n.text.items) }
+{
+    let mut types = IndexSet::new(alloc);
+    let mut places = IndexSet::new(alloc);
+    let text = opened_kinds(alloc, subst, &mut places, kinds)?;
+    let read = places.len();
+    let params = opened(alloc, subst, &mut types, &mut places, params)?;
+    let answer = opened_one(alloc, subst, &mut types, &mut places, answer)?;
+    Ok(OpenedDef {
+        params,
+        answer,
+        text,
+        types,
+        kinds: places,
+        read,
+    })
+}
+
 /// The place of a number, which is added if it is not there.
 fn place(numbers: &mut IndexSet<u64>, number: u64) -> Result<u64, Memory>
     ensures there { IfOk result (λ i. slice_get numbers.new.keys i ≡ Some number) }
@@ -191,46 +233,4 @@ fn opened_kinds(
     let settled = all_resolved(alloc, subst, &given)?;
     let places = source_places(alloc, kinds, &settled)?;
     Ok(places)
-}
-
-/// The types of a def and the kinds of its text over variables of their own, and the numbers of these in the substitution.
-///
-/// The text names the first `read` of the kind variables, in their order.
-#[derive(Drop)]
-pub struct OpenedDef {
-    pub params: Vec<Ty>,
-    pub answer: Ty,
-    pub text: Vec<KindTerm>,
-    pub types: IndexSet<u64>,
-    pub kinds: IndexSet<u64>,
-    pub read: usize,
-}
-
-/// The types of a def over variables of their own, in the order of first mention: the kinds of its text first.
-pub fn number_def(
-    alloc: Global,
-    subst: &Subst,
-    params: &[Ty],
-    answer: &Ty,
-    kinds: &[KindTerm],
-) -> Result<OpenedDef, Memory>
-    requires params { AreAmong (length subst.now.types) (length subst.now.kinds) (map term_of params.now) }
-    requires answer { IsOver subst.now (term_of answer.now) }
-    requires kinds { AreAmong (length subst.now.types) (length subst.now.kinds) (map source_term kinds.now) }
-    ensures { IfOk result (λ n. OpensDef subst.now (map term_of params.now) (term_of answer.now) kinds.now n.types.keys n.kinds.keys n.read (map term_of n.params.items) (term_of n.answer) n.text.items) }
-{
-    let mut types = IndexSet::new(alloc);
-    let mut places = IndexSet::new(alloc);
-    let text = opened_kinds(alloc, subst, &mut places, kinds)?;
-    let read = places.len();
-    let params = opened(alloc, subst, &mut types, &mut places, params)?;
-    let answer = opened_one(alloc, subst, &mut types, &mut places, answer)?;
-    Ok(OpenedDef {
-        params,
-        answer,
-        text,
-        types,
-        kinds: places,
-        read,
-    })
 }

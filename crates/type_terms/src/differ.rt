@@ -47,6 +47,91 @@ pub fn resolve_kind(kinds: &[Option<KindTerm>], k: KindTerm) -> KindTerm
     k
 }
 
+/// Puts copies of two types on the stack.
+pub fn push_copies(
+    alloc: Global,
+    work: &mut Vec<(Ty, Ty)>,
+    left: &Ty,
+    right: &Ty,
+) -> Result<(), Memory>
+    ensures { OnOk result (pairs_of work.new.items ≡ pairs_of work.old.items ++ (term_of left.now, term_of right.now) ∷ []) }
+{
+    let left = copy(alloc, left, MOST_LEVELS)?;
+    let right = copy(alloc, right, MOST_LEVELS)?;
+    work.push((left, right))?;
+    Ok(())
+}
+
+/// Puts the parts of two lists or two tuples on the stack; `false` where the two are not of one such shape.
+pub fn push_split<'a>(
+    work: &mut Vec<(&'a Ty, &'a Ty)>,
+    s: &'a Ty,
+    t: &'a Ty,
+) -> Result<bool, Memory>
+    ensures yes { IfOk result (λ b. OnTrue b (IsSplit (term_of s.now) (term_of t.now) × (pairs work.new.items ≡ pairs work.old.items ++ parts_of (term_of s.now) (term_of t.now)))) }
+    ensures no { IfOk result (λ b. OnFalse b (pairs work.new.items ≡ pairs work.old.items)) }
+    ensures unsplit { IfOk result (λ b. OnFalse b (IsSplit (term_of s.now) (term_of t.now) → ⊥)) }
+{
+    match s {
+        Ty::List(a) => match t {
+            Ty::List(b) => {
+                work.push((a, b))?;
+                Ok(true)
+            }
+            _ => Ok(false),
+        },
+        Ty::Tuple(ss) => match t {
+            Ty::Tuple(ts) => {
+                let ss: &[Ty] = ss;
+                let ts: &[Ty] = ts;
+                if ss.len() != ts.len() {
+                    return Ok(false);
+                }
+                push_parts(work, ss, ts)?;
+                Ok(true)
+            }
+            _ => Ok(false),
+        },
+        _ => Ok(false),
+    }
+}
+
+/// The difference of two types, or what they are bound to put on the stack, where that can be taken apart.
+///
+/// Two variables for which that was done before are the same where those are: it is not done again.
+pub fn differ<'a>(
+    alloc: Global,
+    types: &'a [TypeVariable],
+    kinds: &[Option<KindTerm>],
+    nested: &[bool],
+    work: &mut Vec<(Ty, Ty)>,
+    seen: &mut IndexSet<(u64, u64)>,
+    left: &'a Ty,
+    right: &'a Ty,
+) -> Result<Difference<'a>, Memory>
+    requires sound { IsSound (table types.now kinds.now) }
+    requires marked { AreMarked types.now nested.now }
+    requires left { IsOver (table types.now kinds.now) (term_of left.now) }
+    requires right { IsOver (table types.now kinds.now) (term_of right.now) }
+    ensures { IfOk result (λ d. TakesUp (table types.now kinds.now) (agenda work.old.items seen.old.keys) (agenda work.new.items seen.new.keys) (term_of left.now) (term_of right.now) d) }
+{
+    if are_one_variable(left, right) {
+        return Ok(Difference::Same);
+    }
+    if is_known(seen, left, right) {
+        return Ok(Difference::Same);
+    }
+    let s = resolve(types, left);
+    let t = resolve(types, right);
+    if is_split(s, t) {
+        push_copies(alloc, work, s, t)?;
+        note(seen, left, right)?;
+        return Ok(Difference::Same);
+    }
+    let difference = differ_resolved(alloc, types, kinds, nested, s, t)?;
+    Ok(difference)
+}
+
 /// The difference of two kinds.
 fn differ_kinds<'a>(kinds: &[Option<KindTerm>], left: KindTerm, right: KindTerm) -> Difference<'a>
     requires falls { FallsByNumber kinds.now }
@@ -268,21 +353,6 @@ fn note(seen: &mut IndexSet<(u64, u64)>, left: &Ty, right: &Ty) -> Result<(), Me
     }
 }
 
-/// Puts copies of two types on the stack.
-pub fn push_copies(
-    alloc: Global,
-    work: &mut Vec<(Ty, Ty)>,
-    left: &Ty,
-    right: &Ty,
-) -> Result<(), Memory>
-    ensures { OnOk result (pairs_of work.new.items ≡ pairs_of work.old.items ++ (term_of left.now, term_of right.now) ∷ []) }
-{
-    let left = copy(alloc, left, MOST_LEVELS)?;
-    let right = copy(alloc, right, MOST_LEVELS)?;
-    work.push((left, right))?;
-    Ok(())
-}
-
 /// Puts the parts of two tuples on the stack.
 fn push_parts<'a>(
     work: &mut Vec<(&'a Ty, &'a Ty)>,
@@ -296,40 +366,6 @@ fn push_parts<'a>(
         work.push((&ss[i], &ts[i]))?;
     }
     Ok(())
-}
-
-/// Puts the parts of two lists or two tuples on the stack; `false` where the two are not of one such shape.
-pub fn push_split<'a>(
-    work: &mut Vec<(&'a Ty, &'a Ty)>,
-    s: &'a Ty,
-    t: &'a Ty,
-) -> Result<bool, Memory>
-    ensures yes { IfOk result (λ b. OnTrue b (IsSplit (term_of s.now) (term_of t.now) × (pairs work.new.items ≡ pairs work.old.items ++ parts_of (term_of s.now) (term_of t.now)))) }
-    ensures no { IfOk result (λ b. OnFalse b (pairs work.new.items ≡ pairs work.old.items)) }
-    ensures unsplit { IfOk result (λ b. OnFalse b (IsSplit (term_of s.now) (term_of t.now) → ⊥)) }
-{
-    match s {
-        Ty::List(a) => match t {
-            Ty::List(b) => {
-                work.push((a, b))?;
-                Ok(true)
-            }
-            _ => Ok(false),
-        },
-        Ty::Tuple(ss) => match t {
-            Ty::Tuple(ts) => {
-                let ss: &[Ty] = ss;
-                let ts: &[Ty] = ts;
-                if ss.len() != ts.len() {
-                    return Ok(false);
-                }
-                push_parts(work, ss, ts)?;
-                Ok(true)
-            }
-            _ => Ok(false),
-        },
-        _ => Ok(false),
-    }
 }
 
 /// Whether both types are lists, or tuples of one length.
@@ -352,40 +388,4 @@ fn is_split(s: &Ty, t: &Ty) -> bool
         },
         _ => false,
     }
-}
-
-/// The difference of two types, or what they are bound to put on the stack, where that can be taken apart.
-///
-/// Two variables for which that was done before are the same where those are: it is not done again.
-pub fn differ<'a>(
-    alloc: Global,
-    types: &'a [TypeVariable],
-    kinds: &[Option<KindTerm>],
-    nested: &[bool],
-    work: &mut Vec<(Ty, Ty)>,
-    seen: &mut IndexSet<(u64, u64)>,
-    left: &'a Ty,
-    right: &'a Ty,
-) -> Result<Difference<'a>, Memory>
-    requires sound { IsSound (table types.now kinds.now) }
-    requires marked { AreMarked types.now nested.now }
-    requires left { IsOver (table types.now kinds.now) (term_of left.now) }
-    requires right { IsOver (table types.now kinds.now) (term_of right.now) }
-    ensures { IfOk result (λ d. TakesUp (table types.now kinds.now) (agenda work.old.items seen.old.keys) (agenda work.new.items seen.new.keys) (term_of left.now) (term_of right.now) d) }
-{
-    if are_one_variable(left, right) {
-        return Ok(Difference::Same);
-    }
-    if is_known(seen, left, right) {
-        return Ok(Difference::Same);
-    }
-    let s = resolve(types, left);
-    let t = resolve(types, right);
-    if is_split(s, t) {
-        push_copies(alloc, work, s, t)?;
-        note(seen, left, right)?;
-        return Ok(Difference::Same);
-    }
-    let difference = differ_resolved(alloc, types, kinds, nested, s, t)?;
-    Ok(difference)
 }

@@ -16,6 +16,30 @@ pub struct VariableNumbers {
     pub kinds: Vec<u64>,
 }
 
+/// Which variables stand in the type. It takes time that grows with the type alone.
+///
+/// A type of more than a thousand levels is given up as if memory had run out.
+pub fn variables(alloc: Global, ty: &Ty) -> Result<VariableNumbers, Memory>
+    ensures types { IfOk result (λ found. found.types.items ≡ type_variables (term_of ty.now)) }
+    ensures kinds { IfOk result (λ found. found.kinds.items ≡ kind_variables (term_of ty.now)) }
+{
+    let mut types = Vec::new(alloc);
+    let mut kinds = Vec::new(alloc);
+    push_variables(&mut types, &mut kinds, ty, MOST_LEVELS)?;
+    Ok(VariableNumbers { types, kinds })
+}
+
+/// An instance of the type: type variable `n` has the number `types[n]`, and kind variable `n` the number `kinds[n]`.
+///
+/// A variable whose number is not in the list stays as it is. It takes time that grows with the type alone.
+/// A type of more than a thousand levels is given up as if memory had run out.
+pub fn renamed(alloc: Global, ty: &Ty, types: &[u64], kinds: &[u64]) -> Result<Ty, Memory>
+    ensures instance { IfOk result (λ u. term_of u ≡ instance types.now kinds.now (term_of ty.now)) }
+    ensures same { IfOk result (λ u. (a : Assignment) → meaning a (term_of u) ≡ meaning (behind types.now kinds.now a) (term_of ty.now)) }
+{
+    renamed_within(alloc, types, kinds, ty, MOST_LEVELS)
+}
+
 /// Adds the numbers of the variables that stand in the type, if it has at most so many levels.
 fn push_variables(
     types: &mut Vec<u64>,
@@ -45,19 +69,6 @@ fn push_variables(
         }
         _ => Ok(()),
     }
-}
-
-/// Which variables stand in the type. It takes time that grows with the type alone.
-///
-/// A type of more than a thousand levels is given up as if memory had run out.
-pub fn variables(alloc: Global, ty: &Ty) -> Result<VariableNumbers, Memory>
-    ensures types { IfOk result (λ found. found.types.items ≡ type_variables (term_of ty.now)) }
-    ensures kinds { IfOk result (λ found. found.kinds.items ≡ kind_variables (term_of ty.now)) }
-{
-    let mut types = Vec::new(alloc);
-    let mut kinds = Vec::new(alloc);
-    push_variables(&mut types, &mut kinds, ty, MOST_LEVELS)?;
-    Ok(VariableNumbers { types, kinds })
 }
 
 /// A variable's new number.
@@ -115,15 +126,4 @@ fn renamed_within(
             Ok(Ty::Tuple(copies))
         }
     }
-}
-
-/// An instance of the type: type variable `n` has the number `types[n]`, and kind variable `n` the number `kinds[n]`.
-///
-/// A variable whose number is not in the list stays as it is. It takes time that grows with the type alone.
-/// A type of more than a thousand levels is given up as if memory had run out.
-pub fn renamed(alloc: Global, ty: &Ty, types: &[u64], kinds: &[u64]) -> Result<Ty, Memory>
-    ensures instance { IfOk result (λ u. term_of u ≡ instance types.now kinds.now (term_of ty.now)) }
-    ensures same { IfOk result (λ u. (a : Assignment) → meaning a (term_of u) ≡ meaning (behind types.now kinds.now a) (term_of ty.now)) }
-{
-    renamed_within(alloc, types, kinds, ty, MOST_LEVELS)
 }

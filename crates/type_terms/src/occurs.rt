@@ -56,6 +56,61 @@ pub fn mark(nested: &mut [bool], ty: &Ty)
     }
 }
 
+/// Whether the variable stands in the type, directly or through what variables are bound to.
+///
+/// A variable that stands in no binding needs no walk through the bindings: `nested` is false.
+pub fn occurs_in(
+    alloc: Global,
+    types: &[TypeVariable],
+    nested: bool,
+    x: u64,
+    ty: &Ty,
+) -> Result<bool, Memory>
+    requires triangular { IsTriangular types.now }
+    requires over { InTerm (λ n. n < length types.now) (λ _. Unit {0}) (term_of ty.now) }
+    requires unnested { nested ≡ false → IsUnnested types.now x }
+    ensures no { IfOk result (λ b. OnFalse b (Avoids types.now x (term_of ty.now))) }
+    ensures yes { IfOk result (λ b. OnTrue b ((a : Assignment) → MeetsBindings types.now a → size (a.type_of x) + extra (term_of ty.now) ≤ size (meaning a (term_of ty.now)))) }
+{
+    let mut work = Vec::new(alloc);
+    let mut seen: IndexSet<u64> = IndexSet::new(alloc);
+    work.push(ty)?;
+    for _step in 0..MOST_STEPS {
+        let Some(next) = work.pop() else {
+            return Ok(false);
+        };
+        if is_variable(next, x) {
+            return Ok(true);
+        }
+        let deep = goes_on(&mut seen, nested, next)?;
+        push_below(&mut work, types, deep, next)?;
+    }
+    Err(Memory)
+}
+
+/// Whether each variable of the type is one of these.
+pub fn are_among(
+    alloc: Global,
+    types: &[TypeVariable],
+    kinds: &[Option<KindTerm>],
+    ty: &Ty,
+) -> Result<bool, Memory>
+    ensures { IfOk result (λ yes. IsTrue yes ↔ InTerm (λ n. n < length types.now) (λ n. n < length kinds.now) (term_of ty.now)) }
+{
+    let mut work = Vec::new(alloc);
+    work.push(ty)?;
+    for _step in 0..MOST_STEPS {
+        let Some(next) = work.pop() else {
+            return Ok(true);
+        };
+        if !is_among(next, types.len(), kinds.len()) {
+            return Ok(false);
+        }
+        push_inside(&mut work, next)?;
+    }
+    Err(Memory)
+}
+
 /// Whether the type is this variable.
 fn is_variable(ty: &Ty, x: u64) -> bool
     ensures yes { OnTrue result (term_of ty.now ≡ variable x) }
@@ -131,38 +186,6 @@ fn goes_on(seen: &mut IndexSet<u64>, nested: bool, ty: &Ty) -> Result<bool, Memo
     }
 }
 
-/// Whether the variable stands in the type, directly or through what variables are bound to.
-///
-/// A variable that stands in no binding needs no walk through the bindings: `nested` is false.
-pub fn occurs_in(
-    alloc: Global,
-    types: &[TypeVariable],
-    nested: bool,
-    x: u64,
-    ty: &Ty,
-) -> Result<bool, Memory>
-    requires triangular { IsTriangular types.now }
-    requires over { InTerm (λ n. n < length types.now) (λ _. Unit {0}) (term_of ty.now) }
-    requires unnested { nested ≡ false → IsUnnested types.now x }
-    ensures no { IfOk result (λ b. OnFalse b (Avoids types.now x (term_of ty.now))) }
-    ensures yes { IfOk result (λ b. OnTrue b ((a : Assignment) → MeetsBindings types.now a → size (a.type_of x) + extra (term_of ty.now) ≤ size (meaning a (term_of ty.now)))) }
-{
-    let mut work = Vec::new(alloc);
-    let mut seen: IndexSet<u64> = IndexSet::new(alloc);
-    work.push(ty)?;
-    for _step in 0..MOST_STEPS {
-        let Some(next) = work.pop() else {
-            return Ok(false);
-        };
-        if is_variable(next, x) {
-            return Ok(true);
-        }
-        let deep = goes_on(&mut seen, nested, next)?;
-        push_below(&mut work, types, deep, next)?;
-    }
-    Err(Memory)
-}
-
 /// Whether the type's outermost node is no variable, or one of less than so many.
 fn is_among(ty: &Ty, types: usize, kinds: usize) -> bool
     ensures { IsTrue result ↔ IsAmong types kinds (term_of ty.now) }
@@ -175,27 +198,4 @@ fn is_among(ty: &Ty, types: usize, kinds: usize) -> bool
         },
         _ => true,
     }
-}
-
-/// Whether each variable of the type is one of these.
-pub fn are_among(
-    alloc: Global,
-    types: &[TypeVariable],
-    kinds: &[Option<KindTerm>],
-    ty: &Ty,
-) -> Result<bool, Memory>
-    ensures { IfOk result (λ yes. IsTrue yes ↔ InTerm (λ n. n < length types.now) (λ n. n < length kinds.now) (term_of ty.now)) }
-{
-    let mut work = Vec::new(alloc);
-    work.push(ty)?;
-    for _step in 0..MOST_STEPS {
-        let Some(next) = work.pop() else {
-            return Ok(true);
-        };
-        if !is_among(next, types.len(), kinds.len()) {
-            return Ok(false);
-        }
-        push_inside(&mut work, next)?;
-    }
-    Err(Memory)
 }

@@ -20,6 +20,54 @@ use indexmap::IndexSet;
 use liq_base::Memory;
 use std::alloc::Global;
 
+/// Binds as `solve` does, and frees again what was bound where the types differ in shape or memory runs out.
+pub fn unify_in(
+    alloc: Global,
+    types: &mut [TypeVariable],
+    kinds: &mut [Option<KindTerm>],
+    nested: &mut [bool],
+    left: &Ty,
+    right: &Ty,
+) -> Result<bool, Memory>
+    requires sound { IsSound (table types.old kinds.old) }
+    requires marked { AreMarked types.old nested.old }
+    requires left { IsOver (table types.old kinds.old) (term_of left.now) }
+    requires right { IsOver (table types.old kinds.old) (term_of right.now) }
+    ensures sound { IsSound (table types.new kinds.new) }
+    ensures marked { AreMarked types.new nested.new }
+    ensures most_general { IfOk result (λ yes. OnTrue yes ((a : Assignment) → Solves a (table types.new kinds.new) ↔ (Solves a (table types.old kinds.old) × (meaning a (term_of left.now) ≡ meaning a (term_of right.now))))) }
+    ensures solvable { IfOk result (λ yes. OnTrue yes ((a : Assignment) × Solves a (table types.new kinds.new))) }
+    ensures none { IfOk result (λ yes. OnFalse yes ((a : Assignment) → Solves a (table types.old kinds.old) → meaning a (term_of left.now) ≢ meaning a (term_of right.now))) }
+    ensures unchanged { IfOk result (λ yes. OnFalse yes (table types.new kinds.new ≡ table types.old kinds.old)) }
+    ensures same_variables { SameVariables (table types.old kinds.old) (table types.new kinds.new) }
+    ensures err { OnErr result (table types.new kinds.new ≡ table types.old kinds.old) }
+{
+    let mut type_trail = Vec::new(alloc);
+    let mut kind_trail = Vec::new(alloc);
+    match solve(
+        alloc,
+        types,
+        kinds,
+        nested,
+        &mut type_trail,
+        &mut kind_trail,
+        left,
+        right,
+    ) {
+        Ok(true) => Ok(true),
+        Ok(false) => {
+            free_types(types, &type_trail);
+            free_kinds(kinds, &kind_trail);
+            Ok(false)
+        }
+        Err(e) => {
+            free_types(types, &type_trail);
+            free_kinds(kinds, &kind_trail);
+            Err(e)
+        }
+    }
+}
+
 /// Binds a free type variable.
 fn bind_type(types: &mut [TypeVariable], x: u64, ty: Ty)
     requires inside { x < length types.old }
@@ -210,52 +258,4 @@ fn solve(
         }
     }
     Err(Memory)
-}
-
-/// Binds as `solve` does, and frees again what was bound where the types differ in shape or memory runs out.
-pub fn unify_in(
-    alloc: Global,
-    types: &mut [TypeVariable],
-    kinds: &mut [Option<KindTerm>],
-    nested: &mut [bool],
-    left: &Ty,
-    right: &Ty,
-) -> Result<bool, Memory>
-    requires sound { IsSound (table types.old kinds.old) }
-    requires marked { AreMarked types.old nested.old }
-    requires left { IsOver (table types.old kinds.old) (term_of left.now) }
-    requires right { IsOver (table types.old kinds.old) (term_of right.now) }
-    ensures sound { IsSound (table types.new kinds.new) }
-    ensures marked { AreMarked types.new nested.new }
-    ensures most_general { IfOk result (λ yes. OnTrue yes ((a : Assignment) → Solves a (table types.new kinds.new) ↔ (Solves a (table types.old kinds.old) × (meaning a (term_of left.now) ≡ meaning a (term_of right.now))))) }
-    ensures solvable { IfOk result (λ yes. OnTrue yes ((a : Assignment) × Solves a (table types.new kinds.new))) }
-    ensures none { IfOk result (λ yes. OnFalse yes ((a : Assignment) → Solves a (table types.old kinds.old) → meaning a (term_of left.now) ≢ meaning a (term_of right.now))) }
-    ensures unchanged { IfOk result (λ yes. OnFalse yes (table types.new kinds.new ≡ table types.old kinds.old)) }
-    ensures same_variables { SameVariables (table types.old kinds.old) (table types.new kinds.new) }
-    ensures err { OnErr result (table types.new kinds.new ≡ table types.old kinds.old) }
-{
-    let mut type_trail = Vec::new(alloc);
-    let mut kind_trail = Vec::new(alloc);
-    match solve(
-        alloc,
-        types,
-        kinds,
-        nested,
-        &mut type_trail,
-        &mut kind_trail,
-        left,
-        right,
-    ) {
-        Ok(true) => Ok(true),
-        Ok(false) => {
-            free_types(types, &type_trail);
-            free_kinds(kinds, &kind_trail);
-            Ok(false)
-        }
-        Err(e) => {
-            free_types(types, &type_trail);
-            free_kinds(kinds, &kind_trail);
-            Err(e)
-        }
-    }
 }

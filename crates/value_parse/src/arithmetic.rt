@@ -44,6 +44,31 @@ pub fn compare_of<'a>(
     behind_sum(alloc, total, levels, loose, left, rest)
 }
 
+/// sum: product ((`+` | `-`) product)*
+#[cycle(value)]
+pub fn sum(
+    alloc: Global,
+    total: usize,
+    levels: usize,
+    loose: bool,
+    tokens: &[Token],
+) -> Result<(Sum, &[Token]), Fault>
+    requires within { length tokens.now ≤ total }
+    requires small { total < 2 ^ 32 }
+    ensures shorter { IfOk result (λ x. length x.1.now < length tokens.now) }
+    ensures gives { Gives (λ x. (view_sum x.0, kinds x.1.now)) result (sum loose (places total) (full_by levels (places total)) (kinds tokens.now)) }
+    ensures whole { IfOk result (λ x. IsWholeSum x.0) }
+{
+    sum_of(
+        alloc,
+        total,
+        levels,
+        loose,
+        tokens,
+        product(alloc, total, levels, loose, tokens),
+    )
+}
+
 // ((`==` | `!=` | `<` | `<=` | `>` | `>=`) sum)?, behind the sum on its left.
 #[cycle(value)]
 fn behind_sum(
@@ -77,31 +102,6 @@ fn behind_sum(
         }
         _ => Ok((Compare { left, right: None }, tokens)),
     }
-}
-
-/// sum: product ((`+` | `-`) product)*
-#[cycle(value)]
-pub fn sum(
-    alloc: Global,
-    total: usize,
-    levels: usize,
-    loose: bool,
-    tokens: &[Token],
-) -> Result<(Sum, &[Token]), Fault>
-    requires within { length tokens.now ≤ total }
-    requires small { total < 2 ^ 32 }
-    ensures shorter { IfOk result (λ x. length x.1.now < length tokens.now) }
-    ensures gives { Gives (λ x. (view_sum x.0, kinds x.1.now)) result (sum loose (places total) (full_by levels (places total)) (kinds tokens.now)) }
-    ensures whole { IfOk result (λ x. IsWholeSum x.0) }
-{
-    sum_of(
-        alloc,
-        total,
-        levels,
-        loose,
-        tokens,
-        product(alloc, total, levels, loose, tokens),
-    )
 }
 
 // The same, once the first product is read.

@@ -16,16 +16,6 @@ use script_grammar::tree::{self, Full, If, Literal};
 use script_lex::{Keyword, Symbol, Token, TokenKind};
 use std::alloc::Global;
 
-fn braces(alloc: Global, at: u32, tokens: &[Token]) -> Result<(tree::Operand, &[Token]), Fault>
-    ensures shorter { IfOk result (λ x. length x.1.now < length tokens.now) }
-    ensures gives { Gives (λ x. (view_prim x.0, kinds x.1.now)) result (braces_at at (kinds tokens.now)) }
-    ensures whole { IfOk result (λ x. IsWholePrim x.0) }
-{
-    let (pred, rest) = predicate(alloc, tokens)?;
-    let ((), rest) = token::expect(rest, Class::CloseCurly)?;
-    Ok((tree::Operand::Braces { at, pred }, rest))
-}
-
 /// An operand that holds no value.
 #[tactic(auto, unfolding(script_grammar::specs::ReadValue::prim))]
 pub fn atom(
@@ -129,4 +119,14 @@ pub fn make_choice(at: u32, condition: Box<Full>, then_part: Box<Full>, else_par
         then_part,
         else_part,
     }
+}
+
+fn braces(alloc: Global, at: u32, tokens: &[Token]) -> Result<(tree::Operand, &[Token]), Fault>
+    ensures shorter { IfOk result (λ x. length x.1.now < length tokens.now) }
+    ensures gives { Gives (λ x. (view_prim x.0, kinds x.1.now)) result (braces_at at (kinds tokens.now)) }
+    ensures whole { IfOk result (λ x. IsWholePrim x.0) }
+{
+    let (pred, rest) = predicate(alloc, tokens)?;
+    let ((), rest) = token::expect(rest, Class::CloseCurly)?;
+    Ok((tree::Operand::Braces { at, pred }, rest))
 }

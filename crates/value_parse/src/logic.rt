@@ -68,6 +68,31 @@ pub fn expr_of<'a>(
     Ok((make::expr(first, others), rest))
 }
 
+/// and: not (`and` not)*
+#[cycle(value)]
+pub fn and_term(
+    alloc: Global,
+    total: usize,
+    levels: usize,
+    loose: bool,
+    tokens: &[Token],
+) -> Result<(And, &[Token]), Fault>
+    requires within { length tokens.now ≤ total }
+    requires small { total < 2 ^ 32 }
+    ensures shorter { IfOk result (λ x. length x.1.now < length tokens.now) }
+    ensures gives { Gives (λ x. (view_and x.0, kinds x.1.now)) result (and_ loose (places total) (full_by levels (places total)) (kinds tokens.now)) }
+    ensures whole { IfOk result (λ x. IsWholeAnd x.0) }
+{
+    and_of(
+        alloc,
+        total,
+        levels,
+        loose,
+        tokens,
+        not_term(alloc, total, levels, loose, tokens),
+    )
+}
+
 // (`or` and)*
 #[cycle(value)]
 fn ands(
@@ -117,31 +142,6 @@ fn or_and(
         loose,
         rest,
         not_term(alloc, total, levels, loose, rest),
-    )
-}
-
-/// and: not (`and` not)*
-#[cycle(value)]
-pub fn and_term(
-    alloc: Global,
-    total: usize,
-    levels: usize,
-    loose: bool,
-    tokens: &[Token],
-) -> Result<(And, &[Token]), Fault>
-    requires within { length tokens.now ≤ total }
-    requires small { total < 2 ^ 32 }
-    ensures shorter { IfOk result (λ x. length x.1.now < length tokens.now) }
-    ensures gives { Gives (λ x. (view_and x.0, kinds x.1.now)) result (and_ loose (places total) (full_by levels (places total)) (kinds tokens.now)) }
-    ensures whole { IfOk result (λ x. IsWholeAnd x.0) }
-{
-    and_of(
-        alloc,
-        total,
-        levels,
-        loose,
-        tokens,
-        not_term(alloc, total, levels, loose, tokens),
     )
 }
 

@@ -38,6 +38,105 @@ pub fn digits(tokens: &[Token]) -> Result<(Literal, &[Token]), Fault>
     }
 }
 
+/// What stands behind `%wav`: its option, or nothing.
+#[tactic(auto, unfolding(script_grammar::specs::ReadValue::wav))]
+pub fn wav(loose: bool, tokens: &[Token]) -> Result<(Option<i64>, &[Token]), Fault>
+    ensures shorter { IfOk result (λ x. length x.1.now ≤ length tokens.now) }
+    ensures gives { Gives (λ x. (x.0, kinds x.1.now)) result (wav loose (kinds tokens.now)) }
+{
+    if takes_option(loose, tokens) {
+        let (number, rest) = size(tokens)?;
+        Ok((Some(number), rest))
+    } else {
+        Ok((None, tokens))
+    }
+}
+
+/// The comparing operator that stands first, if one does.
+pub fn next_op(tokens: &[Token]) -> Option<CompareOp>
+    ensures { result ≡ next_op (kinds tokens.now) }
+{
+    match tokens {
+        [
+            Token {
+                kind: TokenKind::Symbol(symbol),
+                ..
+            },
+            ..
+        ] => op_of(*symbol),
+        _ => None,
+    }
+}
+
+/// The label of an argument, if it has one, and the tokens behind it.
+pub fn argument_label(alloc: Global, tokens: &[Token]) -> Result<(Option<Text>, &[Token]), Memory>
+    ensures shorter { IfOk result (λ x. length x.1.now ≤ length tokens.now) }
+    ensures read { IfOk result (λ x. label_of (kinds tokens.now) ≡ (x.0, kinds x.1.now)) }
+{
+    match tokens {
+        [
+            Token {
+                kind: TokenKind::Name(name),
+                ..
+            },
+            Token {
+                kind: TokenKind::Symbol(Symbol::Assign),
+                ..
+            },
+            rest @ ..,
+        ] => Ok((Some(name.copy(alloc)?), rest)),
+        _ => Ok((None, tokens)),
+    }
+}
+
+/// Whether a sum goes on by `-`, not `+`.
+pub fn sum_sign(tokens: &[Token]) -> Result<(bool, &[Token]), Fault>
+    ensures shorter { IfOk result (λ x. length x.1.now < length tokens.now) }
+    ensures gives { Gives (λ x. (x.0, kinds x.1.now)) result (sum_sign (kinds tokens.now)) }
+{
+    match tokens {
+        [
+            Token {
+                kind: TokenKind::Symbol(Symbol::Plus),
+                ..
+            },
+            rest @ ..,
+        ] => Ok((false, rest)),
+        [
+            Token {
+                kind: TokenKind::Symbol(Symbol::Minus),
+                ..
+            },
+            rest @ ..,
+        ] => Ok((true, rest)),
+        _ => Err(Fault::Syntax(tokens.len())),
+    }
+}
+
+/// Whether a product goes on by `/`, not `*`.
+pub fn product_sign(tokens: &[Token]) -> Result<(bool, &[Token]), Fault>
+    ensures shorter { IfOk result (λ x. length x.1.now < length tokens.now) }
+    ensures gives { Gives (λ x. (x.0, kinds x.1.now)) result (product_sign (kinds tokens.now)) }
+{
+    match tokens {
+        [
+            Token {
+                kind: TokenKind::Symbol(Symbol::Star),
+                ..
+            },
+            rest @ ..,
+        ] => Ok((false, rest)),
+        [
+            Token {
+                kind: TokenKind::Symbol(Symbol::Slash),
+                ..
+            },
+            rest @ ..,
+        ] => Ok((true, rest)),
+        _ => Err(Fault::Syntax(tokens.len())),
+    }
+}
+
 #[tactic(auto, unfolding(script_grammar::specs::ReadValue::whole_number))]
 fn whole_number(tokens: &[Token]) -> Result<(i64, &[Token]), Fault>
     ensures shorter { IfOk result (λ x. length x.1.now < length tokens.now) }
@@ -136,20 +235,6 @@ fn size(tokens: &[Token]) -> Result<(i64, &[Token]), Fault>
     Ok((number, rest))
 }
 
-/// What stands behind `%wav`: its option, or nothing.
-#[tactic(auto, unfolding(script_grammar::specs::ReadValue::wav))]
-pub fn wav(loose: bool, tokens: &[Token]) -> Result<(Option<i64>, &[Token]), Fault>
-    ensures shorter { IfOk result (λ x. length x.1.now ≤ length tokens.now) }
-    ensures gives { Gives (λ x. (x.0, kinds x.1.now)) result (wav loose (kinds tokens.now)) }
-{
-    if takes_option(loose, tokens) {
-        let (number, rest) = size(tokens)?;
-        Ok((Some(number), rest))
-    } else {
-        Ok((None, tokens))
-    }
-}
-
 fn op_of(symbol: Symbol) -> Option<CompareOp>
     ensures { result ≡ op_of (a_symbol symbol) }
 {
@@ -161,90 +246,5 @@ fn op_of(symbol: Symbol) -> Option<CompareOp>
         Symbol::Greater => Some(CompareOp::Greater),
         Symbol::AtLeast => Some(CompareOp::AtLeast),
         _ => None,
-    }
-}
-
-/// The comparing operator that stands first, if one does.
-pub fn next_op(tokens: &[Token]) -> Option<CompareOp>
-    ensures { result ≡ next_op (kinds tokens.now) }
-{
-    match tokens {
-        [
-            Token {
-                kind: TokenKind::Symbol(symbol),
-                ..
-            },
-            ..
-        ] => op_of(*symbol),
-        _ => None,
-    }
-}
-
-/// The label of an argument, if it has one, and the tokens behind it.
-pub fn argument_label(alloc: Global, tokens: &[Token]) -> Result<(Option<Text>, &[Token]), Memory>
-    ensures shorter { IfOk result (λ x. length x.1.now ≤ length tokens.now) }
-    ensures read { IfOk result (λ x. label_of (kinds tokens.now) ≡ (x.0, kinds x.1.now)) }
-{
-    match tokens {
-        [
-            Token {
-                kind: TokenKind::Name(name),
-                ..
-            },
-            Token {
-                kind: TokenKind::Symbol(Symbol::Assign),
-                ..
-            },
-            rest @ ..,
-        ] => Ok((Some(name.copy(alloc)?), rest)),
-        _ => Ok((None, tokens)),
-    }
-}
-
-/// Whether a sum goes on by `-`, not `+`.
-pub fn sum_sign(tokens: &[Token]) -> Result<(bool, &[Token]), Fault>
-    ensures shorter { IfOk result (λ x. length x.1.now < length tokens.now) }
-    ensures gives { Gives (λ x. (x.0, kinds x.1.now)) result (sum_sign (kinds tokens.now)) }
-{
-    match tokens {
-        [
-            Token {
-                kind: TokenKind::Symbol(Symbol::Plus),
-                ..
-            },
-            rest @ ..,
-        ] => Ok((false, rest)),
-        [
-            Token {
-                kind: TokenKind::Symbol(Symbol::Minus),
-                ..
-            },
-            rest @ ..,
-        ] => Ok((true, rest)),
-        _ => Err(Fault::Syntax(tokens.len())),
-    }
-}
-
-/// Whether a product goes on by `/`, not `*`.
-pub fn product_sign(tokens: &[Token]) -> Result<(bool, &[Token]), Fault>
-    ensures shorter { IfOk result (λ x. length x.1.now < length tokens.now) }
-    ensures gives { Gives (λ x. (x.0, kinds x.1.now)) result (product_sign (kinds tokens.now)) }
-{
-    match tokens {
-        [
-            Token {
-                kind: TokenKind::Symbol(Symbol::Star),
-                ..
-            },
-            rest @ ..,
-        ] => Ok((false, rest)),
-        [
-            Token {
-                kind: TokenKind::Symbol(Symbol::Slash),
-                ..
-            },
-            rest @ ..,
-        ] => Ok((true, rest)),
-        _ => Err(Fault::Syntax(tokens.len())),
     }
 }

@@ -79,6 +79,23 @@ pub fn full_step(
     }
 }
 
+/// A value, at once in a box, so that the parts of an `if` stand on no stack while others are read.
+#[cycle(value)]
+pub fn full_box(
+    alloc: Global,
+    total: usize,
+    levels: usize,
+    tokens: &[Token],
+) -> Result<(Box<Full>, &[Token]), Fault>
+    requires within { length tokens.now ≤ total }
+    requires small { total < 2 ^ 32 }
+    ensures shorter { IfOk result (λ x. length x.1.now < length tokens.now) }
+    ensures gives { Gives (λ x. (view_full x.0.value, kinds x.1.now)) result (full_by levels (places total) (kinds tokens.now)) }
+    ensures whole { IfOk result (λ x. IsWholeFull x.0.value) }
+{
+    boxed(alloc, full(alloc, total, levels, tokens))
+}
+
 // value: expression
 #[cycle(value)]
 fn plain(
@@ -113,23 +130,6 @@ fn plain_of<'a>(read: Result<(Expr, &'a [Token]), Fault>) -> Result<(Full, &'a [
 {
     let (expr, rest) = read?;
     Ok((Full::Plain(expr), rest))
-}
-
-/// A value, at once in a box, so that the parts of an `if` stand on no stack while others are read.
-#[cycle(value)]
-pub fn full_box(
-    alloc: Global,
-    total: usize,
-    levels: usize,
-    tokens: &[Token],
-) -> Result<(Box<Full>, &[Token]), Fault>
-    requires within { length tokens.now ≤ total }
-    requires small { total < 2 ^ 32 }
-    ensures shorter { IfOk result (λ x. length x.1.now < length tokens.now) }
-    ensures gives { Gives (λ x. (view_full x.0.value, kinds x.1.now)) result (full_by levels (places total) (kinds tokens.now)) }
-    ensures whole { IfOk result (λ x. IsWholeFull x.0.value) }
-{
-    boxed(alloc, full(alloc, total, levels, tokens))
 }
 
 // The same, once the value is read.

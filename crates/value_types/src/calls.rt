@@ -22,6 +22,24 @@ pub struct Callee {
     pub result: u64,
 }
 
+/// Gives what is called new variables, and adds the use of its name.
+pub fn begin_call(
+    alloc: Global,
+    subst: &mut Subst,
+    uses: &mut Vec<FoundUse>,
+    at: u32,
+    target: Target,
+    general: &General,
+) -> Result<Callee, Memory>
+    requires over { IsSchemeOver subst.old (scheme_of general.now) }
+    ensures { IfOk result (λ c. HasBegun subst.old subst.new (scheme_of general.now) at target c (founds uses.old.items) (founds uses.new.items)) }
+{
+    let instance = instantiate(alloc, subst, general)?;
+    let (callee, kinds) = callee_of(alloc, subst, instance)?;
+    push_use(uses, at, target, kinds)?;
+    Ok(callee)
+}
+
 /// What is called, and its open kinds.
 fn callee_of(
     alloc: Global,
@@ -39,22 +57,4 @@ fn callee_of(
         },
         instance.kinds,
     ))
-}
-
-/// Gives what is called new variables, and adds the use of its name.
-pub fn begin_call(
-    alloc: Global,
-    subst: &mut Subst,
-    uses: &mut Vec<FoundUse>,
-    at: u32,
-    target: Target,
-    general: &General,
-) -> Result<Callee, Memory>
-    requires over { IsSchemeOver subst.old (scheme_of general.now) }
-    ensures { IfOk result (λ c. HasBegun subst.old subst.new (scheme_of general.now) at target c (founds uses.old.items) (founds uses.new.items)) }
-{
-    let instance = instantiate(alloc, subst, general)?;
-    let (callee, kinds) = callee_of(alloc, subst, instance)?;
-    push_use(uses, at, target, kinds)?;
-    Ok(callee)
 }

@@ -11,14 +11,6 @@ use name_scope::Resolved;
 use std::alloc::Global;
 use typing_rules::Target;
 
-/// What stands at an index.
-fn name_at(names: &[Resolved], i: usize) -> Resolved
-    requires inside { i < length names.now }
-    ensures at { result ≡ get_or names.now i result }
-{
-    names[i]
-}
-
 /// What names mean, by their tokens: at each token the first of the names there.
 pub fn target_table(alloc: Global, names: &[Resolved]) -> Result<IndexMap<u32, Target>, Memory>
     ensures { IfOk result (λ m. targets_of m ≡ target_in (map resolved names.now)) }
@@ -31,4 +23,12 @@ pub fn target_table(alloc: Global, names: &[Resolved]) -> Result<IndexMap<u32, T
         table.insert(name.at, name.target)?;
     }
     Ok(table)
+}
+
+/// What stands at an index.
+fn name_at(names: &[Resolved], i: usize) -> Resolved
+    requires inside { i < length names.now }
+    ensures at { result ≡ get_or names.now i result }
+{
+    names[i]
 }

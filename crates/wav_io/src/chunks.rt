@@ -20,34 +20,6 @@ pub struct Chunk {
     pub place: usize,
 }
 
-/// The chunk at a place, if its name and its size stand in the file.
-fn read_chunk(bytes: &[u8], place: usize) -> Option<Chunk>
-    requires { place + 8 < 2 ^ 64 }
-    ensures { SomeIff result (place + 8 ≤ length bytes.now) (chunk_at bytes.now place) }
-{
-    if bytes.len() < place + CHUNK_HEAD {
-        return None;
-    }
-    let name = [
-        bytes[place],
-        bytes[place + 1],
-        bytes[place + 2],
-        bytes[place + 3],
-    ];
-    let size = LittleEndian::read_u32(&bytes[place + 4..]);
-    Some(Chunk { name, size, place })
-}
-
-/// The place behind a chunk, its body and the pad byte of an odd size.
-fn next_place(chunk: &Chunk) -> usize
-    requires { chunk.now.place < 2 ^ 63 }
-    ensures behind { result ≡ behind chunk.now }
-    ensures near { result < chunk.now.place + 2 ^ 33 }
-{
-    let size = chunk.size as usize;
-    chunk.place + CHUNK_HEAD + size + size % 2
-}
-
 /// The first `fmt ` chunk of the file, unless a `data` stands before it.
 pub fn find_format(bytes: &[u8]) -> Option<Chunk>
     ensures first { result ≡ format_chunk (chunks_of bytes.now) }
@@ -89,4 +61,32 @@ pub fn chunk_body<'a>(bytes: &'a [u8], chunk: &Chunk) -> &'a [u8]
     let rest = &bytes[chunk.place + CHUNK_HEAD..];
     let size = rest.len().min(chunk.size as usize);
     &rest[..size]
+}
+
+/// The chunk at a place, if its name and its size stand in the file.
+fn read_chunk(bytes: &[u8], place: usize) -> Option<Chunk>
+    requires { place + 8 < 2 ^ 64 }
+    ensures { SomeIff result (place + 8 ≤ length bytes.now) (chunk_at bytes.now place) }
+{
+    if bytes.len() < place + CHUNK_HEAD {
+        return None;
+    }
+    let name = [
+        bytes[place],
+        bytes[place + 1],
+        bytes[place + 2],
+        bytes[place + 3],
+    ];
+    let size = LittleEndian::read_u32(&bytes[place + 4..]);
+    Some(Chunk { name, size, place })
+}
+
+/// The place behind a chunk, its body and the pad byte of an odd size.
+fn next_place(chunk: &Chunk) -> usize
+    requires { chunk.now.place < 2 ^ 63 }
+    ensures behind { result ≡ behind chunk.now }
+    ensures near { result < chunk.now.place + 2 ^ 33 }
+{
+    let size = chunk.size as usize;
+    chunk.place + CHUNK_HEAD + size + size % 2
 }

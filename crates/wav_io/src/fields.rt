@@ -18,6 +18,13 @@ pub fn header(kind: Kind, rate: u32, samples: u64) -> Option<[u8; 44]>
     Some(field_bytes(kind.channels(), rate, size))
 }
 
+/// The bytes of a block, which is one sample of each channel.
+pub(crate) fn block_len(kind: Kind) -> u16
+    ensures { result ≡ block_size kind }
+{
+    2 * kind.channels()
+}
+
 /// The bytes of so many samples of each channel, if the file's size fits in its field.
 fn data_len(kind: Kind, samples: u64) -> Option<u32>
     ensures { SomeIff result (36 + samples * block_size kind < 2 ^ 32) (samples * block_size kind) }
@@ -25,13 +32,6 @@ fn data_len(kind: Kind, samples: u64) -> Option<u32>
     let size = u128::from(samples) * u128::from(block_len(kind));
     let file_size = u32::try_from(36 + size).ok()?;
     Some(file_size - 36)
-}
-
-/// The bytes of a block, which is one sample of each channel.
-pub(crate) fn block_len(kind: Kind) -> u16
-    ensures { result ≡ block_size kind }
-{
-    2 * kind.channels()
 }
 
 /// The header of so many channels, samples a second and bytes of samples.
