@@ -1,3 +1,4 @@
+pub mod Chained
 pub mod Lists
 pub mod Reading
 pub mod Adding

@@ -17,7 +17,6 @@ use typing_rules::Builtin;
 
 /// Calls the builtin of this name, whose name stands at the token `at`, with these open kinds and arguments.
 /// `docs/builtins.md` says what each makes of them.
-#[tactic(auto, unfolding(crate::specs::Builtins::builtin))]
 pub fn builtin(
     alloc: Global,
     name: Builtin,
@@ -27,6 +26,22 @@ pub fn builtin(
     machine: &mut Machine,
 ) -> Result<Value, Fault>
     ensures { Gives (λ v. (view_value v, machine.new)) result (builtin name at kinds.now (map view_given given.items) machine.old) }
+{
+    let mut rest = given;
+    call(alloc, name, at, kinds, &mut rest, machine)
+}
+
+// The call, over the arguments that are left.
+#[tactic(auto, unfolding(crate::specs::Builtins::builtin))]
+fn call(
+    alloc: Global,
+    name: Builtin,
+    at: u32,
+    kinds: &[Kind],
+    given: &mut Vec<Given>,
+    machine: &mut Machine,
+) -> Result<Value, Fault>
+    ensures { Gives (λ v. (view_value v, machine.new)) result (builtin name at kinds.now (map view_given given.old.items) machine.old) }
 {
     match name {
         Builtin::OutputFile => output_file(kinds, given, machine),

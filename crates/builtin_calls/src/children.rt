@@ -20,22 +20,20 @@ use std::alloc::Global;
 pub(crate) fn fallback(
     alloc: Global,
     kinds: &[Kind],
-    given: Vec<Given>,
+    given: &mut Vec<Given>,
     machine: &mut Machine,
 ) -> Result<Value, Fault>
-    ensures { Gives (λ v. (view_value v, machine.new)) result (fallback kinds.now (map view_given given.items) machine.old) }
+    ensures { Gives (λ v. (view_value v, machine.new)) result (fallback kinds.now (map view_given given.old.items) machine.old) }
 {
-    let mut rest = given;
-    let sensitive = sensitive_or(&mut rest)?;
+    let sensitive = sensitive_or(given)?;
     let kind = one_kind(kinds)?;
-    let children = few_sources(alloc, &machine.plan, kind, &mut rest)?;
-    let made = add(
+    let children = few_sources(alloc, &machine.plan, kind, given)?;
+    add(
         machine,
         Op::Fallback { sensitive },
         kind,
         Items::from_vec(children),
-    )?;
-    Ok(made)
+    )
 }
 
 /// `switch(track_sensitive=true, pairs)`.
@@ -43,23 +41,21 @@ pub(crate) fn fallback(
 pub(crate) fn switch(
     alloc: Global,
     kinds: &[Kind],
-    given: Vec<Given>,
+    given: &mut Vec<Given>,
     machine: &mut Machine,
 ) -> Result<Value, Fault>
-    ensures { Gives (λ v. (view_value v, machine.new)) result (switch kinds.now (map view_given given.items) machine.old) }
+    ensures { Gives (λ v. (view_value v, machine.new)) result (switch kinds.now (map view_given given.old.items) machine.old) }
 {
-    let mut rest = given;
-    let sensitive = sensitive_or(&mut rest)?;
+    let sensitive = sensitive_or(given)?;
     let kind = one_kind(kinds)?;
-    let pairs = few_pairs(alloc, &machine.plan, kind, &mut rest)?;
+    let pairs = few_pairs(alloc, &machine.plan, kind, given)?;
     let preds = Preds::from_vec(pairs.preds);
-    let made = add(
+    add(
         machine,
         Op::Switch { sensitive, preds },
         kind,
         Items::from_vec(pairs.sources),
-    )?;
-    Ok(made)
+    )
 }
 
 /// `sequence(sources)`.
@@ -67,16 +63,14 @@ pub(crate) fn switch(
 pub(crate) fn sequence(
     alloc: Global,
     kinds: &[Kind],
-    given: Vec<Given>,
+    given: &mut Vec<Given>,
     machine: &mut Machine,
 ) -> Result<Value, Fault>
-    ensures { Gives (λ v. (view_value v, machine.new)) result (sequence kinds.now (map view_given given.items) machine.old) }
+    ensures { Gives (λ v. (view_value v, machine.new)) result (sequence kinds.now (map view_given given.old.items) machine.old) }
 {
-    let mut rest = given;
     let kind = one_kind(kinds)?;
-    let children = few_sources(alloc, &machine.plan, kind, &mut rest)?;
-    let made = add(machine, Op::Sequence, kind, Items::from_vec(children))?;
-    Ok(made)
+    let children = few_sources(alloc, &machine.plan, kind, given)?;
+    add(machine, Op::Sequence, kind, Items::from_vec(children))
 }
 
 /// `add(normalize=true, sources)`.
@@ -84,22 +78,20 @@ pub(crate) fn sequence(
 pub(crate) fn sum(
     alloc: Global,
     kinds: &[Kind],
-    given: Vec<Given>,
+    given: &mut Vec<Given>,
     machine: &mut Machine,
 ) -> Result<Value, Fault>
-    ensures { Gives (λ v. (view_value v, machine.new)) result (sum kinds.now (map view_given given.items) machine.old) }
+    ensures { Gives (λ v. (view_value v, machine.new)) result (sum kinds.now (map view_given given.old.items) machine.old) }
 {
-    let mut rest = given;
-    let normalize = bool_or(&mut rest, "normalize", true)?;
+    let normalize = bool_or(given, "normalize", true)?;
     let kind = one_kind(kinds)?;
-    let children = few_sources(alloc, &machine.plan, kind, &mut rest)?;
-    let made = add(
+    let children = few_sources(alloc, &machine.plan, kind, given)?;
+    add(
         machine,
         Op::Add { normalize },
         kind,
         Items::from_vec(children),
-    )?;
-    Ok(made)
+    )
 }
 
 // The next plain parameter, a list of sources, not too many of them.

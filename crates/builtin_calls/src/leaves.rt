@@ -18,16 +18,14 @@ use std::alloc::Global;
 pub(crate) fn single(
     alloc: Global,
     kinds: &[Kind],
-    given: Vec<Given>,
+    given: &mut Vec<Given>,
     machine: &mut Machine,
 ) -> Result<Value, Fault>
-    ensures { Gives (λ v. (view_value v, machine.new)) result (single kinds.now (map view_given given.items) machine.old) }
+    ensures { Gives (λ v. (view_value v, machine.new)) result (single kinds.now (map view_given given.old.items) machine.old) }
 {
-    let mut rest = given;
-    let file = plain_text(&mut rest)?;
+    let file = plain_text(given)?;
     let kind = one_kind(kinds)?;
-    let made = add(machine, Op::Single(file), kind, Items::new(alloc))?;
-    Ok(made)
+    add(machine, Op::Single(file), kind, Items::new(alloc))
 }
 
 /// `playlist(loop=true, mode="normal", file)`.
@@ -36,25 +34,23 @@ pub(crate) fn playlist(
     alloc: Global,
     at: u32,
     kinds: &[Kind],
-    given: Vec<Given>,
+    given: &mut Vec<Given>,
     machine: &mut Machine,
 ) -> Result<Value, Fault>
-    ensures { Gives (λ v. (view_value v, machine.new)) result (playlist at kinds.now (map view_given given.items) machine.old) }
+    ensures { Gives (λ v. (view_value v, machine.new)) result (playlist at kinds.now (map view_given given.old.items) machine.old) }
 {
-    let mut rest = given;
-    let again = bool_or(&mut rest, "loop", true)?;
+    let again = bool_or(given, "loop", true)?;
     let normal = Text::from_str(alloc, "normal")?;
-    let mode = text_or(&mut rest, "mode", normal)?;
-    let file = plain_text(&mut rest)?;
+    let mode = text_or(given, "mode", normal)?;
+    let file = plain_text(given)?;
     let kind = one_kind(kinds)?;
     is_normal(at, mode.as_str())?;
-    let made = add(
+    add(
         machine,
         Op::Playlist { file, again },
         kind,
         Items::new(alloc),
-    )?;
-    Ok(made)
+    )
 }
 
 /// `blank(duration=0.)`.
@@ -63,17 +59,15 @@ pub(crate) fn blank(
     alloc: Global,
     at: u32,
     kinds: &[Kind],
-    given: Vec<Given>,
+    given: &mut Vec<Given>,
     machine: &mut Machine,
 ) -> Result<Value, Fault>
-    ensures { Gives (λ v. (view_value v, machine.new)) result (blank at kinds.now (map view_given given.items) machine.old) }
+    ensures { Gives (λ v. (view_value v, machine.new)) result (blank at kinds.now (map view_given given.old.items) machine.old) }
 {
-    let mut rest = given;
-    let duration = decimal_or(&mut rest, "duration", no_time())?;
+    let duration = decimal_or(given, "duration", no_time())?;
     let kind = one_kind(kinds)?;
     let track = track_of(at, machine.plan.plan().rate, duration)?;
-    let made = add(machine, Op::Blank { track }, kind, Items::new(alloc))?;
-    Ok(made)
+    add(machine, Op::Blank { track }, kind, Items::new(alloc))
 }
 
 /// `square(f)`.
@@ -82,17 +76,15 @@ pub(crate) fn square(
     alloc: Global,
     at: u32,
     kinds: &[Kind],
-    given: Vec<Given>,
+    given: &mut Vec<Given>,
     machine: &mut Machine,
 ) -> Result<Value, Fault>
-    ensures { Gives (λ v. (view_value v, machine.new)) result (square at kinds.now (map view_given given.items) machine.old) }
+    ensures { Gives (λ v. (view_value v, machine.new)) result (square at kinds.now (map view_given given.old.items) machine.old) }
 {
-    let mut rest = given;
-    let frequency = plain_decimal(&mut rest)?;
+    let frequency = plain_decimal(given)?;
     let kind = one_kind(kinds)?;
     let pitch = pitch_of(at, frequency)?;
-    let made = add(machine, Op::Square { pitch }, kind, Items::new(alloc))?;
-    Ok(made)
+    add(machine, Op::Square { pitch }, kind, Items::new(alloc))
 }
 
 /// `fail()`.
@@ -101,8 +93,7 @@ pub(crate) fn fail(alloc: Global, kinds: &[Kind], machine: &mut Machine) -> Resu
     ensures { Gives (λ v. (view_value v, machine.new)) result (fail kinds.now machine.old) }
 {
     let kind = one_kind(kinds)?;
-    let made = add(machine, Op::Fail, kind, Items::new(alloc))?;
-    Ok(made)
+    add(machine, Op::Fail, kind, Items::new(alloc))
 }
 
 // The one mode of a playlist.

@@ -18,19 +18,17 @@ use script_values::{Fault, Given, Limit, Machine, Value};
 #[tactic(auto, unfolding(crate::specs::Builtins::output_file))]
 pub(crate) fn output_file(
     kinds: &[Kind],
-    given: Vec<Given>,
+    given: &mut Vec<Given>,
     machine: &mut Machine,
 ) -> Result<Value, Fault>
-    ensures { Gives (λ v. (view_value v, machine.new)) result (output_file kinds.now (map view_given given.items) machine.old) }
+    ensures { Gives (λ v. (view_value v, machine.new)) result (output_file kinds.now (map view_given given.old.items) machine.old) }
 {
-    let mut rest = given;
-    let fallible = bool_or(&mut rest, "fallible", false)?;
-    plain_format(&mut rest)?;
-    let name = plain_text(&mut rest)?;
+    let fallible = bool_or(given, "fallible", false)?;
+    plain_format(given)?;
+    let name = plain_text(given)?;
     let kind = one_kind(kinds)?;
-    let source = plain_source(&machine.plan, kind, &mut rest)?;
-    let done = add_output(machine, name, source, fallible)?;
-    Ok(done)
+    let source = plain_source(&machine.plan, kind, given)?;
+    add_output(machine, name, source, fallible)
 }
 
 fn is_output(sink: &SinkPlan) -> bool

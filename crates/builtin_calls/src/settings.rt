@@ -13,14 +13,12 @@ use script_values::{Fault, Given, Machine, Value};
 
 /// `set(key, value)`.
 #[tactic(auto, unfolding(crate::specs::Builtins::set))]
-pub(crate) fn set(given: Vec<Given>, machine: &mut Machine) -> Result<Value, Fault>
-    ensures { Gives (λ v. (view_value v, machine.new)) result (set (map view_given given.items) machine.old) }
+pub(crate) fn set(given: &mut Vec<Given>, machine: &mut Machine) -> Result<Value, Fault>
+    ensures { Gives (λ v. (view_value v, machine.new)) result (set (map view_given given.old.items) machine.old) }
 {
-    let mut rest = given;
-    let key = plain_text(&mut rest)?;
-    let value = plain(&mut rest)?;
-    let done = setting(machine, key.as_str(), &value)?;
-    Ok(done)
+    let key = plain_text(given)?;
+    let value = plain(given)?;
+    setting(machine, key.as_str(), &value)
 }
 
 // A setting may stand here; it is the last one so far.

@@ -21,46 +21,44 @@ use std::alloc::Global;
 pub(crate) fn amplify(
     alloc: Global,
     kinds: &[Kind],
-    given: Vec<Given>,
+    given: &mut Vec<Given>,
     machine: &mut Machine,
 ) -> Result<Value, Fault>
-    ensures { Gives (λ v. (view_value v, machine.new)) result (amplify kinds.now (map view_given given.items) machine.old) }
+    ensures { Gives (λ v. (view_value v, machine.new)) result (amplify kinds.now (map view_given given.old.items) machine.old) }
 {
-    let mut rest = given;
-    let factor = plain_decimal(&mut rest)?;
+    let factor = plain_decimal(given)?;
     let kind = one_kind(kinds)?;
-    let source = plain_source(&machine.plan, kind, &mut rest)?;
+    let source = plain_source(&machine.plan, kind, given)?;
     let children = one_child(alloc, source)?;
-    let made = add(machine, Op::Amplify { factor }, kind, children)?;
-    Ok(made)
+    add(machine, Op::Amplify { factor }, kind, children)
 }
 
 /// `mean(s)`: stereo to mono.
 #[tactic(auto, unfolding(crate::specs::Builtins::mean))]
-pub(crate) fn mean(alloc: Global, given: Vec<Given>, machine: &mut Machine) -> Result<Value, Fault>
-    ensures { Gives (λ v. (view_value v, machine.new)) result (mean (map view_given given.items) machine.old) }
+pub(crate) fn mean(
+    alloc: Global,
+    given: &mut Vec<Given>,
+    machine: &mut Machine,
+) -> Result<Value, Fault>
+    ensures { Gives (λ v. (view_value v, machine.new)) result (mean (map view_given given.old.items) machine.old) }
 {
-    let mut rest = given;
-    let source = plain_source(&machine.plan, Kind::Stereo, &mut rest)?;
+    let source = plain_source(&machine.plan, Kind::Stereo, given)?;
     let children = one_child(alloc, source)?;
-    let made = add(machine, Op::Mean, Kind::Mono, children)?;
-    Ok(made)
+    add(machine, Op::Mean, Kind::Mono, children)
 }
 
 /// `stereo(s)`: mono to stereo.
 #[tactic(auto, unfolding(crate::specs::Builtins::stereo))]
 pub(crate) fn stereo(
     alloc: Global,
-    given: Vec<Given>,
+    given: &mut Vec<Given>,
     machine: &mut Machine,
 ) -> Result<Value, Fault>
-    ensures { Gives (λ v. (view_value v, machine.new)) result (stereo (map view_given given.items) machine.old) }
+    ensures { Gives (λ v. (view_value v, machine.new)) result (stereo (map view_given given.old.items) machine.old) }
 {
-    let mut rest = given;
-    let source = plain_source(&machine.plan, Kind::Mono, &mut rest)?;
+    let source = plain_source(&machine.plan, Kind::Mono, given)?;
     let children = one_child(alloc, source)?;
-    let made = add(machine, Op::Stereo, Kind::Stereo, children)?;
-    Ok(made)
+    add(machine, Op::Stereo, Kind::Stereo, children)
 }
 
 /// `crossfade(duration=5., s)`.
@@ -69,19 +67,17 @@ pub(crate) fn crossfade(
     alloc: Global,
     at: u32,
     kinds: &[Kind],
-    given: Vec<Given>,
+    given: &mut Vec<Given>,
     machine: &mut Machine,
 ) -> Result<Value, Fault>
-    ensures { Gives (λ v. (view_value v, machine.new)) result (crossfade at kinds.now (map view_given given.items) machine.old) }
+    ensures { Gives (λ v. (view_value v, machine.new)) result (crossfade at kinds.now (map view_given given.old.items) machine.old) }
 {
-    let mut rest = given;
-    let duration = decimal_or(&mut rest, "duration", five_seconds())?;
+    let duration = decimal_or(given, "duration", five_seconds())?;
     let kind = one_kind(kinds)?;
-    let source = plain_source(&machine.plan, kind, &mut rest)?;
+    let source = plain_source(&machine.plan, kind, given)?;
     let overlap = short_overlap(at, &machine.plan, source, duration)?;
     let children = one_child(alloc, source)?;
-    let made = add(machine, Op::Crossfade { overlap }, kind, children)?;
-    Ok(made)
+    add(machine, Op::Crossfade { overlap }, kind, children)
 }
 
 /// `mksafe(s)`: an endless blank, and a fallback to it.
@@ -89,16 +85,14 @@ pub(crate) fn crossfade(
 pub(crate) fn mksafe(
     alloc: Global,
     kinds: &[Kind],
-    given: Vec<Given>,
+    given: &mut Vec<Given>,
     machine: &mut Machine,
 ) -> Result<Value, Fault>
-    ensures { Gives (λ v. (view_value v, machine.new)) result (mksafe kinds.now (map view_given given.items) machine.old) }
+    ensures { Gives (λ v. (view_value v, machine.new)) result (mksafe kinds.now (map view_given given.old.items) machine.old) }
 {
-    let mut rest = given;
     let kind = one_kind(kinds)?;
-    let source = plain_source(&machine.plan, kind, &mut rest)?;
-    let made = safe(alloc, machine, kind, source)?;
-    Ok(made)
+    let source = plain_source(&machine.plan, kind, given)?;
+    safe(alloc, machine, kind, source)
 }
 
 /// `buffer(buffer=1., max=10., s)`.
@@ -107,19 +101,17 @@ pub(crate) fn buffer(
     alloc: Global,
     at: u32,
     kinds: &[Kind],
-    given: Vec<Given>,
+    given: &mut Vec<Given>,
     machine: &mut Machine,
 ) -> Result<Value, Fault>
-    ensures { Gives (λ v. (view_value v, machine.new)) result (buffer at kinds.now (map view_given given.items) machine.old) }
+    ensures { Gives (λ v. (view_value v, machine.new)) result (buffer at kinds.now (map view_given given.old.items) machine.old) }
 {
-    let mut rest = given;
-    let held = decimal_or(&mut rest, "buffer", one_second())?;
-    let most = decimal_or(&mut rest, "max", ten_seconds())?;
+    let held = decimal_or(given, "buffer", one_second())?;
+    let most = decimal_or(given, "max", ten_seconds())?;
     let kind = one_kind(kinds)?;
-    let source = plain_source(&machine.plan, kind, &mut rest)?;
+    let source = plain_source(&machine.plan, kind, given)?;
     let plan = buffer_plan(at, &machine.plan, held, most)?;
-    let made = add_buffer(alloc, machine, source, kind, plan)?;
-    Ok(made)
+    add_buffer(alloc, machine, source, kind, plan)
 }
 
 /// `clock(id="", s)`.
@@ -127,19 +119,17 @@ pub(crate) fn buffer(
 pub(crate) fn clock(
     alloc: Global,
     kinds: &[Kind],
-    given: Vec<Given>,
+    given: &mut Vec<Given>,
     machine: &mut Machine,
 ) -> Result<Value, Fault>
-    ensures { Gives (λ v. (view_value v, machine.new)) result (clock kinds.now (map view_given given.items) machine.old) }
+    ensures { Gives (λ v. (view_value v, machine.new)) result (clock kinds.now (map view_given given.old.items) machine.old) }
 {
-    let mut rest = given;
     let unnamed = Text::from_str(alloc, "")?;
-    let id = text_or(&mut rest, "id", unnamed)?;
+    let id = text_or(given, "id", unnamed)?;
     let kind = one_kind(kinds)?;
-    let source = plain_source(&machine.plan, kind, &mut rest)?;
+    let source = plain_source(&machine.plan, kind, given)?;
     let children = one_child(alloc, source)?;
-    let made = add(machine, Op::Clock(id), kind, children)?;
-    Ok(made)
+    add(machine, Op::Clock(id), kind, children)
 }
 
 // The overlap of a crossfade of this source, in samples.
@@ -165,8 +155,7 @@ fn safe(alloc: Global, machine: &mut Machine, kind: Kind, source: u32) -> Result
     };
     let silence = push(machine, blank)?;
     let children = two_children(alloc, source, silence)?;
-    let made = add(machine, Op::Fallback { sensitive: false }, kind, children)?;
-    Ok(made)
+    add(machine, Op::Fallback { sensitive: false }, kind, children)
 }
 
 // A buffer whose reader holds this time before it plays, and that holds at most the other time.

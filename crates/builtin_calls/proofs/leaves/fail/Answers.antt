@@ -1,0 +1,15 @@
+use Rattle.std.proofs.Common.{refl}
+use Rattle.std.proofs.lemmas.Result.{err_from_is_err_and}
+use Rattle.builtin_calls.specs.Builtins.{fail}
+use Rattle.builtin_calls.proofs.Chained.{ends_with}
+use Rattle.builtin_calls.proofs.leaves.fail.Goals as goal
+
+pub returns-in_err-kind : goal.returns-in_err-kind
+unfolding fail
+returns-in_err-kind c =
+    let p = err_from_is_err_and c.from_residual.result c.from_residual.ensures.1 in
+    rw (p.1, p.2) (ends_with c.in_err-kind.field-0.0 _ _ c.in_err-kind.ensures (λ q. rw (q) refl))
+
+pub returns : goal.returns
+unfolding fail
+returns c = rw (c.in_ok-kind.ensures) (rw c.new.ensures at c.add.ensures)

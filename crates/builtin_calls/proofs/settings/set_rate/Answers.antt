@@ -1,0 +1,17 @@
+use Rattle.std.proofs.Common.{refl}
+use Rattle.std.proofs.lemmas.Result.{err_from_is_err_and}
+use Rattle.builtin_calls.specs.Settings.{set_rate}
+use Rattle.builtin_calls.proofs.Chained.{ends_with}
+use Rattle.builtin_calls.proofs.settings.set_rate.Goals as goal
+
+pub returns-in_err-opened : goal.returns-in_err-opened
+unfolding set_rate
+returns-in_err-opened c =
+    let p = err_from_is_err_and c.from_residual.result c.from_residual.ensures.1 in
+    rw (p.1, p.2) (ends_with c.in_err-opened.field-0.0 _ _ c.in_err-opened.ensures (λ q. rw (q) refl))
+
+pub returns-in_err-rate : goal.returns-in_err-rate
+unfolding set_rate
+returns-in_err-rate c =
+    let p = err_from_is_err_and c.from_residual-in_err-rate.result c.from_residual-in_err-rate.ensures.1 in
+    rw (p.1, p.2) (ends_with c.in_err-rate.field-0.0 _ _ c.in_err-rate.ensures (λ q. rw (c.in_ok-opened.ensures, q) refl))
