@@ -1,5 +1,5 @@
 // What a type is bound to, and whether a variable stands in it.
-ghost use Rattle.std.specs.Prelude.{◌≡◌, ◌≢◌, ◌+◌, ◌++◌, ◌<◌, ◌≤◌, ℕ, Bool, None, List, length, map, false, true, IfOk, IsTrue, OnOk, ◌↔◌};
+ghost use Rattle.std.specs.Prelude.{◌≡◌, ◌≢◌, ◌+◌, ◌++◌, ◌<◌, ◌≤◌, ℕ, Bool, None, [], List, length, map, false, true, IfOk, IsTrue, OnOk, ◌↔◌};
 ghost use Rattle.std.specs.Bool.{OnTrue, OnFalse};
 ghost use Rattle.type_terms.specs.Ground.{Assignment, size};
 ghost use Rattle.type_terms.specs.Nested.{IsAmong, IsMarked, IsUnnested, IsVisit, below, inside, mark_at, terms};
@@ -74,18 +74,7 @@ pub fn occurs_in(
 {
     let mut work = Vec::new(alloc);
     let mut seen: IndexSet<u64> = IndexSet::new(alloc);
-    work.push(ty)?;
-    for _step in 0..MOST_STEPS {
-        let Some(next) = work.pop() else {
-            return Ok(false);
-        };
-        if is_variable(next, x) {
-            return Ok(true);
-        }
-        let deep = goes_on(&mut seen, nested, next)?;
-        push_below(&mut work, types, deep, next)?;
-    }
-    Err(Memory)
+    search(&mut work, &mut seen, types, nested, x, ty)
 }
 
 /// Whether each variable of the type is one of these.
@@ -98,6 +87,50 @@ pub fn are_among(
     ensures { IfOk result (λ yes. IsTrue yes ↔ InTerm (λ n. n < length types.now) (λ n. n < length kinds.now) (term_of ty.now)) }
 {
     let mut work = Vec::new(alloc);
+    all_among(&mut work, types, kinds, ty)
+}
+
+/// The search for the variable, with a stack and the variables that it went behind.
+fn search<'a>(
+    work: &mut Vec<&'a Ty>,
+    seen: &mut IndexSet<u64>,
+    types: &'a [TypeVariable],
+    nested: bool,
+    x: u64,
+    ty: &'a Ty,
+) -> Result<bool, Memory>
+    requires triangular { IsTriangular types.now }
+    requires over { InTerm (λ n. n < length types.now) (λ _. Unit {0}) (term_of ty.now) }
+    requires unnested { nested ≡ false → IsUnnested types.now x }
+    requires work { work.old.items ≡ [] }
+    requires seen { seen.old.keys ≡ [] }
+    ensures no { IfOk result (λ b. OnFalse b (Avoids types.now x (term_of ty.now))) }
+    ensures yes { IfOk result (λ b. OnTrue b ((a : Assignment) → MeetsBindings types.now a → size (a.type_of x) + extra (term_of ty.now) ≤ size (meaning a (term_of ty.now)))) }
+{
+    work.push(ty)?;
+    for _step in 0..MOST_STEPS {
+        let Some(next) = work.pop() else {
+            return Ok(false);
+        };
+        if is_variable(next, x) {
+            return Ok(true);
+        }
+        let deep = goes_on(seen, nested, next)?;
+        push_below(work, types, deep, next)?;
+    }
+    Err(Memory)
+}
+
+/// The walk through a type that looks at each of its variables, with a stack.
+fn all_among<'a>(
+    work: &mut Vec<&'a Ty>,
+    types: &[TypeVariable],
+    kinds: &[Option<KindTerm>],
+    ty: &'a Ty,
+) -> Result<bool, Memory>
+    requires { work.old.items ≡ [] }
+    ensures { IfOk result (λ yes. IsTrue yes ↔ InTerm (λ n. n < length types.now) (λ n. n < length kinds.now) (term_of ty.now)) }
+{
     work.push(ty)?;
     for _step in 0..MOST_STEPS {
         let Some(next) = work.pop() else {
@@ -106,7 +139,7 @@ pub fn are_among(
         if !is_among(next, types.len(), kinds.len()) {
             return Ok(false);
         }
-        push_inside(&mut work, next)?;
+        push_inside(work, next)?;
     }
     Err(Memory)
 }

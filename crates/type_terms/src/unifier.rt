@@ -245,14 +245,49 @@ fn solve(
 {
     let mut work: Vec<(Ty, Ty)> = Vec::new(alloc);
     let mut seen: IndexSet<(u64, u64)> = IndexSet::new(alloc);
-    push_copies(alloc, &mut work, left, right)?;
+    compare(
+        alloc, types, kinds, nested, type_trail, kind_trail, &mut work, &mut seen, left, right,
+    )
+}
+
+/// The same with the stack of what is still to be compared, and the variables that were taken apart, none at first.
+fn compare(
+    alloc: Global,
+    types: &mut [TypeVariable],
+    kinds: &mut [Option<KindTerm>],
+    nested: &mut [bool],
+    type_trail: &mut Vec<u64>,
+    kind_trail: &mut Vec<u64>,
+    work: &mut Vec<(Ty, Ty)>,
+    seen: &mut IndexSet<(u64, u64)>,
+    left: &Ty,
+    right: &Ty,
+) -> Result<bool, Memory>
+    requires sound { IsSound (table types.old kinds.old) }
+    requires marked { AreMarked types.old nested.old }
+    requires left { IsOver (table types.old kinds.old) (term_of left.now) }
+    requires right { IsOver (table types.old kinds.old) (term_of right.now) }
+    requires type_trail { type_trail.old.items ≡ [] }
+    requires kind_trail { kind_trail.old.items ≡ [] }
+    requires work { work.old.items ≡ [] }
+    requires seen { seen.old.keys ≡ [] }
+    ensures sound { IsSound (table types.new kinds.new) }
+    ensures marked { AreMarked types.new nested.new }
+    ensures marks_kept { (k : ℕ) → mark_at nested.old k ≡ true → mark_at nested.new k ≡ true }
+    ensures type_trail { IsTrail type_trail.new.items types.old types.new }
+    ensures kind_trail { IsKindTrail kind_trail.new.items kinds.old kinds.new }
+    ensures narrower { (a : Assignment) → Solves a (table types.new kinds.new) → Solves a (table types.old kinds.old) }
+    ensures kept { (a : Assignment) → Solves a (table types.old kinds.old) → meaning a (term_of left.now) ≡ meaning a (term_of right.now) → Solves a (table types.new kinds.new) }
+    ensures same { IfOk result (λ yes. OnTrue yes ((a : Assignment) → Solves a (table types.new kinds.new) → meaning a (term_of left.now) ≡ meaning a (term_of right.now))) }
+    ensures clash { IfOk result (λ yes. OnFalse yes ((a : Assignment) → Solves a (table types.new kinds.new) → meaning a (term_of left.now) ≢ meaning a (term_of right.now))) }
+{
+    push_copies(alloc, work, left, right)?;
     for _step in 0..MOST_STEPS {
         let Some(next) = work.pop() else {
             return Ok(true);
         };
         if !take_apart(
-            alloc, types, kinds, nested, type_trail, kind_trail, &mut work, &mut seen, &next.0,
-            &next.1,
+            alloc, types, kinds, nested, type_trail, kind_trail, work, seen, &next.0, &next.1,
         )? {
             return Ok(false);
         }

@@ -78,3 +78,150 @@ returns-in_ok-push-in-BindKind-clause-same c =
     let s' = table c.args.types.now c.bind_kind.new.kinds in
     taken_same s' (agenda c.args.work.now.items c.args.seen.now.keys) (agenda c.differ.new.work.items c.differ.new.seen.keys) (term_of c.args.left.now) (term_of c.args.right.now) f.1
     (λ a m. f.0.enough a (solves_before_kind s s' c.in-BindKind.x _ c.bind_kind.ensures refl a m) (m.kinds c.in-BindKind.x c.in-BindKind.k c.bind_kind.ensures.here))
+
+pub returns-in_err-differ-clause-sound : goal.returns-in_err-differ-clause-sound
+returns-in_err-differ-clause-sound c = c.requires.sound
+
+pub returns-in_err-differ-clause-marked : goal.returns-in_err-differ-clause-marked
+returns-in_err-differ-clause-marked c = c.requires.marked
+
+pub returns-in_err-differ-clause-marks_kept : goal.returns-in_err-differ-clause-marks_kept
+returns-in_err-differ-clause-marks_kept c = λ k i. i
+
+pub returns-in_err-differ-clause-type_trail : goal.returns-in_err-differ-clause-type_trail
+returns-in_err-differ-clause-type_trail c = λ vs i. i
+
+pub returns-in_err-differ-clause-kind_trail : goal.returns-in_err-differ-clause-kind_trail
+returns-in_err-differ-clause-kind_trail c = λ ks i. i
+
+pub returns-in_err-differ-clause-narrower : goal.returns-in_err-differ-clause-narrower
+returns-in_err-differ-clause-narrower c = λ a m. m
+
+pub returns-in_err-differ-clause-kept : goal.returns-in_err-differ-clause-kept
+returns-in_err-differ-clause-kept c = λ a m d. m
+
+pub returns-in-Same-clause-sound : goal.returns-in-Same-clause-sound
+returns-in-Same-clause-sound c = c.requires.sound
+
+pub returns-in-Same-clause-marked : goal.returns-in-Same-clause-marked
+returns-in-Same-clause-marked c = c.requires.marked
+
+pub returns-in-Same-clause-marks_kept : goal.returns-in-Same-clause-marks_kept
+returns-in-Same-clause-marks_kept c = λ k i. i
+
+pub returns-in-Same-clause-type_trail : goal.returns-in-Same-clause-type_trail
+returns-in-Same-clause-type_trail c = λ vs i. i
+
+pub returns-in-Same-clause-kind_trail : goal.returns-in-Same-clause-kind_trail
+returns-in-Same-clause-kind_trail c = λ ks i. i
+
+pub returns-in-Same-clause-narrower : goal.returns-in-Same-clause-narrower
+returns-in-Same-clause-narrower c = λ a m. m
+
+pub returns-in-Same-clause-kept : goal.returns-in-Same-clause-kept
+returns-in-Same-clause-kept c = λ a m d. m
+
+pub returns-in-Same-clause-clash : goal.returns-in-Same-clause-clash
+returns-in-Same-clause-clash c = tt
+
+pub returns-in-Clash-clause-sound : goal.returns-in-Clash-clause-sound
+returns-in-Clash-clause-sound c = c.requires.sound
+
+pub returns-in-Clash-clause-marked : goal.returns-in-Clash-clause-marked
+returns-in-Clash-clause-marked c = c.requires.marked
+
+pub returns-in-Clash-clause-marks_kept : goal.returns-in-Clash-clause-marks_kept
+returns-in-Clash-clause-marks_kept c = λ k i. i
+
+pub returns-in-Clash-clause-type_trail : goal.returns-in-Clash-clause-type_trail
+returns-in-Clash-clause-type_trail c = λ vs i. i
+
+pub returns-in-Clash-clause-kind_trail : goal.returns-in-Clash-clause-kind_trail
+returns-in-Clash-clause-kind_trail c = λ ks i. i
+
+pub returns-in-Clash-clause-narrower : goal.returns-in-Clash-clause-narrower
+returns-in-Clash-clause-narrower c = λ a m. m
+
+pub returns-in-Clash-clause-kept : goal.returns-in-Clash-clause-kept
+returns-in-Clash-clause-kept c = λ a m d. m
+
+pub returns-in-Clash-clause-same : goal.returns-in-Clash-clause-same
+returns-in-Clash-clause-same c = tt
+
+pub returns-in_err-t-in-Bind-clause-sound : goal.returns-in_err-t-in-Bind-clause-sound
+returns-in_err-t-in-Bind-clause-sound c = c.requires.sound
+
+pub returns-in_err-t-in-Bind-clause-marked : goal.returns-in_err-t-in-Bind-clause-marked
+returns-in_err-t-in-Bind-clause-marked c = c.requires.marked
+
+pub returns-in_err-t-in-Bind-clause-marks_kept : goal.returns-in_err-t-in-Bind-clause-marks_kept
+returns-in_err-t-in-Bind-clause-marks_kept c = λ k i. i
+
+pub returns-in_err-t-in-Bind-clause-type_trail : goal.returns-in_err-t-in-Bind-clause-type_trail
+returns-in_err-t-in-Bind-clause-type_trail c = λ vs i. i
+
+pub returns-in_err-t-in-Bind-clause-kind_trail : goal.returns-in_err-t-in-Bind-clause-kind_trail
+returns-in_err-t-in-Bind-clause-kind_trail c = λ ks i. i
+
+pub returns-in_err-t-in-Bind-clause-narrower : goal.returns-in_err-t-in-Bind-clause-narrower
+returns-in_err-t-in-Bind-clause-narrower c = λ a m. m
+
+pub returns-in_err-t-in-Bind-clause-kept : goal.returns-in_err-t-in-Bind-clause-kept
+returns-in_err-t-in-Bind-clause-kept c = λ a m d. m
+
+pub returns-in_err-push-in-Bind-clause-sound : goal.returns-in_err-push-in-Bind-clause-sound
+returns-in_err-push-in-Bind-clause-sound c = c.requires.sound
+
+pub returns-in_err-push-in-Bind-clause-marked : goal.returns-in_err-push-in-Bind-clause-marked
+returns-in_err-push-in-Bind-clause-marked c = c.requires.marked
+
+pub returns-in_err-push-in-Bind-clause-marks_kept : goal.returns-in_err-push-in-Bind-clause-marks_kept
+returns-in_err-push-in-Bind-clause-marks_kept c = λ k i. i
+
+pub returns-in_err-push-in-Bind-clause-kind_trail : goal.returns-in_err-push-in-Bind-clause-kind_trail
+returns-in_err-push-in-Bind-clause-kind_trail c = λ ks i. i
+
+pub returns-in_err-push-in-Bind-clause-narrower : goal.returns-in_err-push-in-Bind-clause-narrower
+returns-in_err-push-in-Bind-clause-narrower c = λ a m. m
+
+pub returns-in_err-push-in-Bind-clause-kept : goal.returns-in_err-push-in-Bind-clause-kept
+returns-in_err-push-in-Bind-clause-kept c = λ a m d. m
+
+pub returns-in_ok-push-in-Bind-clause-marks_kept : goal.returns-in_ok-push-in-Bind-clause-marks_kept
+returns-in_ok-push-in-Bind-clause-marks_kept c = c.mark.ensures.kept
+
+pub returns-in_ok-push-in-Bind-clause-kind_trail : goal.returns-in_ok-push-in-Bind-clause-kind_trail
+returns-in_ok-push-in-Bind-clause-kind_trail c = λ ks i. i
+
+pub returns-in_ok-push-in-Bind-clause-clash : goal.returns-in_ok-push-in-Bind-clause-clash
+returns-in_ok-push-in-Bind-clause-clash c = tt
+
+pub returns-in_err-push-in-BindKind-clause-sound : goal.returns-in_err-push-in-BindKind-clause-sound
+returns-in_err-push-in-BindKind-clause-sound c = c.requires.sound
+
+pub returns-in_err-push-in-BindKind-clause-marked : goal.returns-in_err-push-in-BindKind-clause-marked
+returns-in_err-push-in-BindKind-clause-marked c = c.requires.marked
+
+pub returns-in_err-push-in-BindKind-clause-marks_kept : goal.returns-in_err-push-in-BindKind-clause-marks_kept
+returns-in_err-push-in-BindKind-clause-marks_kept c = λ k i. i
+
+pub returns-in_err-push-in-BindKind-clause-type_trail : goal.returns-in_err-push-in-BindKind-clause-type_trail
+returns-in_err-push-in-BindKind-clause-type_trail c = λ vs i. i
+
+pub returns-in_err-push-in-BindKind-clause-narrower : goal.returns-in_err-push-in-BindKind-clause-narrower
+returns-in_err-push-in-BindKind-clause-narrower c = λ a m. m
+
+pub returns-in_err-push-in-BindKind-clause-kept : goal.returns-in_err-push-in-BindKind-clause-kept
+returns-in_err-push-in-BindKind-clause-kept c = λ a m d. m
+
+pub returns-in_ok-push-in-BindKind-clause-marked : goal.returns-in_ok-push-in-BindKind-clause-marked
+returns-in_ok-push-in-BindKind-clause-marked c = c.requires.marked
+
+pub returns-in_ok-push-in-BindKind-clause-marks_kept : goal.returns-in_ok-push-in-BindKind-clause-marks_kept
+returns-in_ok-push-in-BindKind-clause-marks_kept c = λ k i. i
+
+pub returns-in_ok-push-in-BindKind-clause-type_trail : goal.returns-in_ok-push-in-BindKind-clause-type_trail
+returns-in_ok-push-in-BindKind-clause-type_trail c = λ vs i. i
+
+pub returns-in_ok-push-in-BindKind-clause-clash : goal.returns-in_ok-push-in-BindKind-clause-clash
+returns-in_ok-push-in-BindKind-clause-clash c = tt

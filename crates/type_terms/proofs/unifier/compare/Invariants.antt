@@ -7,7 +7,7 @@ use Rattle.type_terms.specs.Term.{meaning, term_of}
 use Rattle.type_terms.specs.Nested.{AreMarked, mark_at}
 use Rattle.type_terms.specs.Undo.{IsTrail, IsKindTrail}
 use Rattle.type_terms.proofs.Agendas.{IsComparison}
-use Rattle.type_terms.proofs.unifier.solve.Given as goal
+use Rattle.type_terms.proofs.unifier.compare.Given as goal
 
 abbrev pub invariant-loop-step : goal.invariant-loop-step
 invariant-loop-step l = record {

@@ -2,7 +2,7 @@ use Rattle.std.proofs.Common.{◌≡◌, subst, sym, refl, length, Bool, true, f
 use Rattle.type_terms.specs.Nested.{terms}
 use Rattle.type_terms.specs.Term.{term_of}
 use Rattle.type_terms.proofs.Walks.{census_fails, census_step, popped}
-use Rattle.type_terms.proofs.occurs.are_among.Goals as goal
+use Rattle.type_terms.proofs.occurs.all_among.Goals as goal
 
 pub returns-then-not-is_among : goal.returns-then-not-is_among
 returns-then-not-is_among c = (

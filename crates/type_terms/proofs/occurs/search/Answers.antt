@@ -2,8 +2,13 @@ use Rattle.std.proofs.Common.{◌≡◌, [], ap, rules}
 use Rattle.type_terms.specs.Nested.{terms}
 use Rattle.type_terms.specs.Term.{term_of}
 use Rattle.type_terms.proofs.Basics.{on_false, on_true}
-use Rattle.type_terms.proofs.Walks.{popped, search_done, search_found, search_step, top_inside, top_within}
-use Rattle.type_terms.proofs.occurs.occurs_in.Goals as goal
+use Rattle.type_terms.proofs.Walks.{popped, search_done, search_found, search_start, search_step, top_inside, top_within}
+use Rattle.type_terms.proofs.occurs.search.Goals as goal
+
+pub loop-step-init : goal.loop-step-init
+loop-step-init c =
+    let e = rw c.requires.work at c.in_ok-push.ensures.items in
+    search_start c.args.types.now c.args.nested c.args.x (term_of c.args.ty.now) (terms c.push.new.self.items) c.args.seen.now.keys (ap terms e) c.requires.seen c.requires.over
 
 pub returns-then-is_variable-clause-yes : goal.returns-then-is_variable-clause-yes
 returns-then-is_variable-clause-yes c =
