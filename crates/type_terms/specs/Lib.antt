@@ -2,6 +2,7 @@ pub mod Agenda
 pub mod Agrees
 pub mod Codes
 pub mod Differ
+pub mod Direct
 pub mod Extends
 pub mod Ground
 pub mod Naming

@@ -281,7 +281,7 @@ fn differ_shapes<'a>(kinds: &[Option<KindTerm>], left: &'a Ty, right: &'a Ty) ->
 }
 
 /// The difference of two resolved types that are neither two lists nor two tuples of one length.
-fn differ_resolved<'a>(
+pub fn differ_resolved<'a>(
     alloc: Global,
     types: &[TypeVariable],
     kinds: &[Option<KindTerm>],
@@ -369,7 +369,7 @@ fn push_parts<'a>(
 }
 
 /// Whether both types are lists, or tuples of one length.
-fn is_split(s: &Ty, t: &Ty) -> bool
+pub fn is_split(s: &Ty, t: &Ty) -> bool
     ensures yes { OnTrue result (IsSplit (term_of s.now) (term_of t.now)) }
     ensures unsplit { OnFalse result (IsSplit (term_of s.now) (term_of t.now) → ⊥) }
 {

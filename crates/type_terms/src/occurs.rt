@@ -58,7 +58,7 @@ pub fn mark(nested: &mut [bool], ty: &Ty)
 
 /// Whether the variable stands in the type, directly or through what variables are bound to.
 ///
-/// A variable that stands in no binding needs no walk through the bindings: `nested` is false.
+/// A variable that stands in no binding needs no walk through the bindings: `nested` is false. A type without parts takes no memory.
 pub fn occurs_in(
     alloc: Global,
     types: &[TypeVariable],
@@ -72,6 +72,9 @@ pub fn occurs_in(
     ensures no { IfOk result (λ b. OnFalse b (Avoids types.now x (term_of ty.now))) }
     ensures yes { IfOk result (λ b. OnTrue b ((a : Assignment) → MeetsBindings types.now a → size (a.type_of x) + extra (term_of ty.now) ≤ size (meaning a (term_of ty.now)))) }
 {
+    if is_leaf(ty) {
+        return Ok(false);
+    }
     let mut work = Vec::new(alloc);
     let mut seen: IndexSet<u64> = IndexSet::new(alloc);
     search(&mut work, &mut seen, types, nested, x, ty)
@@ -152,6 +155,16 @@ fn is_variable(ty: &Ty, x: u64) -> bool
     match ty {
         Ty::Var(k) => *k == x,
         _ => false,
+    }
+}
+
+/// Whether the type has no parts and is no variable.
+fn is_leaf(ty: &Ty) -> bool
+    ensures { OnTrue result (InTerm (λ _. ⊥) (λ _. Unit {0}) (term_of ty.now)) }
+{
+    match ty {
+        Ty::Source(_) => true,
+        _ => ty.base().is_some(),
     }
 }
 

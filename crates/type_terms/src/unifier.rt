@@ -7,21 +7,101 @@ ghost use Rattle.type_terms.specs.Table.{table, Binds, BindsKind, IsOver, IsSoun
 ghost use Rattle.type_terms.specs.Term.{meaning, term_of};
 ghost use Rattle.type_terms.specs.Agenda.{IsTakenUp, agenda};
 ghost use Rattle.type_terms.specs.Agrees.{SameVariables};
+ghost use Rattle.type_terms.specs.Direct.{IsDirect};
 ghost use Rattle.type_terms.specs.Undo.{Frees, FreesKind, IsKindTrail, IsTrail};
 ghost use Rattle.type_terms.specs.Variables.{Variable};
 ghost use Rattle.type_terms.specs.declared.ty.KindTerm.{KindTerm};
 
 use crate::copying::{MOST_LEVELS, copy};
-use crate::differ::{Difference, differ, push_copies, push_split};
-use crate::occurs::{MOST_STEPS, mark};
+use crate::differ::{Difference, differ, differ_resolved, is_split, push_copies, push_split};
+use crate::occurs::{MOST_STEPS, mark, resolve};
 use crate::ty::{KindTerm, Ty};
 use crate::type_variable::TypeVariable;
 use indexmap::IndexSet;
 use liq_base::Memory;
 use std::alloc::Global;
 
-/// Binds as `solve` does, and frees again what was bound where the types differ in shape or memory runs out.
+/// What became of two types that were to be the same: they are, they cannot be, or they are to be taken apart.
+#[derive(Clone, Copy, Debug)]
+pub enum Direct {
+    Same,
+    Clash,
+    Apart,
+}
+
+/// Binds variables until the two types are the same; where they differ in shape or memory runs out, nothing is bound.
+///
+/// What one binding settles takes no memory but that of a copy of what is bound.
 pub fn unify_in(
+    alloc: Global,
+    types: &mut [TypeVariable],
+    kinds: &mut [Option<KindTerm>],
+    nested: &mut [bool],
+    left: &Ty,
+    right: &Ty,
+) -> Result<bool, Memory>
+    requires sound { IsSound (table types.old kinds.old) }
+    requires marked { AreMarked types.old nested.old }
+    requires left { IsOver (table types.old kinds.old) (term_of left.now) }
+    requires right { IsOver (table types.old kinds.old) (term_of right.now) }
+    ensures sound { IsSound (table types.new kinds.new) }
+    ensures marked { AreMarked types.new nested.new }
+    ensures most_general { IfOk result (λ yes. OnTrue yes ((a : Assignment) → Solves a (table types.new kinds.new) ↔ (Solves a (table types.old kinds.old) × (meaning a (term_of left.now) ≡ meaning a (term_of right.now))))) }
+    ensures solvable { IfOk result (λ yes. OnTrue yes ((a : Assignment) × Solves a (table types.new kinds.new))) }
+    ensures none { IfOk result (λ yes. OnFalse yes ((a : Assignment) → Solves a (table types.old kinds.old) → meaning a (term_of left.now) ≢ meaning a (term_of right.now))) }
+    ensures unchanged { IfOk result (λ yes. OnFalse yes (table types.new kinds.new ≡ table types.old kinds.old)) }
+    ensures same_variables { SameVariables (table types.old kinds.old) (table types.new kinds.new) }
+    ensures err { OnErr result (table types.new kinds.new ≡ table types.old kinds.old) }
+{
+    match unify_directly(alloc, types, kinds, nested, left, right)? {
+        Direct::Same => Ok(true),
+        Direct::Clash => Ok(false),
+        Direct::Apart => unify_deeply(alloc, types, kinds, nested, left, right),
+    }
+}
+
+/// Makes two types the same where neither is to be taken apart: with one binding, or none.
+fn unify_directly(
+    alloc: Global,
+    types: &mut [TypeVariable],
+    kinds: &mut [Option<KindTerm>],
+    nested: &mut [bool],
+    left: &Ty,
+    right: &Ty,
+) -> Result<Direct, Memory>
+    requires sound { IsSound (table types.old kinds.old) }
+    requires marked { AreMarked types.old nested.old }
+    requires left { IsOver (table types.old kinds.old) (term_of left.now) }
+    requires right { IsOver (table types.old kinds.old) (term_of right.now) }
+    ensures sound { IsSound (table types.new kinds.new) }
+    ensures marked { AreMarked types.new nested.new }
+    ensures direct { IfOk result (IsDirect (table types.old kinds.old) (table types.new kinds.new) (term_of left.now) (term_of right.now)) }
+    ensures same_variables { SameVariables (table types.old kinds.old) (table types.new kinds.new) }
+    ensures err { OnErr result (table types.new kinds.new ≡ table types.old kinds.old) }
+{
+    let s = resolve(types, left);
+    let t = resolve(types, right);
+    if is_split(s, t) {
+        return Ok(Direct::Apart);
+    }
+    match differ_resolved(alloc, types, kinds, nested, s, t)? {
+        Difference::Same => Ok(Direct::Same),
+        Difference::Clash => Ok(Direct::Clash),
+        Difference::Bind(x, t) => {
+            let t = copy(alloc, t, MOST_LEVELS)?;
+            mark(nested, &t);
+            bind_type(types, x, t);
+            Ok(Direct::Same)
+        }
+        Difference::BindKind(x, k) => {
+            bind_kind(kinds, x, k);
+            Ok(Direct::Same)
+        }
+    }
+}
+
+/// Binds as `solve` does, and frees again what was bound where the types differ in shape or memory runs out.
+fn unify_deeply(
     alloc: Global,
     types: &mut [TypeVariable],
     kinds: &mut [Option<KindTerm>],
