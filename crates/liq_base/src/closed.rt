@@ -1,24 +1,41 @@
 // The files that were closed, the newest first. Each takes over the memory of the sink that it was.
-ghost use Rattle.std.specs.Prelude.{◌≡◌, MatchOption, None, Some};
+ghost use Rattle.std.specs.Prelude.{◌≡◌, ◌≢◌, ◌<◌, length, MatchOption, IsSomeAnd, None, Some, Ok, Err};
+ghost use Rattle.std.specs.Option.{ForSome};
 ghost use Rattle.liq_base.specs.Entries.{entries, stored, given_entries, files_of};
-ghost use Rattle.liq_base.specs.Files.{file_at};
+ghost use Rattle.liq_base.specs.Files.{file_at, Found};
+ghost use Rattle.liq_base.specs.ShelfStates.{fetched};
 
-use crate::Memory;
+use crate::{Fetched, Memory, ShelfFault};
 use std::alloc::Global;
+use std::fmt;
 
 #[cycle(closed)]
-#[derive(Debug, Drop)]
+#[derive(Drop)]
 pub(crate) enum Closed {
     End,
     File(Box<Entry>),
 }
 
 #[cycle(closed)]
-#[derive(Debug, Drop)]
+#[derive(Drop)]
 pub(crate) struct Entry {
     pub name: String,
     pub bytes: Vec<u8>,
     pub next: Closed,
+}
+
+/// The files are not printed.
+impl fmt::Debug for Closed {
+    fn fmt<W: fmt::Write>(&self, f: &mut fmt::Formatter<W>) -> fmt::Result {
+        f.write_str("Closed")
+    }
+}
+
+/// The file is not printed.
+impl fmt::Debug for Entry {
+    fn fmt<W: fmt::Write>(&self, f: &mut fmt::Formatter<W>) -> fmt::Result {
+        f.write_str("Entry")
+    }
 }
 
 impl Entry {
@@ -45,6 +62,33 @@ pub(crate) fn find_file<'a>(
     match find_closed(closed, name) {
         Some(bytes) => Some(bytes),
         None => find_given(given, name),
+    }
+}
+
+/// Adds the bytes of the file of this name to `into`, if it has at most `most`.
+pub(crate) fn fetch_file(
+    closed: &Closed,
+    given: &[(String, Vec<u8>)],
+    name: &str,
+    into: &mut Vec<u8>,
+    most: u64,
+) -> Result<Fetched, ShelfFault>
+    ensures answer { result ≢ Err ShelfFault.Memory → result ≡ Ok (fetched (file_at (files_of closed.now given.now) name.now) most) }
+    ensures memory { result ≡ Err ShelfFault.Memory → fetched (file_at (files_of closed.now given.now) name.now) most ≡ Fetched.Found }
+    ensures found { result ≡ Ok Fetched.Found → Found (Some (files_of closed.now given.now)) name.now most into.old.items into.new.items }
+    ensures missing { result ≡ Ok Fetched.Missing → ForSome (Some (files_of closed.now given.now)) (λ files. file_at files name.now ≡ None) }
+    ensures too_large { result ≡ Ok Fetched.TooLarge → ForSome (Some (files_of closed.now given.now)) (λ files. IsSomeAnd (file_at files name.now) (λ bytes. most < length bytes)) }
+    ensures otherwise { result ≢ Ok Fetched.Found → into.new.items ≡ into.old.items }
+{
+    let Some(bytes) = find_file(closed, given, name) else {
+        return Ok(Fetched::Missing);
+    };
+    if bytes.len() as u64 > most {
+        return Ok(Fetched::TooLarge);
+    }
+    match into.extend_from_slice(bytes) {
+        Ok(()) => Ok(Fetched::Found),
+        Err(_) => Err(ShelfFault::Memory),
     }
 }
 

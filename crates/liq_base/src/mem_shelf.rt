@@ -8,7 +8,7 @@ ghost use Rattle.liq_base.specs.SinkStates.{named_held};
 ghost use Rattle.liq_base.specs.Entries.{given_entries};
 ghost use Rattle.liq_base.specs.ShelfStates.{untouched, read_answer, read_fails, create_fails, close_fails, after_read, after_create, after_close, created_sink, raised, appends_of};
 
-use crate::closed::{Closed, Entry, find_file};
+use crate::closed::{Closed, fetch_file, find_file};
 use crate::named_sink::NamedSink;
 use crate::{Failed, Fetched, MemSink, Memory, Shelf, ShelfFault};
 use std::alloc::Global;
@@ -135,6 +135,18 @@ impl MemShelf {
     {
         find_file(&self.closed, &self.given, name)
     }
+
+    /// Counts a read, and tells whether it is to fail.
+    fn count_read(&mut self) -> bool
+        ensures next { self.new ≡ after_read self.old }
+        ensures fails { result ≡ read_fails self.old }
+        ensures rises { self.old.read_faults ≤ self.new.read_faults }
+    {
+        let fails = self.failing_reads.contains(&self.reads);
+        self.reads = self.reads.saturating_add(1);
+        self.read_faults = raise(self.read_faults, fails);
+        fails
+    }
 }
 
 impl Shelf for MemShelf {
@@ -161,22 +173,10 @@ impl Shelf for MemShelf {
         ensures reads { self.old.read_faults ≤ self.new.read_faults }
         ensures writes { self.old.write_faults ≤ self.new.write_faults }
     {
-        let fails = self.failing_reads.contains(&self.reads);
-        self.reads = self.reads.saturating_add(1);
-        self.read_faults = raise(self.read_faults, fails);
-        if fails {
+        if self.count_read() {
             return Err(ShelfFault::Failed);
         }
-        let Some(bytes) = find_file(&self.closed, &self.given, name) else {
-            return Ok(Fetched::Missing);
-        };
-        if bytes.len() as u64 > most {
-            return Ok(Fetched::TooLarge);
-        }
-        match into.extend_from_slice(bytes) {
-            Ok(()) => Ok(Fetched::Found),
-            Err(_) => Err(ShelfFault::Memory),
-        }
+        fetch_file(&self.closed, &self.given, name, into, most)
     }
 
     fn create(&mut self, name: &str, room: u64) -> Result<NamedSink, ShelfFault>
@@ -230,11 +230,13 @@ fn listed_appends(
 ) -> Result<Vec<(u64, u64)>, Memory>
     ensures { IfOk result (λ own. own.items ≡ appends_of sink fails.now) }
 {
-    let own = fails
-        .iter()
-        .filter(|fail| u64::from(fail.sink) == sink)
-        .map(|fail| (fail.call, fail.taken));
-    Ok(own.collect(alloc)?)
+    let mut own = Vec::new(alloc);
+    for fail in fails {
+        if u64::from(fail.sink) == sink {
+            own.push((fail.call, fail.taken))?;
+        }
+    }
+    Ok(own)
 }
 
 /// A count after a call that failed or did not.

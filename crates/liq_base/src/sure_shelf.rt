@@ -7,7 +7,7 @@ ghost use Rattle.liq_base.specs.Files.{file_at, with_file, Found};
 ghost use Rattle.liq_base.specs.Entries.{given_entries};
 ghost use Rattle.liq_base.specs.ShelfStates.{fetched};
 
-use crate::closed::{Closed, find_file};
+use crate::closed::{Closed, fetch_file, find_file};
 use crate::sure_sink::SureSink;
 use crate::{Failed, Fetched, Shelf, ShelfFault};
 use std::alloc::Global;
@@ -77,16 +77,7 @@ impl Shelf for SureShelf {
         ensures too_large { result ≡ Ok Fetched.TooLarge → ForSome (Some self.old) (λ files. IsSomeAnd (file_at files name.now) (λ bytes. most < length bytes)) }
         ensures otherwise { result ≢ Ok Fetched.Found → into.new.items ≡ into.old.items }
     {
-        let Some(bytes) = find_file(&self.closed, &self.given, name) else {
-            return Ok(Fetched::Missing);
-        };
-        if bytes.len() as u64 > most {
-            return Ok(Fetched::TooLarge);
-        }
-        match into.extend_from_slice(bytes) {
-            Ok(()) => Ok(Fetched::Found),
-            Err(_) => Err(ShelfFault::Memory),
-        }
+        fetch_file(&self.closed, &self.given, name, into, most)
     }
 
     fn create(&mut self, name: &str, room: u64) -> Result<SureSink, ShelfFault>

@@ -3,7 +3,7 @@ ghost use Rattle.std.specs.Prelude.{◌≡◌, []};
 
 use fixed_text::Decimal;
 use liq_base::{Kind, Text};
-use plan_core::{BufferPlan, Draft, Items, Node, Op, SinkPlan};
+use plan_core::{BufferPlan, Draft, Items, Node, Op, Plan, PlanFault, SinkPlan};
 use std::alloc::Global;
 use std::test::Fail;
 
@@ -22,41 +22,47 @@ fn square(alloc: Global) -> Node
     }
 }
 
-#[test]
-fn a_buffer_comes_with_its_ends(rt: HostRuntime) -> Result<(), Fail> {
-    let alloc = rt.alloc();
+// A tone that goes through a buffer to an output.
+fn buffered_tone(alloc: Global, buffer: BufferPlan) -> Result<Plan, PlanFault> {
     let mut draft = Draft::new(alloc, 44_100, 1764);
     let tone = draft.push_node(square(alloc))?;
+    let reader = draft.push_buffer(alloc, tone, Kind::Mono, buffer)?;
+    let name = Text::from_str(alloc, "tone.wav")?;
+    draft.push_output(name, reader, true)?;
+    draft.set_frame(882);
+    Ok(draft.into_plan())
+}
+
+fn is_reader(node: Option<&Node>) -> bool {
+    matches!(
+        node,
+        Some(Node {
+            op: Op::Buffer(0),
+            ..
+        })
+    )
+}
+
+fn are_ends(sinks: &[SinkPlan]) -> bool {
+    matches!(
+        sinks,
+        [
+            SinkPlan::Feed { buffer: 0, node: 0 },
+            SinkPlan::Output { node: 1, .. }
+        ]
+    )
+}
+
+#[test]
+fn a_buffer_comes_with_its_ends(rt: HostRuntime) -> Result<(), Fail> {
     let buffer = BufferPlan {
         pre: 44_100,
         capacity: 250,
     };
-    let reader = draft.push_buffer(alloc, tone, Kind::Mono, buffer)?;
-    draft.push_output(Text::from_str(alloc, "tone.wav")?, reader, true)?;
-    draft.set_frame(882);
-    let plan = draft.into_plan();
-    assert_eq!(rt; (plan.rate, plan.frame, reader), (44_100, 882, 1));
+    let plan = buffered_tone(rt.alloc(), buffer)?;
+    assert_eq!(rt; (plan.rate, plan.frame), (44_100, 882));
     assert_eq!(rt; plan.buffers.as_slice(), [buffer].as_slice());
-    assert!(rt;
-        matches!(
-            plan.nodes.as_slice().get(1),
-            Some(Node {
-                op: Op::Buffer(0),
-                ..
-            })
-        )
-    );
-    assert!(rt;
-        matches!(
-            plan.sinks.as_slice().first(),
-            Some(SinkPlan::Feed { buffer: 0, node: 0 })
-        )
-    );
-    assert!(rt;
-        matches!(
-            plan.sinks.as_slice().get(1),
-            Some(SinkPlan::Output { node: 1, .. })
-        )
-    );
+    assert!(rt; is_reader(plan.nodes.as_slice().get(1)));
+    assert!(rt; are_ends(plan.sinks.as_slice()));
     Ok(())
 }

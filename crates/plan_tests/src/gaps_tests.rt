@@ -1,5 +1,5 @@
 //! Which nodes of a small plan always offer a cell, and which outputs need one that does.
-ghost use Rattle.std.specs.Prelude.{◌≡◌, [], IfOk};
+ghost use Rattle.std.specs.Prelude.{◌≡◌, ◌∷◌, [], false, true, length, IfOk};
 ghost use Rattle.plan_core.specs.Plans.{IsWellFormed};
 
 use fallible_infer::{Fallible, check_outputs, infallible};
@@ -7,6 +7,7 @@ use fixed_text::TimeMark;
 use liq_base::{Kind, Text};
 use plan_core::{Items, Node, Op, Plan, Preds, SinkPlan};
 use std::alloc::{AllocError, Global};
+use std::process::Abort;
 use std::test::Fail;
 use time_pred::Pred;
 
@@ -41,50 +42,78 @@ fn hour(hour: u8) -> TimeMark {
     }
 }
 
+fn day_or_night(alloc: Global) -> Result<Preds, AllocError>
+    ensures { IfOk result (λ preds. length preds ≡ 2) }
+{
+    let day = Pred::Between(hour(6), hour(18));
+    let night = Pred::Between(hour(18), hour(6));
+    Ok(Preds::from_vec(vec![in alloc; day, night]?))
+}
+
+fn outputs(alloc: Global) -> Result<Vec<SinkPlan>, AllocError>
+    ensures { IfOk result (λ sinks. sinks.items ≡ SinkPlan.Output [] 2 false ∷ SinkPlan.Output [] 1 true ∷ SinkPlan.Output [] 3 false ∷ []) }
+{
+    Ok(vec![in alloc;
+        output(alloc, 2, false),
+        output(alloc, 1, true),
+        output(alloc, 3, false),
+    ]?)
+}
+
+fn pair(alloc: Global, first: u32, second: u32) -> Result<Vec<u32>, AllocError>
+    ensures { IfOk result (λ pair. pair.items ≡ first ∷ second ∷ []) }
+{
+    Ok(vec![in alloc; first, second]?)
+}
+
 // A blank, a list that ends, a choice of the two, and a switch between day and night over the blank. The choice and the list
 // are written, the list with `fallible=true`, and then the switch.
 fn day_and_night(alloc: Global) -> Result<Plan, AllocError>
     ensures { IfOk result IsWellFormed }
 {
+    let sinks = outputs(alloc)?;
+    let preds = day_or_night(alloc)?;
+    let both = pair(alloc, 1, 0)?;
+    let twice = pair(alloc, 0, 0)?;
     let blank = mono(Op::Blank { track: 0 }, Vec::new(alloc));
     let file = Text::from_string(String::new(alloc));
     let list = mono(Op::Playlist { file, again: false }, Vec::new(alloc));
-    let choice = mono(Op::Fallback { sensitive: true }, vec![in alloc; 1, 0]?);
-    let day = Pred::Between(hour(6), hour(18));
-    let night = Pred::Between(hour(18), hour(6));
-    let preds = Preds::from_vec(vec![in alloc; day, night]?);
-    let switch = mono(
-        Op::Switch {
-            sensitive: false,
-            preds,
-        },
-        vec![in alloc; 0, 0]?,
-    );
+    let choice = mono(Op::Fallback { sensitive: true }, both);
+    let switch = Op::Switch {
+        sensitive: false,
+        preds,
+    };
+    let switch = mono(switch, twice);
     Ok(Plan {
         rate: 44_100,
         frame: 1764,
         nodes: Items::from_vec(vec![in alloc; blank, list, choice, switch]?),
-        sinks: Items::from_vec(vec![in alloc;
-            output(alloc, 2, false),
-            output(alloc, 1, true),
-            output(alloc, 3, false),
-        ]?),
+        sinks: Items::from_vec(sinks),
         buffers: Items::new(alloc),
     })
 }
 
+// Which nodes always offer a cell, and the first output that needs one and may not have it.
+fn check_gaps(rt: &impl Abort, alloc: Global, plan: &Plan) -> Result<(), Fail>
+    requires { IsWellFormed plan.now }
+{
+    let marks = infallible(alloc, plan)?;
+    assert_eq!(rt; marks.as_slice(), [true, false, true, false].as_slice());
+    let refused = check_outputs(plan, &marks).err();
+    assert_eq!(rt; refused, Some(Fallible { sink: 2 }));
+    assert_eq!(rt; check_outputs(plan, &[true; 4]), Ok(()));
+    Ok(())
+}
+
 #[test]
 fn a_day_and_a_night_are_not_always(rt: HostRuntime) -> Result<(), Fail> {
-    let alloc = rt.alloc();
-    let plan = day_and_night(alloc)?;
-    let marks = infallible(alloc, &plan)?;
-    assert_eq!(rt; marks.as_slice(), [true, false, true, false].as_slice());
-    let refused = check_outputs(&plan, &marks).err();
-    assert_eq!(rt; refused, Some(Fallible { sink: 2 }));
-    assert_eq!(rt; check_outputs(&plan, &[true; 4]), Ok(()));
-    assert_eq!(rt;
-        format!(in alloc; "{}", Fallible { sink: 2 })?.as_str(),
-        "sink 2 may have gaps"
-    );
+    let plan = day_and_night(rt.alloc())?;
+    check_gaps(&rt, rt.alloc(), &plan)
+}
+
+#[test]
+fn an_output_that_may_have_gaps_is_told(rt: HostRuntime) -> Result<(), Fail> {
+    let told = format!(in rt.alloc(); "{}", Fallible { sink: 2 })?;
+    assert_eq!(rt; told.as_str(), "sink 2 may have gaps");
     Ok(())
 }

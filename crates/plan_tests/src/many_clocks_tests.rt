@@ -2,45 +2,49 @@
 use clock_infer::{ClockFault, ClockMap, NodeClock, assign};
 use plan_samples::{plan_of_clocks, plan_of_nested_crossfades};
 use std::alloc::{AllocError, Global};
+use std::fmt::Write;
 use std::test::Fail;
 
 // An answer as text: the names, how many run, and the clock of each node; or the fault.
 fn told(alloc: Global, answer: Result<ClockMap, ClockFault>) -> Result<String, AllocError> {
     match answer {
-        Ok(map) => {
-            let mut told = String::new(alloc);
-            for name in map.names.as_slice() {
-                told.push_str(name.as_str())?;
-                told.push(' ')?;
-            }
-            let rest = format!(in alloc; "{} run:", map.running)?;
-            told.push_str(rest.as_str())?;
-            for of in map.of.as_slice() {
-                let place = match of {
-                    NodeClock::Main(m) => format!(in alloc; " {m}")?,
-                    NodeClock::Sub(k) => format!(in alloc; " under {k}")?,
-                };
-                told.push_str(place.as_str())?;
-            }
-            Ok(told)
-        }
+        Ok(map) => map_text(alloc, &map),
         Err(fault) => format!(in alloc; "{fault}"),
     }
+}
+
+fn map_text(alloc: Global, map: &ClockMap) -> Result<String, AllocError> {
+    let mut text = String::new(alloc);
+    for name in map.names.as_slice() {
+        text.push_str(name.as_str())?;
+        text.push(' ')?;
+    }
+    let running = map.running;
+    write!(text, "{running} run:")?;
+    for of in map.of.as_slice() {
+        push_place(&mut text, *of)?;
+    }
+    Ok(text)
+}
+
+fn push_place(text: &mut String, of: NodeClock) -> Result<(), AllocError> {
+    match of {
+        NodeClock::Main(m) => write!(text, " {m}")?,
+        NodeClock::Sub(k) => write!(text, " under {k}")?,
+    }
+    Ok(())
 }
 
 // Of so many clocks, the last one is written first, so it has the number 0.
 fn numbered_back(alloc: Global, count: u32) -> Result<String, AllocError> {
     let mut wanted = String::new(alloc);
     for number in 0..count {
-        let name = format!(in alloc; "c{} ", count - 1 - number)?;
-        wanted.push_str(name.as_str())?;
+        write!(wanted, "c{} ", count - 1 - number)?;
     }
-    let run = format!(in alloc; "{count} run:")?;
-    wanted.push_str(run.as_str())?;
+    write!(wanted, "{count} run:")?;
     for number in 0..count {
         let clock = count - 1 - number;
-        let both = format!(in alloc; " {clock} {clock}")?;
-        wanted.push_str(both.as_str())?;
+        write!(wanted, " {clock} {clock}")?;
     }
     Ok(wanted)
 }
@@ -51,43 +55,41 @@ fn nested_down(alloc: Global, count: u32) -> Result<String, AllocError> {
     let mut outer = 1;
     for number in 1..count {
         let inner = number.saturating_mul(3);
-        let level = format!(in alloc; " under {inner} under {outer} under {outer}")?;
-        wanted.push_str(level.as_str())?;
+        write!(wanted, " under {inner} under {outer} under {outer}")?;
         outer = inner;
     }
     Ok(wanted)
 }
 
+fn many_clocks(alloc: Global, count: u32) -> Result<String, Fail> {
+    let plan = plan_of_clocks(alloc, count)?;
+    Ok(told(alloc, assign(alloc, &plan))?)
+}
+
+fn nested_crossfades(alloc: Global, count: u32) -> Result<String, Fail> {
+    let plan = plan_of_nested_crossfades(alloc, count)?;
+    Ok(told(alloc, assign(alloc, &plan))?)
+}
+
 #[test]
 fn sixty_four_clocks_are_numbered_by_sink(rt: HostRuntime) -> Result<(), Fail> {
-    let alloc = rt.alloc();
-    assert_eq!(rt;
-        told(alloc, assign(alloc, &plan_of_clocks(alloc, 64)?))?.as_str(),
-        numbered_back(alloc, 64)?.as_str()
-    );
+    let clocks = many_clocks(rt.alloc(), 64)?;
+    let wanted = numbered_back(rt.alloc(), 64)?;
+    assert_eq!(rt; clocks.as_str(), wanted.as_str());
     Ok(())
 }
 
 #[test]
 fn sixty_five_clocks_are_too_many(rt: HostRuntime) -> Result<(), Fail> {
-    let alloc = rt.alloc();
-    assert_eq!(rt;
-        told(alloc, assign(alloc, &plan_of_clocks(alloc, 65)?))?.as_str(),
-        "too many clocks"
-    );
+    let clocks = many_clocks(rt.alloc(), 65)?;
+    assert_eq!(rt; clocks.as_str(), "too many clocks");
     Ok(())
 }
 
 #[test]
 fn a_thousand_crossfades_lie_in_each_other(rt: HostRuntime) -> Result<(), Fail> {
-    let alloc = rt.alloc();
-    assert_eq!(rt;
-        told(
-            alloc,
-            assign(alloc, &plan_of_nested_crossfades(alloc, 1000)?)
-        )?
-        .as_str(),
-        nested_down(alloc, 1000)?.as_str()
-    );
+    let clocks = nested_crossfades(rt.alloc(), 1000)?;
+    let wanted = nested_down(rt.alloc(), 1000)?;
+    assert_eq!(rt; clocks.as_str(), wanted.as_str());
     Ok(())
 }

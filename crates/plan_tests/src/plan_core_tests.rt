@@ -4,6 +4,7 @@ ghost use Rattle.std.specs.Prelude.{◌≡◌, []};
 use liq_base::Kind;
 use plan_core::{Items, Node, Op, Plan, PlanFault};
 use std::alloc::Global;
+use std::process::Abort;
 use std::test::Fail;
 
 fn blank(alloc: Global) -> Node
@@ -29,16 +30,20 @@ fn empty(alloc: Global) -> Plan
     }
 }
 
+fn push_4096(rt: &impl Abort, alloc: Global, plan: &mut Plan) -> Result<(), PlanFault> {
+    for number in 0..4096u32 {
+        let pushed = plan.push_node(blank(alloc))?;
+        assert_eq!(rt; pushed, number);
+    }
+    Ok(())
+}
+
 #[test]
 fn the_4097th_node_is_refused(rt: HostRuntime) -> Result<(), Fail> {
     let mut plan = empty(rt.alloc());
-    for number in 0..4096u32 {
-        assert_eq!(rt; plan.push_node(blank(rt.alloc()))?, number);
-    }
-    assert_eq!(rt;
-        plan.push_node(blank(rt.alloc())).err(),
-        Some(PlanFault::TooManySources)
-    );
+    push_4096(&rt, rt.alloc(), &mut plan)?;
+    let refused = plan.push_node(blank(rt.alloc())).err();
+    assert_eq!(rt; refused, Some(PlanFault::TooManySources));
     assert_eq!(rt; plan.nodes.len(), 4096);
     assert_eq!(rt; plan.rate, 44_100);
     Ok(())

@@ -49,12 +49,12 @@ fn made(alloc: Global, name: &str, beside: &str) -> Result<Ty, Memory> {
 // Type variables 0 and 1, number variables 2 and 3, kind variables 0 and 1.
 fn six_variables(alloc: Global) -> Result<Subst, Memory> {
     let mut subst = Subst::new(alloc)?;
-    subst.fresh(false)?;
-    subst.fresh(false)?;
-    subst.fresh(true)?;
-    subst.fresh(true)?;
-    subst.fresh_kind()?;
-    subst.fresh_kind()?;
+    for number in [false, false, true, true] {
+        subst.fresh(number)?;
+    }
+    for _ in 0..2 {
+        subst.fresh_kind()?;
+    }
     Ok(subst)
 }
 
@@ -173,7 +173,33 @@ fn lists_and_tuples_that_can_be_made_equal_and_not(rt: HostRuntime) -> Result<()
     check_rows(&rt, rt.alloc(), &rows)
 }
 
-// Each variable is bound to what `make` makes of the one before.
+fn number_of(ty: &Ty) -> u64 {
+    match ty {
+        Ty::Var(number) => *number,
+        _ => 0,
+    }
+}
+
+// A new variable that is bound to the list, or the pair, of the one below.
+fn storey(
+    rt: &impl Abort,
+    alloc: Global,
+    subst: &mut Subst,
+    below: u64,
+    double: bool,
+) -> Result<Ty, Memory> {
+    let built = if double {
+        pair(alloc, Ty::Var(below), Ty::Var(below))?
+    } else {
+        list(alloc, Ty::Var(below))?
+    };
+    let top = subst.fresh(false)?;
+    let yes = unified(rt, alloc, subst, &top, &built)?;
+    assert!(rt; yes);
+    Ok(top)
+}
+
+// Each variable is bound to what is made of the one below.
 fn tower(
     rt: &impl Abort,
     alloc: Global,
@@ -182,65 +208,72 @@ fn tower(
     double: bool,
 ) -> Result<Ty, Memory> {
     let mut top = subst.fresh(false)?;
-    let mut number = match top {
-        Ty::Var(number) => number,
-        _ => 0,
-    };
     for _level in 0..height {
-        let built = if double {
-            pair(alloc, Ty::Var(number), Ty::Var(number))?
-        } else {
-            list(alloc, Ty::Var(number))?
-        };
-        top = subst.fresh(false)?;
-        number = match top {
-            Ty::Var(number) => number,
-            _ => 0,
-        };
-        let yes = unified(rt, alloc, subst, &top, &built)?;
-        assert!(rt; yes);
+        top = storey(rt, alloc, subst, number_of(&top), double)?;
     }
     Ok(top)
 }
 
-// Two such towers are made equal, and none can be built.
-fn check_towers(rt: &impl Abort, alloc: Global, height: u64, double: bool) -> Result<(), Fail> {
-    let mut subst = Subst::new(alloc)?;
-    let top = tower(rt, alloc, &mut subst, height, double)?;
-    let again = unified(rt, alloc, &mut subst, &top, &top)?;
+// Two types are made equal, and the first cannot be built.
+fn check_large(
+    rt: &impl Abort,
+    alloc: Global,
+    subst: &mut Subst,
+    ty: &Ty,
+    other: &Ty,
+) -> Result<(), Memory> {
+    let again = unified(rt, alloc, subst, ty, ty)?;
     assert!(rt; again);
-    let other = tower(rt, alloc, &mut subst, height, double)?;
-    let both = unified(rt, alloc, &mut subst, &top, &other)?;
+    let both = unified(rt, alloc, subst, ty, other)?;
     assert!(rt; both);
-    let covered = subst.covers(alloc, &top)?;
+    let covered = subst.covers(alloc, ty)?;
     assert!(rt; covered);
     assert!(rt;
-        resolved(alloc, &subst, &top).is_err(),
+        resolved(alloc, subst, ty).is_err(),
         "too large to be built"
     );
     Ok(())
 }
 
+// Two such towers are made equal, and none can be built.
+fn check_towers(rt: &impl Abort, alloc: Global, height: u64, double: bool) -> Result<(), Memory> {
+    let mut subst = Subst::new(alloc)?;
+    let top = tower(rt, alloc, &mut subst, height, double)?;
+    let other = tower(rt, alloc, &mut subst, height, double)?;
+    check_large(rt, alloc, &mut subst, &top, &other)
+}
+
 #[test]
 fn a_chain_of_170000_lists(rt: HostRuntime) -> Result<(), Fail> {
-    check_towers(&rt, rt.alloc(), 170_000, false)
+    Ok(check_towers(&rt, rt.alloc(), 170_000, false)?)
 }
 
 #[test]
 fn a_type_that_doubles_thirty_times(rt: HostRuntime) -> Result<(), Fail> {
-    check_towers(&rt, rt.alloc(), 30, true)
+    Ok(check_towers(&rt, rt.alloc(), 30, true)?)
+}
+
+fn nested(alloc: Global, height: u64) -> Result<Ty, Memory> {
+    let mut deep = Ty::Int;
+    for _level in 0..height {
+        deep = list(alloc, deep)?;
+    }
+    Ok(deep)
 }
 
 #[test]
-fn a_thousand_levels_are_bound_and_no_more(rt: HostRuntime) -> Result<(), Fail> {
+fn a_thousand_levels_are_bound(rt: HostRuntime) -> Result<(), Fail> {
+    let deep = nested(rt.alloc(), 999)?;
     let mut subst = six_variables(rt.alloc())?;
-    let mut deep = Ty::Int;
-    for _level in 0..999 {
-        deep = list(rt.alloc(), deep)?;
-    }
     let yes = unified(&rt, rt.alloc(), &mut subst, &Ty::Var(0), &deep)?;
     assert!(rt; yes);
-    deep = list(rt.alloc(), deep)?;
+    Ok(())
+}
+
+#[test]
+fn more_than_a_thousand_levels_are_not(rt: HostRuntime) -> Result<(), Fail> {
+    let deep = nested(rt.alloc(), 1000)?;
+    let mut subst = six_variables(rt.alloc())?;
     let refused = unified(&rt, rt.alloc(), &mut subst, &Ty::Var(1), &deep);
     assert_eq!(rt; refused, Err(Memory));
     assert!(rt; subst.bound(1).is_none());
