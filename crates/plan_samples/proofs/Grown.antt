@@ -1,17 +1,17 @@
--- Plans of mono nodes, one node more.
+-- Plans of stereo nodes, one node more.
 use Rattle.std.proofs.Common.{◌≡◌, ℕ, ◌+◌, ◌<◌, ◌≤◌, zero, suc, Some, List, [], ◌∷◌, ◌++◌, length, map, sym, refl, ap, subst, inl, inr, arith, slice_get, slice_index, max, take, All}
 use Rattle.std.specs.Prelude.{◌⊎◌}
 use Rattle.std.proofs.lemmas.List.Elements.{All-nil, All-cons}
 use Rattle.std.proofs.Math.Nat.{max-zero}
 use Rattle.liq_base.specs.declared.limits.TheConstants.{MAX_CHILDREN, MAX_CROSSFADES}
 use Rattle.liq_base.specs.declared.memory.Kind.{Kind}
-use Rattle.liq_base.specs.declared.memory.Kind.TheVariants.{Mono}
+use Rattle.liq_base.specs.declared.memory.Kind.TheVariants.{Stereo}
 use Rattle.plan_core.specs.declared.node.Node.{Node}
 use Rattle.plan_core.specs.declared.node.Op.{Op}
 use Rattle.plan_core.specs.declared.node.Op.TheVariants.{Crossfade}
 use Rattle.plan_core.specs.declared.plan.Plan.{Plan}
 use Rattle.plan_core.specs.Plans.{IsNodeOver, HasChildren, HasKind, IsInRange, greatest, crossfade_counts, crossfades_from, with_node, IsWellFormed}
-use Rattle.plan_samples.specs.Monos.{blank, mono_node, IsMono}
+use Rattle.plan_samples.specs.Stereos.{blank, stereo_node, IsStereo}
 
 one_more : {A : Type 0} (xs : List A) (y : A) (i : ℕ) (x : A) → slice_get (xs ++ y ∷ []) i ≡ Some x → (slice_get xs i ≡ Some x) ⊎ (y ≡ x)
 one_more [] y zero x is = let same : y ≡ x = cc in inr same
@@ -19,27 +19,27 @@ one_more [] y (suc i) x is = cc
 one_more (z ∷ zs) y zero x is = inl is
 one_more (z ∷ zs) y (suc i) x is = one_more zs y i x is
 
--- a mono node may stand over a mono plan
-pub mono_over : (plan : Plan) (op : Op) (children : List ℕ) → IsMono plan → All (λ child. child < length plan.nodes) children → length children ≤ MAX_CHILDREN → HasChildren op (length children) → HasKind op Mono Mono → IsInRange op
-    → crossfades_from plan.nodes (mono_node op children) ≤ MAX_CROSSFADES → IsNodeOver plan.nodes (mono_node op children)
-mono_over plan op children m below few count kind range crossfades = record {
+-- a stereo node may stand over a stereo plan
+pub stereo_over : (plan : Plan) (op : Op) (children : List ℕ) → IsStereo plan → All (λ child. child < length plan.nodes) children → length children ≤ MAX_CHILDREN → HasChildren op (length children) → HasKind op Stereo Stereo → IsInRange op
+    → crossfades_from plan.nodes (stereo_node op children) ≤ MAX_CROSSFADES → IsNodeOver plan.nodes (stereo_node op children)
+stereo_over plan op children m below few count kind range crossfades = record {
   children = below;
   few = few;
   number = count;
-  kinds = λ number child among there. (let K : Kind → Type 0 = λ k. HasKind op k Mono in subst K (sym (m.mono number child there)) kind);
+  kinds = λ number child among there. (let K : Kind → Type 0 = λ k. HasKind op k Stereo in subst K (sym (m.stereo number child there)) kind);
   range = range;
   crossfades = crossfades;
 }
 
--- and the plan stays mono, where the node holds these children
-pub mono_more : (plan new : Plan) (op : Op) (children held : List ℕ) → held ≡ children → IsMono plan → IsNodeOver plan.nodes (mono_node op children) → new ≡ with_node plan (mono_node op held)
-    → (IsNodeOver plan.nodes (mono_node op held) → IsWellFormed new) → IsMono new
-mono_more plan new op children held same m over is well = record {
-  well_formed = (let N : List ℕ → Type 0 = λ cs. IsNodeOver plan.nodes (mono_node op cs) in well (subst N (sym same) over));
-  mono = λ i one there. (let P : List Node → Type 0 = λ ns. slice_get ns i ≡ Some one in
-      let at : (slice_get plan.nodes i ≡ Some one) ⊎ (mono_node op held ≡ one) = one_more plan.nodes (mono_node op held) i one (subst P (ap (λ (p : Plan). p.nodes) is) there) in
+-- and the plan stays stereo, where the node holds these children
+pub stereo_more : (plan new : Plan) (op : Op) (children held : List ℕ) → held ≡ children → IsStereo plan → IsNodeOver plan.nodes (stereo_node op children) → new ≡ with_node plan (stereo_node op held)
+    → (IsNodeOver plan.nodes (stereo_node op held) → IsWellFormed new) → IsStereo new
+stereo_more plan new op children held same m over is well = record {
+  well_formed = (let N : List ℕ → Type 0 = λ cs. IsNodeOver plan.nodes (stereo_node op cs) in well (subst N (sym same) over));
+  stereo = λ i one there. (let P : List Node → Type 0 = λ ns. slice_get ns i ≡ Some one in
+      let at : (slice_get plan.nodes i ≡ Some one) ⊎ (stereo_node op held ≡ one) = one_more plan.nodes (stereo_node op held) i one (subst P (ap (λ (p : Plan). p.nodes) is) there) in
       elim at [
-        | inl old ↦ m.mono i one old
+        | inl old ↦ m.stereo i one old
         | inr same ↦ ap (λ (x : Node). x.kind) (sym same)
       ]);
 }
@@ -49,7 +49,7 @@ abbrev pub Rests : Type 0
 Rests = (nodes : List Node) (i : ℕ) (node : Node) → slice_get nodes i ≡ Some node → slice_index (crossfade_counts nodes) i ≡ crossfades_from (take i nodes) node
 
 -- a crossfade of a blank has one crossfade
-pub one_faded : Rests → (plan : Plan) (child : ℕ) (children : List ℕ) (overlap : ℕ) → children ≡ child ∷ [] → slice_get plan.nodes child ≡ Some blank → crossfades_from plan.nodes (mono_node (Crossfade overlap) children) ≤ MAX_CROSSFADES
+pub one_faded : Rests → (plan : Plan) (child : ℕ) (children : List ℕ) (overlap : ℕ) → children ≡ child ∷ [] → slice_get plan.nodes child ≡ Some blank → crossfades_from plan.nodes (stereo_node (Crossfade overlap) children) ≤ MAX_CROSSFADES
 one_faded rests plan child children overlap is there =
     let f : ℕ → ℕ = λ c. slice_index (crossfade_counts plan.nodes) c in
     let rest : f child ≡ crossfades_from (take child plan.nodes) blank = rests plan.nodes child blank there in

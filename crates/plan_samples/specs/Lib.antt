@@ -1,1 +1,1 @@
-pub mod Monos
+pub mod Stereos

@@ -1,8 +1,8 @@
-// Drafts that grow by a mono node.
+// Drafts that grow by a stereo node.
 ghost use Rattle.std.specs.Prelude.{◌≡◌, ◌<◌, ◌≤◌, ◌+◌, ◌∷◌, [], Some, All, length, slice_get, IfOk, OnOk};
 ghost use Rattle.liq_base.specs.declared.limits.TheConstants.{MAX_CHILDREN, MAX_CROSSFADES};
 ghost use Rattle.plan_core.specs.Plans.{crossfades_from, own_crossfades, with_node, HasChildren, HasKind, IsInRange, IsNoReader};
-ghost use Rattle.plan_samples.specs.Monos.{blank, mono_node, IsMono};
+ghost use Rattle.plan_samples.specs.Stereos.{blank, stereo_node, IsStereo};
 
 use fixed_text::Decimal;
 use liq_base::{Kind, Memory, Text};
@@ -14,8 +14,8 @@ use std::alloc::Global;
 
 // Adds a blank, and answers its number.
 pub(crate) fn push_blank(alloc: Global, draft: &mut Draft) -> Result<u32, PlanFault>
-    requires { IsMono draft.old }
-    ensures mono { OnOk result (IsMono draft.new) }
+    requires { IsStereo draft.old }
+    ensures stereo { OnOk result (IsStereo draft.new) }
     ensures number { IfOk result (λ number. number ≡ length draft.old.nodes) }
     ensures size { OnOk result (length draft.new.nodes ≡ length draft.old.nodes + 1) }
     ensures there { IfOk result (λ number. slice_get draft.new.nodes number ≡ Some blank) }
@@ -26,9 +26,9 @@ pub(crate) fn push_blank(alloc: Global, draft: &mut Draft) -> Result<u32, PlanFa
 
 // Adds a node that amplifies this one by 1.
 pub(crate) fn push_amplified(alloc: Global, draft: &mut Draft, child: u32) -> Result<(), PlanFault>
-    requires mono { IsMono draft.old }
+    requires stereo { IsStereo draft.old }
     requires child { child < length draft.old.nodes }
-    ensures mono { OnOk result (IsMono draft.new) }
+    ensures stereo { OnOk result (IsStereo draft.new) }
     ensures size { OnOk result (length draft.new.nodes ≡ length draft.old.nodes + 1) }
 {
     let factor = Decimal {
@@ -45,9 +45,9 @@ pub(crate) fn push_clock(
     id: Text,
     child: u32,
 ) -> Result<(), PlanFault>
-    requires mono { IsMono draft.old }
+    requires stereo { IsStereo draft.old }
     requires child { child < length draft.old.nodes }
-    ensures mono { OnOk result (IsMono draft.new) }
+    ensures stereo { OnOk result (IsStereo draft.new) }
     ensures size { OnOk result (length draft.new.nodes ≡ length draft.old.nodes + 1) }
 {
     push_plain(draft, Op::Clock(id), one(alloc, child)?)?;
@@ -56,14 +56,14 @@ pub(crate) fn push_clock(
 
 // Adds a crossfade of a blank, and answers its number.
 pub(crate) fn push_crossfade(alloc: Global, draft: &mut Draft, child: u32) -> Result<u32, PlanFault>
-    requires mono { IsMono draft.old }
+    requires stereo { IsStereo draft.old }
     requires child { slice_get draft.old.nodes child ≡ Some blank }
-    ensures mono { OnOk result (IsMono draft.new) }
+    ensures stereo { OnOk result (IsStereo draft.new) }
     ensures number { IfOk result (λ number. number ≡ length draft.old.nodes) }
     ensures size { OnOk result (length draft.new.nodes ≡ length draft.old.nodes + 1) }
 {
     crossfades_rest_on_nodes_below();
-    let number = push_mono(draft, Op::Crossfade { overlap: 22 }, one(alloc, child)?)?;
+    let number = push_stereo(draft, Op::Crossfade { overlap: 22 }, one(alloc, child)?)?;
     Ok(number)
 }
 
@@ -74,10 +74,10 @@ pub(crate) fn push_sum(
     first: u32,
     second: u32,
 ) -> Result<(), PlanFault>
-    requires mono { IsMono draft.old }
+    requires stereo { IsStereo draft.old }
     requires first { first < length draft.old.nodes }
     requires second { second < length draft.old.nodes }
-    ensures mono { OnOk result (IsMono draft.new) }
+    ensures stereo { OnOk result (IsStereo draft.new) }
     ensures size { OnOk result (length draft.new.nodes ≡ length draft.old.nodes + 1) }
 {
     push_plain(
@@ -88,44 +88,44 @@ pub(crate) fn push_sum(
     Ok(())
 }
 
-// Adds a mono node, and answers its number.
-fn push_mono(draft: &mut Draft, op: Op, children: Vec<u32>) -> Result<u32, PlanFault>
-    requires mono { IsMono draft.old }
+// Adds a stereo node, and answers its number.
+fn push_stereo(draft: &mut Draft, op: Op, children: Vec<u32>) -> Result<u32, PlanFault>
+    requires stereo { IsStereo draft.old }
     requires below { All (λ child. child < length draft.old.nodes) children.items }
     requires few { length children.items ≤ MAX_CHILDREN }
     requires count { HasChildren op (length children.items) }
-    requires kind { HasKind op Kind.Mono Kind.Mono }
+    requires kind { HasKind op Kind.Stereo Kind.Stereo }
     requires range { IsInRange op }
     requires reader { IsNoReader op }
-    requires crossfades { crossfades_from draft.old.nodes (mono_node op children.items) ≤ MAX_CROSSFADES }
-    ensures mono { OnOk result (IsMono draft.new) }
-    ensures added { OnOk result (draft.new ≡ with_node draft.old (mono_node op children.items)) }
+    requires crossfades { crossfades_from draft.old.nodes (stereo_node op children.items) ≤ MAX_CROSSFADES }
+    ensures stereo { OnOk result (IsStereo draft.new) }
+    ensures added { OnOk result (draft.new ≡ with_node draft.old (stereo_node op children.items)) }
     ensures number { IfOk result (λ number. number ≡ length draft.old.nodes) }
 {
     let number = draft.push_node(Node {
         op,
-        kind: Kind::Mono,
+        kind: Kind::Stereo,
         children: Items::from_vec(children),
     })?;
     Ok(number)
 }
 
-// Adds a mono node that is no crossfade, and answers its number.
+// Adds a stereo node that is no crossfade, and answers its number.
 fn push_plain(draft: &mut Draft, op: Op, children: Vec<u32>) -> Result<u32, PlanFault>
-    requires mono { IsMono draft.old }
+    requires stereo { IsStereo draft.old }
     requires below { All (λ child. child < length draft.old.nodes) children.items }
     requires few { length children.items ≤ MAX_CHILDREN }
     requires count { HasChildren op (length children.items) }
-    requires kind { HasKind op Kind.Mono Kind.Mono }
+    requires kind { HasKind op Kind.Stereo Kind.Stereo }
     requires range { IsInRange op }
     requires reader { IsNoReader op }
     requires plain { own_crossfades op ≡ 0 }
-    ensures mono { OnOk result (IsMono draft.new) }
-    ensures added { OnOk result (draft.new ≡ with_node draft.old (mono_node op children.items)) }
+    ensures stereo { OnOk result (IsStereo draft.new) }
+    ensures added { OnOk result (draft.new ≡ with_node draft.old (stereo_node op children.items)) }
     ensures number { IfOk result (λ number. number ≡ length draft.old.nodes) }
 {
     only_crossfades_add_crossfades();
-    let number = push_mono(draft, op, children)?;
+    let number = push_stereo(draft, op, children)?;
     Ok(number)
 }
 

@@ -1,16 +1,17 @@
 // Plans of many nodes.
-ghost use Rattle.std.specs.Prelude.{◌≡◌, ◌<◌, ◌+◌, ◌*◌, length, IfOk, OnOk};
+ghost use Rattle.std.specs.Prelude.{◌≡◌, ◌<◌, ◌+◌, ◌*◌, ◌++◌, ◌∷◌, [], false, length, IfOk, OnOk};
+ghost use Rattle.plan_core.specs.declared.sink.SinkPlan.TheVariants.{Output};
 ghost use Rattle.plan_core.specs.Plans.{IsWellFormed};
-ghost use Rattle.plan_samples.specs.Monos.{IsMono};
+ghost use Rattle.plan_samples.specs.Stereos.{IsStereo};
 
 use crate::nodes::{push_amplified, push_blank, push_clock, push_crossfade, push_sum};
 use liq_base::{Memory, Text};
 use plan_core::{Draft, Plan, PlanFault, an_empty_plan_is_well_formed};
 use std::alloc::Global;
 
-/// A mono plan of so many nodes: a blank, and nodes that amplify it by 1. With `chained` each stands over the one before
-/// it, and otherwise all stand over the blank. An output writes the blank. `TooManySources` comes for more than 4096
-/// nodes.
+/// A stereo plan of so many nodes: a blank, and nodes that amplify it by 1. With `chained` each stands over the one
+/// before it, and otherwise all stand over the blank. An output writes the blank. `TooManySources` comes for more than
+/// 4096 nodes.
 pub fn plan_over(alloc: Global, count: u32, chained: bool) -> Result<Plan, PlanFault>
     ensures well_formed { IfOk result IsWellFormed }
 {
@@ -24,8 +25,8 @@ pub fn plan_over(alloc: Global, count: u32, chained: bool) -> Result<Plan, PlanF
     Ok(draft.into_plan())
 }
 
-/// A mono plan of so many main clocks, `c0` to `cN`: node 2n is a blank, which node 2n + 1 puts into the clock `cn`. An
-/// output writes each clock, the last one first. `TooManySources` comes for more than 2048 clocks.
+/// A stereo plan of so many main clocks, `c0` to `cN`: node 2n is a blank, which node 2n + 1 puts into the clock `cn`.
+/// An output writes each clock, the last one first. `TooManySources` comes for more than 2048 clocks.
 pub fn plan_of_clocks(alloc: Global, count: u32) -> Result<Plan, PlanFault>
     ensures well_formed { IfOk result IsWellFormed }
 {
@@ -37,9 +38,9 @@ pub fn plan_of_clocks(alloc: Global, count: u32) -> Result<Plan, PlanFault>
     Ok(draft.into_plan())
 }
 
-/// A mono plan of so many crossfades, at least one, each in the sub-clock of the one before it: nodes 0 and 1 are a blank
-/// and its crossfade, which an output writes, and nodes 3n - 1, 3n and 3n + 1 are another blank, its crossfade, and the
-/// sum of that crossfade and of the blank before, which nobody uses. `TooManySources` comes for more than 1365
+/// A stereo plan of so many crossfades, at least one, each in the sub-clock of the one before it: nodes 0 and 1 are a
+/// blank and its crossfade, which an output writes, and nodes 3n - 1, 3n and 3n + 1 are another blank, its crossfade,
+/// and the sum of that crossfade and of the blank before, which nobody uses. `TooManySources` comes for more than 1365
 /// crossfades.
 pub fn plan_of_nested_crossfades(alloc: Global, count: u32) -> Result<Plan, PlanFault>
     ensures well_formed { IfOk result IsWellFormed }
@@ -55,20 +56,22 @@ pub fn plan_of_nested_crossfades(alloc: Global, count: u32) -> Result<Plan, Plan
 }
 
 // A draft without nodes, at 44100 samples a second in ticks of 1764.
-fn begun(alloc: Global) -> Draft
-    ensures mono { IsMono result }
-    ensures size { length result.nodes ≡ 0 }
+pub(crate) fn begun(alloc: Global) -> Draft
+    ensures stereo { IsStereo result }
+    ensures nodes { result.nodes ≡ [] }
+    ensures sinks { result.sinks ≡ [] }
 {
     an_empty_plan_is_well_formed();
     Draft::new(alloc, 44_100, 1764)
 }
 
 // An output of this node, without a name.
-fn write(alloc: Global, draft: &mut Draft, node: u32) -> Result<(), Memory>
+pub(crate) fn write(alloc: Global, draft: &mut Draft, node: u32) -> Result<(), Memory>
     requires well_formed { IsWellFormed draft.old }
     requires node { node < length draft.old.nodes }
     ensures well_formed { OnOk result (IsWellFormed draft.new) }
     ensures nodes { OnOk result (draft.new.nodes ≡ draft.old.nodes) }
+    ensures sinks { OnOk result (draft.new.sinks ≡ draft.old.sinks ++ Output [] node false ∷ []) }
 {
     draft.push_output(Text::from_string(String::new(alloc)), node, false)?;
     Ok(())
@@ -76,8 +79,8 @@ fn write(alloc: Global, draft: &mut Draft, node: u32) -> Result<(), Memory>
 
 // Adds a blank, and that blank under the clock `cN` of this number.
 fn push_clocked(alloc: Global, draft: &mut Draft, number: u32) -> Result<(), PlanFault>
-    requires { IsMono draft.old }
-    ensures mono { OnOk result (IsMono draft.new) }
+    requires { IsStereo draft.old }
+    ensures stereo { OnOk result (IsStereo draft.new) }
     ensures size { OnOk result (length draft.new.nodes ≡ length draft.old.nodes + 2) }
 {
     let blank = push_blank(alloc, draft)?;
@@ -103,9 +106,9 @@ fn write_back(alloc: Global, draft: &mut Draft, count: u32) -> Result<(), Memory
 
 // Adds a blank, a crossfade of it, and the sum of that crossfade and of this node, which nobody uses. Answers the blank.
 fn push_nested(alloc: Global, draft: &mut Draft, outer: u32) -> Result<u32, PlanFault>
-    requires mono { IsMono draft.old }
+    requires stereo { IsStereo draft.old }
     requires outer { outer < length draft.old.nodes }
-    ensures mono { OnOk result (IsMono draft.new) }
+    ensures stereo { OnOk result (IsStereo draft.new) }
     ensures inner { IfOk result (λ inner. inner < length draft.new.nodes) }
     ensures size { OnOk result (length draft.new.nodes ≡ length draft.old.nodes + 3) }
 {

@@ -1,0 +1,33 @@
+-- Plans of stereo nodes.
+use Rattle.std.specs.Prelude.{◌≡◌, ℕ, Some, List, [], slice_get}
+use Rattle.liq_base.specs.declared.memory.Kind.TheVariants.{Stereo}
+use Rattle.plan_core.specs.declared.node.Node.{Node}
+use Rattle.plan_core.specs.declared.node.Op.{Op}
+use Rattle.plan_core.specs.declared.node.Op.TheVariants.{Blank}
+use Rattle.plan_core.specs.declared.plan.Plan.{Plan}
+use Rattle.plan_core.specs.Plans.{HasChildren, HasKind, IsInRange, IsNodeOver, IsNoReader, IsWellFormed}
+
+-- a stereo node over these children
+abbrev pub stereo_node : Op → (children : List ℕ) → Node
+stereo_node op children = record { op = op; kind = Stereo; children = children }
+
+-- an endless blank
+abbrev pub blank : Node
+blank = stereo_node (Blank 0) []
+
+-- a well-formed plan whose nodes are all stereo
+pub record IsStereo (plan : Plan) : Type 0 where
+  pub well_formed : IsWellFormed plan
+  pub stereo : (i : ℕ) (node : Node) → slice_get plan.nodes i ≡ Some node → node.kind ≡ Stereo
+
+-- a stereo node of this operator may have so many stereo children
+pub record IsSuited (op : Op) (children : ℕ) : Type 0 where
+  pub count : HasChildren op children
+  pub kind : HasKind op Stereo Stereo
+  pub range : IsInRange op
+  pub reader : IsNoReader op
+
+-- this node may be the next one of a plan
+pub record CanStand (plan : Plan) (node : Node) : Type 0 where
+  pub over : IsNodeOver plan.nodes node
+  pub reader : IsNoReader node.op

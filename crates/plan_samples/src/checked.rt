@@ -1,0 +1,129 @@
+// A plan that is made node by node, of which nothing has to be known before.
+ghost use Rattle.std.specs.Prelude.{◌≡◌, ◌<◌, ◌∷◌, [], length, All, IfSome, OnSome, IsNone, true, false};
+ghost use Rattle.plan_core.specs.declared.sink.SinkPlan.TheVariants.{Output};
+ghost use Rattle.plan_core.specs.Plans.{IsWellFormed, with_node};
+ghost use Rattle.plan_samples.specs.Stereos.{stereo_node, CanStand, IsSuited, IsStereo};
+
+use crate::plans::{begun, write};
+use liq_base::Kind;
+use liq_base::limits::{MAX_CHILDREN, MAX_CROSSFADES, MAX_OVERLAP};
+use plan_core::{Draft, Items, Node, Op, Plan};
+use std::alloc::Global;
+use std::marker::Model;
+
+/// A plan of stereo nodes that is being made, at 44100 samples a second in ticks of 1764. Each node is looked at before
+/// it is added, so that callers owe nothing. Contracts see the plan.
+#[derive(Debug, Drop)]
+pub struct CheckedDraft {
+    draft: Draft,
+}
+
+impl Model for CheckedDraft {
+    ghost use Rattle.std.specs.Prelude.{◌≡◌, []};
+    ghost use Rattle.std.specs.Coded.{codes};
+    ghost use Rattle.time_pred.specs.Stored.{predicate_code};
+    ghost use Rattle.plan_core.specs.declared.plan.Plan.{Plan};
+    ghost use Rattle.plan_samples.specs.Stereos.{IsStereo};
+
+    ghost Value = { Plan };
+
+    ghost coded = { Prim.hlevel (codes, predicate_code) };
+
+    ghost view = { λ d. d.draft };
+
+    ghost invariant = { λ d. IsStereo d.draft × (d.draft.sinks ≡ []) };
+}
+
+impl CheckedDraft {
+    /// No nodes.
+    pub fn new(alloc: Global) -> CheckedDraft
+        ensures { result.nodes ≡ [] }
+    {
+        CheckedDraft {
+            draft: begun(alloc),
+        }
+    }
+
+    /// Adds a node over these, and answers its number. `None` comes where the node may not stand over these, where 4096
+    /// nodes are there, or where memory is refused; then the plan is as it was.
+    pub fn push(&mut self, op: Op, children: Vec<u32>) -> Option<u32>
+        ensures number { IfSome result (λ number. number ≡ length self.old.nodes) }
+        ensures added { OnSome result (self.new ≡ with_node self.old (stereo_node op children.items)) }
+        ensures unchanged { IsNone result → self.new ≡ self.old }
+    {
+        let node = Node {
+            op,
+            kind: Kind::Stereo,
+            children: Items::from_vec(children),
+        };
+        push_fitting(&mut self.draft, node)
+    }
+
+    /// The plan, with an output of this node, without a name. `None` comes where the node is not there, or where memory
+    /// is refused.
+    pub fn into_plan(self, alloc: Global, node: u32) -> Option<Plan>
+        ensures well_formed { IfSome result IsWellFormed }
+        ensures sinks { IfSome result (λ plan. plan.sinks ≡ Output [] node false ∷ []) }
+    {
+        let mut draft = self.draft;
+        if node as usize >= draft.plan().nodes.len() {
+            return None;
+        }
+        write(alloc, &mut draft, node).ok()?;
+        Some(draft.into_plan())
+    }
+}
+
+// Adds this node if it may stand over the others, and answers its number.
+fn push_fitting(draft: &mut Draft, node: Node) -> Option<u32>
+    requires stereo { IsStereo draft.old }
+    requires kind { node.kind ≡ Kind.Stereo }
+    ensures stereo { IsStereo draft.new }
+    ensures sinks { draft.new.sinks ≡ draft.old.sinks }
+    ensures number { IfSome result (λ number. number ≡ length draft.old.nodes) }
+    ensures added { OnSome result (draft.new ≡ with_node draft.old node) }
+    ensures unchanged { IsNone result → draft.new ≡ draft.old }
+{
+    if !fits(draft, &node) {
+        return None;
+    }
+    draft.push_node(node).ok()
+}
+
+// Whether this stereo node may stand over those of a plan.
+fn fits(draft: &Draft, node: &Node) -> bool
+    requires stereo { IsStereo draft.now }
+    requires kind { node.now.kind ≡ Kind.Stereo }
+    ensures { result ≡ true → CanStand draft.now node.now }
+{
+    let children = node.children.as_slice();
+    if children.len() > MAX_CHILDREN as usize {
+        return false;
+    }
+    if !are_below(children, draft.plan().nodes.len()) {
+        return false;
+    }
+    suits(&node.op, children.len()) && draft.crossfades_from(node) <= MAX_CROSSFADES
+}
+
+// Whether all of these are below the count.
+fn are_below(numbers: &[u32], count: usize) -> bool
+    ensures { result ≡ true → All (λ number. number < count) numbers.now }
+{
+    numbers.iter().all(|number| (*number as usize) < count)
+}
+
+// Whether a stereo node of this operator may have so many stereo children.
+fn suits(op: &Op, children: usize) -> bool
+    ensures { result ≡ true → IsSuited op.now children }
+{
+    match op {
+        Op::Single(_) | Op::Playlist { .. } | Op::Blank { .. } | Op::Fail => children == 0,
+        Op::Square { pitch } => children == 0 && pitch.millionths > 0,
+        Op::Fallback { .. } | Op::Sequence | Op::Add { .. } => true,
+        Op::Switch { preds, .. } => children == preds.len(),
+        Op::Amplify { .. } | Op::Clock(_) => children == 1,
+        Op::Crossfade { overlap } => children == 1 && *overlap >= 1 && *overlap <= MAX_OVERLAP,
+        Op::Mean | Op::Stereo | Op::Buffer(_) => false,
+    }
+}
