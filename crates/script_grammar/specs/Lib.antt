@@ -1,7 +1,6 @@
 pub mod Tree
 pub mod Spelling
 pub mod View
-pub mod Pieces
 pub mod Bare
 pub mod Kinds
 pub mod Read

@@ -1,10 +1,10 @@
 // A tree built by hand, and its tokens.
 use liq_base::{Memory, Text};
-use script_grammar::spell;
 use script_grammar::tree::{
     self, And, Arg, Call, Compare, Expr, Full, Literal, Not, Product, Script, Stmt, StmtPart, Sum,
 };
 use script_lex::{Symbol, TokenKind};
+use script_spelling::spell;
 use std::alloc::Global;
 use std::test::Fail;
 

@@ -1,8 +1,8 @@
 // Texts that are scripts or not, each by the grammar of `docs/grammar.md`.
-use script_grammar::spell;
 use script_grammar::tree::{Script, StmtPart};
 use script_lex::{Token, lex};
 use script_parse::{ParseFault, parse};
+use script_spelling::spell;
 use std::alloc::{AllocError, Global};
 use std::fmt::Write;
 use std::process::Abort;

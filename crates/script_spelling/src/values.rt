@@ -4,15 +4,15 @@ ghost use Rattle.script_lex.specs.declared.token.TokenKind.TheVariants.{Keyword 
 ghost use Rattle.script_lex.specs.declared.token.Keyword.TheVariants as word;
 ghost use Rattle.script_lex.specs.declared.token.Symbol.TheVariants as sign;
 ghost use Rattle.script_grammar.specs.Spelling.{spell, behind, literal_token, truth_token, op_token, added_token, multiplied_token, label, wav_tokens, option_name};
-ghost use Rattle.script_grammar.specs.Pieces.{each, each_behind, between_commas, in_brackets};
+ghost use Rattle.script_spelling.specs.Pieces.{each, each_behind, between_commas, in_brackets};
 ghost use Rattle.script_grammar.specs.View.{listed, tuple_of, view_full, view_expr, view_and, view_not, view_compare, view_sum, view_added, view_product, view_multiplied, view_prim, view_call, view_arg, view_if};
 
-use crate::spell_predicate::{put_if, put_por};
-use crate::tree::{
+use crate::predicates::{put_if, put_por};
+use liq_base::{Memory, Text};
+use script_grammar::tree::{
     self, Added, And, Arg, Call, Compare, CompareOp, Compared, Expr, Full, If, Literal, Multiplied,
     Not, Product, Sum,
 };
-use liq_base::{Memory, Text};
 use script_lex::{Keyword, Symbol, TokenKind};
 use std::alloc::Global;
 

@@ -1,13 +1,13 @@
 // The tokens of statements and scripts.
 ghost use Rattle.std.specs.Prelude.{◌≡◌, ◌++◌, ◌∷◌, [], OnOk, IfOk, map};
 ghost use Rattle.script_grammar.specs.Spelling.{spell, spelling};
-ghost use Rattle.script_grammar.specs.Pieces.{each, between_commas, def_head, def_body};
+ghost use Rattle.script_spelling.specs.Pieces.{each, between_commas, def_head, def_body};
 ghost use Rattle.script_grammar.specs.View.{view_expr, view_bind, view_inner, view_param, view_def, view_part, view_stmt, view_script};
 
-use crate::spell_predicate::put_if;
-use crate::spell_value::{put_call, put_choice, put_expr, put_full};
-use crate::tree::{Bind, Def, Expr, Inner, Param, ParamForm, Script, Stmt, StmtPart};
+use crate::predicates::put_if;
+use crate::values::{put_call, put_choice, put_expr, put_full};
 use liq_base::{Memory, Text};
+use script_grammar::tree::{Bind, Def, Expr, Inner, Param, ParamForm, Script, Stmt, StmtPart};
 use script_lex::{Keyword, Symbol, TokenKind};
 use std::alloc::Global;
 

@@ -1,11 +1,11 @@
 // The tokens of a predicate.
 ghost use Rattle.std.specs.Prelude.{◌≡◌, ◌++◌, OnOk, map};
 ghost use Rattle.script_grammar.specs.Spelling.{spell, token_if};
-ghost use Rattle.script_grammar.specs.Pieces.{por_parts, pand_parts};
+ghost use Rattle.script_spelling.specs.Pieces.{por_parts, pand_parts};
 ghost use Rattle.script_grammar.specs.View.{view_por, view_pand, view_pnot, view_patom};
 
-use crate::predicate::{PAnd, PAtom, PNot, POr};
 use liq_base::Memory;
+use script_grammar::predicate::{PAnd, PAtom, PNot, POr};
 use script_lex::{Keyword, Symbol, TokenKind};
 
 // Appends a token that may be missing.
