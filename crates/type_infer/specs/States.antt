@@ -11,7 +11,7 @@ use Rattle.typing_rules.specs.declared.fault.TypeFault.{TypeFault}
 use Rattle.typing_rules.specs.declared.uses.Use.{Use}
 use Rattle.typing_rules.specs.Scoping.{meant, names}
 use Rattle.typing_rules.specs.Scripts.{Targets}
-use Rattle.type_schemes.specs.Holding.{IsHeldBy}
+use Rattle.type_schemes.specs.Holding.{HeldVariables, IsHeldBy}
 use Rattle.type_flow.specs.Environment.{Env, Known}
 use Rattle.type_flow.specs.Flow.{HasNoType, Infers}
 use Rattle.script_flow.specs.Defs.{HoldsBefore}
@@ -93,6 +93,10 @@ IsStepped targets part old new true = IsMore targets part old new
 IsStepped targets part old new false = IsNoMore targets part old
 
 -- ---- what is kept of a statement
+
+-- what the same names hold where more is bound
+abbrev pub IsRenewed : Table → HeldVariables → HeldVariables → Type 0
+IsRenewed now old new = (s : Table) (names : List Term) → Follows s now → IsHeldBy s names old → IsHeldBy now names new
 
 -- a binding at a token
 pub record IsValueKept (at : ℕ) (e : TypedExpr) (old new : Typing) : Type 0 where

@@ -1,5 +1,5 @@
 // The uses of a script that has a typing, or its first fault.
-ghost use Rattle.std.specs.Prelude.{◌≡◌, ◌≢◌, ◌<◌, map, Some, IfErr, IfOk};
+ghost use Rattle.std.specs.Prelude.{◌≡◌, ◌≢◌, ◌<◌, ◌≤◌, map, Some, IfErr, IfOk, OnOk};
 ghost use Rattle.name_scope.specs.Noted.{resolved};
 ghost use Rattle.script_grammar.specs.Placed.{IsPlaced};
 ghost use Rattle.script_grammar.specs.Tree.{none};
@@ -94,15 +94,35 @@ fn type_statements<'a>(
     }
     let targets = told_table(alloc, &front.all)?;
     let mut typing = start(alloc)?;
+    type_each(alloc, &mut typing, &targets, statements, front)?;
+    Ok(typing)
+}
+
+/// Types the statements without a fault of names one after another, up to the first clash.
+fn type_each<'a>(
+    alloc: Global,
+    typing: &mut Typing<'a>,
+    targets: &IndexMap<u32, Target>,
+    statements: &'a [Stmt],
+    front: &Front,
+) -> Result<(), TypeFault>
+    requires front { IsFront (map view_stmt statements.now) front.now.count (map resolved front.now.all.items) front.now.fault }
+    requires placed { IsPlaced 0 (listed (map view_stmt statements.now)) }
+    requires table { targets_of targets.now ≡ target_in (map resolved front.now.all.items) }
+    requires counted { front.now.count ≤ 4294967295 }
+    requires begun { IsAfter (target_in (map resolved front.now.all.items)) none typing.old }
+    ensures typed { OnOk result (IsTypedSo (target_in (map resolved front.now.all.items)) (first_of front.now.count (listed (map view_stmt statements.entry.now))) typing.new) }
+    ensures clash { IfErr result (λ f. IsClashIn (target_in (map resolved front.now.all.items)) (listed (map view_stmt statements.entry.now)) front.now.count f) }
+{
     for index in 0..front.count {
-        let typed = type_next(alloc, &mut typing, &targets, statements, front, index)?;
+        let typed = type_next(alloc, typing, targets, statements, front, index)?;
         if !typed {
             return Err(TypeFault::TypeClash {
                 stmt: index as u32 + 1,
             });
         }
     }
-    Ok(typing)
+    Ok(())
 }
 
 /// What names mean, by their tokens, with want of memory as a fault of the script.

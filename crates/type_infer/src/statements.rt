@@ -1,12 +1,12 @@
 // One statement more.
-ghost use Rattle.std.specs.Prelude.{◌≡◌, [], IfOk, OnOk};
+ghost use Rattle.std.specs.Prelude.{◌≡◌, ◌++◌, ◌∷◌, [], IfOk, OnOk};
 ghost use Rattle.script_grammar.specs.Tree.{BindPart, CallPart, DefPart, IfPart};
 ghost use Rattle.script_grammar.specs.View.{view_bind, view_call, view_def, view_if, view_part};
 ghost use Rattle.type_schemes.specs.Holding.{AreThere};
 ghost use Rattle.value_types.specs.Tables.{targets_of};
 ghost use Rattle.type_terms.specs.Table.{IsOver};
 ghost use Rattle.type_terms.specs.Term.{variable};
-ghost use Rattle.type_infer.specs.States.{IsDefKept, IsReady, IsRunKept, IsStepped, IsValueKept};
+ghost use Rattle.type_infer.specs.States.{IsDefKept, IsReady, IsRenewed, IsRunKept, IsStepped, IsValueKept};
 
 use crate::steps::{Step, TypedExpr, Typing};
 use crate::values::{choice_type, run_type, value_type};
@@ -16,7 +16,8 @@ use liq_base::Memory;
 use script_grammar::tree::{Bind, Call, Def, If, StmtPart};
 use std::alloc::Global;
 use std::mem;
-use type_terms::Ty;
+use type_schemes::Held;
+use type_terms::{Subst, Ty};
 use typing_rules::Target;
 use value_types::{Bindings, Known, KnownDef, Names, TypedName};
 
@@ -57,7 +58,25 @@ fn outside<'n, 'a>(
     }
 }
 
-/// Keeps a binding at a token, with the uses in its value.
+/// What the same names hold now that more is bound.
+fn renew(alloc: Global, held: &mut Held, subst: &Subst) -> Result<(), Memory>
+    requires there { AreThere subst.now held.old }
+    ensures { OnOk result (IsRenewed subst.now held.old held.new) }
+{
+    *held = held.renewed(alloc, subst)?;
+    Ok(())
+}
+
+/// Adds what a statement binds.
+fn bind(alloc: Global, before: &mut Bindings, known: Known) -> Result<(), Memory>
+    ensures { OnOk result (before.new ≡ before.old ++ known ∷ []) }
+{
+    let all = mem::replace(before, Bindings::new(alloc));
+    *before = all.with(known)?;
+    Ok(())
+}
+
+/// Keeps a binding at a token, with the uses in its value. Where memory runs out, some of it may have been kept.
 fn keep_value(
     alloc: Global,
     typing: &mut Typing<'_>,
@@ -68,38 +87,32 @@ fn keep_value(
     requires over { IsOver typing.old.subst (variable typed.var) }
     ensures { OnOk result (IsValueKept at typed typing.old typing.new) }
 {
-    let mut held = typing.held.renewed(alloc, &typing.subst)?;
-    held.add(alloc, &typing.subst, &Ty::Var(typed.var))?;
     let name = TypedName { at, var: typed.var };
-    let before = mem::replace(&mut typing.before, Bindings::new(alloc));
-    typing.before = before.with(Known::Value(name))?;
     typing.steps.push(Step::Bound(name, typed.uses))?;
-    typing.held = held;
-    Ok(())
+    renew(alloc, &mut typing.held, &typing.subst)?;
+    typing.held.add(alloc, &typing.subst, &Ty::Var(name.var))?;
+    bind(alloc, &mut typing.before, Known::Value(name))
 }
 
-/// Keeps the uses of what runs.
+/// Keeps the uses of what runs. Where memory runs out, some of it may have been kept.
 fn keep_run(alloc: Global, typing: &mut Typing<'_>, typed: TypedExpr) -> Result<(), Memory>
     requires there { AreThere typing.old.subst typing.old.held }
     ensures { OnOk result (IsRunKept typed typing.old typing.new) }
 {
-    let held = typing.held.renewed(alloc, &typing.subst)?;
     typing.steps.push(Step::Ran(typed.uses))?;
-    typing.held = held;
-    Ok(())
+    renew(alloc, &mut typing.held, &typing.subst)
 }
 
-/// Keeps a def.
+/// Keeps a def. Where memory runs out, some of it may have been kept.
 fn keep_def<'a>(alloc: Global, typing: &mut Typing<'a>, def: TypedDef<'a>) -> Result<(), Memory>
     ensures { OnOk result (IsDefKept def.entry typing.old typing.new) }
 {
     let place = typing.defs.len();
-    let before = mem::replace(&mut typing.before, Bindings::new(alloc));
-    typing.before = before.with(Known::Function(place))?;
+    let TypedDef { known, held } = def;
+    typing.held = held;
+    typing.defs.push(known)?;
     typing.steps.push(Step::Defined(place))?;
-    typing.defs.push(def.known)?;
-    typing.held = def.held;
-    Ok(())
+    bind(alloc, &mut typing.before, Known::Function(place))
 }
 
 /// A binding.
