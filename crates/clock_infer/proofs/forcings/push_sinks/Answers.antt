@@ -1,4 +1,4 @@
-use Rattle.std.proofs.Common.{List, ◌++◌, ◌∷◌, [], ℕ, map, take, sym, ap, ◌∙◌, append_assoc}
+use Rattle.std.proofs.Common.{List, ◌++◌, ◌∷◌, [], ℕ, take, sym, ap, ◌∙◌, append_assoc}
 use Rattle.plan_core.specs.declared.sink.SinkPlan.{SinkPlan}
 use Rattle.plan_core.specs.Plans.{sink_node}
 use Rattle.clock_infer.specs.declared.forcings.Forced.TheVariants.{AnyMain}
