@@ -1,4 +1,5 @@
 use Rattle.std.proofs.Common.{false}
+use Rattle.std.proofs.lemmas.Result.{err_from_is_err_and}
 use Rattle.type_terms.proofs.Fresh.{new_type, whole_fresh}
 use Rattle.type_terms.proofs.subst.Subst.fresh.Goals as goal
 
@@ -7,3 +8,24 @@ invariant_of-self-2 c = rw (c.in_ok-push-2.ensures.items, c.in_ok-push.ensures.i
 
 pub returns-clause-free : goal.returns-clause-free
 returns-clause-free c = rw (← c.self.view_is, c.in_ok-push-2.ensures.items, c.new.ensures) (new_type c.self.inside.types.items c.self.inside.kinds.items c.args.number c.self.invariant.sound)
+
+pub returns-in_err-push-clause-next : goal.returns-in_err-push-clause-next
+returns-in_err-push-clause-next c = let p = err_from_is_err_and c.from_residual.result c.from_residual.ensures.1 in rw p.1 tt
+
+pub returns-in_err-push-clause-grown : goal.returns-in_err-push-clause-grown
+returns-in_err-push-clause-grown c = let p = err_from_is_err_and c.from_residual.result c.from_residual.ensures.1 in rw p.1 tt
+
+pub returns-in_err-push-clause-free : goal.returns-in_err-push-clause-free
+returns-in_err-push-clause-free c = let p = err_from_is_err_and c.from_residual.result c.from_residual.ensures.1 in rw p.1 tt
+
+pub returns-in_err-push-2-clause-next : goal.returns-in_err-push-2-clause-next
+returns-in_err-push-2-clause-next c = let p = err_from_is_err_and c.from_residual-in_err-push-2.result c.from_residual-in_err-push-2.ensures.1 in rw p.1 tt
+
+pub returns-in_err-push-2-clause-grown : goal.returns-in_err-push-2-clause-grown
+returns-in_err-push-2-clause-grown c = let p = err_from_is_err_and c.from_residual-in_err-push-2.result c.from_residual-in_err-push-2.ensures.1 in rw p.1 tt
+
+pub returns-in_err-push-2-clause-free : goal.returns-in_err-push-2-clause-free
+returns-in_err-push-2-clause-free c = let p = err_from_is_err_and c.from_residual-in_err-push-2.result c.from_residual-in_err-push-2.ensures.1 in rw p.1 tt
+
+pub returns-clause-err : goal.returns-clause-err
+returns-clause-err c = tt
