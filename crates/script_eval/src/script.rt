@@ -15,12 +15,8 @@ ghost use Rattle.script_values.specs.View.{view_value};
 ghost use Rattle.script_values.specs.Views.{view_slot};
 ghost use Rattle.typing_rules.specs.Answers.{IsTypedScript};
 
-use crate::defs::Defs;
-use crate::descent::{call, choice, full};
-use crate::globals::Globals;
-use crate::held::is_setting;
-use crate::scope::Scope;
-use crate::uses::Uses;
+use eval_scope::{Defs, Globals, Scope, Uses};
+use expression_eval::{call, choice, full, is_setting};
 use fixed_text::Decimal;
 use liq_base::limits::{MAX_CALLS, MAX_FRAME};
 use plan_core::{Plan, SinkPlan};

@@ -1,5 +1,6 @@
-use Rattle.std.proofs.Common.{rules, arith, ◌≡◌, ◌<◌, ◌≤◌, ◌+◌, ◌∙◌, ◌++◌, length, take, slice_get, slice_index_or, ap, sym, subst}
+use Rattle.std.proofs.Common.{arith, List, ◌≡◌, ◌<◌, ◌≤◌, ◌+◌, ◌∙◌, ◌++◌, length, take, slice_get, slice_index_or, ap, sym, subst}
 use Rattle.std.specs.Prelude.{Some}
+use Rattle.plan_core.specs.declared.sink.SinkPlan.{SinkPlan}
 use Rattle.plan_core.specs.declared.sink.SinkPlan.TheVariants.{Output, Feed}
 use Rattle.clock_infer.specs.declared.clock_map.NodeClock.TheVariants.{Main}
 use Rattle.station_render.specs.Sinks.{lists_of}
@@ -11,8 +12,8 @@ use Rattle.station_render.proofs.create.create_each.Goals as goal
 
 pub loop-sink-preserved-in_default : goal.loop-sink-preserved-in_default
 loop-sink-preserved-in_default g c =
-    let low : c.loop-sink.sink-index < length c.args.plan.now.sinks = search rules in
-    let item : c.sink-item.result ≡ slice_index_or c.args.plan.now.sinks c.loop-sink.sink-index c.sink-item.result = search rules in
+    let low : c.loop-sink.sink-index < length c.args.plan.now.sinks = subst (λ (xs : List SinkPlan). c.loop-sink.sink-index < length xs) c.as_slice-sink-items.ensures c.loop-sink-test.true in
+    let item : c.sink-item.result ≡ slice_index_or c.args.plan.now.sinks c.loop-sink.sink-index c.sink-item.result = c.sink-item.is ∙ ap (λ (xs : List SinkPlan). slice_index_or xs c.loop-sink.sink-index c.sink-item.result) c.as_slice-sink-items.ensures in
     let at : slice_get c.args.plan.now.sinks c.loop-sink.sink-index ≡ Some (Feed c.in_default.field-0 c.in_default.field-1) =
     got c.args.plan.now.sinks c.loop-sink.sink-index c.sink-item.result low ∙ ap Some (sym item ∙ c.in_default.is) in
     let same = written_still c.args.plan.now.sinks c.loop-sink.sink-index c.in_default.field-0 c.in_default.field-1 at in
@@ -28,8 +29,8 @@ loop-sink-preserved-in_default g c =
 
 pub opening_of-opening-requires-clause-clock : goal.opening_of-opening-requires-clause-clock
 opening_of-opening-requires-clause-clock g c =
-    let low : c.loop-sink.sink-index < length c.args.plan.now.sinks = search rules in
-    let item : c.sink-item.result ≡ slice_index_or c.args.plan.now.sinks c.loop-sink.sink-index c.sink-item.result = search rules in
+    let low : c.loop-sink.sink-index < length c.args.plan.now.sinks = subst (λ (xs : List SinkPlan). c.loop-sink.sink-index < length xs) c.as_slice-sink-items.ensures c.loop-sink-test.true in
+    let item : c.sink-item.result ≡ slice_index_or c.args.plan.now.sinks c.loop-sink.sink-index c.sink-item.result = c.sink-item.is ∙ ap (λ (xs : List SinkPlan). slice_index_or xs c.loop-sink.sink-index c.sink-item.result) c.as_slice-sink-items.ensures in
     let at : slice_get c.args.plan.now.sinks c.loop-sink.sink-index ≡ Some (Output c.in-Output.name c.in-Output.node c.in-Output.fallible) =
     got c.args.plan.now.sinks c.loop-sink.sink-index c.sink-item.result low ∙ ap Some (sym item ∙ c.in-Output.is) in
     let main = are_main c.args.plan.now c.requires.fit.0 c.args.clocks.now c.args.ticks c.requires.fit.1 c.loop-sink.sink-index c.in-Output.name c.in-Output.node c.in-Output.fallible at in
@@ -37,16 +38,16 @@ opening_of-opening-requires-clause-clock g c =
 
 pub opening_of-opening-requires-clause-fits : goal.opening_of-opening-requires-clause-fits
 opening_of-opening-requires-clause-fits g c =
-    let low : c.loop-sink.sink-index < length c.args.plan.now.sinks = search rules in
-    let item : c.sink-item.result ≡ slice_index_or c.args.plan.now.sinks c.loop-sink.sink-index c.sink-item.result = search rules in
+    let low : c.loop-sink.sink-index < length c.args.plan.now.sinks = subst (λ (xs : List SinkPlan). c.loop-sink.sink-index < length xs) c.as_slice-sink-items.ensures c.loop-sink-test.true in
+    let item : c.sink-item.result ≡ slice_index_or c.args.plan.now.sinks c.loop-sink.sink-index c.sink-item.result = c.sink-item.is ∙ ap (λ (xs : List SinkPlan). slice_index_or xs c.loop-sink.sink-index c.sink-item.result) c.as_slice-sink-items.ensures in
     let at : slice_get c.args.plan.now.sinks c.loop-sink.sink-index ≡ Some (Output c.in-Output.name c.in-Output.node c.in-Output.fallible) =
     got c.args.plan.now.sinks c.loop-sink.sink-index c.sink-item.result low ∙ ap Some (sym item ∙ c.in-Output.is) in
     header_fits c.args.plan.now c.requires.fit.0 c.args.clocks.now c.args.ticks c.requires.fit.1 c.loop-sink.sink-index c.in-Output.name c.in-Output.node c.in-Output.fallible at
 
 pub create_one-requires-clause-below : goal.create_one-requires-clause-below
 create_one-requires-clause-below g c κs within =
-    let low : c.loop-sink.sink-index < length c.args.plan.now.sinks = search rules in
-    let item : c.sink-item.result ≡ slice_index_or c.args.plan.now.sinks c.loop-sink.sink-index c.sink-item.result = search rules in
+    let low : c.loop-sink.sink-index < length c.args.plan.now.sinks = subst (λ (xs : List SinkPlan). c.loop-sink.sink-index < length xs) c.as_slice-sink-items.ensures c.loop-sink-test.true in
+    let item : c.sink-item.result ≡ slice_index_or c.args.plan.now.sinks c.loop-sink.sink-index c.sink-item.result = c.sink-item.is ∙ ap (λ (xs : List SinkPlan). slice_index_or xs c.loop-sink.sink-index c.sink-item.result) c.as_slice-sink-items.ensures in
     let at : slice_get c.args.plan.now.sinks c.loop-sink.sink-index ≡ Some (Output c.in-Output.name c.in-Output.node c.in-Output.fallible) =
     got c.args.plan.now.sinks c.loop-sink.sink-index c.sink-item.result low ∙ ap Some (sym item ∙ c.in-Output.is) in
     clock_below c.args.plan.now c.requires.fit.0 c.args.clocks.now c.args.ticks c.requires.fit.1 c.loop-sink.sink-index c.in-Output.name c.in-Output.node c.in-Output.fallible at
@@ -54,8 +55,8 @@ create_one-requires-clause-below g c κs within =
 
 pub returns-in_err-create_one-clause-begun : goal.returns-in_err-create_one-clause-begun
 returns-in_err-create_one-clause-begun g c =
-    let low : c.loop-sink.sink-index < length c.args.plan.now.sinks = search rules in
-    let item : c.sink-item.result ≡ slice_index_or c.args.plan.now.sinks c.loop-sink.sink-index c.sink-item.result = search rules in
+    let low : c.loop-sink.sink-index < length c.args.plan.now.sinks = subst (λ (xs : List SinkPlan). c.loop-sink.sink-index < length xs) c.as_slice-sink-items.ensures c.loop-sink-test.true in
+    let item : c.sink-item.result ≡ slice_index_or c.args.plan.now.sinks c.loop-sink.sink-index c.sink-item.result = c.sink-item.is ∙ ap (λ (xs : List SinkPlan). slice_index_or xs c.loop-sink.sink-index c.sink-item.result) c.as_slice-sink-items.ensures in
     let at : slice_get c.args.plan.now.sinks c.loop-sink.sink-index ≡ Some (Output c.in-Output.name c.in-Output.node c.in-Output.fallible) =
     got c.args.plan.now.sinks c.loop-sink.sink-index c.sink-item.result low ∙ ap Some (sym item ∙ c.in-Output.is) in
     let below = clock_below c.args.plan.now c.requires.fit.0 c.args.clocks.now c.args.ticks c.requires.fit.1 c.loop-sink.sink-index c.in-Output.name c.in-Output.node c.in-Output.fallible at
@@ -67,8 +68,8 @@ returns-in_err-create_one-clause-begun g c =
 
 pub loop-sink-preserved : goal.loop-sink-preserved
 loop-sink-preserved g c =
-    let low : c.loop-sink.sink-index < length c.args.plan.now.sinks = search rules in
-    let item : c.sink-item.result ≡ slice_index_or c.args.plan.now.sinks c.loop-sink.sink-index c.sink-item.result = search rules in
+    let low : c.loop-sink.sink-index < length c.args.plan.now.sinks = subst (λ (xs : List SinkPlan). c.loop-sink.sink-index < length xs) c.as_slice-sink-items.ensures c.loop-sink-test.true in
+    let item : c.sink-item.result ≡ slice_index_or c.args.plan.now.sinks c.loop-sink.sink-index c.sink-item.result = c.sink-item.is ∙ ap (λ (xs : List SinkPlan). slice_index_or xs c.loop-sink.sink-index c.sink-item.result) c.as_slice-sink-items.ensures in
     let at : slice_get c.args.plan.now.sinks c.loop-sink.sink-index ≡ Some (Output c.in-Output.name c.in-Output.node c.in-Output.fallible) =
     got c.args.plan.now.sinks c.loop-sink.sink-index c.sink-item.result low ∙ ap Some (sym item ∙ c.in-Output.is) in
     let below = clock_below c.args.plan.now c.requires.fit.0 c.args.clocks.now c.args.ticks c.requires.fit.1 c.loop-sink.sink-index c.in-Output.name c.in-Output.node c.in-Output.fallible at
@@ -91,13 +92,13 @@ loop-sink-preserved g c =
 
 pub returns-clause-ready : goal.returns-clause-ready
 returns-clause-ready g c =
-    let all : length c.args.plan.now.sinks ≤ c.loop-sink.sink-index = search rules in
+    let all : length c.args.plan.now.sinks ≤ c.loop-sink.sink-index = subst (λ (xs : List SinkPlan). length xs ≤ c.loop-sink.sink-index) c.as_slice-sink-items.ensures c.loop-sink-test.false in
     λ library start. created_by (written (take c.loop-sink.sink-index c.args.plan.now.sinks)) (written c.args.plan.now.sinks) _ _ (sym (ap written (take_whole c.args.plan.now.sinks c.loop-sink.sink-index all)))
     (c.loop-sink.invariant.created library start)
 
 pub returns-clause-order : goal.returns-clause-order
 returns-clause-order g c =
-    let all : length c.args.plan.now.sinks ≤ c.loop-sink.sink-index = search rules in
+    let all : length c.args.plan.now.sinks ≤ c.loop-sink.sink-index = subst (λ (xs : List SinkPlan). length xs ≤ c.loop-sink.sink-index) c.as_slice-sink-items.ensures c.loop-sink-test.false in
     λ library start. c.loop-sink.invariant.order library start ∙ ap (λ sinks. order_of (setting_for c.args.plan.now library c.args.clocks.now start) (written sinks)) (take_whole c.args.plan.now.sinks c.loop-sink.sink-index all)
 
 pub returns-clause-begun : goal.returns-clause-begun

@@ -1,6 +1,7 @@
-use Rattle.std.proofs.Common.{rules, arith, ◌≡◌, ◌<◌, ◌∙◌, ◌++◌, ◌∷◌, [], length, slice_get, slice_index_or, take, ap, sym}
+use Rattle.std.proofs.Common.{rules, arith, List, ◌≡◌, ◌<◌, ◌∙◌, ◌++◌, ◌∷◌, [], length, slice_get, slice_index_or, take, ap, sym}
 use Rattle.stations.specs.Streams.{counts_in}
 use Rattle.std.specs.Prelude.{Some}
+use Rattle.plan_core.specs.declared.sink.SinkPlan.{SinkPlan}
 use Rattle.plan_core.specs.declared.sink.SinkPlan.TheVariants.{Output, Feed}
 use Rattle.station_render.proofs.Lists.{got}
 use Rattle.station_render.proofs.Fits.{main_below}
@@ -10,30 +11,30 @@ use Rattle.station_render.proofs.engines.gaps_of.Goals as goal
 
 pub loop-k-preserved-in_default : goal.loop-k-preserved-in_default
 loop-k-preserved-in_default g c =
-    let low : c.loop-k.k < length c.args.plan.now.sinks = search rules in
-    let item : c.index-sinks-k.result ≡ slice_index_or c.args.plan.now.sinks c.loop-k.k c.index-sinks-k.result = search rules in
+    let low : c.loop-k.k < length c.args.plan.now.sinks = omega (arith, ap length c.as_slice-sinks.ensures) in
+    let item : c.index-sinks-k.result ≡ slice_index_or c.args.plan.now.sinks c.loop-k.k c.index-sinks-k.result = c.index-sinks-k.is ∙ ap (λ (xs : List SinkPlan). slice_index_or xs c.loop-k.k c.index-sinks-k.result) c.as_slice-sinks.ensures in
     let at : slice_get c.args.plan.now.sinks c.loop-k.k ≡ Some (Feed c.in_default.field-0 c.in_default.field-1) = got c.args.plan.now.sinks c.loop-k.k c.index-sinks-k.result low ∙ ap Some (sym item ∙ c.in_default.is) in
     λ setting ticks plan_is clocks_is engines. c.loop-k.invariant setting ticks plan_is clocks_is engines ∙ sym (counts_still setting ticks c.args.plan.now.sinks c.loop-k.k c.in_default.field-0 c.in_default.field-1 at)
 
 pub clock_of-clock-requires : goal.clock_of-clock-requires
 clock_of-clock-requires g c =
-    let low : c.loop-k.k < length c.args.plan.now.sinks = search rules in
-    let item : c.index-sinks-k.result ≡ slice_index_or c.args.plan.now.sinks c.loop-k.k c.index-sinks-k.result = search rules in
+    let low : c.loop-k.k < length c.args.plan.now.sinks = omega (arith, ap length c.as_slice-sinks.ensures) in
+    let item : c.index-sinks-k.result ≡ slice_index_or c.args.plan.now.sinks c.loop-k.k c.index-sinks-k.result = c.index-sinks-k.is ∙ ap (λ (xs : List SinkPlan). slice_index_or xs c.loop-k.k c.index-sinks-k.result) c.as_slice-sinks.ensures in
     let at : slice_get c.args.plan.now.sinks c.loop-k.k ≡ Some (Output c.in-Output.name c.in-Output.node c.in-Output.fallible) = got c.args.plan.now.sinks c.loop-k.k c.index-sinks-k.result low ∙ ap Some (sym item ∙ c.in-Output.is) in
     let main = c.requires.main c.loop-k.k c.in-Output.name c.in-Output.node c.in-Output.fallible at in
     (main.0, main.2)
 
 pub bounds-engines-clock : goal.bounds-engines-clock
 bounds-engines-clock g c =
-    let low : c.loop-k.k < length c.args.plan.now.sinks = search rules in
-    let item : c.index-sinks-k.result ≡ slice_index_or c.args.plan.now.sinks c.loop-k.k c.index-sinks-k.result = search rules in
+    let low : c.loop-k.k < length c.args.plan.now.sinks = omega (arith, ap length c.as_slice-sinks.ensures) in
+    let item : c.index-sinks-k.result ≡ slice_index_or c.args.plan.now.sinks c.loop-k.k c.index-sinks-k.result = c.index-sinks-k.is ∙ ap (λ (xs : List SinkPlan). slice_index_or xs c.loop-k.k c.index-sinks-k.result) c.as_slice-sinks.ensures in
     let at : slice_get c.args.plan.now.sinks c.loop-k.k ≡ Some (Output c.in-Output.name c.in-Output.node c.in-Output.fallible) = got c.args.plan.now.sinks c.loop-k.k c.index-sinks-k.result low ∙ ap Some (sym item ∙ c.in-Output.is) in
     main_below c.args.plan.now c.args.clocks.now c.requires.main c.loop-k.k c.in-Output.name c.in-Output.node c.in-Output.fallible at c.clock_of-clock.result c.clock_of-clock.ensures (length c.args.engines.now) c.requires.size
 
 pub gaps-requires-clause-works : goal.gaps-requires-clause-works
 gaps-requires-clause-works g c =
-    let low : c.loop-k.k < length c.args.plan.now.sinks = search rules in
-    let item : c.index-sinks-k.result ≡ slice_index_or c.args.plan.now.sinks c.loop-k.k c.index-sinks-k.result = search rules in
+    let low : c.loop-k.k < length c.args.plan.now.sinks = omega (arith, ap length c.as_slice-sinks.ensures) in
+    let item : c.index-sinks-k.result ≡ slice_index_or c.args.plan.now.sinks c.loop-k.k c.index-sinks-k.result = c.index-sinks-k.is ∙ ap (λ (xs : List SinkPlan). slice_index_or xs c.loop-k.k c.index-sinks-k.result) c.as_slice-sinks.ensures in
     let at : slice_get c.args.plan.now.sinks c.loop-k.k ≡ Some (Output c.in-Output.name c.in-Output.node c.in-Output.fallible) = got c.args.plan.now.sinks c.loop-k.k c.index-sinks-k.result low ∙ ap Some (sym item ∙ c.in-Output.is) in
     let below = main_below c.args.plan.now c.args.clocks.now c.requires.main c.loop-k.k c.in-Output.name c.in-Output.node c.in-Output.fallible at c.clock_of-clock.result c.clock_of-clock.ensures (length c.args.engines.now) c.requires.size in
     let there : slice_get c.args.engines.now c.clock_of-clock.result ≡ Some c.index-engines-clock.result = got c.args.engines.now c.clock_of-clock.result c.index-engines-clock.result below ∙ ap Some (sym c.index-engines-clock.is) in
@@ -41,8 +42,8 @@ gaps-requires-clause-works g c =
 
 pub gaps-requires-clause-output : goal.gaps-requires-clause-output
 gaps-requires-clause-output g c =
-    let low : c.loop-k.k < length c.args.plan.now.sinks = search rules in
-    let item : c.index-sinks-k.result ≡ slice_index_or c.args.plan.now.sinks c.loop-k.k c.index-sinks-k.result = search rules in
+    let low : c.loop-k.k < length c.args.plan.now.sinks = omega (arith, ap length c.as_slice-sinks.ensures) in
+    let item : c.index-sinks-k.result ≡ slice_index_or c.args.plan.now.sinks c.loop-k.k c.index-sinks-k.result = c.index-sinks-k.is ∙ ap (λ (xs : List SinkPlan). slice_index_or xs c.loop-k.k c.index-sinks-k.result) c.as_slice-sinks.ensures in
     let at : slice_get c.args.plan.now.sinks c.loop-k.k ≡ Some (Output c.in-Output.name c.in-Output.node c.in-Output.fallible) = got c.args.plan.now.sinks c.loop-k.k c.index-sinks-k.result low ∙ ap Some (sym item ∙ c.in-Output.is) in
     let below = main_below c.args.plan.now c.args.clocks.now c.requires.main c.loop-k.k c.in-Output.name c.in-Output.node c.in-Output.fallible at c.clock_of-clock.result c.clock_of-clock.ensures (length c.args.engines.now) c.requires.size in
     let there : slice_get c.args.engines.now c.clock_of-clock.result ≡ Some c.index-engines-clock.result = got c.args.engines.now c.clock_of-clock.result c.index-engines-clock.result below ∙ ap Some (sym c.index-engines-clock.is) in (
@@ -53,8 +54,8 @@ gaps-requires-clause-output g c =
 
 pub loop-k-preserved : goal.loop-k-preserved
 loop-k-preserved g c =
-    let low : c.loop-k.k < length c.args.plan.now.sinks = search rules in
-    let item : c.index-sinks-k.result ≡ slice_index_or c.args.plan.now.sinks c.loop-k.k c.index-sinks-k.result = search rules in
+    let low : c.loop-k.k < length c.args.plan.now.sinks = omega (arith, ap length c.as_slice-sinks.ensures) in
+    let item : c.index-sinks-k.result ≡ slice_index_or c.args.plan.now.sinks c.loop-k.k c.index-sinks-k.result = c.index-sinks-k.is ∙ ap (λ (xs : List SinkPlan). slice_index_or xs c.loop-k.k c.index-sinks-k.result) c.as_slice-sinks.ensures in
     let at : slice_get c.args.plan.now.sinks c.loop-k.k ≡ Some (Output c.in-Output.name c.in-Output.node c.in-Output.fallible) = got c.args.plan.now.sinks c.loop-k.k c.index-sinks-k.result low ∙ ap Some (sym item ∙ c.in-Output.is) in
     let below = main_below c.args.plan.now c.args.clocks.now c.requires.main c.loop-k.k c.in-Output.name c.in-Output.node c.in-Output.fallible at c.clock_of-clock.result c.clock_of-clock.ensures (length c.args.engines.now) c.requires.size in
     let there : slice_get c.args.engines.now c.clock_of-clock.result ≡ Some c.index-engines-clock.result = got c.args.engines.now c.clock_of-clock.result c.index-engines-clock.result below ∙ ap Some (sym c.index-engines-clock.is) in

@@ -1,0 +1,60 @@
+// A script, with a table of where its defs stand.
+ghost use Rattle.std.specs.Prelude.{◌≡◌, IfOk, OnOk, option_map};
+ghost use Rattle.eval_scope.specs.Places.{IsTable, Notes, def_if, is_def, names};
+ghost use Rattle.script_grammar.specs.View.{view_def, view_script, view_stmt};
+ghost use Rattle.typing_rules.specs.Defs.{def_at};
+
+use crate::places::note;
+use indexmap::IndexMap;
+use liq_base::Memory;
+use script_grammar::tree::{Def, Script, Stmt, StmtPart};
+use std::alloc::Global;
+
+/// A script, with a table of the statement of each def.
+#[derive(Drop)]
+pub struct Defs<'a> {
+    pub script: &'a Script,
+    places: IndexMap<u32, usize>,
+    ghost table: { IsTable is_def places script.now.statements.items },
+}
+
+impl<'a> Defs<'a> {
+    /// The defs of a script, with their table.
+    pub fn new(alloc: Global, script: &'a Script) -> Result<Defs<'a>, Memory>
+        ensures { IfOk result (λ d. d.script.now ≡ script.entry.now) }
+    {
+        let mut places = IndexMap::new(alloc);
+        for (place, stmt) in script.statements.iter().enumerate() {
+            note_def(&mut places, stmt, place)?;
+        }
+        Ok(Defs { script, places })
+    }
+
+    /// The def whose name stands at this token.
+    pub fn find(&self, at: u32) -> Option<&'a Def>
+        ensures { option_map (λ d. view_def d.now) result ≡ def_at at (view_script self.now.script.now) }
+    {
+        let place = self.places.get(&at)?;
+        let stmt = self.script.statements.get(*place)?;
+        def_of(stmt, at)
+    }
+}
+
+// Notes the place of a statement, if it is a def.
+fn note_def(places: &mut IndexMap<u32, usize>, stmt: &Stmt, place: usize) -> Result<(), Memory>
+    ensures { OnOk result (Notes (names (view_stmt stmt.now)) places.old place places.new) }
+{
+    match &stmt.part {
+        StmtPart::Def(def) => note(places, def.at, place),
+        _ => Ok(()),
+    }
+}
+
+fn def_of(stmt: &Stmt, at: u32) -> Option<&Def>
+    ensures { option_map (λ d. view_def d.now) result ≡ def_if at (view_stmt stmt.now) }
+{
+    match &stmt.part {
+        StmtPart::Def(def) => { if def.at == at { Some(def) } else { None } }
+        _ => None,
+    }
+}

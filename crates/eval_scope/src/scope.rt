@@ -1,0 +1,120 @@
+// Where an expression stands, and what names stand for there.
+ghost use Rattle.std.specs.Prelude.{◌≡◌, IfOk, option_map};
+ghost use Rattle.typing_rules.specs.Uses.{use_at};
+ghost use Rattle.script_values.specs.Gives.{Gives};
+ghost use Rattle.eval_meaning.specs.Meaning.{format, named, value_at};
+ghost use Rattle.typing_rules.specs.Kinds.{kind_at, kinds_of};
+ghost use Rattle.eval_scope.specs.Scopes.{scope_of};
+ghost use Rattle.script_values.specs.Slots.{slot_at};
+ghost use Rattle.script_values.specs.View.{view_value};
+
+use crate::defs::Defs;
+use crate::globals::Globals;
+use crate::uses::Uses;
+use liq_base::{Kind, Memory};
+use script_values::{Fault, Machine, Slot, Value, copy, count_value, slot_at};
+use std::alloc::Global;
+use typing_rules::{KindOf, Target};
+
+/// Where an expression stands: the defs of the script, what its names stand for, the values of bindings, and the open
+/// kinds of the def around. So many more calls of defs may run.
+#[derive(Clone, Copy)]
+pub struct Scope<'a> {
+    pub defs: &'a Defs<'a>,
+    pub uses: &'a Uses<'a>,
+    pub globals: &'a Globals,
+    pub locals: &'a [Slot],
+    pub kinds: &'a [Kind],
+    pub calls: usize,
+}
+
+/// The value of the name at this token.
+#[tactic(auto, unfolding(eval_meaning::specs::Meaning::named))]
+pub fn named(
+    alloc: Global,
+    scope: &Scope<'_>,
+    machine: &mut Machine,
+    at: u32,
+) -> Result<Value, Fault>
+    ensures { Gives (λ v. (view_value v, machine.new)) result (named (scope_of scope.now) (use_at at scope.now.uses.now.all.now) machine.old) }
+{
+    match scope.uses.find(at) {
+        None => Err(Fault::Stuck),
+        Some(found) => match found.target {
+            Target::Slot(slot) => slot_value(alloc, scope, machine, slot),
+            Target::Def(_) => Err(Fault::Stuck),
+            Target::Builtin(_) => Err(Fault::Stuck),
+        },
+    }
+}
+
+/// The kinds of a use, where the def around has these.
+pub fn kinds_of(
+    alloc: Global,
+    given: &[Kind],
+    wanted: &[KindOf],
+) -> Result<Option<Vec<Kind>>, Memory>
+    ensures { IfOk result (λ r. option_map (λ v. v.items) r ≡ kinds_of given.now wanted.now) }
+{
+    let mut kinds = Vec::new(alloc);
+    for kind in wanted {
+        match kind_at(given, *kind) {
+            None => return Ok(None),
+            Some(found) => kinds.push(found)?,
+        }
+    }
+    Ok(Some(kinds))
+}
+
+/// The format that `%wav` names.
+pub fn format(at: u32, size: Option<i64>) -> Result<Value, Fault>
+    ensures { Gives (λ v. view_value v) result (format at size) }
+{
+    match size {
+        None => Ok(Value::Format),
+        Some(bits) => {
+            if bits == 16 {
+                Ok(Value::Format)
+            } else {
+                Err(Fault::BadValue(at))
+            }
+        }
+    }
+}
+
+fn slot_value(
+    alloc: Global,
+    scope: &Scope<'_>,
+    machine: &mut Machine,
+    at: u32,
+) -> Result<Value, Fault>
+    ensures { Gives (λ v. (view_value v, machine.new)) result (value_at (slot_at at (scope_of scope.now).slots) machine.old) }
+{
+    match lookup(scope, at) {
+        None => Err(Fault::Stuck),
+        Some(value) => {
+            count_value(machine, value)?;
+            let copied = copy(alloc, value)?;
+            Ok(copied)
+        }
+    }
+}
+
+// The value of a binding, of the def first.
+fn lookup<'a>(scope: &Scope<'a>, at: u32) -> Option<&'a Value>
+    ensures { option_map (λ v. view_value v.now) result ≡ slot_at at (scope_of scope.now).slots }
+{
+    match slot_at(scope.locals, at) {
+        Some(value) => Some(value),
+        None => scope.globals.find(at),
+    }
+}
+
+fn kind_at(given: &[Kind], wanted: KindOf) -> Option<Kind>
+    ensures { result ≡ kind_at given.now wanted }
+{
+    match wanted {
+        KindOf::Fixed(kind) => Some(kind),
+        KindOf::Given(number) => given.get(number as usize).copied(),
+    }
+}

@@ -1,0 +1,39 @@
+// The uses of a script, with a table of where each token's stands.
+ghost use Rattle.std.specs.Prelude.{◌≡◌, IfOk, option_map};
+ghost use Rattle.eval_scope.specs.Places.{IsTable, is_use};
+ghost use Rattle.typing_rules.specs.Uses.{use_at};
+
+use crate::places::note;
+use indexmap::IndexMap;
+use liq_base::Memory;
+use std::alloc::Global;
+use typing_rules::Use;
+
+/// The uses of a script, with a table of the place of each token's first.
+#[derive(Drop)]
+pub struct Uses<'a> {
+    pub all: &'a [Use],
+    places: IndexMap<u32, usize>,
+    ghost table: { IsTable is_use places all.now },
+}
+
+impl<'a> Uses<'a> {
+    /// These uses, with their table.
+    pub fn new(alloc: Global, all: &'a [Use]) -> Result<Uses<'a>, Memory>
+        ensures { IfOk result (λ u. u.all.now ≡ all.entry.now) }
+    {
+        let mut places = IndexMap::new(alloc);
+        for (place, one) in all.iter().enumerate() {
+            note(&mut places, one.at, place)?;
+        }
+        Ok(Uses { all, places })
+    }
+
+    /// The use that stands for the name at this token.
+    pub fn find(&self, at: u32) -> Option<&'a Use>
+        ensures { option_map (λ u. u.now) result ≡ use_at at self.now.all.now }
+    {
+        let place = self.places.get(&at)?;
+        self.all.get(*place)
+    }
+}

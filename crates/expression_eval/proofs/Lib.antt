@@ -1,0 +1,6 @@
+pub mod CallsHeld
+pub mod Joins
+pub mod Loops
+pub mod Predicates
+pub mod Productions
+pub mod Singles

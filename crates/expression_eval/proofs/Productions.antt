@@ -1,0 +1,209 @@
+-- What each production of the program's tree means.
+use Rattle.std.proofs.Common.{◌≡◌, ℕ, zero, suc, ◌+◌, ◌≤◌, arith, length, List, [], ◌∷◌, ◌++◌, Result, Ok, Err, refl, sym, ap, ◌∙◌}
+use Rattle.std.proofs.lemmas.List.{map_push}
+use Rattle.std.specs.Prelude.{map}
+use Rattle.liq_base.specs.declared.memory.Kind.{Kind}
+use Rattle.std.specs.Global.{Vec}
+use Rattle.script_grammar.specs.Tree.{Tree, Many, none, more, AFull, AnExpr, AnAnd, ASum, AProduct, ACall, AParam}
+use Rattle.script_grammar.specs.View.{listed, tuple_of, view_expr, view_and, view_not, view_sum, view_added, view_product, view_multiplied, view_prim, view_full, view_call, view_arg}
+use Rattle.script_grammar.specs.declared.tree.Full.{Full}
+use Rattle.script_grammar.specs.declared.tree.Expr as expr
+use Rattle.script_grammar.specs.declared.tree.And as and_
+use Rattle.script_grammar.specs.declared.tree.Not as not_
+use Rattle.script_grammar.specs.declared.tree.Sum as sum
+use Rattle.script_grammar.specs.declared.tree.Product as product
+use Rattle.script_grammar.specs.declared.tree.Operand as prim
+use Rattle.script_grammar.specs.declared.tree.Call as call
+use Rattle.script_grammar.specs.declared.tree.Arg as arg
+use Rattle.script_grammar.specs.declared.tree.Added as added
+use Rattle.script_grammar.specs.declared.tree.Multiplied as multiplied
+use Rattle.script_grammar.proofs.Rows.{expr_seen, and_seen, sum_seen, product_seen, call_seen, fulls_listed}
+use Rattle.typing_rules.specs.Defs.{def_at}
+use Rattle.typing_rules.specs.Uses.{use_at}
+use Rattle.script_values.specs.Outcomes.{◌>>=◌, Outcome}
+use Rattle.script_values.specs.declared.fault.Fault.{Fault}
+use Rattle.script_values.specs.declared.machine.Machine.{Machine}
+use Rattle.script_values.specs.Gives.{Fails}
+use Rattle.script_values.specs.declared.fault.Fault.TheVariants.{TooLarge}
+use Rattle.script_values.specs.declared.fault.Limit.TheVariants.{Calls}
+use Rattle.script_values.specs.declared.slots.Slot as program
+use Rattle.script_values.specs.Values as value
+use Rattle.script_values.specs.Values.{Value, many}
+use Rattle.script_values.specs.Views.{view_slot}
+use Rattle.script_values.specs.Numbers.{either, both}
+use Rattle.script_values.specs.Machines.{count}
+use Rattle.script_values.specs.Slots.{Given, Slot}
+use Rattle.eval_meaning.specs.Meaning as meaning
+use Rattle.eval_meaning.specs.Meaning.{Scope, full, conj, nega, joined}
+use Rattle.expression_eval.proofs.Loops.{Steps, fails_on, fails_same}
+
+pub expr_means : (s : Scope) (e : expr.Expr) (l : List and_.And) (m : Machine) → l ≡ (expr.out-Expr e).rest.items → meaning.expr s (view_expr e) m ≡ (meaning.conj s (view_and (expr.out-Expr e).first) m >>= λ x. meaning.ors s (listed (map view_and l)) x.0 x.1)
+unfolding meaning.expr
+expr_means s e l m is = ap (λ (t : Tree AnExpr). meaning.expr s t m) (expr_seen e) ∙ ap (λ (k : List and_.And). meaning.conj s (view_and (expr.out-Expr e).first) m >>= λ x. meaning.ors s (listed (map view_and k)) x.0 x.1) (sym is)
+
+pub conj_means : (s : Scope) (e : and_.And) (l : List not_.Not) (m : Machine) → l ≡ (and_.out-And e).rest.items → meaning.conj s (view_and e) m ≡ (meaning.nega s (view_not (and_.out-And e).first) m >>= λ x. meaning.ands s (listed (map view_not l)) x.0 x.1)
+unfolding meaning.conj
+conj_means s e l m is = ap (λ (t : Tree AnAnd). meaning.conj s t m) (and_seen e) ∙ ap (λ (k : List not_.Not). meaning.nega s (view_not (and_.out-And e).first) m >>= λ x. meaning.ands s (listed (map view_not k)) x.0 x.1) (sym is)
+
+pub sum_means : (s : Scope) (e : sum.Sum) (l : List added.Added) (m : Machine) → l ≡ (sum.out-Sum e).rest.items → meaning.sum s (view_sum e) m ≡ (meaning.product s (view_product (sum.out-Sum e).first) m >>= λ x. meaning.addeds s (listed (map view_added l)) x.0 x.1)
+unfolding meaning.sum
+sum_means s e l m is = ap (λ (t : Tree ASum). meaning.sum s t m) (sum_seen e) ∙ ap (λ (k : List added.Added). meaning.product s (view_product (sum.out-Sum e).first) m >>= λ x. meaning.addeds s (listed (map view_added k)) x.0 x.1) (sym is)
+
+pub product_means : (s : Scope) (e : product.Product) (l : List multiplied.Multiplied) (m : Machine) → l ≡ (product.out-Product e).rest.items → meaning.product s (view_product e) m ≡ (meaning.prim s (view_prim (product.out-Product e).first) m >>= λ x. meaning.multiplieds s (listed (map view_multiplied l)) x.0 x.1)
+unfolding meaning.product
+product_means s e l m is = ap (λ (t : Tree AProduct). meaning.product s t m) (product_seen e) ∙ ap (λ (k : List multiplied.Multiplied). meaning.prim s (view_prim (product.out-Product e).first) m >>= λ x. meaning.multiplieds s (listed (map view_multiplied k)) x.0 x.1) (sym is)
+
+pub call_means : (s : Scope) (e : call.Call) (l : List arg.Arg) (m : Machine) → l ≡ (call.out-Call e).args.items → meaning.call s (view_call e) m ≡ (meaning.arguments s (listed (map view_arg l)) [] m >>= λ x. meaning.applied s (use_at (call.out-Call e).at s.uses) (call.out-Call e).at x.0 x.1)
+unfolding meaning.call
+call_means s e l m is = ap (λ (t : Tree ACall). meaning.call s t m) (call_seen e) ∙ ap (λ (k : List arg.Arg). meaning.arguments s (listed (map view_arg k)) [] m >>= λ x. meaning.applied s (use_at (call.out-Call e).at s.uses) (call.out-Call e).at x.0 x.1) (sym is)
+
+-- ---- the loops
+
+pub ors_steps : (s : Scope) → Steps (meaning.ors s) (λ t v m. joined either v (conj s t m))
+unfolding meaning.ors
+ors_steps s = record { opens = λ t ts v m. refl }
+
+pub ands_steps : (s : Scope) → Steps (meaning.ands s) (λ t v m. joined both v (nega s t m))
+unfolding meaning.ands
+ands_steps s = record { opens = λ t ts v m. refl }
+
+pub addeds_steps : (s : Scope) → Steps (meaning.addeds s) (meaning.plus s)
+unfolding meaning.addeds
+addeds_steps s = record { opens = λ t ts v m. refl }
+
+pub multiplieds_steps : (s : Scope) → Steps (meaning.multiplieds s) (meaning.times s)
+unfolding meaning.multiplieds
+multiplieds_steps s = record { opens = λ t ts v m. refl }
+
+abbrev pub with_last : {X : Type 0} → List X → X × Machine → Result (List X × Machine) Fault
+with_last xs x = Ok (xs ++ x.0 ∷ [], x.1)
+
+-- a value behind the others
+pushed : {X B : Type 0} (r : Result (X × Machine) Fault) (xs : List X) (f : List X → Machine → Result B Fault) → (r >>= λ x. f (xs ++ x.0 ∷ []) x.1) ≡ ((r >>= with_last xs) >>= λ y. f y.0 y.1)
+pushed (Ok x) xs f = refl
+pushed (Err e) xs f = refl
+
+pub fulls_steps : (s : Scope) → Steps (meaning.fulls s) (λ t vs m. full s t m >>= with_last vs)
+unfolding meaning.fulls
+fulls_steps s = record { opens = λ t ts vs m. pushed (full s t m) vs (λ ys n. meaning.fulls s ts ys n) }
+
+pub arguments_steps : (s : Scope) → Steps (meaning.arguments s) (λ t gs m. meaning.argued s t m >>= with_last gs)
+unfolding meaning.arguments
+arguments_steps s = record { opens = λ t ts gs m. pushed (meaning.argued s t m) gs (λ ys n. meaning.arguments s ts ys n) }
+
+pub inners_steps : (s : Scope) → Steps (meaning.inners s) (λ t vs m. meaning.inner s t vs m >>= with_last vs)
+unfolding meaning.inners
+inners_steps s = record { opens = λ t ts vs m. pushed (meaning.inner s t vs m) vs (λ ys n. meaning.inners s ts ys n) }
+
+-- the arguments that are left, and the slots so far
+abbrev pub from_both : Scope → Tree (Many AParam) → List Given × List Slot → Machine → Result (List Slot × Machine) Fault
+from_both s ts a m = meaning.parameters s ts a.0 a.1 m
+
+abbrev pub with_slot : List Slot → (Slot × List Given) × Machine → Result ((List Given × List Slot) × Machine) Fault
+with_slot slots x = Ok ((x.0.1, slots ++ x.0.0 ∷ []), x.1)
+
+bound : (r : Result ((Slot × List Given) × Machine) Fault) (slots : List Slot) (s : Scope) (ts : Tree (Many AParam)) → (r >>= λ x. meaning.parameters s ts x.0.1 (slots ++ x.0.0 ∷ []) x.1) ≡ ((r >>= with_slot slots) >>= λ y. from_both s ts y.0 y.1)
+bound (Ok x) slots s ts = refl
+bound (Err e) slots s ts = refl
+
+pub parameters_steps : (s : Scope) → Steps (from_both s) (λ t a m. meaning.parameter s t a.0 m >>= with_slot a.1)
+unfolding meaning.parameters
+parameters_steps s = record { opens = λ t ts a m. bound (meaning.parameter s t a.0 m) a.1 s ts }
+
+-- one value more, as the program pushes it
+pub went : {X Y : Type 0} (view : X → Y) (r : Result (Y × Machine) Fault) (xs xs' : List X) (x : X) (n : Machine) → r ≡ Ok (view x, n) → xs' ≡ xs ++ x ∷ [] → (r >>= with_last (map view xs)) ≡ Ok (map view xs', n)
+went view r xs xs' x n is grown = ap (λ (q : Result _ Fault). q >>= with_last (map view xs)) is ∙ ap (λ (l : List _). Ok (l, n)) (sym (ap (map view) grown ∙ map_push view xs x))
+
+pub slot_went : (r : Result ((Slot × List Given) × Machine) Fault) (xs xs' : List program.Slot) (x : program.Slot) (gs : List Given) (n : Machine) → r ≡ Ok ((view_slot x, gs), n) → xs' ≡ xs ++ x ∷ [] → (r >>= with_slot (map view_slot xs)) ≡ Ok ((gs, map view_slot xs'), n)
+slot_went r xs xs' x gs n is grown = ap (λ (q : Result ((Slot × List Given) × Machine) Fault). q >>= with_slot (map view_slot xs)) is ∙ ap (λ (l : List Slot). Ok ((gs, l), n)) (sym (ap (map view_slot) grown ∙ map_push view_slot xs x))
+
+-- ---- the ends of the loops
+
+pub ors_none : (s : Scope) (v : Value) (m : Machine) → meaning.ors s none v m ≡ Ok (v, m)
+unfolding meaning.ors
+ors_none s v m = refl
+
+pub ands_none : (s : Scope) (v : Value) (m : Machine) → meaning.ands s none v m ≡ Ok (v, m)
+unfolding meaning.ands
+ands_none s v m = refl
+
+pub addeds_none : (s : Scope) (v : Value) (m : Machine) → meaning.addeds s none v m ≡ Ok (v, m)
+unfolding meaning.addeds
+addeds_none s v m = refl
+
+pub multiplieds_none : (s : Scope) (v : Value) (m : Machine) → meaning.multiplieds s none v m ≡ Ok (v, m)
+unfolding meaning.multiplieds
+multiplieds_none s v m = refl
+
+pub fulls_none : (s : Scope) (vs : List Value) (m : Machine) → meaning.fulls s none vs m ≡ Ok (vs, m)
+unfolding meaning.fulls
+fulls_none s vs m = refl
+
+pub arguments_none : (s : Scope) (gs : List Given) (m : Machine) → meaning.arguments s none gs m ≡ Ok (gs, m)
+unfolding meaning.arguments
+arguments_none s gs m = refl
+
+pub inners_none : (s : Scope) (vs : List Slot) (m : Machine) → meaning.inners s none vs m ≡ Ok (vs, m)
+unfolding meaning.inners
+inners_none s vs m = refl
+
+pub parameters_none : (s : Scope) (gs : List Given) (vs : List Slot) (m : Machine) → meaning.parameters s none gs vs m ≡ Ok (vs, m)
+unfolding meaning.parameters
+parameters_none s gs vs m = refl
+
+-- ---- a first part, and what comes behind it
+
+-- a fault of the first part is one of the whole
+pub first_fails : {A B : Type 0} (e : Fault) (a : Result A Fault) (r : Result B Fault) (f : A → Result B Fault) → r ≡ (a >>= f) → Fails e a → Fails e r
+first_fails e a r f is fault = fails_same e (a >>= f) r (sym is) (fails_on e a f fault)
+
+-- and without one the whole is what comes behind it
+pub then_first : {A B : Type 0} (a : Result A Fault) (r : Result B Fault) (f : A → Result B Fault) (x : A) → r ≡ (a >>= f) → a ≡ Ok x → r ≡ f x
+then_first a r f x is went = is ∙ ap (λ (q : Result _ Fault). q >>= f) went
+
+-- ---- brackets
+
+same_after : {A B : Type 0} (r : Result A Fault) (f g : A → Result B Fault) → ((x : A) → f x ≡ g x) → (r >>= f) ≡ (r >>= g)
+same_after (Ok x) f g same = same x
+same_after (Err e) f g same = refl
+
+one_then : {A B C : Type 0} (a : Result A Fault) (k : A → Result B Fault) (f : B → Result C Fault) → (a >>= λ x. k x >>= f) ≡ ((a >>= k) >>= f)
+one_then (Ok x) k f = refl
+one_then (Err e) k f = refl
+
+two_then : {A B C D : Type 0} (a : Result A Fault) (b : A → Result B Fault) (k : A → B → Result C Fault) (f : C → Result D Fault) → (a >>= λ x. b x >>= λ y. k x y >>= f) ≡ ((a >>= λ x. b x >>= λ y. k x y) >>= f)
+two_then (Ok x) b k f = one_then (b x) (k x) f
+two_then (Err e) b k f = refl
+
+abbrev pub as_tuple : List Value × Machine → Outcome
+as_tuple z = Ok (value.Tuple (many z.0), z.1)
+
+-- a bracket of the program, whatever it holds
+pub grouped_means : (s : Scope) (at : ℕ) (ts : Tree (Many AFull)) (m : Machine) → meaning.prim s (tuple_of at ts) m ≡ (count 1 m >>= meaning.grouped s ts)
+unfolding meaning.prim meaning.fulls
+grouped_means s at none m = refl
+grouped_means s at (more f none) m = refl
+grouped_means s at (more f (more g rest)) m =
+    same_after (count 1 m) (λ c. full s f c >>= λ x. full s g x.1 >>= λ y. meaning.fulls s rest (x.0 ∷ y.0 ∷ []) y.1 >>= as_tuple) (λ c. meaning.grouped s (more f (more g rest)) c)
+    (λ c. two_then (full s f c) (λ x. full s g x.1) (λ x y. meaning.fulls s rest (x.0 ∷ y.0 ∷ []) y.1) as_tuple)
+
+pub pair_means : (s : Scope) (fs : List Full) (m : Machine) → 2 ≤ length fs → meaning.grouped s (listed (map view_full fs)) m ≡ (meaning.fulls s (listed (map view_full fs)) [] m >>= as_tuple)
+pair_means s [] m two = absurd (omega arith)
+pair_means s (f ∷ []) m two = absurd (omega arith)
+pair_means s (f ∷ g ∷ rest) m two = refl
+
+pub tuple_view : (at : ℕ) (v : Vec Full) → view_prim (prim.Tuple at v) ≡ tuple_of at (listed (map view_full v.items))
+tuple_view at v = ap (tuple_of at) (fulls_listed v)
+
+-- ---- calls of defs
+
+pub calls_end : (w : meaning.World) (n t : ℕ) (ks : List Kind) (gs : List Given) (m : Machine) → n ≡ 0 → meaning.call_by w n t ks gs m ≡ Err (TooLarge Calls)
+unfolding meaning.call_by
+calls_end w zero t ks gs m e = refl
+calls_end w (suc n) t ks gs m e = absurd (omega arith)
+
+pub calls_turn : (w : meaning.World) (n k t : ℕ) (ks : List Kind) (gs : List Given) (m : Machine) → n ≡ k + 1 → meaning.call_by w n t ks gs m ≡ meaning.run (record { uses = w.uses; slots = w.globals; kinds = ks; call = meaning.call_by w k }) (def_at t w.script) gs m
+unfolding meaning.call_by
+calls_turn w n k t ks gs m e =
+    let next : n ≡ suc k = omega arith in
+    ap (λ (j : ℕ). meaning.call_by w j t ks gs m) next

@@ -1,0 +1,22 @@
+-- What steps give that evaluate no expression.
+use Rattle.std.specs.Prelude.{Result, Ok}
+use Rattle.expression_eval.specs.declared.steps.Operator.{Operator}
+use Rattle.expression_eval.specs.declared.steps.Operator.TheVariants as operator
+use Rattle.script_values.specs.Machines.{count}
+use Rattle.script_values.specs.Numbers.{added, both, compared, either, multiplied}
+use Rattle.script_values.specs.Outcomes.{◌>>=◌, Outcome}
+use Rattle.script_values.specs.Values.{Value}
+use Rattle.script_values.specs.declared.fault.Fault.{Fault}
+use Rattle.script_values.specs.declared.machine.Machine.{Machine}
+
+-- what was made, behind the count of 1
+abbrev pub after_count : Result Value Fault → Machine → Outcome
+after_count made m = count 1 m >>= λ c. made >>= λ v. Ok (v, c)
+
+-- what an operator makes of two values
+abbrev pub operation : Operator → Value → Value → Result Value Fault
+operation operator.Or = either
+operation operator.And = both
+operation (operator.Sum minus at) = added minus at
+operation (operator.Product divide at) = multiplied divide at
+operation (operator.Comparison op) = compared op

@@ -1,0 +1,143 @@
+// Steps that evaluate no expression: what is counted, and what a parameter takes of the arguments. Values that are no
+// longer needed end here, and not in the descent.
+ghost use Rattle.std.specs.Prelude.{◌≡◌, Ok, map, option_map};
+ghost use Rattle.eval_meaning.specs.Meaning.{format, taken};
+ghost use Rattle.expression_eval.specs.Steps.{after_count, operation};
+ghost use Rattle.script_values.specs.Gives.{Gives};
+ghost use Rattle.script_values.specs.Numbers.{negative, opposite, truth_of};
+ghost use Rattle.script_values.specs.Values.{Text as a_text};
+ghost use Rattle.script_values.specs.View.{view_value};
+ghost use Rattle.script_values.specs.Views.{view_given, view_slot};
+ghost use Rattle.script_values.specs.declared.machine.Machine.{Machine};
+ghost use Rattle.typing_rules.specs.Arguments.{argument};
+
+use eval_scope::format;
+use liq_base::Text;
+use script_grammar::tree::{CompareOp, Literal};
+use script_values::{
+    Fault, Given, Machine, Slot, Value, added, argument, both, compared, count, either, multiplied,
+    negative, opposite, truth_of,
+};
+use std::alloc::Global;
+
+/// An operator on two values, with what it needs beside them.
+#[derive(Clone, Copy)]
+pub enum Operator {
+    /// Whether one of two holds.
+    Or,
+
+    /// Whether both hold.
+    And,
+
+    /// A sum, or with `minus` a difference.
+    Sum { minus: bool, at: u32 },
+
+    /// A product, or with `divide` a quotient.
+    Product { divide: bool, at: u32 },
+
+    /// Whether two numbers compare so.
+    Comparison(CompareOp),
+}
+
+/// What an operator makes of two values, behind its count.
+pub fn operate(
+    machine: &mut Machine,
+    operator: Operator,
+    left: Value,
+    right: Value,
+) -> Result<Value, Fault>
+    ensures { Gives (λ v. (view_value v, machine.new)) result (after_count (operation operator (view_value left) (view_value right)) machine.old) }
+{
+    counted_operation(machine, operator, &left, &right)
+}
+
+/// `not` of a value, behind its count.
+pub fn negate(machine: &mut Machine, value: Value) -> Result<Value, Fault>
+    ensures { Gives (λ v. (view_value v, machine.new)) result (after_count (opposite (view_value value)) machine.old) }
+{
+    counted_opposite(machine, &value)
+}
+
+/// The truth of a condition.
+pub fn truth(value: Value) -> Result<bool, Fault>
+    ensures { Gives (λ b. b) result (truth_of (view_value value)) }
+{
+    truth_of(&value)
+}
+
+/// The number below zero, behind its count.
+pub fn counted_negative(machine: &mut Machine, at: u32, number: Literal) -> Result<Value, Fault>
+    ensures { Gives (λ v. (view_value v, machine.new)) result (after_count (negative at number) machine.old) }
+{
+    count(machine, 1)?;
+    let made = negative(at, number)?;
+    Ok(made)
+}
+
+/// A value that is there, behind the count of 1.
+pub fn counted_value(machine: &mut Machine, value: Value) -> Result<Value, Fault>
+    ensures { Gives (λ v. (view_value v, machine.new)) result (after_count (Ok (view_value value)) machine.old) }
+{
+    count(machine, 1)?;
+    Ok(value)
+}
+
+/// A text of the script, behind the count of 1.
+pub fn counted_text(alloc: Global, machine: &mut Machine, text: &Text) -> Result<Value, Fault>
+    ensures { Gives (λ v. (view_value v, machine.new)) result (after_count (Ok (a_text text.now)) machine.old) }
+{
+    count(machine, 1)?;
+    Ok(Value::Text(text.copy(alloc)?))
+}
+
+/// The format that `%wav` names, behind the count of 1.
+pub fn counted_format(machine: &mut Machine, at: u32, size: Option<i64>) -> Result<Value, Fault>
+    ensures { Gives (λ v. (view_value v, machine.new)) result (after_count (format at size) machine.old) }
+{
+    count(machine, 1)?;
+    let made = format(at, size)?;
+    Ok(made)
+}
+
+/// The slot of a parameter without a default, by the first argument with its label.
+pub fn taken(given: &mut Vec<Given>, at: u32, label: Option<&str>) -> Result<Slot, Fault>
+    ensures { (m : Machine) → Gives (λ v. ((view_slot v, map view_given given.new.items), m)) result (taken at (argument (option_map (λ t. t.now) label.entry) (map view_given given.old.items)) m) }
+{
+    match argument(given, label) {
+        None => Err(Fault::Stuck),
+        Some(value) => Ok(Slot { at, value }),
+    }
+}
+
+fn counted_operation(
+    machine: &mut Machine,
+    operator: Operator,
+    left: &Value,
+    right: &Value,
+) -> Result<Value, Fault>
+    ensures { Gives (λ v. (view_value v, machine.new)) result (after_count (operation operator (view_value left.now) (view_value right.now)) machine.old) }
+{
+    count(machine, 1)?;
+    let made = operation(operator, left, right)?;
+    Ok(made)
+}
+
+fn operation(operator: Operator, left: &Value, right: &Value) -> Result<Value, Fault>
+    ensures { Gives (λ v. view_value v) result (operation operator (view_value left.now) (view_value right.now)) }
+{
+    match operator {
+        Operator::Or => either(left, right),
+        Operator::And => both(left, right),
+        Operator::Sum { minus, at } => added(minus, at, left, right),
+        Operator::Product { divide, at } => multiplied(divide, at, left, right),
+        Operator::Comparison(op) => compared(op, left, right),
+    }
+}
+
+fn counted_opposite(machine: &mut Machine, value: &Value) -> Result<Value, Fault>
+    ensures { Gives (λ v. (view_value v, machine.new)) result (after_count (opposite (view_value value.now)) machine.old) }
+{
+    count(machine, 1)?;
+    let made = opposite(value)?;
+    Ok(made)
+}

@@ -1,7 +1,0 @@
-use Rattle.std.proofs.Common.{◌≡◌, drop}
-use Rattle.typing_rules.specs.Kinds.{kinds_of}
-use Rattle.script_eval.specs.Scopes.{prefixed}
-use Rattle.script_eval.proofs.scope.kinds_of.Given as goal
-
-abbrev pub invariant-loop-kind : goal.invariant-loop-kind
-invariant-loop-kind l = prefixed l.kinds.items (kinds_of l.given (drop l.kind-index l.wanted)) ≡ kinds_of l.given l.wanted

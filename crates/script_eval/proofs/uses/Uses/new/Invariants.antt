@@ -1,6 +1,0 @@
-use Rattle.std.proofs.Common.{take}
-use Rattle.script_eval.specs.Places.{IsTable, is_use}
-use Rattle.script_eval.proofs.uses.Uses.new.Given as goal
-
-abbrev pub invariant-loop-place : goal.invariant-loop-place
-invariant-loop-place l = IsTable is_use l.places (take l.place l.all)
