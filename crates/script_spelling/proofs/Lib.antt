@@ -1,1 +1,1 @@
-mod Spelled
+mod DefSpelled

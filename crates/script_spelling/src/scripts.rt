@@ -1,15 +1,16 @@
 // The tokens of statements and scripts.
 ghost use Rattle.std.specs.Prelude.{◌≡◌, ◌++◌, ◌∷◌, [], OnOk, IfOk, map};
 ghost use Rattle.script_grammar.specs.Spelling.{spell, spelling};
-ghost use Rattle.script_spelling.specs.Pieces.{each, between_commas, def_head, def_body};
+ghost use Rattle.value_spelling.specs.Pieces.{each, between_commas};
+ghost use Rattle.script_spelling.specs.Defs.{def_head, def_body};
 ghost use Rattle.script_grammar.specs.View.{view_expr, view_bind, view_inner, view_param, view_def, view_part, view_stmt, view_script};
 
-use crate::predicates::put_if;
-use crate::values::{put_call, put_choice, put_expr, put_full};
 use liq_base::{Memory, Text};
 use script_grammar::tree::{Bind, Def, Expr, Inner, Param, ParamForm, Script, Stmt, StmtPart};
 use script_lex::{Keyword, Symbol, TokenKind};
 use std::alloc::Global;
+use value_spelling::predicates::put_if;
+use value_spelling::values::{put_call, put_choice, put_expr, put_full};
 
 /// The one list of token kinds that spells a script, as `docs/grammar.md` gives it.
 pub fn spell(alloc: Global, script: &Script) -> Result<Vec<TokenKind>, Memory>

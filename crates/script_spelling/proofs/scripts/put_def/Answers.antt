@@ -1,4 +1,4 @@
-use Rattle.script_spelling.proofs.Spelled.{def_parts}
+use Rattle.script_spelling.proofs.DefSpelled.{def_parts}
 use Rattle.script_spelling.proofs.scripts.put_def.Goals as goal
 
 pub returns : goal.returns

@@ -1,7 +1,7 @@
 use Rattle.std.proofs.Common.{◌≡◌, ◌++◌, map, take}
 use Rattle.script_lex.specs.declared.token.TokenKind.TheVariants.{Symbol}
 use Rattle.script_lex.specs.declared.token.Symbol.TheVariants as sign
-use Rattle.script_spelling.specs.Pieces.{each_behind}
+use Rattle.value_spelling.specs.Pieces.{each_behind}
 use Rattle.script_grammar.specs.View.{view_param}
 use Rattle.script_spelling.proofs.scripts.put_params.Given as goal
 

@@ -1,5 +1,5 @@
 use Rattle.std.proofs.Common.{◌≡◌, ◌++◌, map, take}
-use Rattle.script_spelling.specs.Pieces.{each}
+use Rattle.value_spelling.specs.Pieces.{each}
 use Rattle.script_grammar.specs.View.{view_stmt}
 use Rattle.script_spelling.proofs.scripts.put_stmts.Given as goal
 

@@ -1,6 +1,6 @@
 use Rattle.std.proofs.Common.{rules, map}
 use Rattle.script_grammar.specs.View.{view_stmt}
-use Rattle.script_spelling.proofs.Spelled.{each_listed}
+use Rattle.value_spelling.proofs.Spelled.{each_listed}
 use Rattle.script_spelling.proofs.scripts.spell.Goals as goal
 
 pub returns : goal.returns

@@ -2,9 +2,9 @@ use Rattle.std.proofs.Common.{◌≡◌, ◌++◌, map, take}
 use Rattle.script_lex.specs.declared.token.TokenKind.TheVariants.{Keyword, Symbol}
 use Rattle.script_lex.specs.declared.token.Keyword.TheVariants as word
 use Rattle.script_lex.specs.declared.token.Symbol.TheVariants as sign
-use Rattle.script_spelling.specs.Pieces.{each, each_behind}
+use Rattle.value_spelling.specs.Pieces.{each, each_behind}
 use Rattle.script_grammar.specs.View.{view_and, view_not, view_added, view_multiplied, view_full, view_arg}
-use Rattle.script_spelling.proofs.values.+value.Given as goal
+use Rattle.value_spelling.proofs.values.+value.Given as goal
 
 abbrev pub invariant-put_ands-loop-and : goal.invariant-put_ands-loop-and
 invariant-put_ands-loop-and l = l.out.items ≡ l.fn.out.items ++ each_behind (Keyword word.Or) (map view_and (take l.and-index l.ands))

@@ -1,5 +1,5 @@
-use Rattle.script_spelling.proofs.Spelled.{por_spelled, pand_spelled}
-use Rattle.script_spelling.proofs.predicates.+predicate.Goals as goal
+use Rattle.value_spelling.proofs.Spelled.{por_spelled, pand_spelled}
+use Rattle.value_spelling.proofs.predicates.+predicate.Goals as goal
 
 pub put_por-returns : goal.put_por-returns
 put_por-returns t c = rw (por_spelled c.args.pred.now _ c.deref.ensures.value) c.put_por_parts.ensures

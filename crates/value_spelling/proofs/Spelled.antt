@@ -8,9 +8,9 @@ use Rattle.script_lex.specs.declared.token.TokenKind.TheVariants.{NameOpen, Keyw
 use Rattle.script_lex.specs.declared.token.Keyword.TheVariants as word
 use Rattle.script_lex.specs.declared.token.Symbol.TheVariants as sign
 use Rattle.script_grammar.specs.Tree.{Sort, Tree, Many, APAnd, APNot, AFull}
-use Rattle.script_grammar.specs.Spelling.{spell, behind, with_commas, token_if}
-use Rattle.script_spelling.specs.Pieces.{each, each_behind, between_commas, in_brackets, por_parts, pand_parts, def_head, def_body}
-use Rattle.script_grammar.specs.View.{listed, por_of, pand_of, tuple_of, view_por, view_pand, view_pnot, view_expr, view_and, view_not, view_sum, view_added, view_product, view_multiplied, view_prim, view_full, view_call, view_arg, view_def, view_param, view_inner}
+use Rattle.script_grammar.specs.Spelling.{spell, behind, with_commas}
+use Rattle.value_spelling.specs.Pieces.{each, each_behind, between_commas, in_brackets, por_parts, pand_parts}
+use Rattle.script_grammar.specs.View.{listed, por_of, pand_of, tuple_of, view_por, view_pand, view_pnot, view_expr, view_and, view_not, view_sum, view_added, view_product, view_multiplied, view_prim, view_full, view_call, view_arg}
 use Rattle.script_grammar.specs.declared.tree.Full.{Full}
 use Rattle.script_grammar.specs.declared.tree.Expr as expr
 use Rattle.script_grammar.specs.declared.tree.And as and_
@@ -22,9 +22,6 @@ use Rattle.script_grammar.specs.declared.tree.Multiplied as multiplied
 use Rattle.script_grammar.specs.declared.tree.Operand as prim
 use Rattle.script_grammar.specs.declared.tree.Call as call
 use Rattle.script_grammar.specs.declared.tree.Arg as arg
-use Rattle.script_grammar.specs.declared.tree.Def as def
-use Rattle.script_grammar.specs.declared.tree.Param as param
-use Rattle.script_grammar.specs.declared.tree.Inner as inner
 use Rattle.script_grammar.specs.declared.predicate.POr as por
 use Rattle.script_grammar.specs.declared.predicate.PAnd as pand
 use Rattle.script_grammar.specs.declared.predicate.PNot as pnot
@@ -57,7 +54,7 @@ tuple_listed at [] = refl
 tuple_listed at (f ∷ []) = ap (λ (z : List TokenKind). Symbol sign.OpenRound ∷ (z ++ (Symbol sign.CloseRound ∷ []))) (sym (append-nil (spell f)))
 tuple_listed at (f ∷ g ∷ rest) = ap (λ (z : List TokenKind). Symbol sign.OpenRound ∷ (spell f ++ (Symbol sign.Comma ∷ (spell g ++ (z ++ (Symbol sign.CloseRound ∷ [])))))) (behind_listed (Symbol sign.Comma) rest) ∙ simp append_assoc refl
 
-two_parts : (old a new p q whole : List TokenKind) → a ≡ old ++ p → new ≡ a ++ q → whole ≡ p ++ q → new ≡ old ++ whole
+pub two_parts : (old a new p q whole : List TokenKind) → a ≡ old ++ p → new ≡ a ++ q → whole ≡ p ++ q → new ≡ old ++ whole
 two_parts old a new p q whole e f g = f ∙ ap (λ (z : List TokenKind). z ++ q) e ∙ append_assoc old p q ∙ ap (λ (z : List TokenKind). old ++ z) (sym g)
 
 three_parts : (old a b new : List TokenKind) (k : TokenKind) (q : List TokenKind) (last : TokenKind) (whole : List TokenKind) → a ≡ old ++ (k ∷ []) → b ≡ a ++ q → new ≡ b ++ (last ∷ []) → whole ≡ k ∷ (q ++ (last ∷ [])) → new ≡ old ++ whole
@@ -102,21 +99,3 @@ tuple_spelled at v = ap (λ (t : _). spell (tuple_of at t)) (fulls_listed v) ∙
 
 pub list_spelled : (at : ℕ) (v : Vec Full) → spell (view_prim (prim.List at v)) ≡ in_brackets sign.OpenSquare (map view_full v.items) sign.CloseSquare
 list_spelled at v = ap (λ (t : Tree (Many AFull)). Symbol sign.OpenSquare ∷ (with_commas t ++ (Symbol sign.CloseSquare ∷ []))) (fulls_listed v) ∙ ap (λ (z : List TokenKind). Symbol sign.OpenSquare ∷ (z ++ (Symbol sign.CloseSquare ∷ []))) (commas_listed (map view_full v.items))
-
-def_spelled : (d : def.Def) → spell (view_def d) ≡ def_head d.name (map view_param d.params.items) ++ (token_if (Symbol sign.Assign) d.equals ++ def_body (map view_inner d.inner.items) (view_expr d.result))
-def_spelled d =
-    let ps = map view_param d.params.items in
-    let mark = token_if (Symbol sign.Assign) d.equals in
-    let rest = spell (view_expr d.result) ++ (Keyword word.End ∷ []) in
-    ap (λ (z : List TokenKind). Keyword word.Def ∷ NameOpen d.name ∷ (z ++ (Symbol sign.CloseRound ∷ (mark ++ (spell (listed (map view_inner d.inner.items)) ++ rest))))) (commas_listed ps)
-    ∙ ap (λ (z : List TokenKind). Keyword word.Def ∷ NameOpen d.name ∷ (between_commas ps ++ (Symbol sign.CloseRound ∷ (mark ++ (z ++ rest))))) (each_listed (map view_inner d.inner.items))
-    ∙ ap (λ (z : List TokenKind). Keyword word.Def ∷ NameOpen d.name ∷ z) (sym (append_assoc (between_commas ps) (Symbol sign.CloseRound ∷ []) (mark ++ def_body (map view_inner d.inner.items) (view_expr d.result))))
-
-pub def_parts : (d : def.Def) (ps : List param.Param) (is : List inner.Inner) (old a b new : List TokenKind) → ps ≡ d.params.items → is ≡ d.inner.items → a ≡ old ++ def_head d.name (map view_param ps) → b ≡ a ++ token_if (Symbol sign.Assign) d.equals → new ≡ b ++ def_body (map view_inner is) (view_expr d.result) → new ≡ old ++ spell (view_def d)
-def_parts d ps is old a b new pis iis ais bis nis =
-    let head = def_head d.name (map view_param ps) in
-    let mark = token_if (Symbol sign.Assign) d.equals in
-    let body = def_body (map view_inner is) (view_expr d.result) in
-    let whole : spell (view_def d) ≡ head ++ (mark ++ body) = def_spelled d ∙ ap (λ (z : List param.Param). def_head d.name (map view_param z) ++ (mark ++ def_body (map view_inner d.inner.items) (view_expr d.result))) (sym pis) ∙ ap (λ (z : List inner.Inner). head ++ (mark ++ def_body (map view_inner z) (view_expr d.result))) (sym iis) in
-    let later : new ≡ a ++ (mark ++ body) = nis ∙ ap (λ (z : List TokenKind). z ++ body) bis ∙ append_assoc a mark body in
-    two_parts old a new head (mark ++ body) (spell (view_def d)) ais later whole

@@ -1,7 +1,7 @@
 use Rattle.std.proofs.Common.{rules, List, ◌++◌, ◌∷◌, [], ap, ◌∙◌}
 use Rattle.script_lex.specs.declared.token.TokenKind.TheVariants.{NameOpen}
-use Rattle.script_spelling.proofs.Spelled.{expr_parts, and_parts, sum_parts, product_parts, call_parts, tuple_spelled, list_spelled}
-use Rattle.script_spelling.proofs.values.+value.Goals as goal
+use Rattle.value_spelling.proofs.Spelled.{expr_parts, and_parts, sum_parts, product_parts, call_parts, tuple_spelled, list_spelled}
+use Rattle.value_spelling.proofs.values.+value.Goals as goal
 
 pub put_expr-returns : goal.put_expr-returns
 put_expr-returns t c = expr_parts c.args.expr.now _ _ _ _ c.deref.ensures.value c.in_ok-put_and.ensures c.in_ok-put_ands.ensures

@@ -1,14 +1,14 @@
-// The tokens of a predicate.
+//! The tokens of a predicate.
 ghost use Rattle.std.specs.Prelude.{◌≡◌, ◌++◌, OnOk, map};
 ghost use Rattle.script_grammar.specs.Spelling.{spell, token_if};
-ghost use Rattle.script_spelling.specs.Pieces.{por_parts, pand_parts};
+ghost use Rattle.value_spelling.specs.Pieces.{por_parts, pand_parts};
 ghost use Rattle.script_grammar.specs.View.{view_por, view_pand, view_pnot, view_patom};
 
 use liq_base::Memory;
 use script_grammar::predicate::{PAnd, PAtom, PNot, POr};
 use script_lex::{Keyword, Symbol, TokenKind};
 
-// Appends a token that may be missing.
+/// Appends a token that may be missing.
 pub fn put_if(out: &mut Vec<TokenKind>, kind: TokenKind, present: bool) -> Result<(), Memory>
     ensures { OnOk result (out.new.items ≡ out.old.items ++ token_if kind present) }
 {
@@ -20,6 +20,7 @@ pub fn put_if(out: &mut Vec<TokenKind>, kind: TokenKind, present: bool) -> Resul
     }
 }
 
+/// Appends the tokens of a predicate.
 #[cycle(predicate)]
 pub fn put_por(out: &mut Vec<TokenKind>, pred: &POr) -> Result<(), Memory>
     ensures { OnOk result (out.new.items ≡ out.old.items ++ spell (view_por pred.now)) }

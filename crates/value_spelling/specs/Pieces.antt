@@ -1,12 +1,12 @@
 -- The spellings of lists of trees, as the program writes them.
-use Rattle.std.specs.Prelude.{ℕ, List, [], ◌∷◌, ◌++◌}
+use Rattle.std.specs.Prelude.{List, [], ◌∷◌, ◌++◌}
 use Rattle.std.specs.List.{flat_map}
 use Rattle.script_lex.specs.declared.token.TokenKind.{TokenKind}
-use Rattle.script_lex.specs.declared.token.TokenKind.TheVariants.{NameOpen, Keyword, Symbol}
+use Rattle.script_lex.specs.declared.token.TokenKind.TheVariants.{Keyword, Symbol}
 use Rattle.script_lex.specs.declared.token.Keyword.TheVariants as word
 use Rattle.script_lex.specs.declared.token.Symbol.{Symbol as Sign}
 use Rattle.script_lex.specs.declared.token.Symbol.TheVariants as sign
-use Rattle.script_grammar.specs.Tree.{Sort, Tree, APAnd, APNot, AParam, AnInner, AnExpr}
+use Rattle.script_grammar.specs.Tree.{Sort, Tree, APAnd, APNot}
 use Rattle.script_grammar.specs.Spelling.{spell}
 
 -- one after another
@@ -34,10 +34,3 @@ por_parts (t ∷ ts) = spell t ++ each_behind (Keyword word.Or) ts
 abbrev pub pand_parts : List (Tree APNot) → List TokenKind
 pand_parts [] = Keyword word.True ∷ []
 pand_parts (t ∷ ts) = spell t ++ each_behind (Keyword word.And) ts
-
--- a def up to the bracket behind its parameters, and from its bindings on
-abbrev pub def_head : List ℕ → List (Tree AParam) → List TokenKind
-def_head name params = Keyword word.Def ∷ NameOpen name ∷ (between_commas params ++ (Symbol sign.CloseRound ∷ []))
-
-abbrev pub def_body : List (Tree AnInner) → Tree AnExpr → List TokenKind
-def_body inner value = each inner ++ (spell value ++ (Keyword word.End ∷ []))

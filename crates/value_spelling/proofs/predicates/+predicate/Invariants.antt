@@ -1,9 +1,9 @@
 use Rattle.std.proofs.Common.{◌≡◌, ◌++◌, map, take}
 use Rattle.script_lex.specs.declared.token.TokenKind.TheVariants.{Keyword}
 use Rattle.script_lex.specs.declared.token.Keyword.TheVariants as word
-use Rattle.script_spelling.specs.Pieces.{each_behind}
+use Rattle.value_spelling.specs.Pieces.{each_behind}
 use Rattle.script_grammar.specs.View.{view_pand, view_pnot}
-use Rattle.script_spelling.proofs.predicates.+predicate.Given as goal
+use Rattle.value_spelling.proofs.predicates.+predicate.Given as goal
 
 abbrev pub invariant-put_por_parts-others : goal.invariant-put_por_parts-others
 invariant-put_por_parts-others l = l.out.items ≡ l.initial.out.items ++ each_behind (Keyword word.Or) (map view_pand (take l.part-index l.rest))

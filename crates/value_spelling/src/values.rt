@@ -1,10 +1,10 @@
-// The tokens of values: full values, expressions, operands, calls and `if`.
+//! The tokens of values: full values, expressions, operands, calls and `if`.
 ghost use Rattle.std.specs.Prelude.{◌≡◌, ◌++◌, ◌∷◌, [], OnOk, IfOk, map};
 ghost use Rattle.script_lex.specs.declared.token.TokenKind.TheVariants.{Keyword as a_keyword, Symbol as a_symbol};
 ghost use Rattle.script_lex.specs.declared.token.Keyword.TheVariants as word;
 ghost use Rattle.script_lex.specs.declared.token.Symbol.TheVariants as sign;
 ghost use Rattle.script_grammar.specs.Spelling.{spell, behind, literal_token, truth_token, op_token, added_token, multiplied_token, label, wav_tokens, option_name};
-ghost use Rattle.script_spelling.specs.Pieces.{each, each_behind, between_commas, in_brackets};
+ghost use Rattle.value_spelling.specs.Pieces.{each, each_behind, between_commas, in_brackets};
 ghost use Rattle.script_grammar.specs.View.{listed, tuple_of, view_full, view_expr, view_and, view_not, view_compare, view_sum, view_added, view_product, view_multiplied, view_prim, view_call, view_arg, view_if};
 
 use crate::predicates::{put_if, put_por};
@@ -16,6 +16,7 @@ use script_grammar::tree::{
 use script_lex::{Keyword, Symbol, TokenKind};
 use std::alloc::Global;
 
+/// Appends the tokens of a value in full.
 #[cycle(value)]
 pub fn put_full(alloc: Global, out: &mut Vec<TokenKind>, full: &Full) -> Result<(), Memory>
     ensures { OnOk result (out.new.items ≡ out.old.items ++ spell (view_full full.now)) }
@@ -30,6 +31,7 @@ pub fn put_full(alloc: Global, out: &mut Vec<TokenKind>, full: &Full) -> Result<
     }
 }
 
+/// Appends the tokens of an expression.
 #[cycle(value)]
 pub fn put_expr(alloc: Global, out: &mut Vec<TokenKind>, expr: &Expr) -> Result<(), Memory>
     ensures { OnOk result (out.new.items ≡ out.old.items ++ spell (view_expr expr.now)) }
@@ -39,6 +41,7 @@ pub fn put_expr(alloc: Global, out: &mut Vec<TokenKind>, expr: &Expr) -> Result<
     Ok(())
 }
 
+/// Appends the tokens of a call.
 #[cycle(value)]
 pub fn put_call(alloc: Global, out: &mut Vec<TokenKind>, call: &Call) -> Result<(), Memory>
     ensures { OnOk result (out.new.items ≡ out.old.items ++ spell (view_call call.now)) }
@@ -49,6 +52,7 @@ pub fn put_call(alloc: Global, out: &mut Vec<TokenKind>, call: &Call) -> Result<
     Ok(())
 }
 
+/// Appends the tokens of an `if`.
 #[cycle(value)]
 pub fn put_choice(alloc: Global, out: &mut Vec<TokenKind>, choice: &If) -> Result<(), Memory>
     ensures { OnOk result (out.new.items ≡ out.old.items ++ spell (view_if choice.now)) }

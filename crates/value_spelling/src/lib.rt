@@ -1,0 +1,5 @@
+//! Writes the trees of values and predicates as tokens.
+#![tactic(auto)]
+
+pub mod predicates;
+pub mod values;
