@@ -40,19 +40,27 @@ pub fn eval(alloc: Global, script: &Script, uses: &[Use]) -> Result<Plan, EvalFa
     answered(alloc, script, uses)
 }
 
-#[tactic(auto, using(crate::proofs::Statements::first_not_stuck))]
+// The tables of a script and of its uses, and the plan by them.
 fn answered(alloc: Global, script: &Script, uses: &[Use]) -> Result<Plan, EvalFault>
     requires { IsNotStuck (evaluation (view_script script.now) uses.now) }
     ensures { Answers (λ p. p) result (evaluation (view_script script.now) uses.now) }
 {
-    let mut machine = Machine::new(alloc);
     let Ok(defs) = Defs::new(alloc, script) else {
         return Err(EvalFault::Memory);
     };
     let Ok(uses) = Uses::new(alloc, uses) else {
         return Err(EvalFault::Memory);
     };
-    run(alloc, &defs, &uses, &script.statements, &mut machine)?;
+    planned(alloc, &defs, &uses)
+}
+
+#[tactic(auto, using(crate::proofs::Statements::first_not_stuck))]
+fn planned(alloc: Global, defs: &Defs<'_>, uses: &Uses<'_>) -> Result<Plan, EvalFault>
+    requires { IsNotStuck (evaluation (view_script defs.now.script.now) uses.now.all.now) }
+    ensures { Answers (λ p. p) result (evaluation (view_script defs.now.script.now) uses.now.all.now) }
+{
+    let mut machine = Machine::new(alloc);
+    run(alloc, defs, uses, &defs.script.statements, &mut machine)?;
     if has_output(machine.plan.plan().sinks.as_slice()) {
         Ok(machine.plan.into_plan())
     } else {
