@@ -6,7 +6,8 @@ ghost use Rattle.eval_meaning.specs.Scripts.{Answers, ended, evaluation, is_outp
 ghost use Rattle.eval_safety.specs.Safety.{IsNotStuck};
 ghost use Rattle.plan_core.specs.Plans.{IsWellFormed};
 ghost use Rattle.script_grammar.specs.Placed.{IsPlaced};
-ghost use Rattle.script_grammar.specs.View.{listed, view_call, view_full, view_if, view_part, view_script, view_stmt};
+ghost use Rattle.script_grammar.specs.Tree.{BindPart as a_binding};
+ghost use Rattle.script_grammar.specs.View.{listed, view_bind, view_call, view_full, view_if, view_part, view_script, view_stmt};
 ghost use Rattle.script_values.specs.declared.fault.EvalFault.TheVariants as told;
 ghost use Rattle.script_values.specs.declared.fault.Fault.TheVariants.{Stuck};
 ghost use Rattle.script_values.specs.Faults.{fault_in};
@@ -20,7 +21,7 @@ use expression_eval::{call, choice, full, is_setting};
 use fixed_text::Decimal;
 use liq_base::limits::{MAX_CALLS, MAX_FRAME};
 use plan_core::{Plan, SinkPlan};
-use script_grammar::tree::{Call, Full, If, Script, Stmt, StmtPart};
+use script_grammar::tree::{Bind, Call, Full, If, Script, Stmt, StmtPart};
 use script_values::{EvalFault, Fault, Machine, Slot, Value, fault_in};
 use std::alloc::Global;
 use typing_rules::Use;
@@ -40,19 +41,27 @@ pub fn eval(alloc: Global, script: &Script, uses: &[Use]) -> Result<Plan, EvalFa
     answered(alloc, script, uses)
 }
 
-#[tactic(auto, using(crate::proofs::Statements::first_not_stuck))]
+// The tables of a script and of its uses, and the plan by them.
 fn answered(alloc: Global, script: &Script, uses: &[Use]) -> Result<Plan, EvalFault>
     requires { IsNotStuck (evaluation (view_script script.now) uses.now) }
     ensures { Answers (λ p. p) result (evaluation (view_script script.now) uses.now) }
 {
-    let mut machine = Machine::new(alloc);
     let Ok(defs) = Defs::new(alloc, script) else {
         return Err(EvalFault::Memory);
     };
     let Ok(uses) = Uses::new(alloc, uses) else {
         return Err(EvalFault::Memory);
     };
-    run(alloc, &defs, &uses, &script.statements, &mut machine)?;
+    planned(alloc, &defs, &uses)
+}
+
+#[tactic(auto, using(crate::proofs::Statements::first_not_stuck))]
+fn planned(alloc: Global, defs: &Defs<'_>, uses: &Uses<'_>) -> Result<Plan, EvalFault>
+    requires { IsNotStuck (evaluation (view_script defs.now.script.now) uses.now.all.now) }
+    ensures { Answers (λ p. p) result (evaluation (view_script defs.now.script.now) uses.now.all.now) }
+{
+    let mut machine = Machine::new(alloc);
+    run(alloc, defs, uses, &defs.script.statements, &mut machine)?;
     if has_output(machine.plan.plan().sinks.as_slice()) {
         Ok(machine.plan.into_plan())
     } else {
@@ -192,11 +201,7 @@ fn statement(
     ensures { Gives (λ _. (map view_slot globals.new.all.items, machine.new)) result (statement (top_scope (view_script defs.now.script.now) uses.now.all.now (map view_slot globals.old.all.items)) (view_part part.now) (map view_slot globals.old.all.items) machine.old) }
 {
     match part {
-        StmtPart::Bind(bind) => {
-            let value = top_full(alloc, defs, uses, globals, machine, &bind.value)?;
-            globals.push(Slot { at: bind.at, value })?;
-            Ok(())
-        }
+        StmtPart::Bind(bind) => binding(alloc, defs, uses, bind, globals, machine),
         StmtPart::Def(_) => Ok(()),
         StmtPart::Call(inside) => {
             let _value = top_call(alloc, defs, uses, globals, machine, inside)?;
@@ -207,6 +212,22 @@ fn statement(
             Ok(())
         }
     }
+}
+
+#[tactic(auto, unfolding(eval_meaning::specs::Scripts::statement))]
+fn binding(
+    alloc: Global,
+    defs: &Defs<'_>,
+    uses: &Uses<'_>,
+    bind: &Bind,
+    globals: &mut Globals,
+    machine: &mut Machine,
+) -> Result<(), Fault>
+    ensures { Gives (λ _. (map view_slot globals.new.all.items, machine.new)) result (statement (top_scope (view_script defs.now.script.now) uses.now.all.now (map view_slot globals.old.all.items)) (a_binding (view_bind bind.now)) (map view_slot globals.old.all.items) machine.old) }
+{
+    let value = top_full(alloc, defs, uses, globals, machine, &bind.value)?;
+    globals.push(Slot { at: bind.at, value })?;
+    Ok(())
 }
 
 fn top_full(
