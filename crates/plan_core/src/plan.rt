@@ -94,7 +94,9 @@ impl Plan {
         ensures room { OnOk result (length self.old.sinks + 1 < 2 ^ 32) }
         ensures unchanged { OnErr result (self.new ≡ self.old) }
     {
-        let number = u32::try_from(self.buffers.len()).map_err(|_| Memory)?;
+        let Ok(number) = u32::try_from(self.buffers.len()) else {
+            return Err(Memory);
+        };
         if self.sinks.len() >= u32::MAX as usize {
             return Err(Memory);
         }

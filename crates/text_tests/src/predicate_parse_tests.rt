@@ -2,7 +2,7 @@
 use fixed_text::TimeMark;
 use parse_base::Fault;
 use predicate_parse::predicate;
-use script_grammar::predicate::{PAtom, POr};
+use script_grammar::predicate::{PAtom, PNot, POr};
 use script_lex::{Token, lex};
 use std::alloc::{AllocError, Global};
 use std::fmt::Write;
@@ -36,15 +36,20 @@ fn atom(alloc: Global, atom: &PAtom) -> Result<String, AllocError> {
 fn shown(alloc: Global, pred: &POr) -> Result<String, AllocError> {
     let mut text = String::new(alloc);
     for part in &pred.parts {
-        write!(text, "[")?;
+        text.push_str("[")?;
         for item in &part.parts {
-            let sign = if item.negated { "!" } else { "" };
-            let atom = atom(alloc, &item.atom)?;
-            write!(text, " {sign}{atom}")?;
+            push_item(alloc, &mut text, item)?;
         }
-        write!(text, " ]")?;
+        text.push_str(" ]")?;
     }
     Ok(text)
+}
+
+fn push_item(alloc: Global, text: &mut String, item: &PNot) -> Result<(), AllocError> {
+    let sign = if item.negated { "!" } else { "" };
+    let atom = atom(alloc, &item.atom)?;
+    write!(text, " {sign}{atom}")?;
+    Ok(())
 }
 
 fn tokens(alloc: Global, source: &[u8]) -> Vec<Token> {
@@ -54,14 +59,15 @@ fn tokens(alloc: Global, source: &[u8]) -> Vec<Token> {
     }
 }
 
+fn with_left(alloc: Global, pred: &POr, left: usize) -> Result<String, AllocError> {
+    let pred = shown(alloc, pred)?;
+    format!(in alloc; "{pred} {left}")
+}
+
 // The predicate and how many tokens are left, or the fault.
 fn read(alloc: Global, source: &[u8]) -> Result<String, AllocError> {
     match predicate(alloc, &tokens(alloc, source)) {
-        Ok((pred, rest)) => {
-            let left = rest.len();
-            let pred = shown(alloc, &pred)?;
-            format!(in alloc; "{pred} {left}")
-        }
+        Ok((pred, rest)) => with_left(alloc, &pred, rest.len()),
         Err(Fault::Syntax(left)) => format!(in alloc; "fault {left}"),
         Err(Fault::Memory) => String::from_str(alloc, "out of memory"),
     }

@@ -52,26 +52,35 @@ fn one(alloc: Global, part: StmtPart, semicolon: bool) -> Result<Script, Memory>
     Ok(Script { statements })
 }
 
-#[test]
-fn a_call_has_its_labels_and_its_semicolon(rt: HostRuntime) -> Result<(), Fail> {
-    let alloc = rt.alloc();
+// `a = -2` and `7`.
+fn two_args(alloc: Global) -> Result<Vec<Arg>, Memory> {
+    let label = Some(Text::from_str(alloc, "a")?);
     let number = Literal::Int(2);
+    let value = Full::Minus { at: 3, number };
     let mut args = Vec::new(alloc);
     args.push(Arg {
         at: 1,
-        label: Some(Text::from_str(alloc, "a")?),
-        value: Full::Minus { at: 3, number },
+        label,
+        value,
     })?;
     args.push(Arg {
         at: 6,
         label: None,
         value: int(alloc, 7),
     })?;
+    Ok(args)
+}
+
+// `f(a = -2, 7);`
+fn call(alloc: Global) -> Result<Script, Memory> {
     let name = Text::from_str(alloc, "f")?;
-    let script = one(alloc, StmtPart::Call(Call { at: 0, name, args }), true)?;
-    let kinds = spell(alloc, &script)?;
-    let right = matches!(
-        kinds.as_slice(),
+    let args = two_args(alloc)?;
+    one(alloc, StmtPart::Call(Call { at: 0, name, args }), true)
+}
+
+fn is_call(kinds: &[TokenKind]) -> bool {
+    matches!(
+        kinds,
         [
             TokenKind::NameOpen(_),
             TokenKind::Name(_),
@@ -83,7 +92,13 @@ fn a_call_has_its_labels_and_its_semicolon(rt: HostRuntime) -> Result<(), Fail> 
             TokenKind::Symbol(Symbol::CloseRound),
             TokenKind::Symbol(Symbol::Semicolon),
         ]
-    );
-    assert!(rt; right);
+    )
+}
+
+#[test]
+fn a_call_has_its_labels_and_its_semicolon(rt: HostRuntime) -> Result<(), Fail> {
+    let script = call(rt.alloc())?;
+    let kinds = spell(rt.alloc(), &script)?;
+    assert!(rt; is_call(&kinds));
     Ok(())
 }

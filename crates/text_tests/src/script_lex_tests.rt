@@ -1,15 +1,26 @@
 // Texts with their tokens, or their fault, each from the rules of `docs/language.md`, "Tokens".
+use fixed_text::TimeMark;
 use script_lex::{LexFault, Token, TokenKind, lex};
 use std::alloc::{AllocError, Global};
 use std::fmt::Write;
 use std::process::Abort;
 use std::test::Fail;
 
-fn part(alloc: Global, value: Option<u8>) -> Result<String, AllocError> {
+fn push_part(text: &mut String, value: Option<u8>, behind: &str) -> Result<(), AllocError> {
     match value {
-        Some(value) => format!(in alloc; "{value}"),
-        None => String::from_str(alloc, "-"),
+        Some(value) => write!(text, "{value}{behind}")?,
+        None => write!(text, "-{behind}")?,
     }
+    Ok(())
+}
+
+fn time(alloc: Global, mark: TimeMark) -> Result<String, AllocError> {
+    let mut text = String::from_str(alloc, "Time(")?;
+    push_part(&mut text, mark.day, ",")?;
+    push_part(&mut text, mark.hour, ",")?;
+    push_part(&mut text, mark.minute, ",")?;
+    push_part(&mut text, mark.second, ")")?;
+    Ok(text)
 }
 
 fn kind(alloc: Global, kind: &TokenKind) -> Result<String, AllocError> {
@@ -31,13 +42,7 @@ fn kind(alloc: Global, kind: &TokenKind) -> Result<String, AllocError> {
             let text = text.as_str();
             format!(in alloc; "Str({text})")
         }
-        TokenKind::Time(mark) => {
-            let day = part(alloc, mark.day)?;
-            let hour = part(alloc, mark.hour)?;
-            let minute = part(alloc, mark.minute)?;
-            let second = part(alloc, mark.second)?;
-            format!(in alloc; "Time({day},{hour},{minute},{second})")
-        }
+        TokenKind::Time(mark) => time(alloc, *mark),
         TokenKind::Keyword(keyword) => format!(in alloc; "{keyword:?}"),
         TokenKind::Wav => String::from_str(alloc, "Wav"),
         TokenKind::Symbol(symbol) => format!(in alloc; "{symbol:?}"),
@@ -47,17 +52,24 @@ fn kind(alloc: Global, kind: &TokenKind) -> Result<String, AllocError> {
 // Each token as its kind and its place, or the fault.
 fn lexed(alloc: Global, source: &[u8]) -> Result<String, AllocError> {
     match lex(alloc, source) {
-        Ok(tokens) => {
-            let mut shown = String::new(alloc);
-            for token in &tokens {
-                let kind = kind(alloc, &token.kind)?;
-                let Token { start, end, .. } = token;
-                write!(shown, "{kind}@{start}..{end} ")?;
-            }
-            Ok(shown)
-        }
+        Ok(tokens) => shown(alloc, &tokens),
         Err(fault) => format!(in alloc; "{fault:?}"),
     }
+}
+
+fn shown(alloc: Global, tokens: &[Token]) -> Result<String, AllocError> {
+    let mut text = String::new(alloc);
+    for token in tokens {
+        push_token(alloc, &mut text, token)?;
+    }
+    Ok(text)
+}
+
+fn push_token(alloc: Global, text: &mut String, token: &Token) -> Result<(), AllocError> {
+    let kind = kind(alloc, &token.kind)?;
+    let Token { start, end, .. } = token;
+    write!(text, "{kind}@{start}..{end} ")?;
+    Ok(())
 }
 
 // Each text has these tokens or this fault.

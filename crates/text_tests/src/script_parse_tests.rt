@@ -1,6 +1,6 @@
 // Texts that are scripts or not, each by the grammar of `docs/grammar.md`.
-use script_grammar::tree::{Script, StmtPart};
-use script_lex::{Token, lex};
+use script_grammar::tree::{Script, Stmt, StmtPart};
+use script_lex::{Token, TokenKind, lex};
 use script_parse::{ParseFault, parse};
 use script_spelling::spell;
 use std::alloc::{AllocError, Global};
@@ -15,19 +15,34 @@ fn tokens(alloc: Global, source: &[u8]) -> Vec<Token> {
     }
 }
 
-// Whether the script is spelled by the tokens.
-fn spelled(alloc: Global, script: &Script, tokens: &[Token]) -> Result<&'static str, AllocError> {
-    let mut want = String::new(alloc);
+fn tokens_text(alloc: Global, tokens: &[Token]) -> Result<String, AllocError> {
+    let mut text = String::new(alloc);
     for token in tokens {
         let kind = &token.kind;
-        write!(want, "{kind:?} ")?;
+        write!(text, "{kind:?} ")?;
     }
-    let mut got = String::new(alloc);
-    if let Ok(kinds) = spell(alloc, script) {
-        for kind in &kinds {
-            write!(got, "{kind:?} ")?;
-        }
+    Ok(text)
+}
+
+fn kinds_text(alloc: Global, kinds: &[TokenKind]) -> Result<String, AllocError> {
+    let mut text = String::new(alloc);
+    for kind in kinds {
+        write!(text, "{kind:?} ")?;
     }
+    Ok(text)
+}
+
+fn spelled_text(alloc: Global, script: &Script) -> Result<String, AllocError> {
+    match spell(alloc, script) {
+        Ok(kinds) => kinds_text(alloc, &kinds),
+        Err(_) => Ok(String::new(alloc)),
+    }
+}
+
+// Whether the script is spelled by the tokens.
+fn spelled(alloc: Global, script: &Script, tokens: &[Token]) -> Result<&'static str, AllocError> {
+    let want = tokens_text(alloc, tokens)?;
+    let got = spelled_text(alloc, script)?;
     Ok(if got == want {
         "script"
     } else {
@@ -39,7 +54,10 @@ fn spelled(alloc: Global, script: &Script, tokens: &[Token]) -> Result<&'static 
 fn answer(alloc: Global, source: &str) -> Result<String, AllocError> {
     let tokens = tokens(alloc, source.as_bytes());
     match parse(alloc, source.as_bytes(), &tokens) {
-        Ok(script) => String::from_str(alloc, spelled(alloc, &script, &tokens)?),
+        Ok(script) => {
+            let answer = spelled(alloc, &script, &tokens)?;
+            String::from_str(alloc, answer)
+        }
         Err(fault) => format!(in alloc; "{fault:?}"),
     }
 }
@@ -141,24 +159,34 @@ fn two_hundred_levels_and_no_more(rt: HostRuntime) -> Result<(), Fail> {
     check_nested(&rt, rt.alloc(), &rows)
 }
 
-// How many statements a script of so many times `x=1;` has, and the place of the last one's name.
-fn last_of_many(alloc: Global, times: usize) -> Result<(usize, u32), AllocError> {
-    let mut source = String::new(alloc);
+fn repeated(alloc: Global, part: &str, times: usize) -> Result<String, AllocError> {
+    let mut text = String::new(alloc);
     for _ in 0..times {
-        source.push_str("x=1;")?;
+        text.push_str(part)?;
     }
+    Ok(text)
+}
+
+// How many statements a script has, and the place of the last one's name.
+fn count_and_last(script: &Script) -> (usize, u32) {
+    let place = match script.statements.last() {
+        Some(
+            Stmt {
+                part: StmtPart::Bind(bind),
+                ..
+            },
+        ) => bind.at,
+        _ => 0,
+    };
+    (script.statements.len(), place)
+}
+
+// The same of a script of so many times `x=1;`.
+fn last_of_many(alloc: Global, times: usize) -> Result<(usize, u32), AllocError> {
+    let source = repeated(alloc, "x=1;", times)?;
     let tokens = tokens(alloc, source.as_bytes());
     match parse(alloc, source.as_bytes(), &tokens) {
-        Ok(script) => {
-            let place = match script.statements.last() {
-                Some(last) => match &last.part {
-                    StmtPart::Bind(bind) => bind.at,
-                    _ => 0,
-                },
-                None => 0,
-            };
-            Ok((script.statements.len(), place))
-        }
+        Ok(script) => Ok(count_and_last(&script)),
         Err(_) => Ok((0, 0)),
     }
 }

@@ -2,6 +2,7 @@
 use liq_base::Text;
 use std::cmp::Ordering;
 use std::collections::HashSet;
+use std::process::Abort;
 use std::test::Fail;
 
 #[test]
@@ -17,6 +18,11 @@ fn a_copy_is_found_where_its_text_is_a_key(rt: HostRuntime) -> Result<(), Fail> 
     Ok(())
 }
 
+fn check_order(rt: &impl Abort, a: &Text, b: &Text, order: Ordering) {
+    assert_eq!(rt; a.cmp(b), order);
+    assert_eq!(rt; a == b, order.is_eq());
+}
+
 #[test]
 fn texts_are_ordered_as_their_bytes(rt: HostRuntime) -> Result<(), Fail> {
     let alloc = rt.alloc();
@@ -28,8 +34,7 @@ fn texts_are_ordered_as_their_bytes(rt: HostRuntime) -> Result<(), Fail> {
         ("", "", Ordering::Equal),
     ] {
         let (a, b) = (Text::from_str(alloc, a)?, Text::from_str(alloc, b)?);
-        assert_eq!(rt; a.cmp(&b), order);
-        assert_eq!(rt; a == b, order.is_eq());
+        check_order(&rt, &a, &b, order);
     }
     Ok(())
 }

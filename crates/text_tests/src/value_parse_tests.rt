@@ -2,7 +2,7 @@
 ghost use Rattle.std.specs.Prelude.{◌<◌, length};
 
 use parse_base::Fault;
-use script_grammar::tree::{self, Full, Literal};
+use script_grammar::tree::{self, Arg, Expr, Full, Literal};
 use script_lex::{Token, lex};
 use std::alloc::{AllocError, Global};
 use std::fmt::Write;
@@ -60,15 +60,16 @@ fn shown(alloc: Global, full: &Full) -> Result<String, AllocError> {
     }
 }
 
+fn with_left(alloc: Global, full: &Full, left: usize) -> Result<String, AllocError> {
+    let full = shown(alloc, full)?;
+    format!(in alloc; "{full}, {left}")
+}
+
 // The value's first operand and how many tokens are left, or the fault.
 fn read(alloc: Global, loose: bool, source: &[u8]) -> Result<String, AllocError> {
     let tokens = tokens(alloc, source);
     match value(alloc, tokens.len(), loose, &tokens) {
-        Ok((full, rest)) => {
-            let left = rest.len();
-            let full = shown(alloc, &full)?;
-            format!(in alloc; "{full}, {left}")
-        }
+        Ok((full, rest)) => with_left(alloc, &full, rest.len()),
         Err(Fault::Syntax(left)) => format!(in alloc; "fault {left}"),
         Err(Fault::Memory) => String::from_str(alloc, "out of memory"),
     }
@@ -99,21 +100,29 @@ fn brackets_hold_values_and_a_loose_format_leaves_a_tuple(rt: HostRuntime) -> Re
     check(&rt, rt.alloc(), &rows)
 }
 
-// Each argument of the call: its label, and its value's first operand.
+fn push_arg(alloc: Global, text: &mut String, arg: &Arg) -> Result<(), AllocError> {
+    let value = shown(alloc, &arg.value)?;
+    match &arg.label {
+        Some(label) => write!(text, "{}: {value}; ", label.as_str())?,
+        None => write!(text, "{value}; ")?,
+    }
+    Ok(())
+}
+
+// Each argument: its label, and its value's first operand.
+fn shown_args(alloc: Global, args: &[Arg]) -> Result<String, AllocError> {
+    let mut text = String::new(alloc);
+    for arg in args {
+        push_arg(alloc, &mut text, arg)?;
+    }
+    Ok(text)
+}
+
+// The arguments of the call.
 fn read_call(alloc: Global, source: &[u8]) -> Result<String, AllocError> {
     let tokens = tokens(alloc, source);
-    let mut text = String::new(alloc);
     match call(alloc, tokens.len(), &tokens) {
-        Ok((call, _)) => {
-            for arg in &call.args {
-                let value = shown(alloc, &arg.value)?;
-                match &arg.label {
-                    Some(label) => write!(text, "{}: {value}; ", label.as_str())?,
-                    None => write!(text, "{value}; ")?,
-                }
-            }
-            Ok(text)
-        }
+        Ok((call, _)) => shown_args(alloc, &call.args),
         Err(_) => String::from_str(alloc, "fault"),
     }
 }
@@ -129,15 +138,17 @@ fn a_call_keeps_its_labels(rt: HostRuntime) -> Result<(), Fail> {
     Ok(())
 }
 
+fn both_shown(alloc: Global, left: &Full, right: &Full) -> Result<String, AllocError> {
+    let left = shown(alloc, left)?;
+    let right = shown(alloc, right)?;
+    format!(in alloc; "{left}, {right}")
+}
+
 // The first operands of the two parts.
 fn read_choice(alloc: Global, source: &[u8]) -> Result<String, AllocError> {
     let tokens = tokens(alloc, source);
     match choice(alloc, tokens.len(), &tokens) {
-        Ok((choice, _)) => {
-            let then_part = shown(alloc, &choice.then_part)?;
-            let else_part = shown(alloc, &choice.else_part)?;
-            format!(in alloc; "{then_part}, {else_part}")
-        }
+        Ok((choice, _)) => both_shown(alloc, &choice.then_part, &choice.else_part),
         Err(_) => String::from_str(alloc, "fault"),
     }
 }
@@ -153,20 +164,21 @@ fn an_if_has_two_parts(rt: HostRuntime) -> Result<(), Fail> {
     Ok(())
 }
 
-// How many parts each `and` of the expression has.
+// How many parts each `and` of the expression has, and how many tokens are left.
+fn counts(alloc: Global, expr: &Expr, left: usize) -> Result<String, AllocError> {
+    let first = expr.first.rest.len();
+    let mut text = format!(in alloc; "{left}: {first}")?;
+    for and in &expr.rest {
+        let others = and.rest.len();
+        write!(text, " {others}")?;
+    }
+    Ok(text)
+}
+
 fn read_result(alloc: Global, source: &[u8]) -> Result<String, AllocError> {
     let tokens = tokens(alloc, source);
     match result(alloc, tokens.len(), &tokens) {
-        Ok((expr, rest)) => {
-            let left = rest.len();
-            let first = expr.first.rest.len();
-            let mut text = format!(in alloc; "{left}: {first}")?;
-            for and in &expr.rest {
-                let others = and.rest.len();
-                write!(text, " {others}")?;
-            }
-            Ok(text)
-        }
+        Ok((expr, rest)) => counts(alloc, &expr, rest.len()),
         Err(_) => String::from_str(alloc, "fault"),
     }
 }
