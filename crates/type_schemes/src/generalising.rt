@@ -1,5 +1,5 @@
 // The general type of a def.
-ghost use Rattle.std.specs.Prelude.{◌≡◌, ◌++◌, ◌≤◌, List, length, map, IfOk, OnOk};
+ghost use Rattle.std.specs.Prelude.{◌≡◌, ◌++◌, ◌≤◌, List, [], length, map, IfOk, OnOk};
 ghost use Rattle.type_terms.specs.Table.{IsOver};
 ghost use Rattle.type_terms.specs.Term.{Term, source_term, term_of};
 ghost use Rattle.type_schemes.specs.Generals.{AreTextKindsOver, IsGeneral, IsNumberedText};
@@ -46,9 +46,20 @@ pub fn generalise(
 {
     subst.extends_each_assignment();
     let opened = number_def(alloc, subst, params, answer, kinds)?;
-    let types = type_parameters(alloc, subst, held, opened.types.as_slice())?;
-    let kinds = kind_parameters(alloc, held, opened.kinds.as_slice(), opened.read)?;
-    let text = text_kinds(alloc, &kinds, &opened.text)?;
+    let mut types = Vec::new(alloc);
+    let mut kinds = Vec::new(alloc);
+    let mut text = Vec::new(alloc);
+    say_parameters(
+        subst,
+        held,
+        opened.types.as_slice(),
+        opened.kinds.as_slice(),
+        opened.read,
+        &opened.text,
+        &mut types,
+        &mut kinds,
+        &mut text,
+    )?;
     Ok(DefType {
         general: General {
             params: opened.params,
@@ -58,6 +69,32 @@ pub fn generalise(
         },
         text,
     })
+}
+
+/// Says what the variables of these numbers may stand for, and the text over them. The three lists are empty at first.
+fn say_parameters(
+    subst: &Subst,
+    held: &Held,
+    type_numbers: &[u64],
+    kind_numbers: &[u64],
+    read: usize,
+    named: &[KindTerm],
+    types: &mut Vec<TypeParameter>,
+    kinds: &mut Vec<KindParameter>,
+    text: &mut Vec<TextKind>,
+) -> Result<(), Memory>
+    requires within { read ≤ length kind_numbers.now }
+    requires types { types.old.items ≡ [] }
+    requires kinds { kinds.old.items ≡ [] }
+    requires text { text.old.items ≡ [] }
+    ensures types { OnOk result (types.new.items ≡ map (type_parameter subst.now held.now) type_numbers.now) }
+    ensures kinds { OnOk result (kinds.new.items ≡ the_kind_parameters held.now read kind_numbers.now) }
+    ensures text { OnOk result (text.new.items ≡ map (the_text_kind kinds.new.items) named.now) }
+{
+    push_types(types, subst, held, type_numbers)?;
+    push_kinds(kinds, held, kind_numbers, read)?;
+    push_text(text, kinds.as_slice(), named)?;
+    Ok(())
 }
 
 /// What a variable of this number may stand for.
@@ -73,20 +110,20 @@ fn type_parameter_of(subst: &Subst, held: &Held, number: u64) -> TypeParameter
     }
 }
 
-/// What the variables of these numbers may stand for.
-fn type_parameters(
-    alloc: Global,
+/// Adds what the variables of these numbers may stand for to an empty list.
+fn push_types(
+    parameters: &mut Vec<TypeParameter>,
     subst: &Subst,
     held: &Held,
     numbers: &[u64],
-) -> Result<Vec<TypeParameter>, Memory>
-    ensures { IfOk result (λ xs. xs.items ≡ map (type_parameter subst.now held.now) numbers.now) }
+) -> Result<(), Memory>
+    requires { parameters.old.items ≡ [] }
+    ensures { OnOk result (parameters.new.items ≡ map (type_parameter subst.now held.now) numbers.now) }
 {
-    let mut parameters = Vec::new(alloc);
     for number in numbers {
         parameters.push(type_parameter_of(subst, held, *number))?;
     }
-    Ok(parameters)
+    Ok(())
 }
 
 /// What a kind variable of this number may stand for; `free` if it is not held.
@@ -115,21 +152,21 @@ fn push_parameters(
     Ok(())
 }
 
-/// What the kind variables of these numbers may stand for. The text names the first `read` of them.
-fn kind_parameters(
-    alloc: Global,
+/// Adds what the kind variables of these numbers may stand for to an empty list. The text names the first `read` of them.
+fn push_kinds(
+    parameters: &mut Vec<KindParameter>,
     held: &Held,
     numbers: &[u64],
     read: usize,
-) -> Result<Vec<KindParameter>, Memory>
+) -> Result<(), Memory>
     requires within { read ≤ length numbers.now }
-    ensures { IfOk result (λ xs. xs.items ≡ the_kind_parameters held.now read numbers.now) }
+    requires none { parameters.old.items ≡ [] }
+    ensures { OnOk result (parameters.new.items ≡ the_kind_parameters held.now read numbers.now) }
 {
     let (named, others) = numbers.split_at(read);
-    let mut parameters = Vec::new(alloc);
-    push_parameters(&mut parameters, held, KindParameter::Open, named)?;
-    push_parameters(&mut parameters, held, KindParameter::Unread, others)?;
-    Ok(parameters)
+    push_parameters(parameters, held, KindParameter::Open, named)?;
+    push_parameters(parameters, held, KindParameter::Unread, others)?;
+    Ok(())
 }
 
 /// How many of the parameters are open.
@@ -163,17 +200,17 @@ fn text_kind(parameters: &[KindParameter], kind: KindTerm) -> TextKind
     }
 }
 
-/// Kinds of the general type, as the text of the def has them.
-fn text_kinds(
-    alloc: Global,
+/// Adds kinds of the general type, as the text of the def has them, to an empty list.
+fn push_text(
+    text: &mut Vec<TextKind>,
     parameters: &[KindParameter],
     kinds: &[KindTerm],
-) -> Result<Vec<TextKind>, Memory>
-    ensures { IfOk result (λ text. text.items ≡ map (the_text_kind parameters.now) kinds.now) }
+) -> Result<(), Memory>
+    requires { text.old.items ≡ [] }
+    ensures { OnOk result (text.new.items ≡ map (the_text_kind parameters.now) kinds.now) }
 {
-    let mut text = Vec::new(alloc);
     for kind in kinds {
         text.push(text_kind(parameters, *kind))?;
     }
-    Ok(text)
+    Ok(())
 }
