@@ -11,6 +11,7 @@ ghost use Rattle.type_schemes.specs.Texts.{text_kind as the_text_kind};
 use crate::general::{General, KindParameter, TextKind, TypeParameter};
 use crate::holding::Held;
 use crate::numbering::number_def;
+use indexmap::IndexSet;
 use liq_base::Memory;
 use std::alloc::Global;
 use type_terms::{KindTerm, Subst, Ty};
@@ -44,18 +45,63 @@ pub fn generalise(
     ensures text_over { IfOk result (λ d. (names : List Term) → IsHeldBy subst.now names held.now → AreTextKindsOver subst.now d.text.items) }
     ensures general { IfOk result (λ d. (names : List Term) → IsHeldBy subst.now names held.now → IsGeneral subst.now names (map term_of params.now) (term_of answer.now) kinds.now (scheme_of d.general) d.text.items) }
 {
+    let mut type_numbers = IndexSet::new(alloc);
+    let mut kind_numbers = IndexSet::new(alloc);
+    let def = generalise_with(
+        alloc,
+        subst,
+        held,
+        &mut type_numbers,
+        &mut kind_numbers,
+        params,
+        answer,
+        kinds,
+    )?;
+    Ok(def)
+}
+
+/// The same with the sets of the numbers of its variables, both empty at first.
+fn generalise_with(
+    alloc: Global,
+    subst: &Subst,
+    held: &Held,
+    type_numbers: &mut IndexSet<u64>,
+    kind_numbers: &mut IndexSet<u64>,
+    params: &[Ty],
+    answer: &Ty,
+    kinds: &[KindTerm],
+) -> Result<DefType, Memory>
+    requires params { AreAmong (length subst.now.types) (length subst.now.kinds) (map term_of params.now) }
+    requires answer { IsOver subst.now (term_of answer.now) }
+    requires kinds { AreAmong (length subst.now.types) (length subst.now.kinds) (map source_term kinds.now) }
+    requires kind_numbers { length kind_numbers.old.keys ≡ 0 }
+    ensures over { IfOk result (λ d. (names : List Term) → IsHeldBy subst.now names held.now → IsSchemeOver subst.now (scheme_of d.general)) }
+    ensures numbered { IfOk result (λ d. IsNumberedText (scheme_of d.general) d.text.items) }
+    ensures text_over { IfOk result (λ d. (names : List Term) → IsHeldBy subst.now names held.now → AreTextKindsOver subst.now d.text.items) }
+    ensures general { IfOk result (λ d. (names : List Term) → IsHeldBy subst.now names held.now → IsGeneral subst.now names (map term_of params.now) (term_of answer.now) kinds.now (scheme_of d.general) d.text.items) }
+{
     subst.extends_each_assignment();
-    let opened = number_def(alloc, subst, params, answer, kinds)?;
+    let mut named = Vec::new(alloc);
+    let opened = number_def(
+        alloc,
+        subst,
+        type_numbers,
+        kind_numbers,
+        &mut named,
+        params,
+        answer,
+        kinds,
+    )?;
     let mut types = Vec::new(alloc);
     let mut kinds = Vec::new(alloc);
     let mut text = Vec::new(alloc);
     say_parameters(
         subst,
         held,
-        opened.types.as_slice(),
-        opened.kinds.as_slice(),
+        type_numbers.as_slice(),
+        kind_numbers.as_slice(),
         opened.read,
-        &opened.text,
+        &named,
         &mut types,
         &mut kinds,
         &mut text,

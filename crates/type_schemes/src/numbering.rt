@@ -16,65 +16,19 @@ use type_terms::{KindTerm, Subst, Ty, resolved};
 /// How many levels a type may have whose variables are numbered anew.
 const MOST_LEVELS: u32 = 1000;
 
-/// The types of a def and the kinds of its text over variables of their own, and the numbers of these in the substitution.
-///
-/// The text names the first `read` of the kind variables, in their order.
+/// The types of a def over variables of their own, and how many kind variables its text names.
 #[derive(Drop)]
 pub struct OpenedDef {
     pub params: Vec<Ty>,
     pub answer: Ty,
-    pub text: Vec<KindTerm>,
-    pub types: IndexSet<u64>,
-    pub kinds: IndexSet<u64>,
     pub read: usize,
 }
 
 /// The types of a def over variables of their own, in the order of first mention: the kinds of its text first.
+///
+/// The numbers of these in the substitution are put into the sets, and the kinds of the text into the list, all empty at first.
+/// The text names the first `read` of the kind variables, in their order.
 pub fn number_def(
-    alloc: Global,
-    subst: &Subst,
-    params: &[Ty],
-    answer: &Ty,
-    kinds: &[KindTerm],
-) -> Result<OpenedDef, Memory>
-    requires params { AreAmong (length subst.now.types) (length subst.now.kinds) (map term_of params.now) }
-    requires answer { IsOver subst.now (term_of answer.now) }
-    requires kinds { AreAmong (length subst.now.types) (length subst.now.kinds) (map source_term kinds.now) }
-    ensures { IfOk result (λ n. OpensDef subst.now (map term_of params.now) (term_of answer.now) kinds.now n.types.keys n.kinds.keys n.read (map term_of n.params.items) (term_of n.answer) n.text.items) }
-{
-    let mut types = IndexSet::new(alloc);
-    let mut places = IndexSet::new(alloc);
-    let mut text = Vec::new(alloc);
-    let opened = number_parts(
-        alloc,
-        subst,
-        &mut types,
-        &mut places,
-        &mut text,
-        params,
-        answer,
-        kinds,
-    )?;
-    Ok(OpenedDef {
-        params: opened.params,
-        answer: opened.answer,
-        text,
-        types,
-        kinds: places,
-        read: opened.read,
-    })
-}
-
-/// The types of a def over variables of their own, and how many kind variables its text names.
-#[derive(Drop)]
-struct OpenedTypes {
-    params: Vec<Ty>,
-    answer: Ty,
-    read: usize,
-}
-
-/// The same with the sets of the numbers and the text, all empty at first.
-fn number_parts(
     alloc: Global,
     subst: &Subst,
     types: &mut IndexSet<u64>,
@@ -83,7 +37,7 @@ fn number_parts(
     params: &[Ty],
     answer: &Ty,
     kinds: &[KindTerm],
-) -> Result<OpenedTypes, Memory>
+) -> Result<OpenedDef, Memory>
     requires params { AreAmong (length subst.now.types) (length subst.now.kinds) (map term_of params.now) }
     requires answer { IsOver subst.now (term_of answer.now) }
     requires kinds { AreAmong (length subst.now.types) (length subst.now.kinds) (map source_term kinds.now) }
@@ -95,7 +49,7 @@ fn number_parts(
     let read = places.len();
     let params = opened(alloc, subst, types, places, params)?;
     let answer = opened_one(alloc, subst, types, places, answer)?;
-    Ok(OpenedTypes {
+    Ok(OpenedDef {
         params,
         answer,
         read,

@@ -1,7 +1,7 @@
 use Rattle.std.proofs.Common.{◌∙◌, ap, map, refl}
 use Rattle.type_schemes.specs.Numbering.{type_parameter, kind_parameters}
 use Rattle.type_schemes.proofs.Opening.{over_of, general_of, numbered_of, text_over_of}
-use Rattle.type_schemes.proofs.generalising.generalise.Goals as goal
+use Rattle.type_schemes.proofs.generalising.generalise_with.Goals as goal
 
 pub returns-clause-over : goal.returns-clause-over
 returns-clause-over c = λ names holds.
