@@ -47,7 +47,7 @@ pub fn generalise(
 {
     let mut type_numbers = IndexSet::new(alloc);
     let mut kind_numbers = IndexSet::new(alloc);
-    let def = generalise_with(
+    generalise_with(
         alloc,
         subst,
         held,
@@ -56,8 +56,7 @@ pub fn generalise(
         params,
         answer,
         kinds,
-    )?;
-    Ok(def)
+    )
 }
 
 /// The same with the sets of the numbers of its variables, both empty at first.
