@@ -95,6 +95,11 @@ push_next f xs ys ys' ns i d p l is pushed before =
     pushed ∙ ap (λ (zs : List KindParameter). zs ++ (p ∷ [])) before ∙ append_assoc xs (map f (take i ns)) (p ∷ [])
     ∙ ap (λ (q : KindParameter). xs ++ (map f (take i ns) ++ (q ∷ []))) is ∙ ap (λ (zs : List KindParameter). xs ++ zs) (sym more)
 
+pub pushed_next : {A : Type 0} {B : Type 0} (f : A → B) (ys ys' : List B) (xs : List A) (i : ℕ) (d : A) (p : B) → i < length xs → p ≡ f (get_or xs i d) → ys' ≡ ys ++ (p ∷ []) → ys ≡ map f (take i xs) → ys' ≡ map f (take (i + 1) xs)
+pushed_next {A} {B} f ys ys' xs i d p l is pushed before =
+    pushed ∙ ap₂ (λ (zs : List B) (q : B). zs ++ (q ∷ [])) before is
+    ∙ sym (ap (map f) (take_more xs i d l) ∙ map_push f (take i xs) (get_or xs i d))
+
 pub kinds_pushed : (h : HeldVariables) (n : ℕ) (ks ms ns : List ℕ) (xs ys zs : List KindParameter) → xs ≡ [] → ms ≡ take n ks → ns ≡ drop n ks → ys ≡ xs ++ map (kind_parameter h Open) ms → zs ≡ ys ++ map (kind_parameter h Unread) ns → zs ≡ kind_parameters h n ks
 kinds_pushed h n ks ms ns xs ys zs none first others named rest =
     let front : ys ≡ map (kind_parameter h Open) (take n ks) = named ∙ ap (λ (ps : List KindParameter). ps ++ map (kind_parameter h Open) ms) none ∙ ap (map (kind_parameter h Open)) first in

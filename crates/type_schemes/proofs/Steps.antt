@@ -1,6 +1,7 @@
 -- One type more of a list.
 use Rattle.std.proofs.Common.{◌≡◌, ◌∙◌, sym, ap, ap₂, subst, refl, ℕ, ◌+◌, ◌<◌, ◌≤◌, List, [], ◌∷◌, ◌++◌, length, map, take, take_all, get_or, Some, arith}
 use Rattle.std.specs.List.{flat_map}
+use Rattle.std.proofs.lemmas.List.{map_push, take_more}
 use Rattle.type_terms.specs.Ground.{Ground, Assignment}
 use Rattle.type_terms.specs.Resolved.{IsUnbound}
 use Rattle.type_terms.specs.Table.{Table, Solves}
@@ -24,6 +25,12 @@ next_taken ps i p l e = map_take_next ps i p l ∙ ap (λ (x : Ty). map term_of 
 
 next_pushed : (qs qs' : List Ty) (q : Ty) → qs' ≡ qs ++ (q ∷ []) → map term_of qs' ≡ map term_of qs ++ (term_of q ∷ [])
 next_pushed qs qs' q e = ap (map term_of) e ∙ map_last qs q
+
+-- what is pushed for each item of a list
+pub named_next : {A : Type 0} (f : A → Term) (us us' : List Ty) (xs : List A) (i : ℕ) (d : A) (u : Ty) → i < length xs → term_of u ≡ f (get_or xs i d) → us' ≡ us ++ (u ∷ []) → map term_of us ≡ map f (take i xs) → map term_of us' ≡ map f (take (i + 1) xs)
+named_next {A} f us us' xs i d u l is pushed before =
+    next_pushed us us' u pushed ∙ ap₂ (λ (ts : List Term) (t : Term). ts ++ (t ∷ [])) before is
+    ∙ sym (ap (map f) (take_more xs i d l) ∙ map_push f (take i xs) (get_or xs i d))
 
 -- ---- settled types
 

@@ -1,5 +1,5 @@
 // The general type of a def.
-ghost use Rattle.std.specs.Prelude.{◌≡◌, ◌++◌, ◌≤◌, List, length, map, IfOk, OnOk};
+ghost use Rattle.std.specs.Prelude.{◌≡◌, ◌++◌, ◌≤◌, List, [], length, map, IfOk, OnOk};
 ghost use Rattle.type_terms.specs.Table.{IsOver};
 ghost use Rattle.type_terms.specs.Term.{Term, source_term, term_of};
 ghost use Rattle.type_schemes.specs.Generals.{AreTextKindsOver, IsGeneral, IsNumberedText};
@@ -11,6 +11,7 @@ ghost use Rattle.type_schemes.specs.Texts.{text_kind as the_text_kind};
 use crate::general::{General, KindParameter, TextKind, TypeParameter};
 use crate::holding::Held;
 use crate::numbering::number_def;
+use indexmap::IndexSet;
 use liq_base::Memory;
 use std::alloc::Global;
 use type_terms::{KindTerm, Subst, Ty};
@@ -44,11 +45,66 @@ pub fn generalise(
     ensures text_over { IfOk result (λ d. (names : List Term) → IsHeldBy subst.now names held.now → AreTextKindsOver subst.now d.text.items) }
     ensures general { IfOk result (λ d. (names : List Term) → IsHeldBy subst.now names held.now → IsGeneral subst.now names (map term_of params.now) (term_of answer.now) kinds.now (scheme_of d.general) d.text.items) }
 {
+    let mut type_numbers = IndexSet::new(alloc);
+    let mut kind_numbers = IndexSet::new(alloc);
+    generalise_with(
+        alloc,
+        subst,
+        held,
+        &mut type_numbers,
+        &mut kind_numbers,
+        params,
+        answer,
+        kinds,
+    )
+}
+
+/// The same with the sets of the numbers of its variables, both empty at first.
+fn generalise_with(
+    alloc: Global,
+    subst: &Subst,
+    held: &Held,
+    type_numbers: &mut IndexSet<u64>,
+    kind_numbers: &mut IndexSet<u64>,
+    params: &[Ty],
+    answer: &Ty,
+    kinds: &[KindTerm],
+) -> Result<DefType, Memory>
+    requires params { AreAmong (length subst.now.types) (length subst.now.kinds) (map term_of params.now) }
+    requires answer { IsOver subst.now (term_of answer.now) }
+    requires kinds { AreAmong (length subst.now.types) (length subst.now.kinds) (map source_term kinds.now) }
+    requires kind_numbers { length kind_numbers.old.keys ≡ 0 }
+    ensures over { IfOk result (λ d. (names : List Term) → IsHeldBy subst.now names held.now → IsSchemeOver subst.now (scheme_of d.general)) }
+    ensures numbered { IfOk result (λ d. IsNumberedText (scheme_of d.general) d.text.items) }
+    ensures text_over { IfOk result (λ d. (names : List Term) → IsHeldBy subst.now names held.now → AreTextKindsOver subst.now d.text.items) }
+    ensures general { IfOk result (λ d. (names : List Term) → IsHeldBy subst.now names held.now → IsGeneral subst.now names (map term_of params.now) (term_of answer.now) kinds.now (scheme_of d.general) d.text.items) }
+{
     subst.extends_each_assignment();
-    let opened = number_def(alloc, subst, params, answer, kinds)?;
-    let types = type_parameters(alloc, subst, held, opened.types.as_slice())?;
-    let kinds = kind_parameters(alloc, held, opened.kinds.as_slice(), opened.read)?;
-    let text = text_kinds(alloc, &kinds, &opened.text)?;
+    let mut named = Vec::new(alloc);
+    let opened = number_def(
+        alloc,
+        subst,
+        type_numbers,
+        kind_numbers,
+        &mut named,
+        params,
+        answer,
+        kinds,
+    )?;
+    let mut types = Vec::new(alloc);
+    let mut kinds = Vec::new(alloc);
+    let mut text = Vec::new(alloc);
+    say_parameters(
+        subst,
+        held,
+        type_numbers.as_slice(),
+        kind_numbers.as_slice(),
+        opened.read,
+        &named,
+        &mut types,
+        &mut kinds,
+        &mut text,
+    )?;
     Ok(DefType {
         general: General {
             params: opened.params,
@@ -58,6 +114,32 @@ pub fn generalise(
         },
         text,
     })
+}
+
+/// Says what the variables of these numbers may stand for, and the text over them. The three lists are empty at first.
+fn say_parameters(
+    subst: &Subst,
+    held: &Held,
+    type_numbers: &[u64],
+    kind_numbers: &[u64],
+    read: usize,
+    named: &[KindTerm],
+    types: &mut Vec<TypeParameter>,
+    kinds: &mut Vec<KindParameter>,
+    text: &mut Vec<TextKind>,
+) -> Result<(), Memory>
+    requires within { read ≤ length kind_numbers.now }
+    requires types { types.old.items ≡ [] }
+    requires kinds { kinds.old.items ≡ [] }
+    requires text { text.old.items ≡ [] }
+    ensures types { OnOk result (types.new.items ≡ map (type_parameter subst.now held.now) type_numbers.now) }
+    ensures kinds { OnOk result (kinds.new.items ≡ the_kind_parameters held.now read kind_numbers.now) }
+    ensures text { OnOk result (text.new.items ≡ map (the_text_kind kinds.new.items) named.now) }
+{
+    push_types(types, subst, held, type_numbers)?;
+    push_kinds(kinds, held, kind_numbers, read)?;
+    push_text(text, kinds.as_slice(), named)?;
+    Ok(())
 }
 
 /// What a variable of this number may stand for.
@@ -73,20 +155,20 @@ fn type_parameter_of(subst: &Subst, held: &Held, number: u64) -> TypeParameter
     }
 }
 
-/// What the variables of these numbers may stand for.
-fn type_parameters(
-    alloc: Global,
+/// Adds what the variables of these numbers may stand for to an empty list.
+fn push_types(
+    parameters: &mut Vec<TypeParameter>,
     subst: &Subst,
     held: &Held,
     numbers: &[u64],
-) -> Result<Vec<TypeParameter>, Memory>
-    ensures { IfOk result (λ xs. xs.items ≡ map (type_parameter subst.now held.now) numbers.now) }
+) -> Result<(), Memory>
+    requires { parameters.old.items ≡ [] }
+    ensures { OnOk result (parameters.new.items ≡ map (type_parameter subst.now held.now) numbers.now) }
 {
-    let mut parameters = Vec::new(alloc);
     for number in numbers {
         parameters.push(type_parameter_of(subst, held, *number))?;
     }
-    Ok(parameters)
+    Ok(())
 }
 
 /// What a kind variable of this number may stand for; `free` if it is not held.
@@ -115,21 +197,21 @@ fn push_parameters(
     Ok(())
 }
 
-/// What the kind variables of these numbers may stand for. The text names the first `read` of them.
-fn kind_parameters(
-    alloc: Global,
+/// Adds what the kind variables of these numbers may stand for to an empty list. The text names the first `read` of them.
+fn push_kinds(
+    parameters: &mut Vec<KindParameter>,
     held: &Held,
     numbers: &[u64],
     read: usize,
-) -> Result<Vec<KindParameter>, Memory>
+) -> Result<(), Memory>
     requires within { read ≤ length numbers.now }
-    ensures { IfOk result (λ xs. xs.items ≡ the_kind_parameters held.now read numbers.now) }
+    requires none { parameters.old.items ≡ [] }
+    ensures { OnOk result (parameters.new.items ≡ the_kind_parameters held.now read numbers.now) }
 {
     let (named, others) = numbers.split_at(read);
-    let mut parameters = Vec::new(alloc);
-    push_parameters(&mut parameters, held, KindParameter::Open, named)?;
-    push_parameters(&mut parameters, held, KindParameter::Unread, others)?;
-    Ok(parameters)
+    push_parameters(parameters, held, KindParameter::Open, named)?;
+    push_parameters(parameters, held, KindParameter::Unread, others)?;
+    Ok(())
 }
 
 /// How many of the parameters are open.
@@ -163,17 +245,17 @@ fn text_kind(parameters: &[KindParameter], kind: KindTerm) -> TextKind
     }
 }
 
-/// Kinds of the general type, as the text of the def has them.
-fn text_kinds(
-    alloc: Global,
+/// Adds kinds of the general type, as the text of the def has them, to an empty list.
+fn push_text(
+    text: &mut Vec<TextKind>,
     parameters: &[KindParameter],
     kinds: &[KindTerm],
-) -> Result<Vec<TextKind>, Memory>
-    ensures { IfOk result (λ text. text.items ≡ map (the_text_kind parameters.now) kinds.now) }
+) -> Result<(), Memory>
+    requires { text.old.items ≡ [] }
+    ensures { OnOk result (text.new.items ≡ map (the_text_kind parameters.now) kinds.now) }
 {
-    let mut text = Vec::new(alloc);
     for kind in kinds {
         text.push(text_kind(parameters, *kind))?;
     }
-    Ok(text)
+    Ok(())
 }

@@ -35,8 +35,22 @@ fn add_name(
 {
     let ty = resolved(alloc, subst, name)?;
     let found = variables(alloc, &ty)?;
-    insert_all(types, &found.types)?;
-    insert_all(kinds, &found.kinds)?;
+    insert_both(types, kinds, &found.types, &found.kinds)?;
+    Ok(())
+}
+
+/// Adds numbers to both.
+fn insert_both(
+    types: &mut IndexSet<u64>,
+    kinds: &mut IndexSet<u64>,
+    more_types: &[u64],
+    more_kinds: &[u64],
+) -> Result<(), Memory>
+    ensures types { OnOk result (HoldsMore types.old.keys more_types.now types.new.keys) }
+    ensures kinds { OnOk result (HoldsMore kinds.old.keys more_kinds.now kinds.new.keys) }
+{
+    insert_all(types, more_types)?;
+    insert_all(kinds, more_kinds)?;
     Ok(())
 }
 
@@ -73,6 +87,24 @@ fn renew_kinds(
         let name = Ty::Source(KindTerm::Var(*number));
         add_name(alloc, subst, types, kinds, &name)?;
     }
+    Ok(())
+}
+
+/// Adds what type variables and kind variables hold.
+fn renew_both(
+    alloc: Global,
+    subst: &Subst,
+    types: &mut IndexSet<u64>,
+    kinds: &mut IndexSet<u64>,
+    type_numbers: &[u64],
+    kind_numbers: &[u64],
+) -> Result<(), Memory>
+    requires types { (k : ℕ) → is_held type_numbers.now k ≡ true → k < length subst.now.types }
+    requires kinds { (k : ℕ) → is_held kind_numbers.now k ≡ true → k < length subst.now.kinds }
+    ensures { OnOk result (StandsFor subst.now (held [] []) (held types.old.keys kinds.old.keys) → StandsFor subst.now (held type_numbers.now kind_numbers.now) (held types.new.keys kinds.new.keys)) }
+{
+    renew_types(alloc, subst, types, kinds, type_numbers)?;
+    renew_kinds(alloc, subst, types, kinds, kind_numbers)?;
     Ok(())
 }
 
@@ -134,18 +166,12 @@ impl Held {
         ensures held { IfOk result (λ h. (s : Table) (names : List Term) → Follows s subst.now → IsHeldBy s names self.now → IsHeldBy subst.now names h) }
     {
         let mut renewed = Held::new(alloc);
-        renew_types(
+        renew_both(
             alloc,
             subst,
             &mut renewed.types,
             &mut renewed.kinds,
             self.types.as_slice(),
-        )?;
-        renew_kinds(
-            alloc,
-            subst,
-            &mut renewed.types,
-            &mut renewed.kinds,
             self.kinds.as_slice(),
         )?;
         Ok(renewed)

@@ -1,5 +1,5 @@
 // General types with new variables in place of their own.
-ghost use Rattle.std.specs.Prelude.{◌≡◌, length, map, IfOk, IsTrue};
+ghost use Rattle.std.specs.Prelude.{◌≡◌, [], length, map, IfOk, IsTrue, OnOk};
 ghost use Rattle.type_terms.specs.Agrees.{HasNewKind, HasNewType};
 ghost use Rattle.type_terms.specs.Naming.{instance};
 ghost use Rattle.type_terms.specs.Term.{term_of};
@@ -31,14 +31,52 @@ pub fn instantiate(alloc: Global, subst: &mut Subst, general: &General) -> Resul
 {
     let types = new_types(alloc, subst, &general.types)?;
     let numbers = new_kinds(alloc, subst, &general.kinds)?;
-    let params = renamed_all(alloc, &general.params, &types, &numbers)?;
-    let call = renamed(alloc, &general.result, &types, &numbers)?;
-    let kinds = opened(alloc, &general.kinds, &numbers)?;
+    let call = instance_with(alloc, general, &types, &numbers)?;
+    Ok(call)
+}
+
+/// The general type with these numbers for its variables.
+fn instance_with(
+    alloc: Global,
+    general: &General,
+    types: &[u64],
+    numbers: &[u64],
+) -> Result<Instance, Memory>
+    requires { length numbers.now ≡ length general.now.kinds.items }
+    ensures params { IfOk result (λ i. map term_of i.params.items ≡ map (instance types.now numbers.now) (map term_of general.now.params.items)) }
+    ensures call { IfOk result (λ i. term_of i.result ≡ instance types.now numbers.now (term_of general.now.result)) }
+    ensures kinds { IfOk result (λ i. i.kinds.items ≡ open_terms general.now.kinds.items numbers.now) }
+{
+    let mut params = Vec::new(alloc);
+    let mut kinds = Vec::new(alloc);
+    let call = rename(alloc, general, types, numbers, &mut params, &mut kinds)?;
     Ok(Instance {
         params,
         result: call,
         kinds,
     })
+}
+
+/// Puts the types of the parameters and the open kinds into empty lists, and answers the type of the result.
+fn rename(
+    alloc: Global,
+    general: &General,
+    types: &[u64],
+    numbers: &[u64],
+    params: &mut Vec<Ty>,
+    kinds: &mut Vec<KindTerm>,
+) -> Result<Ty, Memory>
+    requires many { length numbers.now ≡ length general.now.kinds.items }
+    requires params { params.old.items ≡ [] }
+    requires kinds { kinds.old.items ≡ [] }
+    ensures params { OnOk result (map term_of params.new.items ≡ map (instance types.now numbers.now) (map term_of general.now.params.items)) }
+    ensures call { IfOk result (λ t. term_of t ≡ instance types.now numbers.now (term_of general.now.result)) }
+    ensures kinds { OnOk result (kinds.new.items ≡ open_terms general.now.kinds.items numbers.now) }
+{
+    push_renamed(alloc, params, &general.params, types, numbers)?;
+    push_opened(kinds, &general.kinds, numbers)?;
+    let call = renamed(alloc, &general.result, types, numbers)?;
+    Ok(call)
 }
 
 /// The number of a new type variable.
@@ -127,28 +165,34 @@ fn new_kinds(
     Ok(numbers)
 }
 
-/// The types with these numbers for their variables.
-fn renamed_all(alloc: Global, tys: &[Ty], types: &[u64], kinds: &[u64]) -> Result<Vec<Ty>, Memory>
-    ensures { IfOk result (λ us. map term_of us.items ≡ map (instance types.now kinds.now) (map term_of tys.now)) }
+/// Adds the types with these numbers for their variables to an empty list.
+fn push_renamed(
+    alloc: Global,
+    copies: &mut Vec<Ty>,
+    tys: &[Ty],
+    types: &[u64],
+    kinds: &[u64],
+) -> Result<(), Memory>
+    requires { copies.old.items ≡ [] }
+    ensures { OnOk result (map term_of copies.new.items ≡ map (instance types.now kinds.now) (map term_of tys.now)) }
 {
-    let mut copies = Vec::new(alloc);
     for ty in tys {
         let next = renamed(alloc, ty, types, kinds)?;
         copies.push(next)?;
     }
-    Ok(copies)
+    Ok(())
 }
 
-/// The kinds that stand for the open ones of the parameters.
-fn opened(
-    alloc: Global,
+/// Adds the kinds that stand for the open ones of the parameters to an empty list.
+fn push_opened(
+    kinds: &mut Vec<KindTerm>,
     parameters: &[KindParameter],
     numbers: &[u64],
-) -> Result<Vec<KindTerm>, Memory>
-    requires { length numbers.now ≡ length parameters.now }
-    ensures { IfOk result (λ ks. ks.items ≡ open_terms parameters.now numbers.now) }
+) -> Result<(), Memory>
+    requires many { length numbers.now ≡ length parameters.now }
+    requires none { kinds.old.items ≡ [] }
+    ensures { OnOk result (kinds.new.items ≡ open_terms parameters.now numbers.now) }
 {
-    let mut kinds = Vec::new(alloc);
     for i in 0..parameters.len() {
         match parameters[i] {
             KindParameter::Open => kinds.push(KindTerm::Var(numbers[i]))?,
@@ -156,5 +200,5 @@ fn opened(
             KindParameter::Outer(_) => continue,
         }
     }
-    Ok(kinds)
+    Ok(())
 }

@@ -16,23 +16,24 @@ use type_terms::{KindTerm, Subst, Ty, resolved};
 /// How many levels a type may have whose variables are numbered anew.
 const MOST_LEVELS: u32 = 1000;
 
-/// The types of a def and the kinds of its text over variables of their own, and the numbers of these in the substitution.
-///
-/// The text names the first `read` of the kind variables, in their order.
+/// The types of a def over variables of their own, and how many kind variables its text names.
 #[derive(Drop)]
 pub struct OpenedDef {
     pub params: Vec<Ty>,
     pub answer: Ty,
-    pub text: Vec<KindTerm>,
-    pub types: IndexSet<u64>,
-    pub kinds: IndexSet<u64>,
     pub read: usize,
 }
 
 /// The types of a def over variables of their own, in the order of first mention: the kinds of its text first.
+///
+/// The numbers of these in the substitution are put into the sets, and the kinds of the text into the list, all empty at first.
+/// The text names the first `read` of the kind variables, in their order.
 pub fn number_def(
     alloc: Global,
     subst: &Subst,
+    types: &mut IndexSet<u64>,
+    places: &mut IndexSet<u64>,
+    text: &mut Vec<KindTerm>,
     params: &[Ty],
     answer: &Ty,
     kinds: &[KindTerm],
@@ -40,20 +41,17 @@ pub fn number_def(
     requires params { AreAmong (length subst.now.types) (length subst.now.kinds) (map term_of params.now) }
     requires answer { IsOver subst.now (term_of answer.now) }
     requires kinds { AreAmong (length subst.now.types) (length subst.now.kinds) (map source_term kinds.now) }
-    ensures { IfOk result (λ n. OpensDef subst.now (map term_of params.now) (term_of answer.now) kinds.now n.types.keys n.kinds.keys n.read (map term_of n.params.items) (term_of n.answer) n.text.items) }
+    requires places { length places.old.keys ≡ 0 }
+    requires text { text.old.items ≡ [] }
+    ensures { IfOk result (λ o. OpensDef subst.now (map term_of params.now) (term_of answer.now) kinds.now types.new.keys places.new.keys o.read (map term_of o.params.items) (term_of o.answer) text.new.items) }
 {
-    let mut types = IndexSet::new(alloc);
-    let mut places = IndexSet::new(alloc);
-    let text = opened_kinds(alloc, subst, &mut places, kinds)?;
+    push_opened_kinds(alloc, text, subst, places, kinds)?;
     let read = places.len();
-    let params = opened(alloc, subst, &mut types, &mut places, params)?;
-    let answer = opened_one(alloc, subst, &mut types, &mut places, answer)?;
+    let params = opened(alloc, subst, types, places, params)?;
+    let answer = opened_one(alloc, subst, types, places, answer)?;
     Ok(OpenedDef {
         params,
         answer,
-        text,
-        types,
-        kinds: places,
         read,
     })
 }
@@ -195,16 +193,18 @@ fn opened_one(
     numbered(alloc, types, kinds, &settled, MOST_LEVELS)
 }
 
-/// The kinds of sources with the places of their variables for their numbers. New numbers come in the order of first mention.
-fn source_places(
-    alloc: Global,
+/// Adds the kinds of sources with the places of their variables for their numbers to an empty list.
+///
+/// New numbers come in the order of first mention.
+fn push_places(
+    places: &mut Vec<KindTerm>,
     kinds: &mut IndexSet<u64>,
     sources: &[Ty],
-) -> Result<Vec<KindTerm>, Memory>
-    ensures numbered { IfOk result (λ ks. (ts : List ℕ) → AreNumbered ts kinds.old.keys ts kinds.new.keys (map term_of sources.now) (map source_term ks.items)) }
-    ensures next { IfOk result (λ ks. counted (length kinds.old.keys) (flat_map place_of ks.items) ≡ Some (length kinds.new.keys)) }
+) -> Result<(), Memory>
+    requires { places.old.items ≡ [] }
+    ensures numbered { OnOk result ((ts : List ℕ) → AreNumbered ts kinds.old.keys ts kinds.new.keys (map term_of sources.now) (map source_term places.new.items)) }
+    ensures next { OnOk result (counted (length kinds.old.keys) (flat_map place_of places.new.items) ≡ Some (length kinds.new.keys)) }
 {
-    let mut places = Vec::new(alloc);
     for source in sources {
         match source {
             Ty::Source(kind) => {
@@ -215,22 +215,24 @@ fn source_places(
             _ => return Err(Memory),
         }
     }
-    Ok(places)
+    Ok(())
 }
 
-/// The kinds with all that is bound put in, and the places of their variables for their numbers.
-fn opened_kinds(
+/// Adds the kinds with all that is bound put in, and the places of their variables for their numbers, to an empty list.
+fn push_opened_kinds(
     alloc: Global,
+    places: &mut Vec<KindTerm>,
     subst: &Subst,
     kinds: &mut IndexSet<u64>,
     given: &[KindTerm],
-) -> Result<Vec<KindTerm>, Memory>
+) -> Result<(), Memory>
     requires over { AreAmong (length subst.now.types) (length subst.now.kinds) (map source_term given.now) }
-    ensures opened { IfOk result (λ ks. (ts : List ℕ) → OpenMore subst.now ts kinds.old.keys ts kinds.new.keys (map source_term given.now) (map source_term ks.items)) }
-    ensures next { IfOk result (λ ks. counted (length kinds.old.keys) (flat_map place_of ks.items) ≡ Some (length kinds.new.keys)) }
+    requires none { places.old.items ≡ [] }
+    ensures opened { OnOk result ((ts : List ℕ) → OpenMore subst.now ts kinds.old.keys ts kinds.new.keys (map source_term given.now) (map source_term places.new.items)) }
+    ensures next { OnOk result (counted (length kinds.old.keys) (flat_map place_of places.new.items) ≡ Some (length kinds.new.keys)) }
 {
     let given = sources(alloc, given)?;
     let settled = all_resolved(alloc, subst, &given)?;
-    let places = source_places(alloc, kinds, &settled)?;
-    Ok(places)
+    push_places(places, kinds, &settled)?;
+    Ok(())
 }

@@ -1,6 +1,6 @@
-use Rattle.std.proofs.Common.{◌≡◌, ◌∙◌, ap, ap₂, subst, ℕ, List, length, map}
+use Rattle.std.proofs.Common.{◌≡◌, ◌∙◌, ap, refl, subst, ℕ, List, length, map}
 use Rattle.type_terms.specs.Naming.{instance}
-use Rattle.type_terms.specs.Term.{Term, term_of}
+use Rattle.type_terms.specs.Term.{Term}
 use Rattle.type_schemes.specs.NewVariables.{AreNewTypes, AreNewKinds, open_terms}
 use Rattle.type_schemes.specs.Schemes.{scheme_of}
 use Rattle.type_schemes.proofs.Instancing.{instantiates, open_terms_counted}
@@ -10,14 +10,8 @@ use Rattle.type_schemes.proofs.instances.instantiate.Goals as goal
 pub returns-in_err-numbers-clause-grows : goal.returns-in_err-numbers-clause-grows
 returns-in_err-numbers-clause-grows c = grows_both c.args.subst.now c.new_types.new.subst _ c.new_types.ensures.grows c.new_kinds.ensures.grows
 
-pub returns-in_err-params-clause-grows : goal.returns-in_err-params-clause-grows
-returns-in_err-params-clause-grows c = grows_both c.args.subst.now c.new_types.new.subst _ c.new_types.ensures.grows c.new_kinds.ensures.grows
-
 pub returns-in_err-call-clause-grows : goal.returns-in_err-call-clause-grows
 returns-in_err-call-clause-grows c = grows_both c.args.subst.now c.new_types.new.subst _ c.new_types.ensures.grows c.new_kinds.ensures.grows
-
-pub returns-in_err-kinds-clause-grows : goal.returns-in_err-kinds-clause-grows
-returns-in_err-kinds-clause-grows c = grows_both c.args.subst.now c.new_types.new.subst _ c.new_types.ensures.grows c.new_kinds.ensures.grows
 
 pub returns-clause-grows : goal.returns-clause-grows
 returns-clause-grows c = grows_both c.args.subst.now c.new_types.new.subst _ c.new_types.ensures.grows c.new_kinds.ensures.grows
@@ -39,13 +33,13 @@ returns-clause-instance c =
     (subst (λ xs. AreNewTypes s s1 xs ns) c.deref.ensures.value c.in_ok-types.ensures.new)
     (subst (λ xs. AreNewKinds s1 s2 xs ms) c.deref-2.ensures.value c.in_ok-numbers.ensures.new)
     _ _ _
-    (renamed_is _ _ _ _ _ _ _ (ap (map term_of) c.deref-3.ensures.value) c.deref-4.ensures.value c.deref-5.ensures.value c.in_ok-params.ensures)
-    (one_renamed_is _ _ _ _ _ _ c.deref-6.ensures.value c.deref-7.ensures.value c.in_ok-call.ensures.instance)
-    (c.in_ok-kinds.ensures ∙ ap₂ open_terms c.deref-8.ensures.value c.deref-9.ensures.value)
+    (renamed_is _ _ _ _ _ _ _ refl c.deref-3.ensures.value c.deref-4.ensures.value c.in_ok-call.ensures.params)
+    (one_renamed_is _ _ _ _ _ _ c.deref-3.ensures.value c.deref-4.ensures.value c.in_ok-call.ensures.call)
+    (c.in_ok-call.ensures.kinds ∙ ap (open_terms c.args.general.now.kinds.items) c.deref-4.ensures.value)
 
 pub returns-clause-counted : goal.returns-clause-counted
 returns-clause-counted c =
     let ps = c.args.general.now.kinds.items in
     let ms = c.in_ok-numbers.numbers.items in
     let new : AreNewKinds c.new_types.new.subst c.new_kinds.new.subst ps ms = subst (λ xs. AreNewKinds c.new_types.new.subst c.new_kinds.new.subst xs ms) c.deref-2.ensures.value c.in_ok-numbers.ensures.new in
-    ap length (c.in_ok-kinds.ensures ∙ ap₂ open_terms c.deref-8.ensures.value c.deref-9.ensures.value) ∙ open_terms_counted ps ms 0 new.many
+    ap length (c.in_ok-call.ensures.kinds ∙ ap (open_terms ps) c.deref-4.ensures.value) ∙ open_terms_counted ps ms 0 new.many

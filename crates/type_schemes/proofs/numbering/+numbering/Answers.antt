@@ -2,8 +2,8 @@ use Rattle.std.proofs.Common.{refl}
 use Rattle.type_terms.specs.Term.{term_of}
 use Rattle.type_terms.specs.declared.ty.Ty.TheVariants as ty
 use Rattle.type_terms.proofs.Parts.{tuple_is}
-use Rattle.type_terms.proofs.Views.{term_Source, term_Tuple, term_Var}
-use Rattle.type_schemes.proofs.Places.{numbered_source, numbered_tuple, numbered_variable}
+use Rattle.type_terms.proofs.Views.{term_Bool, term_Decimal, term_Format, term_Int, term_Pred, term_Source, term_Text, term_Tuple, term_Unit, term_Var}
+use Rattle.type_schemes.proofs.Places.{numbered_base, numbered_source, numbered_tuple, numbered_variable}
 use Rattle.type_schemes.proofs.Steps.{numbered_all, numbered_next}
 use Rattle.type_schemes.proofs.numbering.+numbering.Goals as goal
 
@@ -12,6 +12,27 @@ all_numbered-loop-ty-preserved t c = numbered_next _ _ _ _ _ _ c.args.tys.now c.
 
 pub all_numbered-returns : goal.all_numbered-returns
 all_numbered-returns t c = numbered_all _ _ _ _ c.args.tys.now _ c.loop-ty.ty-index c.loop-ty-test.false c.loop-ty.invariant
+
+pub numbered-returns-in-Int : goal.numbered-returns-in-Int
+numbered-returns-in-Int t c = numbered_base _ _ _ _ _ (term_Int c.args.ty.now c.in-Int.is) (term_Int ty.Int refl)
+
+pub numbered-returns-in-Decimal : goal.numbered-returns-in-Decimal
+numbered-returns-in-Decimal t c = numbered_base _ _ _ _ _ (term_Decimal c.args.ty.now c.in-Decimal.is) (term_Decimal ty.Decimal refl)
+
+pub numbered-returns-in-Text : goal.numbered-returns-in-Text
+numbered-returns-in-Text t c = numbered_base _ _ _ _ _ (term_Text c.args.ty.now c.in-Text.is) (term_Text ty.Text refl)
+
+pub numbered-returns-in-Bool : goal.numbered-returns-in-Bool
+numbered-returns-in-Bool t c = numbered_base _ _ _ _ _ (term_Bool c.args.ty.now c.in-Bool.is) (term_Bool ty.Bool refl)
+
+pub numbered-returns-in-Unit : goal.numbered-returns-in-Unit
+numbered-returns-in-Unit t c = numbered_base _ _ _ _ _ (term_Unit c.args.ty.now c.in-Unit.is) (term_Unit ty.Unit refl)
+
+pub numbered-returns-in-Format : goal.numbered-returns-in-Format
+numbered-returns-in-Format t c = numbered_base _ _ _ _ _ (term_Format c.args.ty.now c.in-Format.is) (term_Format ty.Format refl)
+
+pub numbered-returns-in-Pred : goal.numbered-returns-in-Pred
+numbered-returns-in-Pred t c = numbered_base _ _ _ _ _ (term_Pred c.args.ty.now c.in-Pred.is) (term_Pred ty.Pred refl)
 
 pub numbered-returns-in_ok-kind-in-Source : goal.numbered-returns-in_ok-kind-in-Source
 numbered-returns-in_ok-kind-in-Source t c =

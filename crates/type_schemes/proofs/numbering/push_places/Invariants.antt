@@ -3,7 +3,7 @@ use Rattle.std.specs.List.{flat_map}
 use Rattle.type_terms.specs.Term.{source_term, term_of}
 use Rattle.typing_rules.specs.Kinds.{counted}
 use Rattle.type_schemes.specs.Numbering.{AreNumbered, place_of}
-use Rattle.type_schemes.proofs.numbering.source_places.Given as goal
+use Rattle.type_schemes.proofs.numbering.push_places.Given as goal
 
 abbrev pub invariant-loop-source : goal.invariant-loop-source
 invariant-loop-source l = record {

@@ -7,11 +7,11 @@ use Rattle.type_schemes.specs.Numbering.{place_of}
 use Rattle.type_schemes.proofs.Ordering.{places_next}
 use Rattle.type_schemes.proofs.Places.{numbered_none}
 use Rattle.type_schemes.proofs.Steps.{numbered_all, source_next}
-use Rattle.type_schemes.proofs.numbering.source_places.Goals as goal
+use Rattle.type_schemes.proofs.numbering.push_places.Goals as goal
 
 pub loop-source-init : goal.loop-source-init
 loop-source-init c =
-    let none : c.new-places.result.items ≡ [] = cc in
+    let none : c.args.places.now.items ≡ [] = c.requires in
     record {
       numbered = λ ts. numbered_none ts _ _ (ap (map source_term) none);
       next = ap (λ (cs : List KindTerm). counted (length c.args.kinds.now.keys) (flat_map place_of cs)) none;

@@ -2,7 +2,7 @@ use Rattle.std.proofs.Common.{◌∙◌, ap, map, take_all}
 use Rattle.type_terms.specs.Naming.{instance}
 use Rattle.type_terms.specs.Term.{term_of}
 use Rattle.type_terms.proofs.Renaming.{next_renamed}
-use Rattle.type_schemes.proofs.instances.renamed_all.Goals as goal
+use Rattle.type_schemes.proofs.instances.push_renamed.Goals as goal
 
 pub loop-ty-preserved : goal.loop-ty-preserved
 loop-ty-preserved c =
