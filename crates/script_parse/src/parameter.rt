@@ -1,5 +1,5 @@
 // Parameters of a def.
-ghost use Rattle.std.specs.Prelude.{◌<◌, ◌≤◌, ◌^◌, IfOk, length, map};
+ghost use Rattle.std.specs.Prelude.{◌≡◌, ◌<◌, ◌≤◌, ◌^◌, [], IfOk, length, map};
 ghost use Rattle.std.specs.List.{All};
 ghost use Rattle.script_grammar.specs.Read.{next, many, behind, closed};
 ghost use Rattle.script_parse.specs.Reads.{behind_tilde, label_of, default_of};
@@ -20,7 +20,6 @@ use std::alloc::Global;
 use value_parse::value;
 
 /// (param (`,` param)*)? `)`, behind the name of a def.
-#[tactic(auto, unfolding(script_grammar::specs::Read::closed))]
 pub fn params(
     alloc: Global,
     total: usize,
@@ -32,54 +31,77 @@ pub fn params(
     ensures gives { Gives (λ x. (listed (map view_param x.0.items), kinds x.1.now)) result (closed is_comma is_close_round (param (places total)) (kinds tokens.now)) }
     ensures whole { IfOk result (λ x. All IsWholeParam x.0.items) }
 {
-    if token::next_is(tokens, Class::CloseRound) {
-        let (_close, rest) = token::expect(tokens, Class::CloseRound)?;
-        Ok((Vec::new(alloc), rest))
-    } else {
-        some_params(alloc, total, tokens)
-    }
-}
-
-// param (`,` param)* `)`
-#[tactic(auto, unfolding(script_grammar::specs::Read::chain))]
-fn some_params(
-    alloc: Global,
-    total: usize,
-    tokens: &[Token],
-) -> Result<(Vec<Param>, &[Token]), Fault>
-    requires within { length tokens.now ≤ total }
-    requires small { total < 2 ^ 32 }
-    ensures shorter { IfOk result (λ x. length x.1.now < length tokens.now) }
-    ensures gives { Gives (λ x. (listed (map view_param x.0.items), kinds x.1.now)) result (some_closed is_comma is_close_round (param (places total)) (kinds tokens.now)) }
-    ensures whole { IfOk result (λ x. All IsWholeParam x.0.items) }
-{
-    let (first, rest) = param(alloc, total, tokens)?;
-    let (mut items, rest) = more_params(alloc, total, rest)?;
-    let (_close, rest) = token::expect(rest, Class::CloseRound)?;
-    items.insert(0, first)?;
+    let mut items = Vec::new(alloc);
+    let rest = push_params(alloc, total, &mut items, tokens)?;
     Ok((items, rest))
 }
 
-// (`,` param)*
-fn more_params(
+// The same, pushed to a list that is empty at first.
+#[tactic(auto, unfolding(script_grammar::specs::Read::closed))]
+fn push_params<'a>(
     alloc: Global,
     total: usize,
-    tokens: &[Token],
-) -> Result<(Vec<Param>, &[Token]), Fault>
+    items: &mut Vec<Param>,
+    tokens: &'a [Token],
+) -> Result<&'a [Token], Fault>
     requires within { length tokens.now ≤ total }
     requires small { total < 2 ^ 32 }
-    ensures shorter { IfOk result (λ x. length x.1.now ≤ length tokens.now) }
-    ensures gives { Gives (λ x. (listed (map view_param x.0.items), kinds x.1.now)) result (many (next is_comma) (behind is_comma (param (places total))) (kinds tokens.now)) }
-    ensures whole { IfOk result (λ x. All IsWholeParam x.0.items) }
+    requires none { items.old.items ≡ [] }
+    ensures shorter { IfOk result (λ rest. length rest.now < length tokens.now) }
+    ensures gives { Gives (λ rest. (listed (map view_param items.new.items), kinds rest.now)) result (closed is_comma is_close_round (param (places total)) (kinds tokens.now)) }
+    ensures whole { IfOk result (λ rest. All IsWholeParam items.new.items) }
 {
-    let mut items = Vec::new(alloc);
+    if token::next_is(tokens, Class::CloseRound) {
+        let (_close, rest) = token::expect(tokens, Class::CloseRound)?;
+        Ok(rest)
+    } else {
+        some_params(alloc, total, items, tokens)
+    }
+}
+
+// param (`,` param)* `)`, put into a list that is empty at first.
+#[tactic(auto, unfolding(script_grammar::specs::Read::chain))]
+fn some_params<'a>(
+    alloc: Global,
+    total: usize,
+    items: &mut Vec<Param>,
+    tokens: &'a [Token],
+) -> Result<&'a [Token], Fault>
+    requires within { length tokens.now ≤ total }
+    requires small { total < 2 ^ 32 }
+    requires none { items.old.items ≡ [] }
+    ensures shorter { IfOk result (λ rest. length rest.now < length tokens.now) }
+    ensures gives { Gives (λ rest. (listed (map view_param items.new.items), kinds rest.now)) result (some_closed is_comma is_close_round (param (places total)) (kinds tokens.now)) }
+    ensures whole { IfOk result (λ rest. All IsWholeParam items.new.items) }
+{
+    let (first, rest) = param(alloc, total, tokens)?;
+    let rest = more_params(alloc, total, items, rest)?;
+    let (_close, rest) = token::expect(rest, Class::CloseRound)?;
+    items.insert(0, first)?;
+    Ok(rest)
+}
+
+// (`,` param)*, pushed to a list that is empty at first.
+fn more_params<'a>(
+    alloc: Global,
+    total: usize,
+    items: &mut Vec<Param>,
+    tokens: &'a [Token],
+) -> Result<&'a [Token], Fault>
+    requires within { length tokens.now ≤ total }
+    requires small { total < 2 ^ 32 }
+    requires none { items.old.items ≡ [] }
+    ensures shorter { IfOk result (λ rest. length rest.now ≤ length tokens.now) }
+    ensures gives { Gives (λ rest. (listed (map view_param items.new.items), kinds rest.now)) result (many (next is_comma) (behind is_comma (param (places total))) (kinds tokens.now)) }
+    ensures whole { IfOk result (λ rest. All IsWholeParam items.new.items) }
+{
     let mut rest = tokens;
     'turns: while token::next_is(rest, Class::Comma) {
         let (item, after) = comma_param(alloc, total, rest)?;
         items.push(item)?;
         rest = after;
     }
-    Ok((items, rest))
+    Ok(rest)
 }
 
 // `,` param

@@ -1,4 +1,4 @@
-use Rattle.std.proofs.Common.{◌≡◌, [], refl, sym, ◌∙◌, arith}
+use Rattle.std.proofs.Common.{refl, sym, ◌∙◌, arith}
 use Rattle.std.proofs.lemmas.List.Elements.{All-nil, All-push}
 use Rattle.std.proofs.lemmas.Result.{err_from_is_err_and}
 use Rattle.script_grammar.specs.Kinds.{is_comma}
@@ -12,8 +12,7 @@ use Rattle.script_parse.proofs.parameter.more_params.Goals as goal
 
 pub turns-init : goal.turns-init
 turns-init c =
-    let none_yet : c.new-items.result.items ≡ [] = cc in
-    (omega arith, begins view_param (next is_comma) (behind is_comma (param (places c.args.total))) c.args.tokens.now c.new-items.result.items cc, rw none_yet (All-nil IsWholeParam))
+    (omega arith, begins view_param (next is_comma) (behind is_comma (param (places c.args.total))) c.args.tokens.now c.args.items.now.items c.requires.none, rw c.requires.none (All-nil IsWholeParam))
 
 pub returns-in_err-item-clause-gives : goal.returns-in_err-item-clause-gives
 returns-in_err-item-clause-gives c =
