@@ -10,4 +10,4 @@ mod uses;
 pub use fault::{NameFault, TypeFault};
 pub use form::Form;
 pub use use_kinds::UseKinds;
-pub use uses::{Builtin, KindOf, Target, Use, use_at};
+pub use uses::{Builtin, KindOf, Target, Use};

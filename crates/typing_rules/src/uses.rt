@@ -1,6 +1,4 @@
 // The uses of the names of a script.
-ghost use Rattle.std.specs.Prelude.{◌≡◌, option_map};
-ghost use Rattle.typing_rules.specs.Uses.{use_at};
 
 use crate::use_kinds::UseKinds;
 use liq_base::Kind;
@@ -49,16 +47,4 @@ pub enum Builtin {
     Mksafe,
     Buffer,
     Clock,
-}
-
-/// The use that stands for the name at this token.
-pub fn use_at(uses: &[Use], at: u32) -> Option<&Use>
-    ensures { option_map (λ u. u.now) result ≡ use_at at uses.now }
-{
-    for one in uses {
-        if one.at == at {
-            return Some(one);
-        }
-    }
-    None
 }
