@@ -6,16 +6,16 @@ use Rattle.script_grammar.specs.View.{view_bind, view_def, view_full}
 use Rattle.script_grammar.specs.declared.tree.Bind.{Bind as ABind}
 use Rattle.script_grammar.specs.declared.tree.Def.{Def}
 use Rattle.type_terms.specs.Agrees.{Follows}
-use Rattle.type_terms.specs.Table.{IsOver, Table}
-use Rattle.type_terms.specs.Term.{Term, meaning, variable}
+use Rattle.type_terms.specs.Table.{Table}
+use Rattle.type_terms.specs.Term.{Term, variable}
 use Rattle.typing_rules.specs.Scoping.{names}
 use Rattle.typing_rules.specs.Scripts.{Targets}
-use Rattle.type_schemes.specs.Holding.{AreThere as AreHeldThere, HeldVariables, IsHeldBy}
+use Rattle.type_schemes.specs.Holding.{AreThere as AreHeldThere, HeldVariables}
 use Rattle.type_schemes.specs.Schemes.{scheme_of}
 use Rattle.type_flow.specs.Environment.{Env, Found, IsEnvOver, Known, function, value}
 use Rattle.type_flow.specs.Flow.{HasNoType, Infers, IsTypeOf}
 use Rattle.script_flow.specs.Counts.{AreCounted, IsTextCounted}
-use Rattle.script_flow.specs.Defs.{HasNoTyping, HoldsBefore, IsTypingOf, KeepsTypings, outside, terms_before}
+use Rattle.script_flow.specs.Defs.{HasNoTyping, HoldsBefore, IsTypingOf, KeepsTypings, outside}
 use Rattle.script_flow.specs.Statements.{AreTypings, Done, HasNoTypings, IsNewDef, AreApart, bound, defined, known_of, ran, scope_after, text_said, with_last}
 use Rattle.script_flow.specs.Whole.{AreWhole, IsDoneCounted}
 use Rattle.script_flow.proofs.Appended.{known_more, whole_more}
@@ -32,6 +32,7 @@ use Rattle.expression_types.specs.Order.{AreAdded, said_at, said_of, tokens_used
 use Rattle.def_types.specs.Answers.{AreSaidAs, IsNumberedDef, IsTypedDef, text_of}
 use Rattle.def_types.specs.Scope.{AreSeenDefs}
 use Rattle.def_types.specs.declared.defs.TypedDef.{TypedDef}
+use Rattle.type_infer.specs.Later.{HoldsLater, IsRenewed}
 use Rattle.type_infer.specs.Matches.{AreNumberedDefs, HaveCountsIn, IsTextCountedIn, aimed, opens_of}
 use Rattle.type_infer.specs.States.{IsAfter, IsDefKept, IsMore, IsNext, IsNoMore, IsNoted, IsReady, IsRunKept, IsTypedSo, IsTypedWith, IsValueKept, knowns}
 use Rattle.type_infer.specs.Steps.{AreThere, done_in, dones_in}
@@ -40,21 +41,22 @@ use Rattle.type_infer.specs.declared.steps.Step.TheVariants as step
 use Rattle.type_infer.specs.declared.steps.TypedExpr.{TypedExpr}
 use Rattle.type_infer.specs.declared.steps.Typing.{Typing}
 use Rattle.type_infer.proofs.Bridges.{done_last, dones_kept, dones_more, founds_counted, no_def_there, numbered_more, text_counted, there_bound, there_more}
+use Rattle.type_infer.proofs.Later.{caught_up, held_there, later_now, later_still, later_value}
 use Rattle.type_infer.proofs.Naming.{founds_counted_in, founds_named, text_counted_in, text_named, tokens_named}
 use Rattle.type_infer.proofs.Scopes.{IsNewKnown, defs_later, newest_def, newest_value, with_def, with_value}
 
 -- ---- all that holds behind statements, by its parts
 
-pub record State (s : Table) (h : HeldVariables) (bs : List AKnown) (ds : List KnownDef) (xs : List Step) (targets : Targets) (script : Script) : Type 0 where
+pub record State (s : Table) (h : HeldVariables) (p : List ℕ) (bs : List AKnown) (ds : List KnownDef) (xs : List Step) (targets : Targets) (script : Script) : Type 0 where
   pub seen : AreSeenDefs s targets bs ds
-  pub holds : HoldsBefore s (newest_first ds bs) h
+  pub holds : HoldsLater s (newest_first ds bs) h p
   pub numbered : AreNumberedDefs ds (newest_first ds bs)
   pub there : AreThere (length ds) xs
   pub known : newest_first ds bs ≡ known_of (dones_in ds xs)
   pub typings : AreTypings s targets script (dones_in ds xs)
   pub whole : AreWhole script (dones_in ds xs)
 
-state_of : (targets : Targets) (script : Script) (t : Typing) → IsReady targets t → IsTypedSo targets script t → State t.subst t.held t.before t.defs.items t.steps.items targets script
+state_of : (targets : Targets) (script : Script) (t : Typing) → IsReady targets t → IsTypedSo targets script t → State t.subst t.held t.pending.items t.before t.defs.items t.steps.items targets script
 state_of targets script t ready so = record {
   seen = ready.seen;
   holds = ready.holds;
@@ -65,20 +67,21 @@ state_of targets script t ready so = record {
   whole = so.whole;
 }
 
-after_of : (targets : Targets) (script : Script) (t : Typing) → State t.subst t.held t.before t.defs.items t.steps.items targets script → IsAfter targets script t
+after_of : (targets : Targets) (script : Script) (t : Typing) → State t.subst t.held t.pending.items t.before t.defs.items t.steps.items targets script → IsAfter targets script t
 after_of targets script t st = record {
   ready = record { seen = st.seen; holds = st.holds; numbered = st.numbered; there = st.there };
   typed = record { known = st.known; typings = st.typings; whole = st.whole };
 }
 
-pub state_as : (t : Typing) (s : Table) (h : HeldVariables) (bs : List AKnown) (ds : List KnownDef) (xs : List Step) (targets : Targets) (script : Script) → t.subst ≡ s → t.held ≡ h → t.before ≡ bs → t.defs.items ≡ ds → t.steps.items ≡ xs →
-    State s h bs ds xs targets script → IsAfter targets script t
-state_as t s h bs ds xs targets script es eh eb ed ex st =
-    let a : State t.subst h bs ds xs targets script = subst (λ (y : Table). State y h bs ds xs targets script) (sym es) st in
-    let b : State t.subst t.held bs ds xs targets script = subst (λ (y : HeldVariables). State t.subst y bs ds xs targets script) (sym eh) a in
-    let c : State t.subst t.held t.before ds xs targets script = subst (λ (y : List AKnown). State t.subst t.held y ds xs targets script) (sym eb) b in
-    let d : State t.subst t.held t.before t.defs.items xs targets script = subst (λ (y : List KnownDef). State t.subst t.held t.before y xs targets script) (sym ed) c in
-    after_of targets script t (subst (λ (y : List Step). State t.subst t.held t.before t.defs.items y targets script) (sym ex) d)
+pub state_as : (t : Typing) (s : Table) (h : HeldVariables) (p : List ℕ) (bs : List AKnown) (ds : List KnownDef) (xs : List Step) (targets : Targets) (script : Script) → t.subst ≡ s → t.held ≡ h → t.pending.items ≡ p → t.before ≡ bs → t.defs.items ≡ ds → t.steps.items ≡ xs →
+    State s h p bs ds xs targets script → IsAfter targets script t
+state_as t s h p bs ds xs targets script es eh ep eb ed ex st =
+    let a : State t.subst h p bs ds xs targets script = subst (λ (y : Table). State y h p bs ds xs targets script) (sym es) st in
+    let b : State t.subst t.held p bs ds xs targets script = subst (λ (y : HeldVariables). State t.subst y p bs ds xs targets script) (sym eh) a in
+    let c : State t.subst t.held t.pending.items bs ds xs targets script = subst (λ (y : List ℕ). State t.subst t.held y bs ds xs targets script) (sym ep) b in
+    let d : State t.subst t.held t.pending.items t.before ds xs targets script = subst (λ (y : List AKnown). State t.subst t.held t.pending.items y ds xs targets script) (sym eb) c in
+    let e : State t.subst t.held t.pending.items t.before t.defs.items xs targets script = subst (λ (y : List KnownDef). State t.subst t.held t.pending.items t.before y xs targets script) (sym ed) d in
+    after_of targets script t (subst (λ (y : List Step). State t.subst t.held t.pending.items t.before t.defs.items y targets script) (sym ex) e)
 
 -- ---- an expression, with what is known by the definitions
 
@@ -88,11 +91,8 @@ infers_known s s' targets ks ls e u fs same i = subst (λ (y : List Known). Infe
 none_known : (s : Table) (targets : Targets) (ks ls : List Known) {r : Sort} (e : Tree r) → ks ≡ ls → HasNoType s (outside targets ks) e [] → HasNoType s (outside targets ls) e []
 none_known s targets ks ls e same n = subst (λ (y : List Known). HasNoType s (outside targets y) e []) same n
 
-counted_founds : (s : Table) (h : HeldVariables) (bs : List AKnown) (ds : List KnownDef) (xs : List Step) (targets : Targets) (script : Script) → State s h bs ds xs targets script → (fs : List Found) → HaveCountsIn ds fs → AreCounted (known_of (dones_in ds xs)) fs
-counted_founds s h bs ds xs targets script st fs c = subst (λ (ks : List Known). AreCounted ks fs) st.known (founds_counted ds (newest_first ds bs) st.numbered fs c)
-
-tail_same : {A : Type 0} (x y : A) (xs ys : List A) → x ∷ xs ≡ y ∷ ys → xs ≡ ys
-tail_same x y xs ys h = cc
+counted_founds : (s : Table) (h : HeldVariables) (p : List ℕ) (bs : List AKnown) (ds : List KnownDef) (xs : List Step) (targets : Targets) (script : Script) → State s h p bs ds xs targets script → (fs : List Found) → HaveCountsIn ds fs → AreCounted (known_of (dones_in ds xs)) fs
+counted_founds s h p bs ds xs targets script st fs c = subst (λ (ks : List Known). AreCounted ks fs) st.known (founds_counted ds (newest_first ds bs) st.numbered fs c)
 
 -- ---- a binding
 
@@ -102,10 +102,10 @@ Bind' at name f semicolon = Stmt (BindPart (Bind at name f)) semicolon
 abbrev name_as : ℕ → TypedExpr → TypedName
 name_as at e = record { at = at; var = e.var }
 
-bound_state : (s s' : Table) (h h' : HeldVariables) (bs : List AKnown) (ds : List KnownDef) (xs : List Step) (targets : Targets) (script : Script) (at : ℕ) (name : List ℕ) (f : Tree AFull) (semicolon : Bool) (e : TypedExpr) →
-    State s h bs ds xs targets script → IsTypedWith s s' (outside targets (newest_first ds bs)) ds f e → IsHeldBy s' (variable e.var ∷ terms_before (newest_first ds bs)) h' → IsNext targets script (Bind' at name f semicolon) →
-    State s' h' (bs ++ known.Value (name_as at e) ∷ []) ds (xs ++ step.Bound (name_as at e) e.uses ∷ []) targets (with_last script (Bind' at name f semicolon))
-bound_state s s' h h' bs ds xs targets script at name f semicolon e st t held next =
+bound_state : (s s' : Table) (h : HeldVariables) (p : List ℕ) (bs : List AKnown) (ds : List KnownDef) (xs : List Step) (targets : Targets) (script : Script) (at : ℕ) (name : List ℕ) (f : Tree AFull) (semicolon : Bool) (e : TypedExpr) →
+    State s h p bs ds xs targets script → IsTypedWith s s' (outside targets (newest_first ds bs)) ds f e → IsNext targets script (Bind' at name f semicolon) →
+    State s' h (p ++ e.var ∷ []) (bs ++ known.Value (name_as at e) ∷ []) ds (xs ++ step.Bound (name_as at e) e.uses ∷ []) targets (with_last script (Bind' at name f semicolon))
+bound_state s s' h p bs ds xs targets script at name f semicolon e st t next =
     let n = name_as at e in
     let fs = founds e.uses.items in
     let ys = dones_in ds xs in
@@ -115,16 +115,13 @@ bound_state s s' h h' bs ds xs targets script at name f semicolon e st t held ne
     let i = infers_known s s' targets ks (known_of ys) f (variable e.var) fs st.known t.infers in
     let all : dones_in ds (xs ++ step.Bound n e.uses ∷ []) ≡ ys ++ x ∷ [] = dones_more ds xs (step.Bound n e.uses) in
     let more : newest_first ds (bs ++ known.Value n ∷ []) ≡ value at (variable e.var) ∷ ks = newest_value ds bs n in
-    let whole = whole_more script ys q x next.placed st.whole (refl, t.named ∙ tokens_named targets (scope_after [] script) f next.aimed) (counted_founds s h bs ds xs targets script st fs t.counted) in
+    let whole = whole_more script ys q x next.placed st.whole (refl, t.named ∙ tokens_named targets (scope_after [] script) f next.aimed) (counted_founds s h p bs ds xs targets script st fs t.counted) in
     let typings = typings_bound s s' targets script ys st.typings t.some at name f semicolon (variable e.var) fs i in
-    let holds : HoldsBefore s' (value at (variable e.var) ∷ ks) h' = record {
-      held = held;
-      texts = λ a b m n same. st.holds.texts a b (i.follows.solves a m) (i.follows.solves b n) (tail_same (meaning a (variable e.var)) (meaning b (variable e.var)) (map (meaning a) (terms_before ks)) (map (meaning b) (terms_before ks)) same);
-    } in
+    let holds = later_value s s' ks h p at e.var st.holds i.follows i.over in
     let numbered : AreNumberedDefs ds (value at (variable e.var) ∷ ks) = record { each = λ t d is. st.numbered.each t d is } in
     record {
       seen = with_value s' targets bs ds n i.over (defs_later s s' targets bs ds i.follows st.seen);
-      holds = subst (λ (l : List Known). HoldsBefore s' l h') (sym more) holds;
+      holds = subst (λ (l : List Known). HoldsLater s' l h (p ++ e.var ∷ [])) (sym more) holds;
       numbered = subst (AreNumberedDefs ds) (sym more) numbered;
       there = there_bound (length ds) xs (step.Bound n e.uses) st.there (tt, tt);
       known = more ∙ ap (λ (l : List Known). value at (variable e.var) ∷ l) st.known ∙ sym (known_more ys x) ∙ ap known_of (sym all);
@@ -132,24 +129,24 @@ bound_state s s' h h' bs ds xs targets script at name f semicolon e st t held ne
       whole = subst (AreWhole (with_last script q)) (sym all) whole;
     }
 
-bound_stops : (s : Table) (h : HeldVariables) (bs : List AKnown) (ds : List KnownDef) (xs : List Step) (targets : Targets) (script : Script) (at : ℕ) (name : List ℕ) (f : Tree AFull) (semicolon : Bool) →
-    State s h bs ds xs targets script → HasNoType s (outside targets (newest_first ds bs)) f [] → HasNoTypings targets (with_last script (Bind' at name f semicolon))
-bound_stops s h bs ds xs targets script at name f semicolon st none =
+bound_stops : (s : Table) (h : HeldVariables) (p : List ℕ) (bs : List AKnown) (ds : List KnownDef) (xs : List Step) (targets : Targets) (script : Script) (at : ℕ) (name : List ℕ) (f : Tree AFull) (semicolon : Bool) →
+    State s h p bs ds xs targets script → HasNoType s (outside targets (newest_first ds bs)) f [] → HasNoTypings targets (with_last script (Bind' at name f semicolon))
+bound_stops s h p bs ds xs targets script at name f semicolon st none =
     no_bound s targets script (dones_in ds xs) st.typings at name f semicolon (none_known s targets (newest_first ds bs) (known_of (dones_in ds xs)) f st.known none)
 
 -- ---- what runs
 
-module _ (s s' : Table) (h h' : HeldVariables) (bs : List AKnown) (ds : List KnownDef) (xs : List Step) (targets : Targets) (script : Script) (q : Tree AStmt) (e : TypedExpr) where
-  ran_state : State s h bs ds xs targets script → Follows s s' → IsHeldBy s' (terms_before (newest_first ds bs)) h' →
+module _ (s s' : Table) (h : HeldVariables) (p : List ℕ) (bs : List AKnown) (ds : List KnownDef) (xs : List Step) (targets : Targets) (script : Script) (q : Tree AStmt) (e : TypedExpr) where
+  ran_state : State s h p bs ds xs targets script → Follows s s' →
       AreTypings s' targets (with_last script q) (dones_in ds xs ++ ran (founds e.uses.items) ∷ []) → AreWhole (with_last script q) (dones_in ds xs ++ ran (founds e.uses.items) ∷ []) →
-      State s' h' bs ds (xs ++ step.Ran e.uses ∷ []) targets (with_last script q)
-  ran_state st follows held typings whole =
+      State s' h p bs ds (xs ++ step.Ran e.uses ∷ []) targets (with_last script q)
+  ran_state st follows typings whole =
       let ys = dones_in ds xs in
       let x = ran (founds e.uses.items) in
       let all : dones_in ds (xs ++ step.Ran e.uses ∷ []) ≡ ys ++ x ∷ [] = dones_more ds xs (step.Ran e.uses) in
       record {
         seen = defs_later s s' targets bs ds follows st.seen;
-        holds = record { held = held; texts = λ a b m n same. st.holds.texts a b (follows.solves a m) (follows.solves b n) same };
+        holds = later_still s s' (newest_first ds bs) h p st.holds follows;
         numbered = st.numbered;
         there = there_bound (length ds) xs (step.Ran e.uses) st.there (tt, tt);
         known = st.known ∙ sym (known_more ys x) ∙ ap known_of (sym all);
@@ -157,44 +154,44 @@ module _ (s s' : Table) (h h' : HeldVariables) (bs : List AKnown) (ds : List Kno
         whole = subst (AreWhole (with_last script q)) (sym all) whole;
       }
 
-call_state : (s s' : Table) (h h' : HeldVariables) (bs : List AKnown) (ds : List KnownDef) (xs : List Step) (targets : Targets) (script : Script) (c : Tree ACall) (semicolon : Bool) (e : TypedExpr) →
-    State s h bs ds xs targets script → IsTypedWith s s' (outside targets (newest_first ds bs)) ds c e → IsHeldBy s' (terms_before (newest_first ds bs)) h' → IsNext targets script (Stmt (CallPart c) semicolon) →
-    State s' h' bs ds (xs ++ step.Ran e.uses ∷ []) targets (with_last script (Stmt (CallPart c) semicolon))
-call_state s s' h h' bs ds xs targets script c semicolon e st t held next =
+call_state : (s s' : Table) (h : HeldVariables) (p : List ℕ) (bs : List AKnown) (ds : List KnownDef) (xs : List Step) (targets : Targets) (script : Script) (c : Tree ACall) (semicolon : Bool) (e : TypedExpr) →
+    State s h p bs ds xs targets script → IsTypedWith s s' (outside targets (newest_first ds bs)) ds c e → IsNext targets script (Stmt (CallPart c) semicolon) →
+    State s' h p bs ds (xs ++ step.Ran e.uses ∷ []) targets (with_last script (Stmt (CallPart c) semicolon))
+call_state s s' h p bs ds xs targets script c semicolon e st t next =
     let fs = founds e.uses.items in
     let ys = dones_in ds xs in
     let q = Stmt (CallPart c) semicolon in
     let i = infers_known s s' targets (newest_first ds bs) (known_of ys) c (variable e.var) fs st.known t.infers in
-    ran_state s s' h h' bs ds xs targets script q e st i.follows held (typings_call s s' targets script ys st.typings t.some c semicolon (variable e.var) fs i)
-    (whole_more script ys q (ran fs) next.placed st.whole (t.named ∙ tokens_named targets (scope_after [] script) c next.aimed) (counted_founds s h bs ds xs targets script st fs t.counted))
+    ran_state s s' h p bs ds xs targets script q e st i.follows (typings_call s s' targets script ys st.typings t.some c semicolon (variable e.var) fs i)
+    (whole_more script ys q (ran fs) next.placed st.whole (t.named ∙ tokens_named targets (scope_after [] script) c next.aimed) (counted_founds s h p bs ds xs targets script st fs t.counted))
 
-call_stops : (s : Table) (h : HeldVariables) (bs : List AKnown) (ds : List KnownDef) (xs : List Step) (targets : Targets) (script : Script) (c : Tree ACall) (semicolon : Bool) →
-    State s h bs ds xs targets script → HasNoType s (outside targets (newest_first ds bs)) c [] → HasNoTypings targets (with_last script (Stmt (CallPart c) semicolon))
-call_stops s h bs ds xs targets script c semicolon st none =
+call_stops : (s : Table) (h : HeldVariables) (p : List ℕ) (bs : List AKnown) (ds : List KnownDef) (xs : List Step) (targets : Targets) (script : Script) (c : Tree ACall) (semicolon : Bool) →
+    State s h p bs ds xs targets script → HasNoType s (outside targets (newest_first ds bs)) c [] → HasNoTypings targets (with_last script (Stmt (CallPart c) semicolon))
+call_stops s h p bs ds xs targets script c semicolon st none =
     no_call s targets script (dones_in ds xs) st.typings c semicolon (none_known s targets (newest_first ds bs) (known_of (dones_in ds xs)) c st.known none)
 
-if_state : (s s' : Table) (h h' : HeldVariables) (bs : List AKnown) (ds : List KnownDef) (xs : List Step) (targets : Targets) (script : Script) (c : Tree AnIf) (semicolon : Bool) (e : TypedExpr) →
-    State s h bs ds xs targets script → IsTypedWith s s' (outside targets (newest_first ds bs)) ds c e → IsHeldBy s' (terms_before (newest_first ds bs)) h' → IsNext targets script (Stmt (IfPart c) semicolon) →
-    State s' h' bs ds (xs ++ step.Ran e.uses ∷ []) targets (with_last script (Stmt (IfPart c) semicolon))
-if_state s s' h h' bs ds xs targets script c semicolon e st t held next =
+if_state : (s s' : Table) (h : HeldVariables) (p : List ℕ) (bs : List AKnown) (ds : List KnownDef) (xs : List Step) (targets : Targets) (script : Script) (c : Tree AnIf) (semicolon : Bool) (e : TypedExpr) →
+    State s h p bs ds xs targets script → IsTypedWith s s' (outside targets (newest_first ds bs)) ds c e → IsNext targets script (Stmt (IfPart c) semicolon) →
+    State s' h p bs ds (xs ++ step.Ran e.uses ∷ []) targets (with_last script (Stmt (IfPart c) semicolon))
+if_state s s' h p bs ds xs targets script c semicolon e st t next =
     let fs = founds e.uses.items in
     let ys = dones_in ds xs in
     let q = Stmt (IfPart c) semicolon in
     let i = infers_known s s' targets (newest_first ds bs) (known_of ys) c (variable e.var) fs st.known t.infers in
-    ran_state s s' h h' bs ds xs targets script q e st i.follows held (typings_if s s' targets script ys st.typings t.some c semicolon (variable e.var) fs i)
-    (whole_more script ys q (ran fs) next.placed st.whole (t.named ∙ tokens_named targets (scope_after [] script) c next.aimed) (counted_founds s h bs ds xs targets script st fs t.counted))
+    ran_state s s' h p bs ds xs targets script q e st i.follows (typings_if s s' targets script ys st.typings t.some c semicolon (variable e.var) fs i)
+    (whole_more script ys q (ran fs) next.placed st.whole (t.named ∙ tokens_named targets (scope_after [] script) c next.aimed) (counted_founds s h p bs ds xs targets script st fs t.counted))
 
-if_stops : (s : Table) (h : HeldVariables) (bs : List AKnown) (ds : List KnownDef) (xs : List Step) (targets : Targets) (script : Script) (c : Tree AnIf) (semicolon : Bool) →
-    State s h bs ds xs targets script → HasNoType s (outside targets (newest_first ds bs)) c [] → HasNoTypings targets (with_last script (Stmt (IfPart c) semicolon))
-if_stops s h bs ds xs targets script c semicolon st none =
+if_stops : (s : Table) (h : HeldVariables) (p : List ℕ) (bs : List AKnown) (ds : List KnownDef) (xs : List Step) (targets : Targets) (script : Script) (c : Tree AnIf) (semicolon : Bool) →
+    State s h p bs ds xs targets script → HasNoType s (outside targets (newest_first ds bs)) c [] → HasNoTypings targets (with_last script (Stmt (IfPart c) semicolon))
+if_stops s h p bs ds xs targets script c semicolon st none =
     no_if s targets script (dones_in ds xs) st.typings c semicolon (none_known s targets (newest_first ds bs) (known_of (dones_in ds xs)) c st.known none)
 
 -- ---- a def
 
-def_state : (s s' : Table) (h : HeldVariables) (bs : List AKnown) (ds : List KnownDef) (xs : List Step) (targets : Targets) (script : Script) (d : Def) (semicolon : Bool) (t : TypedDef) →
-    State s h bs ds xs targets script → IsTypedDef s s' targets (newest_first ds bs) d t → IsNumberedDef s' t.known → map text_said (text_of t.known) ≡ map (aimed targets) (tokens_used (view_def d)) → IsTextCountedIn ds (text_of t.known) → IsNext targets script (Stmt (DefPart (view_def d)) semicolon) →
-    State s' t.held (bs ++ known.Function (length ds) ∷ []) (ds ++ t.known ∷ []) (xs ++ step.Defined (length ds) ∷ []) targets (with_last script (Stmt (DefPart (view_def d)) semicolon))
-def_state s s' h bs ds xs targets script d semicolon t st td check named few next =
+def_state : (s s' : Table) (h : HeldVariables) (p : List ℕ) (bs : List AKnown) (ds : List KnownDef) (xs : List Step) (targets : Targets) (script : Script) (d : Def) (semicolon : Bool) (t : TypedDef) →
+    State s h p bs ds xs targets script → IsTypedDef s s' targets (newest_first ds bs) d t → IsNumberedDef s' t.known → map text_said (text_of t.known) ≡ map (aimed targets) (tokens_used (view_def d)) → IsTextCountedIn ds (text_of t.known) → IsNext targets script (Stmt (DefPart (view_def d)) semicolon) →
+    State s' t.held [] (bs ++ known.Function (length ds) ∷ []) (ds ++ t.known ∷ []) (xs ++ step.Defined (length ds) ∷ []) targets (with_last script (Stmt (DefPart (view_def d)) semicolon))
+def_state s s' h p bs ds xs targets script d semicolon t st td check named few next =
     let us = text_of t.known in
     let ys = dones_in ds xs in
     let ks = newest_first ds bs in
@@ -224,7 +221,7 @@ def_state s s' h bs ds xs targets script d semicolon t st td check named few nex
     let long = length_push ds t.known in
     record {
       seen = with_def s' targets bs ds t.known (view_def d) known_def (defs_later s s' targets bs ds td.follows st.seen);
-      holds = subst (λ (l : List Known). HoldsBefore s' l t.held) (sym more) td.held;
+      holds = later_now s' (newest_first ds' (bs ++ known.Function (length ds) ∷ [])) t.held (subst (λ (l : List Known). HoldsBefore s' l t.held) (sym more) td.held);
       numbered = subst (AreNumberedDefs ds') (sym more) (numbered_more ds ks t.known (view_def d) us st.numbered new td.at check.numbered);
       there = there_bound (length ds') xs (step.Defined (length ds)) (there_more (length ds) (length ds') xs (omega (arith, long)) st.there) (omega (arith, long), tt);
       known = more ∙ ap (λ (l : List Known). function (view_def d) us ∷ l) st.known ∙ sym (known_more ys x) ∙ ap known_of (sym all);
@@ -232,15 +229,15 @@ def_state s s' h bs ds xs targets script d semicolon t st td check named few nex
       whole = subst (AreWhole (with_last script q)) (sym all) whole;
     }
 
-def_stops : (s : Table) (h : HeldVariables) (bs : List AKnown) (ds : List KnownDef) (xs : List Step) (targets : Targets) (script : Script) (d : Tree ADef) (semicolon : Bool) →
-    State s h bs ds xs targets script → HasNoTyping s targets (newest_first ds bs) d → HasNoTypings targets (with_last script (Stmt (DefPart d) semicolon))
-def_stops s h bs ds xs targets script d semicolon st none =
+def_stops : (s : Table) (h : HeldVariables) (p : List ℕ) (bs : List AKnown) (ds : List KnownDef) (xs : List Step) (targets : Targets) (script : Script) (d : Tree ADef) (semicolon : Bool) →
+    State s h p bs ds xs targets script → HasNoTyping s targets (newest_first ds bs) d → HasNoTypings targets (with_last script (Stmt (DefPart d) semicolon))
+def_stops s h p bs ds xs targets script d semicolon st none =
     no_def s targets script (dones_in ds xs) st.typings d semicolon (subst (λ (l : List Known). HasNoTyping s targets l d) st.known none)
 
 -- ---- the same over what the program holds
 
+-- the statements before are as they were
 pub record GoesOn (old mid : Typing) : Type 0 where
-  pub held : mid.held ≡ old.held
   pub before : mid.before ≡ old.before
   pub defs : mid.defs ≡ old.defs
   pub steps : mid.steps ≡ old.steps
@@ -262,84 +259,69 @@ seen_outside targets t names ready env defs = record {
   calls = λ x. subst (λ (y : Env). DefIs t.subst y x (def_seen x names.defs.now)) (sym env) (subst (λ (l : List KnownDef). DefIs t.subst (outside targets (knowns t)) x (def_seen x l)) (sym defs) (ready.seen.calls x));
 }
 
-pub holds_outside : (targets : Targets) (t : Typing) (names : Names) → IsReady targets t → env_of names ≡ outside targets (knowns t) → HoldsBefore t.subst (env_of names).before t.held
-holds_outside targets t names ready env = subst (λ (y : Env). HoldsBefore t.subst y.before t.held) (sym env) ready.holds
+pub held_then : (targets : Targets) (t : Typing) → IsReady targets t → AreHeldThere t.subst t.held
+held_then targets t ready = held_there t.subst (knowns t) t.held t.pending.items ready.holds
 
--- the held variables are there later too
-pub still_there : (targets : Targets) (old mid : Typing) → IsReady targets old → Follows old.subst mid.subst → GoesOn old mid → AreHeldThere mid.subst mid.held
-still_there targets old mid ready f on =
-    subst (AreHeldThere mid.subst) (sym on.held) (record {
-      types = λ k h. let lt = (ready.holds.held.free_types k h).0 in omega (arith, lt, f.types);
-      kinds = λ k h. let lt = (ready.holds.held.free_kinds k h).0 in omega (arith, lt, f.kinds);
-    })
-
--- behind an expression that was typed
-pub still_with : (targets : Targets) (old mid : Typing) (y : Env) (ds : List KnownDef) {r : Sort} (e : Tree r) (x : TypedExpr) → IsReady targets old → IsTypedWith old.subst mid.subst y ds e x → GoesOn old mid → AreHeldThere mid.subst mid.held
-still_with targets old mid y ds e x ready t on = still_there targets old mid ready t.infers.follows on
-
-pub over_with : (s s' : Table) (y : Env) (ds : List KnownDef) {r : Sort} (e : Tree r) (x : TypedExpr) → IsTypedWith s s' y ds e x → IsOver s' (variable x.var)
-over_with s s' y ds e x t = t.infers.over
+pub holds_outside : (targets : Targets) (t : Typing) (names : Names) (h : HeldVariables) → IsReady targets t → env_of names ≡ outside targets (knowns t) → IsRenewed t.subst t.pending.items t.held h → HoldsBefore t.subst (env_of names).before h
+holds_outside targets t names h ready env new = subst (λ (y : Env). HoldsBefore t.subst y.before h) (sym env) (caught_up t.subst (knowns t) t.held h t.pending.items ready.holds new)
 
 typed_known : (s s' : Table) (names : Names) (targets : Targets) (bs : List AKnown) (ds : List KnownDef) {r : Sort} (e : Tree r) (x : TypedExpr) → env_of names ≡ outside targets (newest_first ds bs) → names.defs.now ≡ ds →
     IsTypedWith s s' (env_of names) names.defs.now e x → IsTypedWith s s' (outside targets (newest_first ds bs)) ds e x
 typed_known s s' names targets bs ds e x env ed t =
     subst (λ (y : Env). IsTypedWith s s' y ds e x) env (subst (λ (y : List KnownDef). IsTypedWith s s' (env_of names) y e x) ed t)
 
-pub value_more : (targets : Targets) (b : ABind) (old mid new : Typing) (names : Names) (e : TypedExpr) → IsReady targets old → GoesOn old mid → env_of names ≡ outside targets (knowns old) → names.defs.now ≡ old.defs.items →
+pub value_more : (targets : Targets) (b : ABind) (old mid new : Typing) (names : Names) (e : TypedExpr) → IsReady targets old → GoesOn old mid → mid.held ≡ old.held → mid.pending ≡ old.pending → env_of names ≡ outside targets (knowns old) → names.defs.now ≡ old.defs.items →
     IsTypedWith old.subst mid.subst (env_of names) names.defs.now (view_full b.value) e → IsValueKept b.at e mid new → IsMore targets (BindPart (view_bind b)) old new
-value_more targets b old mid new names e ready on env ed typed kept script semicolon so next =
+value_more targets b old mid new names e ready on held pending env ed typed kept script semicolon so next =
     let bs = old.before in
     let ds = old.defs.items in
     let xs = old.steps.items in
     let t = typed_known old.subst mid.subst names targets bs ds (view_full b.value) e env ed typed in
-    let held : IsHeldBy old.subst (terms_before (knowns old)) mid.held = subst (λ (h : HeldVariables). IsHeldBy old.subst (terms_before (knowns old)) h) (sym on.held) ready.holds.held in
-    let st = bound_state old.subst mid.subst old.held new.held bs ds xs targets script b.at b.name (view_full b.value) semicolon e (state_of targets script old ready so) t (kept.held old.subst (terms_before (knowns old)) t.infers.follows held) next in
-    state_as new mid.subst new.held (bs ++ known.Value (name_as b.at e) ∷ []) ds (xs ++ step.Bound (name_as b.at e) e.uses ∷ []) targets (with_last script (Bind' b.at b.name (view_full b.value) semicolon))
-    kept.subst refl
+    let st = bound_state old.subst mid.subst old.held old.pending.items bs ds xs targets script b.at b.name (view_full b.value) semicolon e (state_of targets script old ready so) t next in
+    state_as new mid.subst old.held (old.pending.items ++ e.var ∷ []) (bs ++ known.Value (name_as b.at e) ∷ []) ds (xs ++ step.Bound (name_as b.at e) e.uses ∷ []) targets (with_last script (Bind' b.at b.name (view_full b.value) semicolon))
+    kept.subst (kept.held ∙ held) (kept.pending ∙ ap (λ v. v.items ++ e.var ∷ []) pending)
     (kept.before ∙ ap (λ (v : List AKnown). v ++ known.Value (name_as b.at e) ∷ []) on.before)
     (kept.defs ∙ ap (λ v. v.items) on.defs)
     (kept.steps ∙ ap (λ v. v.items ++ step.Bound (name_as b.at e) e.uses ∷ []) on.steps) st
 
 pub value_no_more : (targets : Targets) (b : ABind) (old : Typing) (names : Names) → IsReady targets old → env_of names ≡ outside targets (knowns old) → HasNoType old.subst (env_of names) (view_full b.value) [] → IsNoMore targets (BindPart (view_bind b)) old
 value_no_more targets b old names ready env none script semicolon so =
-    bound_stops old.subst old.held old.before old.defs.items old.steps.items targets script b.at b.name (view_full b.value) semicolon (state_of targets script old ready so)
+    bound_stops old.subst old.held old.pending.items old.before old.defs.items old.steps.items targets script b.at b.name (view_full b.value) semicolon (state_of targets script old ready so)
     (subst (λ (y : Env). HasNoType old.subst y (view_full b.value) []) env none)
 
-pub call_more : (targets : Targets) (b : Tree ACall) (old mid new : Typing) (names : Names) (e : TypedExpr) → IsReady targets old → GoesOn old mid → env_of names ≡ outside targets (knowns old) → names.defs.now ≡ old.defs.items →
+pub call_more : (targets : Targets) (b : Tree ACall) (old mid new : Typing) (names : Names) (e : TypedExpr) → IsReady targets old → GoesOn old mid → mid.held ≡ old.held → mid.pending ≡ old.pending → env_of names ≡ outside targets (knowns old) → names.defs.now ≡ old.defs.items →
     IsTypedWith old.subst mid.subst (env_of names) names.defs.now b e → IsRunKept e mid new → IsMore targets (CallPart b) old new
-call_more targets b old mid new names e ready on env ed typed kept script semicolon so next =
+call_more targets b old mid new names e ready on held pending env ed typed kept script semicolon so next =
     let bs = old.before in
     let ds = old.defs.items in
     let xs = old.steps.items in
     let t = typed_known old.subst mid.subst names targets bs ds b e env ed typed in
-    let held : IsHeldBy old.subst (terms_before (knowns old)) mid.held = subst (λ (h : HeldVariables). IsHeldBy old.subst (terms_before (knowns old)) h) (sym on.held) ready.holds.held in
-    let st = call_state old.subst mid.subst old.held new.held bs ds xs targets script b semicolon e (state_of targets script old ready so) t (kept.held old.subst (terms_before (knowns old)) t.infers.follows held) next in
-    state_as new mid.subst new.held bs ds (xs ++ step.Ran e.uses ∷ []) targets (with_last script (Stmt (CallPart b) semicolon))
-    kept.subst refl (kept.before ∙ on.before) (kept.defs ∙ ap (λ v. v.items) on.defs) (kept.steps ∙ ap (λ v. v.items ++ step.Ran e.uses ∷ []) on.steps) st
+    let st = call_state old.subst mid.subst old.held old.pending.items bs ds xs targets script b semicolon e (state_of targets script old ready so) t next in
+    state_as new mid.subst old.held old.pending.items bs ds (xs ++ step.Ran e.uses ∷ []) targets (with_last script (Stmt (CallPart b) semicolon))
+    kept.subst (kept.held ∙ held) (kept.pending ∙ ap (λ v. v.items) pending) (kept.before ∙ on.before) (kept.defs ∙ ap (λ v. v.items) on.defs) (kept.steps ∙ ap (λ v. v.items ++ step.Ran e.uses ∷ []) on.steps) st
 
 pub call_no_more : (targets : Targets) (b : Tree ACall) (old : Typing) (names : Names) → IsReady targets old → env_of names ≡ outside targets (knowns old) → HasNoType old.subst (env_of names) b [] → IsNoMore targets (CallPart b) old
 call_no_more targets b old names ready env none script semicolon so =
-    call_stops old.subst old.held old.before old.defs.items old.steps.items targets script b semicolon (state_of targets script old ready so) (subst (λ (y : Env). HasNoType old.subst y b []) env none)
+    call_stops old.subst old.held old.pending.items old.before old.defs.items old.steps.items targets script b semicolon (state_of targets script old ready so) (subst (λ (y : Env). HasNoType old.subst y b []) env none)
 
-pub if_more : (targets : Targets) (b : Tree AnIf) (old mid new : Typing) (names : Names) (e : TypedExpr) → IsReady targets old → GoesOn old mid → env_of names ≡ outside targets (knowns old) → names.defs.now ≡ old.defs.items →
+pub if_more : (targets : Targets) (b : Tree AnIf) (old mid new : Typing) (names : Names) (e : TypedExpr) → IsReady targets old → GoesOn old mid → mid.held ≡ old.held → mid.pending ≡ old.pending → env_of names ≡ outside targets (knowns old) → names.defs.now ≡ old.defs.items →
     IsTypedWith old.subst mid.subst (env_of names) names.defs.now b e → IsRunKept e mid new → IsMore targets (IfPart b) old new
-if_more targets b old mid new names e ready on env ed typed kept script semicolon so next =
+if_more targets b old mid new names e ready on held pending env ed typed kept script semicolon so next =
     let bs = old.before in
     let ds = old.defs.items in
     let xs = old.steps.items in
     let t = typed_known old.subst mid.subst names targets bs ds b e env ed typed in
-    let held : IsHeldBy old.subst (terms_before (knowns old)) mid.held = subst (λ (h : HeldVariables). IsHeldBy old.subst (terms_before (knowns old)) h) (sym on.held) ready.holds.held in
-    let st = if_state old.subst mid.subst old.held new.held bs ds xs targets script b semicolon e (state_of targets script old ready so) t (kept.held old.subst (terms_before (knowns old)) t.infers.follows held) next in
-    state_as new mid.subst new.held bs ds (xs ++ step.Ran e.uses ∷ []) targets (with_last script (Stmt (IfPart b) semicolon))
-    kept.subst refl (kept.before ∙ on.before) (kept.defs ∙ ap (λ v. v.items) on.defs) (kept.steps ∙ ap (λ v. v.items ++ step.Ran e.uses ∷ []) on.steps) st
+    let st = if_state old.subst mid.subst old.held old.pending.items bs ds xs targets script b semicolon e (state_of targets script old ready so) t next in
+    state_as new mid.subst old.held old.pending.items bs ds (xs ++ step.Ran e.uses ∷ []) targets (with_last script (Stmt (IfPart b) semicolon))
+    kept.subst (kept.held ∙ held) (kept.pending ∙ ap (λ v. v.items) pending) (kept.before ∙ on.before) (kept.defs ∙ ap (λ v. v.items) on.defs) (kept.steps ∙ ap (λ v. v.items ++ step.Ran e.uses ∷ []) on.steps) st
 
 pub if_no_more : (targets : Targets) (b : Tree AnIf) (old : Typing) (names : Names) → IsReady targets old → env_of names ≡ outside targets (knowns old) → HasNoType old.subst (env_of names) b [] → IsNoMore targets (IfPart b) old
 if_no_more targets b old names ready env none script semicolon so =
-    if_stops old.subst old.held old.before old.defs.items old.steps.items targets script b semicolon (state_of targets script old ready so) (subst (λ (y : Env). HasNoType old.subst y b []) env none)
+    if_stops old.subst old.held old.pending.items old.before old.defs.items old.steps.items targets script b semicolon (state_of targets script old ready so) (subst (λ (y : Env). HasNoType old.subst y b []) env none)
 
-pub def_more : (targets : Targets) (d : Def) (old mid new : Typing) (names : Names) (t : TypedDef) → IsReady targets old → GoesOn old mid → env_of names ≡ outside targets (knowns old) → names.defs.now ≡ old.defs.items →
+pub def_more : (targets : Targets) (d : Def) (old mid new : Typing) (names : Names) (t : TypedDef) → IsReady targets old → GoesOn old mid → mid.pending.items ≡ [] → env_of names ≡ outside targets (knowns old) → names.defs.now ≡ old.defs.items →
     IsTypedDef old.subst mid.subst (env_of names).targets (env_of names).before d t → IsNumberedDef mid.subst t.known → AreSaidAs names (tokens_used (view_def d)) (text_of t.known) → IsDefKept t mid new → IsMore targets (DefPart (view_def d)) old new
-def_more targets d old mid new names t ready on env ed typed check said kept script semicolon so next =
+def_more targets d old mid new names t ready on none env ed typed check said kept script semicolon so next =
     let bs = old.before in
     let ds = old.defs.items in
     let xs = old.steps.items in
@@ -348,16 +330,16 @@ def_more targets d old mid new names t ready on env ed typed check said kept scr
     let named : map text_said us ≡ map (aimed targets) (tokens_used (view_def d)) = subst (λ (y : Env). map text_said us ≡ map (aimed y.targets) (tokens_used (view_def d))) env (text_named names (tokens_used (view_def d)) us said) in
     let few : IsTextCountedIn ds us = subst (λ (y : List KnownDef). IsTextCountedIn y us) ed (text_counted_in names (tokens_used (view_def d)) us said) in
     let same : mid.defs.items ≡ ds = ap (λ v. v.items) on.defs in
-    let st = def_state old.subst mid.subst old.held bs ds xs targets script d semicolon t (state_of targets script old ready so) td check named few next in
-    state_as new mid.subst t.held (bs ++ known.Function (length ds) ∷ []) (ds ++ t.known ∷ []) (xs ++ step.Defined (length ds) ∷ []) targets (with_last script (Stmt (DefPart (view_def d)) semicolon))
-    kept.subst kept.held
+    let st = def_state old.subst mid.subst old.held old.pending.items bs ds xs targets script d semicolon t (state_of targets script old ready so) td check named few next in
+    state_as new mid.subst t.held [] (bs ++ known.Function (length ds) ∷ []) (ds ++ t.known ∷ []) (xs ++ step.Defined (length ds) ∷ []) targets (with_last script (Stmt (DefPart (view_def d)) semicolon))
+    kept.subst kept.held (kept.pending ∙ none)
     (kept.before ∙ ap (λ (v : List AKnown). v ++ known.Function (length mid.defs.items) ∷ []) on.before ∙ ap (λ (y : List KnownDef). bs ++ known.Function (length y) ∷ []) same)
     (kept.defs ∙ ap (λ (y : List KnownDef). y ++ t.known ∷ []) same)
     (kept.steps ∙ ap (λ v. v.items ++ step.Defined (length mid.defs.items) ∷ []) on.steps ∙ ap (λ (y : List KnownDef). xs ++ step.Defined (length y) ∷ []) same) st
 
 pub def_no_more : (targets : Targets) (d : Tree ADef) (old : Typing) (names : Names) → IsReady targets old → env_of names ≡ outside targets (knowns old) → HasNoTyping old.subst (env_of names).targets (env_of names).before d → IsNoMore targets (DefPart d) old
 def_no_more targets d old names ready env none script semicolon so =
-    def_stops old.subst old.held old.before old.defs.items old.steps.items targets script d semicolon (state_of targets script old ready so) (subst (λ (y : Env). HasNoTyping old.subst y.targets y.before d) env none)
+    def_stops old.subst old.held old.pending.items old.before old.defs.items old.steps.items targets script d semicolon (state_of targets script old ready so) (subst (λ (y : Env). HasNoTyping old.subst y.targets y.before d) env none)
 
 -- ---- one expression
 

@@ -9,11 +9,12 @@ use Rattle.script_flow.proofs.Going.{typings_none}
 use Rattle.type_infer.specs.States.{IsAfter}
 use Rattle.type_infer.specs.declared.steps.Typing.{Typing}
 use Rattle.type_infer.proofs.After.{State, state_as}
+use Rattle.type_infer.proofs.Later.{later_now}
 
-none_yet : (targets : Targets) (s : Table) (h : HeldVariables) → HasDefaults s → IsHeldBy s [] h → State s h [] [] [] targets none
+none_yet : (targets : Targets) (s : Table) (h : HeldVariables) → HasDefaults s → IsHeldBy s [] h → State s h [] [] [] [] targets none
 none_yet targets s h d held = record {
   seen = record { here = tt; over = tt; calls = λ t at a m kinds gs g c. c.2 };
-  holds = record { held = held; texts = λ a b m n same. refl };
+  holds = later_now s [] h (record { held = held; texts = λ a b m n same. refl });
   numbered = record { each = λ t d is. cc };
   there = tt;
   known = refl;
@@ -21,5 +22,5 @@ none_yet targets s h d held = record {
   whole = record { placed = tt; done = tt; counted = tt };
 }
 
-pub begun_after : (targets : Targets) (t : Typing) → HasDefaults t.subst → t.before ≡ [] → t.defs.items ≡ [] → t.steps.items ≡ [] → ((s : Table) → IsHeldBy s [] t.held) → IsAfter targets none t
-begun_after targets t d eb ed ex held = state_as t t.subst t.held [] [] [] targets none refl refl eb ed ex (none_yet targets t.subst t.held d (held t.subst))
+pub begun_after : (targets : Targets) (t : Typing) → HasDefaults t.subst → t.pending.items ≡ [] → t.before ≡ [] → t.defs.items ≡ [] → t.steps.items ≡ [] → ((s : Table) → IsHeldBy s [] t.held) → IsAfter targets none t
+begun_after targets t d ep eb ed ex held = state_as t t.subst t.held [] [] [] [] targets none refl refl ep eb ed ex (none_yet targets t.subst t.held d (held t.subst))

@@ -4,6 +4,7 @@ pub mod Fronting
 pub mod Scopes
 pub mod Bridges
 pub mod Naming
+pub mod Later
 pub mod After
 pub mod Beginning
 pub mod Settled

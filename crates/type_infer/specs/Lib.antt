@@ -1,5 +1,6 @@
 pub mod Clashes
 pub mod Fronts
+pub mod Later
 pub mod Matches
 pub mod Settling
 pub mod States

@@ -2,19 +2,16 @@
 use Rattle.std.specs.Prelude.{◌≡◌, ℕ, List, [], ◌∷◌, ◌++◌, map, length, Option, Some, None, Bool, true, false}
 use Rattle.script_grammar.specs.Placed.{IsPlaced}
 use Rattle.script_grammar.specs.Tree.{Sort, Tree, APart, AStmt, Stmt, Script}
-use Rattle.type_terms.specs.Agrees.{Follows}
 use Rattle.type_terms.specs.Extends.{HasDefaults}
 use Rattle.type_terms.specs.Ground.{Assignment}
 use Rattle.type_terms.specs.Table.{Table, Solves}
-use Rattle.type_terms.specs.Term.{Term, variable}
+use Rattle.type_terms.specs.Term.{variable}
 use Rattle.typing_rules.specs.declared.fault.TypeFault.{TypeFault}
 use Rattle.typing_rules.specs.declared.uses.Use.{Use}
 use Rattle.typing_rules.specs.Scoping.{meant, names}
 use Rattle.typing_rules.specs.Scripts.{Targets}
-use Rattle.type_schemes.specs.Holding.{HeldVariables, IsHeldBy}
 use Rattle.type_flow.specs.Environment.{Env, Known}
 use Rattle.type_flow.specs.Flow.{HasNoType, Infers}
-use Rattle.script_flow.specs.Defs.{HoldsBefore}
 use Rattle.script_flow.specs.Statements.{AreTypings, Done, HasNoTypings, found_said, known_of, scope_after, uses_under, with_last}
 use Rattle.script_flow.specs.Whole.{AreWhole}
 use Rattle.value_types.specs.Seen.{founds, newest_first}
@@ -24,6 +21,7 @@ use Rattle.value_types.specs.declared.environment.KnownDef.{KnownDef}
 use Rattle.expression_types.specs.Order.{tokens_used}
 use Rattle.def_types.specs.Scope.{AreSeenDefs}
 use Rattle.def_types.specs.declared.defs.TypedDef.{TypedDef}
+use Rattle.type_infer.specs.Later.{HoldsLater}
 use Rattle.type_infer.specs.Matches.{AreAimed, AreNumberedDefs, HaveCountsIn, aimed}
 use Rattle.type_infer.specs.Steps.{AreThere, dones_in}
 use Rattle.type_infer.specs.declared.steps.Step.TheVariants as step
@@ -62,7 +60,7 @@ dones t = dones_in t.defs.items t.steps.items
 -- what is to hold before a statement is typed
 pub record IsReady (targets : Targets) (t : Typing) : Type 0 where
   pub seen : AreSeenDefs t.subst targets t.before t.defs.items
-  pub holds : HoldsBefore t.subst (knowns t) t.held
+  pub holds : HoldsLater t.subst (knowns t) t.held t.pending.items
   pub numbered : AreNumberedDefs t.defs.items (knowns t)
   pub there : AreThere (length t.defs.items) t.steps.items
 
@@ -94,17 +92,14 @@ IsStepped targets part old new false = IsNoMore targets part old
 
 -- ---- what is kept of a statement
 
--- what the same names hold where more is bound
-abbrev pub IsRenewed : Table → HeldVariables → HeldVariables → Type 0
-IsRenewed now old new = (s : Table) (names : List Term) → Follows s now → IsHeldBy s names old → IsHeldBy now names new
-
 -- a binding at a token
 pub record IsValueKept (at : ℕ) (e : TypedExpr) (old new : Typing) : Type 0 where
   pub subst : new.subst ≡ old.subst
   pub before : new.before ≡ old.before ++ known.Value (record { at = at; var = e.var }) ∷ []
   pub defs : new.defs.items ≡ old.defs.items
   pub steps : new.steps.items ≡ old.steps.items ++ step.Bound (record { at = at; var = e.var }) e.uses ∷ []
-  pub held : (s : Table) (names : List Term) → Follows s old.subst → IsHeldBy s names old.held → IsHeldBy old.subst (variable e.var ∷ names) new.held
+  pub held : new.held ≡ old.held
+  pub pending : new.pending.items ≡ old.pending.items ++ e.var ∷ []
 
 -- what runs
 pub record IsRunKept (e : TypedExpr) (old new : Typing) : Type 0 where
@@ -112,7 +107,8 @@ pub record IsRunKept (e : TypedExpr) (old new : Typing) : Type 0 where
   pub before : new.before ≡ old.before
   pub defs : new.defs.items ≡ old.defs.items
   pub steps : new.steps.items ≡ old.steps.items ++ step.Ran e.uses ∷ []
-  pub held : (s : Table) (names : List Term) → Follows s old.subst → IsHeldBy s names old.held → IsHeldBy old.subst names new.held
+  pub held : new.held ≡ old.held
+  pub pending : new.pending.items ≡ old.pending.items
 
 -- a def
 pub record IsDefKept (d : TypedDef) (old new : Typing) : Type 0 where
@@ -121,6 +117,7 @@ pub record IsDefKept (d : TypedDef) (old new : Typing) : Type 0 where
   pub defs : new.defs.items ≡ old.defs.items ++ d.known ∷ []
   pub steps : new.steps.items ≡ old.steps.items ++ step.Defined (length old.defs.items) ∷ []
   pub held : new.held ≡ d.held
+  pub pending : new.pending.items ≡ old.pending.items
 
 -- the uses of the statements under the default solution, where no fault of names is told
 pub record AreDefaultUses (t : Typing) (fault : Option TypeFault) (uses : List Use) : Type 0 where

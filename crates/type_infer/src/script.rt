@@ -63,6 +63,7 @@ fn begun<'a>(alloc: Global, subst: Subst) -> Typing<'a>
         before: Bindings::new(alloc),
         defs: Vec::new(alloc),
         held: Held::new(alloc),
+        pending: Vec::new(alloc),
         steps: Vec::new(alloc),
     }
 }

@@ -4,9 +4,8 @@ ghost use Rattle.script_grammar.specs.Tree.{BindPart, CallPart, DefPart, IfPart}
 ghost use Rattle.script_grammar.specs.View.{view_bind, view_call, view_def, view_if, view_part};
 ghost use Rattle.type_schemes.specs.Holding.{AreThere};
 ghost use Rattle.value_types.specs.Tables.{targets_of};
-ghost use Rattle.type_terms.specs.Table.{IsOver};
-ghost use Rattle.type_terms.specs.Term.{variable};
-ghost use Rattle.type_infer.specs.States.{IsDefKept, IsReady, IsRenewed, IsRunKept, IsStepped, IsValueKept};
+ghost use Rattle.type_infer.specs.Later.{AddsValues, AreValues, IsRenewed};
+ghost use Rattle.type_infer.specs.States.{IsDefKept, IsReady, IsRunKept, IsStepped, IsValueKept};
 
 use crate::steps::{Step, TypedExpr, Typing};
 use crate::values::{choice_type, run_type, value_type};
@@ -58,12 +57,33 @@ fn outside<'n, 'a>(
     }
 }
 
-/// What the same names hold now that more is bound.
-fn renew(alloc: Global, held: &mut Held, subst: &Subst) -> Result<(), Memory>
+/// Adds what further values hold, whose types are these variables.
+fn add_values(alloc: Global, subst: &Subst, held: &mut Held, values: &[u64]) -> Result<(), Memory>
+    requires there { AreValues subst.now values.now }
+    ensures { OnOk result (AddsValues subst.now values.now held.old held.new) }
+{
+    for value in values {
+        held.add(alloc, subst, &Ty::Var(*value))?;
+    }
+    Ok(())
+}
+
+/// What the values hold now that more is bound, with the pending ones, of which none is left. Where memory runs out, some
+/// of it may have been done.
+fn catch_up(
+    alloc: Global,
+    subst: &Subst,
+    held: &mut Held,
+    pending: &mut Vec<u64>,
+) -> Result<(), Memory>
     requires there { AreThere subst.now held.old }
-    ensures { OnOk result (IsRenewed subst.now held.old held.new) }
+    requires values { AreValues subst.now pending.old.items }
+    ensures held { OnOk result (IsRenewed subst.now pending.old.items held.old held.new) }
+    ensures pending { OnOk result (pending.new.items ≡ []) }
 {
     *held = held.renewed(alloc, subst)?;
+    add_values(alloc, subst, held, pending)?;
+    pending.clear();
     Ok(())
 }
 
@@ -83,24 +103,20 @@ fn keep_value(
     at: u32,
     typed: TypedExpr,
 ) -> Result<(), Memory>
-    requires there { AreThere typing.old.subst typing.old.held }
-    requires over { IsOver typing.old.subst (variable typed.var) }
     ensures { OnOk result (IsValueKept at typed typing.old typing.new) }
 {
     let name = TypedName { at, var: typed.var };
     typing.steps.push(Step::Bound(name, typed.uses))?;
-    renew(alloc, &mut typing.held, &typing.subst)?;
-    typing.held.add(alloc, &typing.subst, &Ty::Var(name.var))?;
+    typing.pending.push(name.var)?;
     bind(alloc, &mut typing.before, Known::Value(name))
 }
 
-/// Keeps the uses of what runs. Where memory runs out, some of it may have been kept.
-fn keep_run(alloc: Global, typing: &mut Typing<'_>, typed: TypedExpr) -> Result<(), Memory>
-    requires there { AreThere typing.old.subst typing.old.held }
+/// Keeps the uses of what runs.
+fn keep_run(typing: &mut Typing<'_>, typed: TypedExpr) -> Result<(), Memory>
     ensures { OnOk result (IsRunKept typed typing.old typing.new) }
 {
     typing.steps.push(Step::Ran(typed.uses))?;
-    renew(alloc, &mut typing.held, &typing.subst)
+    Ok(())
 }
 
 /// Keeps a def. Where memory runs out, some of it may have been kept.
@@ -149,7 +165,7 @@ fn type_run(
     match run_type(alloc, &mut typing.subst, seen, call)? {
         None => Ok(false),
         Some(typed) => {
-            keep_run(alloc, typing, typed)?;
+            keep_run(typing, typed)?;
             Ok(true)
         }
     }
@@ -169,7 +185,7 @@ fn type_branch(
     match choice_type(alloc, &mut typing.subst, seen, choice)? {
         None => Ok(false),
         Some(typed) => {
-            keep_run(alloc, typing, typed)?;
+            keep_run(typing, typed)?;
             Ok(true)
         }
     }
@@ -185,6 +201,7 @@ fn type_function<'a>(
     requires ready { IsReady (targets_of targets.now) typing.old }
     ensures { IfOk result (λ yes. IsStepped (targets_of targets.now) (DefPart (view_def def.entry.now)) typing.old typing.new yes) }
 {
+    catch_up(alloc, &typing.subst, &mut typing.held, &mut typing.pending)?;
     let seen = outside(targets, &typing.before, &typing.defs);
     match type_def(alloc, &mut typing.subst, seen, &typing.held, def)? {
         None => Ok(false),

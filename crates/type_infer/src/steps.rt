@@ -20,12 +20,16 @@ pub enum Step {
 }
 
 /// The typings of statements: the substitution whose solutions they are, what the statements have bound, the newest last,
-/// their defs, the variables that the types of values hold, and what each statement has left.
+/// their defs, and what each statement has left.
+///
+/// Only a def asks which variables the types of values hold. So `held` has those of an earlier substitution, for the values
+/// that were bound then, and `pending` the variables that are the types of the values bound since, the oldest first.
 #[derive(Drop)]
 pub struct Typing<'a> {
     pub subst: Subst,
     pub before: Bindings,
     pub defs: Vec<KnownDef<'a>>,
     pub held: Held,
+    pub pending: Vec<u64>,
     pub steps: Vec<Step>,
 }

@@ -1,8 +1,6 @@
 use Rattle.std.proofs.Common.{◌∙◌, ap, refl}
-use Rattle.script_grammar.specs.View.{view_full}
 use Rattle.value_types.specs.Tables.{targets_of}
-use Rattle.value_types.specs.Seen.{env_of}
-use Rattle.type_infer.proofs.After.{env_is, over_with, seen_outside, still_with, value_more, value_no_more}
+use Rattle.type_infer.proofs.After.{env_is, seen_outside, value_more, value_no_more}
 use Rattle.type_infer.proofs.statements.type_bind.Goals as goal
 
 pub value_type-requires : goal.value_type-requires
@@ -12,12 +10,6 @@ value_type-requires c = record {
       (c.outside-seen.ensures.defs ∙ c.deref.ensures.value);
 }
 
-pub keep_value-requires-clause-there : goal.keep_value-requires-clause-there
-keep_value-requires-clause-there c = still_with (targets_of c.args.targets.now) c.args.typing.now _ (env_of c.outside-seen.result) c.outside-seen.result.defs.now (view_full c.args.bind.now.value) c.in-Some.typed c.requires.ready (rw c.in-Some.is at c.in_ok-value_type.ensures) (record { held = refl; before = refl; defs = refl; steps = refl })
-
-pub keep_value-requires-clause-over : goal.keep_value-requires-clause-over
-keep_value-requires-clause-over c = over_with c.args.typing.now.subst _ (env_of c.outside-seen.result) c.outside-seen.result.defs.now (view_full c.args.bind.now.value) c.in-Some.typed (rw c.in-Some.is at c.in_ok-value_type.ensures)
-
 pub returns-in-None : goal.returns-in-None
 returns-in-None c = value_no_more (targets_of c.args.targets.now) c.args.bind.now c.args.typing.now c.outside-seen.result c.requires.ready
     (env_is c.outside-seen.result (targets_of c.args.targets.now) c.args.typing.now.before c.args.typing.now.defs.items (ap (λ x. targets_of x) c.outside-seen.ensures.targets) c.outside-seen.ensures.inner c.outside-seen.ensures.before (c.outside-seen.ensures.defs ∙ c.deref.ensures.value))
@@ -25,7 +17,7 @@ returns-in-None c = value_no_more (targets_of c.args.targets.now) c.args.bind.no
 
 pub returns-in_ok-keep_value-in-Some : goal.returns-in_ok-keep_value-in-Some
 returns-in_ok-keep_value-in-Some c =
-    value_more (targets_of c.args.targets.now) c.args.bind.now c.args.typing.now _ c.keep_value.new.typing c.outside-seen.result c.in-Some.typed c.requires.ready (record { held = refl; before = refl; defs = refl; steps = refl })
+    value_more (targets_of c.args.targets.now) c.args.bind.now c.args.typing.now _ c.keep_value.new.typing c.outside-seen.result c.in-Some.typed c.requires.ready (record { before = refl; defs = refl; steps = refl }) refl refl
     (env_is c.outside-seen.result (targets_of c.args.targets.now) c.args.typing.now.before c.args.typing.now.defs.items (ap (λ x. targets_of x) c.outside-seen.ensures.targets) c.outside-seen.ensures.inner c.outside-seen.ensures.before (c.outside-seen.ensures.defs ∙ c.deref.ensures.value))
     (c.outside-seen.ensures.defs ∙ c.deref.ensures.value)
     (rw c.in-Some.is at c.in_ok-value_type.ensures) c.in_ok-keep_value-in-Some.ensures

@@ -1,8 +1,7 @@
 use Rattle.std.proofs.Common.{◌∙◌, ap, refl}
 use Rattle.script_grammar.specs.View.{view_if}
 use Rattle.value_types.specs.Tables.{targets_of}
-use Rattle.value_types.specs.Seen.{env_of}
-use Rattle.type_infer.proofs.After.{env_is, if_more, if_no_more, seen_outside, still_with}
+use Rattle.type_infer.proofs.After.{env_is, if_more, if_no_more, seen_outside}
 use Rattle.type_infer.proofs.statements.type_branch.Goals as goal
 
 pub choice_type-requires : goal.choice_type-requires
@@ -12,9 +11,6 @@ choice_type-requires c = record {
       (c.outside-seen.ensures.defs ∙ c.deref.ensures.value);
 }
 
-pub keep_run-requires : goal.keep_run-requires
-keep_run-requires c = record { there = still_with (targets_of c.args.targets.now) c.args.typing.now _ (env_of c.outside-seen.result) c.outside-seen.result.defs.now (view_if c.args.choice.now) c.in-Some.typed c.requires.ready (rw c.in-Some.is at c.in_ok-choice_type.ensures) (record { held = refl; before = refl; defs = refl; steps = refl }) }
-
 pub returns-in-None : goal.returns-in-None
 returns-in-None c = if_no_more (targets_of c.args.targets.now) (view_if c.args.choice.now) c.args.typing.now c.outside-seen.result c.requires.ready
     (env_is c.outside-seen.result (targets_of c.args.targets.now) c.args.typing.now.before c.args.typing.now.defs.items (ap (λ x. targets_of x) c.outside-seen.ensures.targets) c.outside-seen.ensures.inner c.outside-seen.ensures.before (c.outside-seen.ensures.defs ∙ c.deref.ensures.value))
@@ -22,7 +18,7 @@ returns-in-None c = if_no_more (targets_of c.args.targets.now) (view_if c.args.c
 
 pub returns-in_ok-keep_run-in-Some : goal.returns-in_ok-keep_run-in-Some
 returns-in_ok-keep_run-in-Some c =
-    if_more (targets_of c.args.targets.now) (view_if c.args.choice.now) c.args.typing.now _ c.keep_run.new.typing c.outside-seen.result c.in-Some.typed c.requires.ready (record { held = refl; before = refl; defs = refl; steps = refl })
+    if_more (targets_of c.args.targets.now) (view_if c.args.choice.now) c.args.typing.now _ c.keep_run.new.typing c.outside-seen.result c.in-Some.typed c.requires.ready (record { before = refl; defs = refl; steps = refl }) refl refl
     (env_is c.outside-seen.result (targets_of c.args.targets.now) c.args.typing.now.before c.args.typing.now.defs.items (ap (λ x. targets_of x) c.outside-seen.ensures.targets) c.outside-seen.ensures.inner c.outside-seen.ensures.before (c.outside-seen.ensures.defs ∙ c.deref.ensures.value))
     (c.outside-seen.ensures.defs ∙ c.deref.ensures.value)
     (rw c.in-Some.is at c.in_ok-choice_type.ensures) c.in_ok-keep_run-in-Some.ensures
