@@ -1,4 +1,3 @@
-mod Arms
 mod Exact
 mod Parsed
 mod Nesting

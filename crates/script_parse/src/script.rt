@@ -11,13 +11,13 @@ ghost use Rattle.script_parse.specs.declared.fault.ParseFault.{ParseFault as Fau
 ghost use Rattle.script_parse.specs.Answer.{Whole, IsParsed, IsShallow, IsFault};
 
 use crate::fault::{ParseFault, Refusal};
-use crate::statement::statements;
 use liq_base::limits::MAX_NESTING;
 use parse_base::Fault;
 use script_grammar::law::{one_placed_script, reads_again};
 use script_grammar::tree::Script;
 use script_lex::{Keyword, Symbol, Token, TokenKind};
 use script_reading::law::{faults_are_steady, reads_spellings};
+use statement_parse::statements;
 use std::alloc::Global;
 
 /// The script that the tokens spell, those of a text (`docs/grammar.md`). It answers the script exactly where there is

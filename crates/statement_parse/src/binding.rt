@@ -3,7 +3,7 @@
 ghost use Rattle.std.specs.Prelude.{◌<◌, ◌≤◌, ◌^◌, IfOk, length, map};
 ghost use Rattle.std.specs.List.{All};
 ghost use Rattle.script_grammar.specs.Read.{many};
-ghost use Rattle.script_parse.specs.Reads.{bind_of};
+ghost use Rattle.statement_parse.specs.Reads.{bind_of};
 ghost use Rattle.script_grammar.specs.ReadValue.{binds};
 ghost use Rattle.script_grammar.specs.ReadScript.{bind, inner};
 ghost use Rattle.script_grammar.specs.View.{listed, view_bind, view_inner};

@@ -1,5 +1,5 @@
-use Rattle.script_parse.specs.Reads.{label_of}
-use Rattle.script_parse.proofs.parameter.label_of.Goals as goal
+use Rattle.statement_parse.specs.Reads.{label_of}
+use Rattle.statement_parse.proofs.parameter.label_of.Goals as goal
 
 pub returns-then-assign-clause-gives : goal.returns-then-assign-clause-gives
 unfolding label_of

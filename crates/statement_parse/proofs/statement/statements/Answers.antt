@@ -8,7 +8,7 @@ use Rattle.script_grammar.specs.View.{view_stmt}
 use Rattle.script_grammar.specs.Whole.{IsWholeStmt}
 use Rattle.parse_base.specs.Gives.{places}
 use Rattle.parse_base.proofs.Turns.{begins, goes_on, fails, ends}
-use Rattle.script_parse.proofs.statement.statements.Goals as goal
+use Rattle.statement_parse.proofs.statement.statements.Goals as goal
 
 pub turns-init : goal.turns-init
 turns-init c =

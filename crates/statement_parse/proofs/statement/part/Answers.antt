@@ -1,8 +1,8 @@
 use Rattle.std.proofs.Common.{◌≡◌, length, sym, ◌∙◌}
 use Rattle.std.proofs.lemmas.List.{length-map}
 use Rattle.parse_base.specs.Gives.{kind_of, kinds, places}
-use Rattle.script_parse.proofs.Arms.{part_bind, part_def, part_call, part_if, part_other}
-use Rattle.script_parse.proofs.statement.part.Goals as goal
+use Rattle.statement_parse.proofs.Arms.{part_bind, part_def, part_call, part_if, part_other}
+use Rattle.statement_parse.proofs.statement.part.Goals as goal
 
 pub returns-then-next_is-clause-gives : goal.returns-then-next_is-clause-gives
 returns-then-next_is-clause-gives c = rw (part_bind (places c.args.total) (kinds c.args.tokens.now) (sym c.next_is.ensures ∙ c.if-next_is.true)) c.bind_part.ensures.gives

@@ -1,6 +1,6 @@
 // Single tokens that begin a statement or a part of one.
 ghost use Rattle.std.specs.Prelude.{◌≡◌, ◌<◌, IfOk, length};
-ghost use Rattle.script_parse.specs.Reads.{a_name, an_open_name};
+ghost use Rattle.statement_parse.specs.Reads.{a_name, an_open_name};
 ghost use Rattle.script_grammar.specs.ReadValue.{binds};
 ghost use Rattle.parse_base.specs.Gives.{kinds, Gives};
 

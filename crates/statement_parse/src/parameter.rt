@@ -1,8 +1,8 @@
 // Parameters of a def.
-ghost use Rattle.std.specs.Prelude.{◌≡◌, ◌<◌, ◌≤◌, ◌^◌, [], IfOk, length, map};
+ghost use Rattle.std.specs.Prelude.{◌≡◌, ◌<◌, ◌≤◌, ◌^◌, [], IfOk, length, map, take, drop};
 ghost use Rattle.std.specs.List.{All};
 ghost use Rattle.script_grammar.specs.Read.{next, many, behind, closed};
-ghost use Rattle.script_parse.specs.Reads.{behind_tilde, label_of, default_of};
+ghost use Rattle.statement_parse.specs.Reads.{behind_tilde, label_of, default_of};
 ghost use Rattle.value_parse.specs.Operand.{some_closed};
 ghost use Rattle.script_grammar.specs.Kinds.{is_comma, is_close_round};
 ghost use Rattle.script_grammar.specs.ReadScript.{param};
@@ -59,7 +59,7 @@ fn push_params<'a>(
     }
 }
 
-// param (`,` param)* `)`, put into a list that is empty at first.
+// param (`,` param)* `)`, pushed to a list that is empty at first.
 #[tactic(auto, unfolding(script_grammar::specs::Read::chain))]
 fn some_params<'a>(
     alloc: Global,
@@ -75,13 +75,13 @@ fn some_params<'a>(
     ensures whole { IfOk result (λ rest. All IsWholeParam items.new.items) }
 {
     let (first, rest) = param(alloc, total, tokens)?;
+    items.push(first)?;
     let rest = more_params(alloc, total, items, rest)?;
     let (_close, rest) = token::expect(rest, Class::CloseRound)?;
-    items.insert(0, first)?;
     Ok(rest)
 }
 
-// (`,` param)*, pushed to a list that is empty at first.
+// (`,` param)*, pushed to a list that holds the first parameter.
 fn more_params<'a>(
     alloc: Global,
     total: usize,
@@ -90,9 +90,11 @@ fn more_params<'a>(
 ) -> Result<&'a [Token], Fault>
     requires within { length tokens.now ≤ total }
     requires small { total < 2 ^ 32 }
-    requires none { items.old.items ≡ [] }
+    requires one { length items.old.items ≡ 1 }
+    requires whole_first { All IsWholeParam items.old.items }
     ensures shorter { IfOk result (λ rest. length rest.now ≤ length tokens.now) }
-    ensures gives { Gives (λ rest. (listed (map view_param items.new.items), kinds rest.now)) result (many (next is_comma) (behind is_comma (param (places total))) (kinds tokens.now)) }
+    ensures kept { IfOk result (λ rest. take 1 items.new.items ≡ items.old.items) }
+    ensures gives { Gives (λ rest. (listed (map view_param (drop 1 items.new.items)), kinds rest.now)) result (many (next is_comma) (behind is_comma (param (places total))) (kinds tokens.now)) }
     ensures whole { IfOk result (λ rest. All IsWholeParam items.new.items) }
 {
     let mut rest = tokens;

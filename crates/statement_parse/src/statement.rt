@@ -2,7 +2,7 @@
 ghost use Rattle.std.specs.Prelude.{◌<◌, ◌≤◌, ◌^◌, IfOk, length, map};
 ghost use Rattle.std.specs.List.{All};
 ghost use Rattle.script_grammar.specs.Read.{next, many};
-ghost use Rattle.script_parse.specs.Reads.{bind_part, def_part, call_part, if_part};
+ghost use Rattle.statement_parse.specs.Reads.{bind_part, def_part, call_part, if_part};
 ghost use Rattle.script_grammar.specs.Kinds.{is_any};
 ghost use Rattle.script_grammar.specs.ReadScript.{part, stmt};
 ghost use Rattle.script_grammar.specs.View.{listed, view_part, view_stmt};

@@ -1,6 +1,8 @@
 // Defs.
-ghost use Rattle.std.specs.Prelude.{◌<◌, ◌≤◌, ◌^◌, IfOk, length};
-ghost use Rattle.script_parse.specs.Reads.{ended, def_of};
+ghost use Rattle.std.specs.Prelude.{◌≡◌, ◌<◌, ◌≤◌, ◌^◌, IfOk, length};
+ghost use Rattle.statement_parse.specs.Reads.{ended, def_of};
+ghost use Rattle.script_grammar.specs.Kinds.{is_end};
+ghost use Rattle.script_grammar.specs.Read.{expect};
 ghost use Rattle.script_grammar.specs.ReadScript.{def};
 ghost use Rattle.script_grammar.specs.View.{view_expr, view_def};
 ghost use Rattle.script_grammar.specs.Whole.{IsWholeExpr, IsWholeDef};
@@ -73,6 +75,15 @@ fn ended(alloc: Global, total: usize, tokens: &[Token]) -> Result<(Expr, &[Token
     ensures whole { IfOk result (λ x. IsWholeExpr x.0) }
 {
     let (result, rest) = result(alloc, total, tokens)?;
-    let (_end, rest) = token::expect(rest, Class::End)?;
-    Ok((result, rest))
+    before_end(result, rest)
+}
+
+// `end`, behind what was read: one function for any tree, whose drop where no `end` stands is then one goal.
+fn before_end<'a, T: Drop>(item: T, tokens: &'a [Token]) -> Result<(T, &'a [Token]), Fault>
+    ensures shorter { IfOk result (λ x. length x.1.now < length tokens.now) }
+    ensures kept { IfOk result (λ x. x.0 ≡ item) }
+    ensures gives { Gives (λ x. (tt, kinds x.1.now)) result (expect is_end (kinds tokens.now)) }
+{
+    let (_end, rest) = token::expect(tokens, Class::End)?;
+    Ok((item, rest))
 }

@@ -7,7 +7,7 @@ use Rattle.script_grammar.specs.View.{view_inner}
 use Rattle.script_grammar.specs.Whole.{IsWholeInner}
 use Rattle.parse_base.specs.Gives.{places}
 use Rattle.parse_base.proofs.Turns.{begins, goes_on, fails, ends}
-use Rattle.script_parse.proofs.binding.inners.Goals as goal
+use Rattle.statement_parse.proofs.binding.inners.Goals as goal
 
 pub turns-init : goal.turns-init
 turns-init c =

@@ -7,7 +7,7 @@ use Rattle.script_grammar.specs.View.{view_stmt}
 use Rattle.script_grammar.specs.Whole.{IsWholeStmt}
 use Rattle.parse_base.specs.Gives.{places}
 use Rattle.parse_base.proofs.Turns.{Turning}
-use Rattle.script_parse.proofs.statement.statements.Given as goal
+use Rattle.statement_parse.proofs.statement.statements.Given as goal
 
 abbrev pub invariant-turns : goal.invariant-turns
 invariant-turns l = (length l.rest ≤ length l.tokens) × Turning view_stmt (next is_any) (stmt (places l.total)) l.tokens l.rest l.items.items × All IsWholeStmt l.items.items

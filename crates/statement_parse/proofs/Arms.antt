@@ -7,7 +7,7 @@ use Rattle.script_lex.specs.declared.token.Symbol.TheVariants as sign
 use Rattle.script_grammar.specs.Read.{◌>>=◌, next, expect}
 use Rattle.script_grammar.specs.ReadScript.{bind, param, def, part}
 use Rattle.parse_base.specs.Classes.{is_name, is_open_name, is_def, is_if}
-use Rattle.script_parse.specs.Reads.{a_name, an_open_name, bind_of, behind_tilde, label_of, def_of, bind_part, def_part, call_part, if_part}
+use Rattle.statement_parse.specs.Reads.{a_name, an_open_name, bind_of, behind_tilde, label_of, def_of, bind_part, def_part, call_part, if_part}
 
 pub bind_is : (loose : Bool) (stamp : ℕ → ℕ) (w : List TokenKind) → bind loose stamp w ≡ (a_name w >>= λ x. bind_of loose stamp (stamp (length w)) x.0 x.1)
 unfolding bind
