@@ -11,8 +11,8 @@ ghost use Rattle.type_terms.specs.Undo.{Frees, FreesKind, IsKindTrail, IsTrail};
 ghost use Rattle.type_terms.specs.Variables.{Variable};
 ghost use Rattle.type_terms.specs.declared.ty.KindTerm.{KindTerm};
 
-use crate::copying::{MOST_LEVELS, copy};
 use crate::differ::{Difference, differ, differ_resolved, is_split, push_copies, push_split};
+use crate::naming::copy;
 use crate::occurs::{MOST_STEPS, mark, resolve};
 use crate::ty::{KindTerm, Ty};
 use crate::type_variable::TypeVariable;
@@ -21,7 +21,7 @@ use liq_base::Memory;
 use std::alloc::Global;
 
 /// What became of two types that were to be the same: they are, they cannot be, or they are to be taken apart.
-#[derive(Clone, Copy, Debug)]
+#[derive(Drop)]
 pub enum Direct {
     Same,
     Clash,
@@ -81,7 +81,7 @@ fn unify_directly(
         Difference::Same => Ok(Direct::Same),
         Difference::Clash => Ok(Direct::Clash),
         Difference::Bind(x, t) => {
-            let t = copy(alloc, t, MOST_LEVELS)?;
+            let t = copy(alloc, t)?;
             bind_marked(types, nested, x, t);
             Ok(Direct::Same)
         }
@@ -231,7 +231,7 @@ fn take_up(
         Difference::Same => Ok(true),
         Difference::Clash => Ok(false),
         Difference::Bind(x, t) => {
-            let t = copy(alloc, t, MOST_LEVELS)?;
+            let t = copy(alloc, t)?;
             type_trail.push(x)?;
             bind_marked(types, nested, x, t);
             Ok(true)

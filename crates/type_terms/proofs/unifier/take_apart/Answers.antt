@@ -1,4 +1,4 @@
-use Rattle.std.proofs.Common.{◌≡◌, [], ap, refl, rules}
+use Rattle.std.proofs.Common.{◌≡◌, [], ap, rules}
 use Rattle.type_terms.specs.Agenda.{agenda}
 use Rattle.type_terms.specs.Pairs.{pairs}
 use Rattle.type_terms.specs.Table.{table}

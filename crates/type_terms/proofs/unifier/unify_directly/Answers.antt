@@ -2,7 +2,7 @@ use Rattle.std.proofs.Common.{sym, subst, refl, ◌<◌, length}
 use Rattle.type_terms.specs.Table.{Binds, table}
 use Rattle.type_terms.specs.Term.{InTerm, term_of}
 use Rattle.type_terms.specs.declared.differ.Difference.TheVariants.{Bind, BindKind, Clash, Same}
-use Rattle.type_terms.proofs.Narrowed.{narrowed_kind, narrowed_type, same_kind, same_type, unchanged}
+use Rattle.type_terms.proofs.Narrowed.{narrowed_kind, narrowed_type, same_kind, same_type}
 use Rattle.type_terms.proofs.Settling.{over_types, settles_resolved, triangular}
 use Rattle.type_terms.proofs.unifier.unify_directly.Goals as goal
 
