@@ -155,5 +155,5 @@ marked_bind x t old new marks marks' b h l kept here = record {
     marked_at k s (inl e) = subst (λ u. IsMarked marks' u) (sym e.1) here
     marked_at k s (inr e) = InTerm-map kept (λ _ _. tt) s (h.marked k s e)
 
-pub over_marks : (s : Table) (marks : List Bool) → AreMarked s.types marks → (t : Term) → IsOver s t → InTerm (λ n. n < length marks) (λ _. Unit {0}) t
-over_marks s marks h t = InTerm-map (λ n l. let e = h.enough in omega arith) (λ _ _. tt) t
+pub over_marks : (vs : List Variable) (marks : List Bool) → AreMarked vs marks → (t : Term) → InTerm (λ n. n < length vs) (λ _. Unit {0}) t → InTerm (λ n. n < length marks) (λ _. Unit {0}) t
+over_marks vs marks h t = InTerm-map (λ n l. let e = h.enough in omega arith) (λ _ _. tt) t

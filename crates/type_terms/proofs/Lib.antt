@@ -7,6 +7,7 @@ pub mod Defaults
 pub mod Fresh
 pub mod KindLemmas
 pub mod Lookups
+pub mod Narrowed
 pub mod Numbers
 pub mod Parts
 pub mod Ranks
