@@ -16,7 +16,7 @@ pub put_product-returns : goal.put_product-returns
 put_product-returns t c = product_parts c.args.product.now _ _ _ _ c.deref.ensures.value c.in_ok-put_prim.ensures c.in_ok-put_multiplieds.ensures
 
 pub put_call-returns : goal.put_call-returns
-put_call-returns t c = call_parts c.args.call.now _ _ _ _ _ c.deref.ensures.value (c.in_ok-push.ensures.items ∙ ap (λ (x : List _). c.args.out.now.items ++ (NameOpen x ∷ [])) c.in_ok-copy.ensures.copied) c.in_ok-put_args.ensures c.in_ok-push-2.ensures.items
+put_call-returns t c = call_parts c.args.call.now _ _ _ _ _ c.deref.ensures.value (c.in_ok-put.ensures ∙ ap (λ (x : List _). c.args.out.now.items ++ (NameOpen x ∷ [])) c.in_ok-copy.ensures.copied) c.in_ok-put_args.ensures c.in_ok-put-2.ensures
 
 pub put_prim-returns-in-Tuple : goal.put_prim-returns-in-Tuple
 put_prim-returns-in-Tuple t c = rw (c.in-Tuple.is, tuple_spelled c.in-Tuple.at c.in-Tuple.parts) (search rules)
