@@ -36,8 +36,7 @@ pub fn put_expr(alloc: Global, out: &mut Vec<TokenKind>, expr: &Expr) -> Result<
     ensures { OnOk result (out.new.items ≡ out.old.items ++ spell (view_expr expr.now)) }
 {
     put_and(alloc, out, &expr.first)?;
-    put_ands(alloc, out, &expr.rest)?;
-    Ok(())
+    put_ands(alloc, out, &expr.rest)
 }
 
 /// Appends the tokens of a call.
@@ -47,8 +46,7 @@ pub fn put_call(alloc: Global, out: &mut Vec<TokenKind>, call: &Call) -> Result<
 {
     put(out, TokenKind::NameOpen(call.name.copy(alloc)?))?;
     put_args(alloc, out, &call.args)?;
-    put(out, TokenKind::Symbol(Symbol::CloseRound))?;
-    Ok(())
+    put(out, TokenKind::Symbol(Symbol::CloseRound))
 }
 
 /// Appends the tokens of an `if`.
@@ -133,8 +131,7 @@ fn put_and(alloc: Global, out: &mut Vec<TokenKind>, and: &And) -> Result<(), Mem
     ensures { OnOk result (out.new.items ≡ out.old.items ++ spell (view_and and.now)) }
 {
     put_not(alloc, out, &and.first)?;
-    put_nots(alloc, out, &and.rest)?;
-    Ok(())
+    put_nots(alloc, out, &and.rest)
 }
 
 #[cycle(value)]
@@ -175,8 +172,7 @@ fn put_sum(alloc: Global, out: &mut Vec<TokenKind>, sum: &Sum) -> Result<(), Mem
     ensures { OnOk result (out.new.items ≡ out.old.items ++ spell (view_sum sum.now)) }
 {
     put_product(alloc, out, &sum.first)?;
-    put_addeds(alloc, out, &sum.rest)?;
-    Ok(())
+    put_addeds(alloc, out, &sum.rest)
 }
 
 #[cycle(value)]
@@ -202,8 +198,7 @@ fn put_product(alloc: Global, out: &mut Vec<TokenKind>, product: &Product) -> Re
     ensures { OnOk result (out.new.items ≡ out.old.items ++ spell (view_product product.now)) }
 {
     put_prim(alloc, out, &product.first)?;
-    put_multiplieds(alloc, out, &product.rest)?;
-    Ok(())
+    put_multiplieds(alloc, out, &product.rest)
 }
 
 #[cycle(value)]
