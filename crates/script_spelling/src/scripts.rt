@@ -9,7 +9,7 @@ use liq_base::{Memory, Text};
 use script_grammar::tree::{Bind, Def, Expr, Inner, Param, ParamForm, Script, Stmt, StmtPart};
 use script_lex::{Keyword, Symbol, TokenKind};
 use std::alloc::Global;
-use value_spelling::predicates::put_if;
+use value_spelling::predicates::{put, put_if};
 use value_spelling::values::{put_call, put_choice, put_expr, put_full};
 
 /// The one list of token kinds that spells a script, as `docs/grammar.md` gives it.
@@ -24,8 +24,8 @@ pub fn spell(alloc: Global, script: &Script) -> Result<Vec<TokenKind>, Memory>
 fn put_bind(alloc: Global, out: &mut Vec<TokenKind>, bind: &Bind) -> Result<(), Memory>
     ensures { OnOk result (out.new.items ≡ out.old.items ++ spell (view_bind bind.now)) }
 {
-    out.push(TokenKind::Name(bind.name.copy(alloc)?))?;
-    out.push(TokenKind::Symbol(Symbol::Assign))?;
+    put(out, TokenKind::Name(bind.name.copy(alloc)?))?;
+    put(out, TokenKind::Symbol(Symbol::Assign))?;
     put_full(alloc, out, &bind.value)
 }
 
@@ -49,19 +49,15 @@ fn put_param(alloc: Global, out: &mut Vec<TokenKind>, param: &Param) -> Result<(
     ensures { OnOk result (out.new.items ≡ out.old.items ++ spell (view_param param.now)) }
 {
     match &param.form {
-        ParamForm::Plain => {
-            out.push(TokenKind::Name(param.name.copy(alloc)?))?;
-            Ok(())
-        }
+        ParamForm::Plain => { put(out, TokenKind::Name(param.name.copy(alloc)?)) }
         ParamForm::Labelled => {
-            out.push(TokenKind::Symbol(Symbol::Tilde))?;
-            out.push(TokenKind::Name(param.name.copy(alloc)?))?;
-            Ok(())
+            put(out, TokenKind::Symbol(Symbol::Tilde))?;
+            put(out, TokenKind::Name(param.name.copy(alloc)?))
         }
         ParamForm::Optional(value) => {
-            out.push(TokenKind::Symbol(Symbol::Tilde))?;
-            out.push(TokenKind::Name(param.name.copy(alloc)?))?;
-            out.push(TokenKind::Symbol(Symbol::Assign))?;
+            put(out, TokenKind::Symbol(Symbol::Tilde))?;
+            put(out, TokenKind::Name(param.name.copy(alloc)?))?;
+            put(out, TokenKind::Symbol(Symbol::Assign))?;
             put_full(alloc, out, value)
         }
     }
@@ -76,7 +72,7 @@ fn put_params(alloc: Global, out: &mut Vec<TokenKind>, params: &[Param]) -> Resu
         [first, rest @ ..] => {
             put_param(alloc, out, first)?;
             'others: for param in rest {
-                out.push(TokenKind::Symbol(Symbol::Comma))?;
+                put(out, TokenKind::Symbol(Symbol::Comma))?;
                 put_param(alloc, out, param)?;
             }
             Ok(())
@@ -93,11 +89,10 @@ fn put_head(
 ) -> Result<(), Memory>
     ensures { OnOk result (out.new.items ≡ out.old.items ++ def_head name.now (map view_param params.now)) }
 {
-    out.push(TokenKind::Keyword(Keyword::Def))?;
-    out.push(TokenKind::NameOpen(name.copy(alloc)?))?;
+    put(out, TokenKind::Keyword(Keyword::Def))?;
+    put(out, TokenKind::NameOpen(name.copy(alloc)?))?;
     put_params(alloc, out, params)?;
-    out.push(TokenKind::Symbol(Symbol::CloseRound))?;
-    Ok(())
+    put(out, TokenKind::Symbol(Symbol::CloseRound))
 }
 
 // The bindings, the result and `end`.
@@ -111,8 +106,7 @@ fn put_body(
 {
     put_inners(alloc, out, inners)?;
     put_expr(alloc, out, value)?;
-    out.push(TokenKind::Keyword(Keyword::End))?;
-    Ok(())
+    put(out, TokenKind::Keyword(Keyword::End))
 }
 
 fn put_def(alloc: Global, out: &mut Vec<TokenKind>, def: &Def) -> Result<(), Memory>
@@ -120,8 +114,7 @@ fn put_def(alloc: Global, out: &mut Vec<TokenKind>, def: &Def) -> Result<(), Mem
 {
     put_head(alloc, out, &def.name, &def.params)?;
     put_if(out, TokenKind::Symbol(Symbol::Assign), def.equals)?;
-    put_body(alloc, out, &def.inner, &def.result)?;
-    Ok(())
+    put_body(alloc, out, &def.inner, &def.result)
 }
 
 fn put_part(alloc: Global, out: &mut Vec<TokenKind>, part: &StmtPart) -> Result<(), Memory>

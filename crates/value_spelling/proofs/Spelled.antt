@@ -1,5 +1,5 @@
 -- What a list of trees and a struct that holds one spell.
-use Rattle.std.proofs.Common.{◌≡◌, ℕ, List, [], ◌∷◌, ◌++◌, refl, sym, ap, ◌∙◌, append_assoc}
+use Rattle.std.proofs.Common.{◌≡◌, ℕ, List, [], ◌∷◌, ◌++◌, Result, Ok, Err, OnOk, refl, sym, ap, ◌∙◌, append_assoc}
 use Rattle.std.proofs.lemmas.List.{append-nil}
 use Rattle.std.specs.Prelude.{map}
 use Rattle.std.specs.Global.{Vec}
@@ -54,39 +54,41 @@ tuple_listed at [] = refl
 tuple_listed at (f ∷ []) = ap (λ (z : List TokenKind). Symbol sign.OpenRound ∷ (z ++ (Symbol sign.CloseRound ∷ []))) (sym (append-nil (spell f)))
 tuple_listed at (f ∷ g ∷ rest) = ap (λ (z : List TokenKind). Symbol sign.OpenRound ∷ (spell f ++ (Symbol sign.Comma ∷ (spell g ++ (z ++ (Symbol sign.CloseRound ∷ [])))))) (behind_listed (Symbol sign.Comma) rest) ∙ simp append_assoc refl
 
-pub two_parts : (old a new p q whole : List TokenKind) → a ≡ old ++ p → new ≡ a ++ q → whole ≡ p ++ q → new ≡ old ++ whole
-two_parts old a new p q whole e f g = f ∙ ap (λ (z : List TokenKind). z ++ q) e ∙ append_assoc old p q ∙ ap (λ (z : List TokenKind). old ++ z) (sym g)
+-- a piece, and the rest by a call that may fail
+pub two_parts : {E : Type 0} (r : Result (Unit {0}) E) (old a new p q whole : List TokenKind) → a ≡ old ++ p → OnOk r (new ≡ a ++ q) → whole ≡ p ++ q → OnOk r (new ≡ old ++ whole)
+two_parts (Ok u) old a new p q whole e f g = f ∙ ap (λ (z : List TokenKind). z ++ q) e ∙ append_assoc old p q ∙ ap (λ (z : List TokenKind). old ++ z) (sym g)
+two_parts (Err x) old a new p q whole e f g = f
 
-three_parts : (old a b new : List TokenKind) (k : TokenKind) (q : List TokenKind) (last : TokenKind) (whole : List TokenKind) → a ≡ old ++ (k ∷ []) → b ≡ a ++ q → new ≡ b ++ (last ∷ []) → whole ≡ k ∷ (q ++ (last ∷ [])) → new ≡ old ++ whole
-three_parts old a b new k q last whole e f g h = g ∙ ap (λ (z : List TokenKind). z ++ (last ∷ [])) (two_parts old a b (k ∷ []) q (k ∷ q) e f refl) ∙ append_assoc old (k ∷ q) (last ∷ []) ∙ ap (λ (z : List TokenKind). old ++ z) (sym h)
+three_parts : {E : Type 0} (r : Result (Unit {0}) E) (old a b new : List TokenKind) (k : TokenKind) (q : List TokenKind) (last : TokenKind) (whole : List TokenKind) → a ≡ old ++ (k ∷ []) → b ≡ a ++ q → OnOk r (new ≡ b ++ (last ∷ [])) → whole ≡ k ∷ (q ++ (last ∷ [])) → OnOk r (new ≡ old ++ whole)
+three_parts r old a b new k q last whole e f g h = two_parts r old a new (k ∷ []) (q ++ (last ∷ [])) whole e (two_parts r a b new q (last ∷ []) (q ++ (last ∷ [])) f g refl) h
 
 -- ---- what is written after its parts
 
-pub expr_parts : (e : expr.Expr) (l : List and_.And) (old a new : List TokenKind) → l ≡ (expr.out-Expr e).rest.items → a ≡ old ++ spell (view_and (expr.out-Expr e).first) → new ≡ a ++ each_behind (Keyword word.Or) (map view_and l) → new ≡ old ++ spell (view_expr e)
-expr_parts e l old a new lis ais nis =
+pub expr_parts : {E : Type 0} (r : Result (Unit {0}) E) (e : expr.Expr) (l : List and_.And) (old a new : List TokenKind) → l ≡ (expr.out-Expr e).rest.items → a ≡ old ++ spell (view_and (expr.out-Expr e).first) → OnOk r (new ≡ a ++ each_behind (Keyword word.Or) (map view_and l)) → OnOk r (new ≡ old ++ spell (view_expr e))
+expr_parts r e l old a new lis ais nis =
     let whole : spell (view_expr e) ≡ spell (view_and (expr.out-Expr e).first) ++ each_behind (Keyword word.Or) (map view_and l) = ap spell (expr_seen e) ∙ ap (λ (z : List TokenKind). spell (view_and (expr.out-Expr e).first) ++ z) (behind_listed (Keyword word.Or) (map view_and (expr.out-Expr e).rest.items)) ∙ ap (λ (z : List and_.And). spell (view_and (expr.out-Expr e).first) ++ each_behind (Keyword word.Or) (map view_and z)) (sym lis) in
-    two_parts old a new (spell (view_and (expr.out-Expr e).first)) (each_behind (Keyword word.Or) (map view_and l)) (spell (view_expr e)) ais nis whole
+    two_parts r old a new (spell (view_and (expr.out-Expr e).first)) (each_behind (Keyword word.Or) (map view_and l)) (spell (view_expr e)) ais nis whole
 
-pub and_parts : (e : and_.And) (l : List not_.Not) (old a new : List TokenKind) → l ≡ (and_.out-And e).rest.items → a ≡ old ++ spell (view_not (and_.out-And e).first) → new ≡ a ++ each_behind (Keyword word.And) (map view_not l) → new ≡ old ++ spell (view_and e)
-and_parts e l old a new lis ais nis =
+pub and_parts : {E : Type 0} (r : Result (Unit {0}) E) (e : and_.And) (l : List not_.Not) (old a new : List TokenKind) → l ≡ (and_.out-And e).rest.items → a ≡ old ++ spell (view_not (and_.out-And e).first) → OnOk r (new ≡ a ++ each_behind (Keyword word.And) (map view_not l)) → OnOk r (new ≡ old ++ spell (view_and e))
+and_parts r e l old a new lis ais nis =
     let whole : spell (view_and e) ≡ spell (view_not (and_.out-And e).first) ++ each_behind (Keyword word.And) (map view_not l) = ap spell (and_seen e) ∙ ap (λ (z : List TokenKind). spell (view_not (and_.out-And e).first) ++ z) (behind_listed (Keyword word.And) (map view_not (and_.out-And e).rest.items)) ∙ ap (λ (z : List not_.Not). spell (view_not (and_.out-And e).first) ++ each_behind (Keyword word.And) (map view_not z)) (sym lis) in
-    two_parts old a new (spell (view_not (and_.out-And e).first)) (each_behind (Keyword word.And) (map view_not l)) (spell (view_and e)) ais nis whole
+    two_parts r old a new (spell (view_not (and_.out-And e).first)) (each_behind (Keyword word.And) (map view_not l)) (spell (view_and e)) ais nis whole
 
-pub sum_parts : (e : sum.Sum) (l : List added.Added) (old a new : List TokenKind) → l ≡ (sum.out-Sum e).rest.items → a ≡ old ++ spell (view_product (sum.out-Sum e).first) → new ≡ a ++ each (map view_added l) → new ≡ old ++ spell (view_sum e)
-sum_parts e l old a new lis ais nis =
+pub sum_parts : {E : Type 0} (r : Result (Unit {0}) E) (e : sum.Sum) (l : List added.Added) (old a new : List TokenKind) → l ≡ (sum.out-Sum e).rest.items → a ≡ old ++ spell (view_product (sum.out-Sum e).first) → OnOk r (new ≡ a ++ each (map view_added l)) → OnOk r (new ≡ old ++ spell (view_sum e))
+sum_parts r e l old a new lis ais nis =
     let whole : spell (view_sum e) ≡ spell (view_product (sum.out-Sum e).first) ++ each (map view_added l) = ap spell (sum_seen e) ∙ ap (λ (z : List TokenKind). spell (view_product (sum.out-Sum e).first) ++ z) (each_listed (map view_added (sum.out-Sum e).rest.items)) ∙ ap (λ (z : List added.Added). spell (view_product (sum.out-Sum e).first) ++ each (map view_added z)) (sym lis) in
-    two_parts old a new (spell (view_product (sum.out-Sum e).first)) (each (map view_added l)) (spell (view_sum e)) ais nis whole
+    two_parts r old a new (spell (view_product (sum.out-Sum e).first)) (each (map view_added l)) (spell (view_sum e)) ais nis whole
 
-pub product_parts : (e : product.Product) (l : List multiplied.Multiplied) (old a new : List TokenKind) → l ≡ (product.out-Product e).rest.items → a ≡ old ++ spell (view_prim (product.out-Product e).first) → new ≡ a ++ each (map view_multiplied l) → new ≡ old ++ spell (view_product e)
-product_parts e l old a new lis ais nis =
+pub product_parts : {E : Type 0} (r : Result (Unit {0}) E) (e : product.Product) (l : List multiplied.Multiplied) (old a new : List TokenKind) → l ≡ (product.out-Product e).rest.items → a ≡ old ++ spell (view_prim (product.out-Product e).first) → OnOk r (new ≡ a ++ each (map view_multiplied l)) → OnOk r (new ≡ old ++ spell (view_product e))
+product_parts r e l old a new lis ais nis =
     let whole : spell (view_product e) ≡ spell (view_prim (product.out-Product e).first) ++ each (map view_multiplied l) = ap spell (product_seen e) ∙ ap (λ (z : List TokenKind). spell (view_prim (product.out-Product e).first) ++ z) (each_listed (map view_multiplied (product.out-Product e).rest.items)) ∙ ap (λ (z : List multiplied.Multiplied). spell (view_prim (product.out-Product e).first) ++ each (map view_multiplied z)) (sym lis) in
-    two_parts old a new (spell (view_prim (product.out-Product e).first)) (each (map view_multiplied l)) (spell (view_product e)) ais nis whole
+    two_parts r old a new (spell (view_prim (product.out-Product e).first)) (each (map view_multiplied l)) (spell (view_product e)) ais nis whole
 
-pub call_parts : (e : call.Call) (l : List arg.Arg) (old a b new : List TokenKind) → l ≡ (call.out-Call e).args.items → a ≡ old ++ (NameOpen (call.out-Call e).name ∷ []) → b ≡ a ++ between_commas (map view_arg l) → new ≡ b ++ (Symbol sign.CloseRound ∷ []) → new ≡ old ++ spell (view_call e)
-call_parts e l old a b new lis ais bis nis =
+pub call_parts : {E : Type 0} (r : Result (Unit {0}) E) (e : call.Call) (l : List arg.Arg) (old a b new : List TokenKind) → l ≡ (call.out-Call e).args.items → a ≡ old ++ (NameOpen (call.out-Call e).name ∷ []) → b ≡ a ++ between_commas (map view_arg l) → OnOk r (new ≡ b ++ (Symbol sign.CloseRound ∷ [])) → OnOk r (new ≡ old ++ spell (view_call e))
+call_parts r e l old a b new lis ais bis nis =
     let name = (call.out-Call e).name in
     let whole : spell (view_call e) ≡ NameOpen name ∷ (between_commas (map view_arg l) ++ (Symbol sign.CloseRound ∷ [])) = ap spell (call_seen e) ∙ ap (λ (z : List TokenKind). NameOpen name ∷ (z ++ (Symbol sign.CloseRound ∷ []))) (commas_listed (map view_arg (call.out-Call e).args.items)) ∙ ap (λ (z : List arg.Arg). NameOpen name ∷ (between_commas (map view_arg z) ++ (Symbol sign.CloseRound ∷ []))) (sym lis) in
-    three_parts old a b new (NameOpen name) (between_commas (map view_arg l)) (Symbol sign.CloseRound) (spell (view_call e)) ais bis nis whole
+    three_parts r old a b new (NameOpen name) (between_commas (map view_arg l)) (Symbol sign.CloseRound) (spell (view_call e)) ais bis nis whole
 
 pub por_spelled : (e : por.POr) (l : List pand.PAnd) → l ≡ (por.out-POr e).parts.items → spell (view_por e) ≡ por_parts (map view_pand l)
 por_spelled e l lis = ap (λ (z : por.POr). spell (view_por z)) (sym (por.roll-out-POr e) ∙ por.rolls-POr' (por.out-POr e)) ∙ ap (λ (z : _). spell (por_of z)) (pands_listed (por.out-POr e).parts) ∙ por_listed (map view_pand (por.out-POr e).parts.items) ∙ ap (λ (z : List pand.PAnd). por_parts (map view_pand z)) (sym lis)

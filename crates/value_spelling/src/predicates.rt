@@ -1,5 +1,5 @@
 //! The tokens of a predicate.
-ghost use Rattle.std.specs.Prelude.{◌≡◌, ◌++◌, OnOk, map};
+ghost use Rattle.std.specs.Prelude.{◌≡◌, ◌++◌, ◌∷◌, [], OnOk, map};
 ghost use Rattle.script_grammar.specs.Spelling.{spell, token_if};
 ghost use Rattle.value_spelling.specs.Pieces.{por_parts, pand_parts};
 ghost use Rattle.script_grammar.specs.View.{view_por, view_pand, view_pnot, view_patom};
@@ -8,16 +8,19 @@ use liq_base::Memory;
 use script_grammar::predicate::{PAnd, PAtom, PNot, POr};
 use script_lex::{Keyword, Symbol, TokenKind};
 
+/// Appends a token. A token that is refused ends here, so that no caller holds it at its own exits.
+pub fn put(out: &mut Vec<TokenKind>, kind: TokenKind) -> Result<(), Memory>
+    ensures { OnOk result (out.new.items ≡ out.old.items ++ kind ∷ []) }
+{
+    out.push(kind)?;
+    Ok(())
+}
+
 /// Appends a token that may be missing.
 pub fn put_if(out: &mut Vec<TokenKind>, kind: TokenKind, present: bool) -> Result<(), Memory>
     ensures { OnOk result (out.new.items ≡ out.old.items ++ token_if kind present) }
 {
-    if present {
-        out.push(kind)?;
-        Ok(())
-    } else {
-        Ok(())
-    }
+    if present { put(out, kind) } else { Ok(()) }
 }
 
 /// Appends the tokens of a predicate.
@@ -36,16 +39,13 @@ fn put_por_parts(out: &mut Vec<TokenKind>, parts: &[PAnd]) -> Result<(), Memory>
         [first, rest @ ..] => {
             put_pand(out, first)?;
             'others: for part in rest {
-                out.push(TokenKind::Keyword(Keyword::Or))?;
+                put(out, TokenKind::Keyword(Keyword::Or))?;
                 put_pand(out, part)?;
             }
             Ok(())
         }
         // no predicate of the grammar
-        [] => {
-            out.push(TokenKind::Keyword(Keyword::False))?;
-            Ok(())
-        }
+        [] => { put(out, TokenKind::Keyword(Keyword::False)) }
     }
 }
 
@@ -64,16 +64,13 @@ fn put_pand_parts(out: &mut Vec<TokenKind>, parts: &[PNot]) -> Result<(), Memory
         [first, rest @ ..] => {
             put_pnot(out, first)?;
             'others: for part in rest {
-                out.push(TokenKind::Keyword(Keyword::And))?;
+                put(out, TokenKind::Keyword(Keyword::And))?;
                 put_pnot(out, part)?;
             }
             Ok(())
         }
         // no predicate of the grammar
-        [] => {
-            out.push(TokenKind::Keyword(Keyword::True))?;
-            Ok(())
-        }
+        [] => { put(out, TokenKind::Keyword(Keyword::True)) }
     }
 }
 
@@ -90,29 +87,18 @@ fn put_patom(out: &mut Vec<TokenKind>, atom: &PAtom) -> Result<(), Memory>
     ensures { OnOk result (out.new.items ≡ out.old.items ++ spell (view_patom atom.now)) }
 {
     match atom {
-        PAtom::True => {
-            out.push(TokenKind::Keyword(Keyword::True))?;
-            Ok(())
-        }
-        PAtom::False => {
-            out.push(TokenKind::Keyword(Keyword::False))?;
-            Ok(())
-        }
-        PAtom::At(mark) => {
-            out.push(TokenKind::Time(*mark))?;
-            Ok(())
-        }
+        PAtom::True => { put(out, TokenKind::Keyword(Keyword::True)) }
+        PAtom::False => { put(out, TokenKind::Keyword(Keyword::False)) }
+        PAtom::At(mark) => { put(out, TokenKind::Time(*mark)) }
         PAtom::Between(from, to) => {
-            out.push(TokenKind::Time(*from))?;
-            out.push(TokenKind::Symbol(Symbol::Minus))?;
-            out.push(TokenKind::Time(*to))?;
-            Ok(())
+            put(out, TokenKind::Time(*from))?;
+            put(out, TokenKind::Symbol(Symbol::Minus))?;
+            put(out, TokenKind::Time(*to))
         }
         PAtom::Paren(pred) => {
-            out.push(TokenKind::Symbol(Symbol::OpenRound))?;
+            put(out, TokenKind::Symbol(Symbol::OpenRound))?;
             put_por(out, pred)?;
-            out.push(TokenKind::Symbol(Symbol::CloseRound))?;
-            Ok(())
+            put(out, TokenKind::Symbol(Symbol::CloseRound))
         }
     }
 }

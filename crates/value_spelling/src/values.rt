@@ -7,7 +7,7 @@ ghost use Rattle.script_grammar.specs.Spelling.{spell, behind, literal_token, tr
 ghost use Rattle.value_spelling.specs.Pieces.{each, each_behind, between_commas, in_brackets};
 ghost use Rattle.script_grammar.specs.View.{listed, tuple_of, view_full, view_expr, view_and, view_not, view_compare, view_sum, view_added, view_product, view_multiplied, view_prim, view_call, view_arg, view_if};
 
-use crate::predicates::{put_if, put_por};
+use crate::predicates::{put, put_if, put_por};
 use liq_base::{Memory, Text};
 use script_grammar::tree::{
     self, Added, And, Arg, Call, Compare, CompareOp, Compared, Expr, Full, If, Literal, Multiplied,
@@ -23,9 +23,8 @@ pub fn put_full(alloc: Global, out: &mut Vec<TokenKind>, full: &Full) -> Result<
 {
     match full {
         Full::Minus { at: _, number } => {
-            out.push(TokenKind::Symbol(Symbol::Minus))?;
-            out.push(literal_token(*number))?;
-            Ok(())
+            put(out, TokenKind::Symbol(Symbol::Minus))?;
+            put(out, literal_token(*number))
         }
         Full::Plain(expr) => put_expr(alloc, out, expr),
     }
@@ -37,8 +36,7 @@ pub fn put_expr(alloc: Global, out: &mut Vec<TokenKind>, expr: &Expr) -> Result<
     ensures { OnOk result (out.new.items ≡ out.old.items ++ spell (view_expr expr.now)) }
 {
     put_and(alloc, out, &expr.first)?;
-    put_ands(alloc, out, &expr.rest)?;
-    Ok(())
+    put_ands(alloc, out, &expr.rest)
 }
 
 /// Appends the tokens of a call.
@@ -46,10 +44,9 @@ pub fn put_expr(alloc: Global, out: &mut Vec<TokenKind>, expr: &Expr) -> Result<
 pub fn put_call(alloc: Global, out: &mut Vec<TokenKind>, call: &Call) -> Result<(), Memory>
     ensures { OnOk result (out.new.items ≡ out.old.items ++ spell (view_call call.now)) }
 {
-    out.push(TokenKind::NameOpen(call.name.copy(alloc)?))?;
+    put(out, TokenKind::NameOpen(call.name.copy(alloc)?))?;
     put_args(alloc, out, &call.args)?;
-    out.push(TokenKind::Symbol(Symbol::CloseRound))?;
-    Ok(())
+    put(out, TokenKind::Symbol(Symbol::CloseRound))
 }
 
 /// Appends the tokens of an `if`.
@@ -57,14 +54,13 @@ pub fn put_call(alloc: Global, out: &mut Vec<TokenKind>, call: &Call) -> Result<
 pub fn put_choice(alloc: Global, out: &mut Vec<TokenKind>, choice: &If) -> Result<(), Memory>
     ensures { OnOk result (out.new.items ≡ out.old.items ++ spell (view_if choice.now)) }
 {
-    out.push(TokenKind::Keyword(Keyword::If))?;
+    put(out, TokenKind::Keyword(Keyword::If))?;
     put_full(alloc, out, &choice.condition)?;
-    out.push(TokenKind::Keyword(Keyword::Then))?;
+    put(out, TokenKind::Keyword(Keyword::Then))?;
     put_full(alloc, out, &choice.then_part)?;
-    out.push(TokenKind::Keyword(Keyword::Else))?;
+    put(out, TokenKind::Keyword(Keyword::Else))?;
     put_full(alloc, out, &choice.else_part)?;
-    out.push(TokenKind::Keyword(Keyword::End))?;
-    Ok(())
+    put(out, TokenKind::Keyword(Keyword::End))
 }
 
 fn literal_token(number: Literal) -> TokenKind
@@ -124,7 +120,7 @@ fn put_ands(alloc: Global, out: &mut Vec<TokenKind>, ands: &[And]) -> Result<(),
     ensures { OnOk result (out.new.items ≡ out.old.items ++ each_behind (a_keyword word.Or) (map view_and ands.now)) }
 {
     for and in ands {
-        out.push(TokenKind::Keyword(Keyword::Or))?;
+        put(out, TokenKind::Keyword(Keyword::Or))?;
         put_and(alloc, out, and)?;
     }
     Ok(())
@@ -135,8 +131,7 @@ fn put_and(alloc: Global, out: &mut Vec<TokenKind>, and: &And) -> Result<(), Mem
     ensures { OnOk result (out.new.items ≡ out.old.items ++ spell (view_and and.now)) }
 {
     put_not(alloc, out, &and.first)?;
-    put_nots(alloc, out, &and.rest)?;
-    Ok(())
+    put_nots(alloc, out, &and.rest)
 }
 
 #[cycle(value)]
@@ -144,7 +139,7 @@ fn put_nots(alloc: Global, out: &mut Vec<TokenKind>, nots: &[Not]) -> Result<(),
     ensures { OnOk result (out.new.items ≡ out.old.items ++ each_behind (a_keyword word.And) (map view_not nots.now)) }
 {
     for not in nots {
-        out.push(TokenKind::Keyword(Keyword::And))?;
+        put(out, TokenKind::Keyword(Keyword::And))?;
         put_not(alloc, out, not)?;
     }
     Ok(())
@@ -166,7 +161,7 @@ fn put_compare(alloc: Global, out: &mut Vec<TokenKind>, compare: &Compare) -> Re
     match &compare.right {
         None => Ok(()),
         Some(right) => {
-            out.push(op_token(right.op))?;
+            put(out, op_token(right.op))?;
             put_sum(alloc, out, &right.sum)
         }
     }
@@ -177,8 +172,7 @@ fn put_sum(alloc: Global, out: &mut Vec<TokenKind>, sum: &Sum) -> Result<(), Mem
     ensures { OnOk result (out.new.items ≡ out.old.items ++ spell (view_sum sum.now)) }
 {
     put_product(alloc, out, &sum.first)?;
-    put_addeds(alloc, out, &sum.rest)?;
-    Ok(())
+    put_addeds(alloc, out, &sum.rest)
 }
 
 #[cycle(value)]
@@ -195,7 +189,7 @@ fn put_addeds(alloc: Global, out: &mut Vec<TokenKind>, addeds: &[Added]) -> Resu
 fn put_added(alloc: Global, out: &mut Vec<TokenKind>, added: &Added) -> Result<(), Memory>
     ensures { OnOk result (out.new.items ≡ out.old.items ++ spell (view_added added.now)) }
 {
-    out.push(added_token(added.minus))?;
+    put(out, added_token(added.minus))?;
     put_product(alloc, out, &added.product)
 }
 
@@ -204,8 +198,7 @@ fn put_product(alloc: Global, out: &mut Vec<TokenKind>, product: &Product) -> Re
     ensures { OnOk result (out.new.items ≡ out.old.items ++ spell (view_product product.now)) }
 {
     put_prim(alloc, out, &product.first)?;
-    put_multiplieds(alloc, out, &product.rest)?;
-    Ok(())
+    put_multiplieds(alloc, out, &product.rest)
 }
 
 #[cycle(value)]
@@ -230,7 +223,7 @@ fn put_multiplied(
 ) -> Result<(), Memory>
     ensures { OnOk result (out.new.items ≡ out.old.items ++ spell (view_multiplied multiplied.now)) }
 {
-    out.push(multiplied_token(multiplied.divide))?;
+    put(out, multiplied_token(multiplied.divide))?;
     put_prim(alloc, out, &multiplied.prim)
 }
 
@@ -239,42 +232,27 @@ fn put_prim(alloc: Global, out: &mut Vec<TokenKind>, prim: &tree::Operand) -> Re
     ensures { OnOk result (out.new.items ≡ out.old.items ++ spell (view_prim prim.now)) }
 {
     match prim {
-        tree::Operand::Literal { at: _, value } => {
-            out.push(literal_token(*value))?;
-            Ok(())
-        }
-        tree::Operand::Str { at: _, text } => {
-            out.push(TokenKind::Str(text.copy(alloc)?))?;
-            Ok(())
-        }
-        tree::Operand::Bool { at: _, value } => {
-            out.push(truth_token(*value))?;
-            Ok(())
-        }
-        tree::Operand::Name { at: _, name } => {
-            out.push(TokenKind::Name(name.copy(alloc)?))?;
-            Ok(())
-        }
+        tree::Operand::Literal { at: _, value } => { put(out, literal_token(*value)) }
+        tree::Operand::Str { at: _, text } => { put(out, TokenKind::Str(text.copy(alloc)?)) }
+        tree::Operand::Bool { at: _, value } => { put(out, truth_token(*value)) }
+        tree::Operand::Name { at: _, name } => { put(out, TokenKind::Name(name.copy(alloc)?)) }
         tree::Operand::Call(call) => put_call(alloc, out, call),
         tree::Operand::If(choice) => put_choice(alloc, out, choice),
         tree::Operand::Unit { at: _ } => {
-            out.push(TokenKind::Symbol(Symbol::OpenRound))?;
-            out.push(TokenKind::Symbol(Symbol::CloseRound))?;
-            Ok(())
+            put(out, TokenKind::Symbol(Symbol::OpenRound))?;
+            put(out, TokenKind::Symbol(Symbol::CloseRound))
         }
         tree::Operand::Paren(full) => {
-            out.push(TokenKind::Symbol(Symbol::OpenRound))?;
+            put(out, TokenKind::Symbol(Symbol::OpenRound))?;
             put_full(alloc, out, full)?;
-            out.push(TokenKind::Symbol(Symbol::CloseRound))?;
-            Ok(())
+            put(out, TokenKind::Symbol(Symbol::CloseRound))
         }
         tree::Operand::Tuple { at: _, parts } => put_tuple(alloc, out, parts),
         tree::Operand::List { at: _, parts } => put_list(alloc, out, parts),
         tree::Operand::Braces { at: _, pred } => {
-            out.push(TokenKind::Symbol(Symbol::OpenCurly))?;
+            put(out, TokenKind::Symbol(Symbol::OpenCurly))?;
             put_por(out, pred)?;
-            out.push(TokenKind::Symbol(Symbol::CloseCurly))?;
-            Ok(())
+            put(out, TokenKind::Symbol(Symbol::CloseCurly))
         }
         tree::Operand::Wav { at: _, size } => put_wav(alloc, out, *size),
     }
@@ -284,18 +262,15 @@ fn put_wav(alloc: Global, out: &mut Vec<TokenKind>, size: Option<i64>) -> Result
     ensures { OnOk result (out.new.items ≡ out.old.items ++ wav_tokens size) }
 {
     match size {
-        None => {
-            out.push(TokenKind::Wav)?;
-            Ok(())
-        }
+        None => { put(out, TokenKind::Wav) }
         Some(samples) => {
             let name = Text::from_str(alloc, "samplesize")?;
-            out.push(TokenKind::Wav)?;
-            out.push(TokenKind::Symbol(Symbol::OpenRound))?;
-            out.push(TokenKind::Name(name))?;
-            out.push(TokenKind::Symbol(Symbol::Assign))?;
-            out.push(TokenKind::Int(samples))?;
-            out.push(TokenKind::Symbol(Symbol::CloseRound))?;
+            put(out, TokenKind::Wav)?;
+            put(out, TokenKind::Symbol(Symbol::OpenRound))?;
+            put(out, TokenKind::Name(name))?;
+            put(out, TokenKind::Symbol(Symbol::Assign))?;
+            put(out, TokenKind::Int(samples))?;
+            put(out, TokenKind::Symbol(Symbol::CloseRound))?;
             Ok(())
         }
     }
@@ -305,20 +280,18 @@ fn put_wav(alloc: Global, out: &mut Vec<TokenKind>, size: Option<i64>) -> Result
 fn put_tuple(alloc: Global, out: &mut Vec<TokenKind>, parts: &[Full]) -> Result<(), Memory>
     ensures { OnOk result (out.new.items ≡ out.old.items ++ in_brackets sign.OpenRound (map view_full parts.now) sign.CloseRound) }
 {
-    out.push(TokenKind::Symbol(Symbol::OpenRound))?;
+    put(out, TokenKind::Symbol(Symbol::OpenRound))?;
     put_fulls(alloc, out, parts)?;
-    out.push(TokenKind::Symbol(Symbol::CloseRound))?;
-    Ok(())
+    put(out, TokenKind::Symbol(Symbol::CloseRound))
 }
 
 #[cycle(value)]
 fn put_list(alloc: Global, out: &mut Vec<TokenKind>, parts: &[Full]) -> Result<(), Memory>
     ensures { OnOk result (out.new.items ≡ out.old.items ++ in_brackets sign.OpenSquare (map view_full parts.now) sign.CloseSquare) }
 {
-    out.push(TokenKind::Symbol(Symbol::OpenSquare))?;
+    put(out, TokenKind::Symbol(Symbol::OpenSquare))?;
     put_fulls(alloc, out, parts)?;
-    out.push(TokenKind::Symbol(Symbol::CloseSquare))?;
-    Ok(())
+    put(out, TokenKind::Symbol(Symbol::CloseSquare))
 }
 
 // Values with commas between.
@@ -331,7 +304,7 @@ fn put_fulls(alloc: Global, out: &mut Vec<TokenKind>, parts: &[Full]) -> Result<
         [first, rest @ ..] => {
             put_full(alloc, out, first)?;
             'others: for part in rest {
-                out.push(TokenKind::Symbol(Symbol::Comma))?;
+                put(out, TokenKind::Symbol(Symbol::Comma))?;
                 put_full(alloc, out, part)?;
             }
             Ok(())
@@ -349,7 +322,7 @@ fn put_args(alloc: Global, out: &mut Vec<TokenKind>, args: &[Arg]) -> Result<(),
         [first, rest @ ..] => {
             put_arg(alloc, out, first)?;
             'others: for arg in rest {
-                out.push(TokenKind::Symbol(Symbol::Comma))?;
+                put(out, TokenKind::Symbol(Symbol::Comma))?;
                 put_arg(alloc, out, arg)?;
             }
             Ok(())
@@ -371,9 +344,8 @@ fn put_label(alloc: Global, out: &mut Vec<TokenKind>, name: &Option<Text>) -> Re
     match name {
         None => Ok(()),
         Some(name) => {
-            out.push(TokenKind::Name(name.copy(alloc)?))?;
-            out.push(TokenKind::Symbol(Symbol::Assign))?;
-            Ok(())
+            put(out, TokenKind::Name(name.copy(alloc)?))?;
+            put(out, TokenKind::Symbol(Symbol::Assign))
         }
     }
 }
