@@ -44,31 +44,6 @@ pub fn compare_of<'a>(
     behind_sum(alloc, total, levels, loose, left, rest)
 }
 
-/// sum: product ((`+` | `-`) product)*
-#[cycle(value)]
-pub fn sum(
-    alloc: Global,
-    total: usize,
-    levels: usize,
-    loose: bool,
-    tokens: &[Token],
-) -> Result<(Sum, &[Token]), Fault>
-    requires within { length tokens.now ≤ total }
-    requires small { total < 2 ^ 32 }
-    ensures shorter { IfOk result (λ x. length x.1.now < length tokens.now) }
-    ensures gives { Gives (λ x. (view_sum x.0, kinds x.1.now)) result (sum loose (places total) (full_by levels (places total)) (kinds tokens.now)) }
-    ensures whole { IfOk result (λ x. IsWholeSum x.0) }
-{
-    sum_of(
-        alloc,
-        total,
-        levels,
-        loose,
-        tokens,
-        product(alloc, total, levels, loose, tokens),
-    )
-}
-
 // ((`==` | `!=` | `<` | `<=` | `>` | `>=`) sum)?, behind the sum on its left.
 #[cycle(value)]
 fn behind_sum(
@@ -89,14 +64,9 @@ fn behind_sum(
     match (next_op(tokens), tokens) {
         (Some(op), [_, after @ ..]) => {
             let at = place(total, tokens);
-            let (sum, rest) = sum_of(
-                alloc,
-                total,
-                levels,
-                loose,
-                after,
-                product(alloc, total, levels, loose, after),
-            )?;
+            let first = operand(alloc, total, levels, loose, after);
+            let first = product_of(alloc, total, levels, loose, after, first);
+            let (sum, rest) = sum_of(alloc, total, levels, loose, after, first)?;
             let right = Some(Compared { at, op, sum });
             Ok((Compare { left, right }, rest))
         }
@@ -104,11 +74,13 @@ fn behind_sum(
     }
 }
 
-// The same, once the first product is read.
+/// sum: product ((`+` | `-`) product)*
+///
+/// The first product is what was read at these tokens.
 #[inline(never)]
 #[cycle(value)]
 #[tactic(auto, unfolding(script_grammar::specs::ReadValue::sum))]
-fn sum_of<'a>(
+pub fn sum_of<'a>(
     alloc: Global,
     total: usize,
     levels: usize,
@@ -184,36 +156,13 @@ fn added(
     Ok((Added { at, minus, product }, rest))
 }
 
-// product: operand ((`*` | `/`) operand)*
-#[cycle(value)]
-fn product(
-    alloc: Global,
-    total: usize,
-    levels: usize,
-    loose: bool,
-    tokens: &[Token],
-) -> Result<(Product, &[Token]), Fault>
-    requires within { length tokens.now ≤ total }
-    requires small { total < 2 ^ 32 }
-    ensures shorter { IfOk result (λ x. length x.1.now < length tokens.now) }
-    ensures gives { Gives (λ x. (view_product x.0, kinds x.1.now)) result (product loose (places total) (full_by levels (places total)) (kinds tokens.now)) }
-    ensures whole { IfOk result (λ x. IsWholeProduct x.0) }
-{
-    product_of(
-        alloc,
-        total,
-        levels,
-        loose,
-        tokens,
-        operand(alloc, total, levels, loose, tokens),
-    )
-}
-
-// The same, once the first operand is read.
+/// product: operand ((`*` | `/`) operand)*
+///
+/// The first operand is what was read at these tokens.
 #[inline(never)]
 #[cycle(value)]
 #[tactic(auto, unfolding(script_grammar::specs::ReadValue::product))]
-fn product_of<'a>(
+pub fn product_of<'a>(
     alloc: Global,
     total: usize,
     levels: usize,

@@ -4,17 +4,18 @@ ghost use Rattle.std.specs.List.{All};
 ghost use Rattle.script_grammar.specs.Kinds.{is_or, is_and};
 ghost use Rattle.script_grammar.specs.Read.{Read, next, many, behind};
 ghost use Rattle.script_grammar.specs.Tree.{Tree, ACompare};
-ghost use Rattle.script_grammar.specs.ReadValue.{full_by, expr, and_, not_};
-ghost use Rattle.script_grammar.specs.View.{listed, view_expr, view_and, view_not, view_compare};
-ghost use Rattle.script_grammar.specs.Whole.{IsWholeExpr, IsWholeAnd, IsWholeNot, IsWholeCompare};
+ghost use Rattle.script_grammar.specs.ReadValue.{full_by, expr, and_, not_, compare, prim};
+ghost use Rattle.script_grammar.specs.View.{listed, view_expr, view_and, view_not, view_compare, view_prim};
+ghost use Rattle.script_grammar.specs.Whole.{IsWholeExpr, IsWholeAnd, IsWholeNot, IsWholeCompare, IsWholePrim};
 ghost use Rattle.parse_base.specs.Gives.{kinds, Gives, places};
 ghost use Rattle.value_parse.specs.Operand.{behind_not};
 
-use crate::arithmetic::{compare_of, sum};
+use crate::arithmetic::{compare_of, product_of, sum_of};
+use crate::operands::operand;
 use parse_base::Fault;
 use parse_base::token::{self, Class};
 use script_grammar::make;
-use script_grammar::tree::{And, Compare, Expr, Not};
+use script_grammar::tree::{And, Compare, Expr, Not, Operand};
 use script_lex::Token;
 use std::alloc::Global;
 
@@ -38,7 +39,14 @@ pub fn expr(
         levels,
         loose,
         tokens,
-        and_term(alloc, total, levels, loose, tokens),
+        and_of(
+            alloc,
+            total,
+            levels,
+            loose,
+            tokens,
+            not_term(alloc, total, levels, loose, tokens),
+        ),
     )
 }
 
@@ -66,31 +74,6 @@ pub fn expr_of<'a>(
     let (first, rest) = read?;
     let (others, rest) = ands(alloc, total, levels, loose, rest)?;
     Ok((make::expr(first, others), rest))
-}
-
-/// and: not (`and` not)*
-#[cycle(value)]
-pub fn and_term(
-    alloc: Global,
-    total: usize,
-    levels: usize,
-    loose: bool,
-    tokens: &[Token],
-) -> Result<(And, &[Token]), Fault>
-    requires within { length tokens.now ≤ total }
-    requires small { total < 2 ^ 32 }
-    ensures shorter { IfOk result (λ x. length x.1.now < length tokens.now) }
-    ensures gives { Gives (λ x. (view_and x.0, kinds x.1.now)) result (and_ loose (places total) (full_by levels (places total)) (kinds tokens.now)) }
-    ensures whole { IfOk result (λ x. IsWholeAnd x.0) }
-{
-    and_of(
-        alloc,
-        total,
-        levels,
-        loose,
-        tokens,
-        not_term(alloc, total, levels, loose, tokens),
-    )
 }
 
 // (`or` and)*
@@ -145,11 +128,13 @@ fn or_and(
     )
 }
 
-// The same, once the first part is read.
+/// and: not (`and` not)*
+///
+/// The first part is what was read at these tokens.
 #[inline(never)]
 #[cycle(value)]
 #[tactic(auto, unfolding(script_grammar::specs::ReadValue::and_, script_grammar::specs::Read::chain))]
-fn and_of<'a>(
+pub fn and_of<'a>(
     alloc: Global,
     total: usize,
     levels: usize,
@@ -214,16 +199,14 @@ fn and_not(
 {
     let ((), rest) = token::expect(tokens, Class::And)?;
     let (negated, rest) = token::perhaps(rest, Class::Not);
-    not_of(
+    negation_of(
+        alloc,
+        total,
+        levels,
+        loose,
         negated,
-        compare_of(
-            alloc,
-            total,
-            levels,
-            loose,
-            rest,
-            sum(alloc, total, levels, loose, rest),
-        ),
+        rest,
+        operand(alloc, total, levels, loose, rest),
     )
 }
 
@@ -244,16 +227,43 @@ fn not_term(
     ensures whole { IfOk result (λ x. IsWholeNot x.0) }
 {
     let (negated, rest) = token::perhaps(tokens, Class::Not);
+    negation_of(
+        alloc,
+        total,
+        levels,
+        loose,
+        negated,
+        rest,
+        operand(alloc, total, levels, loose, rest),
+    )
+}
+
+/// The same behind `not` or not, once the first operand of the comparison is read.
+#[inline(never)]
+#[cycle(value)]
+pub fn negation_of<'a>(
+    alloc: Global,
+    total: usize,
+    levels: usize,
+    loose: bool,
+    negated: bool,
+    tokens: &[Token],
+    read: Result<(Operand, &'a [Token]), Fault>,
+) -> Result<(Not, &'a [Token]), Fault>
+    requires within { length tokens.now ≤ total }
+    requires small { total < 2 ^ 32 }
+    requires shorter { IfOk read (λ x. length x.1.now < length tokens.now) }
+    requires gives { Gives (λ x. (view_prim x.0, kinds x.1.now)) read (prim loose (places total) (full_by levels (places total)) (kinds tokens.now)) }
+    requires whole { IfOk read (λ x. IsWholePrim x.0) }
+    ensures shorter { IfOk result (λ x. length x.1.now < length tokens.now) }
+    ensures gives { Gives (λ x. (view_not x.0, kinds x.1.now)) result (behind_not negated (compare loose (places total) (full_by levels (places total)) (kinds tokens.now))) }
+    ensures whole { IfOk result (λ x. IsWholeNot x.0) }
+{
+    let product = product_of(alloc, total, levels, loose, tokens, read);
+    let sum = sum_of(alloc, total, levels, loose, tokens, product);
     not_of(
         negated,
-        compare_of(
-            alloc,
-            total,
-            levels,
-            loose,
-            rest,
-            sum(alloc, total, levels, loose, rest),
-        ),
+        compare_of(alloc, total, levels, loose, tokens, sum),
     )
 }
 

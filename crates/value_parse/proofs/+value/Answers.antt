@@ -1,7 +1,7 @@
 use Rattle.std.proofs.Common.{ℕ, Bool, Ok, ap, length}
 use Rattle.parse_base.proofs.Levels.{full_ends, full_turn}
 use Rattle.value_parse.proofs.Signs.{added_goes}
-use Rattle.script_grammar.specs.Tree.{Tree, AnAdded, Added}
+use Rattle.script_grammar.specs.Tree.{Tree, AFull, AnAdded, Added}
 use Rattle.script_grammar.specs.View.{view_product}
 use Rattle.script_grammar.specs.declared.tree.Added as node
 use Rattle.script_grammar.specs.declared.tree.Product.{Product}
@@ -9,13 +9,17 @@ use Rattle.parse_base.specs.Gives.{kinds}
 use Rattle.std.proofs.Common.{◌≡◌, [], refl, sym, ◌∙◌, ◌-◌, arith}
 use Rattle.std.proofs.lemmas.List.Elements.{All-nil, All-push}
 use Rattle.std.proofs.lemmas.Result.{err_from_is_err_and}
-use Rattle.script_grammar.specs.Kinds.{is_or, is_and, is_comma, is_added, is_multiplied}
+use Rattle.script_grammar.specs.Kinds.{is_or, is_and, is_comma, is_added, is_multiplied, is_close_round}
 use Rattle.script_grammar.specs.Read.{next, behind}
-use Rattle.script_grammar.specs.ReadValue.{full_by, and_, not_, added, multiplied, arg}
-use Rattle.script_grammar.specs.View.{view_full, view_and, view_not, view_added, view_multiplied, view_arg}
+use Rattle.script_grammar.specs.ReadValue.{full_by, and_, not_, added, multiplied, arg, args}
+use Rattle.script_grammar.specs.View.{view_full, view_and, view_not, view_added, view_multiplied, view_arg, view_prim}
 use Rattle.script_grammar.specs.Whole.{IsWholeFull, IsWholeAnd, IsWholeNot, IsWholeAdded, IsWholeMultiplied, IsWholeArg}
 use Rattle.parse_base.specs.Gives.{places}
 use Rattle.parse_base.proofs.Turns.{begins, goes_on, fails, ends}
+use Rattle.parse_base.specs.Classes.{is_in}
+use Rattle.value_parse.proofs.Chained.{chain_ends, closed_none, closed_goes, closed_fails, closing_fails}
+use Rattle.value_parse.proofs.Kept.{keeps_first, keeps_more, loses_first, loses_more}
+use Rattle.value_parse.proofs.Lone.{lone_goes, operand_fails}
 use Rattle.value_parse.proofs.+value.Goals as goal
 
 pub logic::ands-turns-init : goal.logic::ands-turns-init
@@ -98,46 +102,6 @@ arithmetic::multiplieds-turns-preserved t c = (
 pub arithmetic::multiplieds-returns-clause-gives : goal.arithmetic::multiplieds-returns-clause-gives
 arithmetic::multiplieds-returns-clause-gives t c = ends c.turns.invariant.1 (sym c.next_is.ensures ∙ c.turns-test.false)
 
-pub operands::fulls-turns-init : goal.operands::fulls-turns-init
-operands::fulls-turns-init t c =
-    let none_yet : c.new-items.result.items ≡ [] = cc in
-    (omega arith, begins view_full (next is_comma) (behind is_comma (full_by c.args.levels (places c.args.total))) c.args.tokens.now c.new-items.result.items cc, rw none_yet (All-nil IsWholeFull))
-
-pub operands::fulls-returns-in_err-item-clause-gives : goal.operands::fulls-returns-in_err-item-clause-gives
-operands::fulls-returns-in_err-item-clause-gives t c =
-    let p = err_from_is_err_and c.from_residual.result c.from_residual.ensures.1 in
-    rw (p.1, p.2) (fails c.turns.invariant.1 c.in_err-item.field-0.0 refl (sym c.next_is.ensures ∙ c.turns-test.true) c.in_err-item.ensures.gives)
-
-pub operands::fulls-turns-preserved : goal.operands::fulls-turns-preserved
-operands::fulls-turns-preserved t c = (
-  omega (arith, c.turns.invariant.0, c.in_ok-item.ensures.shorter),
-  goes_on c.turns.invariant.1 c.in_ok-item.item c.in_ok-item.after.now c.push.new.self.items (sym c.next_is.ensures ∙ c.turns-test.true) c.in_ok-item.ensures.gives c.in_ok-item.ensures.shorter c.in_ok-push.ensures.items,
-  rw c.in_ok-push.ensures.items (All-push IsWholeFull c.turns.items.items c.in_ok-item.item c.turns.invariant.2 c.in_ok-item.ensures.whole),
-)
-
-pub operands::fulls-returns-clause-gives : goal.operands::fulls-returns-clause-gives
-operands::fulls-returns-clause-gives t c = ends c.turns.invariant.1 (sym c.next_is.ensures ∙ c.turns-test.false)
-
-pub arguments::more_args-turns-init : goal.arguments::more_args-turns-init
-arguments::more_args-turns-init t c =
-    let none_yet : c.new-items.result.items ≡ [] = cc in
-    (omega arith, begins view_arg (next is_comma) (behind is_comma (arg (places c.args.total) (full_by c.args.levels (places c.args.total)))) c.args.tokens.now c.new-items.result.items cc, rw none_yet (All-nil IsWholeArg))
-
-pub arguments::more_args-returns-in_err-item-clause-gives : goal.arguments::more_args-returns-in_err-item-clause-gives
-arguments::more_args-returns-in_err-item-clause-gives t c =
-    let p = err_from_is_err_and c.from_residual.result c.from_residual.ensures.1 in
-    rw (p.1, p.2) (fails c.turns.invariant.1 c.in_err-item.field-0.0 refl (sym c.next_is.ensures ∙ c.turns-test.true) c.in_err-item.ensures.gives)
-
-pub arguments::more_args-turns-preserved : goal.arguments::more_args-turns-preserved
-arguments::more_args-turns-preserved t c = (
-  omega (arith, c.turns.invariant.0, c.in_ok-item.ensures.shorter),
-  goes_on c.turns.invariant.1 c.in_ok-item.item c.in_ok-item.after.now c.push.new.self.items (sym c.next_is.ensures ∙ c.turns-test.true) c.in_ok-item.ensures.gives c.in_ok-item.ensures.shorter c.in_ok-push.ensures.items,
-  rw c.in_ok-push.ensures.items (All-push IsWholeArg c.turns.items.items c.in_ok-item.item c.turns.invariant.2 c.in_ok-item.ensures.whole),
-)
-
-pub arguments::more_args-returns-clause-gives : goal.arguments::more_args-returns-clause-gives
-arguments::more_args-returns-clause-gives t c = ends c.turns.invariant.1 (sym c.next_is.ensures ∙ c.turns-test.false)
-
 pub values::full-returns-then-levels-eq0-clause-gives : goal.values::full-returns-then-levels-eq0-clause-gives
 values::full-returns-then-levels-eq0-clause-gives t c = full_ends c.args.levels (places c.args.total) c.args.tokens.now (omega arith)
 
@@ -152,5 +116,92 @@ arithmetic::added-returns-clause-gives t c =
     added_goes c.args.loose (places c.args.total) (full_by c.args.levels (places c.args.total)) (kinds c.args.tokens.now) c.place-at.result c.in_ok-minus.minus (kinds c.in_ok-minus.rest.now) (kinds c.in_ok-product.rest.now) (view_product c.in_ok-product.product) c.place-at.ensures c.in_ok-minus.ensures.gives c.in_ok-product.ensures.gives
     ∙ ap (λ (x : Tree AnAdded). Ok (x, kinds c.in_ok-product.rest.now)) (sym (added_seen c.place-at.result c.in_ok-minus.minus c.in_ok-product.product))
 
-pub values::plain-returns-clause-shorter : goal.values::plain-returns-clause-shorter
-values::plain-returns-clause-shorter t c = c.plain_of.ensures.shorter (length c.args.tokens.now) c.expr_of.ensures.shorter
+pub operands::some_fulls-turns-init : goal.operands::some_fulls-turns-init
+operands::some_fulls-turns-init t c = keeps_first view_full IsWholeFull is_comma (full_by c.args.levels (places c.args.total)) c.args.tokens.now c.full.result c.in_ok-rest.rest.now c.args.parts.now.items c.keep.new.items.items c.full.ensures.gives c.full.ensures.shorter c.full.ensures.whole c.in_ok-rest.ensures.kept c.requires.empty
+
+pub operands::some_fulls-turns-preserved : goal.operands::some_fulls-turns-preserved
+operands::some_fulls-turns-preserved t c = keeps_more view_full IsWholeFull is_comma (full_by c.args.levels (places c.args.total)) c.args.tokens.now c.turns.rest.now c.comma_full.result c.in_ok-rest-2.rest.now c.turns.parts.items c.keep-in-turns.new.items.items c.turns.invariant (sym c.next_is.ensures ∙ c.turns-test.true) c.comma_full.ensures.gives c.comma_full.ensures.shorter c.comma_full.ensures.whole c.in_ok-rest-2.ensures.kept
+
+pub operands::some_fulls-returns-clause-gives : goal.operands::some_fulls-returns-clause-gives
+operands::some_fulls-returns-clause-gives t c = chain_ends c.turns.invariant.1 (sym c.next_is.ensures ∙ c.turns-test.false)
+
+pub operands::some_fulls-returns-in_err-rest-clause-gives : goal.operands::some_fulls-returns-in_err-rest-clause-gives
+operands::some_fulls-returns-in_err-rest-clause-gives t c =
+    let p = err_from_is_err_and c.from_residual.result c.from_residual.ensures.1 in
+    rw (p.1, p.2) (loses_first view_full is_comma (full_by c.args.levels (places c.args.total)) c.args.tokens.now c.full.result c.in_err-rest.field-0.0 c.in_err-rest.ensures.fault c.full.ensures.gives)
+
+pub operands::some_fulls-returns-in_err-rest-2-clause-gives : goal.operands::some_fulls-returns-in_err-rest-2-clause-gives
+operands::some_fulls-returns-in_err-rest-2-clause-gives t c =
+    let p = err_from_is_err_and c.from_residual-in_err-rest-2.result c.from_residual-in_err-rest-2.ensures.1 in
+    rw (p.1, p.2) (loses_more view_full is_comma (full_by c.args.levels (places c.args.total)) c.args.tokens.now c.turns.rest.now c.comma_full.result c.turns.parts.items c.in_err-rest-2.field-0.0 c.turns.invariant.1 (sym c.next_is.ensures ∙ c.turns-test.true) c.in_err-rest-2.ensures.fault c.comma_full.ensures.gives)
+
+pub operands::fulls-returns-then-is_closed-clause-gives : goal.operands::fulls-returns-then-is_closed-clause-gives
+operands::fulls-returns-then-is_closed-clause-gives t c = closed_none view_full is_comma (is_in c.args.close) (full_by c.args.levels (places c.args.total)) (kinds c.args.tokens.now) (kinds c.perhaps-is_closed.result.1.now) c.perhaps-is_closed.result.0 c.perhaps-is_closed.ensures.gives c.args.parts.now.items c.if-is_closed.true c.requires.empty
+
+pub operands::fulls-returns-in_err-rest-clause-gives : goal.operands::fulls-returns-in_err-rest-clause-gives
+operands::fulls-returns-in_err-rest-clause-gives t c =
+    let p = err_from_is_err_and c.from_residual.result c.from_residual.ensures.1 in
+    rw (p.1, p.2) (closed_fails view_full is_comma (is_in c.args.close) (full_by c.args.levels (places c.args.total)) (kinds c.args.tokens.now) (kinds c.perhaps-is_closed.result.1.now) c.perhaps-is_closed.result.0 c.perhaps-is_closed.ensures.gives c.in_err-rest.field-0.0 c.if-is_closed.false c.in_err-rest.ensures.gives)
+
+pub operands::fulls-returns-in_err-rest-2-clause-gives : goal.operands::fulls-returns-in_err-rest-2-clause-gives
+operands::fulls-returns-in_err-rest-2-clause-gives t c =
+    let p = err_from_is_err_and c.from_residual-in_err-rest-2.result c.from_residual-in_err-rest-2.ensures.1 in
+    rw (p.1, p.2) (closing_fails view_full is_comma (is_in c.args.close) (full_by c.args.levels (places c.args.total)) (kinds c.args.tokens.now) (kinds c.perhaps-is_closed.result.1.now) c.perhaps-is_closed.result.0 c.perhaps-is_closed.ensures.gives c.some_fulls.new.parts.items (kinds c.in_ok-rest.rest.now) c.in_err-rest-2.field-0.0 c.if-is_closed.false c.in_ok-rest.ensures.gives c.in_err-rest-2.ensures.gives)
+
+pub operands::fulls-returns-clause-gives : goal.operands::fulls-returns-clause-gives
+operands::fulls-returns-clause-gives t c = closed_goes view_full is_comma (is_in c.args.close) (full_by c.args.levels (places c.args.total)) (kinds c.args.tokens.now) (kinds c.perhaps-is_closed.result.1.now) c.perhaps-is_closed.result.0 c.perhaps-is_closed.ensures.gives c.some_fulls.new.parts.items (kinds c.in_ok-rest.rest.now) (kinds c.in_ok-rest-2.rest.now) c.if-is_closed.false c.in_ok-rest.ensures.gives c.in_ok-rest-2.ensures.gives
+
+pub arguments::some_args-turns-init : goal.arguments::some_args-turns-init
+arguments::some_args-turns-init t c = keeps_first view_arg IsWholeArg is_comma (arg (places c.args.total) (full_by c.args.levels (places c.args.total))) c.args.tokens.now c.arg.result c.in_ok-rest.rest.now c.args.items.now.items c.keep.new.items.items c.arg.ensures.gives c.arg.ensures.shorter c.arg.ensures.whole c.in_ok-rest.ensures.kept c.requires.empty
+
+pub arguments::some_args-turns-preserved : goal.arguments::some_args-turns-preserved
+arguments::some_args-turns-preserved t c = keeps_more view_arg IsWholeArg is_comma (arg (places c.args.total) (full_by c.args.levels (places c.args.total))) c.args.tokens.now c.turns.rest.now c.comma_arg.result c.in_ok-rest-2.rest.now c.turns.items.items c.keep-in-turns.new.items.items c.turns.invariant (sym c.next_is.ensures ∙ c.turns-test.true) c.comma_arg.ensures.gives c.comma_arg.ensures.shorter c.comma_arg.ensures.whole c.in_ok-rest-2.ensures.kept
+
+pub arguments::some_args-returns-clause-gives : goal.arguments::some_args-returns-clause-gives
+arguments::some_args-returns-clause-gives t c = chain_ends c.turns.invariant.1 (sym c.next_is.ensures ∙ c.turns-test.false)
+
+pub arguments::some_args-returns-in_err-rest-clause-gives : goal.arguments::some_args-returns-in_err-rest-clause-gives
+arguments::some_args-returns-in_err-rest-clause-gives t c =
+    let p = err_from_is_err_and c.from_residual.result c.from_residual.ensures.1 in
+    rw (p.1, p.2) (loses_first view_arg is_comma (arg (places c.args.total) (full_by c.args.levels (places c.args.total))) c.args.tokens.now c.arg.result c.in_err-rest.field-0.0 c.in_err-rest.ensures.fault c.arg.ensures.gives)
+
+pub arguments::some_args-returns-in_err-rest-2-clause-gives : goal.arguments::some_args-returns-in_err-rest-2-clause-gives
+arguments::some_args-returns-in_err-rest-2-clause-gives t c =
+    let p = err_from_is_err_and c.from_residual-in_err-rest-2.result c.from_residual-in_err-rest-2.ensures.1 in
+    rw (p.1, p.2) (loses_more view_arg is_comma (arg (places c.args.total) (full_by c.args.levels (places c.args.total))) c.args.tokens.now c.turns.rest.now c.comma_arg.result c.turns.items.items c.in_err-rest-2.field-0.0 c.turns.invariant.1 (sym c.next_is.ensures ∙ c.turns-test.true) c.in_err-rest-2.ensures.fault c.comma_arg.ensures.gives)
+
+pub arguments::args-returns-then-is_closed-clause-gives : goal.arguments::args-returns-then-is_closed-clause-gives
+unfolding args
+arguments::args-returns-then-is_closed-clause-gives t c = closed_none view_arg is_comma is_close_round (arg (places c.args.total) (full_by c.args.levels (places c.args.total))) (kinds c.args.tokens.now) (kinds c.perhaps-is_closed.result.1.now) c.perhaps-is_closed.result.0 c.perhaps-is_closed.ensures.gives c.args.items.now.items c.if-is_closed.true c.requires.empty
+
+pub arguments::args-returns-in_err-rest-clause-gives : goal.arguments::args-returns-in_err-rest-clause-gives
+unfolding args
+arguments::args-returns-in_err-rest-clause-gives t c =
+    let p = err_from_is_err_and c.from_residual.result c.from_residual.ensures.1 in
+    rw (p.1, p.2) (closed_fails view_arg is_comma is_close_round (arg (places c.args.total) (full_by c.args.levels (places c.args.total))) (kinds c.args.tokens.now) (kinds c.perhaps-is_closed.result.1.now) c.perhaps-is_closed.result.0 c.perhaps-is_closed.ensures.gives c.in_err-rest.field-0.0 c.if-is_closed.false c.in_err-rest.ensures.gives)
+
+pub arguments::args-returns-in_err-rest-2-clause-gives : goal.arguments::args-returns-in_err-rest-2-clause-gives
+unfolding args
+arguments::args-returns-in_err-rest-2-clause-gives t c =
+    let p = err_from_is_err_and c.from_residual-in_err-rest-2.result c.from_residual-in_err-rest-2.ensures.1 in
+    rw (p.1, p.2) (closing_fails view_arg is_comma is_close_round (arg (places c.args.total) (full_by c.args.levels (places c.args.total))) (kinds c.args.tokens.now) (kinds c.perhaps-is_closed.result.1.now) c.perhaps-is_closed.result.0 c.perhaps-is_closed.ensures.gives c.some_args.new.items.items (kinds c.in_ok-rest.rest.now) c.in_err-rest-2.field-0.0 c.if-is_closed.false c.in_ok-rest.ensures.gives c.in_err-rest-2.ensures.gives)
+
+pub arguments::args-returns-clause-gives : goal.arguments::args-returns-clause-gives
+unfolding args
+arguments::args-returns-clause-gives t c = closed_goes view_arg is_comma is_close_round (arg (places c.args.total) (full_by c.args.levels (places c.args.total))) (kinds c.args.tokens.now) (kinds c.perhaps-is_closed.result.1.now) c.perhaps-is_closed.result.0 c.perhaps-is_closed.ensures.gives c.some_args.new.items.items (kinds c.in_ok-rest.rest.now) (kinds c.in_ok-rest-2.rest.now) c.if-is_closed.false c.in_ok-rest.ensures.gives c.in_ok-rest-2.ensures.gives
+
+pub logic::negation_of-returns-clause-shorter : goal.logic::negation_of-returns-clause-shorter
+logic::negation_of-returns-clause-shorter t c = c.not_of.ensures.shorter (length c.args.tokens.now) c.compare_of.ensures.shorter
+
+pub values::plain_of-returns-then-at_operator-clause-shorter : goal.values::plain_of-returns-then-at_operator-clause-shorter
+values::plain_of-returns-then-at_operator-clause-shorter t c = c.in_full.ensures.shorter (length c.args.tokens.now) c.expr_of.ensures.shorter
+
+pub values::plain_of-returns-in_err-operand-clause-gives : goal.values::plain_of-returns-in_err-operand-clause-gives
+values::plain_of-returns-in_err-operand-clause-gives t c =
+    let p = err_from_is_err_and c.from_residual.result c.from_residual.ensures.1 in
+    rw (p.1, p.2) (operand_fails c.args.loose (places c.args.total) (full_by c.args.levels (places c.args.total)) (kinds c.args.tokens.now) (kinds c.args.inner.now) c.args.negated c.in_err-operand.field-0.0 c.requires.lead (rw c.in_err-operand.was at c.requires.gives))
+
+pub values::plain_of-returns-else-at_operator-clause-gives : goal.values::plain_of-returns-else-at_operator-clause-gives
+values::plain_of-returns-else-at_operator-clause-gives t c =
+    lone_goes c.args.loose (places c.args.total) (full_by c.args.levels (places c.args.total)) (kinds c.args.tokens.now) (kinds c.args.inner.now) (kinds c.in_ok-operand.rest.now) c.args.negated (view_prim c.in_ok-operand.operand) c.requires.lead (rw c.in_ok-operand.was at c.requires.gives) (sym c.at_operator.ensures ∙ c.if-at_operator.false)
+    ∙ ap (λ (f : Tree AFull). Ok (f, kinds c.in_ok-operand.rest.now)) (sym c.lone.ensures.made)
