@@ -8,6 +8,7 @@ ghost use Rattle.script_grammar.specs.View.{listed, view_compare, view_sum, view
 ghost use Rattle.script_grammar.specs.Whole.{IsWholeCompare, IsWholeSum, IsWholeAdded, IsWholeProduct, IsWholeMultiplied, IsWholePrim};
 ghost use Rattle.parse_base.specs.Gives.{kinds, Gives, places};
 
+use crate::items::keep;
 use crate::number::{next_op, product_sign, sum_sign};
 use crate::operands::operand;
 use parse_base::Fault;
@@ -120,9 +121,7 @@ fn addeds(
     let mut items = Vec::new(alloc);
     let mut rest = tokens;
     'turns: while token::next_is(rest, Class::Added) {
-        let (item, after) = added(alloc, total, levels, loose, rest)?;
-        items.push(item)?;
-        rest = after;
+        rest = keep(&mut items, added(alloc, total, levels, loose, rest))?;
     }
     Ok((items, rest))
 }
@@ -202,9 +201,7 @@ fn multiplieds(
     let mut items = Vec::new(alloc);
     let mut rest = tokens;
     'turns: while token::next_is(rest, Class::Multiplied) {
-        let (item, after) = multiplied(alloc, total, levels, loose, rest)?;
-        items.push(item)?;
-        rest = after;
+        rest = keep(&mut items, multiplied(alloc, total, levels, loose, rest))?;
     }
     Ok((items, rest))
 }

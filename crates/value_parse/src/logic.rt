@@ -11,6 +11,7 @@ ghost use Rattle.parse_base.specs.Gives.{kinds, Gives, places};
 ghost use Rattle.value_parse.specs.Operand.{behind_not};
 
 use crate::arithmetic::{compare_of, product_of, sum_of};
+use crate::items::keep;
 use crate::operands::operand;
 use parse_base::Fault;
 use parse_base::token::{self, Class};
@@ -94,9 +95,7 @@ fn ands(
     let mut items = Vec::new(alloc);
     let mut rest = tokens;
     'turns: while token::next_is(rest, Class::Or) {
-        let (item, after) = or_and(alloc, total, levels, loose, rest)?;
-        items.push(item)?;
-        rest = after;
+        rest = keep(&mut items, or_and(alloc, total, levels, loose, rest))?;
     }
     Ok((items, rest))
 }
@@ -174,9 +173,7 @@ fn nots(
     let mut items = Vec::new(alloc);
     let mut rest = tokens;
     'turns: while token::next_is(rest, Class::And) {
-        let (item, after) = and_not(alloc, total, levels, loose, rest)?;
-        items.push(item)?;
-        rest = after;
+        rest = keep(&mut items, and_not(alloc, total, levels, loose, rest))?;
     }
     Ok((items, rest))
 }

@@ -7,7 +7,7 @@ use Rattle.script_grammar.specs.declared.tree.Added as node
 use Rattle.script_grammar.specs.declared.tree.Product.{Product}
 use Rattle.parse_base.specs.Gives.{kinds}
 use Rattle.std.proofs.Common.{◌≡◌, [], refl, sym, ◌∙◌, ◌-◌, arith}
-use Rattle.std.proofs.lemmas.List.Elements.{All-nil, All-push}
+use Rattle.std.proofs.lemmas.List.Elements.{All-nil}
 use Rattle.std.proofs.lemmas.Result.{err_from_is_err_and}
 use Rattle.script_grammar.specs.Kinds.{is_or, is_and, is_comma, is_added, is_multiplied, is_close_round}
 use Rattle.script_grammar.specs.Read.{next, behind}
@@ -15,10 +15,10 @@ use Rattle.script_grammar.specs.ReadValue.{full_by, and_, not_, added, multiplie
 use Rattle.script_grammar.specs.View.{view_full, view_and, view_not, view_added, view_multiplied, view_arg, view_prim}
 use Rattle.script_grammar.specs.Whole.{IsWholeFull, IsWholeAnd, IsWholeNot, IsWholeAdded, IsWholeMultiplied, IsWholeArg}
 use Rattle.parse_base.specs.Gives.{places}
-use Rattle.parse_base.proofs.Turns.{begins, goes_on, fails, ends}
+use Rattle.parse_base.proofs.Turns.{begins, ends}
 use Rattle.parse_base.specs.Classes.{is_in}
 use Rattle.value_parse.proofs.Chained.{chain_ends, closed_none, closed_goes, closed_fails, closing_fails}
-use Rattle.value_parse.proofs.Kept.{keeps_first, keeps_more, loses_first, loses_more}
+use Rattle.value_parse.proofs.Kept.{keeps_first, keeps_more, keeps_turn, loses_first, loses_more, loses_turn}
 use Rattle.value_parse.proofs.Lone.{lone_goes, operand_fails}
 use Rattle.value_parse.proofs.+value.Goals as goal
 
@@ -27,17 +27,13 @@ logic::ands-turns-init t c =
     let none_yet : c.new-items.result.items ≡ [] = cc in
     (omega arith, begins view_and (next is_or) (behind is_or (and_ c.args.loose (places c.args.total) (full_by c.args.levels (places c.args.total)))) c.args.tokens.now c.new-items.result.items cc, rw none_yet (All-nil IsWholeAnd))
 
-pub logic::ands-returns-in_err-item-clause-gives : goal.logic::ands-returns-in_err-item-clause-gives
-logic::ands-returns-in_err-item-clause-gives t c =
+pub logic::ands-returns-in_err-rest-clause-gives : goal.logic::ands-returns-in_err-rest-clause-gives
+logic::ands-returns-in_err-rest-clause-gives t c =
     let p = err_from_is_err_and c.from_residual.result c.from_residual.ensures.1 in
-    rw (p.1, p.2) (fails c.turns.invariant.1 c.in_err-item.field-0.0 refl (sym c.next_is.ensures ∙ c.turns-test.true) c.in_err-item.ensures.gives)
+    rw (p.1, p.2) (loses_turn view_and (next is_or) (behind is_or (and_ c.args.loose (places c.args.total) (full_by c.args.levels (places c.args.total)))) c.args.tokens.now c.turns.rest.now c.or_and.result c.turns.items.items c.in_err-rest.field-0.0 c.turns.invariant.1 refl (sym c.next_is.ensures ∙ c.turns-test.true) c.in_err-rest.ensures.fault c.or_and.ensures.gives)
 
 pub logic::ands-turns-preserved : goal.logic::ands-turns-preserved
-logic::ands-turns-preserved t c = (
-  omega (arith, c.turns.invariant.0, c.in_ok-item.ensures.shorter),
-  goes_on c.turns.invariant.1 c.in_ok-item.item c.in_ok-item.after.now c.push.new.self.items (sym c.next_is.ensures ∙ c.turns-test.true) c.in_ok-item.ensures.gives c.in_ok-item.ensures.shorter c.in_ok-push.ensures.items,
-  rw c.in_ok-push.ensures.items (All-push IsWholeAnd c.turns.items.items c.in_ok-item.item c.turns.invariant.2 c.in_ok-item.ensures.whole),
-)
+logic::ands-turns-preserved t c = keeps_turn view_and IsWholeAnd (next is_or) (behind is_or (and_ c.args.loose (places c.args.total) (full_by c.args.levels (places c.args.total)))) c.args.tokens.now c.turns.rest.now c.or_and.result c.in_ok-rest.rest.now c.turns.items.items c.keep.new.items.items c.turns.invariant (sym c.next_is.ensures ∙ c.turns-test.true) c.or_and.ensures.gives c.or_and.ensures.shorter c.or_and.ensures.whole c.in_ok-rest.ensures.kept
 
 pub logic::ands-returns-clause-gives : goal.logic::ands-returns-clause-gives
 logic::ands-returns-clause-gives t c = ends c.turns.invariant.1 (sym c.next_is.ensures ∙ c.turns-test.false)
@@ -47,17 +43,13 @@ logic::nots-turns-init t c =
     let none_yet : c.new-items.result.items ≡ [] = cc in
     (omega arith, begins view_not (next is_and) (behind is_and (not_ c.args.loose (places c.args.total) (full_by c.args.levels (places c.args.total)))) c.args.tokens.now c.new-items.result.items cc, rw none_yet (All-nil IsWholeNot))
 
-pub logic::nots-returns-in_err-item-clause-gives : goal.logic::nots-returns-in_err-item-clause-gives
-logic::nots-returns-in_err-item-clause-gives t c =
+pub logic::nots-returns-in_err-rest-clause-gives : goal.logic::nots-returns-in_err-rest-clause-gives
+logic::nots-returns-in_err-rest-clause-gives t c =
     let p = err_from_is_err_and c.from_residual.result c.from_residual.ensures.1 in
-    rw (p.1, p.2) (fails c.turns.invariant.1 c.in_err-item.field-0.0 refl (sym c.next_is.ensures ∙ c.turns-test.true) c.in_err-item.ensures.gives)
+    rw (p.1, p.2) (loses_turn view_not (next is_and) (behind is_and (not_ c.args.loose (places c.args.total) (full_by c.args.levels (places c.args.total)))) c.args.tokens.now c.turns.rest.now c.and_not.result c.turns.items.items c.in_err-rest.field-0.0 c.turns.invariant.1 refl (sym c.next_is.ensures ∙ c.turns-test.true) c.in_err-rest.ensures.fault c.and_not.ensures.gives)
 
 pub logic::nots-turns-preserved : goal.logic::nots-turns-preserved
-logic::nots-turns-preserved t c = (
-  omega (arith, c.turns.invariant.0, c.in_ok-item.ensures.shorter),
-  goes_on c.turns.invariant.1 c.in_ok-item.item c.in_ok-item.after.now c.push.new.self.items (sym c.next_is.ensures ∙ c.turns-test.true) c.in_ok-item.ensures.gives c.in_ok-item.ensures.shorter c.in_ok-push.ensures.items,
-  rw c.in_ok-push.ensures.items (All-push IsWholeNot c.turns.items.items c.in_ok-item.item c.turns.invariant.2 c.in_ok-item.ensures.whole),
-)
+logic::nots-turns-preserved t c = keeps_turn view_not IsWholeNot (next is_and) (behind is_and (not_ c.args.loose (places c.args.total) (full_by c.args.levels (places c.args.total)))) c.args.tokens.now c.turns.rest.now c.and_not.result c.in_ok-rest.rest.now c.turns.items.items c.keep.new.items.items c.turns.invariant (sym c.next_is.ensures ∙ c.turns-test.true) c.and_not.ensures.gives c.and_not.ensures.shorter c.and_not.ensures.whole c.in_ok-rest.ensures.kept
 
 pub logic::nots-returns-clause-gives : goal.logic::nots-returns-clause-gives
 logic::nots-returns-clause-gives t c = ends c.turns.invariant.1 (sym c.next_is.ensures ∙ c.turns-test.false)
@@ -67,17 +59,13 @@ arithmetic::addeds-turns-init t c =
     let none_yet : c.new-items.result.items ≡ [] = cc in
     (omega arith, begins view_added (next is_added) (added c.args.loose (places c.args.total) (full_by c.args.levels (places c.args.total))) c.args.tokens.now c.new-items.result.items cc, rw none_yet (All-nil IsWholeAdded))
 
-pub arithmetic::addeds-returns-in_err-item-clause-gives : goal.arithmetic::addeds-returns-in_err-item-clause-gives
-arithmetic::addeds-returns-in_err-item-clause-gives t c =
+pub arithmetic::addeds-returns-in_err-rest-clause-gives : goal.arithmetic::addeds-returns-in_err-rest-clause-gives
+arithmetic::addeds-returns-in_err-rest-clause-gives t c =
     let p = err_from_is_err_and c.from_residual.result c.from_residual.ensures.1 in
-    rw (p.1, p.2) (fails c.turns.invariant.1 c.in_err-item.field-0.0 refl (sym c.next_is.ensures ∙ c.turns-test.true) c.in_err-item.ensures.gives)
+    rw (p.1, p.2) (loses_turn view_added (next is_added) (added c.args.loose (places c.args.total) (full_by c.args.levels (places c.args.total))) c.args.tokens.now c.turns.rest.now c.added.result c.turns.items.items c.in_err-rest.field-0.0 c.turns.invariant.1 refl (sym c.next_is.ensures ∙ c.turns-test.true) c.in_err-rest.ensures.fault c.added.ensures.gives)
 
 pub arithmetic::addeds-turns-preserved : goal.arithmetic::addeds-turns-preserved
-arithmetic::addeds-turns-preserved t c = (
-  omega (arith, c.turns.invariant.0, c.in_ok-item.ensures.shorter),
-  goes_on c.turns.invariant.1 c.in_ok-item.item c.in_ok-item.after.now c.push.new.self.items (sym c.next_is.ensures ∙ c.turns-test.true) c.in_ok-item.ensures.gives c.in_ok-item.ensures.shorter c.in_ok-push.ensures.items,
-  rw c.in_ok-push.ensures.items (All-push IsWholeAdded c.turns.items.items c.in_ok-item.item c.turns.invariant.2 c.in_ok-item.ensures.whole),
-)
+arithmetic::addeds-turns-preserved t c = keeps_turn view_added IsWholeAdded (next is_added) (added c.args.loose (places c.args.total) (full_by c.args.levels (places c.args.total))) c.args.tokens.now c.turns.rest.now c.added.result c.in_ok-rest.rest.now c.turns.items.items c.keep.new.items.items c.turns.invariant (sym c.next_is.ensures ∙ c.turns-test.true) c.added.ensures.gives c.added.ensures.shorter c.added.ensures.whole c.in_ok-rest.ensures.kept
 
 pub arithmetic::addeds-returns-clause-gives : goal.arithmetic::addeds-returns-clause-gives
 arithmetic::addeds-returns-clause-gives t c = ends c.turns.invariant.1 (sym c.next_is.ensures ∙ c.turns-test.false)
@@ -87,17 +75,13 @@ arithmetic::multiplieds-turns-init t c =
     let none_yet : c.new-items.result.items ≡ [] = cc in
     (omega arith, begins view_multiplied (next is_multiplied) (multiplied c.args.loose (places c.args.total) (full_by c.args.levels (places c.args.total))) c.args.tokens.now c.new-items.result.items cc, rw none_yet (All-nil IsWholeMultiplied))
 
-pub arithmetic::multiplieds-returns-in_err-item-clause-gives : goal.arithmetic::multiplieds-returns-in_err-item-clause-gives
-arithmetic::multiplieds-returns-in_err-item-clause-gives t c =
+pub arithmetic::multiplieds-returns-in_err-rest-clause-gives : goal.arithmetic::multiplieds-returns-in_err-rest-clause-gives
+arithmetic::multiplieds-returns-in_err-rest-clause-gives t c =
     let p = err_from_is_err_and c.from_residual.result c.from_residual.ensures.1 in
-    rw (p.1, p.2) (fails c.turns.invariant.1 c.in_err-item.field-0.0 refl (sym c.next_is.ensures ∙ c.turns-test.true) c.in_err-item.ensures.gives)
+    rw (p.1, p.2) (loses_turn view_multiplied (next is_multiplied) (multiplied c.args.loose (places c.args.total) (full_by c.args.levels (places c.args.total))) c.args.tokens.now c.turns.rest.now c.multiplied.result c.turns.items.items c.in_err-rest.field-0.0 c.turns.invariant.1 refl (sym c.next_is.ensures ∙ c.turns-test.true) c.in_err-rest.ensures.fault c.multiplied.ensures.gives)
 
 pub arithmetic::multiplieds-turns-preserved : goal.arithmetic::multiplieds-turns-preserved
-arithmetic::multiplieds-turns-preserved t c = (
-  omega (arith, c.turns.invariant.0, c.in_ok-item.ensures.shorter),
-  goes_on c.turns.invariant.1 c.in_ok-item.item c.in_ok-item.after.now c.push.new.self.items (sym c.next_is.ensures ∙ c.turns-test.true) c.in_ok-item.ensures.gives c.in_ok-item.ensures.shorter c.in_ok-push.ensures.items,
-  rw c.in_ok-push.ensures.items (All-push IsWholeMultiplied c.turns.items.items c.in_ok-item.item c.turns.invariant.2 c.in_ok-item.ensures.whole),
-)
+arithmetic::multiplieds-turns-preserved t c = keeps_turn view_multiplied IsWholeMultiplied (next is_multiplied) (multiplied c.args.loose (places c.args.total) (full_by c.args.levels (places c.args.total))) c.args.tokens.now c.turns.rest.now c.multiplied.result c.in_ok-rest.rest.now c.turns.items.items c.keep.new.items.items c.turns.invariant (sym c.next_is.ensures ∙ c.turns-test.true) c.multiplied.ensures.gives c.multiplied.ensures.shorter c.multiplied.ensures.whole c.in_ok-rest.ensures.kept
 
 pub arithmetic::multiplieds-returns-clause-gives : goal.arithmetic::multiplieds-returns-clause-gives
 arithmetic::multiplieds-returns-clause-gives t c = ends c.turns.invariant.1 (sym c.next_is.ensures ∙ c.turns-test.false)
