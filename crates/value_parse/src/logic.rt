@@ -1,8 +1,8 @@
 // Expressions: parts joined by `or` and `and`, each perhaps behind `not`.
-ghost use Rattle.std.specs.Prelude.{◌<◌, ◌≤◌, ◌^◌, IfOk, length, map, ℕ};
+ghost use Rattle.std.specs.Prelude.{◌≡◌, ◌<◌, ◌≤◌, ◌^◌, IfOk, Ok, length, map, ℕ};
 ghost use Rattle.std.specs.List.{All};
-ghost use Rattle.script_grammar.specs.Kinds.{is_or, is_and};
-ghost use Rattle.script_grammar.specs.Read.{Read, next, many, behind};
+ghost use Rattle.script_grammar.specs.Kinds.{is_or, is_and, is_not};
+ghost use Rattle.script_grammar.specs.Read.{Read, next, many, behind, perhaps};
 ghost use Rattle.script_grammar.specs.Tree.{Tree, ACompare};
 ghost use Rattle.script_grammar.specs.ReadValue.{full_by, expr, and_, not_, compare, prim};
 ghost use Rattle.script_grammar.specs.View.{listed, view_expr, view_and, view_not, view_compare, view_prim};
@@ -34,28 +34,54 @@ pub fn expr(
     ensures gives { Gives (λ x. (view_expr x.0, kinds x.1.now)) result (expr loose (places total) (full_by levels (places total)) (kinds tokens.now)) }
     ensures whole { IfOk result (λ x. IsWholeExpr x.0) }
 {
-    expr_of(
+    let (negated, inner) = token::perhaps(tokens, Class::Not);
+    expr_from(
         alloc,
         total,
         levels,
         loose,
         tokens,
-        and_of(
-            alloc,
-            total,
-            levels,
-            loose,
-            tokens,
-            not_term(alloc, total, levels, loose, tokens),
-        ),
+        negated,
+        inner,
+        operand(alloc, total, levels, loose, inner),
     )
 }
 
-/// The same, once the first part is read.
+/// The same, once its first operand is read, which stands behind `not` or not.
+#[inline(never)]
+#[cycle(value)]
+#[tactic(auto, unfolding(script_grammar::specs::ReadValue::not_))]
+pub fn expr_from<'a>(
+    alloc: Global,
+    total: usize,
+    levels: usize,
+    loose: bool,
+    tokens: &[Token],
+    negated: bool,
+    inner: &[Token],
+    read: Result<(Operand, &'a [Token]), Fault>,
+) -> Result<(Expr, &'a [Token]), Fault>
+    requires within { length tokens.now ≤ total }
+    requires small { total < 2 ^ 32 }
+    requires inside { length inner.now ≤ length tokens.now }
+    requires lead { perhaps is_not (kinds tokens.now) ≡ Ok (negated, kinds inner.now) }
+    requires shorter { IfOk read (λ x. length x.1.now < length inner.now) }
+    requires gives { Gives (λ x. (view_prim x.0, kinds x.1.now)) read (prim loose (places total) (full_by levels (places total)) (kinds inner.now)) }
+    requires whole { IfOk read (λ x. IsWholePrim x.0) }
+    ensures shorter { IfOk result (λ x. length x.1.now < length tokens.now) }
+    ensures gives { Gives (λ x. (view_expr x.0, kinds x.1.now)) result (expr loose (places total) (full_by levels (places total)) (kinds tokens.now)) }
+    ensures whole { IfOk result (λ x. IsWholeExpr x.0) }
+{
+    let first = negation_of(alloc, total, levels, loose, negated, inner, read);
+    let first = and_of(alloc, total, levels, loose, tokens, first);
+    expr_of(alloc, total, levels, loose, tokens, first)
+}
+
+// The same, once the first part is read.
 #[inline(never)]
 #[cycle(value)]
 #[tactic(auto, unfolding(script_grammar::specs::ReadValue::expr, script_grammar::specs::Read::chain))]
-pub fn expr_of<'a>(
+fn expr_of<'a>(
     alloc: Global,
     total: usize,
     levels: usize,
@@ -127,13 +153,13 @@ fn or_and(
     )
 }
 
-/// and: not (`and` not)*
-///
-/// The first part is what was read at these tokens.
+// and: not (`and` not)*
+//
+// The first part is what was read at these tokens.
 #[inline(never)]
 #[cycle(value)]
 #[tactic(auto, unfolding(script_grammar::specs::ReadValue::and_, script_grammar::specs::Read::chain))]
-pub fn and_of<'a>(
+fn and_of<'a>(
     alloc: Global,
     total: usize,
     levels: usize,
@@ -235,10 +261,10 @@ fn not_term(
     )
 }
 
-/// The same behind `not` or not, once the first operand of the comparison is read.
+// The same behind `not` or not, once the first operand of the comparison is read.
 #[inline(never)]
 #[cycle(value)]
-pub fn negation_of<'a>(
+fn negation_of<'a>(
     alloc: Global,
     total: usize,
     levels: usize,

@@ -5,8 +5,8 @@
 //
 // So that a level takes little stack, a function hands what a nested call answered to a tail of its own: no frame then
 // keeps copies of a tree while others are read. A compiler may take a function that is called in one place into its
-// caller, whatever it is marked, so a large tail is called in two. A tail in the cycle takes the tokens at which its
-// first part was read, for its contract alone.
+// caller, whatever it is marked, so a tail that makes several trees is called in two. A tail in the cycle takes the
+// tokens at which its first part was read, for its contract alone. A list is lent to those who fill it.
 ghost use Rattle.std.specs.Prelude.{◌≡◌, ◌<◌, ◌≤◌, ◌^◌, IfOk, Ok, length, ℕ};
 ghost use Rattle.script_grammar.specs.Kinds.{is_not};
 ghost use Rattle.script_grammar.specs.Read.{Read, perhaps};
@@ -17,7 +17,7 @@ ghost use Rattle.script_grammar.specs.Whole.{IsWholeFull, IsWholeExpr, IsWholePr
 ghost use Rattle.parse_base.specs.Gives.{kinds, Gives, places};
 ghost use Rattle.value_parse.specs.Operand.{plain, as_plain, lone};
 
-use crate::logic::{and_of, expr_of, negation_of};
+use crate::logic::expr_from;
 use crate::number::{at_operator, digits};
 use crate::operands::operand;
 use parse_base::Fault;
@@ -130,7 +130,6 @@ fn plain(
 // tree is then made at once.
 #[inline(never)]
 #[cycle(value)]
-#[tactic(auto, unfolding(script_grammar::specs::ReadValue::not_))]
 fn plain_of<'a>(
     alloc: Global,
     total: usize,
@@ -155,9 +154,7 @@ fn plain_of<'a>(
     let (operand, rest) = read?;
     if at_operator(rest) {
         let first = Ok((operand, rest));
-        let first = negation_of(alloc, total, levels, loose, negated, inner, first);
-        let first = and_of(alloc, total, levels, loose, tokens, first);
-        in_full(expr_of(alloc, total, levels, loose, tokens, first))
+        in_full(expr_from(alloc, total, levels, loose, tokens, negated, inner, first))
     } else {
         Ok((lone(alloc, negated, operand), rest))
     }

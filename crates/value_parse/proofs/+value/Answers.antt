@@ -178,7 +178,7 @@ pub logic::negation_of-returns-clause-shorter : goal.logic::negation_of-returns-
 logic::negation_of-returns-clause-shorter t c = c.not_of.ensures.shorter (length c.args.tokens.now) c.compare_of.ensures.shorter
 
 pub values::plain_of-returns-then-at_operator-clause-shorter : goal.values::plain_of-returns-then-at_operator-clause-shorter
-values::plain_of-returns-then-at_operator-clause-shorter t c = c.in_full.ensures.shorter (length c.args.tokens.now) c.expr_of.ensures.shorter
+values::plain_of-returns-then-at_operator-clause-shorter t c = c.in_full.ensures.shorter (length c.args.tokens.now) c.expr_from.ensures.shorter
 
 pub values::plain_of-returns-in_err-operand-clause-gives : goal.values::plain_of-returns-in_err-operand-clause-gives
 values::plain_of-returns-in_err-operand-clause-gives t c =

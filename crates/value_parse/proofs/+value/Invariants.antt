@@ -98,7 +98,10 @@ abbrev pub decreases-values::full_box : goal.decreases-values::full_box
 decreases-values::full_box l = 20 * length l.tokens.now + 11
 
 abbrev pub decreases-values::plain_of : goal.decreases-values::plain_of
-decreases-values::plain_of l = 20 * length l.tokens.now + 2
+decreases-values::plain_of l = 20 * length l.tokens.now + 3
+
+abbrev pub decreases-logic::expr_from : goal.decreases-logic::expr_from
+decreases-logic::expr_from l = 20 * length l.tokens.now + 2
 
 abbrev pub decreases-logic::negation_of : goal.decreases-logic::negation_of
 decreases-logic::negation_of l = 20 * length l.tokens.now + 1
