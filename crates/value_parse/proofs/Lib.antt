@@ -1,3 +1,9 @@
 pub mod Labels
 pub mod Choices
 pub mod Signs
+pub mod Lone
+pub mod Chained
+pub mod LoneTree
+pub mod Both
+pub mod Tuples
+pub mod Kept

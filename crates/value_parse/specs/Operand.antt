@@ -1,16 +1,16 @@
 -- What the functions of the descent read, where no definition of the grammar has a name for it.
-use Rattle.std.specs.Prelude.{ℕ, List, ◌∷◌, length, Bool, true, false, Option, Some, None, Ok, Err}
+use Rattle.std.specs.Prelude.{◌≡◌, ℕ, List, ◌∷◌, length, Bool, true, false, Option, Some, None, Result, Ok, Err}
 use Rattle.script_lex.specs.declared.token.TokenKind.{TokenKind}
 use Rattle.script_lex.specs.declared.token.TokenKind.TheVariants.{Name, NameOpen, Keyword, Symbol}
 use Rattle.script_lex.specs.declared.token.Keyword.TheVariants as word
 use Rattle.script_lex.specs.declared.token.Symbol.TheVariants as sign
-use Rattle.value_parse.specs.declared.operands.Bracket.{Bracket}
-use Rattle.value_parse.specs.declared.operands.Bracket.TheVariants as brackets
-use Rattle.script_grammar.specs.Tree.{Sort, Tree, Many, more, AFull, AnExpr, ANot, ACompare, APrim, AnArg, AnIf, Plain, Not, Braces, Listed, Arg, If}
-use Rattle.script_grammar.specs.Read.{Read, Reader, ◌>>=◌, made, both, expect, chain, closed}
-use Rattle.script_grammar.specs.Kinds.{is_comma, is_close_round, is_close_square, is_close_curly, is_then, is_else, is_end}
+use Rattle.parse_base.specs.declared.fault.Fault.{Fault}
+use Rattle.parse_base.specs.declared.fault.Fault.TheVariants as faults
+use Rattle.script_grammar.specs.Tree.{Sort, Tree, Many, none, more, AFull, AnExpr, ANot, ACompare, APrim, ACall, AnArg, AnIf, Plain, Expr, And, Not, Alone, Sum, Product, Braces, Listed, Call, Arg, If}
+use Rattle.script_grammar.specs.Read.{Read, Reader, ◌>>=◌, made, both, expect, chain}
+use Rattle.script_grammar.specs.Kinds.{is_close_curly, is_then, is_else, is_end}
 use Rattle.script_grammar.specs.ReadPredicate.{por}
-use Rattle.script_grammar.specs.ReadValue.{expr, arg, round_or_unit}
+use Rattle.script_grammar.specs.ReadValue.{expr, round_or_unit}
 
 -- whether a token begins an operand that holds values
 abbrev pub holds_values : TokenKind → Bool
@@ -28,32 +28,25 @@ no_value w = Err (length w)
 abbrev pub braces_at : ℕ → Reader (Tree APrim)
 braces_at at w = both por (expect is_close_curly) w >>= made (λ x. Braces at x.0)
 
--- one item or several with one token between, up to another
-abbrev pub some_closed : {s : Sort} → (TokenKind → Bool) → (TokenKind → Bool) → Reader (Tree s) → Reader (Tree (Many s))
-some_closed comma close item w = both (chain comma item) (expect close) w >>= made (λ x. more x.0.0 x.0.1)
+-- one item or several, with one token between
+abbrev pub chained : {s : Sort} → (TokenKind → Bool) → Reader (Tree s) → Reader (Tree (Many s))
+chained comma item w = chain comma item w >>= made (λ x. more x.0 x.1)
 
--- values in parentheses, behind the first bracket
-abbrev pub round_at : ℕ → Reader (Tree AFull) → Reader (Tree APrim)
-round_at at full w = closed is_comma is_close_round full w >>= made (round_or_unit at)
+-- the operand that the values of a bracket make
+abbrev pub as_round : ℕ → Read (Tree (Many AFull)) → Read (Tree APrim)
+as_round at read = read >>= made (round_or_unit at)
 
-abbrev pub some_round_at : ℕ → Reader (Tree AFull) → Reader (Tree APrim)
-some_round_at at full w = some_closed is_comma is_close_round full w >>= made (round_or_unit at)
+abbrev pub as_list : ℕ → Read (Tree (Many AFull)) → Read (Tree APrim)
+as_list at read = read >>= made (Listed at)
 
--- values in square brackets, behind the first bracket
-abbrev pub list_at : ℕ → Reader (Tree AFull) → Reader (Tree APrim)
-list_at at full w = closed is_comma is_close_square full w >>= made (Listed at)
+-- the call that arguments make
+abbrev pub as_call : ℕ → List ℕ → Read (Tree (Many AnArg)) → Read (Tree ACall)
+as_call at name read = read >>= made (Call at name)
 
-abbrev pub some_list_at : ℕ → Reader (Tree AFull) → Reader (Tree APrim)
-some_list_at at full w = some_closed is_comma is_close_square full w >>= made (Listed at)
-
--- either, one value at least
-abbrev pub some_closed_at : Bracket → ℕ → Reader (Tree AFull) → Reader (Tree APrim)
-some_closed_at brackets.Round at full w = some_round_at at full w
-some_closed_at brackets.Square at full w = some_list_at at full w
-
--- arguments, one at least, behind the first bracket
-abbrev pub some_args : (ℕ → ℕ) → Reader (Tree AFull) → Reader (Tree (Many AnArg))
-some_args stamp full w = some_closed is_comma is_close_round (arg stamp full) w
+-- what was read is not there: want of memory, or the fault of that reading
+abbrev pub IsFaultOf : {X : Type 0} → Result X Fault → Fault → Type 0
+IsFaultOf read faults.Memory = Unit {0}
+IsFaultOf read (faults.Syntax left) = read ≡ Err (faults.Syntax left)
 
 -- the parts of an `if` behind its condition: what is read, and what is made of its values
 abbrev pub otherwise : Reader (Tree AFull) → Reader (Unit {0} × (Tree AFull × Unit {0}))
@@ -78,6 +71,26 @@ as_plain read = read >>= made Plain
 
 abbrev pub plain : Bool → (ℕ → ℕ) → Reader (Tree AFull) → Reader (Tree AFull)
 plain loose stamp full w = as_plain (expr loose stamp full w)
+
+-- the operators that stand between operands
+abbrev pub is_operator : TokenKind → Bool
+is_operator (Keyword word.Or) = true
+is_operator (Keyword word.And) = true
+is_operator (Symbol sign.Plus) = true
+is_operator (Symbol sign.Minus) = true
+is_operator (Symbol sign.Star) = true
+is_operator (Symbol sign.Slash) = true
+is_operator (Symbol sign.Equal) = true
+is_operator (Symbol sign.Differs) = true
+is_operator (Symbol sign.Less) = true
+is_operator (Symbol sign.AtMost) = true
+is_operator (Symbol sign.Greater) = true
+is_operator (Symbol sign.AtLeast) = true
+is_operator k = false
+
+-- a value that is one operand, behind `not` or not
+abbrev pub lone : Bool → Tree APrim → Tree AFull
+lone negated p = Plain (Expr (And (Not negated (Alone (Sum (Product p none) none))) none) none)
 
 -- what was read, behind what was read before
 abbrev pub paired : {A B : Type 0} → A → Read B → Read (A × B)

@@ -1,15 +1,16 @@
 // Calls and their arguments.
-ghost use Rattle.std.specs.Prelude.{◌<◌, ◌≤◌, ◌^◌, IfOk, length, map, ℕ};
+ghost use Rattle.std.specs.Prelude.{◌≡◌, ◌<◌, ◌≤◌, ◌^◌, [], IfOk, length, map, ℕ};
 ghost use Rattle.std.specs.List.{All};
 ghost use Rattle.script_grammar.specs.Kinds.{is_comma};
-ghost use Rattle.script_grammar.specs.Read.{Read, next, many, behind};
-ghost use Rattle.script_grammar.specs.Tree.{Tree, AFull};
+ghost use Rattle.script_grammar.specs.Read.{Read, behind};
+ghost use Rattle.script_grammar.specs.Tree.{Tree, Many, AFull, AnArg};
 ghost use Rattle.script_grammar.specs.ReadValue.{full_by, call, args, arg};
 ghost use Rattle.script_grammar.specs.View.{listed, view_full, view_call, view_arg};
 ghost use Rattle.script_grammar.specs.Whole.{IsWholeFull, IsWholeCall, IsWholeArg};
 ghost use Rattle.parse_base.specs.Gives.{kinds, Gives, places};
-ghost use Rattle.value_parse.specs.Operand.{some_args, labelled, as_argument};
+ghost use Rattle.value_parse.specs.Operand.{as_call, chained, labelled, as_argument};
 
+use crate::items::keep;
 use crate::number::argument_label;
 use crate::values::full;
 use liq_base::Text;
@@ -46,91 +47,79 @@ pub fn call(
             after @ ..,
         ] => {
             let at = place(total, tokens);
-            let (args, rest) = args(alloc, total, levels, after)?;
-            let name = name.copy(alloc)?;
-            Ok((make::call(at, name, args), rest))
+            let mut items = Vec::new(alloc);
+            let read = args(alloc, total, levels, &mut items, after);
+            call_of(alloc, at, name, items, read)
         }
         _ => Err(Fault::Syntax(tokens.len())),
     }
 }
 
-// (argument (`,` argument)*)? `)`, behind the NameOpen.
-#[cycle(value)]
-#[tactic(auto, unfolding(script_grammar::specs::ReadValue::args, script_grammar::specs::Read::closed))]
-fn args(
-    alloc: Global,
-    total: usize,
-    levels: usize,
-    tokens: &[Token],
-) -> Result<(Vec<Arg>, &[Token]), Fault>
-    requires within { length tokens.now ≤ total }
-    requires small { total < 2 ^ 32 }
-    ensures shorter { IfOk result (λ x. length x.1.now < length tokens.now) }
-    ensures gives { Gives (λ x. (listed (map view_arg x.0.items), kinds x.1.now)) result (args (places total) (full_by levels (places total)) (kinds tokens.now)) }
-    ensures whole { IfOk result (λ x. All IsWholeArg x.0.items) }
-{
-    if token::next_is(tokens, Class::CloseRound) {
-        let ((), rest) = token::expect(tokens, Class::CloseRound)?;
-        return Ok((Vec::new(alloc), rest));
-    }
-    args_of(
-        alloc,
-        total,
-        levels,
-        tokens,
-        arg(alloc, total, levels, tokens),
-    )
-}
-
-// The same, once the first argument is read.
+// The same, once the arguments are read.
 #[inline(never)]
-#[cycle(value)]
-#[tactic(auto, unfolding(script_grammar::specs::Read::chain))]
-fn args_of<'a>(
+fn call_of<'a>(
     alloc: Global,
-    total: usize,
-    levels: usize,
-    _tokens: &[Token],
-    read: Result<(Arg, &'a [Token]), Fault>,
-) -> Result<(Vec<Arg>, &'a [Token]), Fault>
-    requires within { length _tokens.now ≤ total }
-    requires small { total < 2 ^ 32 }
-    requires shorter { IfOk read (λ x. length x.1.now < length _tokens.now) }
-    requires gives { Gives (λ x. (view_arg x.0, kinds x.1.now)) read (arg (places total) (full_by levels (places total)) (kinds _tokens.now)) }
-    requires whole { IfOk read (λ x. IsWholeArg x.0) }
-    ensures shorter { IfOk result (λ x. length x.1.now < length _tokens.now) }
-    ensures gives { Gives (λ x. (listed (map view_arg x.0.items), kinds x.1.now)) result (some_args (places total) (full_by levels (places total)) (kinds _tokens.now)) }
-    ensures whole { IfOk result (λ x. All IsWholeArg x.0.items) }
+    at: u32,
+    name: &Text,
+    items: Vec<Arg>,
+    read: Result<&'a [Token], Fault>,
+) -> Result<(Call, &'a [Token]), Fault>
+    ensures shorter { (n : ℕ) → IfOk read.entry (λ rest. length rest.now < n) → IfOk result (λ x. length x.1.now < n) }
+    ensures gives { (r : Read (Tree (Many AnArg))) → Gives (λ rest. (listed (map view_arg items.items), kinds rest.now)) read.entry r → Gives (λ x. (view_call x.0, kinds x.1.now)) result (as_call at name.now r) }
+    ensures whole { IfOk read.entry (λ _. All IsWholeArg items.items) → IfOk result (λ x. IsWholeCall x.0) }
 {
-    let (first, rest) = read?;
-    let (mut items, rest) = more_args(alloc, total, levels, rest)?;
-    let ((), rest) = token::expect(rest, Class::CloseRound)?;
-    items.insert(0, first)?;
-    Ok((items, rest))
+    let rest = read?;
+    let name = name.copy(alloc)?;
+    Ok((make::call(at, name, items), rest))
 }
 
-// (`,` argument)*
+// (argument (`,` argument)*)? `)`, behind the NameOpen. The arguments are pushed.
 #[cycle(value)]
-fn more_args(
+#[tactic(auto, unfolding(script_grammar::specs::ReadValue::args))]
+fn args<'a>(
     alloc: Global,
     total: usize,
     levels: usize,
-    tokens: &[Token],
-) -> Result<(Vec<Arg>, &[Token]), Fault>
+    items: &mut Vec<Arg>,
+    tokens: &'a [Token],
+) -> Result<&'a [Token], Fault>
     requires within { length tokens.now ≤ total }
     requires small { total < 2 ^ 32 }
-    ensures shorter { IfOk result (λ x. length x.1.now ≤ length tokens.now) }
-    ensures gives { Gives (λ x. (listed (map view_arg x.0.items), kinds x.1.now)) result (many (next is_comma) (behind is_comma (arg (places total) (full_by levels (places total)))) (kinds tokens.now)) }
-    ensures whole { IfOk result (λ x. All IsWholeArg x.0.items) }
+    requires empty { items.old.items ≡ [] }
+    ensures shorter { IfOk result (λ rest. length rest.now < length tokens.now) }
+    ensures gives { Gives (λ rest. (listed (map view_arg items.new.items), kinds rest.now)) result (args (places total) (full_by levels (places total)) (kinds tokens.now)) }
+    ensures whole { IfOk result (λ _. All IsWholeArg items.new.items) }
 {
-    let mut items = Vec::new(alloc);
-    let mut rest = tokens;
-    'turns: while token::next_is(rest, Class::Comma) {
-        let (item, after) = comma_arg(alloc, total, levels, rest)?;
-        items.push(item)?;
-        rest = after;
+    let (is_closed, after) = token::perhaps(tokens, Class::CloseRound);
+    if is_closed {
+        return Ok(after);
     }
-    Ok((items, rest))
+    let rest = some_args(alloc, total, levels, items, tokens)?;
+    let ((), rest) = token::expect(rest, Class::CloseRound)?;
+    Ok(rest)
+}
+
+// argument (`,` argument)*
+#[cycle(value)]
+fn some_args<'a>(
+    alloc: Global,
+    total: usize,
+    levels: usize,
+    items: &mut Vec<Arg>,
+    tokens: &'a [Token],
+) -> Result<&'a [Token], Fault>
+    requires within { length tokens.now ≤ total }
+    requires small { total < 2 ^ 32 }
+    requires empty { items.old.items ≡ [] }
+    ensures shorter { IfOk result (λ rest. length rest.now < length tokens.now) }
+    ensures gives { Gives (λ rest. (listed (map view_arg items.new.items), kinds rest.now)) result (chained is_comma (arg (places total) (full_by levels (places total))) (kinds tokens.now)) }
+    ensures whole { IfOk result (λ _. All IsWholeArg items.new.items) }
+{
+    let mut rest = keep(items, arg(alloc, total, levels, tokens))?;
+    'turns: while token::next_is(rest, Class::Comma) {
+        rest = keep(items, comma_arg(alloc, total, levels, rest))?;
+    }
+    Ok(rest)
 }
 
 // `,` argument

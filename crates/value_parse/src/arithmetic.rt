@@ -8,6 +8,7 @@ ghost use Rattle.script_grammar.specs.View.{listed, view_compare, view_sum, view
 ghost use Rattle.script_grammar.specs.Whole.{IsWholeCompare, IsWholeSum, IsWholeAdded, IsWholeProduct, IsWholeMultiplied, IsWholePrim};
 ghost use Rattle.parse_base.specs.Gives.{kinds, Gives, places};
 
+use crate::items::keep;
 use crate::number::{next_op, product_sign, sum_sign};
 use crate::operands::operand;
 use parse_base::Fault;
@@ -44,31 +45,6 @@ pub fn compare_of<'a>(
     behind_sum(alloc, total, levels, loose, left, rest)
 }
 
-/// sum: product ((`+` | `-`) product)*
-#[cycle(value)]
-pub fn sum(
-    alloc: Global,
-    total: usize,
-    levels: usize,
-    loose: bool,
-    tokens: &[Token],
-) -> Result<(Sum, &[Token]), Fault>
-    requires within { length tokens.now ≤ total }
-    requires small { total < 2 ^ 32 }
-    ensures shorter { IfOk result (λ x. length x.1.now < length tokens.now) }
-    ensures gives { Gives (λ x. (view_sum x.0, kinds x.1.now)) result (sum loose (places total) (full_by levels (places total)) (kinds tokens.now)) }
-    ensures whole { IfOk result (λ x. IsWholeSum x.0) }
-{
-    sum_of(
-        alloc,
-        total,
-        levels,
-        loose,
-        tokens,
-        product(alloc, total, levels, loose, tokens),
-    )
-}
-
 // ((`==` | `!=` | `<` | `<=` | `>` | `>=`) sum)?, behind the sum on its left.
 #[cycle(value)]
 fn behind_sum(
@@ -89,14 +65,9 @@ fn behind_sum(
     match (next_op(tokens), tokens) {
         (Some(op), [_, after @ ..]) => {
             let at = place(total, tokens);
-            let (sum, rest) = sum_of(
-                alloc,
-                total,
-                levels,
-                loose,
-                after,
-                product(alloc, total, levels, loose, after),
-            )?;
+            let first = operand(alloc, total, levels, loose, after);
+            let first = product_of(alloc, total, levels, loose, after, first);
+            let (sum, rest) = sum_of(alloc, total, levels, loose, after, first)?;
             let right = Some(Compared { at, op, sum });
             Ok((Compare { left, right }, rest))
         }
@@ -104,11 +75,13 @@ fn behind_sum(
     }
 }
 
-// The same, once the first product is read.
+/// sum: product ((`+` | `-`) product)*
+///
+/// The first product is what was read at these tokens.
 #[inline(never)]
 #[cycle(value)]
 #[tactic(auto, unfolding(script_grammar::specs::ReadValue::sum))]
-fn sum_of<'a>(
+pub fn sum_of<'a>(
     alloc: Global,
     total: usize,
     levels: usize,
@@ -148,9 +121,7 @@ fn addeds(
     let mut items = Vec::new(alloc);
     let mut rest = tokens;
     'turns: while token::next_is(rest, Class::Added) {
-        let (item, after) = added(alloc, total, levels, loose, rest)?;
-        items.push(item)?;
-        rest = after;
+        rest = keep(&mut items, added(alloc, total, levels, loose, rest))?;
     }
     Ok((items, rest))
 }
@@ -184,36 +155,13 @@ fn added(
     Ok((Added { at, minus, product }, rest))
 }
 
-// product: operand ((`*` | `/`) operand)*
-#[cycle(value)]
-fn product(
-    alloc: Global,
-    total: usize,
-    levels: usize,
-    loose: bool,
-    tokens: &[Token],
-) -> Result<(Product, &[Token]), Fault>
-    requires within { length tokens.now ≤ total }
-    requires small { total < 2 ^ 32 }
-    ensures shorter { IfOk result (λ x. length x.1.now < length tokens.now) }
-    ensures gives { Gives (λ x. (view_product x.0, kinds x.1.now)) result (product loose (places total) (full_by levels (places total)) (kinds tokens.now)) }
-    ensures whole { IfOk result (λ x. IsWholeProduct x.0) }
-{
-    product_of(
-        alloc,
-        total,
-        levels,
-        loose,
-        tokens,
-        operand(alloc, total, levels, loose, tokens),
-    )
-}
-
-// The same, once the first operand is read.
+/// product: operand ((`*` | `/`) operand)*
+///
+/// The first operand is what was read at these tokens.
 #[inline(never)]
 #[cycle(value)]
 #[tactic(auto, unfolding(script_grammar::specs::ReadValue::product))]
-fn product_of<'a>(
+pub fn product_of<'a>(
     alloc: Global,
     total: usize,
     levels: usize,
@@ -253,9 +201,7 @@ fn multiplieds(
     let mut items = Vec::new(alloc);
     let mut rest = tokens;
     'turns: while token::next_is(rest, Class::Multiplied) {
-        let (item, after) = multiplied(alloc, total, levels, loose, rest)?;
-        items.push(item)?;
-        rest = after;
+        rest = keep(&mut items, multiplied(alloc, total, levels, loose, rest))?;
     }
     Ok((items, rest))
 }

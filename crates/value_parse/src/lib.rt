@@ -6,6 +6,7 @@ mod arithmetic;
 mod atoms;
 mod conditionals;
 mod entry;
+mod items;
 mod logic;
 mod number;
 mod operands;

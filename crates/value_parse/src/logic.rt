@@ -1,20 +1,22 @@
 // Expressions: parts joined by `or` and `and`, each perhaps behind `not`.
-ghost use Rattle.std.specs.Prelude.{◌<◌, ◌≤◌, ◌^◌, IfOk, length, map, ℕ};
+ghost use Rattle.std.specs.Prelude.{◌≡◌, ◌<◌, ◌≤◌, ◌^◌, IfOk, Ok, length, map, ℕ};
 ghost use Rattle.std.specs.List.{All};
-ghost use Rattle.script_grammar.specs.Kinds.{is_or, is_and};
-ghost use Rattle.script_grammar.specs.Read.{Read, next, many, behind};
+ghost use Rattle.script_grammar.specs.Kinds.{is_or, is_and, is_not};
+ghost use Rattle.script_grammar.specs.Read.{Read, next, many, behind, perhaps};
 ghost use Rattle.script_grammar.specs.Tree.{Tree, ACompare};
-ghost use Rattle.script_grammar.specs.ReadValue.{full_by, expr, and_, not_};
-ghost use Rattle.script_grammar.specs.View.{listed, view_expr, view_and, view_not, view_compare};
-ghost use Rattle.script_grammar.specs.Whole.{IsWholeExpr, IsWholeAnd, IsWholeNot, IsWholeCompare};
+ghost use Rattle.script_grammar.specs.ReadValue.{full_by, expr, and_, not_, compare, prim};
+ghost use Rattle.script_grammar.specs.View.{listed, view_expr, view_and, view_not, view_compare, view_prim};
+ghost use Rattle.script_grammar.specs.Whole.{IsWholeExpr, IsWholeAnd, IsWholeNot, IsWholeCompare, IsWholePrim};
 ghost use Rattle.parse_base.specs.Gives.{kinds, Gives, places};
 ghost use Rattle.value_parse.specs.Operand.{behind_not};
 
-use crate::arithmetic::{compare_of, sum};
+use crate::arithmetic::{compare_of, product_of, sum_of};
+use crate::items::keep;
+use crate::operands::operand;
 use parse_base::Fault;
 use parse_base::token::{self, Class};
 use script_grammar::make;
-use script_grammar::tree::{And, Compare, Expr, Not};
+use script_grammar::tree::{And, Compare, Expr, Not, Operand};
 use script_lex::Token;
 use std::alloc::Global;
 
@@ -32,21 +34,54 @@ pub fn expr(
     ensures gives { Gives (λ x. (view_expr x.0, kinds x.1.now)) result (expr loose (places total) (full_by levels (places total)) (kinds tokens.now)) }
     ensures whole { IfOk result (λ x. IsWholeExpr x.0) }
 {
-    expr_of(
+    let (negated, inner) = token::perhaps(tokens, Class::Not);
+    expr_from(
         alloc,
         total,
         levels,
         loose,
         tokens,
-        and_term(alloc, total, levels, loose, tokens),
+        negated,
+        inner,
+        operand(alloc, total, levels, loose, inner),
     )
 }
 
-/// The same, once the first part is read.
+/// The same, once its first operand is read, which stands behind `not` or not.
+#[inline(never)]
+#[cycle(value)]
+#[tactic(auto, unfolding(script_grammar::specs::ReadValue::not_))]
+pub fn expr_from<'a>(
+    alloc: Global,
+    total: usize,
+    levels: usize,
+    loose: bool,
+    tokens: &[Token],
+    negated: bool,
+    inner: &[Token],
+    read: Result<(Operand, &'a [Token]), Fault>,
+) -> Result<(Expr, &'a [Token]), Fault>
+    requires within { length tokens.now ≤ total }
+    requires small { total < 2 ^ 32 }
+    requires inside { length inner.now ≤ length tokens.now }
+    requires lead { perhaps is_not (kinds tokens.now) ≡ Ok (negated, kinds inner.now) }
+    requires shorter { IfOk read (λ x. length x.1.now < length inner.now) }
+    requires gives { Gives (λ x. (view_prim x.0, kinds x.1.now)) read (prim loose (places total) (full_by levels (places total)) (kinds inner.now)) }
+    requires whole { IfOk read (λ x. IsWholePrim x.0) }
+    ensures shorter { IfOk result (λ x. length x.1.now < length tokens.now) }
+    ensures gives { Gives (λ x. (view_expr x.0, kinds x.1.now)) result (expr loose (places total) (full_by levels (places total)) (kinds tokens.now)) }
+    ensures whole { IfOk result (λ x. IsWholeExpr x.0) }
+{
+    let first = negation_of(alloc, total, levels, loose, negated, inner, read);
+    let first = and_of(alloc, total, levels, loose, tokens, first);
+    expr_of(alloc, total, levels, loose, tokens, first)
+}
+
+// The same, once the first part is read.
 #[inline(never)]
 #[cycle(value)]
 #[tactic(auto, unfolding(script_grammar::specs::ReadValue::expr, script_grammar::specs::Read::chain))]
-pub fn expr_of<'a>(
+fn expr_of<'a>(
     alloc: Global,
     total: usize,
     levels: usize,
@@ -68,31 +103,6 @@ pub fn expr_of<'a>(
     Ok((make::expr(first, others), rest))
 }
 
-/// and: not (`and` not)*
-#[cycle(value)]
-pub fn and_term(
-    alloc: Global,
-    total: usize,
-    levels: usize,
-    loose: bool,
-    tokens: &[Token],
-) -> Result<(And, &[Token]), Fault>
-    requires within { length tokens.now ≤ total }
-    requires small { total < 2 ^ 32 }
-    ensures shorter { IfOk result (λ x. length x.1.now < length tokens.now) }
-    ensures gives { Gives (λ x. (view_and x.0, kinds x.1.now)) result (and_ loose (places total) (full_by levels (places total)) (kinds tokens.now)) }
-    ensures whole { IfOk result (λ x. IsWholeAnd x.0) }
-{
-    and_of(
-        alloc,
-        total,
-        levels,
-        loose,
-        tokens,
-        not_term(alloc, total, levels, loose, tokens),
-    )
-}
-
 // (`or` and)*
 #[cycle(value)]
 fn ands(
@@ -111,9 +121,7 @@ fn ands(
     let mut items = Vec::new(alloc);
     let mut rest = tokens;
     'turns: while token::next_is(rest, Class::Or) {
-        let (item, after) = or_and(alloc, total, levels, loose, rest)?;
-        items.push(item)?;
-        rest = after;
+        rest = keep(&mut items, or_and(alloc, total, levels, loose, rest))?;
     }
     Ok((items, rest))
 }
@@ -145,7 +153,9 @@ fn or_and(
     )
 }
 
-// The same, once the first part is read.
+// and: not (`and` not)*
+//
+// The first part is what was read at these tokens.
 #[inline(never)]
 #[cycle(value)]
 #[tactic(auto, unfolding(script_grammar::specs::ReadValue::and_, script_grammar::specs::Read::chain))]
@@ -189,9 +199,7 @@ fn nots(
     let mut items = Vec::new(alloc);
     let mut rest = tokens;
     'turns: while token::next_is(rest, Class::And) {
-        let (item, after) = and_not(alloc, total, levels, loose, rest)?;
-        items.push(item)?;
-        rest = after;
+        rest = keep(&mut items, and_not(alloc, total, levels, loose, rest))?;
     }
     Ok((items, rest))
 }
@@ -214,16 +222,14 @@ fn and_not(
 {
     let ((), rest) = token::expect(tokens, Class::And)?;
     let (negated, rest) = token::perhaps(rest, Class::Not);
-    not_of(
+    negation_of(
+        alloc,
+        total,
+        levels,
+        loose,
         negated,
-        compare_of(
-            alloc,
-            total,
-            levels,
-            loose,
-            rest,
-            sum(alloc, total, levels, loose, rest),
-        ),
+        rest,
+        operand(alloc, total, levels, loose, rest),
     )
 }
 
@@ -244,16 +250,43 @@ fn not_term(
     ensures whole { IfOk result (λ x. IsWholeNot x.0) }
 {
     let (negated, rest) = token::perhaps(tokens, Class::Not);
+    negation_of(
+        alloc,
+        total,
+        levels,
+        loose,
+        negated,
+        rest,
+        operand(alloc, total, levels, loose, rest),
+    )
+}
+
+// The same behind `not` or not, once the first operand of the comparison is read.
+#[inline(never)]
+#[cycle(value)]
+fn negation_of<'a>(
+    alloc: Global,
+    total: usize,
+    levels: usize,
+    loose: bool,
+    negated: bool,
+    tokens: &[Token],
+    read: Result<(Operand, &'a [Token]), Fault>,
+) -> Result<(Not, &'a [Token]), Fault>
+    requires within { length tokens.now ≤ total }
+    requires small { total < 2 ^ 32 }
+    requires shorter { IfOk read (λ x. length x.1.now < length tokens.now) }
+    requires gives { Gives (λ x. (view_prim x.0, kinds x.1.now)) read (prim loose (places total) (full_by levels (places total)) (kinds tokens.now)) }
+    requires whole { IfOk read (λ x. IsWholePrim x.0) }
+    ensures shorter { IfOk result (λ x. length x.1.now < length tokens.now) }
+    ensures gives { Gives (λ x. (view_not x.0, kinds x.1.now)) result (behind_not negated (compare loose (places total) (full_by levels (places total)) (kinds tokens.now))) }
+    ensures whole { IfOk result (λ x. IsWholeNot x.0) }
+{
+    let product = product_of(alloc, total, levels, loose, tokens, read);
+    let sum = sum_of(alloc, total, levels, loose, tokens, product);
     not_of(
         negated,
-        compare_of(
-            alloc,
-            total,
-            levels,
-            loose,
-            rest,
-            sum(alloc, total, levels, loose, rest),
-        ),
+        compare_of(alloc, total, levels, loose, tokens, sum),
     )
 }
 

@@ -2,15 +2,16 @@
 ghost use Rattle.std.specs.Prelude.{◌≡◌, ◌<◌, ◌≤◌, IfOk, length, cond, false};
 ghost use Rattle.script_grammar.specs.Kinds.{op_of};
 ghost use Rattle.script_lex.specs.declared.token.TokenKind.TheVariants.{Symbol as a_symbol};
+ghost use Rattle.script_grammar.specs.Read.{next};
 ghost use Rattle.script_grammar.specs.ReadValue.{digits, whole_number, the_name, size, wav, takes_option, optional, opens_name, next_op, binds};
 ghost use Rattle.parse_base.specs.Gives.{kinds, Gives};
-ghost use Rattle.value_parse.specs.Operand.{label_of, product_sign, sum_sign};
+ghost use Rattle.value_parse.specs.Operand.{is_operator, label_of, product_sign, sum_sign};
 
 use liq_base::{Memory, Text};
 use parse_base::Fault;
 use parse_base::token::{self, Class};
 use script_grammar::tree::{CompareOp, Literal};
-use script_lex::{Symbol, Token, TokenKind};
+use script_lex::{Keyword, Symbol, Token, TokenKind};
 use std::alloc::Global;
 
 /// A number.
@@ -65,6 +66,16 @@ pub fn next_op(tokens: &[Token]) -> Option<CompareOp>
             ..
         ] => op_of(*symbol),
         _ => None,
+    }
+}
+
+/// Whether an operator stands first that may stand behind an operand.
+pub fn at_operator(tokens: &[Token]) -> bool
+    ensures { result ≡ next is_operator (kinds tokens.now) }
+{
+    match tokens {
+        [first, ..] => is_operator(&first.kind),
+        [] => false,
     }
 }
 
@@ -233,6 +244,27 @@ fn size(tokens: &[Token]) -> Result<(i64, &[Token]), Fault>
     let (number, rest) = whole_number(rest)?;
     let ((), rest) = token::expect(rest, Class::CloseRound)?;
     Ok((number, rest))
+}
+
+fn is_operator(kind: &TokenKind) -> bool
+    ensures { result ≡ is_operator kind.now }
+{
+    matches!(
+        kind,
+        TokenKind::Keyword(Keyword::Or | Keyword::And)
+            | TokenKind::Symbol(
+                Symbol::Plus
+                    | Symbol::Minus
+                    | Symbol::Star
+                    | Symbol::Slash
+                    | Symbol::Equal
+                    | Symbol::Differs
+                    | Symbol::Less
+                    | Symbol::AtMost
+                    | Symbol::Greater
+                    | Symbol::AtLeast
+            )
+    )
 }
 
 fn op_of(symbol: Symbol) -> Option<CompareOp>

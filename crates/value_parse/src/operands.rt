@@ -1,31 +1,28 @@
 // Operands that hold values: calls, `if`, and values in round and square brackets.
-ghost use Rattle.std.specs.Prelude.{◌<◌, ◌≤◌, ◌^◌, IfOk, length, map};
+ghost use Rattle.std.specs.Prelude.{◌≡◌, ◌<◌, ◌≤◌, ◌^◌, [], IfOk, length, map, ℕ};
 ghost use Rattle.std.specs.List.{All};
-ghost use Rattle.script_grammar.specs.Kinds.{is_comma};
-ghost use Rattle.script_grammar.specs.Read.{next, many, behind};
-ghost use Rattle.script_grammar.specs.ReadValue.{full_by, prim};
+ghost use Rattle.script_grammar.specs.Kinds.{is_comma, is_close_round, is_close_square};
+ghost use Rattle.script_grammar.specs.Read.{Read, behind, closed};
+ghost use Rattle.script_grammar.specs.Tree.{Tree, Many, AFull};
+ghost use Rattle.script_grammar.specs.ReadValue.{full_by, prim, round_or_unit};
 ghost use Rattle.script_grammar.specs.View.{listed, view_full, view_prim};
 ghost use Rattle.script_grammar.specs.Whole.{IsWholeFull, IsWholePrim};
+ghost use Rattle.parse_base.specs.Classes.{is_in};
 ghost use Rattle.parse_base.specs.Gives.{kinds, Gives, places};
-ghost use Rattle.value_parse.specs.Operand.{round_at, list_at, some_closed_at};
+ghost use Rattle.value_parse.specs.Operand.{as_round, as_list, chained};
 
 use crate::arguments::call;
 use crate::atoms::atom;
 use crate::conditionals::choice;
+use crate::items::keep;
 use crate::values::full;
+use liq_base::Memory;
 use parse_base::Fault;
 use parse_base::token::{self, Class, place};
 use script_grammar::make;
 use script_grammar::tree::{self, Full};
 use script_lex::{Keyword, Symbol, Token, TokenKind};
 use std::alloc::Global;
-
-/// What values stand between.
-#[derive(Clone, Copy)]
-pub enum Bracket {
-    Round,
-    Square,
-}
 
 /// operand: call | if | `(` .. `)` | `[` .. `]` | one that holds no value
 #[cycle(value)]
@@ -84,7 +81,6 @@ pub fn operand(
 
 // `)` | value `)` | value (`,` value)+ `)`, behind the `(`.
 #[cycle(value)]
-#[tactic(auto, unfolding(script_grammar::specs::Read::closed))]
 fn round(
     alloc: Global,
     total: usize,
@@ -95,27 +91,16 @@ fn round(
     requires within { length tokens.now ≤ total }
     requires small { total < 2 ^ 32 }
     ensures shorter { IfOk result (λ x. length x.1.now < length tokens.now) }
-    ensures gives { Gives (λ x. (view_prim x.0, kinds x.1.now)) result (round_at at (full_by levels (places total)) (kinds tokens.now)) }
+    ensures gives { Gives (λ x. (view_prim x.0, kinds x.1.now)) result (as_round at (closed is_comma is_close_round (full_by levels (places total)) (kinds tokens.now))) }
     ensures whole { IfOk result (λ x. IsWholePrim x.0) }
 {
-    if token::next_is(tokens, Class::CloseRound) {
-        let ((), rest) = token::expect(tokens, Class::CloseRound)?;
-        return Ok((tree::Operand::Unit { at }, rest));
-    }
-    closed_of(
-        alloc,
-        total,
-        levels,
-        at,
-        Bracket::Round,
-        tokens,
-        full(alloc, total, levels, tokens),
-    )
+    let mut parts = Vec::new(alloc);
+    let read = fulls(alloc, total, levels, Class::CloseRound, &mut parts, tokens);
+    round_of(alloc, at, parts, read)
 }
 
 // (value (`,` value)*)? `]`, behind the `[`.
 #[cycle(value)]
-#[tactic(auto, unfolding(script_grammar::specs::Read::closed))]
 fn list(
     alloc: Global,
     total: usize,
@@ -126,84 +111,61 @@ fn list(
     requires within { length tokens.now ≤ total }
     requires small { total < 2 ^ 32 }
     ensures shorter { IfOk result (λ x. length x.1.now < length tokens.now) }
-    ensures gives { Gives (λ x. (view_prim x.0, kinds x.1.now)) result (list_at at (full_by levels (places total)) (kinds tokens.now)) }
+    ensures gives { Gives (λ x. (view_prim x.0, kinds x.1.now)) result (as_list at (closed is_comma is_close_square (full_by levels (places total)) (kinds tokens.now))) }
     ensures whole { IfOk result (λ x. IsWholePrim x.0) }
 {
-    if token::next_is(tokens, Class::CloseSquare) {
-        let ((), rest) = token::expect(tokens, Class::CloseSquare)?;
-        return Ok((make::list(at, Vec::new(alloc)), rest));
-    }
-    closed_of(
-        alloc,
-        total,
-        levels,
-        at,
-        Bracket::Square,
-        tokens,
-        full(alloc, total, levels, tokens),
-    )
+    let mut parts = Vec::new(alloc);
+    let read = fulls(alloc, total, levels, Class::CloseSquare, &mut parts, tokens);
+    list_of(at, parts, read)
 }
 
-// The same, behind either bracket, once the first value is read.
-#[inline(never)]
+// (value (`,` value)*)? and this bracket, whose values are pushed.
 #[cycle(value)]
-#[tactic(auto, unfolding(script_grammar::specs::Read::chain))]
-fn closed_of<'a>(
+fn fulls<'a>(
     alloc: Global,
     total: usize,
     levels: usize,
-    at: u32,
-    bracket: Bracket,
-    _tokens: &[Token],
-    read: Result<(Full, &'a [Token]), Fault>,
-) -> Result<(tree::Operand, &'a [Token]), Fault>
-    requires within { length _tokens.now ≤ total }
-    requires small { total < 2 ^ 32 }
-    requires shorter { IfOk read (λ x. length x.1.now < length _tokens.now) }
-    requires gives { Gives (λ x. (view_full x.0, kinds x.1.now)) read (full_by levels (places total) (kinds _tokens.now)) }
-    requires whole { IfOk read (λ x. IsWholeFull x.0) }
-    ensures shorter { IfOk result (λ x. length x.1.now < length _tokens.now) }
-    ensures gives { Gives (λ x. (view_prim x.0, kinds x.1.now)) result (some_closed_at bracket at (full_by levels (places total)) (kinds _tokens.now)) }
-    ensures whole { IfOk result (λ x. IsWholePrim x.0) }
-{
-    let (first, rest) = read?;
-    let (others, rest) = fulls(alloc, total, levels, rest)?;
-    match bracket {
-        Bracket::Round => {
-            let ((), rest) = token::expect(rest, Class::CloseRound)?;
-            Ok((make::round(alloc, at, first, others)?, rest))
-        }
-        Bracket::Square => {
-            let ((), rest) = token::expect(rest, Class::CloseSquare)?;
-            let mut items = others;
-            items.insert(0, first)?;
-            Ok((make::list(at, items), rest))
-        }
-    }
-}
-
-// (`,` value)*
-#[cycle(value)]
-fn fulls(
-    alloc: Global,
-    total: usize,
-    levels: usize,
-    tokens: &[Token],
-) -> Result<(Vec<Full>, &[Token]), Fault>
+    close: Class,
+    parts: &mut Vec<Full>,
+    tokens: &'a [Token],
+) -> Result<&'a [Token], Fault>
     requires within { length tokens.now ≤ total }
     requires small { total < 2 ^ 32 }
-    ensures shorter { IfOk result (λ x. length x.1.now ≤ length tokens.now) }
-    ensures gives { Gives (λ x. (listed (map view_full x.0.items), kinds x.1.now)) result (many (next is_comma) (behind is_comma (full_by levels (places total))) (kinds tokens.now)) }
-    ensures whole { IfOk result (λ x. All IsWholeFull x.0.items) }
+    requires empty { parts.old.items ≡ [] }
+    ensures shorter { IfOk result (λ rest. length rest.now < length tokens.now) }
+    ensures gives { Gives (λ rest. (listed (map view_full parts.new.items), kinds rest.now)) result (closed is_comma (is_in close) (full_by levels (places total)) (kinds tokens.now)) }
+    ensures whole { IfOk result (λ _. All IsWholeFull parts.new.items) }
 {
-    let mut items = Vec::new(alloc);
-    let mut rest = tokens;
-    'turns: while token::next_is(rest, Class::Comma) {
-        let (item, after) = comma_full(alloc, total, levels, rest)?;
-        items.push(item)?;
-        rest = after;
+    let (is_closed, after) = token::perhaps(tokens, close);
+    if is_closed {
+        return Ok(after);
     }
-    Ok((items, rest))
+    let rest = some_fulls(alloc, total, levels, parts, tokens)?;
+    let ((), rest) = token::expect(rest, close)?;
+    Ok(rest)
+}
+
+// value (`,` value)*
+#[cycle(value)]
+fn some_fulls<'a>(
+    alloc: Global,
+    total: usize,
+    levels: usize,
+    parts: &mut Vec<Full>,
+    tokens: &'a [Token],
+) -> Result<&'a [Token], Fault>
+    requires within { length tokens.now ≤ total }
+    requires small { total < 2 ^ 32 }
+    requires empty { parts.old.items ≡ [] }
+    ensures shorter { IfOk result (λ rest. length rest.now < length tokens.now) }
+    ensures gives { Gives (λ rest. (listed (map view_full parts.new.items), kinds rest.now)) result (chained is_comma (full_by levels (places total)) (kinds tokens.now)) }
+    ensures whole { IfOk result (λ _. All IsWholeFull parts.new.items) }
+{
+    let mut rest = keep(parts, full(alloc, total, levels, tokens))?;
+    'turns: while token::next_is(rest, Class::Comma) {
+        rest = keep(parts, comma_full(alloc, total, levels, rest))?;
+    }
+    Ok(rest)
 }
 
 // `,` value
@@ -223,4 +185,50 @@ fn comma_full(
 {
     let ((), rest) = token::expect(tokens, Class::Comma)?;
     full(alloc, total, levels, rest)
+}
+
+// Values in parentheses, once they are read.
+#[inline(never)]
+fn round_of<'a>(
+    alloc: Global,
+    at: u32,
+    parts: Vec<Full>,
+    read: Result<&'a [Token], Fault>,
+) -> Result<(tree::Operand, &'a [Token]), Fault>
+    ensures shorter { (n : ℕ) → IfOk read.entry (λ rest. length rest.now < n) → IfOk result (λ x. length x.1.now < n) }
+    ensures gives { (r : Read (Tree (Many AFull))) → Gives (λ rest. (listed (map view_full parts.items), kinds rest.now)) read.entry r → Gives (λ x. (view_prim x.0, kinds x.1.now)) result (as_round at r) }
+    ensures whole { IfOk read.entry (λ _. All IsWholeFull parts.items) → IfOk result (λ x. IsWholePrim x.0) }
+{
+    let rest = read?;
+    Ok((in_round(alloc, at, parts)?, rest))
+}
+
+// Values in square brackets, once they are read.
+#[inline(never)]
+fn list_of<'a>(
+    at: u32,
+    parts: Vec<Full>,
+    read: Result<&'a [Token], Fault>,
+) -> Result<(tree::Operand, &'a [Token]), Fault>
+    ensures shorter { (n : ℕ) → IfOk read.entry (λ rest. length rest.now < n) → IfOk result (λ x. length x.1.now < n) }
+    ensures gives { (r : Read (Tree (Many AFull))) → Gives (λ rest. (listed (map view_full parts.items), kinds rest.now)) read.entry r → Gives (λ x. (view_prim x.0, kinds x.1.now)) result (as_list at r) }
+    ensures whole { IfOk read.entry (λ _. All IsWholeFull parts.items) → IfOk result (λ x. IsWholePrim x.0) }
+{
+    let rest = read?;
+    Ok((make::list(at, parts), rest))
+}
+
+// No value, one, or a tuple in parentheses.
+fn in_round(alloc: Global, at: u32, parts: Vec<Full>) -> Result<tree::Operand, Memory>
+    ensures made { IfOk result (λ p. view_prim p ≡ round_or_unit at (listed (map view_full parts.items))) }
+    ensures whole { IfOk result (λ p. All IsWholeFull parts.items → IsWholePrim p) }
+{
+    if parts.len() > 1 {
+        return Ok(tree::Operand::Tuple { at, parts });
+    }
+    let mut parts = parts;
+    match parts.pop() {
+        Some(first) => Ok(tree::Operand::Paren(Box::new(alloc, first)?)),
+        None => Ok(tree::Operand::Unit { at }),
+    }
 }

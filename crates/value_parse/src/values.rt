@@ -5,22 +5,24 @@
 //
 // So that a level takes little stack, a function hands what a nested call answered to a tail of its own: no frame then
 // keeps copies of a tree while others are read. A compiler may take a function that is called in one place into its
-// caller, whatever it is marked, so a large tail is called in two. A tail in the cycle takes the tokens at which its
-// first part was read, for its contract alone.
-ghost use Rattle.std.specs.Prelude.{◌<◌, ◌≤◌, ◌^◌, IfOk, length, ℕ};
-ghost use Rattle.script_grammar.specs.Read.{Read};
+// caller, whatever it is marked, so a tail that makes several trees is called in two. A tail in the cycle takes the
+// tokens at which its first part was read, for its contract alone. A list is lent to those who fill it.
+ghost use Rattle.std.specs.Prelude.{◌≡◌, ◌<◌, ◌≤◌, ◌^◌, IfOk, Ok, length, ℕ};
+ghost use Rattle.script_grammar.specs.Kinds.{is_not};
+ghost use Rattle.script_grammar.specs.Read.{Read, perhaps};
 ghost use Rattle.script_grammar.specs.Tree.{Tree, AFull, AnExpr};
-ghost use Rattle.script_grammar.specs.ReadValue.{full_by, full_step};
-ghost use Rattle.script_grammar.specs.View.{view_full, view_expr};
-ghost use Rattle.script_grammar.specs.Whole.{IsWholeFull, IsWholeExpr};
+ghost use Rattle.script_grammar.specs.ReadValue.{full_by, full_step, prim};
+ghost use Rattle.script_grammar.specs.View.{view_full, view_expr, view_prim};
+ghost use Rattle.script_grammar.specs.Whole.{IsWholeFull, IsWholeExpr, IsWholePrim};
 ghost use Rattle.parse_base.specs.Gives.{kinds, Gives, places};
-ghost use Rattle.value_parse.specs.Operand.{plain, as_plain};
+ghost use Rattle.value_parse.specs.Operand.{plain, as_plain, lone};
 
-use crate::logic::{and_term, expr_of};
-use crate::number::digits;
+use crate::logic::expr_from;
+use crate::number::{at_operator, digits};
+use crate::operands::operand;
 use parse_base::Fault;
-use parse_base::token::place;
-use script_grammar::tree::{Expr, Full};
+use parse_base::token::{self, Class, place};
+use script_grammar::tree::{And, Compare, Expr, Full, Not, Operand, Product, Sum};
 use script_lex::{Symbol, Token, TokenKind};
 use std::alloc::Global;
 
@@ -111,19 +113,82 @@ fn plain(
     ensures gives { Gives (λ x. (view_full x.0, kinds x.1.now)) result (plain loose (places total) (full_by levels (places total)) (kinds tokens.now)) }
     ensures whole { IfOk result (λ x. IsWholeFull x.0) }
 {
-    plain_of(expr_of(
+    let (negated, inner) = token::perhaps(tokens, Class::Not);
+    plain_of(
         alloc,
         total,
         levels,
         loose,
         tokens,
-        and_term(alloc, total, levels, loose, tokens),
-    ))
+        negated,
+        inner,
+        operand(alloc, total, levels, loose, inner),
+    )
 }
 
-// The same, once the expression is read.
+// The same, once its first operand is read, which stands behind `not` or not. That is mostly all of the value, whose
+// tree is then made at once.
 #[inline(never)]
-fn plain_of<'a>(read: Result<(Expr, &'a [Token]), Fault>) -> Result<(Full, &'a [Token]), Fault>
+#[cycle(value)]
+fn plain_of<'a>(
+    alloc: Global,
+    total: usize,
+    levels: usize,
+    loose: bool,
+    tokens: &[Token],
+    negated: bool,
+    inner: &[Token],
+    read: Result<(Operand, &'a [Token]), Fault>,
+) -> Result<(Full, &'a [Token]), Fault>
+    requires within { length tokens.now ≤ total }
+    requires small { total < 2 ^ 32 }
+    requires inside { length inner.now ≤ length tokens.now }
+    requires lead { perhaps is_not (kinds tokens.now) ≡ Ok (negated, kinds inner.now) }
+    requires shorter { IfOk read (λ x. length x.1.now < length inner.now) }
+    requires gives { Gives (λ x. (view_prim x.0, kinds x.1.now)) read (prim loose (places total) (full_by levels (places total)) (kinds inner.now)) }
+    requires whole { IfOk read (λ x. IsWholePrim x.0) }
+    ensures shorter { IfOk result (λ x. length x.1.now < length tokens.now) }
+    ensures gives { Gives (λ x. (view_full x.0, kinds x.1.now)) result (plain loose (places total) (full_by levels (places total)) (kinds tokens.now)) }
+    ensures whole { IfOk result (λ x. IsWholeFull x.0) }
+{
+    let (operand, rest) = read?;
+    if at_operator(rest) {
+        let first = Ok((operand, rest));
+        in_full(expr_from(alloc, total, levels, loose, tokens, negated, inner, first))
+    } else {
+        Ok((lone(alloc, negated, operand), rest))
+    }
+}
+
+// A value that is one operand, behind `not` or not.
+fn lone(alloc: Global, negated: bool, operand: Operand) -> Full
+    ensures made { view_full result ≡ lone negated (view_prim operand) }
+    ensures whole { IsWholePrim operand → IsWholeFull result }
+{
+    Full::Plain(Expr {
+        first: And {
+            first: Not {
+                negated,
+                inner: Compare {
+                    left: Sum {
+                        first: Product {
+                            first: operand,
+                            rest: Vec::new(alloc),
+                        },
+                        rest: Vec::new(alloc),
+                    },
+                    right: None,
+                },
+            },
+            rest: Vec::new(alloc),
+        },
+        rest: Vec::new(alloc),
+    })
+}
+
+// An expression that was read, as a value.
+#[inline(never)]
+fn in_full<'a>(read: Result<(Expr, &'a [Token]), Fault>) -> Result<(Full, &'a [Token]), Fault>
     ensures shorter { (n : ℕ) → IfOk read.entry (λ x. length x.1.now < n) → IfOk result (λ x. length x.1.now < n) }
     ensures gives { (r : Read (Tree AnExpr)) → Gives (λ x. (view_expr x.0, kinds x.1.now)) read.entry r → Gives (λ x. (view_full x.0, kinds x.1.now)) result (as_plain r) }
     ensures whole { IfOk read.entry (λ x. IsWholeExpr x.0) → IfOk result (λ x. IsWholeFull x.0) }

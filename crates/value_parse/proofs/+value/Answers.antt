@@ -1,21 +1,25 @@
 use Rattle.std.proofs.Common.{ℕ, Bool, Ok, ap, length}
 use Rattle.parse_base.proofs.Levels.{full_ends, full_turn}
 use Rattle.value_parse.proofs.Signs.{added_goes}
-use Rattle.script_grammar.specs.Tree.{Tree, AnAdded, Added}
+use Rattle.script_grammar.specs.Tree.{Tree, AFull, AnAdded, Added}
 use Rattle.script_grammar.specs.View.{view_product}
 use Rattle.script_grammar.specs.declared.tree.Added as node
 use Rattle.script_grammar.specs.declared.tree.Product.{Product}
 use Rattle.parse_base.specs.Gives.{kinds}
 use Rattle.std.proofs.Common.{◌≡◌, [], refl, sym, ◌∙◌, ◌-◌, arith}
-use Rattle.std.proofs.lemmas.List.Elements.{All-nil, All-push}
+use Rattle.std.proofs.lemmas.List.Elements.{All-nil}
 use Rattle.std.proofs.lemmas.Result.{err_from_is_err_and}
-use Rattle.script_grammar.specs.Kinds.{is_or, is_and, is_comma, is_added, is_multiplied}
+use Rattle.script_grammar.specs.Kinds.{is_or, is_and, is_comma, is_added, is_multiplied, is_close_round}
 use Rattle.script_grammar.specs.Read.{next, behind}
-use Rattle.script_grammar.specs.ReadValue.{full_by, and_, not_, added, multiplied, arg}
-use Rattle.script_grammar.specs.View.{view_full, view_and, view_not, view_added, view_multiplied, view_arg}
+use Rattle.script_grammar.specs.ReadValue.{full_by, and_, not_, added, multiplied, arg, args}
+use Rattle.script_grammar.specs.View.{view_full, view_and, view_not, view_added, view_multiplied, view_arg, view_prim}
 use Rattle.script_grammar.specs.Whole.{IsWholeFull, IsWholeAnd, IsWholeNot, IsWholeAdded, IsWholeMultiplied, IsWholeArg}
 use Rattle.parse_base.specs.Gives.{places}
-use Rattle.parse_base.proofs.Turns.{begins, goes_on, fails, ends}
+use Rattle.parse_base.proofs.Turns.{begins, ends}
+use Rattle.parse_base.specs.Classes.{is_in}
+use Rattle.value_parse.proofs.Chained.{chain_ends, closed_none, closed_goes, closed_fails, closing_fails}
+use Rattle.value_parse.proofs.Kept.{keeps_first, keeps_more, keeps_turn, loses_first, loses_more, loses_turn}
+use Rattle.value_parse.proofs.Lone.{lone_goes, operand_fails}
 use Rattle.value_parse.proofs.+value.Goals as goal
 
 pub logic::ands-turns-init : goal.logic::ands-turns-init
@@ -23,17 +27,13 @@ logic::ands-turns-init t c =
     let none_yet : c.new-items.result.items ≡ [] = cc in
     (omega arith, begins view_and (next is_or) (behind is_or (and_ c.args.loose (places c.args.total) (full_by c.args.levels (places c.args.total)))) c.args.tokens.now c.new-items.result.items cc, rw none_yet (All-nil IsWholeAnd))
 
-pub logic::ands-returns-in_err-item-clause-gives : goal.logic::ands-returns-in_err-item-clause-gives
-logic::ands-returns-in_err-item-clause-gives t c =
+pub logic::ands-returns-in_err-rest-clause-gives : goal.logic::ands-returns-in_err-rest-clause-gives
+logic::ands-returns-in_err-rest-clause-gives t c =
     let p = err_from_is_err_and c.from_residual.result c.from_residual.ensures.1 in
-    rw (p.1, p.2) (fails c.turns.invariant.1 c.in_err-item.field-0.0 refl (sym c.next_is.ensures ∙ c.turns-test.true) c.in_err-item.ensures.gives)
+    rw (p.1, p.2) (loses_turn view_and (next is_or) (behind is_or (and_ c.args.loose (places c.args.total) (full_by c.args.levels (places c.args.total)))) c.args.tokens.now c.turns.rest.now c.or_and.result c.turns.items.items c.in_err-rest.field-0.0 c.turns.invariant.1 refl (sym c.next_is.ensures ∙ c.turns-test.true) c.in_err-rest.ensures.fault c.or_and.ensures.gives)
 
 pub logic::ands-turns-preserved : goal.logic::ands-turns-preserved
-logic::ands-turns-preserved t c = (
-  omega (arith, c.turns.invariant.0, c.in_ok-item.ensures.shorter),
-  goes_on c.turns.invariant.1 c.in_ok-item.item c.in_ok-item.after.now c.push.new.self.items (sym c.next_is.ensures ∙ c.turns-test.true) c.in_ok-item.ensures.gives c.in_ok-item.ensures.shorter c.in_ok-push.ensures.items,
-  rw c.in_ok-push.ensures.items (All-push IsWholeAnd c.turns.items.items c.in_ok-item.item c.turns.invariant.2 c.in_ok-item.ensures.whole),
-)
+logic::ands-turns-preserved t c = keeps_turn view_and IsWholeAnd (next is_or) (behind is_or (and_ c.args.loose (places c.args.total) (full_by c.args.levels (places c.args.total)))) c.args.tokens.now c.turns.rest.now c.or_and.result c.in_ok-rest.rest.now c.turns.items.items c.keep.new.items.items c.turns.invariant (sym c.next_is.ensures ∙ c.turns-test.true) c.or_and.ensures.gives c.or_and.ensures.shorter c.or_and.ensures.whole c.in_ok-rest.ensures.kept
 
 pub logic::ands-returns-clause-gives : goal.logic::ands-returns-clause-gives
 logic::ands-returns-clause-gives t c = ends c.turns.invariant.1 (sym c.next_is.ensures ∙ c.turns-test.false)
@@ -43,17 +43,13 @@ logic::nots-turns-init t c =
     let none_yet : c.new-items.result.items ≡ [] = cc in
     (omega arith, begins view_not (next is_and) (behind is_and (not_ c.args.loose (places c.args.total) (full_by c.args.levels (places c.args.total)))) c.args.tokens.now c.new-items.result.items cc, rw none_yet (All-nil IsWholeNot))
 
-pub logic::nots-returns-in_err-item-clause-gives : goal.logic::nots-returns-in_err-item-clause-gives
-logic::nots-returns-in_err-item-clause-gives t c =
+pub logic::nots-returns-in_err-rest-clause-gives : goal.logic::nots-returns-in_err-rest-clause-gives
+logic::nots-returns-in_err-rest-clause-gives t c =
     let p = err_from_is_err_and c.from_residual.result c.from_residual.ensures.1 in
-    rw (p.1, p.2) (fails c.turns.invariant.1 c.in_err-item.field-0.0 refl (sym c.next_is.ensures ∙ c.turns-test.true) c.in_err-item.ensures.gives)
+    rw (p.1, p.2) (loses_turn view_not (next is_and) (behind is_and (not_ c.args.loose (places c.args.total) (full_by c.args.levels (places c.args.total)))) c.args.tokens.now c.turns.rest.now c.and_not.result c.turns.items.items c.in_err-rest.field-0.0 c.turns.invariant.1 refl (sym c.next_is.ensures ∙ c.turns-test.true) c.in_err-rest.ensures.fault c.and_not.ensures.gives)
 
 pub logic::nots-turns-preserved : goal.logic::nots-turns-preserved
-logic::nots-turns-preserved t c = (
-  omega (arith, c.turns.invariant.0, c.in_ok-item.ensures.shorter),
-  goes_on c.turns.invariant.1 c.in_ok-item.item c.in_ok-item.after.now c.push.new.self.items (sym c.next_is.ensures ∙ c.turns-test.true) c.in_ok-item.ensures.gives c.in_ok-item.ensures.shorter c.in_ok-push.ensures.items,
-  rw c.in_ok-push.ensures.items (All-push IsWholeNot c.turns.items.items c.in_ok-item.item c.turns.invariant.2 c.in_ok-item.ensures.whole),
-)
+logic::nots-turns-preserved t c = keeps_turn view_not IsWholeNot (next is_and) (behind is_and (not_ c.args.loose (places c.args.total) (full_by c.args.levels (places c.args.total)))) c.args.tokens.now c.turns.rest.now c.and_not.result c.in_ok-rest.rest.now c.turns.items.items c.keep.new.items.items c.turns.invariant (sym c.next_is.ensures ∙ c.turns-test.true) c.and_not.ensures.gives c.and_not.ensures.shorter c.and_not.ensures.whole c.in_ok-rest.ensures.kept
 
 pub logic::nots-returns-clause-gives : goal.logic::nots-returns-clause-gives
 logic::nots-returns-clause-gives t c = ends c.turns.invariant.1 (sym c.next_is.ensures ∙ c.turns-test.false)
@@ -63,17 +59,13 @@ arithmetic::addeds-turns-init t c =
     let none_yet : c.new-items.result.items ≡ [] = cc in
     (omega arith, begins view_added (next is_added) (added c.args.loose (places c.args.total) (full_by c.args.levels (places c.args.total))) c.args.tokens.now c.new-items.result.items cc, rw none_yet (All-nil IsWholeAdded))
 
-pub arithmetic::addeds-returns-in_err-item-clause-gives : goal.arithmetic::addeds-returns-in_err-item-clause-gives
-arithmetic::addeds-returns-in_err-item-clause-gives t c =
+pub arithmetic::addeds-returns-in_err-rest-clause-gives : goal.arithmetic::addeds-returns-in_err-rest-clause-gives
+arithmetic::addeds-returns-in_err-rest-clause-gives t c =
     let p = err_from_is_err_and c.from_residual.result c.from_residual.ensures.1 in
-    rw (p.1, p.2) (fails c.turns.invariant.1 c.in_err-item.field-0.0 refl (sym c.next_is.ensures ∙ c.turns-test.true) c.in_err-item.ensures.gives)
+    rw (p.1, p.2) (loses_turn view_added (next is_added) (added c.args.loose (places c.args.total) (full_by c.args.levels (places c.args.total))) c.args.tokens.now c.turns.rest.now c.added.result c.turns.items.items c.in_err-rest.field-0.0 c.turns.invariant.1 refl (sym c.next_is.ensures ∙ c.turns-test.true) c.in_err-rest.ensures.fault c.added.ensures.gives)
 
 pub arithmetic::addeds-turns-preserved : goal.arithmetic::addeds-turns-preserved
-arithmetic::addeds-turns-preserved t c = (
-  omega (arith, c.turns.invariant.0, c.in_ok-item.ensures.shorter),
-  goes_on c.turns.invariant.1 c.in_ok-item.item c.in_ok-item.after.now c.push.new.self.items (sym c.next_is.ensures ∙ c.turns-test.true) c.in_ok-item.ensures.gives c.in_ok-item.ensures.shorter c.in_ok-push.ensures.items,
-  rw c.in_ok-push.ensures.items (All-push IsWholeAdded c.turns.items.items c.in_ok-item.item c.turns.invariant.2 c.in_ok-item.ensures.whole),
-)
+arithmetic::addeds-turns-preserved t c = keeps_turn view_added IsWholeAdded (next is_added) (added c.args.loose (places c.args.total) (full_by c.args.levels (places c.args.total))) c.args.tokens.now c.turns.rest.now c.added.result c.in_ok-rest.rest.now c.turns.items.items c.keep.new.items.items c.turns.invariant (sym c.next_is.ensures ∙ c.turns-test.true) c.added.ensures.gives c.added.ensures.shorter c.added.ensures.whole c.in_ok-rest.ensures.kept
 
 pub arithmetic::addeds-returns-clause-gives : goal.arithmetic::addeds-returns-clause-gives
 arithmetic::addeds-returns-clause-gives t c = ends c.turns.invariant.1 (sym c.next_is.ensures ∙ c.turns-test.false)
@@ -83,60 +75,16 @@ arithmetic::multiplieds-turns-init t c =
     let none_yet : c.new-items.result.items ≡ [] = cc in
     (omega arith, begins view_multiplied (next is_multiplied) (multiplied c.args.loose (places c.args.total) (full_by c.args.levels (places c.args.total))) c.args.tokens.now c.new-items.result.items cc, rw none_yet (All-nil IsWholeMultiplied))
 
-pub arithmetic::multiplieds-returns-in_err-item-clause-gives : goal.arithmetic::multiplieds-returns-in_err-item-clause-gives
-arithmetic::multiplieds-returns-in_err-item-clause-gives t c =
+pub arithmetic::multiplieds-returns-in_err-rest-clause-gives : goal.arithmetic::multiplieds-returns-in_err-rest-clause-gives
+arithmetic::multiplieds-returns-in_err-rest-clause-gives t c =
     let p = err_from_is_err_and c.from_residual.result c.from_residual.ensures.1 in
-    rw (p.1, p.2) (fails c.turns.invariant.1 c.in_err-item.field-0.0 refl (sym c.next_is.ensures ∙ c.turns-test.true) c.in_err-item.ensures.gives)
+    rw (p.1, p.2) (loses_turn view_multiplied (next is_multiplied) (multiplied c.args.loose (places c.args.total) (full_by c.args.levels (places c.args.total))) c.args.tokens.now c.turns.rest.now c.multiplied.result c.turns.items.items c.in_err-rest.field-0.0 c.turns.invariant.1 refl (sym c.next_is.ensures ∙ c.turns-test.true) c.in_err-rest.ensures.fault c.multiplied.ensures.gives)
 
 pub arithmetic::multiplieds-turns-preserved : goal.arithmetic::multiplieds-turns-preserved
-arithmetic::multiplieds-turns-preserved t c = (
-  omega (arith, c.turns.invariant.0, c.in_ok-item.ensures.shorter),
-  goes_on c.turns.invariant.1 c.in_ok-item.item c.in_ok-item.after.now c.push.new.self.items (sym c.next_is.ensures ∙ c.turns-test.true) c.in_ok-item.ensures.gives c.in_ok-item.ensures.shorter c.in_ok-push.ensures.items,
-  rw c.in_ok-push.ensures.items (All-push IsWholeMultiplied c.turns.items.items c.in_ok-item.item c.turns.invariant.2 c.in_ok-item.ensures.whole),
-)
+arithmetic::multiplieds-turns-preserved t c = keeps_turn view_multiplied IsWholeMultiplied (next is_multiplied) (multiplied c.args.loose (places c.args.total) (full_by c.args.levels (places c.args.total))) c.args.tokens.now c.turns.rest.now c.multiplied.result c.in_ok-rest.rest.now c.turns.items.items c.keep.new.items.items c.turns.invariant (sym c.next_is.ensures ∙ c.turns-test.true) c.multiplied.ensures.gives c.multiplied.ensures.shorter c.multiplied.ensures.whole c.in_ok-rest.ensures.kept
 
 pub arithmetic::multiplieds-returns-clause-gives : goal.arithmetic::multiplieds-returns-clause-gives
 arithmetic::multiplieds-returns-clause-gives t c = ends c.turns.invariant.1 (sym c.next_is.ensures ∙ c.turns-test.false)
-
-pub operands::fulls-turns-init : goal.operands::fulls-turns-init
-operands::fulls-turns-init t c =
-    let none_yet : c.new-items.result.items ≡ [] = cc in
-    (omega arith, begins view_full (next is_comma) (behind is_comma (full_by c.args.levels (places c.args.total))) c.args.tokens.now c.new-items.result.items cc, rw none_yet (All-nil IsWholeFull))
-
-pub operands::fulls-returns-in_err-item-clause-gives : goal.operands::fulls-returns-in_err-item-clause-gives
-operands::fulls-returns-in_err-item-clause-gives t c =
-    let p = err_from_is_err_and c.from_residual.result c.from_residual.ensures.1 in
-    rw (p.1, p.2) (fails c.turns.invariant.1 c.in_err-item.field-0.0 refl (sym c.next_is.ensures ∙ c.turns-test.true) c.in_err-item.ensures.gives)
-
-pub operands::fulls-turns-preserved : goal.operands::fulls-turns-preserved
-operands::fulls-turns-preserved t c = (
-  omega (arith, c.turns.invariant.0, c.in_ok-item.ensures.shorter),
-  goes_on c.turns.invariant.1 c.in_ok-item.item c.in_ok-item.after.now c.push.new.self.items (sym c.next_is.ensures ∙ c.turns-test.true) c.in_ok-item.ensures.gives c.in_ok-item.ensures.shorter c.in_ok-push.ensures.items,
-  rw c.in_ok-push.ensures.items (All-push IsWholeFull c.turns.items.items c.in_ok-item.item c.turns.invariant.2 c.in_ok-item.ensures.whole),
-)
-
-pub operands::fulls-returns-clause-gives : goal.operands::fulls-returns-clause-gives
-operands::fulls-returns-clause-gives t c = ends c.turns.invariant.1 (sym c.next_is.ensures ∙ c.turns-test.false)
-
-pub arguments::more_args-turns-init : goal.arguments::more_args-turns-init
-arguments::more_args-turns-init t c =
-    let none_yet : c.new-items.result.items ≡ [] = cc in
-    (omega arith, begins view_arg (next is_comma) (behind is_comma (arg (places c.args.total) (full_by c.args.levels (places c.args.total)))) c.args.tokens.now c.new-items.result.items cc, rw none_yet (All-nil IsWholeArg))
-
-pub arguments::more_args-returns-in_err-item-clause-gives : goal.arguments::more_args-returns-in_err-item-clause-gives
-arguments::more_args-returns-in_err-item-clause-gives t c =
-    let p = err_from_is_err_and c.from_residual.result c.from_residual.ensures.1 in
-    rw (p.1, p.2) (fails c.turns.invariant.1 c.in_err-item.field-0.0 refl (sym c.next_is.ensures ∙ c.turns-test.true) c.in_err-item.ensures.gives)
-
-pub arguments::more_args-turns-preserved : goal.arguments::more_args-turns-preserved
-arguments::more_args-turns-preserved t c = (
-  omega (arith, c.turns.invariant.0, c.in_ok-item.ensures.shorter),
-  goes_on c.turns.invariant.1 c.in_ok-item.item c.in_ok-item.after.now c.push.new.self.items (sym c.next_is.ensures ∙ c.turns-test.true) c.in_ok-item.ensures.gives c.in_ok-item.ensures.shorter c.in_ok-push.ensures.items,
-  rw c.in_ok-push.ensures.items (All-push IsWholeArg c.turns.items.items c.in_ok-item.item c.turns.invariant.2 c.in_ok-item.ensures.whole),
-)
-
-pub arguments::more_args-returns-clause-gives : goal.arguments::more_args-returns-clause-gives
-arguments::more_args-returns-clause-gives t c = ends c.turns.invariant.1 (sym c.next_is.ensures ∙ c.turns-test.false)
 
 pub values::full-returns-then-levels-eq0-clause-gives : goal.values::full-returns-then-levels-eq0-clause-gives
 values::full-returns-then-levels-eq0-clause-gives t c = full_ends c.args.levels (places c.args.total) c.args.tokens.now (omega arith)
@@ -152,5 +100,92 @@ arithmetic::added-returns-clause-gives t c =
     added_goes c.args.loose (places c.args.total) (full_by c.args.levels (places c.args.total)) (kinds c.args.tokens.now) c.place-at.result c.in_ok-minus.minus (kinds c.in_ok-minus.rest.now) (kinds c.in_ok-product.rest.now) (view_product c.in_ok-product.product) c.place-at.ensures c.in_ok-minus.ensures.gives c.in_ok-product.ensures.gives
     ∙ ap (λ (x : Tree AnAdded). Ok (x, kinds c.in_ok-product.rest.now)) (sym (added_seen c.place-at.result c.in_ok-minus.minus c.in_ok-product.product))
 
-pub values::plain-returns-clause-shorter : goal.values::plain-returns-clause-shorter
-values::plain-returns-clause-shorter t c = c.plain_of.ensures.shorter (length c.args.tokens.now) c.expr_of.ensures.shorter
+pub operands::some_fulls-turns-init : goal.operands::some_fulls-turns-init
+operands::some_fulls-turns-init t c = keeps_first view_full IsWholeFull is_comma (full_by c.args.levels (places c.args.total)) c.args.tokens.now c.full.result c.in_ok-rest.rest.now c.args.parts.now.items c.keep.new.items.items c.full.ensures.gives c.full.ensures.shorter c.full.ensures.whole c.in_ok-rest.ensures.kept c.requires.empty
+
+pub operands::some_fulls-turns-preserved : goal.operands::some_fulls-turns-preserved
+operands::some_fulls-turns-preserved t c = keeps_more view_full IsWholeFull is_comma (full_by c.args.levels (places c.args.total)) c.args.tokens.now c.turns.rest.now c.comma_full.result c.in_ok-rest-2.rest.now c.turns.parts.items c.keep-in-turns.new.items.items c.turns.invariant (sym c.next_is.ensures ∙ c.turns-test.true) c.comma_full.ensures.gives c.comma_full.ensures.shorter c.comma_full.ensures.whole c.in_ok-rest-2.ensures.kept
+
+pub operands::some_fulls-returns-clause-gives : goal.operands::some_fulls-returns-clause-gives
+operands::some_fulls-returns-clause-gives t c = chain_ends c.turns.invariant.1 (sym c.next_is.ensures ∙ c.turns-test.false)
+
+pub operands::some_fulls-returns-in_err-rest-clause-gives : goal.operands::some_fulls-returns-in_err-rest-clause-gives
+operands::some_fulls-returns-in_err-rest-clause-gives t c =
+    let p = err_from_is_err_and c.from_residual.result c.from_residual.ensures.1 in
+    rw (p.1, p.2) (loses_first view_full is_comma (full_by c.args.levels (places c.args.total)) c.args.tokens.now c.full.result c.in_err-rest.field-0.0 c.in_err-rest.ensures.fault c.full.ensures.gives)
+
+pub operands::some_fulls-returns-in_err-rest-2-clause-gives : goal.operands::some_fulls-returns-in_err-rest-2-clause-gives
+operands::some_fulls-returns-in_err-rest-2-clause-gives t c =
+    let p = err_from_is_err_and c.from_residual-in_err-rest-2.result c.from_residual-in_err-rest-2.ensures.1 in
+    rw (p.1, p.2) (loses_more view_full is_comma (full_by c.args.levels (places c.args.total)) c.args.tokens.now c.turns.rest.now c.comma_full.result c.turns.parts.items c.in_err-rest-2.field-0.0 c.turns.invariant.1 (sym c.next_is.ensures ∙ c.turns-test.true) c.in_err-rest-2.ensures.fault c.comma_full.ensures.gives)
+
+pub operands::fulls-returns-then-is_closed-clause-gives : goal.operands::fulls-returns-then-is_closed-clause-gives
+operands::fulls-returns-then-is_closed-clause-gives t c = closed_none view_full is_comma (is_in c.args.close) (full_by c.args.levels (places c.args.total)) (kinds c.args.tokens.now) (kinds c.perhaps-is_closed.result.1.now) c.perhaps-is_closed.result.0 c.perhaps-is_closed.ensures.gives c.args.parts.now.items c.if-is_closed.true c.requires.empty
+
+pub operands::fulls-returns-in_err-rest-clause-gives : goal.operands::fulls-returns-in_err-rest-clause-gives
+operands::fulls-returns-in_err-rest-clause-gives t c =
+    let p = err_from_is_err_and c.from_residual.result c.from_residual.ensures.1 in
+    rw (p.1, p.2) (closed_fails view_full is_comma (is_in c.args.close) (full_by c.args.levels (places c.args.total)) (kinds c.args.tokens.now) (kinds c.perhaps-is_closed.result.1.now) c.perhaps-is_closed.result.0 c.perhaps-is_closed.ensures.gives c.in_err-rest.field-0.0 c.if-is_closed.false c.in_err-rest.ensures.gives)
+
+pub operands::fulls-returns-in_err-rest-2-clause-gives : goal.operands::fulls-returns-in_err-rest-2-clause-gives
+operands::fulls-returns-in_err-rest-2-clause-gives t c =
+    let p = err_from_is_err_and c.from_residual-in_err-rest-2.result c.from_residual-in_err-rest-2.ensures.1 in
+    rw (p.1, p.2) (closing_fails view_full is_comma (is_in c.args.close) (full_by c.args.levels (places c.args.total)) (kinds c.args.tokens.now) (kinds c.perhaps-is_closed.result.1.now) c.perhaps-is_closed.result.0 c.perhaps-is_closed.ensures.gives c.some_fulls.new.parts.items (kinds c.in_ok-rest.rest.now) c.in_err-rest-2.field-0.0 c.if-is_closed.false c.in_ok-rest.ensures.gives c.in_err-rest-2.ensures.gives)
+
+pub operands::fulls-returns-clause-gives : goal.operands::fulls-returns-clause-gives
+operands::fulls-returns-clause-gives t c = closed_goes view_full is_comma (is_in c.args.close) (full_by c.args.levels (places c.args.total)) (kinds c.args.tokens.now) (kinds c.perhaps-is_closed.result.1.now) c.perhaps-is_closed.result.0 c.perhaps-is_closed.ensures.gives c.some_fulls.new.parts.items (kinds c.in_ok-rest.rest.now) (kinds c.in_ok-rest-2.rest.now) c.if-is_closed.false c.in_ok-rest.ensures.gives c.in_ok-rest-2.ensures.gives
+
+pub arguments::some_args-turns-init : goal.arguments::some_args-turns-init
+arguments::some_args-turns-init t c = keeps_first view_arg IsWholeArg is_comma (arg (places c.args.total) (full_by c.args.levels (places c.args.total))) c.args.tokens.now c.arg.result c.in_ok-rest.rest.now c.args.items.now.items c.keep.new.items.items c.arg.ensures.gives c.arg.ensures.shorter c.arg.ensures.whole c.in_ok-rest.ensures.kept c.requires.empty
+
+pub arguments::some_args-turns-preserved : goal.arguments::some_args-turns-preserved
+arguments::some_args-turns-preserved t c = keeps_more view_arg IsWholeArg is_comma (arg (places c.args.total) (full_by c.args.levels (places c.args.total))) c.args.tokens.now c.turns.rest.now c.comma_arg.result c.in_ok-rest-2.rest.now c.turns.items.items c.keep-in-turns.new.items.items c.turns.invariant (sym c.next_is.ensures ∙ c.turns-test.true) c.comma_arg.ensures.gives c.comma_arg.ensures.shorter c.comma_arg.ensures.whole c.in_ok-rest-2.ensures.kept
+
+pub arguments::some_args-returns-clause-gives : goal.arguments::some_args-returns-clause-gives
+arguments::some_args-returns-clause-gives t c = chain_ends c.turns.invariant.1 (sym c.next_is.ensures ∙ c.turns-test.false)
+
+pub arguments::some_args-returns-in_err-rest-clause-gives : goal.arguments::some_args-returns-in_err-rest-clause-gives
+arguments::some_args-returns-in_err-rest-clause-gives t c =
+    let p = err_from_is_err_and c.from_residual.result c.from_residual.ensures.1 in
+    rw (p.1, p.2) (loses_first view_arg is_comma (arg (places c.args.total) (full_by c.args.levels (places c.args.total))) c.args.tokens.now c.arg.result c.in_err-rest.field-0.0 c.in_err-rest.ensures.fault c.arg.ensures.gives)
+
+pub arguments::some_args-returns-in_err-rest-2-clause-gives : goal.arguments::some_args-returns-in_err-rest-2-clause-gives
+arguments::some_args-returns-in_err-rest-2-clause-gives t c =
+    let p = err_from_is_err_and c.from_residual-in_err-rest-2.result c.from_residual-in_err-rest-2.ensures.1 in
+    rw (p.1, p.2) (loses_more view_arg is_comma (arg (places c.args.total) (full_by c.args.levels (places c.args.total))) c.args.tokens.now c.turns.rest.now c.comma_arg.result c.turns.items.items c.in_err-rest-2.field-0.0 c.turns.invariant.1 (sym c.next_is.ensures ∙ c.turns-test.true) c.in_err-rest-2.ensures.fault c.comma_arg.ensures.gives)
+
+pub arguments::args-returns-then-is_closed-clause-gives : goal.arguments::args-returns-then-is_closed-clause-gives
+unfolding args
+arguments::args-returns-then-is_closed-clause-gives t c = closed_none view_arg is_comma is_close_round (arg (places c.args.total) (full_by c.args.levels (places c.args.total))) (kinds c.args.tokens.now) (kinds c.perhaps-is_closed.result.1.now) c.perhaps-is_closed.result.0 c.perhaps-is_closed.ensures.gives c.args.items.now.items c.if-is_closed.true c.requires.empty
+
+pub arguments::args-returns-in_err-rest-clause-gives : goal.arguments::args-returns-in_err-rest-clause-gives
+unfolding args
+arguments::args-returns-in_err-rest-clause-gives t c =
+    let p = err_from_is_err_and c.from_residual.result c.from_residual.ensures.1 in
+    rw (p.1, p.2) (closed_fails view_arg is_comma is_close_round (arg (places c.args.total) (full_by c.args.levels (places c.args.total))) (kinds c.args.tokens.now) (kinds c.perhaps-is_closed.result.1.now) c.perhaps-is_closed.result.0 c.perhaps-is_closed.ensures.gives c.in_err-rest.field-0.0 c.if-is_closed.false c.in_err-rest.ensures.gives)
+
+pub arguments::args-returns-in_err-rest-2-clause-gives : goal.arguments::args-returns-in_err-rest-2-clause-gives
+unfolding args
+arguments::args-returns-in_err-rest-2-clause-gives t c =
+    let p = err_from_is_err_and c.from_residual-in_err-rest-2.result c.from_residual-in_err-rest-2.ensures.1 in
+    rw (p.1, p.2) (closing_fails view_arg is_comma is_close_round (arg (places c.args.total) (full_by c.args.levels (places c.args.total))) (kinds c.args.tokens.now) (kinds c.perhaps-is_closed.result.1.now) c.perhaps-is_closed.result.0 c.perhaps-is_closed.ensures.gives c.some_args.new.items.items (kinds c.in_ok-rest.rest.now) c.in_err-rest-2.field-0.0 c.if-is_closed.false c.in_ok-rest.ensures.gives c.in_err-rest-2.ensures.gives)
+
+pub arguments::args-returns-clause-gives : goal.arguments::args-returns-clause-gives
+unfolding args
+arguments::args-returns-clause-gives t c = closed_goes view_arg is_comma is_close_round (arg (places c.args.total) (full_by c.args.levels (places c.args.total))) (kinds c.args.tokens.now) (kinds c.perhaps-is_closed.result.1.now) c.perhaps-is_closed.result.0 c.perhaps-is_closed.ensures.gives c.some_args.new.items.items (kinds c.in_ok-rest.rest.now) (kinds c.in_ok-rest-2.rest.now) c.if-is_closed.false c.in_ok-rest.ensures.gives c.in_ok-rest-2.ensures.gives
+
+pub logic::negation_of-returns-clause-shorter : goal.logic::negation_of-returns-clause-shorter
+logic::negation_of-returns-clause-shorter t c = c.not_of.ensures.shorter (length c.args.tokens.now) c.compare_of.ensures.shorter
+
+pub values::plain_of-returns-then-at_operator-clause-shorter : goal.values::plain_of-returns-then-at_operator-clause-shorter
+values::plain_of-returns-then-at_operator-clause-shorter t c = c.in_full.ensures.shorter (length c.args.tokens.now) c.expr_from.ensures.shorter
+
+pub values::plain_of-returns-in_err-operand-clause-gives : goal.values::plain_of-returns-in_err-operand-clause-gives
+values::plain_of-returns-in_err-operand-clause-gives t c =
+    let p = err_from_is_err_and c.from_residual.result c.from_residual.ensures.1 in
+    rw (p.1, p.2) (operand_fails c.args.loose (places c.args.total) (full_by c.args.levels (places c.args.total)) (kinds c.args.tokens.now) (kinds c.args.inner.now) c.args.negated c.in_err-operand.field-0.0 c.requires.lead (rw c.in_err-operand.was at c.requires.gives))
+
+pub values::plain_of-returns-else-at_operator-clause-gives : goal.values::plain_of-returns-else-at_operator-clause-gives
+values::plain_of-returns-else-at_operator-clause-gives t c =
+    lone_goes c.args.loose (places c.args.total) (full_by c.args.levels (places c.args.total)) (kinds c.args.tokens.now) (kinds c.args.inner.now) (kinds c.in_ok-operand.rest.now) c.args.negated (view_prim c.in_ok-operand.operand) c.requires.lead (rw c.in_ok-operand.was at c.requires.gives) (sym c.at_operator.ensures ∙ c.if-at_operator.false)
+    ∙ ap (λ (f : Tree AFull). Ok (f, kinds c.in_ok-operand.rest.now)) (sym c.lone.ensures.made)

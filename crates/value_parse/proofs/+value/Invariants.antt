@@ -1,4 +1,4 @@
-use Rattle.std.proofs.Common.{◌≤◌, length, ◌+◌, ◌*◌}
+use Rattle.std.proofs.Common.{◌<◌, ◌≤◌, length, ◌+◌, ◌*◌}
 use Rattle.std.specs.List.{All}
 use Rattle.script_grammar.specs.Kinds.{is_or, is_and, is_comma, is_added, is_multiplied}
 use Rattle.script_grammar.specs.Read.{next, behind}
@@ -7,6 +7,7 @@ use Rattle.script_grammar.specs.View.{view_full, view_and, view_not, view_added,
 use Rattle.script_grammar.specs.Whole.{IsWholeFull, IsWholeAnd, IsWholeNot, IsWholeAdded, IsWholeMultiplied, IsWholeArg}
 use Rattle.parse_base.specs.Gives.{places}
 use Rattle.parse_base.proofs.Turns.{Turning}
+use Rattle.value_parse.proofs.Chained.{Chaining}
 use Rattle.value_parse.proofs.+value.Given as goal
 
 abbrev pub decreases-arguments::call : goal.decreases-arguments::call
@@ -18,17 +19,8 @@ decreases-conditionals::choice l = 20 * length l.tokens.now
 abbrev pub decreases-operands::operand : goal.decreases-operands::operand
 decreases-operands::operand l = 20 * length l.tokens.now + 1
 
-abbrev pub decreases-arithmetic::product : goal.decreases-arithmetic::product
-decreases-arithmetic::product l = 20 * length l.tokens.now + 2
-
-abbrev pub decreases-arithmetic::sum : goal.decreases-arithmetic::sum
-decreases-arithmetic::sum l = 20 * length l.tokens.now + 3
-
 abbrev pub decreases-logic::not_term : goal.decreases-logic::not_term
 decreases-logic::not_term l = 20 * length l.tokens.now + 5
-
-abbrev pub decreases-logic::and_term : goal.decreases-logic::and_term
-decreases-logic::and_term l = 20 * length l.tokens.now + 6
 
 abbrev pub decreases-values::plain : goal.decreases-values::plain
 decreases-values::plain l = 20 * length l.tokens.now + 8
@@ -39,12 +31,6 @@ decreases-values::full_step l = 20 * length l.tokens.now + 9
 abbrev pub decreases-values::full : goal.decreases-values::full
 decreases-values::full l = 20 * length l.tokens.now + 10
 
-abbrev pub decreases-operands::round : goal.decreases-operands::round
-decreases-operands::round l = 20 * length l.tokens.now + 11
-
-abbrev pub decreases-operands::list : goal.decreases-operands::list
-decreases-operands::list l = 20 * length l.tokens.now + 11
-
 abbrev pub decreases-arguments::labelled : goal.decreases-arguments::labelled
 decreases-arguments::labelled l = 20 * length l.tokens.now + 11
 
@@ -53,9 +39,6 @@ decreases-conditionals::chosen l = 20 * length l.tokens.now + 12
 
 abbrev pub decreases-arguments::arg : goal.decreases-arguments::arg
 decreases-arguments::arg l = 20 * length l.tokens.now + 12
-
-abbrev pub decreases-arguments::args : goal.decreases-arguments::args
-decreases-arguments::args l = 20 * length l.tokens.now + 13
 
 abbrev pub decreases-logic::or_and : goal.decreases-logic::or_and
 decreases-logic::or_and l = 20 * length l.tokens.now
@@ -87,14 +70,8 @@ decreases-arithmetic::multiplieds l = 20 * length l.tokens.now + 1
 abbrev pub decreases-operands::comma_full : goal.decreases-operands::comma_full
 decreases-operands::comma_full l = 20 * length l.tokens.now
 
-abbrev pub decreases-operands::fulls : goal.decreases-operands::fulls
-decreases-operands::fulls l = 20 * length l.tokens.now + 1
-
 abbrev pub decreases-arguments::comma_arg : goal.decreases-arguments::comma_arg
 decreases-arguments::comma_arg l = 20 * length l.tokens.now
-
-abbrev pub decreases-arguments::more_args : goal.decreases-arguments::more_args
-decreases-arguments::more_args l = 20 * length l.tokens.now + 1
 
 abbrev pub decreases-conditionals::branches : goal.decreases-conditionals::branches
 decreases-conditionals::branches l = 20 * length l.tokens.now
@@ -117,14 +94,35 @@ decreases-arithmetic::sum_of l = 20 * length l._tokens.now
 abbrev pub decreases-arithmetic::product_of : goal.decreases-arithmetic::product_of
 decreases-arithmetic::product_of l = 20 * length l._tokens.now
 
-abbrev pub decreases-operands::closed_of : goal.decreases-operands::closed_of
-decreases-operands::closed_of l = 20 * length l._tokens.now
-
-abbrev pub decreases-arguments::args_of : goal.decreases-arguments::args_of
-decreases-arguments::args_of l = 20 * length l._tokens.now
-
 abbrev pub decreases-values::full_box : goal.decreases-values::full_box
 decreases-values::full_box l = 20 * length l.tokens.now + 11
+
+abbrev pub decreases-values::plain_of : goal.decreases-values::plain_of
+decreases-values::plain_of l = 20 * length l.tokens.now + 3
+
+abbrev pub decreases-logic::expr_from : goal.decreases-logic::expr_from
+decreases-logic::expr_from l = 20 * length l.tokens.now + 2
+
+abbrev pub decreases-logic::negation_of : goal.decreases-logic::negation_of
+decreases-logic::negation_of l = 20 * length l.tokens.now + 1
+
+abbrev pub decreases-operands::some_fulls : goal.decreases-operands::some_fulls
+decreases-operands::some_fulls l = 20 * length l.tokens.now + 11
+
+abbrev pub decreases-operands::fulls : goal.decreases-operands::fulls
+decreases-operands::fulls l = 20 * length l.tokens.now + 12
+
+abbrev pub decreases-operands::round : goal.decreases-operands::round
+decreases-operands::round l = 20 * length l.tokens.now + 13
+
+abbrev pub decreases-operands::list : goal.decreases-operands::list
+decreases-operands::list l = 20 * length l.tokens.now + 13
+
+abbrev pub decreases-arguments::some_args : goal.decreases-arguments::some_args
+decreases-arguments::some_args l = 20 * length l.tokens.now + 13
+
+abbrev pub decreases-arguments::args : goal.decreases-arguments::args
+decreases-arguments::args l = 20 * length l.tokens.now + 14
 
 abbrev pub invariant-logic::ands-turns : goal.invariant-logic::ands-turns
 invariant-logic::ands-turns l = (length l.rest ≤ length l.tokens) × Turning view_and (next is_or) (behind is_or (and_ l.loose (places l.total) (full_by l.levels (places l.total)))) l.tokens l.rest l.items.items × All IsWholeAnd l.items.items
@@ -150,14 +148,14 @@ invariant-arithmetic::multiplieds-turns l = (length l.rest ≤ length l.tokens) 
 abbrev pub decreases-arithmetic::multiplieds-turns : goal.decreases-arithmetic::multiplieds-turns
 decreases-arithmetic::multiplieds-turns l = length l.rest
 
-abbrev pub invariant-operands::fulls-turns : goal.invariant-operands::fulls-turns
-invariant-operands::fulls-turns l = (length l.rest ≤ length l.tokens) × Turning view_full (next is_comma) (behind is_comma (full_by l.levels (places l.total))) l.tokens l.rest l.items.items × All IsWholeFull l.items.items
+abbrev pub invariant-operands::some_fulls-turns : goal.invariant-operands::some_fulls-turns
+invariant-operands::some_fulls-turns l = (length l.rest < length l.tokens) × Chaining view_full is_comma (full_by l.levels (places l.total)) l.tokens l.rest l.parts.items × All IsWholeFull l.parts.items
 
-abbrev pub decreases-operands::fulls-turns : goal.decreases-operands::fulls-turns
-decreases-operands::fulls-turns l = length l.rest
+abbrev pub decreases-operands::some_fulls-turns : goal.decreases-operands::some_fulls-turns
+decreases-operands::some_fulls-turns l = length l.rest
 
-abbrev pub invariant-arguments::more_args-turns : goal.invariant-arguments::more_args-turns
-invariant-arguments::more_args-turns l = (length l.rest ≤ length l.tokens) × Turning view_arg (next is_comma) (behind is_comma (arg (places l.total) (full_by l.levels (places l.total)))) l.tokens l.rest l.items.items × All IsWholeArg l.items.items
+abbrev pub invariant-arguments::some_args-turns : goal.invariant-arguments::some_args-turns
+invariant-arguments::some_args-turns l = (length l.rest < length l.tokens) × Chaining view_arg is_comma (arg (places l.total) (full_by l.levels (places l.total))) l.tokens l.rest l.items.items × All IsWholeArg l.items.items
 
-abbrev pub decreases-arguments::more_args-turns : goal.decreases-arguments::more_args-turns
-decreases-arguments::more_args-turns l = length l.rest
+abbrev pub decreases-arguments::some_args-turns : goal.decreases-arguments::some_args-turns
+decreases-arguments::some_args-turns l = length l.rest
