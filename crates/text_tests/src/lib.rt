@@ -8,12 +8,12 @@ mod liq_base_tests;
 #[cfg(test)]
 mod predicate_parse_tests;
 #[cfg(test)]
-mod script_grammar_tests;
-#[cfg(test)]
 mod script_lex_tests;
 #[cfg(test)]
 mod script_parse_tests;
 #[cfg(test)]
 mod text_key_tests;
+#[cfg(test)]
+mod texts;
 #[cfg(test)]
 mod value_parse_tests;

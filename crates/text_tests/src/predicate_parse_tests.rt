@@ -1,9 +1,9 @@
 // Texts that begin with a predicate, and what is read of them, each by the grammar of `docs/grammar.md`.
+use crate::texts::{check_same, tokens};
 use fixed_text::TimeMark;
 use parse_base::Fault;
 use predicate_parse::predicate;
 use script_grammar::predicate::{PAtom, PNot, POr};
-use script_lex::{Token, lex};
 use std::alloc::{AllocError, Global};
 use std::fmt::Write;
 use std::process::Abort;
@@ -52,20 +52,13 @@ fn push_item(alloc: Global, text: &mut String, item: &PNot) -> Result<(), AllocE
     Ok(())
 }
 
-fn tokens(alloc: Global, source: &[u8]) -> Vec<Token> {
-    match lex(alloc, source) {
-        Ok(tokens) => tokens,
-        Err(_) => Vec::new(alloc),
-    }
-}
-
 fn with_left(alloc: Global, pred: &POr, left: usize) -> Result<String, AllocError> {
     let pred = shown(alloc, pred)?;
     format!(in alloc; "{pred} {left}")
 }
 
 // The predicate and how many tokens are left, or the fault.
-fn read(alloc: Global, source: &[u8]) -> Result<String, AllocError> {
+fn read(alloc: Global, source: &str) -> Result<String, AllocError> {
     match predicate(alloc, &tokens(alloc, source)) {
         Ok((pred, rest)) => with_left(alloc, &pred, rest.len()),
         Err(Fault::Syntax(left)) => format!(in alloc; "fault {left}"),
@@ -74,10 +67,25 @@ fn read(alloc: Global, source: &[u8]) -> Result<String, AllocError> {
 }
 
 // Of each text this is read.
+const ROWS: &[(&str, &str)] = &[
+    ("22h-6h}", "[ 22h-6h ] 1"),
+    (
+        "2h or not true and 3h-4h or false}",
+        "[ 2h ][ !true 3h-4h ][ false ] 1",
+    ),
+    ("not (2h or true) and 5h", "[ !() 5h ] 0"),
+    ("", "fault 0"),
+    ("2h - 3h or}", "fault 1"),
+    ("2h - true and 3h", "fault 3"),
+    ("not not true", "fault 2"),
+    ("(2h or true", "fault 0"),
+    ("(2h 3h)", "fault 2"),
+];
+
 fn check(rt: &impl Abort, alloc: Global, rows: &[(&str, &str)]) -> Result<(), Fail> {
     for row in rows {
         let (source, want) = *row;
-        assert_eq!(rt; read(alloc, source.as_bytes())?.as_str(), want);
+        check_same(rt, source, &read(alloc, source)?, want);
     }
     Ok(())
 }
@@ -86,19 +94,5 @@ fn check(rt: &impl Abort, alloc: Global, rows: &[(&str, &str)]) -> Result<(), Fa
 fn and_binds_before_or_and_a_fault_is_the_first_token_that_cannot_go_on(
     rt: HostRuntime,
 ) -> Result<(), Fail> {
-    let rows = [
-        ("22h-6h}", "[ 22h-6h ] 1"),
-        (
-            "2h or not true and 3h-4h or false}",
-            "[ 2h ][ !true 3h-4h ][ false ] 1",
-        ),
-        ("not (2h or true) and 5h", "[ !() 5h ] 0"),
-        ("", "fault 0"),
-        ("2h - 3h or}", "fault 1"),
-        ("2h - true and 3h", "fault 3"),
-        ("not not true", "fault 2"),
-        ("(2h or true", "fault 0"),
-        ("(2h 3h)", "fault 2"),
-    ];
-    check(&rt, rt.alloc(), &rows)
+    check(&rt, rt.alloc(), ROWS)
 }

@@ -1,19 +1,13 @@
 // Texts that are scripts or not, each by the grammar of `docs/grammar.md`.
+use crate::texts::{check_same, tokens};
 use script_grammar::tree::{Script, Stmt, StmtPart};
-use script_lex::{Token, TokenKind, lex};
+use script_lex::{Token, TokenKind};
 use script_parse::{ParseFault, parse};
 use script_spelling::spell;
 use std::alloc::{AllocError, Global};
 use std::fmt::Write;
 use std::process::Abort;
 use std::test::Fail;
-
-fn tokens(alloc: Global, source: &[u8]) -> Vec<Token> {
-    match lex(alloc, source) {
-        Ok(tokens) => tokens,
-        Err(_) => Vec::new(alloc),
-    }
-}
 
 fn tokens_text(alloc: Global, tokens: &[Token]) -> Result<String, AllocError> {
     let mut text = String::new(alloc);
@@ -52,84 +46,96 @@ fn spelled(alloc: Global, script: &Script, tokens: &[Token]) -> Result<&'static 
 
 // What is answered of a text.
 fn answer(alloc: Global, source: &str) -> Result<String, AllocError> {
-    let tokens = tokens(alloc, source.as_bytes());
+    let tokens = tokens(alloc, source);
     match parse(alloc, source.as_bytes(), &tokens) {
-        Ok(script) => {
-            let answer = spelled(alloc, &script, &tokens)?;
-            String::from_str(alloc, answer)
-        }
+        Ok(script) => String::from_str(alloc, spelled(alloc, &script, &tokens)?),
         Err(fault) => format!(in alloc; "{fault:?}"),
     }
 }
 
 // Each text has this answer.
+const ROWS: &[(&str, &str)] = &[
+    ("", "script"),
+    ("x = -3", "script"),
+    ("x = 1.", "script"),
+    ("x = (1, 2)", "script"),
+    ("x = ()", "script"),
+    ("f(a = 1, b)", "script"),
+    ("f(a = -2, 7);", "script"),
+    ("f(a == 1)", "script"),
+    ("x = {not (2h or 3h-4h and true)}", "script"),
+    ("def f(~a, ~b=1, c) = x = 1; y = x; y end", "script"),
+    ("def f(~a, ~b=1, c) x = 1 y = x y end", "script"),
+    ("x = if a then b else c end", "script"),
+    ("if a then b else c end", "script"),
+    ("x = %wav(samplesize=16)", "script"),
+    ("def f() = x = %wav (1, 2) end", "script"),
+    ("def f() = x = %wav(samplesize) end", "script"),
+    ("def f() = x = %wav (samplesize = 16) y end", "script"),
+    ("x = 1 y = 2; f(x)", "script"),
+    ("x = [1, -2, \"a\"] and not true or false", "script"),
+    ("x = 1 + 2 * 3 - 4 / 5 <= 6", "script"),
+    ("x = 1 - -2", "Syntax(4)"),
+    ("x =", "Syntax(2)"),
+    ("x = (1", "Syntax(4)"),
+    ("x = (1,)", "Syntax(5)"),
+    ("x = {2h - 3h or}", "Syntax(7)"),
+    ("x = %wav(other=16)", "Syntax(4)"),
+    ("x = %wav (y)", "Syntax(4)"),
+    ("def f() = x = %wav (1 +)", "Syntax(10)"),
+    ("x = not not a", "Syntax(3)"),
+    ("x = a < b < c", "Syntax(5)"),
+    ("x = 1;; y = 2", "Syntax(4)"),
+    ("def f() = -1 end", "Syntax(4)"),
+    ("x = -3 * 2", "Syntax(4)"),
+    ("f(1) + 2", "Syntax(3)"),
+];
+
 fn check(rt: &impl Abort, alloc: Global, rows: &[(&str, &str)]) -> Result<(), Fail> {
     for row in rows {
         let (source, want) = *row;
-        assert_eq!(rt; answer(alloc, source)?.as_str(), want, "{source}");
+        check_same(rt, source, &answer(alloc, source)?, want);
     }
     Ok(())
 }
 
 #[test]
 fn scripts_and_no_scripts(rt: HostRuntime) -> Result<(), Fail> {
-    let rows = [
-        ("", "script"),
-        ("x = -3", "script"),
-        ("x = 1.", "script"),
-        ("x = (1, 2)", "script"),
-        ("x = ()", "script"),
-        ("f(a = 1, b)", "script"),
-        ("f(a == 1)", "script"),
-        ("x = {not (2h or 3h-4h and true)}", "script"),
-        ("def f(~a, ~b=1, c) = x = 1; y = x; y end", "script"),
-        ("def f(~a, ~b=1, c) x = 1 y = x y end", "script"),
-        ("x = if a then b else c end", "script"),
-        ("if a then b else c end", "script"),
-        ("x = %wav(samplesize=16)", "script"),
-        ("def f() = x = %wav (1, 2) end", "script"),
-        ("def f() = x = %wav(samplesize) end", "script"),
-        ("def f() = x = %wav (samplesize = 16) y end", "script"),
-        ("x = 1 y = 2; f(x)", "script"),
-        ("x = [1, -2, \"a\"] and not true or false", "script"),
-        ("x = 1 + 2 * 3 - 4 / 5 <= 6", "script"),
-        ("x = 1 - -2", "Syntax(4)"),
-        ("x =", "Syntax(2)"),
-        ("x = (1", "Syntax(4)"),
-        ("x = (1,)", "Syntax(5)"),
-        ("x = {2h - 3h or}", "Syntax(7)"),
-        ("x = %wav(other=16)", "Syntax(4)"),
-        ("x = %wav (y)", "Syntax(4)"),
-        ("def f() = x = %wav (1 +)", "Syntax(10)"),
-        ("x = not not a", "Syntax(3)"),
-        ("x = a < b < c", "Syntax(5)"),
-        ("x = 1;; y = 2", "Syntax(4)"),
-        ("def f() = -1 end", "Syntax(4)"),
-        ("x = -3 * 2", "Syntax(4)"),
-        ("f(1) + 2", "Syntax(3)"),
-    ];
-    check(&rt, rt.alloc(), &rows)
+    check(&rt, rt.alloc(), ROWS)
 }
 
-// So many openings, what stands between, and so many closings.
+// Each text of so many openings, what stands between and so many closings has this answer.
+const NESTED: &[(&str, usize, &str, &str, usize, &str)] = &[
+    ("(", 200, "1", ")", 200, "script"),
+    ("[", 200, "1", "]", 200, "script"),
+    ("f(", 200, "1", ")", 200, "script"),
+    ("if ", 200, "a", " then b else c end", 200, "script"),
+    ("(", 200, "1", ")", 199, "Syntax(402)"),
+    ("(", 201, "1", ")", 201, "TooDeep(202)"),
+    ("(", 201, "", ")", 0, "TooDeep(202)"),
+    ("(", 200, "+ (1", ")", 201, "Syntax(202)"),
+    ("(", 200, "1 (1", ")", 201, "Syntax(203)"),
+];
+
+fn repeated(alloc: Global, part: &str, times: usize) -> Result<String, AllocError> {
+    let mut text = String::new(alloc);
+    for _ in 0..times {
+        text.push_str(part)?;
+    }
+    Ok(text)
+}
+
 fn nested(
     alloc: Global,
     open: (&str, usize),
     between: &str,
     close: (&str, usize),
 ) -> Result<String, AllocError> {
-    let mut text = String::from_str(alloc, "x = ")?;
-    for _ in 0..open.1 {
-        text.push_str(open.0)?;
-    }
-    text.push_str(between)?;
-    for _ in 0..close.1 {
-        text.push_str(close.0)?;
-    }
-    Ok(text)
+    let front = repeated(alloc, open.0, open.1)?;
+    let back = repeated(alloc, close.0, close.1)?;
+    format!(in alloc; "x = {front}{between}{back}")
 }
 
-// Each text of so many openings, what stands between and so many closings has this answer.
 fn check_nested(
     rt: &impl Abort,
     alloc: Global,
@@ -138,33 +144,14 @@ fn check_nested(
     for row in rows {
         let (open, opened, between, close, closed, want) = *row;
         let source = nested(alloc, (open, opened), between, (close, closed))?;
-        assert_eq!(rt; answer(alloc, source.as_str())?.as_str(), want);
+        check_same(rt, &source, &answer(alloc, &source)?, want);
     }
     Ok(())
 }
 
 #[test]
 fn two_hundred_levels_and_no_more(rt: HostRuntime) -> Result<(), Fail> {
-    let rows = [
-        ("(", 200, "1", ")", 200, "script"),
-        ("[", 200, "1", "]", 200, "script"),
-        ("f(", 200, "1", ")", 200, "script"),
-        ("if ", 200, "a", " then b else c end", 200, "script"),
-        ("(", 200, "1", ")", 199, "Syntax(402)"),
-        ("(", 201, "1", ")", 201, "TooDeep(202)"),
-        ("(", 201, "", ")", 0, "TooDeep(202)"),
-        ("(", 200, "+ (1", ")", 201, "Syntax(202)"),
-        ("(", 200, "1 (1", ")", 201, "Syntax(203)"),
-    ];
-    check_nested(&rt, rt.alloc(), &rows)
-}
-
-fn repeated(alloc: Global, part: &str, times: usize) -> Result<String, AllocError> {
-    let mut text = String::new(alloc);
-    for _ in 0..times {
-        text.push_str(part)?;
-    }
-    Ok(text)
+    check_nested(&rt, rt.alloc(), NESTED)
 }
 
 // How many statements a script has, and the place of the last one's name.
@@ -184,7 +171,7 @@ fn count_and_last(script: &Script) -> (usize, u32) {
 // The same of a script of so many times `x=1;`.
 fn last_of_many(alloc: Global, times: usize) -> Result<(usize, u32), AllocError> {
     let source = repeated(alloc, "x=1;", times)?;
-    let tokens = tokens(alloc, source.as_bytes());
+    let tokens = tokens(alloc, &source);
     match parse(alloc, source.as_bytes(), &tokens) {
         Ok(script) => Ok(count_and_last(&script)),
         Err(_) => Ok((0, 0)),

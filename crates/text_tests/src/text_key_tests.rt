@@ -1,5 +1,6 @@
 //! Copies of texts, and texts as keys.
-use liq_base::Text;
+use liq_base::{Memory, Text};
+use std::alloc::Global;
 use std::cmp::Ordering;
 use std::collections::HashSet;
 use std::process::Abort;
@@ -18,23 +19,30 @@ fn a_copy_is_found_where_its_text_is_a_key(rt: HostRuntime) -> Result<(), Fail> 
     Ok(())
 }
 
-fn check_order(rt: &impl Abort, a: &Text, b: &Text, order: Ordering) {
-    assert_eq!(rt; a.cmp(b), order);
-    assert_eq!(rt; a == b, order.is_eq());
+const ORDERS: &[(&str, &str, Ordering)] = &[
+    ("jingle", "jingles", Ordering::Less),
+    ("jingles", "jingles", Ordering::Equal),
+    ("Z", "a", Ordering::Less),
+    ("ü", "z", Ordering::Greater),
+    ("", "", Ordering::Equal),
+];
+
+// The order of two texts, and whether they are equal.
+fn order(alloc: Global, a: &str, b: &str) -> Result<(Ordering, bool), Memory> {
+    let a = Text::from_str(alloc, a)?;
+    let b = Text::from_str(alloc, b)?;
+    Ok((a.cmp(&b), a == b))
+}
+
+fn check(rt: &impl Abort, alloc: Global, rows: &[(&str, &str, Ordering)]) -> Result<(), Fail> {
+    for row in rows {
+        let (a, b, want) = *row;
+        assert!(rt; order(alloc, a, b)? == (want, want.is_eq()), "{a}, {b}");
+    }
+    Ok(())
 }
 
 #[test]
 fn texts_are_ordered_as_their_bytes(rt: HostRuntime) -> Result<(), Fail> {
-    let alloc = rt.alloc();
-    for (a, b, order) in [
-        ("jingle", "jingles", Ordering::Less),
-        ("jingles", "jingles", Ordering::Equal),
-        ("Z", "a", Ordering::Less),
-        ("ü", "z", Ordering::Greater),
-        ("", "", Ordering::Equal),
-    ] {
-        let (a, b) = (Text::from_str(alloc, a)?, Text::from_str(alloc, b)?);
-        check_order(&rt, &a, &b, order);
-    }
-    Ok(())
+    check(&rt, rt.alloc(), ORDERS)
 }

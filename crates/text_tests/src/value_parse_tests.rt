@@ -1,30 +1,15 @@
 // Texts that begin with a value, and what is read of them, each by the grammar of `docs/grammar.md`.
-ghost use Rattle.std.specs.Prelude.{◌<◌, length};
+ghost use Rattle.std.specs.Prelude.{◌<◌, ◌^◌, length};
 
+use crate::texts::{check_same, tokens};
 use parse_base::Fault;
 use script_grammar::tree::{self, Arg, Expr, Full, Literal};
-use script_lex::{Token, lex};
+use script_lex::Token;
 use std::alloc::{AllocError, Global};
 use std::fmt::Write;
 use std::process::Abort;
 use std::test::Fail;
 use value_parse::{call, choice, result, value};
-
-// The tokens of a short text.
-fn tokens(alloc: Global, source: &[u8]) -> Vec<Token>
-    ensures { length result.items < 1000 }
-{
-    match lex(alloc, source) {
-        Ok(tokens) => {
-            if tokens.len() < 1000 {
-                tokens
-            } else {
-                Vec::new(alloc)
-            }
-        }
-        Err(_) => Vec::new(alloc),
-    }
-}
 
 // The first operand.
 fn shown(alloc: Global, full: &Full) -> Result<String, AllocError> {
@@ -66,38 +51,14 @@ fn with_left(alloc: Global, full: &Full, left: usize) -> Result<String, AllocErr
 }
 
 // The value's first operand and how many tokens are left, or the fault.
-fn read(alloc: Global, loose: bool, source: &[u8]) -> Result<String, AllocError> {
-    let tokens = tokens(alloc, source);
-    match value(alloc, tokens.len(), loose, &tokens) {
+fn read_value(alloc: Global, loose: bool, tokens: &[Token]) -> Result<String, AllocError>
+    requires { length tokens.now < 2 ^ 32 }
+{
+    match value(alloc, tokens.len(), loose, tokens) {
         Ok((full, rest)) => with_left(alloc, &full, rest.len()),
         Err(Fault::Syntax(left)) => format!(in alloc; "fault {left}"),
         Err(Fault::Memory) => String::from_str(alloc, "out of memory"),
     }
-}
-
-// Of each text this is read, where a format is loose or not.
-fn check(rt: &impl Abort, alloc: Global, rows: &[(bool, &str, &str)]) -> Result<(), Fail> {
-    for row in rows {
-        let (loose, source, want) = *row;
-        assert_eq!(rt; read(alloc, loose, source.as_bytes())?.as_str(), want);
-    }
-    Ok(())
-}
-
-#[test]
-fn brackets_hold_values_and_a_loose_format_leaves_a_tuple(rt: HostRuntime) -> Result<(), Fail> {
-    let rows = [
-        (false, "()", "nothing, 0"),
-        (false, "(1)", "parentheses, 0"),
-        (false, "(1, 2) x", "tuple of 2, 1"),
-        (false, "[1, -2, [3]]", "list of 3, 0"),
-        (false, "1 - -2", "fault 2"),
-        (false, "-2 - 1", "negative, 2"),
-        (true, "%wav(samplesize=16)", "wav of 16, 0"),
-        (true, "%wav (1, 2)", "wav, 5"),
-        (false, "%wav (1, 2)", "fault 4"),
-    ];
-    check(&rt, rt.alloc(), &rows)
 }
 
 fn push_arg(alloc: Global, text: &mut String, arg: &Arg) -> Result<(), AllocError> {
@@ -119,23 +80,13 @@ fn shown_args(alloc: Global, args: &[Arg]) -> Result<String, AllocError> {
 }
 
 // The arguments of the call.
-fn read_call(alloc: Global, source: &[u8]) -> Result<String, AllocError> {
-    let tokens = tokens(alloc, source);
-    match call(alloc, tokens.len(), &tokens) {
+fn read_call(alloc: Global, tokens: &[Token]) -> Result<String, AllocError>
+    requires { length tokens.now < 2 ^ 32 }
+{
+    match call(alloc, tokens.len(), tokens) {
         Ok((call, _)) => shown_args(alloc, &call.args),
         Err(_) => String::from_str(alloc, "fault"),
     }
-}
-
-#[test]
-fn a_call_keeps_its_labels(rt: HostRuntime) -> Result<(), Fail> {
-    let alloc = rt.alloc();
-    assert_eq!(rt;
-        read_call(alloc, b"f(a = 1, b)")?.as_str(),
-        "a: 1 at 3; b at 5; "
-    );
-    assert_eq!(rt; read_call(alloc, b"f(a = 1 b)")?.as_str(), "fault");
-    Ok(())
 }
 
 fn both_shown(alloc: Global, left: &Full, right: &Full) -> Result<String, AllocError> {
@@ -145,23 +96,13 @@ fn both_shown(alloc: Global, left: &Full, right: &Full) -> Result<String, AllocE
 }
 
 // The first operands of the two parts.
-fn read_choice(alloc: Global, source: &[u8]) -> Result<String, AllocError> {
-    let tokens = tokens(alloc, source);
-    match choice(alloc, tokens.len(), &tokens) {
+fn read_choice(alloc: Global, tokens: &[Token]) -> Result<String, AllocError>
+    requires { length tokens.now < 2 ^ 32 }
+{
+    match choice(alloc, tokens.len(), tokens) {
         Ok((choice, _)) => both_shown(alloc, &choice.then_part, &choice.else_part),
         Err(_) => String::from_str(alloc, "fault"),
     }
-}
-
-#[test]
-fn an_if_has_two_parts(rt: HostRuntime) -> Result<(), Fail> {
-    let alloc = rt.alloc();
-    assert_eq!(rt;
-        read_choice(alloc, b"if a then 1 else 2 end")?.as_str(),
-        "1 at 3, 2 at 5"
-    );
-    assert_eq!(rt; read_choice(alloc, b"if a then 1 end")?.as_str(), "fault");
-    Ok(())
 }
 
 // How many parts each `and` of the expression has, and how many tokens are left.
@@ -175,19 +116,65 @@ fn counts(alloc: Global, expr: &Expr, left: usize) -> Result<String, AllocError>
     Ok(text)
 }
 
-fn read_result(alloc: Global, source: &[u8]) -> Result<String, AllocError> {
-    let tokens = tokens(alloc, source);
-    match result(alloc, tokens.len(), &tokens) {
+fn read_result(alloc: Global, tokens: &[Token]) -> Result<String, AllocError>
+    requires { length tokens.now < 2 ^ 32 }
+{
+    match result(alloc, tokens.len(), tokens) {
         Ok((expr, rest)) => counts(alloc, &expr, rest.len()),
         Err(_) => String::from_str(alloc, "fault"),
     }
 }
 
-#[test]
-fn and_binds_before_or(rt: HostRuntime) -> Result<(), Fail> {
-    let alloc = rt.alloc();
-    let source = b"a or b and not c < 1 + 2 * 3 end";
-    assert_eq!(rt; read_result(alloc, source)?.as_str(), "1: 0 1");
-    assert_eq!(rt; read_result(alloc, b"-1")?.as_str(), "fault");
+// What is read of a text.
+#[derive(Clone, Copy)]
+enum Part {
+    Value,
+    LooseValue,
+    Call,
+    If,
+    Result,
+}
+
+fn read(alloc: Global, part: Part, source: &str) -> Result<String, AllocError> {
+    let tokens = tokens(alloc, source);
+    match part {
+        Part::Value => read_value(alloc, false, &tokens),
+        Part::LooseValue => read_value(alloc, true, &tokens),
+        Part::Call => read_call(alloc, &tokens),
+        Part::If => read_choice(alloc, &tokens),
+        Part::Result => read_result(alloc, &tokens),
+    }
+}
+
+// Of each text this is read. Brackets hold values, and a loose format leaves a tuple; a call keeps its labels; an `if`
+// has two parts; `and` binds before `or`.
+const ROWS: &[(Part, &str, &str)] = &[
+    (Part::Value, "()", "nothing, 0"),
+    (Part::Value, "(1)", "parentheses, 0"),
+    (Part::Value, "(1, 2) x", "tuple of 2, 1"),
+    (Part::Value, "[1, -2, [3]]", "list of 3, 0"),
+    (Part::Value, "1 - -2", "fault 2"),
+    (Part::Value, "-2 - 1", "negative, 2"),
+    (Part::LooseValue, "%wav(samplesize=16)", "wav of 16, 0"),
+    (Part::LooseValue, "%wav (1, 2)", "wav, 5"),
+    (Part::Value, "%wav (1, 2)", "fault 4"),
+    (Part::Call, "f(a = 1, b)", "a: 1 at 3; b at 5; "),
+    (Part::Call, "f(a = 1 b)", "fault"),
+    (Part::If, "if a then 1 else 2 end", "1 at 3, 2 at 5"),
+    (Part::If, "if a then 1 end", "fault"),
+    (Part::Result, "a or b and not c < 1 + 2 * 3 end", "1: 0 1"),
+    (Part::Result, "-1", "fault"),
+];
+
+fn check(rt: &impl Abort, alloc: Global, rows: &[(Part, &str, &str)]) -> Result<(), Fail> {
+    for row in rows {
+        let (part, source, want) = *row;
+        check_same(rt, source, &read(alloc, part, source)?, want);
+    }
     Ok(())
+}
+
+#[test]
+fn each_part_of_a_value_is_read(rt: HostRuntime) -> Result<(), Fail> {
+    check(&rt, rt.alloc(), ROWS)
 }
