@@ -1,6 +1,6 @@
 -- What a job leaves, by the way that it ends.
-use Rattle.std.proofs.Common.{◌≡◌, ◌≤◌, ℕ, Bool, List, refl, ◌∙◌, arith}
-use Rattle.std.specs.Prelude.{Option, Some, Ok, Err, IsSomeAnd}
+use Rattle.std.proofs.Common.{◌≡◌, ◌≤◌, ℕ, Bool, List, refl, sym, subst, ◌∙◌, arith}
+use Rattle.std.specs.Prelude.{Option, Some, Result, Ok, Err, IfOk, IfErr, IsSomeAnd}
 use Rattle.std.specs.Option.{ForSome}
 use Rattle.liq_base.specs.Counts.{Rose}
 use Rattle.liq_base.specs.Files.{Files}
@@ -47,7 +47,7 @@ stopped_early asked told left reads_before reads_after writes_before writes_afte
 }
 
 -- memory was refused where nothing was created
-pub stopped_for_memory : {U : Type 0} (asked : Asked) (told left : Option Files) (reads_before reads_after writes_before writes_after : ℕ) → left ≡ told
+stopped_for_memory : {U : Type 0} (asked : Asked) (told left : Option Files) (reads_before reads_after writes_before writes_after : ℕ) → left ≡ told
     → Stops {T = U} asked told left reads_before reads_after writes_before writes_after (Err no_memory)
 stopped_for_memory asked told left reads_before reads_after writes_before writes_after same = record {
   fault = λ fault at. absurd (cc);
@@ -60,7 +60,7 @@ stopped_for_memory asked told left reads_before reads_after writes_before writes
 }
 
 -- a job that has its report did not stop
-pub went_on : {U : Type 0} (asked : Asked) (told left : Option Files) (reads_before reads_after writes_before writes_after : ℕ) (v : U)
+went_on : {U : Type 0} (asked : Asked) (told left : Option Files) (reads_before reads_after writes_before writes_after : ℕ) (v : U)
     → Stops {T = U} asked told left reads_before reads_after writes_before writes_after (Ok v)
 went_on asked told left reads_before reads_after writes_before writes_after v = record {
   fault = λ fault at. absurd (cc);
@@ -71,6 +71,19 @@ went_on asked told left reads_before reads_after writes_before writes_after v = 
   broken = λ at. absurd (cc);
   memory = λ at. absurd (cc);
 }
+
+-- a job whose last step is its report, where nothing was created
+pub ended_kept : {U : Type 0} (r : Result U Halt) (asked : Asked) (told left : Option Files) (reads_before reads_after writes_before writes_after : ℕ)
+    → IfErr r (λ e. e ≡ no_memory) → left ≡ told → Stops {T = U} asked told left reads_before reads_after writes_before writes_after r
+ended_kept {U} (Ok v) asked told left reads_before reads_after writes_before writes_after starved same = went_on asked told left reads_before reads_after writes_before writes_after v
+ended_kept {U} (Err e) asked told left reads_before reads_after writes_before writes_after starved same =
+    subst (λ x. Stops {T = U} asked told left reads_before reads_after writes_before writes_after (Err x)) (sym starved)
+    (stopped_for_memory asked told left reads_before reads_after writes_before writes_after same)
+
+-- what holds of the report that was made
+pub of_report : {T E F : Type 0} (r : Result T E) (s : Result T F) (P Q : T → Type 0) → IfOk r (λ t. s ≡ Ok t) → IfOk s P → ((t : T) → P t → Q t) → IfOk r Q
+of_report (Ok t) s P Q is holds on = on t (subst (λ x. IfOk x P) is holds)
+of_report (Err e) s P Q is holds on = tt
 
 -- the report of a check
 pub checked : (file : List ℕ) (told left : Option Files) (plan : Plan) (library : Sounds) (clocks : ClockMap) (report : List ℕ)
@@ -113,7 +126,7 @@ module _ (file : List ℕ) (start ticks : ℕ) (told left : Option Files) (plan 
   }
 
   -- memory was refused for the report
-  pub unreported : {U : Type 0} (reads_before reads_after writes_before writes_after : ℕ)
+  unreported : {U : Type 0} (reads_before reads_after writes_before writes_after : ℕ)
       → ForSome told (λ files. left ≡ Some (with_outputs files (outputs_of station no_buffers)))
       → Stops {T = U} (Render file start ticks) told left reads_before reads_after writes_before writes_after (Err no_memory)
   unreported reads_before reads_after writes_before writes_after written = record {
@@ -126,6 +139,15 @@ module _ (file : List ℕ) (start ticks : ℕ) (told left : Option Files) (plan 
     memory = λ at files t. for_each (Render file start ticks) files (Found plan library clocks) (λ a. Starved a (Rose writes_before writes_after) files left) (one files t)
         (record { run = no_buffers; begun = refl; parts = whole_created (Rose writes_before writes_after) left files (outputs_of station no_buffers) (written files t) });
   }
+
+  -- a rendering whose last step is its report
+  pub ended_written : {U : Type 0} (r : Result U Halt) (reads_before reads_after writes_before writes_after : ℕ) → IfErr r (λ e. e ≡ no_memory)
+      → ForSome told (λ files. left ≡ Some (with_outputs files (outputs_of station no_buffers)))
+      → Stops {T = U} (Render file start ticks) told left reads_before reads_after writes_before writes_after r
+  ended_written {U} (Ok v) reads_before reads_after writes_before writes_after starved written = went_on (Render file start ticks) told left reads_before reads_after writes_before writes_after v
+  ended_written {U} (Err e) reads_before reads_after writes_before writes_after starved written =
+      subst (λ x. Stops {T = U} (Render file start ticks) told left reads_before reads_after writes_before writes_after (Err x)) (sym starved)
+      (unreported reads_before reads_after writes_before writes_after written)
 
   -- the report of a rendering
   pub rendered : (report : List ℕ) → ForSome told (λ files. left ≡ Some (with_outputs files (outputs_of station no_buffers)))

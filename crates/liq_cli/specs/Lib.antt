@@ -2,3 +2,4 @@ pub mod Words
 pub mod Answer
 pub mod Call
 pub mod Prepared
+pub mod Telling

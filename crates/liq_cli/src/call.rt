@@ -1,12 +1,15 @@
 // The top call.
 ghost use Rattle.std.specs.Prelude.{◌≡◌, None};
 ghost use Rattle.liq_cli.specs.Call.{Ends, IsComplete, moment_of};
+ghost use Rattle.liq_cli.specs.Telling.{MayTell, Tells};
 ghost use Rattle.liq_cli.specs.Words.{texts};
+ghost use Rattle.refusal_lines.specs.Lines.{line_of};
 
 use crate::halt::Halt;
 use crate::jobs::do_job;
 use crate::words::read_words;
 use liq_base::{Failed, Gate, Memory, Shelf, Sink};
+use refusal_lines::Fault;
 use std::alloc::Global;
 
 const USAGE: &str =
@@ -70,25 +73,35 @@ fn run<S: Shelf, O: Sink, E: Sink>(
         result }
 {
     let Some(form) = read_words(words) else {
-        return match err.append(USAGE.as_bytes()) {
-            Ok(()) => NO_FORM,
-            Err(Failed) => WRITE_FAILED,
-        };
+        return tell(err, USAGE, NO_FORM);
     };
     match do_job(alloc, form, shelf) {
-        Ok(report) => match out.append(report.as_bytes()) {
-            Ok(()) => DONE,
-            Err(Failed) => WRITE_FAILED,
-        },
-        Err(Halt::Refused(fault)) => match fault.line(alloc) {
-            Ok(line) => match err.append(line.as_bytes()) {
-                Ok(()) => REFUSED,
-                Err(Failed) => WRITE_FAILED,
-            },
-            Err(Memory) => NO_MEMORY,
-        },
+        Ok(report) => tell(out, report.as_str(), DONE),
+        Err(Halt::Refused(fault)) => refuse(alloc, &fault, err),
         Err(Halt::Read) => READ_FAILED,
         Err(Halt::Write) => WRITE_FAILED,
         Err(Halt::Memory) => NO_MEMORY,
+    }
+}
+
+// Writes the line of a refusal.
+fn refuse<E: Sink>(alloc: Global, fault: &Fault, err: &mut E) -> u8
+    requires { E.room err.old ≡ None }
+    ensures { MayTell E.held E.faults (line_of fault.now) 1 err.old err.new result }
+{
+    match fault.line(alloc) {
+        Ok(line) => tell(err, line.as_str(), REFUSED),
+        Err(Memory) => NO_MEMORY,
+    }
+}
+
+// Writes the one text of a call, and answers this status if all of it was written.
+fn tell<W: Sink>(sink: &mut W, text: &str, status: u8) -> u8
+    requires { W.room sink.old ≡ None }
+    ensures { Tells W.held W.faults text.now status sink.old sink.new result }
+{
+    match sink.append(text.as_bytes()) {
+        Ok(()) => status,
+        Err(Failed) => WRITE_FAILED,
     }
 }

@@ -1,6 +1,7 @@
 // What is done before the last text is written.
-ghost use Rattle.std.specs.Prelude.{◌≡◌, ◌≤◌, ◌^◌, IfOk, string_bytes};
+ghost use Rattle.std.specs.Prelude.{◌≡◌, ◌≤◌, ◌^◌, IfOk, IfErr, Ok, string_bytes};
 ghost use Rattle.std.specs.Option.{ForSome};
+ghost use Rattle.liq_cli.specs.declared.halt.Halt.TheVariants.{Memory as no_memory};
 ghost use Rattle.liq_cli.specs.Call.{Rendered};
 ghost use Rattle.liq_cli.specs.Prepared.{asked_of, ForOne, Stops, ticks_in};
 ghost use Rattle.liq_cli.specs.Words.{Check, Render};
@@ -9,7 +10,7 @@ use crate::halt::Halt;
 use crate::prepare::prepare;
 use crate::words::{Form, Task};
 use fixed_text::WeekSecond;
-use liq_base::Shelf;
+use liq_base::{Memory, Shelf};
 use station_check::check_report;
 use station_laws::infallible_outputs_have_no_gaps;
 use station_render::{render, report};
@@ -37,7 +38,7 @@ fn check_job<S: Shelf>(alloc: Global, file: &str, shelf: &mut S) -> Result<Strin
         (S.write_count shelf.old) (S.write_count shelf.new) result }
 {
     let work = prepare(alloc, file, 0, shelf)?;
-    Ok(check_report(alloc, &work.plan, &work.ready)?)
+    report_or_halt(check_report(alloc, &work.plan, &work.ready))
 }
 
 // The report of a rendering, whose outputs are written.
@@ -57,5 +58,13 @@ fn render_job<S: Shelf>(
     let work = prepare(alloc, file, ticks, shelf)?;
     infallible_outputs_have_no_gaps();
     let gaps = render(alloc, &work.plan, &work.ready, start, ticks, shelf)?;
-    Ok(report(alloc, &work.plan, ticks, &gaps)?)
+    report_or_halt(report(alloc, &work.plan, ticks, &gaps))
+}
+
+// The report, or that memory was refused for it. Where a plan is alive, a `?` would be one more place at which it ends.
+fn report_or_halt(report: Result<String, Memory>) -> Result<String, Halt>
+    ensures told { IfOk result (λ text. report ≡ Ok text) }
+    ensures starved { IfErr result (λ halt. halt ≡ no_memory) }
+{
+    Ok(report?)
 }

@@ -1,6 +1,6 @@
 use Rattle.std.proofs.lemmas.Result.{err_from_is_err_and}
 use Rattle.liq_cli.specs.Words.{Check}
-use Rattle.liq_cli.proofs.Leavings.{checked, stopped_early}
+use Rattle.liq_cli.proofs.Leavings.{checked, ended_kept, of_report, stopped_early}
 use Rattle.liq_cli.proofs.jobs.check_job.Goals as goal
 
 pub returns-in_err-work-clause-stops : goal.returns-in_err-work-clause-stops
@@ -10,4 +10,9 @@ returns-in_err-work-clause-stops g c =
 
 pub returns-clause-done : goal.returns-clause-done
 returns-clause-done g c =
-    checked c.args.file.now _ _ _ _ _ _ c.in_ok-work.ensures.found c.prepare.ensures.shelf.files_kept c.in_ok-check_report.ensures
+    of_report c.report_or_halt.result c.check_report.result _ _ c.report_or_halt.ensures.told c.check_report.ensures
+    (λ text tells. checked c.args.file.now _ _ _ _ _ _ c.in_ok-work.ensures.found c.prepare.ensures.shelf.files_kept tells)
+
+pub returns-clause-stops : goal.returns-clause-stops
+returns-clause-stops g c =
+    ended_kept c.report_or_halt.result (Check c.args.file.now) _ _ _ _ _ _ c.report_or_halt.ensures.starved c.prepare.ensures.shelf.files_kept

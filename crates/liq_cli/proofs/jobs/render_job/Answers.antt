@@ -3,7 +3,7 @@ use Rattle.std.proofs.lemmas.Result.{err_from_is_err_and}
 use Rattle.stations.specs.Stations.{no_buffers, station_of}
 use Rattle.liq_cli.specs.Words.{Render}
 use Rattle.liq_cli.proofs.Counted.{as_many}
-use Rattle.liq_cli.proofs.Leavings.{broke_off, rendered, stopped_early, unreported}
+use Rattle.liq_cli.proofs.Leavings.{broke_off, ended_written, of_report, rendered, stopped_early}
 use Rattle.liq_cli.proofs.jobs.render_job.Goals as goal
 
 pub returns-in_err-work-clause-stops : goal.returns-in_err-work-clause-stops
@@ -17,19 +17,19 @@ returns-in_err-gaps-clause-stops g c =
     (broke_off c.args.file.now c.args.start.second c.args.ticks _ _ _ _ _ c.in_ok-work.ensures.found _ _ _ _ _ _ c.prepare.ensures.shelf.writes_grew
     (λ files t. c.in_err-gaps.ensures.part files (c.prepare.ensures.shelf.files_kept ∙ t)) (λ at. c.in_err-gaps.ensures.cause (ap Err at)))
 
-pub returns-in_err-report-clause-stops : goal.returns-in_err-report-clause-stops
-returns-in_err-report-clause-stops g c =
-    let p = err_from_is_err_and c.from_residual-in_err-report.result c.from_residual-in_err-report.ensures.1 in rw (p.1, p.2)
-    (unreported c.args.file.now c.args.start.second c.args.ticks _ _ _ _ _ c.in_ok-work.ensures.found _ _ _ _
-    (λ files t. c.in_ok-gaps.ensures.done files (c.prepare.ensures.shelf.files_kept ∙ t)))
+pub returns-clause-stops : goal.returns-clause-stops
+returns-clause-stops g c =
+    ended_written c.args.file.now c.args.start.second c.args.ticks _ _ _ _ _ c.in_ok-work.ensures.found c.report_or_halt.result _ _ _ _ c.report_or_halt.ensures.starved
+    (λ files t. c.in_ok-gaps.ensures.done files (c.prepare.ensures.shelf.files_kept ∙ t))
 
 pub returns-clause-done : goal.returns-clause-done
 returns-clause-done g c =
     let station = station_of c.in_ok-work.work.plan c.in_ok-work.work.ready c.args.start.second c.args.ticks in
-    rendered c.args.file.now c.args.start.second c.args.ticks _ _ _ _ _ c.in_ok-work.ensures.found _
+    of_report c.report_or_halt.result c.report.result _ _ c.report_or_halt.ensures.told c.report.ensures
+    (λ text tells. rendered c.args.file.now c.args.start.second c.args.ticks _ _ _ _ _ c.in_ok-work.ensures.found _
     (λ files t. c.in_ok-gaps.ensures.done files (c.prepare.ensures.shelf.files_kept ∙ t))
-    (c.in_ok-report.ensures station no_buffers refl refl (c.deref.ensures.value ∙ c.in_ok-gaps.ensures.gaps))
-    (λ files one. c.infallible_outputs_have_no_gaps.ensures files station no_buffers c.in_ok-work.ensures.fit.plan_is one.holds.accepted c.args.start.in_week)
+    (tells station no_buffers refl refl (c.deref.ensures.value ∙ c.in_ok-gaps.ensures.gaps))
+    (λ files one. c.infallible_outputs_have_no_gaps.ensures files station no_buffers c.in_ok-work.ensures.fit.plan_is one.holds.accepted c.args.start.in_week))
 
 pub report-requires-clause-many : goal.report-requires-clause-many
 report-requires-clause-many g c = as_many (station_of c.in_ok-work.work.plan c.in_ok-work.work.ready c.args.start.second c.args.ticks) no_buffers _ (c.deref.ensures.value ∙ c.in_ok-gaps.ensures.gaps)
