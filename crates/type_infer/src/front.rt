@@ -3,7 +3,7 @@ ghost use Rattle.std.specs.Prelude.{◌≡◌, ◌≢◌, ◌++◌, None, Some, 
 ghost use Rattle.script_grammar.specs.View.{view_stmt};
 ghost use Rattle.typing_rules.specs.NameFaults.{faults_in, in_statement, told};
 ghost use Rattle.typing_rules.specs.Scoping.{meant, names, with_statement};
-ghost use Rattle.name_scope.specs.Noted.{resolved};
+ghost use Rattle.name_scope.specs.Noted.{found_in, resolved};
 ghost use Rattle.name_scope.specs.Seen.{in_scope};
 ghost use Rattle.type_infer.specs.Fronts.{IsFront};
 
@@ -27,13 +27,14 @@ pub fn resolve_front(alloc: Global, statements: &[Stmt]) -> Result<Front, Memory
     ensures { IfOk result (λ f. IsFront (map view_stmt statements.now) f.count (map resolved f.all.items) f.fault) }
 {
     let mut scope = Scope::new(alloc);
+    let mut notes = Notes::new(alloc);
     let mut all = Vec::new(alloc);
     let mut number: u32 = 0;
     for stmt in statements {
         if number == u32::MAX {
             return Err(Memory);
         }
-        match names_of(alloc, &mut scope, stmt, number + 1) {
+        match note_names(alloc, &mut scope, &mut notes, stmt, number + 1) {
             Err(fault) => {
                 return Ok(Front {
                     all,
@@ -41,7 +42,7 @@ pub fn resolve_front(alloc: Global, statements: &[Stmt]) -> Result<Front, Memory
                     fault: Some(fault),
                 });
             }
-            Ok(found) => add_all(&mut all, &found)?,
+            Ok(()) => add_all(&mut all, &notes.found)?,
         }
         number += 1;
     }
@@ -52,21 +53,24 @@ pub fn resolve_front(alloc: Global, statements: &[Stmt]) -> Result<Front, Memory
     })
 }
 
-/// What the names of one statement mean, and the scope behind it; or the fault of names that is told of it.
-fn names_of<'a>(
+/// Notes what the names of one statement mean, and these alone, and goes to the scope behind it; or tells the fault of names.
+fn note_names<'a>(
     alloc: Global,
     scope: &mut Scope<'a>,
+    notes: &mut Notes,
     stmt: &'a Stmt,
     number: u32,
-) -> Result<Vec<Resolved>, TypeFault>
-    ensures names { IfOk result (λ found. map resolved found.items ≡ map meant (names (in_scope scope.old) (view_stmt stmt.entry.now))) }
-    ensures faultless { IfOk result (λ found. told (faults_in (in_scope scope.old) (view_stmt stmt.entry.now)) ≡ None) }
-    ensures bound { IfOk result (λ found. in_scope scope.new ≡ with_statement (view_stmt stmt.entry.now) (in_scope scope.old)) }
+) -> Result<(), TypeFault>
+    requires clear { notes.old.fault ≡ None }
+    ensures names { OnOk result (found_in notes.new ≡ map meant (names (in_scope scope.old) (view_stmt stmt.entry.now))) }
+    ensures clear { OnOk result (notes.new.fault ≡ None) }
+    ensures faultless { OnOk result (told (faults_in (in_scope scope.old) (view_stmt stmt.entry.now)) ≡ None) }
+    ensures bound { OnOk result (in_scope scope.new ≡ with_statement (view_stmt stmt.entry.now) (in_scope scope.old)) }
     ensures told { IfErr result (λ f. f ≢ TypeFault.Memory → option_map (in_statement number) (told (faults_in (in_scope scope.old) (view_stmt stmt.entry.now))) ≡ Some f) }
 {
-    let mut notes = Notes::new(alloc);
-    resolve_statement(alloc, scope, &mut notes, stmt, number)?;
-    Ok(notes.found)
+    notes.found.clear();
+    resolve_statement(alloc, scope, notes, stmt, number)?;
+    Ok(())
 }
 
 /// Adds what more names mean.

@@ -22,10 +22,11 @@ loop-stmt-preserved c =
     let x = c.stmt-item.result in
     let more = c.in_ok-add_all-in-Ok.ensures ∙ ap (λ l. map resolved c.loop-stmt.all.items ++ map resolved l) c.deref.ensures.value in
     record {
-      names_are = names_next (map view_stmt xs) i (map resolved c.loop-stmt.all.items) (map resolved c.add_all.new.all.items) (map resolved c.in-Ok.found.items) (view_stmt x) (in_scope c.loop-stmt.scope)
+      names_are = names_next (map view_stmt xs) i (map resolved c.loop-stmt.all.items) (map resolved c.add_all.new.all.items) (map resolved c.note_names.new.notes.found.items) (view_stmt x) (in_scope c.loop-stmt.scope)
           c.loop-stmt.invariant.names_are (below_seen xs i c.loop-stmt-test.true) (stmt_seen xs i x c.loop-stmt-test.true c.stmt-item.is) c.loop-stmt.invariant.scope_is c.in-Ok.ensures.names c.in-Ok.ensures.faultless more;
+      clear = c.in-Ok.ensures.clear;
       number_is = ap (λ n. n + 1) c.loop-stmt.invariant.number_is;
-      scope_is = scope_next (map view_stmt xs) i (view_stmt x) (in_scope c.loop-stmt.scope) (in_scope c.names_of.new.scope) (below_seen xs i c.loop-stmt-test.true) (stmt_seen xs i x c.loop-stmt-test.true c.stmt-item.is) c.loop-stmt.invariant.scope_is c.in-Ok.ensures.bound;
+      scope_is = scope_next (map view_stmt xs) i (view_stmt x) (in_scope c.loop-stmt.scope) (in_scope c.note_names.new.scope) (below_seen xs i c.loop-stmt-test.true) (stmt_seen xs i x c.loop-stmt-test.true c.stmt-item.is) c.loop-stmt.invariant.scope_is c.in-Ok.ensures.bound;
     }
 
 pub returns : goal.returns

@@ -1,4 +1,4 @@
-use Rattle.std.proofs.Common.{◌≡◌, [], map}
+use Rattle.std.proofs.Common.{◌≡◌, [], map, None}
 use Rattle.script_grammar.specs.View.{listed, view_stmt}
 use Rattle.typing_rules.specs.Scripts.{first_of}
 use Rattle.name_scope.specs.Noted.{resolved}
@@ -10,6 +10,7 @@ use Rattle.type_infer.proofs.front.resolve_front.Given as goal
 abbrev pub invariant-loop-stmt : goal.invariant-loop-stmt
 invariant-loop-stmt l = record {
   names_are : AreNamesOf (map view_stmt l.statements) l.stmt-index (map resolved l.all.items);
+  clear : l.notes.fault ≡ None;
   number_is : l.number ≡ l.stmt-index;
   scope_is : in_scope l.scope ≡ scope_after [] (first_of l.stmt-index (listed (map view_stmt l.statements)));
 }
