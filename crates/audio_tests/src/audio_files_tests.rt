@@ -1,25 +1,39 @@
 // Lists of audio files, and samples.
+use liq_base::Text;
 use std::alloc::{AllocError, Global};
+use std::process::Abort;
 use std::test::Fail;
 use track_library::{read_list, read_samples};
 
-/// The names in a list, each with a bar behind it.
-fn barred(alloc: Global, list: &[u8]) -> Result<String, AllocError> {
-    let mut text = String::new(alloc);
-    let Ok(names) = read_list(alloc, list) else {
-        return Ok(text);
-    };
-    for name in &names {
+/// Appends the names, each with a bar behind it.
+fn push_names(text: &mut String, names: &[Text]) -> Result<(), AllocError> {
+    for name in names {
         text.push_str(name.as_str())?;
         text.push_str("|")?;
     }
+    Ok(())
+}
+
+/// The names in a list, each with a bar behind it.
+fn barred(alloc: Global, list: &[u8]) -> Result<String, Fail> {
+    let names = read_list(alloc, list)?;
+    let mut text = String::new(alloc);
+    push_names(&mut text, &names)?;
     Ok(text)
+}
+
+/// Each row: a list, and its names.
+fn check(rt: &impl Abort, alloc: Global, rows: &[(&[u8], &str)]) -> Result<(), Fail> {
+    for (list, want) in rows {
+        let names = barred(alloc, list)?;
+        assert!(rt; names.as_str() == *want);
+    }
+    Ok(())
 }
 
 #[test]
 fn a_list_has_its_names(rt: HostRuntime) -> Result<(), Fail> {
-    let alloc = rt.alloc();
-    for (list, want) in [
+    let rows = [
         (b"\xef\xbb\xbf#x\r\na\r\n\nb".as_slice(), "a|b|"),
         (b"".as_slice(), ""),
         (b"\xef\xbb\xbf".as_slice(), ""),
@@ -27,11 +41,8 @@ fn a_list_has_its_names(rt: HostRuntime) -> Result<(), Fail> {
             b"one name\n\xff\n two\r\r\n\xef\xbb\xbfthree".as_slice(),
             "one name| two\r|\u{feff}three|",
         ),
-    ] {
-        let names = barred(alloc, list)?;
-        assert!(rt; names.as_str() == want);
-    }
-    Ok(())
+    ];
+    check(&rt, rt.alloc(), &rows)
 }
 
 #[test]

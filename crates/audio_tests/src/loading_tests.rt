@@ -1,10 +1,10 @@
 // The audio files of whole plans.
-ghost use Rattle.std.specs.Prelude.{◌≡◌, ◌≤◌, length, IfOk};
+ghost use Rattle.std.specs.Prelude.{◌≡◌, length, IfOk};
 
-use frame_core::Library;
-use liq_base::{Kind, SureShelf, Text};
+use liq_base::{Kind, Memory, SureShelf, Text};
 use plan_core::{Items, Node, Op, Plan};
 use std::alloc::{AllocError, Global};
+use std::process::Abort;
 use track_library::{LoadFault, Sizes, load};
 use wav_io::WavFault;
 
@@ -12,108 +12,126 @@ use wav_io::WavFault;
 const FILE: [u8; 50] =
     *b"RIFF\x2a\x00\x00\x00WAVEfmt \x10\x00\x00\x00\x01\x00\x01\x00\x44\xac\x00\x00\x88\x58\x01\x00\x02\x00\x10\x00data\x06\x00\x00\x00\x01\x00\x02\x00\x03\x00";
 
-/// A shelf with the audio file B, a file of text, and a list of both and of a file that is not there.
+/// A file of this name and these bytes.
+fn file_of(alloc: Global, name: &str, bytes: &[u8]) -> Result<(String, Vec<u8>), AllocError> {
+    let name = String::from_str(alloc, name)?;
+    let bytes = bytes.to_vec(alloc)?;
+    Ok((name, bytes))
+}
+
+/// Adds the audio file B, a file of text, and a list of both and of a file that is not there.
+fn add_files(alloc: Global, files: &mut Vec<(String, Vec<u8>)>) -> Result<(), AllocError> {
+    files.push(file_of(alloc, "B", &FILE)?)?;
+    files.push(file_of(alloc, "list", b"none\nB\ntext\nB\n")?)?;
+    files.push(file_of(alloc, "text", b"no audio file")?)?;
+    Ok(())
+}
+
+/// A shelf with these files.
 fn shelf(alloc: Global) -> Result<SureShelf, AllocError> {
     let mut files = Vec::new(alloc);
-    for (name, bytes) in [
-        ("B", FILE.as_slice()),
-        ("list", b"none\nB\ntext\nB\n".as_slice()),
-        ("text", b"no audio file".as_slice()),
-    ] {
-        let name = String::from_str(alloc, name)?;
-        let bytes = bytes.to_vec(alloc)?;
-        files.push((name, bytes))?;
-    }
+    add_files(alloc, &mut files)?;
     Ok(SureShelf::new(alloc, files))
 }
 
-/// What loading a plan of this leaf answers, with a most of bytes for one file and for all.
-fn load_leaf(alloc: Global, leaf: Op, file: u64, all: u64) -> Result<Library, LoadFault>
-    requires { file ≤ 1000 }
-    ensures { IfOk result (λ library. length library.leaves ≡ 1) }
+/// A plan of this leaf alone.
+fn plan_of(alloc: Global, leaf: Op) -> Result<Plan, AllocError>
+    ensures { IfOk result (λ plan. length plan.nodes ≡ 1) }
 {
-    let mut nodes = Vec::new(alloc);
-    nodes.push(Node {
+    let node = Node {
         op: leaf,
         kind: Kind::Mono,
         children: Items::new(alloc),
-    })?;
-    let plan = Plan {
+    };
+    Ok(Plan {
         rate: 44_100,
         frame: 1764,
-        nodes: Items::from_vec(nodes),
+        nodes: Items::from_vec(vec![in alloc; node]?),
         sinks: Items::new(alloc),
         buffers: Items::new(alloc),
-    };
+    })
+}
+
+/// A `single` of this file, or a `playlist` of this list.
+fn leaf_of(alloc: Global, is_list: bool, name: &str) -> Result<Op, Memory> {
+    let file = Text::from_str(alloc, name)?;
+    if is_list {
+        Ok(Op::Playlist { file, again: false })
+    } else {
+        Ok(Op::Single(file))
+    }
+}
+
+/// How many files the plan's one leaf plays, where so many bytes are the most for one file and for all.
+fn load_plan(alloc: Global, plan: &Plan, file: u8, all: u8) -> Result<u32, LoadFault>
+    requires { length plan.now.nodes ≡ 1 }
+{
     let mut shelf = shelf(alloc)?;
-    load(alloc, &plan, &mut shelf, Sizes { file, all })
-}
-
-/// What loading a plan of a `single` answers.
-fn load_single(alloc: Global, name: &str, file: u64, all: u64) -> Result<Library, LoadFault>
-    requires { file ≤ 1000 }
-{
-    let name = Text::from_str(alloc, name)?;
-    load_leaf(alloc, Op::Single(name), file, all)
-}
-
-/// How many files a `playlist` plays.
-fn count_tracks(alloc: Global, name: &str, file: u64, all: u64) -> Result<u32, LoadFault>
-    requires { file ≤ 1000 }
-{
-    let list = Text::from_str(alloc, name)?;
-    let leaf = Op::Playlist {
-        file: list,
-        again: false,
+    let sizes = Sizes {
+        file: u64::from(file),
+        all: u64::from(all),
     };
-    let library = load_leaf(alloc, leaf, file, all)?;
+    let library = load(alloc, plan, &mut shelf, sizes)?;
     Ok(library.tracks(0))
 }
 
-#[test]
-fn sizes_are_bounded(rt: HostRuntime) {
-    let alloc = rt.alloc();
-    assert!(rt; load_single(alloc, "B", 1000, 100).is_ok());
-    assert!(rt;
-        matches!(
-            load_single(alloc, "B", 1000, 49),
-            Err(LoadFault::AllTooLarge)
-        )
-    );
-    assert!(rt;
-        matches!(
-            load_single(alloc, "B", 49, 1000),
-            Err(LoadFault::FileTooLarge(_))
-        )
-    );
+/// How many files a leaf plays, or the fault of its loading.
+fn count_tracks(
+    alloc: Global,
+    is_list: bool,
+    name: &str,
+    file: u8,
+    all: u8,
+) -> Result<u32, LoadFault> {
+    let leaf = leaf_of(alloc, is_list, name)?;
+    let plan = plan_of(alloc, leaf)?;
+    load_plan(alloc, &plan, file, all)
+}
+
+/// What is asked of a fault here.
+fn fault_name(fault: &LoadFault) -> &'static str {
+    match fault {
+        LoadFault::Missing(_) => "missing",
+        LoadFault::BadAudio(_, WavFault::NotRiff) => "no audio file",
+        LoadFault::FileTooLarge(_) => "file too large",
+        LoadFault::AllTooLarge => "all too large",
+        _ => "another fault",
+    }
+}
+
+/// Each row: a file or a list, the most bytes for one file and for all, and how many files are played or what is wrong.
+fn check(
+    rt: &impl Abort,
+    alloc: Global,
+    is_list: bool,
+    rows: &[(&str, u8, u8, Result<u32, &str>)],
+) {
+    for (name, file, all, want) in rows {
+        match count_tracks(alloc, is_list, name, *file, *all) {
+            Ok(count) => assert_eq!(rt; Ok(count), *want),
+            Err(fault) => assert_eq!(rt; Err(fault_name(&fault)), *want),
+        }
+    }
 }
 
 #[test]
-fn a_single_is_an_audio_file(rt: HostRuntime) {
-    let alloc = rt.alloc();
-    assert!(rt;
-        matches!(
-            load_single(alloc, "none", 1000, 100),
-            Err(LoadFault::Missing(_))
-        )
-    );
-    assert!(rt;
-        matches!(
-            load_single(alloc, "text", 1000, 100),
-            Err(LoadFault::BadAudio(_, WavFault::NotRiff))
-        )
-    );
+fn a_single_is_an_audio_file_of_bounded_size(rt: HostRuntime) {
+    let rows = [
+        ("B", 200, 100, Ok(1)),
+        ("B", 200, 49, Err("all too large")),
+        ("B", 49, 200, Err("file too large")),
+        ("none", 200, 100, Err("missing")),
+        ("text", 200, 100, Err("no audio file")),
+    ];
+    check(&rt, rt.alloc(), false, &rows);
 }
 
 #[test]
 fn a_playlist_skips_what_is_no_audio_file(rt: HostRuntime) {
-    let alloc = rt.alloc();
-    assert!(rt; matches!(count_tracks(alloc, "list", 49, 50), Ok(0)));
-    assert!(rt; matches!(count_tracks(alloc, "list", 1000, 50), Ok(2)));
-    assert!(rt;
-        matches!(
-            count_tracks(alloc, "none", 1000, 100),
-            Err(LoadFault::Missing(_))
-        )
-    );
+    let rows = [
+        ("list", 49, 50, Ok(0)),
+        ("list", 200, 50, Ok(2)),
+        ("none", 200, 100, Err("missing")),
+    ];
+    check(&rt, rt.alloc(), true, &rows);
 }

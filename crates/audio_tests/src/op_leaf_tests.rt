@@ -1,8 +1,8 @@
 //! Leaves and readers over a few instants, from the rules of `docs/streams.md`.
-ghost use Rattle.std.specs.Prelude.{◌≡◌, ◌≤◌, length, IfOk};
+ghost use Rattle.std.specs.Prelude.{◌≡◌, length, IfOk};
 ghost use Rattle.frame_core.specs.Library.{IsLibrary};
 ghost use Rattle.frame_core.specs.Sounds.{IsSound};
-ghost use Rattle.op_leaf.specs.Standing.{IsPlacedIn};
+ghost use Rattle.op_leaf.specs.Leaves.{HasRate, HasTracksOf};
 
 use fixed_text::read_decimal;
 use frame_core::{Cell, Chunk, Frame, Library, Track};
@@ -47,145 +47,97 @@ fn library_of(alloc: Global, kind: Kind, one: &[i16], two: &[i16]) -> Result<Lib
 }
 
 // A leaf offers these slots, one after the other.
-fn check(rt: &impl Abort, leaf: &mut LeafState, library: &Library, slots: &[Option<Cell>])
-    requires { IsPlacedIn library.now leaf.old }
-    ensures { IsPlacedIn library.now leaf.new }
+fn check(rt: &impl Abort, library: &Library, leaf: Leaf, slots: &[Option<Cell>])
+    requires library { IsLibrary library.now }
+    requires rate { HasRate leaf }
+    requires tracks { HasTracksOf library.now leaf }
 {
+    let mut state = LeafState::new(leaf);
     for slot in slots {
-        assert_eq!(rt; leaf.offer(library), *slot);
-        leaf.advance(library);
+        assert_eq!(rt; state.offer(library), *slot);
+        state.advance(library);
     }
 }
 
+// The files of a node.
+fn files(node: u32, again: bool, kind: Kind) -> Leaf
+    ensures { result ≡ Leaf.Files node again kind }
+{
+    Leaf::Files { node, again, kind }
+}
+
+// Leaves over mono files of the samples 1 2 3 and 4.
+fn check_mono(rt: &impl Abort, library: &Library)
+    requires library { IsLibrary library.now }
+    requires leaves { length library.now.leaves ≡ 3 }
+{
+    let (one, two, three) = (first(1, 1), inner(2, 2), inner(3, 3));
+    let both_sides = [one, two, three, one, two, three];
+    check(rt, library, files(0, true, Kind::Stereo), &both_sides);
+    let (one, two, three, four) = (first(1, 0), inner(2, 0), inner(3, 0), first(4, 0));
+    let again = [one, two, three, four, one, two, three, four];
+    check(rt, library, files(1, true, Kind::Mono), &again);
+    let once = [one, two, three, four, None, None];
+    check(rt, library, files(1, false, Kind::Mono), &once);
+    check(rt, library, files(2, true, Kind::Mono), &[None, None]);
+}
+
 #[test]
-fn a_mono_file_gives_its_samples_to_both_sides(rt: HostRuntime) -> Result<(), Fail> {
+fn mono_files_go_to_both_sides_and_in_order_again_or_once(rt: HostRuntime) -> Result<(), Fail> {
     let library = library_of(rt.alloc(), Kind::Mono, &[1, 2, 3], &[4])?;
-    let mut leaf = LeafState::new(Leaf::Files {
-        node: 0,
-        again: true,
-        kind: Kind::Stereo,
-    });
-    let round = [first(1, 1), inner(2, 2), inner(3, 3)];
-    check(&rt, &mut leaf, &library, &round);
-    check(&rt, &mut leaf, &library, &round);
+    check_mono(&rt, &library);
     Ok(())
 }
 
 #[test]
 fn a_stereo_file_gives_half_the_sum_of_its_sides(rt: HostRuntime) -> Result<(), Fail> {
     let library = library_of(rt.alloc(), Kind::Stereo, &[5, -2], &[1, 1])?;
-    let mut leaf = LeafState::new(Leaf::Files {
-        node: 0,
-        again: true,
-        kind: Kind::Mono,
-    });
-    check(&rt, &mut leaf, &library, &[first(1, 0), first(1, 0)]);
+    let slots = [first(1, 0), first(1, 0)];
+    check(&rt, &library, files(0, true, Kind::Mono), &slots);
     Ok(())
 }
 
-#[test]
-fn a_playlist_begins_again_or_ends(rt: HostRuntime) -> Result<(), Fail> {
-    let library = library_of(rt.alloc(), Kind::Mono, &[1, 2], &[3])?;
-    let mut again = LeafState::new(Leaf::Files {
-        node: 1,
-        again: true,
-        kind: Kind::Mono,
-    });
-    let round = [first(1, 0), inner(2, 0), first(3, 0)];
-    check(&rt, &mut again, &library, &round);
-    check(&rt, &mut again, &library, &round);
-    let mut once = LeafState::new(Leaf::Files {
-        node: 1,
-        again: false,
-        kind: Kind::Mono,
-    });
-    check(&rt, &mut once, &library, &round);
-    check(&rt, &mut once, &library, &[None, None]);
-    Ok(())
-}
-
-#[test]
-fn a_playlist_without_files_offers_nothing(rt: HostRuntime) -> Result<(), Fail> {
-    let library = library_of(rt.alloc(), Kind::Mono, &[1], &[2])?;
-    let mut leaf = LeafState::new(Leaf::Files {
-        node: 2,
-        again: true,
-        kind: Kind::Mono,
-    });
-    check(&rt, &mut leaf, &library, &[None, None]);
-    Ok(())
-}
-
-#[test]
-fn a_square_of_2000_at_8000_changes_every_two_samples(rt: HostRuntime) -> Result<(), Fail> {
-    let library = library_of(rt.alloc(), Kind::Mono, &[1], &[2])?;
-    let mut leaf = LeafState::new(Leaf::Square {
-        pitch: read_decimal(b"2000.").ok_or("a pitch")?,
-        rate: 8000,
-        kind: Kind::Stereo,
-    });
-    let low = inner(-8192, -8192);
-    let high = inner(8192, 8192);
-    check(
-        &rt,
-        &mut leaf,
-        &library,
-        &[first(8192, 8192), high, low, low],
-    );
-    check(&rt, &mut leaf, &library, &[high, high, low, low]);
-    Ok(())
+// The samples of 0.0015 seconds at 8000 a second.
+fn duration() -> Option<u64> {
+    read_decimal(b"0.0015")?.samples(8000)
 }
 
 #[test]
 fn a_blank_of_12_samples_begins_at_each_twelfth(rt: HostRuntime) -> Result<(), Fail> {
     let library = library_of(rt.alloc(), Kind::Mono, &[1], &[2])?;
-    let duration = read_decimal(b"0.0015").ok_or("a duration")?;
-    let track = duration.samples(8000).ok_or("samples")?;
-    assert_eq!(rt; track, 12);
-    let mut leaf = LeafState::new(Leaf::Blank { track });
-    let zero = inner(0, 0);
-    let round = [
-        first(0, 0),
-        zero,
-        zero,
-        zero,
-        zero,
-        zero,
-        zero,
-        zero,
-        zero,
-        zero,
-        zero,
-        zero,
-    ];
-    check(&rt, &mut leaf, &library, &round);
-    check(&rt, &mut leaf, &library, &round);
-    check(&rt, &mut leaf, &library, &[first(0, 0), zero]);
+    assert_eq!(rt; duration(), Some(12));
+    let mut slots = [inner(0, 0); 26];
+    slots[0] = first(0, 0);
+    slots[12] = first(0, 0);
+    slots[24] = first(0, 0);
+    check(&rt, &library, Leaf::Blank { track: 12 }, &slots);
     Ok(())
 }
 
-// A chunk of this cell alone.
-fn chunk_of(alloc: Global, cell: Cell) -> Result<Option<Chunk>, Memory> {
+// A chunk of the sample 7 alone.
+fn chunk_of_seven(alloc: Global) -> Result<Option<Chunk>, Memory> {
     let mut frame = Frame::new(alloc, 1)?;
-    frame.set(0, Some(cell));
+    frame.set(0, inner(7, 7));
     Chunk::from_frame(alloc, &frame)
 }
 
-#[test]
-fn a_reader_plays_once_it_holds_its_prefill(rt: HostRuntime) -> Result<(), Fail> {
-    let mut reader = ReaderState::new(rt.alloc(), 2, 4)?;
-    let cell = Cell {
-        left: 7,
-        right: 7,
-        first: false,
-    };
+// A reader that wants a chunk takes one of the sample 7.
+fn accept(rt: &impl Abort, alloc: Global, reader: &mut ReaderState) -> Result<(), Fail> {
     assert!(rt; reader.wants());
-    reader.accept(chunk_of(rt.alloc(), cell)?.ok_or("a chunk")?);
+    let Some(chunk) = chunk_of_seven(alloc)? else {
+        return Err(Fail::from("no chunk"));
+    };
+    reader.accept(chunk);
+    Ok(())
+}
+
+// A reader with a prefill of two chunks gives nothing after the first, both after the second, and then nothing again.
+fn check_reader(rt: &impl Abort, alloc: Global, reader: &mut ReaderState) -> Result<(), Fail> {
+    accept(rt, alloc, reader)?;
     assert!(rt; reader.wants());
     reader.begin();
     assert_eq!(rt; reader.offer(), None);
-    assert!(rt; reader.wants());
-    reader.accept(chunk_of(rt.alloc(), cell)?.ok_or("a chunk")?);
+    accept(rt, alloc, reader)?;
     assert!(rt; !reader.wants());
     reader.begin();
     assert_eq!(rt; reader.offer(), first(7, 7));
@@ -197,4 +149,10 @@ fn a_reader_plays_once_it_holds_its_prefill(rt: HostRuntime) -> Result<(), Fail>
     reader.begin();
     assert_eq!(rt; reader.offer(), None);
     Ok(())
+}
+
+#[test]
+fn a_reader_plays_once_it_holds_its_prefill(rt: HostRuntime) -> Result<(), Fail> {
+    let mut reader = ReaderState::new(rt.alloc(), 2, 4)?;
+    check_reader(&rt, rt.alloc(), &mut reader)
 }

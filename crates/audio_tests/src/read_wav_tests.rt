@@ -1,46 +1,37 @@
-// WAV files that others wrote, whole and damaged.
+// WAV files that others wrote, whole and damaged. Those that are cut are whole runs, `tests/cases/files`.
 use liq_base::Kind;
 use std::process::Abort;
-use std::test::Fail;
-use wav_io::{Wav, WavFault, header, read_wav};
+use wav_io::{WavFault, read_wav};
 
-/// The mono file of the samples 1 2 3 at 44100 Hz, of 50 bytes.
-const FILE: [u8; 50] =
-    *b"RIFF\x2a\x00\x00\x00WAVEfmt \x10\x00\x00\x00\x01\x00\x01\x00\x44\xac\x00\x00\x88\x58\x01\x00\x02\x00\x10\x00data\x06\x00\x00\x00\x01\x00\x02\x00\x03\x00";
-
-/// What a file of these bytes is read as: its body, or a fault.
-fn read_as(rt: &impl Abort, bytes: &[u8], want: Result<&[u8], WavFault>) {
-    match (read_wav(bytes), want) {
-        (Ok(wav), Ok(body)) => {
-            assert!(rt; wav.kind == Kind::Mono && wav.rate == 44_100 && wav.body == body);
+/// Whether it is read as the mono samples 1 2 3 at 44100 Hz.
+fn is_one_two_three(file: &[u8]) -> bool {
+    match read_wav(file) {
+        Ok(wav) => {
+            wav.kind == Kind::Mono
+                && wav.rate == 44_100
+                && wav.body == b"\x01\x00\x02\x00\x03\x00".as_slice()
         }
-        (Err(fault), Err(other)) => assert_eq!(rt; fault, other),
-        _ => assert!(rt; false, "{bytes:?}"),
+        Err(_) => false,
     }
 }
 
-#[test]
-fn a_cut_file_holds_what_is_left(rt: HostRuntime) {
-    let file = FILE;
-    for len in 0..=file.len() {
-        let want = match len {
-            0..=11 => Err(WavFault::NotRiff),
-            12..=19 => Err(WavFault::NoFormat),
-            20..=35 => Err(WavFault::BadFormat),
-            36..=43 => Err(WavFault::NoData),
-            44 | 45 => Err(WavFault::Empty),
-            46 | 47 => Ok(&file[44..46]),
-            48 | 49 => Ok(&file[44..48]),
-            _ => Ok(&file[44..50]),
-        };
-        read_as(&rt, &file[..len], want);
+/// Each file has the samples 1 2 3.
+fn check_sounds(rt: &impl Abort, files: &[&[u8]]) {
+    for file in files {
+        assert!(rt; is_one_two_three(file), "{file:?}");
+    }
+}
+
+/// Each row: a file, and its fault.
+fn check_faults(rt: &impl Abort, rows: &[(&[u8], WavFault)]) {
+    for (file, fault) in rows {
+        assert_eq!(rt; read_wav(file).err(), Some(*fault));
     }
 }
 
 #[test]
 fn chunks_and_formats_of_others_are_read(rt: HostRuntime) {
-    let plain = FILE;
-    for file in [
+    let files = [
         // A format of 18 bytes, and the extensible form of 40.
         b"RIFF\x00\x00\x00\x00WAVEfmt \x12\x00\x00\x00\x01\x00\x01\x00\x44\xac\x00\x00\x88\x58\x01\x00\x02\x00\x10\x00\x00\x00data\x06\x00\x00\x00\x01\x00\x02\x00\x03\x00".as_slice(),
         b"RIFF\x00\x00\x00\x00WAVEfmt \x28\x00\x00\x00\xfe\xff\x01\x00\x44\xac\x00\x00\x88\x58\x01\x00\x02\x00\x10\x00\x16\x00\x10\x00\x04\x00\x00\x00\x01\x00\x00\x00\x00\x00\x10\x00\x80\x00\x00\xaa\x00\x38\x9b\x71data\x06\x00\x00\x00\x01\x00\x02\x00\x03\x00".as_slice(),
@@ -50,14 +41,13 @@ fn chunks_and_formats_of_others_are_read(rt: HostRuntime) {
         b"RIFF\x00\x00\x00\x00WAVEfmt \x10\x00\x00\x00\x01\x00\x01\x00\x44\xac\x00\x00\x88\x58\x01\x00\x02\x00\x10\x00fmt \x03\x00\x00\x00abc\x00data\x06\x00\x00\x00\x01\x00\x02\x00\x03\x00LIST\xff\xff\xff\xff".as_slice(),
         // Data of unknown size.
         b"RIFF\x00\x00\x00\x00WAVEfmt \x10\x00\x00\x00\x01\x00\x01\x00\x44\xac\x00\x00\x88\x58\x01\x00\x02\x00\x10\x00data\xff\xff\xff\xff\x01\x00\x02\x00\x03\x00".as_slice(),
-    ] {
-        read_as(&rt, file, Ok(&plain[44..]));
-    }
+    ];
+    check_sounds(&rt, &files);
 }
 
 #[test]
 fn the_first_row_that_applies_is_told(rt: HostRuntime) {
-    for (file, fault) in [
+    let rows = [
         // Data before the format.
         (
             b"RIFF\x00\x00\x00\x00WAVEdata\x02\x00\x00\x00\x01\x00fmt \x10\x00\x00\x00\x01\x00\x01\x00\x44\xac\x00\x00\x88\x58\x01\x00\x02\x00\x10\x00".as_slice(),
@@ -104,18 +94,6 @@ fn the_first_row_that_applies_is_told(rt: HostRuntime) {
             b"RIFF\x00\x00\x00\x00WAVELIST\x03\x00\x00\x00abcfmt \x10\x00\x00\x00\x01\x00\x01\x00\x44\xac\x00\x00\x88\x58\x01\x00\x02\x00\x10\x00".as_slice(),
             WavFault::NoFormat,
         ),
-    ] {
-        read_as(&rt, file, Err(fault));
-    }
-}
-
-#[test]
-fn a_file_of_ours_is_read(rt: HostRuntime) -> Result<(), Fail> {
-    let mut file = Vec::new(rt.alloc());
-    let front = header(Kind::Stereo, 8000, 1).ok_or("no header")?;
-    file.extend_from_slice(&front)?;
-    file.extend_from_slice(b"abcd")?;
-    let Wav { kind, rate, body } = read_wav(&file)?;
-    assert!(rt; kind == Kind::Stereo && rate == 8000 && body == b"abcd".as_slice());
-    Ok(())
+    ];
+    check_faults(&rt, &rows);
 }
