@@ -2,8 +2,8 @@
 use Rattle.std.specs.Prelude.{ℕ, List, ◌∷◌, length, Bool, true, false, Ok, Err}
 use Rattle.script_lex.specs.declared.token.TokenKind.TheVariants.{Name, NameOpen, Symbol}
 use Rattle.script_lex.specs.declared.token.Symbol.TheVariants as sign
-use Rattle.script_grammar.specs.Tree.{Tree, ABind, AParam, ADef, APart, AnExpr, Bind, Labelled, Optional, Def, BindPart, DefPart, CallPart, IfPart}
-use Rattle.script_grammar.specs.Read.{Reader, ◌>>=◌, made, both, expect, perhaps, many, closed}
+use Rattle.script_grammar.specs.Tree.{Tree, Many, ABind, AParam, ADef, APart, AnExpr, more, Bind, Labelled, Optional, Def, BindPart, DefPart, CallPart, IfPart}
+use Rattle.script_grammar.specs.Read.{Reader, ◌>>=◌, made, both, expect, perhaps, many, chain, closed}
 use Rattle.script_grammar.specs.Kinds.{is_assign, is_comma, is_close_round, is_end}
 use Rattle.script_grammar.specs.ReadValue.{binds, call, choice, full_by}
 use Rattle.script_grammar.specs.ReadScript.{value, result, bind, inner, param, def}
@@ -35,6 +35,10 @@ label_of stamp at name w = perhaps is_assign w >>= λ x. elim x.0 [
   | true ↦ default_of stamp at name x.1
   | false ↦ Ok (Labelled at name, x.1)
 ]
+
+-- parameters, one at least, and the bracket behind them
+abbrev pub some_params : (ℕ → ℕ) → Reader (Tree (Many AParam))
+some_params stamp w = both (chain is_comma (param stamp)) (expect is_close_round) w >>= made (λ x. more x.0.0 x.0.1)
 
 -- the result of a def, and the word behind it
 abbrev pub ended : (ℕ → ℕ) → Reader (Tree AnExpr × Unit {0})

@@ -2,8 +2,7 @@
 ghost use Rattle.std.specs.Prelude.{◌≡◌, ◌<◌, ◌≤◌, ◌^◌, [], IfOk, length, map, take, drop};
 ghost use Rattle.std.specs.List.{All};
 ghost use Rattle.script_grammar.specs.Read.{next, many, behind, closed};
-ghost use Rattle.statement_parse.specs.Reads.{behind_tilde, label_of, default_of};
-ghost use Rattle.value_parse.specs.Operand.{some_closed};
+ghost use Rattle.statement_parse.specs.Reads.{behind_tilde, label_of, default_of, some_params};
 ghost use Rattle.script_grammar.specs.Kinds.{is_comma, is_close_round};
 ghost use Rattle.script_grammar.specs.ReadScript.{param};
 ghost use Rattle.script_grammar.specs.View.{listed, view_param};
@@ -71,7 +70,7 @@ fn some_params<'a>(
     requires small { total < 2 ^ 32 }
     requires none { items.old.items ≡ [] }
     ensures shorter { IfOk result (λ rest. length rest.now < length tokens.now) }
-    ensures gives { Gives (λ rest. (listed (map view_param items.new.items), kinds rest.now)) result (some_closed is_comma is_close_round (param (places total)) (kinds tokens.now)) }
+    ensures gives { Gives (λ rest. (listed (map view_param items.new.items), kinds rest.now)) result (some_params (places total) (kinds tokens.now)) }
     ensures whole { IfOk result (λ rest. All IsWholeParam items.new.items) }
 {
     let (first, rest) = param(alloc, total, tokens)?;
