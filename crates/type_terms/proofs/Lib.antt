@@ -2,11 +2,11 @@ pub mod Agendas
 pub mod Avoiding
 pub mod Basics
 pub mod Bindings
-pub mod Counts
 pub mod Defaults
 pub mod Fresh
 pub mod KindLemmas
 pub mod Lookups
+pub mod Narrowed
 pub mod Numbers
 pub mod Parts
 pub mod Ranks

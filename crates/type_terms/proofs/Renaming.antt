@@ -77,3 +77,21 @@ mutual
 pub means_behind : (types kinds : List ℕ) (t : Term) (r : Result Ty Memory) → IfOk r (λ u. term_of u ≡ instance types kinds t) → IfOk r (λ u. (a : Assignment) → meaning a (term_of u) ≡ meaning (behind types kinds a) t)
 means_behind types kinds t (Ok u) h = λ a. ap (meaning a) h ∙ instance_meaning types kinds a t
 means_behind types kinds t (Err e) h = tt
+
+-- with no new numbers a type is as it was
+
+kind_kept : (k : KindTerm) → kind_instance [] k ≡ k
+kind_kept (Fixed k) = refl
+kind_kept (Var n) = refl
+
+mutual
+  pub kept : (t : Term) → instance [] [] t ≡ t
+  kept (base_term b) = refl
+  kept (list_term t) = ap list_term (kept t)
+  kept (tuple_term ts) = ap tuple_term (all_kept ts)
+  kept (source_term k) = ap source_term (kind_kept k)
+  kept (variable n) = refl
+
+  all_kept : (ts : Terms) → instances [] [] ts ≡ ts
+  all_kept no_terms = refl
+  all_kept (one_more t ts) = ap₂ one_more (kept t) (all_kept ts)

@@ -1,10 +1,10 @@
 -- What is still to be compared, and which variables were taken apart for it.
-use Rattle.std.specs.Prelude.{◌≡◌, ◌≢◌, ℕ, suc, ◌+◌, ◌<◌, List, [], ◌∷◌}
+use Rattle.std.specs.Prelude.{◌≡◌, ℕ, Bool, true, false, suc, ◌+◌, ◌<◌, List, [], ◌∷◌}
 use Rattle.type_terms.specs.Ground.{Assignment, size}
 use Rattle.type_terms.specs.Term.{Term, term_of, variable, meaning}
 use Rattle.type_terms.specs.Table.{Table, Solves, extra}
 use Rattle.type_terms.specs.Pairs.{AllEqual, AllOver}
-use Rattle.type_terms.specs.Differ.{IsForced, IsKindForced}
+use Rattle.type_terms.specs.Differ.{AreNeverSame, IsForced, IsKindForced}
 use Rattle.type_terms.specs.declared.differ.Difference.{Difference}
 use Rattle.type_terms.specs.declared.differ.Difference.TheVariants.{Same, Clash, Bind, BindKind}
 use Rattle.type_terms.specs.declared.ty.Ty.{Ty}
@@ -48,6 +48,11 @@ pub record IsTakenUp (s : Table) (old new : Agenda) (left right : Term) : Type 0
 
 abbrev pub TakesUp : Table → Agenda → Agenda → Term → Term → Difference → Type 0
 TakesUp s old new left right Same = IsTakenUp s old new left right
-TakesUp s old new left right Clash = (a : Assignment) → Solves a s → meaning a left ≢ meaning a right
+TakesUp s old new left right Clash = AreNeverSame s left right
 TakesUp s old new left right (Bind x t) = IsForced s left right x (term_of t.now) × (new ≡ old)
 TakesUp s old new left right (BindKind x t) = IsKindForced s left right x t × (new ≡ old)
+
+-- the two were taken up, or differ in shape
+abbrev pub IsTaken : Table → Agenda → Agenda → Term → Term → Bool → Type 0
+IsTaken s old new left right true = IsTakenUp s old new left right
+IsTaken s old new left right false = AreNeverSame s left right

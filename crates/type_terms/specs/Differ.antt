@@ -10,6 +10,14 @@ use Rattle.type_terms.specs.declared.ty.KindTerm.TheVariants.{Var}
 use Rattle.type_terms.specs.declared.differ.Difference.{Difference}
 use Rattle.type_terms.specs.declared.differ.Difference.TheVariants.{Same, Clash, Bind, BindKind}
 
+-- the two are equal at each solution
+abbrev pub AreSame : Table → Term → Term → Type 0
+AreSame s left right = (a : Assignment) → Solves a s → meaning a left ≡ meaning a right
+
+-- they are at none
+abbrev pub AreNeverSame : Table → Term → Term → Type 0
+AreNeverSame s left right = (a : Assignment) → Solves a s → meaning a left ≢ meaning a right
+
 -- the two are equal exactly where the free variable x is t, to which it may be bound
 pub record IsForced (s : Table) (left right : Term) (x : ℕ) (t : Term) : Type 0 where
   pub inside : x < length s.types
@@ -29,8 +37,8 @@ pub record IsKindForced (s : Table) (left right : Term) (x : ℕ) (t : KindTerm)
   pub enough : (a : Assignment) → Solves a s → a.kind_of x ≡ kind_meaning a t → meaning a left ≡ meaning a right
 
 abbrev pub Settles : Table → Term → Term → Difference → Type 0
-Settles s left right Same = (a : Assignment) → Solves a s → meaning a left ≡ meaning a right
-Settles s left right Clash = (a : Assignment) → Solves a s → meaning a left ≢ meaning a right
+Settles s left right Same = AreSame s left right
+Settles s left right Clash = AreNeverSame s left right
 Settles s left right (Bind x t) = IsForced s left right x (term_of t.now)
 Settles s left right (BindKind x t) = IsKindForced s left right x t
 

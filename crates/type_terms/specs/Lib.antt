@@ -6,6 +6,7 @@ pub mod Direct
 pub mod Extends
 pub mod Ground
 pub mod Naming
+pub mod Narrowed
 pub mod Nested
 pub mod Pairs
 pub mod Rank

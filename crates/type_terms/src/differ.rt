@@ -12,7 +12,7 @@ ghost use Rattle.type_terms.specs.Variables.{Variable};
 ghost use Rattle.type_terms.specs.declared.ty.KindTerm.{KindTerm};
 ghost use Rattle.type_terms.specs.declared.ty.KindTerm.TheVariants.{Var};
 
-use crate::copying::{MOST_LEVELS, copy};
+use crate::naming::copy;
 use crate::occurs::{occurs_in, resolve};
 use crate::ty::{Base, KindTerm, Ty};
 use crate::type_variable::TypeVariable;
@@ -56,8 +56,8 @@ pub fn push_copies(
 ) -> Result<(), Memory>
     ensures { OnOk result (pairs_of work.new.items ≡ pairs_of work.old.items ++ (term_of left.now, term_of right.now) ∷ []) }
 {
-    let left = copy(alloc, left, MOST_LEVELS)?;
-    let right = copy(alloc, right, MOST_LEVELS)?;
+    let left = copy(alloc, left)?;
+    let right = copy(alloc, right)?;
     work.push((left, right))?;
     Ok(())
 }

@@ -1,7 +1,6 @@
 //! Types over variables, and a most general unifier.
 #![tactic(auto)]
 
-mod copying;
 mod differ;
 mod naming;
 mod occurs;

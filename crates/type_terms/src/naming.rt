@@ -4,10 +4,12 @@ ghost use Rattle.type_terms.specs.Ground.{Assignment};
 ghost use Rattle.type_terms.specs.Naming.{behind, instance, kind_instance, kind_variables, new_number, type_variables};
 ghost use Rattle.type_terms.specs.Term.{meaning, term_of};
 
-use crate::copying::MOST_LEVELS;
 use crate::ty::{KindTerm, Ty};
 use liq_base::Memory;
 use std::alloc::Global;
+
+/// How many levels a type may have that this crate builds: as many as can be copied and dropped on any stack.
+pub const MOST_LEVELS: u32 = 1000;
 
 /// The numbers of the variables that stand in a type, in the order in which they stand and as often.
 #[derive(Debug, Drop)]
@@ -38,6 +40,15 @@ pub fn renamed(alloc: Global, ty: &Ty, types: &[u64], kinds: &[u64]) -> Result<T
     ensures same { IfOk result (λ u. (a : Assignment) → meaning a (term_of u) ≡ meaning (behind types.now kinds.now a) (term_of ty.now)) }
 {
     renamed_within(alloc, types, kinds, ty, MOST_LEVELS)
+}
+
+/// The same type once more.
+///
+/// A type of more than a thousand levels is given up as if memory had run out.
+pub fn copy(alloc: Global, ty: &Ty) -> Result<Ty, Memory>
+    ensures { IfOk result (λ u. term_of u ≡ term_of ty.now) }
+{
+    renamed_within(alloc, &[], &[], ty, MOST_LEVELS)
 }
 
 /// Adds the numbers of the variables that stand in the type, if it has at most so many levels.

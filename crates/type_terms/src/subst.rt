@@ -9,7 +9,7 @@ ghost use Rattle.type_terms.specs.Table.{table, IsOver, Solves, bound_at, kind_a
 ghost use Rattle.type_terms.specs.Term.{meaning, term_of, variable};
 ghost use Rattle.type_terms.specs.declared.ty.KindTerm.TheVariants.{Var};
 
-use crate::copying::MOST_LEVELS;
+use crate::naming::MOST_LEVELS;
 use crate::occurs::are_among;
 use crate::resolving::{MOST_NODES, settle};
 use crate::ty::{KindTerm, Ty};

@@ -1,19 +1,18 @@
 // The bindings that make two types equal, and their undoing.
-ghost use Rattle.std.specs.Prelude.{◌≡◌, ◌≢◌, ◌<◌, ◌↔◌, ℕ, None, Option, List, [], length, true, IfOk, OnErr};
-ghost use Rattle.std.specs.Bool.{OnTrue, OnFalse};
-ghost use Rattle.type_terms.specs.Ground.{Assignment};
+ghost use Rattle.std.specs.Prelude.{◌≡◌, ◌<◌, ℕ, None, Option, List, [], length, true, IfOk, OnErr};
+ghost use Rattle.std.specs.Bool.{OnFalse};
 ghost use Rattle.type_terms.specs.Nested.{AreMarked, mark_at};
-ghost use Rattle.type_terms.specs.Table.{table, Binds, BindsKind, IsOver, IsSound, Solves, bound_at, kind_at};
-ghost use Rattle.type_terms.specs.Term.{meaning, term_of};
-ghost use Rattle.type_terms.specs.Agenda.{IsTakenUp, agenda};
-ghost use Rattle.type_terms.specs.Agrees.{SameVariables};
+ghost use Rattle.type_terms.specs.Table.{table, Binds, BindsKind, IsOver, IsSound, bound_at, kind_at};
+ghost use Rattle.type_terms.specs.Term.{InTerm, term_of};
+ghost use Rattle.type_terms.specs.Agenda.{IsTaken, agenda};
 ghost use Rattle.type_terms.specs.Direct.{IsDirect};
+ghost use Rattle.type_terms.specs.Narrowed.{AreTrailed, IsAnswer, IsNarrowed};
 ghost use Rattle.type_terms.specs.Undo.{Frees, FreesKind, IsKindTrail, IsTrail};
 ghost use Rattle.type_terms.specs.Variables.{Variable};
 ghost use Rattle.type_terms.specs.declared.ty.KindTerm.{KindTerm};
 
-use crate::copying::{MOST_LEVELS, copy};
 use crate::differ::{Difference, differ, differ_resolved, is_split, push_copies, push_split};
+use crate::naming::copy;
 use crate::occurs::{MOST_STEPS, mark, resolve};
 use crate::ty::{KindTerm, Ty};
 use crate::type_variable::TypeVariable;
@@ -22,7 +21,7 @@ use liq_base::Memory;
 use std::alloc::Global;
 
 /// What became of two types that were to be the same: they are, they cannot be, or they are to be taken apart.
-#[derive(Clone, Copy, Debug)]
+#[derive(Drop)]
 pub enum Direct {
     Same,
     Clash,
@@ -44,13 +43,9 @@ pub fn unify_in(
     requires marked { AreMarked types.old nested.old }
     requires left { IsOver (table types.old kinds.old) (term_of left.now) }
     requires right { IsOver (table types.old kinds.old) (term_of right.now) }
-    ensures sound { IsSound (table types.new kinds.new) }
-    ensures marked { AreMarked types.new nested.new }
-    ensures most_general { IfOk result (λ yes. OnTrue yes ((a : Assignment) → Solves a (table types.new kinds.new) ↔ (Solves a (table types.old kinds.old) × (meaning a (term_of left.now) ≡ meaning a (term_of right.now))))) }
-    ensures solvable { IfOk result (λ yes. OnTrue yes ((a : Assignment) × Solves a (table types.new kinds.new))) }
-    ensures none { IfOk result (λ yes. OnFalse yes ((a : Assignment) → Solves a (table types.old kinds.old) → meaning a (term_of left.now) ≢ meaning a (term_of right.now))) }
+    ensures narrowed { IsNarrowed (term_of left.now) (term_of right.now) (table types.old kinds.old) (table types.new kinds.new) nested.old nested.new }
+    ensures answer { IfOk result (IsAnswer (table types.new kinds.new) (term_of left.now) (term_of right.now)) }
     ensures unchanged { IfOk result (λ yes. OnFalse yes (table types.new kinds.new ≡ table types.old kinds.old)) }
-    ensures same_variables { SameVariables (table types.old kinds.old) (table types.new kinds.new) }
     ensures err { OnErr result (table types.new kinds.new ≡ table types.old kinds.old) }
 {
     match unify_directly(alloc, types, kinds, nested, left, right)? {
@@ -73,10 +68,8 @@ fn unify_directly(
     requires marked { AreMarked types.old nested.old }
     requires left { IsOver (table types.old kinds.old) (term_of left.now) }
     requires right { IsOver (table types.old kinds.old) (term_of right.now) }
-    ensures sound { IsSound (table types.new kinds.new) }
-    ensures marked { AreMarked types.new nested.new }
+    ensures narrowed { IsNarrowed (term_of left.now) (term_of right.now) (table types.old kinds.old) (table types.new kinds.new) nested.old nested.new }
     ensures direct { IfOk result (IsDirect (table types.old kinds.old) (table types.new kinds.new) (term_of left.now) (term_of right.now)) }
-    ensures same_variables { SameVariables (table types.old kinds.old) (table types.new kinds.new) }
     ensures err { OnErr result (table types.new kinds.new ≡ table types.old kinds.old) }
 {
     let s = resolve(types, left);
@@ -88,9 +81,8 @@ fn unify_directly(
         Difference::Same => Ok(Direct::Same),
         Difference::Clash => Ok(Direct::Clash),
         Difference::Bind(x, t) => {
-            let t = copy(alloc, t, MOST_LEVELS)?;
-            mark(nested, &t);
-            bind_type(types, x, t);
+            let t = copy(alloc, t)?;
+            bind_marked(types, nested, x, t);
             Ok(Direct::Same)
         }
         Difference::BindKind(x, k) => {
@@ -113,13 +105,9 @@ fn unify_deeply(
     requires marked { AreMarked types.old nested.old }
     requires left { IsOver (table types.old kinds.old) (term_of left.now) }
     requires right { IsOver (table types.old kinds.old) (term_of right.now) }
-    ensures sound { IsSound (table types.new kinds.new) }
-    ensures marked { AreMarked types.new nested.new }
-    ensures most_general { IfOk result (λ yes. OnTrue yes ((a : Assignment) → Solves a (table types.new kinds.new) ↔ (Solves a (table types.old kinds.old) × (meaning a (term_of left.now) ≡ meaning a (term_of right.now))))) }
-    ensures solvable { IfOk result (λ yes. OnTrue yes ((a : Assignment) × Solves a (table types.new kinds.new))) }
-    ensures none { IfOk result (λ yes. OnFalse yes ((a : Assignment) → Solves a (table types.old kinds.old) → meaning a (term_of left.now) ≢ meaning a (term_of right.now))) }
+    ensures narrowed { IsNarrowed (term_of left.now) (term_of right.now) (table types.old kinds.old) (table types.new kinds.new) nested.old nested.new }
+    ensures answer { IfOk result (IsAnswer (table types.new kinds.new) (term_of left.now) (term_of right.now)) }
     ensures unchanged { IfOk result (λ yes. OnFalse yes (table types.new kinds.new ≡ table types.old kinds.old)) }
-    ensures same_variables { SameVariables (table types.old kinds.old) (table types.new kinds.new) }
     ensures err { OnErr result (table types.new kinds.new ≡ table types.old kinds.old) }
 {
     let mut type_trail = Vec::new(alloc);
@@ -156,6 +144,20 @@ fn bind_type(types: &mut [TypeVariable], x: u64, ty: Ty)
 {
     let variable = &mut types[x as usize];
     variable.bind(ty);
+}
+
+/// Binds a free type variable, and marks the variables that stand in what it is bound to.
+fn bind_marked(types: &mut [TypeVariable], nested: &mut [bool], x: u64, ty: Ty)
+    requires marked { AreMarked types.old nested.old }
+    requires inside { x < length types.old }
+    requires free { bound_at types.old x ≡ None }
+    requires over { InTerm (λ n. n < length types.old) (λ _. Unit {0}) (term_of ty) }
+    ensures binds { Binds x (term_of ty) types.old types.new }
+    ensures marked { AreMarked types.new nested.new }
+    ensures marks_kept { (k : ℕ) → mark_at nested.old k ≡ true → mark_at nested.new k ≡ true }
+{
+    mark(nested, &ty);
+    bind_type(types, x, ty);
 }
 
 /// Binds a free kind variable.
@@ -221,24 +223,17 @@ fn take_up(
     requires marked { AreMarked types.old nested.old }
     requires left { IsOver (table types.old kinds.old) (term_of left.now) }
     requires right { IsOver (table types.old kinds.old) (term_of right.now) }
-    ensures sound { IsSound (table types.new kinds.new) }
-    ensures marked { AreMarked types.new nested.new }
-    ensures marks_kept { (k : ℕ) → mark_at nested.old k ≡ true → mark_at nested.new k ≡ true }
-    ensures type_trail { (vs : List Variable) → IsTrail type_trail.old.items vs types.old → IsTrail type_trail.new.items vs types.new }
-    ensures kind_trail { (ks : List (Option KindTerm)) → IsKindTrail kind_trail.old.items ks kinds.old → IsKindTrail kind_trail.new.items ks kinds.new }
-    ensures narrower { (a : Assignment) → Solves a (table types.new kinds.new) → Solves a (table types.old kinds.old) }
-    ensures kept { (a : Assignment) → Solves a (table types.old kinds.old) → meaning a (term_of left.now) ≡ meaning a (term_of right.now) → Solves a (table types.new kinds.new) }
-    ensures same { IfOk result (λ yes. OnTrue yes (IsTakenUp (table types.new kinds.new) (agenda work.old.items seen.old.keys) (agenda work.new.items seen.new.keys) (term_of left.now) (term_of right.now))) }
-    ensures clash { IfOk result (λ yes. OnFalse yes ((a : Assignment) → Solves a (table types.new kinds.new) → meaning a (term_of left.now) ≢ meaning a (term_of right.now))) }
+    ensures narrowed { IsNarrowed (term_of left.now) (term_of right.now) (table types.old kinds.old) (table types.new kinds.new) nested.old nested.new }
+    ensures trailed { AreTrailed (table types.old kinds.old) (table types.new kinds.new) type_trail.old.items type_trail.new.items kind_trail.old.items kind_trail.new.items }
+    ensures taken { IfOk result (IsTaken (table types.new kinds.new) (agenda work.old.items seen.old.keys) (agenda work.new.items seen.new.keys) (term_of left.now) (term_of right.now)) }
 {
     match differ(alloc, types, kinds, nested, work, seen, left, right)? {
         Difference::Same => Ok(true),
         Difference::Clash => Ok(false),
         Difference::Bind(x, t) => {
-            let t = copy(alloc, t, MOST_LEVELS)?;
+            let t = copy(alloc, t)?;
             type_trail.push(x)?;
-            mark(nested, &t);
-            bind_type(types, x, t);
+            bind_marked(types, nested, x, t);
             Ok(true)
         }
         Difference::BindKind(x, k) => {
@@ -266,15 +261,9 @@ fn take_apart(
     requires marked { AreMarked types.old nested.old }
     requires left { IsOver (table types.old kinds.old) (term_of left.now) }
     requires right { IsOver (table types.old kinds.old) (term_of right.now) }
-    ensures sound { IsSound (table types.new kinds.new) }
-    ensures marked { AreMarked types.new nested.new }
-    ensures marks_kept { (k : ℕ) → mark_at nested.old k ≡ true → mark_at nested.new k ≡ true }
-    ensures type_trail { (vs : List Variable) → IsTrail type_trail.old.items vs types.old → IsTrail type_trail.new.items vs types.new }
-    ensures kind_trail { (ks : List (Option KindTerm)) → IsKindTrail kind_trail.old.items ks kinds.old → IsKindTrail kind_trail.new.items ks kinds.new }
-    ensures narrower { (a : Assignment) → Solves a (table types.new kinds.new) → Solves a (table types.old kinds.old) }
-    ensures kept { (a : Assignment) → Solves a (table types.old kinds.old) → meaning a (term_of left.now) ≡ meaning a (term_of right.now) → Solves a (table types.new kinds.new) }
-    ensures same { IfOk result (λ yes. OnTrue yes (IsTakenUp (table types.new kinds.new) (agenda work.old.items seen.old.keys) (agenda work.new.items seen.new.keys) (term_of left.now) (term_of right.now))) }
-    ensures clash { IfOk result (λ yes. OnFalse yes ((a : Assignment) → Solves a (table types.new kinds.new) → meaning a (term_of left.now) ≢ meaning a (term_of right.now))) }
+    ensures narrowed { IsNarrowed (term_of left.now) (term_of right.now) (table types.old kinds.old) (table types.new kinds.new) nested.old nested.new }
+    ensures trailed { AreTrailed (table types.old kinds.old) (table types.new kinds.new) type_trail.old.items type_trail.new.items kind_trail.old.items kind_trail.new.items }
+    ensures taken { IfOk result (IsTaken (table types.new kinds.new) (agenda work.old.items seen.old.keys) (agenda work.new.items seen.new.keys) (term_of left.now) (term_of right.now)) }
 {
     let mut parts: Vec<(&Ty, &Ty)> = Vec::new(alloc);
     parts.push((left, right))?;
@@ -311,17 +300,9 @@ fn solve(
     requires marked { AreMarked types.old nested.old }
     requires left { IsOver (table types.old kinds.old) (term_of left.now) }
     requires right { IsOver (table types.old kinds.old) (term_of right.now) }
-    requires type_trail { type_trail.old.items ≡ [] }
-    requires kind_trail { kind_trail.old.items ≡ [] }
-    ensures sound { IsSound (table types.new kinds.new) }
-    ensures marked { AreMarked types.new nested.new }
-    ensures marks_kept { (k : ℕ) → mark_at nested.old k ≡ true → mark_at nested.new k ≡ true }
-    ensures type_trail { IsTrail type_trail.new.items types.old types.new }
-    ensures kind_trail { IsKindTrail kind_trail.new.items kinds.old kinds.new }
-    ensures narrower { (a : Assignment) → Solves a (table types.new kinds.new) → Solves a (table types.old kinds.old) }
-    ensures kept { (a : Assignment) → Solves a (table types.old kinds.old) → meaning a (term_of left.now) ≡ meaning a (term_of right.now) → Solves a (table types.new kinds.new) }
-    ensures same { IfOk result (λ yes. OnTrue yes ((a : Assignment) → Solves a (table types.new kinds.new) → meaning a (term_of left.now) ≡ meaning a (term_of right.now))) }
-    ensures clash { IfOk result (λ yes. OnFalse yes ((a : Assignment) → Solves a (table types.new kinds.new) → meaning a (term_of left.now) ≢ meaning a (term_of right.now))) }
+    ensures narrowed { IsNarrowed (term_of left.now) (term_of right.now) (table types.old kinds.old) (table types.new kinds.new) nested.old nested.new }
+    ensures trailed { AreTrailed (table types.old kinds.old) (table types.new kinds.new) type_trail.old.items type_trail.new.items kind_trail.old.items kind_trail.new.items }
+    ensures answer { IfOk result (IsAnswer (table types.new kinds.new) (term_of left.now) (term_of right.now)) }
 {
     let mut work: Vec<(Ty, Ty)> = Vec::new(alloc);
     let mut seen: IndexSet<(u64, u64)> = IndexSet::new(alloc);
@@ -347,19 +328,11 @@ fn compare(
     requires marked { AreMarked types.old nested.old }
     requires left { IsOver (table types.old kinds.old) (term_of left.now) }
     requires right { IsOver (table types.old kinds.old) (term_of right.now) }
-    requires type_trail { type_trail.old.items ≡ [] }
-    requires kind_trail { kind_trail.old.items ≡ [] }
     requires work { work.old.items ≡ [] }
     requires seen { seen.old.keys ≡ [] }
-    ensures sound { IsSound (table types.new kinds.new) }
-    ensures marked { AreMarked types.new nested.new }
-    ensures marks_kept { (k : ℕ) → mark_at nested.old k ≡ true → mark_at nested.new k ≡ true }
-    ensures type_trail { IsTrail type_trail.new.items types.old types.new }
-    ensures kind_trail { IsKindTrail kind_trail.new.items kinds.old kinds.new }
-    ensures narrower { (a : Assignment) → Solves a (table types.new kinds.new) → Solves a (table types.old kinds.old) }
-    ensures kept { (a : Assignment) → Solves a (table types.old kinds.old) → meaning a (term_of left.now) ≡ meaning a (term_of right.now) → Solves a (table types.new kinds.new) }
-    ensures same { IfOk result (λ yes. OnTrue yes ((a : Assignment) → Solves a (table types.new kinds.new) → meaning a (term_of left.now) ≡ meaning a (term_of right.now))) }
-    ensures clash { IfOk result (λ yes. OnFalse yes ((a : Assignment) → Solves a (table types.new kinds.new) → meaning a (term_of left.now) ≢ meaning a (term_of right.now))) }
+    ensures narrowed { IsNarrowed (term_of left.now) (term_of right.now) (table types.old kinds.old) (table types.new kinds.new) nested.old nested.new }
+    ensures trailed { AreTrailed (table types.old kinds.old) (table types.new kinds.new) type_trail.old.items type_trail.new.items kind_trail.old.items kind_trail.new.items }
+    ensures answer { IfOk result (IsAnswer (table types.new kinds.new) (term_of left.now) (term_of right.now)) }
 {
     push_copies(alloc, work, left, right)?;
     for _step in 0..MOST_STEPS {
