@@ -15,6 +15,11 @@ fn told(alloc: Global, answer: Result<ClockMap, ClockFault>) -> Result<String, A
 
 fn map_text(alloc: Global, map: &ClockMap) -> Result<String, AllocError> {
     let mut text = String::new(alloc);
+    push_map(&mut text, map)?;
+    Ok(text)
+}
+
+fn push_map(text: &mut String, map: &ClockMap) -> Result<(), AllocError> {
     for name in map.names.as_slice() {
         text.push_str(name.as_str())?;
         text.push(' ')?;
@@ -22,9 +27,9 @@ fn map_text(alloc: Global, map: &ClockMap) -> Result<String, AllocError> {
     let running = map.running;
     write!(text, "{running} run:")?;
     for of in map.of.as_slice() {
-        push_place(&mut text, *of)?;
+        push_place(text, *of)?;
     }
-    Ok(text)
+    Ok(())
 }
 
 fn push_place(text: &mut String, of: NodeClock) -> Result<(), AllocError> {
@@ -38,6 +43,11 @@ fn push_place(text: &mut String, of: NodeClock) -> Result<(), AllocError> {
 // Of so many clocks, the last one is written first, so it has the number 0.
 fn numbered_back(alloc: Global, count: u32) -> Result<String, AllocError> {
     let mut wanted = String::new(alloc);
+    push_numbered_back(&mut wanted, count)?;
+    Ok(wanted)
+}
+
+fn push_numbered_back(wanted: &mut String, count: u32) -> Result<(), AllocError> {
     for number in 0..count {
         write!(wanted, "c{} ", count - 1 - number)?;
     }
@@ -46,19 +56,24 @@ fn numbered_back(alloc: Global, count: u32) -> Result<String, AllocError> {
         let clock = count - 1 - number;
         write!(wanted, " {clock} {clock}")?;
     }
-    Ok(wanted)
+    Ok(())
 }
 
 // Of so many crossfades, each lies under the one before it, with the sum that nobody uses.
 fn nested_down(alloc: Global, count: u32) -> Result<String, AllocError> {
     let mut wanted = String::from_str(alloc, "main 1 run: under 1 0")?;
+    push_nested_down(&mut wanted, count)?;
+    Ok(wanted)
+}
+
+fn push_nested_down(wanted: &mut String, count: u32) -> Result<(), AllocError> {
     let mut outer = 1;
     for number in 1..count {
         let inner = number.saturating_mul(3);
         write!(wanted, " under {inner} under {outer} under {outer}")?;
         outer = inner;
     }
-    Ok(wanted)
+    Ok(())
 }
 
 fn many_clocks(alloc: Global, count: u32) -> Result<String, Fail> {

@@ -38,13 +38,18 @@ fn push_4096(rt: &impl Abort, alloc: Global, plan: &mut Plan) -> Result<(), Plan
     Ok(())
 }
 
+fn check_full(rt: &impl Abort, alloc: Global, plan: &mut Plan) -> Result<(), PlanFault> {
+    push_4096(rt, alloc, plan)?;
+    let refused = plan.push_node(blank(alloc)).err();
+    assert_eq!(rt; refused, Some(PlanFault::TooManySources));
+    assert_eq!(rt; plan.nodes.len(), 4096);
+    Ok(())
+}
+
 #[test]
 fn the_4097th_node_is_refused(rt: HostRuntime) -> Result<(), Fail> {
     let mut plan = empty(rt.alloc());
-    push_4096(&rt, rt.alloc(), &mut plan)?;
-    let refused = plan.push_node(blank(rt.alloc())).err();
-    assert_eq!(rt; refused, Some(PlanFault::TooManySources));
-    assert_eq!(rt; plan.nodes.len(), 4096);
+    check_full(&rt, rt.alloc(), &mut plan)?;
     assert_eq!(rt; plan.rate, 44_100);
     Ok(())
 }

@@ -1,6 +1,7 @@
 // What no clause says: that the definitions mean what the language's types mean, that calls succeed, and that no depth is too deep.
 use liq_base::{Kind, Memory};
 use std::alloc::Global;
+use std::fmt::Write;
 use std::process::Abort;
 use std::test::Fail;
 use type_terms::{KindTerm, Subst, Ty, renamed, resolved, unify, variables};
@@ -25,24 +26,31 @@ fn named(name: &str) -> Ty {
         "bool" => Ty::Bool,
         "pred" => Ty::Pred,
         "format" => Ty::Format,
-        "var 0" => Ty::Var(0),
-        "var 1" => Ty::Var(1),
-        "number 2" => Ty::Var(2),
-        "number 3" => Ty::Var(3),
+        "var-0" => Ty::Var(0),
+        "var-1" => Ty::Var(1),
+        "number-2" => Ty::Var(2),
+        "number-3" => Ty::Var(3),
         "mono" => Ty::Source(KindTerm::Fixed(Kind::Mono)),
         "stereo" => Ty::Source(KindTerm::Fixed(Kind::Stereo)),
-        "kind 0" => Ty::Source(KindTerm::Var(0)),
-        "kind 1" => Ty::Source(KindTerm::Var(1)),
+        "kind-0" => Ty::Source(KindTerm::Var(0)),
+        "kind-1" => Ty::Source(KindTerm::Var(1)),
         _ => Ty::Unit,
     }
 }
 
-// The type of this name, or its list, or its pair with another one.
-fn made(alloc: Global, name: &str, beside: &str) -> Result<Ty, Memory> {
-    match beside {
-        "" => Ok(named(name)),
-        "list" => list(alloc, named(name)),
-        other => pair(alloc, named(name), named(other)),
+// The type of this text: a name, the list of one, or the pair of two.
+fn made(alloc: Global, text: &str) -> Result<Ty, Memory> {
+    match text.split_once(' ') {
+        Some((first, second)) => made_of(alloc, first, second),
+        None => Ok(named(text)),
+    }
+}
+
+fn made_of(alloc: Global, first: &str, second: &str) -> Result<Ty, Memory> {
+    if first == "list" {
+        list(alloc, named(second))
+    } else {
+        pair(alloc, named(first), named(second))
     }
 }
 
@@ -81,7 +89,26 @@ fn resolved_text(rt: &impl Abort, alloc: Global, subst: &Subst, ty: &Ty) -> Resu
     Ok(format!(in alloc; "{ty:?}")?)
 }
 
-// Unifies two types over six variables. `want` is the text of both once they are resolved, or empty where they clash.
+// The texts of two types that were made equal, or `clash`.
+fn outcome(
+    rt: &impl Abort,
+    alloc: Global,
+    subst: &mut Subst,
+    left: &Ty,
+    right: &Ty,
+) -> Result<String, Fail> {
+    if !unified(rt, alloc, subst, left, right)? {
+        return Ok(String::from_str(alloc, "clash")?);
+    }
+    let mut text = resolved_text(rt, alloc, subst, left)?;
+    let other = resolved_text(rt, alloc, subst, right)?;
+    if text.as_str() != other.as_str() {
+        write!(text, " and {other}")?;
+    }
+    Ok(text)
+}
+
+// Unifies two types over six variables. `want` is the text of both once they are resolved, or `clash`.
 fn check_row(
     rt: &impl Abort,
     alloc: Global,
@@ -90,34 +117,18 @@ fn check_row(
     want: &str,
 ) -> Result<(), Fail> {
     let mut subst = six_variables(alloc)?;
-    let yes = unified(rt, alloc, &mut subst, left, right)?;
-    assert_eq!(rt; yes, want != "", "{left:?} and {right:?}");
-    if yes {
-        assert_eq!(rt; resolved_text(rt, alloc, &subst, left)?.as_str(), want);
-        assert_eq!(rt; resolved_text(rt, alloc, &subst, right)?.as_str(), want);
-    } else {
-        for number in 0..4 {
-            assert!(rt;
-                subst.bound(number).is_none(),
-                "{left:?} and {right:?} leave {number} bound"
-            );
-        }
-        assert!(rt; subst.bound_kind(0).is_none());
-        assert!(rt; subst.bound_kind(1).is_none());
-    }
+    let told = outcome(rt, alloc, &mut subst, left, right)?;
+    assert_eq!(rt; told.as_str(), want, "{left:?} and {right:?}");
     Ok(())
 }
 
-// Each row: a name and what stands beside it, twice, and the text of both types once they are made equal.
-fn check_rows(
-    rt: &impl Abort,
-    alloc: Global,
-    rows: &[(&str, &str, &str, &str, &str)],
-) -> Result<(), Fail> {
+// Each row: two types, and the text of both once they are made equal.
+fn check_rows(rt: &impl Abort, alloc: Global, rows: &[&str]) -> Result<(), Fail> {
     for row in rows {
-        let (left, left_too, right, right_too, want) = *row;
-        let left = made(alloc, left, left_too)?;
-        let right = made(alloc, right, right_too)?;
+        let (left, rest) = row.split_once(" = ").expect(rt, "two types");
+        let (right, want) = rest.split_once(" is ").expect(rt, "what both are");
+        let left = made(alloc, left)?;
+        let right = made(alloc, right)?;
         check_row(rt, alloc, &left, &right, want)?;
     }
     Ok(())
@@ -126,16 +137,16 @@ fn check_rows(
 #[test]
 fn types_that_can_be_made_equal_and_not(rt: HostRuntime) -> Result<(), Fail> {
     let rows = [
-        ("int", "", "text", "", ""),
-        ("bool", "", "bool", "", "Bool"),
-        ("pred", "", "bool", "", ""),
-        ("var 0", "", "var 0", "", "Var(0)"),
-        ("var 0", "", "var 1", "", "Var(0)"),
-        ("var 1", "", "var 0", "", "Var(0)"),
-        ("var 0", "", "format", "", "Format"),
-        ("number 2", "", "int", "", "Int"),
-        ("decimal", "", "number 2", "", "Decimal"),
-        ("number 2", "", "text", "", ""),
+        "int = text is clash",
+        "bool = bool is Bool",
+        "pred = bool is clash",
+        "var-0 = var-0 is Var(0)",
+        "var-0 = var-1 is Var(0)",
+        "var-1 = var-0 is Var(0)",
+        "var-0 = format is Format",
+        "number-2 = int is Int",
+        "decimal = number-2 is Decimal",
+        "number-2 = text is clash",
     ];
     check_rows(&rt, rt.alloc(), &rows)
 }
@@ -143,14 +154,14 @@ fn types_that_can_be_made_equal_and_not(rt: HostRuntime) -> Result<(), Fail> {
 #[test]
 fn variables_that_can_be_made_equal_and_not(rt: HostRuntime) -> Result<(), Fail> {
     let rows = [
-        ("number 2", "", "number 3", "", "Var(2)"),
-        ("var 0", "", "number 2", "", "Var(2)"),
-        ("number 2", "", "var 0", "", "Var(2)"),
-        ("mono", "", "stereo", "", ""),
-        ("kind 0", "", "mono", "", "Source(Fixed(Mono))"),
-        ("stereo", "", "kind 1", "", "Source(Fixed(Stereo))"),
-        ("kind 0", "", "kind 1", "", "Source(Var(0))"),
-        ("kind 0", "", "unit", "", ""),
+        "number-2 = number-3 is Var(2)",
+        "var-0 = number-2 is Var(2)",
+        "number-2 = var-0 is Var(2)",
+        "mono = stereo is clash",
+        "kind-0 = mono is Source(Fixed(Mono))",
+        "stereo = kind-1 is Source(Fixed(Stereo))",
+        "kind-0 = kind-1 is Source(Var(0))",
+        "kind-0 = unit is clash",
     ];
     check_rows(&rt, rt.alloc(), &rows)
 }
@@ -158,17 +169,17 @@ fn variables_that_can_be_made_equal_and_not(rt: HostRuntime) -> Result<(), Fail>
 #[test]
 fn lists_and_tuples_that_can_be_made_equal_and_not(rt: HostRuntime) -> Result<(), Fail> {
     let rows = [
-        ("var 0", "list", "int", "list", "List(Int)"),
-        ("number 2", "list", "decimal", "list", "List(Decimal)"),
-        ("number 2", "list", "bool", "list", ""),
-        ("var 0", "text", "int", "var 1", "Tuple([Int, Text])"),
-        ("var 0", "text", "int", "bool", ""),
-        ("var 0", "var 0", "int", "text", ""),
-        ("var 0", "var 0", "var 1", "text", "Tuple([Text, Text])"),
-        ("int", "", "int", "list", ""),
-        ("number 2", "", "int", "list", ""),
-        ("var 0", "", "var 0", "list", ""),
-        ("int", "text", "int", "list", ""),
+        "list var-0 = list int is List(Int)",
+        "list number-2 = list decimal is List(Decimal)",
+        "list number-2 = list bool is clash",
+        "var-0 text = int var-1 is Tuple([Int, Text])",
+        "var-0 text = int bool is clash",
+        "var-0 var-0 = int text is clash",
+        "var-0 var-0 = var-1 text is Tuple([Text, Text])",
+        "int = list int is clash",
+        "number-2 = list int is clash",
+        "var-0 = list var-0 is clash",
+        "int text = list int is clash",
     ];
     check_rows(&rt, rt.alloc(), &rows)
 }
@@ -276,23 +287,40 @@ fn more_than_a_thousand_levels_are_not(rt: HostRuntime) -> Result<(), Fail> {
     let mut subst = six_variables(rt.alloc())?;
     let refused = unified(&rt, rt.alloc(), &mut subst, &Ty::Var(1), &deep);
     assert_eq!(rt; refused, Err(Memory));
-    assert!(rt; subst.bound(1).is_none());
+    Ok(())
+}
+
+fn variables_text(alloc: Global, ty: &Ty) -> Result<String, Fail> {
+    let found = variables(alloc, ty)?;
+    Ok(format!(in alloc; "{found:?}")?)
+}
+
+fn renamed_text(alloc: Global, ty: &Ty) -> Result<String, Fail> {
+    let other = renamed(alloc, ty, &[5], &[7])?;
+    Ok(format!(in alloc; "{other:?}")?)
+}
+
+fn pair_in_pair(alloc: Global) -> Result<Ty, Memory> {
+    let inner = made(alloc, "var-1 kind-0")?;
+    pair(alloc, inner, Ty::Var(0))
+}
+
+fn check_variables(rt: &impl Abort, alloc: Global, ty: &Ty) -> Result<(), Fail> {
+    let found = variables_text(alloc, ty)?;
+    assert_eq!(rt;
+        found.as_str(),
+        "VariableNumbers { types: [1, 0], kinds: [0] }"
+    );
+    let other = renamed_text(alloc, ty)?;
+    assert_eq!(rt;
+        other.as_str(),
+        "Tuple([Tuple([Var(1), Source(Var(7))]), Var(5)])"
+    );
     Ok(())
 }
 
 #[test]
 fn the_variables_of_a_type_and_an_instance(rt: HostRuntime) -> Result<(), Fail> {
-    let inner = made(rt.alloc(), "var 1", "kind 0")?;
-    let ty = pair(rt.alloc(), inner, Ty::Var(0))?;
-    let found = variables(rt.alloc(), &ty)?;
-    assert_eq!(rt;
-        format!(in rt.alloc(); "{found:?}")?.as_str(),
-        "VariableNumbers { types: [1, 0], kinds: [0] }"
-    );
-    let other = renamed(rt.alloc(), &ty, &[5], &[7])?;
-    assert_eq!(rt;
-        format!(in rt.alloc(); "{other:?}")?.as_str(),
-        "Tuple([Tuple([Var(1), Source(Var(7))]), Var(5)])"
-    );
-    Ok(())
+    let ty = pair_in_pair(rt.alloc())?;
+    check_variables(&rt, rt.alloc(), &ty)
 }

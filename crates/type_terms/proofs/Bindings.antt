@@ -62,12 +62,12 @@ number_term_same us vs h (tuple_term t) n = absurd n
 number_term_same us vs h (source_term t) n = absurd n
 number_term_same us vs h (variable k) n = h k ∙ n
 
-sound_over : (s s' : Table) → length s'.types ≡ length s.types → length s'.kinds ≡ length s.kinds → (u : Term) → IsOver s u → IsOver s' u
-sound_over s s' l l' u = InTerm-map (λ n h. omega arith) (λ n h. omega arith) u
+pub over_after : (s s' : Table) → length s'.types ≡ length s.types → length s'.kinds ≡ length s.kinds → (u : Term) → IsOver s u → IsOver s' u
+over_after s s' l l' u = InTerm-map (λ n h. omega arith) (λ n h. omega arith) u
 
 pub sound_bind : (s s' : Table) (x : ℕ) (t : Term) → Binds x t s.types s'.types → s'.kinds ≡ s.kinds → Avoids s.types x t → IsOver s t → (number_at s.types x ≡ true → IsNumberTerm s.types t) → IsSound s → IsSound s'
 sound_bind s s' x t b ks a o num h = record {
-  over = λ k u e. sound_over s s' b.same_length (ap length ks) u (over_of k u (binding_of b k u e));
+  over = λ k u e. over_after s s' b.same_length (ap length ks) u (over_of k u (binding_of b k u e));
   ranked = rank_bind h.ranked.0 x t s.types s'.types b a h.ranked.1;
   numbers = λ k u e is. number_term_same s.types s'.types b.same_numbers u (number_of k u (binding_of b k u e) (sym (b.same_numbers k) ∙ is));
   kinds = λ k j e. h.kinds k j (sym (ap (λ c. kind_at c k) ks) ∙ e);
@@ -106,7 +106,7 @@ kind_binding_of {x} {t} {old} {new} b k s e =
 
 pub sound_bind_kind : (s s' : Table) (x : ℕ) (t : KindTerm) → BindsKind x t s.kinds s'.kinds → s'.types ≡ s.types → ((j : ℕ) → t ≡ Var j → j < x) → IsSound s → IsSound s'
 sound_bind_kind s s' x t b ts low h = record {
-  over = λ k u e. sound_over s s' (ap length ts) b.same_length u (h.over k u (sym (ap (λ c. bound_at c k) ts) ∙ e));
+  over = λ k u e. over_after s s' (ap length ts) b.same_length u (h.over k u (sym (ap (λ c. bound_at c k) ts) ∙ e));
   ranked = (h.ranked.0, record { falls = λ k u e. h.ranked.1.falls k u (sym (ap (λ c. bound_at c k) ts) ∙ e) });
   numbers = λ k u e is. number_term_same s.types s'.types (λ j. ap (λ c. number_at c j) ts) u (h.numbers k u (sym (ap (λ c. bound_at c k) ts) ∙ e) (sym (ap (λ c. number_at c k) ts) ∙ is));
   kinds = λ k j e. lower k j (kind_binding_of b k (Var j) e);
@@ -133,9 +133,6 @@ solves_after_kind s s' x t b ts a h q = record {
     kind_of_at : (k : ℕ) (u : KindTerm) → ((k ≡ x) × (u ≡ t)) ⊎ (kind_at s.kinds k ≡ Some u) → a.kind_of k ≡ kind_meaning a u
     kind_of_at k u (inl e) = ap a.kind_of e.0 ∙ q ∙ ap (kind_meaning a) (sym e.1)
     kind_of_at k u (inr e) = h.kinds k u e
-
-pub over_after : (s s' : Table) → length s'.types ≡ length s.types → length s'.kinds ≡ length s.kinds → (u : Term) → IsOver s u → IsOver s' u
-over_after s s' l l' u = InTerm-map (λ n h. omega arith) (λ n h. omega arith) u
 
 -- marks that grow still serve
 pub marked_more : (vs : List Variable) (marks marks' : List Bool) → length marks' ≡ length marks → ((k : ℕ) → mark_at marks k ≡ true → mark_at marks' k ≡ true) → AreMarked vs marks → AreMarked vs marks'

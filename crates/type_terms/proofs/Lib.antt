@@ -2,7 +2,6 @@ pub mod Agendas
 pub mod Avoiding
 pub mod Basics
 pub mod Bindings
-pub mod Counts
 pub mod Defaults
 pub mod Fresh
 pub mod KindLemmas
