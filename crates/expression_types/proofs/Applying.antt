@@ -1,5 +1,5 @@
 -- Calls: what is seen once one has begun, and how many open kinds it has.
-use Rattle.std.proofs.Common.{◌≡◌, ◌∙◌, sym, ap, subst, refl, ℕ, zero, suc, length, List, [], ◌∷◌, map, replicate, Option, Some, None}
+use Rattle.std.proofs.Common.{◌≡◌, sym, ap, subst, refl, ℕ, zero, suc, length, List, [], ◌∷◌, map, replicate, Option, Some, None}
 use Rattle.std.specs.Prelude.{option_map}
 use Rattle.type_terms.specs.Agrees.{Follows}
 use Rattle.type_terms.specs.Term.{Term}
@@ -38,8 +38,8 @@ open_all : (m n : ℕ) → length (open_numbers m (replicate n Open)) ≡ n
 open_all m zero = refl
 open_all m (suc n) = ap suc (open_all (suc m) n)
 
-pub builtin_counted : (ds : List KnownDef) (b : Builtin) (g : Scheme) → g ≡ builtin_scheme b → kinds_count ds (Some (target.Builtin b)) ≡ Some (length (open_numbers 0 g.kinds))
-builtin_counted ds b g is = ap Some (sym (ap (λ (h : Scheme). length (open_numbers 0 h.kinds)) is ∙ open_all 0 (signature b).kinds))
+pub builtin_counted : (ds : List KnownDef) (b : Builtin) → kinds_count ds (Some (target.Builtin b)) ≡ Some (length (open_numbers 0 (builtin_scheme b).kinds))
+builtin_counted ds b = ap Some (sym (open_all 0 (signature b).kinds))
 
 pub def_counted : (ds : List KnownDef) (t : ℕ) (d : KnownDef) → Some d ≡ def_seen t ds → kinds_count ds (Some (target.Def t)) ≡ Some (length (open_numbers 0 (scheme_of d.general).kinds))
 def_counted ds t d found = ap (option_map open_kinds) (sym found)

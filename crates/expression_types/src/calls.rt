@@ -3,10 +3,10 @@ ghost use Rattle.std.specs.Prelude.{◌≡◌, length, map, option_map, IfOk, So
 ghost use Rattle.name_scope.specs.Seen.{seen_parameter};
 ghost use Rattle.script_grammar.specs.declared.tree.Call.{out-Call};
 ghost use Rattle.script_grammar.specs.View.{listed, view_arg, view_call};
-ghost use Rattle.type_schemes.specs.Schemes.{open_numbers, scheme_of};
+ghost use Rattle.type_schemes.specs.Schemes.{open_numbers};
 ghost use Rattle.type_flow.specs.Fitting.{seen_argument};
 ghost use Rattle.type_flow.specs.Flow.{AreGivenOf, IsTypeOf};
-ghost use Rattle.value_types.specs.Seen.{IsCalled, IsSeen, env_of, founds};
+ghost use Rattle.value_types.specs.Seen.{IsCalled, IsSeen, called_scheme, env_of, founds};
 ghost use Rattle.expression_types.specs.Order.{AreAddedIf, kinds_count, tokens_used};
 
 use crate::values::type_full;
@@ -15,10 +15,9 @@ use name_scope::{Parameter, builtin_params};
 use script_grammar::tree::{Arg, Call};
 use std::alloc::Global;
 use type_flow::{Argument, fit};
-use type_schemes::{General, builtin_general};
 use type_terms::Subst;
 use typing_rules::Target;
-use value_types::{FoundUse, Names, begin_call, some_if};
+use value_types::{Called, FoundUse, Names, begin_call, some_if};
 
 /// The type of a call; `None` where it has no type. It fails only where memory is refused.
 ///
@@ -50,15 +49,15 @@ pub fn type_call(
                         call,
                         target,
                         &known.params,
-                        &known.general,
+                        Called::General(&known.general),
                     )?;
                     Ok(typed)
                 }
             },
             Target::Builtin(builtin) => {
                 let params = builtin_params(builtin);
-                let general = builtin_general(alloc, builtin)?;
-                let typed = apply(alloc, subst, names, uses, call, target, params, &general)?;
+                let called = Called::Builtin(builtin);
+                let typed = apply(alloc, subst, names, uses, call, target, params, called)?;
                 Ok(typed)
             }
         },
@@ -101,7 +100,7 @@ fn type_args<'s>(
     Ok(Some(given))
 }
 
-/// A call of what has this general type.
+/// A call of this builtin, or of what has this general type.
 #[cycle(value)]
 fn apply(
     alloc: Global,
@@ -111,15 +110,15 @@ fn apply(
     call: &Call,
     target: Target,
     params: &[Parameter<'_>],
-    general: &General,
+    called: Called<'_>,
 ) -> Result<Option<u64>, Memory>
     requires seen { IsSeen subst.old names uses.old.items }
-    requires callable { IsCalled subst.old (env_of names) (out-Call call.now).at target (map seen_parameter params.now) (scheme_of general.now) }
-    requires counted { kinds_count names.defs.now (Some target) ≡ Some (length (open_numbers 0 (scheme_of general.now).kinds)) }
+    requires callable { IsCalled subst.old (env_of names) (out-Call call.now).at target (map seen_parameter params.now) (called_scheme called) }
+    requires counted { kinds_count names.defs.now (Some target) ≡ Some (length (open_numbers 0 (called_scheme called).kinds)) }
     ensures typed { IfOk result (λ r. IsTypeOf subst.old subst.new (env_of names.entry) (view_call call.now) (founds uses.old.items) (founds uses.new.items) r) }
     ensures order { IfOk result (λ r. AreAddedIf names.entry (tokens_used (view_call call.now)) (founds uses.old.items) (founds uses.new.items) r) }
 {
-    let callee = begin_call(alloc, subst, uses, call.at, target, general)?;
+    let callee = begin_call(alloc, subst, uses, call.at, target, called)?;
     match type_args(alloc, subst, names, uses, &call.args)? {
         None => Ok(None),
         Some(mut given) => {

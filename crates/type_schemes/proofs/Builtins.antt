@@ -2,8 +2,11 @@
 use Rattle.std.proofs.Common.{◌≡◌, ◌∙◌, sym, ap, refl, ℕ, zero, suc, ◌<◌, List, [], ◌∷◌, map, replicate, length, slice_get, subst, Some, rules}
 use Rattle.liq_base.specs.declared.memory.Kind.{Kind}
 use Rattle.type_terms.specs.Ground.{Ground, Assignment}
+use Rattle.type_terms.specs.Naming.{instance}
 use Rattle.type_terms.specs.Table.{Table}
-use Rattle.type_terms.specs.Term.{InTerm, meaning}
+use Rattle.type_terms.specs.Term.{Term, InTerm, meaning}
+use Rattle.type_terms.specs.declared.ty.KindTerm.{KindTerm}
+use Rattle.type_terms.specs.declared.ty.KindTerm.TheVariants.{Var}
 use Rattle.typing_rules.specs.declared.uses.Builtin.{Builtin}
 use Rattle.typing_rules.specs.declared.uses.Builtin.TheVariants as builtin
 use Rattle.typing_rules.specs.Arguments.{Given, Matched}
@@ -12,7 +15,12 @@ use Rattle.type_schemes.specs.declared.general.TypeParameter.{TypeParameter}
 use Rattle.type_schemes.specs.declared.general.TypeParameter.TheVariants.{Any, Outer as OuterType}
 use Rattle.type_schemes.specs.declared.general.KindParameter.{KindParameter}
 use Rattle.type_schemes.specs.declared.general.KindParameter.TheVariants.{Open, Outer as OuterKind}
-use Rattle.type_schemes.specs.Schemes.{AreAmong, IsInstance, IsSchemeOver, KindMayBe, MayBe, Scheme, builtin_scheme, open_numbers}
+use Rattle.type_schemes.specs.declared.builtin_types.RowType.{RowType}
+use Rattle.type_schemes.specs.Instances.{Instantiates}
+use Rattle.type_schemes.specs.NewVariables.{AreNewKinds, AreNewTypes, open_terms}
+use Rattle.type_schemes.specs.Rows.{numbered_row, row_term}
+use Rattle.type_schemes.specs.Schemes.{AreAmong, IsInstance, IsSchemeOver, KindMayBe, MayBe, builtin_scheme, open_numbers}
+use Rattle.type_schemes.proofs.Instancing.{instantiates, open_terms_counted}
 use Rattle.type_schemes.proofs.Reading.{none_is, some_is}
 
 any_only : (n i : ℕ) (x : TypeParameter) → slice_get (replicate n Any) i ≡ Some x → x ≡ Any
@@ -79,8 +87,64 @@ builtin_over b s = record {
   kinds = λ i k e. absurd (no_outer_kind (signature b).kinds i k e);
 }
 
-pub scheme_over : (b : Builtin) (g : Scheme) → g ≡ builtin_scheme b → (s : Table) → IsSchemeOver s g
-scheme_over b g e s = subst (IsSchemeOver s) (sym e) (builtin_over b s)
+-- ---- a row with numbers for its variables, of which it has at most one of each sort
+
+pub rows_numbered : (any kind : ℕ) (rs : List RowType) → map (numbered_row any kind) rs ≡ map (instance (any ∷ []) (kind ∷ [])) (map row_term rs)
+rows_numbered any kind [] = refl
+rows_numbered any kind (r ∷ rs) = ap (λ (ts : List Term). numbered_row any kind r ∷ ts) (rows_numbered any kind rs)
+
+row_params_are : (b : Builtin) (any kind : ℕ) → map (instance (any ∷ []) (kind ∷ [])) (builtin_scheme b).params ≡ map (instance (replicate (signature b).types any) (replicate (signature b).kinds kind)) (builtin_scheme b).params
+row_params_are builtin.OutputFile any kind = refl
+row_params_are builtin.Set any kind = refl
+row_params_are builtin.Single any kind = refl
+row_params_are builtin.Playlist any kind = refl
+row_params_are builtin.Blank any kind = refl
+row_params_are builtin.Square any kind = refl
+row_params_are builtin.Fail any kind = refl
+row_params_are builtin.Fallback any kind = refl
+row_params_are builtin.Switch any kind = refl
+row_params_are builtin.Sequence any kind = refl
+row_params_are builtin.Add any kind = refl
+row_params_are builtin.Amplify any kind = refl
+row_params_are builtin.Mean any kind = refl
+row_params_are builtin.Stereo any kind = refl
+row_params_are builtin.Crossfade any kind = refl
+row_params_are builtin.Mksafe any kind = refl
+row_params_are builtin.Buffer any kind = refl
+row_params_are builtin.Clock any kind = refl
+
+row_result_is : (b : Builtin) (any kind : ℕ) → instance (any ∷ []) (kind ∷ []) (builtin_scheme b).result ≡ instance (replicate (signature b).types any) (replicate (signature b).kinds kind) (builtin_scheme b).result
+row_result_is builtin.OutputFile any kind = refl
+row_result_is builtin.Set any kind = refl
+row_result_is builtin.Single any kind = refl
+row_result_is builtin.Playlist any kind = refl
+row_result_is builtin.Blank any kind = refl
+row_result_is builtin.Square any kind = refl
+row_result_is builtin.Fail any kind = refl
+row_result_is builtin.Fallback any kind = refl
+row_result_is builtin.Switch any kind = refl
+row_result_is builtin.Sequence any kind = refl
+row_result_is builtin.Add any kind = refl
+row_result_is builtin.Amplify any kind = refl
+row_result_is builtin.Mean any kind = refl
+row_result_is builtin.Stereo any kind = refl
+row_result_is builtin.Crossfade any kind = refl
+row_result_is builtin.Mksafe any kind = refl
+row_result_is builtin.Buffer any kind = refl
+row_result_is builtin.Clock any kind = refl
+
+open_row : (m k : ℕ) → replicate m (Var k) ≡ open_terms (replicate m Open) (replicate m k)
+open_row zero k = refl
+open_row (suc m) k = ap (λ (ks : List KindTerm). Var k ∷ ks) (open_row m k)
+
+module _ (s s1 s2 : Table) (b : Builtin) (any kind : ℕ) (types : AreNewTypes s s1 (builtin_scheme b).types (replicate (signature b).types any)) (kinds : AreNewKinds s1 s2 (builtin_scheme b).kinds (replicate (signature b).kinds kind)) where
+  pub row_instantiates : (params : List Term) (result : Term) (opens : List KindTerm) → params ≡ map (instance (any ∷ []) (kind ∷ [])) (builtin_scheme b).params → result ≡ instance (any ∷ []) (kind ∷ []) (builtin_scheme b).result → opens ≡ replicate (signature b).kinds (Var kind) → Instantiates s s2 (builtin_scheme b) params result opens
+  row_instantiates params result opens e f h =
+      instantiates s s1 s2 (builtin_scheme b) (replicate (signature b).types any) (replicate (signature b).kinds kind) (builtin_over b s) types kinds params result opens
+      (e ∙ row_params_are b any kind) (f ∙ row_result_is b any kind) (h ∙ open_row (signature b).kinds kind)
+
+  pub row_counted : (opens : List KindTerm) → opens ≡ replicate (signature b).kinds (Var kind) → length opens ≡ length (open_numbers 0 (builtin_scheme b).kinds)
+  row_counted opens h = ap length (h ∙ open_row (signature b).kinds kind) ∙ open_terms_counted (builtin_scheme b).kinds (replicate (signature b).kinds kind) 0 kinds.many
 
 -- ---- a call of a builtin is an instance of its row
 

@@ -1,5 +1,5 @@
 -- New kind variables, one by one.
-use Rattle.std.proofs.Common.{◌≡◌, ◌∙◌, sym, ap, subst, refl, ℕ, ◌<◌, ◌≤◌, ◌⊎◌, inl, inr, List, [], ◌∷◌, ◌++◌, length, slice_get, Some, arith, ◌+◌, get_or, take, take_all, length-append}
+use Rattle.std.proofs.Common.{◌≡◌, ◌∙◌, sym, ap, subst, refl, ℕ, ◌<◌, ◌≤◌, ◌⊎◌, inl, inr, List, [], ◌∷◌, ◌++◌, length, slice_get, Some, arith, ◌+◌, get_or, take, take_all, length-append, replicate}
 use Rattle.std.proofs.lemmas.List.{take_more}
 use Rattle.std.proofs.lemmas.Option.{slice_get-get_or}
 use Rattle.type_terms.specs.Agrees.{Agrees, Follows, HasNewKind}
@@ -80,3 +80,7 @@ new_kinds_start s ns e = subst (λ ms. AreNewKinds s s [] ms) (sym e) (new_kinds
 
 pub new_kinds_all : (s s1 : Table) (ps : List KindParameter) (i : ℕ) (ns : List ℕ) → length ps ≤ i → AreNewKinds s s1 (take i ps) ns → AreNewKinds s s1 ps ns
 new_kinds_all s s1 ps i ns l h = subst (λ ys. AreNewKinds s s1 ys ns) (take_all i ps l) h
+
+-- the one variable of a builtin's row
+pub row_kinds_one : (m : ℕ) (s s' : Table) (n : ℕ) → m ≡ 1 → HasNewKind s s' n → AreNewKinds s s' (replicate m Open) (replicate m n)
+row_kinds_one m s s' n e h = subst (λ k. AreNewKinds s s' (replicate k Open) (replicate k n)) (sym e) (new_kinds_more s s s' [] [] Open n (λ k is. absurd (let f : Open ≡ Outer k = is in cc)) (new_kinds_none s) (open_is_new s s' n h))

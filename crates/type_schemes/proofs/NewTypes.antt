@@ -1,5 +1,5 @@
 -- New type variables, one by one.
-use Rattle.std.proofs.Common.{◌≡◌, ◌∙◌, sym, ap, subst, refl, ℕ, ◌<◌, ◌≤◌, ◌⊎◌, inl, inr, List, [], ◌∷◌, ◌++◌, length, slice_get, Some, arith, IsTrue, true, false, ◌+◌, get_or, take, take_all, length-append}
+use Rattle.std.proofs.Common.{◌≡◌, ◌∙◌, sym, ap, subst, refl, ℕ, ◌<◌, ◌≤◌, ◌⊎◌, inl, inr, List, [], ◌∷◌, ◌++◌, length, slice_get, Some, arith, IsTrue, true, false, ◌+◌, get_or, take, take_all, length-append, replicate}
 use Rattle.std.proofs.lemmas.List.{take_more}
 use Rattle.std.proofs.lemmas.Option.{slice_get-get_or}
 use Rattle.type_terms.specs.Agrees.{Agrees, Follows, HasNewType}
@@ -105,3 +105,7 @@ new_types_start s ns e = subst (λ ms. AreNewTypes s s [] ms) (sym e) (new_types
 
 pub new_types_all : (s s1 : Table) (ps : List TypeParameter) (i : ℕ) (ns : List ℕ) → length ps ≤ i → AreNewTypes s s1 (take i ps) ns → AreNewTypes s s1 ps ns
 new_types_all s s1 ps i ns l h = subst (λ ys. AreNewTypes s s1 ys ns) (take_all i ps l) h
+
+-- the one variable of a builtin's row
+pub row_types_one : (m : ℕ) (s s' : Table) (n : ℕ) → m ≡ 1 → HasNewType s s' (IsTrue false) n → AreNewTypes s s' (replicate m Any) (replicate m n)
+row_types_one m s s' n e h = subst (λ k. AreNewTypes s s' (replicate k Any) (replicate k n)) (sym e) (new_types_more s s s' [] [] Any n (λ k is. absurd (let f : Any ≡ Outer k = is in cc)) (new_types_none s) (any_is_new s s' n h))

@@ -80,7 +80,7 @@ fn rename(
 }
 
 /// The number of a new type variable.
-fn fresh_number(subst: &mut Subst, number: bool) -> Result<u64, Memory>
+pub fn fresh_number(subst: &mut Subst, number: bool) -> Result<u64, Memory>
     ensures free { IfOk result (λ n. HasNewType subst.old subst.new (IsTrue number) n) }
     ensures grows { Grows subst.old subst.new }
 {
@@ -92,7 +92,7 @@ fn fresh_number(subst: &mut Subst, number: bool) -> Result<u64, Memory>
 }
 
 /// The number of a new kind variable.
-fn fresh_kind_number(subst: &mut Subst) -> Result<u64, Memory>
+pub fn fresh_kind_number(subst: &mut Subst) -> Result<u64, Memory>
     ensures free { IfOk result (λ n. HasNewKind subst.old subst.new n) }
     ensures grows { Grows subst.old subst.new }
 {

@@ -8,7 +8,7 @@ mod holding;
 mod instances;
 mod numbering;
 
-pub use builtin_types::builtin_general;
+pub use builtin_types::instantiate_builtin;
 pub use general::{General, KindParameter, TextKind, TypeParameter};
 pub use generalising::{DefType, generalise};
 pub use holding::Held;

@@ -12,12 +12,12 @@ use Rattle.typing_rules.specs.declared.uses.Target.TheVariants as target
 use Rattle.typing_rules.specs.declared.uses.Builtin.{Builtin}
 use Rattle.typing_rules.specs.Arguments.{Parameter, Given, Matched}
 use Rattle.typing_rules.specs.Table.{params_of}
-use Rattle.type_schemes.specs.Schemes.{AreAmong, Scheme, IsInstance, IsSchemeOver, builtin_scheme, open_numbers}
+use Rattle.type_schemes.specs.Schemes.{AreAmong, Scheme, IsInstance, builtin_scheme, open_numbers}
 use Rattle.std.specs.Global.{Vec}
 use Rattle.type_terms.specs.declared.ty.Ty.{Ty}
 use Rattle.type_schemes.specs.declared.instances.Instance.{Instance}
 use Rattle.type_schemes.specs.Instances.{Instantiates, instance_params}
-use Rattle.type_schemes.proofs.Builtins.{call_of_instance, instance_of_call}
+use Rattle.type_schemes.proofs.Builtins.{builtin_over, call_of_instance, instance_of_call}
 use Rattle.name_scope.proofs.Rows.{call_seen}
 use Rattle.type_flow.specs.Environment.{Env, Found, AreUsesOver, AreKindsOver, IsEnvOver, with_use}
 use Rattle.type_flow.specs.Flow.{HasNoType, InfersGiven, HaveNoGiven, IsCallable, IsInstantiated, HasNoCall, AreTermsOver, Defines, IsMade, IsTypeOf, given_under, if_yes}
@@ -53,10 +53,10 @@ builtin_callable s env at b = record {
   instance = λ a m k gs g h. (h.2.types, h.0, h.2.matched, instance_of_call b gs h.0 g a h.2, h.1);
 }
 
-pub builtin_called : (s : Table) (env : Env) (at : ℕ) (b : Builtin) (ps : List Parameter) (g : Scheme) → g ≡ builtin_scheme b → ps ≡ params_of b → IsSchemeOver s g → env.targets at ≡ Some (target.Builtin b) → IsCalled s env at (target.Builtin b) ps g
-builtin_called s env at b ps g gis pis o means = record {
-  over = o;
-  callable = subst (λ h. IsCallable s env at (target.Builtin b) ps (IsInstance h)) (sym gis) (subst (λ qs. IsCallable s env at (target.Builtin b) qs (IsInstance (builtin_scheme b))) (sym pis) (builtin_callable s env at b));
+pub builtin_called : (s : Table) (env : Env) (at : ℕ) (b : Builtin) (ps : List Parameter) → ps ≡ params_of b → env.targets at ≡ Some (target.Builtin b) → IsCalled s env at (target.Builtin b) ps (builtin_scheme b)
+builtin_called s env at b ps is means = record {
+  over = builtin_over b s;
+  callable = subst (λ qs. IsCallable s env at (target.Builtin b) qs (IsInstance (builtin_scheme b))) (sym is) (builtin_callable s env at b);
   meant = means;
 }
 

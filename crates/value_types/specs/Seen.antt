@@ -6,7 +6,7 @@ use Rattle.type_terms.specs.Table.{Table}
 use Rattle.type_terms.specs.declared.ty.KindTerm.{KindTerm}
 use Rattle.value_types.specs.declared.environment.TextKind.{TextKind}
 use Rattle.value_types.specs.declared.environment.TextKind.TheVariants as text_kind
-use Rattle.type_schemes.specs.Schemes.{Scheme, IsInstance, IsSchemeOver, open_numbers, scheme_of}
+use Rattle.type_schemes.specs.Schemes.{Scheme, IsInstance, IsSchemeOver, builtin_scheme, open_numbers, scheme_of}
 use Rattle.typing_rules.specs.declared.uses.Target.{Target}
 use Rattle.typing_rules.specs.declared.uses.Target.TheVariants as target
 use Rattle.typing_rules.specs.Arguments.{Parameter}
@@ -20,6 +20,8 @@ use Rattle.value_types.specs.declared.environment.KnownDef.{KnownDef}
 use Rattle.value_types.specs.declared.environment.Known.{Known as AKnown}
 use Rattle.value_types.specs.declared.environment.Known.TheVariants as known
 use Rattle.value_types.specs.declared.environment.Names.{Names}
+use Rattle.value_types.specs.declared.calls.Called.{Called}
+use Rattle.value_types.specs.declared.calls.Called.TheVariants as called
 use Rattle.value_types.specs.declared.calls.Callee.{Callee}
 use Rattle.value_types.specs.Tables.{targets_of}
 
@@ -83,6 +85,11 @@ pub record IsSeen (s : Table) (names : Names) (uses : List FoundUse) : Type 0 wh
 abbrev pub IsNamed : Env → ℕ → List Found → List Found → Option ℕ → Type 0
 IsNamed env at old new None = ⊤
 IsNamed env at old new (Some n) = (t : ℕ) × (env.targets at ≡ Some (target.Slot t)) × (new ≡ with_use old at (target.Slot t) [])
+
+-- the scheme of what a call calls
+abbrev pub called_scheme : Called → Scheme
+called_scheme (called.Builtin b) = builtin_scheme b
+called_scheme (called.General g) = scheme_of g.now
 
 -- what is called was given new variables, and its use was added with as many kinds as it has open ones
 pub record HasBegun (s s' : Table) (g : Scheme) (at : ℕ) (t : Target) (c : Callee) (old new : List Found) : Type 0 where

@@ -8,7 +8,7 @@ mod leaves;
 mod targets;
 
 pub use bindings::Bindings;
-pub use calls::{Callee, begin_call};
+pub use calls::{Called, Callee, begin_call};
 pub use environment::{FoundUse, Known, KnownDef, Names, TextKind, TextUse, TypedName};
 pub use leaves::{literal_type, push_use, some_if, type_name};
 pub use targets::target_table;

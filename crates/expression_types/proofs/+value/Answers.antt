@@ -19,7 +19,6 @@ use Rattle.type_terms.proofs.Views.{term_Bool, term_Format, term_Pred, term_Text
 use Rattle.typing_rules.specs.Arguments.{Given}
 use Rattle.type_flow.specs.Flow.{Defines}
 use Rattle.type_terms.specs.declared.ty.Base.TheVariants as base
-use Rattle.type_schemes.specs.Schemes.{scheme_of}
 use Rattle.name_scope.specs.Seen.{seen_parameter}
 use Rattle.type_flow.specs.Fitting.{seen_argument}
 use Rattle.type_flow.proofs.Tables.{follows_both, over_later, uses_later}
@@ -27,7 +26,7 @@ use Rattle.type_flow.proofs.Forms.{one_none}
 use Rattle.type_flow.proofs.Exits.{and_done, and_first, and_others, expr_done, expr_first, expr_others, product_done, product_first, product_others, sum_done, sum_first, sum_others}
 use Rattle.type_flow.proofs.Shapes.{choice_condition, choice_first, choice_untrue, list_infers, list_none}
 use Rattle.type_flow.proofs.Ends.{added_done, alone_infers, args_end, args_stop, branches_done, comparison_done, factor_done, fulls_end, fulls_stop, join_done, joins_end, joins_stop, leaf_infers, left_none, not_done, not_none, not_plain, numbers_never, right_none, tuple_done, tuple_empty, tuple_never, tuple_one}
-use Rattle.value_types.specs.Seen.{def_seen, env_of, founds}
+use Rattle.value_types.specs.Seen.{called_scheme, def_seen, env_of, founds}
 use Rattle.value_types.proofs.Calling.{args_none, builtin_called, call_done, call_no_def, call_none, call_value}
 use Rattle.value_types.proofs.Seeing.{seen_later}
 use Rattle.expression_types.specs.Order.{tokens_used}
@@ -744,7 +743,7 @@ calls::apply-begin_call-requires t c =
 pub calls::apply-type_args-requires : goal.calls::apply-type_args-requires
 calls::apply-type_args-requires t c =
     let size = size_is-Call c.args.call.now in
-    (rw c.deref.ensures.value (omega (arith, c.decreases, size)), begun_seen c.args.subst.now c.begin_call.new.subst c.args.names (scheme_of c.args.general.now) ((out-Call c.args.call.now).at) c.args.target c.in_ok-callee.callee c.args.uses.now.items c.begin_call.new.uses.items c.requires.seen c.in_ok-callee.ensures)
+    (rw c.deref.ensures.value (omega (arith, c.decreases, size)), begun_seen c.args.subst.now c.begin_call.new.subst c.args.names (called_scheme c.args.called) ((out-Call c.args.call.now).at) c.args.target c.in_ok-callee.callee c.args.uses.now.items c.begin_call.new.uses.items c.requires.seen c.in_ok-callee.ensures)
 
 pub calls::apply-fit-requires-clause-over : goal.calls::apply-fit-requires-clause-over
 calls::apply-fit-requires-clause-over t c =
@@ -757,11 +756,11 @@ calls::apply-fit-requires-clause-inside t c =
 
 pub calls::apply-returns-in-None-clause-typed : goal.calls::apply-returns-in-None-clause-typed
 calls::apply-returns-in-None-clause-typed t c =
-    args_none c.args.call.now c.deref.result.now c.deref.ensures.value c.args.subst.now c.begin_call.new.subst (env_of c.args.names) c.args.target (map seen_parameter c.args.params.now) (scheme_of c.args.general.now) (map term_of c.in_ok-callee.callee.params.items) c.in_ok-callee.callee.result c.in_ok-callee.ensures.kinds (founds c.args.uses.now.items) (founds c.begin_call.new.uses.items) c.requires.seen.over c.requires.seen.uses_over c.requires.callable c.in_ok-callee.ensures.instantiated c.in_ok-callee.ensures.added (rw c.in-None.is at c.in_ok-type_args.ensures.typed)
+    args_none c.args.call.now c.deref.result.now c.deref.ensures.value c.args.subst.now c.begin_call.new.subst (env_of c.args.names) c.args.target (map seen_parameter c.args.params.now) (called_scheme c.args.called) (map term_of c.in_ok-callee.callee.params.items) c.in_ok-callee.callee.result c.in_ok-callee.ensures.kinds (founds c.args.uses.now.items) (founds c.begin_call.new.uses.items) c.requires.seen.over c.requires.seen.uses_over c.requires.callable c.in_ok-callee.ensures.instantiated c.in_ok-callee.ensures.added (rw c.in-None.is at c.in_ok-type_args.ensures.typed)
 
 pub calls::apply-returns-clause-typed : goal.calls::apply-returns-clause-typed
 calls::apply-returns-clause-typed t c =
-    call_done c.args.call.now c.deref.result.now c.deref.ensures.value c.args.subst.now c.begin_call.new.subst (env_of c.args.names) c.args.target (map seen_parameter c.args.params.now) (scheme_of c.args.general.now) (map term_of c.in_ok-callee.callee.params.items) c.in_ok-callee.callee.result c.in_ok-callee.ensures.kinds (founds c.args.uses.now.items) (founds c.begin_call.new.uses.items) c.requires.seen.over c.requires.seen.uses_over c.requires.callable c.in_ok-callee.ensures.instantiated c.in_ok-callee.ensures.added c.type_args.new.subst c.fit.new.subst (map seen_argument c.in-Some.given.items) (founds c.type_args.new.uses.items) c.in_ok-yes-in-Some.yes c.some_if.result c.some_if.ensures (rw c.in-Some.is at c.in_ok-type_args.ensures.typed) (rw c.deref-in-Some.ensures.value at c.in_ok-yes-in-Some.ensures)
+    call_done c.args.call.now c.deref.result.now c.deref.ensures.value c.args.subst.now c.begin_call.new.subst (env_of c.args.names) c.args.target (map seen_parameter c.args.params.now) (called_scheme c.args.called) (map term_of c.in_ok-callee.callee.params.items) c.in_ok-callee.callee.result c.in_ok-callee.ensures.kinds (founds c.args.uses.now.items) (founds c.begin_call.new.uses.items) c.requires.seen.over c.requires.seen.uses_over c.requires.callable c.in_ok-callee.ensures.instantiated c.in_ok-callee.ensures.added c.type_args.new.subst c.fit.new.subst (map seen_argument c.in-Some.given.items) (founds c.type_args.new.uses.items) c.in_ok-yes-in-Some.yes c.some_if.result c.some_if.ensures (rw c.in-Some.is at c.in_ok-type_args.ensures.typed) (rw c.deref-in-Some.ensures.value at c.in_ok-yes-in-Some.ensures)
 
 pub calls::apply-returns-clause-order : goal.calls::apply-returns-clause-order
 calls::apply-returns-clause-order t c =
@@ -794,4 +793,4 @@ calls::type_call-apply-requires t c =
 pub calls::type_call-apply-requires-in-Builtin : goal.calls::type_call-apply-requires-in-Builtin
 calls::type_call-apply-requires-in-Builtin t c =
     let means = sym c.target.ensures ∙ c.in-Some.is ∙ ap Some c.in-Builtin.is in
-    (omega (arith, c.decreases), (c.requires.seen, (builtin_called c.args.subst.now (env_of c.args.names) ((out-Call c.args.call.now).at) c.in-Builtin.builtin (map seen_parameter c.builtin_params-params.result.now) (scheme_of c.in_ok-general-in-Builtin.general) c.in_ok-general-in-Builtin.ensures.same c.builtin_params-params.ensures.same (c.in_ok-general-in-Builtin.ensures.over c.args.subst.now) means, builtin_counted c.args.names.defs.now c.in-Builtin.builtin (scheme_of c.in_ok-general-in-Builtin.general) c.in_ok-general-in-Builtin.ensures.same)))
+    (omega (arith, c.decreases), (c.requires.seen, (builtin_called c.args.subst.now (env_of c.args.names) ((out-Call c.args.call.now).at) c.in-Builtin.builtin (map seen_parameter c.builtin_params-params.result.now) c.builtin_params-params.ensures.same means, builtin_counted c.args.names.defs.now c.in-Builtin.builtin)))
