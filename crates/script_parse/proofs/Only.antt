@@ -1,5 +1,5 @@
 -- Nothing else is answered: a script that is spelled has no fault, and there is one fault.
-use Rattle.std.proofs.Common.{◌≡◌, ◌≢◌, ℕ, ◌<◌, ◌≤◌, ◌⊎◌, inl, inr, List, Ok, Err, refl, sym, ap, ◌∙◌, arith}
+use Rattle.std.proofs.Common.{◌≡◌, ◌≢◌, ℕ, ◌⊎◌, inl, inr, List, Ok, Err, refl, sym, ap, ◌∙◌, arith}
 use Rattle.std.specs.Prelude.{Result, IfOk, IfErr, IsOkUnless}
 use Rattle.std.proofs.lemmas.Bool.{cases_lt}
 use Rattle.script_lex.specs.declared.token.TokenKind.{TokenKind}

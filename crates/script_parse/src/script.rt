@@ -1,14 +1,14 @@
 // A script, or the first place that rules one out.
-ghost use Rattle.std.specs.Prelude.{◌≡◌, ◌≢◌, ℕ, ◌<◌, ◌^◌, ◌⊎◌, length, Err, IfOk, IfErr, IfSome, IfNone, IsOkUnless};
+ghost use Rattle.std.specs.Prelude.{◌≡◌, ◌≢◌, ◌<◌, ◌^◌, ◌⊎◌, length, Err, IfOk, IfErr, IfSome, IfNone, IsOkUnless};
 ghost use Rattle.script_grammar.specs.Tree.{Script as PlainScript};
 ghost use Rattle.script_grammar.specs.Spelling.{spelling};
 ghost use Rattle.script_grammar.specs.Placed.{IsPlaced};
 ghost use Rattle.script_grammar.specs.View.{view_script};
 ghost use Rattle.script_grammar.specs.Whole.{IsWhole};
 ghost use Rattle.parse_base.specs.Gives.{kinds};
-ghost use Rattle.script_parse.specs.Places.{opens, closes, IsDeepAt, IsDepthPlace};
+ghost use Rattle.script_parse.specs.Places.{opens, closes, IsDepthPlace};
 ghost use Rattle.script_parse.specs.declared.fault.ParseFault.{ParseFault as FaultOfTokens};
-ghost use Rattle.script_parse.specs.Answer.{Whole, IsParsed, IsShallow, IsFault};
+ghost use Rattle.script_parse.specs.Answer.{Whole, IsShallow, IsFault};
 
 use crate::fault::{ParseFault, Refusal};
 use liq_base::limits::MAX_NESTING;

@@ -1,4 +1,5 @@
 // Each call that takes memory, once with ample memory, against its answer; and the printed texts.
+use crate::texts::check_same;
 use liq_base::{
     Failed, Fetched, MemShelf, MemSink, Memory, Shelf, ShelfFault, Sink, SureShelf, Text,
 };
@@ -128,13 +129,19 @@ fn shelf_files(alloc: Global) -> Result<Vec<(String, Vec<u8>)>, AllocError> {
     Ok(vec![in alloc; (name, bytes)]?)
 }
 
+fn device_faults(alloc: Global) -> Result<String, AllocError> {
+    format!(in alloc; "{Memory}, {Failed}")
+}
+
+fn shelf_faults(alloc: Global) -> Result<String, AllocError> {
+    let (memory, failed) = (ShelfFault::Memory, ShelfFault::Failed);
+    format!(in alloc; "{memory}, {failed}")
+}
+
 #[test]
 fn faults_are_printed(rt: HostRuntime) -> Result<(), Fail> {
-    let (memory, failed) = (ShelfFault::Memory, ShelfFault::Failed);
-    let text = format!(in rt.alloc(); "{Memory}, {Failed}; {memory}, {failed}")?;
-    assert_eq!(rt;
-        text.as_str(),
-        "out of memory, a device failed; out of memory, a device failed"
-    );
+    let want = "out of memory, a device failed";
+    check_same(&rt, "of devices", &device_faults(rt.alloc())?, want);
+    check_same(&rt, "of shelves", &shelf_faults(rt.alloc())?, want);
     Ok(())
 }

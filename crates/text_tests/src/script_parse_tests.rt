@@ -9,11 +9,15 @@ use std::fmt::Write;
 use std::process::Abort;
 use std::test::Fail;
 
+fn push_kind(text: &mut String, kind: &TokenKind) -> Result<(), AllocError> {
+    write!(text, "{kind:?} ")?;
+    Ok(())
+}
+
 fn tokens_text(alloc: Global, tokens: &[Token]) -> Result<String, AllocError> {
     let mut text = String::new(alloc);
     for token in tokens {
-        let kind = &token.kind;
-        write!(text, "{kind:?} ")?;
+        push_kind(&mut text, &token.kind)?;
     }
     Ok(text)
 }
@@ -21,7 +25,7 @@ fn tokens_text(alloc: Global, tokens: &[Token]) -> Result<String, AllocError> {
 fn kinds_text(alloc: Global, kinds: &[TokenKind]) -> Result<String, AllocError> {
     let mut text = String::new(alloc);
     for kind in kinds {
-        write!(text, "{kind:?} ")?;
+        push_kind(&mut text, kind)?;
     }
     Ok(text)
 }
