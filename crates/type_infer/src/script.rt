@@ -94,8 +94,25 @@ fn type_statements<'a>(
         return Err(TypeFault::Memory);
     }
     let targets = told_table(alloc, &front.all)?;
+    type_with(alloc, &targets, statements, front)
+}
+
+/// The same, with what the names mean by their tokens.
+fn type_with<'a>(
+    alloc: Global,
+    targets: &IndexMap<u32, Target>,
+    statements: &'a [Stmt],
+    front: &Front,
+) -> Result<Typing<'a>, TypeFault>
+    requires front { IsFront (map view_stmt statements.now) front.now.count (map resolved front.now.all.items) front.now.fault }
+    requires placed { IsPlaced 0 (listed (map view_stmt statements.now)) }
+    requires table { targets_of targets.now ≡ target_in (map resolved front.now.all.items) }
+    requires counted { front.now.count ≤ 4294967295 }
+    ensures typed { IfOk result (λ t. IsTypedSo (target_in (map resolved front.now.all.items)) (first_of front.now.count (listed (map view_stmt statements.entry.now))) t) }
+    ensures clash { IfErr result (λ f. IsClashIn (target_in (map resolved front.now.all.items)) (listed (map view_stmt statements.entry.now)) front.now.count f) }
+{
     let mut typing = start(alloc)?;
-    type_each(alloc, &mut typing, &targets, statements, front)?;
+    type_each(alloc, &mut typing, targets, statements, front)?;
     Ok(typing)
 }
 

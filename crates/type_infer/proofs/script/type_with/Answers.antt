@@ -2,7 +2,7 @@ use Rattle.std.proofs.Common.{map}
 use Rattle.std.proofs.lemmas.Result.{err_from_is_err_and}
 use Rattle.typing_rules.specs.Scoping.{target_in}
 use Rattle.name_scope.specs.Noted.{resolved}
-use Rattle.type_infer.proofs.script.type_statements.Goals as goal
+use Rattle.type_infer.proofs.script.type_with.Goals as goal
 
 pub type_each-requires-clause-begun : goal.type_each-requires-clause-begun
 type_each-requires-clause-begun c = c.in_ok-typing.ensures.begun (target_in (map resolved c.args.front.now.all.items))
