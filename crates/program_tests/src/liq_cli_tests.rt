@@ -1,5 +1,5 @@
 // Whole calls over a shelf in memory. Expected bytes are worked out by hand from the rules in `docs/formats.md`.
-use liq_base::{FreeGate, MemShelf, MemSink, Memory};
+use liq_base::{FreeGate, MemShelf, MemSink};
 use liq_cli::liq;
 use std::alloc::{AllocError, Global};
 use std::process::Abort;
@@ -11,17 +11,12 @@ const SCRIPT: &[u8] = b"output.file(%wav, \"A\", single(\"B\"))";
 const ONE_TWO_THREE: &[u8] =
     b"RIFF\x2a\0\0\0WAVEfmt \x10\0\0\0\x01\0\x01\0\x44\xac\0\0\x88\x58\x01\0\x02\0\x10\0data\x06\0\0\0\x01\0\x02\0\x03\0";
 
-const FIRST_CYCLE: &[u8] = b"\x01\0\x01\0\x02\0\x02\0\x03\0\x03\0";
+const HEADER: &[u8; 44] =
+    b"RIFF\xb4\x1b\0\0WAVEfmt \x10\0\0\0\x01\0\x02\0\x44\xac\0\0\x10\xb1\x02\0\x04\0\x10\0data\x90\x1b\0\0";
+
+const CYCLE: &[u8; 12] = b"\x01\0\x01\0\x02\0\x02\0\x03\0\x03\0";
 
 const REPORT: &str = "output A samples 1764 gaps 0\n";
-
-/// A call, and what it left on `out` and `err`.
-#[derive(Drop)]
-struct Called {
-    status: u8,
-    out: MemSink,
-    err: MemSink,
-}
 
 // The script, and the audio file that it names.
 fn shelf(alloc: Global) -> Result<MemShelf, AllocError> {
@@ -30,38 +25,62 @@ fn shelf(alloc: Global) -> Result<MemShelf, AllocError> {
     Ok(MemShelf::new(alloc, vec![in alloc; script, audio]?))
 }
 
+// Appends the words of a line.
+fn push_words(alloc: Global, words: &mut Vec<String>, line: &str) -> Result<(), Fail> {
+    for word in line.split(' ') {
+        words.push(String::from_str(alloc, word)?)?;
+    }
+    Ok(())
+}
+
+// The status of a call.
 fn call(
     alloc: Global,
     line: &str,
     shelf: &mut MemShelf,
-    out_fails: Vec<(u64, u64)>,
-) -> Result<Called, Memory> {
+    out: &mut MemSink,
+    err: &mut MemSink,
+) -> Result<u8, Fail> {
     let mut words = Vec::new(alloc);
-    for word in line.split(' ') {
-        words.push(String::from_str(alloc, word)?)?;
-    }
+    push_words(alloc, &mut words, line)?;
+    Ok(liq(alloc, &words, shelf, out, err, &FreeGate))
+}
+
+// A call ends with this status, prints this report, whose appends fail so, and nothing else.
+fn check_call(
+    rt: &impl Abort,
+    alloc: Global,
+    line: &str,
+    shelf: &mut MemShelf,
+    out_fails: Vec<(u64, u64)>,
+    status: u8,
+    report: &str,
+) -> Result<(), Fail> {
     let mut out = MemSink::new(alloc, 1000, out_fails)?;
     let mut err = MemSink::new(alloc, 1000, Vec::new(alloc))?;
-    let status = liq(alloc, &words, shelf, &mut out, &mut err, &FreeGate);
-    Ok(Called { status, out, err })
+    let found = call(alloc, line, shelf, &mut out, &mut err)?;
+    assert_eq!(rt; found, status);
+    assert_eq!(rt; out.held(), report.as_bytes());
+    assert_eq!(rt; err.held(), b"".as_slice());
+    Ok(())
+}
+
+// The file of one tick: its header, and the samples 1 2 3 on both sides, again and again.
+fn check_output(rt: &impl Abort, output: &[u8]) {
+    assert_eq!(rt; output.len(), 7100);
+    assert!(rt; output.starts_with(HEADER.as_slice()));
+    for cycle in output[44..].chunks(12) {
+        assert!(rt; cycle == CYCLE.as_slice());
+    }
 }
 
 #[test]
 fn renders_with_ample_memory(rt: HostRuntime) -> Result<(), Fail> {
     let alloc = rt.alloc();
     let mut shelf = shelf(alloc)?;
-    let called = call(alloc, "render f 1", &mut shelf, Vec::new(alloc))?;
-    assert_eq!(rt; called.status, 0);
-    assert_eq!(rt; called.out.held(), REPORT.as_bytes());
-    assert_eq!(rt; called.err.held(), b"".as_slice());
-    let output = shelf.get("A").ok_or("no output")?;
-    assert_eq!(rt; output.len(), 7100);
-    assert!(rt; output.starts_with(b"RIFF\xb4\x1b\0\0WAVE"));
-    assert_eq!(rt; output.get(40..44), Some(b"\x90\x1b\0\0".as_slice()));
-    for cycle in output.iter().skip(44).zip(FIRST_CYCLE.iter().cycle()) {
-        assert!(rt; cycle.0 == cycle.1);
-    }
-    assert!(rt; output.ends_with(b"\x03\0\x03\0"));
+    let fails = Vec::new(alloc);
+    check_call(&rt, alloc, "render f 1", &mut shelf, fails, 0, REPORT)?;
+    check_output(&rt, shelf.get("A").unwrap_or(&[]));
     Ok(())
 }
 
@@ -82,35 +101,51 @@ enum Failing {
     SecondReport,
 }
 
-// Each row: what fails, the words, the status, the bytes of the output and the report.
+// Lets a call of a device of the shelf fail, or answers so that an append to `out` fails.
+fn let_fail(
+    alloc: Global,
+    shelf: &mut MemShelf,
+    failing: Failing,
+) -> Result<Vec<(u64, u64)>, Fail> {
+    match failing {
+        Failing::ReadOfScript => shelf.fail_read(0)?,
+        Failing::ReadOfAudio => shelf.fail_read(1)?,
+        Failing::Creation => shelf.fail_create(0)?,
+        Failing::FirstTick => shelf.fail_append(0, 1, 5)?,
+        Failing::SecondTick => shelf.fail_append(0, 2, 6)?,
+        Failing::Closing => shelf.fail_close(0)?,
+        Failing::ThirdRead => shelf.fail_read(2)?,
+        Failing::SecondCreation => shelf.fail_create(1)?,
+        Failing::AppendBehindAll => shelf.fail_append(0, 2, 0)?,
+        Failing::SecondClosing => shelf.fail_close(1)?,
+        Failing::Report => return Ok(vec![in alloc; (0, 4)]?),
+        Failing::SecondReport => return Ok(vec![in alloc; (1, 0)]?),
+    }
+    Ok(Vec::new(alloc))
+}
+
+// A row: what fails, the words, the status, the bytes of the output and the report.
+fn check_row(
+    rt: &impl Abort,
+    alloc: Global,
+    row: &(Failing, &str, u8, Option<usize>, &str),
+    shelf: &mut MemShelf,
+) -> Result<(), Fail> {
+    let (failing, words, status, held, report) = *row;
+    let fails = let_fail(alloc, shelf, failing)?;
+    check_call(rt, alloc, words, shelf, fails, status, report)?;
+    assert_eq!(rt; shelf.get("A").map(|bytes| bytes.len()), held);
+    Ok(())
+}
+
 fn check(
     rt: &impl Abort,
     alloc: Global,
     rows: &[(Failing, &str, u8, Option<usize>, &str)],
 ) -> Result<(), Fail> {
     for row in rows {
-        let (failing, words, status, held, out) = *row;
         let mut shelf = shelf(alloc)?;
-        let mut fails = Vec::new(alloc);
-        match failing {
-            Failing::ReadOfScript => shelf.fail_read(0)?,
-            Failing::ReadOfAudio => shelf.fail_read(1)?,
-            Failing::Creation => shelf.fail_create(0)?,
-            Failing::FirstTick => shelf.fail_append(0, 1, 5)?,
-            Failing::SecondTick => shelf.fail_append(0, 2, 6)?,
-            Failing::Closing => shelf.fail_close(0)?,
-            Failing::Report => fails.push((0, 4))?,
-            Failing::ThirdRead => shelf.fail_read(2)?,
-            Failing::SecondCreation => shelf.fail_create(1)?,
-            Failing::AppendBehindAll => shelf.fail_append(0, 2, 0)?,
-            Failing::SecondClosing => shelf.fail_close(1)?,
-            Failing::SecondReport => fails.push((1, 0))?,
-        }
-        let called = call(alloc, words, &mut shelf, fails)?;
-        assert_eq!(rt; called.status, status);
-        assert_eq!(rt; shelf.get("A").map(|bytes| bytes.len()), held);
-        assert_eq!(rt; called.out.held(), out.as_bytes());
-        assert_eq!(rt; called.err.held(), b"".as_slice());
+        check_row(rt, alloc, row, &mut shelf)?;
     }
     Ok(())
 }
