@@ -46,13 +46,14 @@ fn looped(alloc: Global) -> Result<Plan, AllocError>
     ensures size { IfOk result (λ plan. length plan.nodes ≡ 1) }
     ensures sinks { IfOk result (λ plan. plan.sinks ≡ SinkPlan.Output [] 0 false ∷ []) }
 {
+    let sinks = Items::from_vec(vec![in alloc; output(alloc, 0)]?);
     let file = Text::from_string(String::new(alloc));
     let single = mono(Op::Single(file), Vec::new(alloc));
     Ok(Plan {
         rate: 8000,
         frame: 2,
         nodes: Items::from_vec(vec![in alloc; single]?),
-        sinks: Items::from_vec(vec![in alloc; output(alloc, 0)]?),
+        sinks,
         buffers: Items::new(alloc),
     })
 }
@@ -63,15 +64,17 @@ fn once(alloc: Global) -> Result<Plan, AllocError>
     ensures size { IfOk result (λ plan. length plan.nodes ≡ 3) }
     ensures sinks { IfOk result (λ plan. plan.sinks ≡ SinkPlan.Output [] 2 false ∷ []) }
 {
+    let sinks = Items::from_vec(vec![in alloc; output(alloc, 2)]?);
+    let both = vec![in alloc; 0, 1]?;
     let file = Text::from_string(String::new(alloc));
     let list = mono(Op::Playlist { file, again: false }, Vec::new(alloc));
     let blank = mono(Op::Blank { track: 0 }, Vec::new(alloc));
-    let choice = mono(Op::Fallback { sensitive: true }, vec![in alloc; 0, 1]?);
+    let choice = mono(Op::Fallback { sensitive: true }, both);
     Ok(Plan {
         rate: 8000,
         frame: 2,
         nodes: Items::from_vec(vec![in alloc; list, blank, choice]?),
-        sinks: Items::from_vec(vec![in alloc; output(alloc, 2)]?),
+        sinks,
         buffers: Items::new(alloc),
     })
 }
@@ -166,6 +169,66 @@ fn tick(
     engine.tick(taps)
 }
 
+// The first two ticks are made, the third ends so.
+fn check_ticks(
+    rt: &impl Abort,
+    engine: &mut ClockEngine<'_, MemSink>,
+    taps: &mut LocalTaps,
+    ending: Result<(), TickFault>,
+)
+    requires works { AreWorks engine.old.works }
+    requires sinks { length engine.old.outs.items ≡ length engine.old.works.ports.items }
+    ensures works { AreWorks engine.new.works }
+    ensures sinks { length engine.new.outs.items ≡ length engine.new.works.ports.items }
+{
+    assert_eq!(rt; tick(rt, engine, taps), Ok(()));
+    assert_eq!(rt; tick(rt, engine, taps), Ok(()));
+    assert_eq!(rt; tick(rt, engine, taps), ending);
+    assert_eq!(rt; engine.stopped(), ending.err());
+    assert_eq!(rt; engine.works.ticks, if ending.is_ok() { 3 } else { 2 });
+}
+
+// One sink holds these bytes.
+fn check_held(rt: &impl Abort, outs: &[MemSink], held: &[u8]) {
+    assert_eq!(rt; outs.len(), 1);
+    for out in outs {
+        assert_eq!(rt; out.held(), held);
+    }
+}
+
+// Three ticks of the clock 0 over these clocks.
+fn check_clock(
+    rt: &impl Abort,
+    alloc: Global,
+    plan: &Plan,
+    clocks: &ClockMap,
+    node: u32,
+    library: &Library,
+    taps: &mut LocalTaps,
+    fails: Vec<(u64, u64)>,
+    ending: Result<(), TickFault>,
+    held: &[u8],
+) -> Result<(), Fail>
+    requires plan { IsWellFormed plan.now }
+    requires readers { HasNoReaders plan.now }
+    requires clocks { IsClockMap plan.now clocks.now }
+    requires library { IsLibrary library.now }
+    requires leaves { length library.now.leaves ≡ length plan.now.nodes }
+    requires sinks { plan.now.sinks ≡ SinkPlan.Output [] node false ∷ [] }
+    requires clock { slice_get clocks.now.of node ≡ Some (NodeClock.Main 0) }
+{
+    let outs = one_sink(alloc, fails)?;
+    let start = WeekSecond { second: 0 };
+    match begun(alloc, plan, clocks, node, library, outs, start) {
+        Ok(mut engine) => {
+            check_ticks(rt, &mut engine, taps, ending);
+            check_held(rt, &engine.into_outs(), held);
+            Ok(())
+        }
+        Err((_, refused)) => Err(Fail::from(refused)),
+    }
+}
+
 // Three ticks of the plan's node: the first two are made, the third ends so, and so many bytes are held.
 fn check(
     rt: &impl Abort,
@@ -186,66 +249,52 @@ fn check(
     assert!(rt; has_no_readers(plan));
     assert!(rt; lies_in_first(&clocks, node));
     let mut taps = LocalTaps::new(alloc, plan)?;
-    let outs = one_sink(alloc, fails)?;
-    let start = WeekSecond { second: 0 };
-    match begun(alloc, plan, &clocks, node, library, outs, start) {
-        Ok(mut engine) => {
-            assert_eq!(rt; tick(rt, &mut engine, &mut taps), Ok(()));
-            assert_eq!(rt; tick(rt, &mut engine, &mut taps), Ok(()));
-            assert_eq!(rt; tick(rt, &mut engine, &mut taps), ending);
-            assert_eq!(rt; engine.stopped(), ending.err());
-            assert_eq!(rt; engine.works.ticks, if ending.is_ok() { 3 } else { 2 });
-            let outs = engine.into_outs();
-            assert_eq!(rt; outs.len(), 1);
-            for out in &outs {
-                assert_eq!(rt; out.held(), held);
-            }
-            Ok(())
-        }
-        Err((_, refused)) => Err(Fail::from(refused)),
-    }
+    check_clock(
+        rt, alloc, plan, &clocks, node, library, &mut taps, fails, ending, held,
+    )
+}
+
+// The same of a plan of the file alone.
+fn check_looped(
+    rt: &impl Abort,
+    alloc: Global,
+    plan: &Plan,
+    fails: Vec<(u64, u64)>,
+    ending: Result<(), TickFault>,
+    held: &[u8],
+) -> Result<(), Fail>
+    requires plan { IsWellFormed plan.now }
+    requires size { length plan.now.nodes ≡ 1 }
+    requires sinks { plan.now.sinks ≡ SinkPlan.Output [] 0 false ∷ [] }
+{
+    let library = one_file(alloc)?;
+    check(rt, alloc, plan, 0, &library, fails, ending, held)
 }
 
 #[test]
 fn a_file_is_played_again_and_again(rt: HostRuntime) -> Result<(), Fail> {
     let alloc = rt.alloc();
-    let (plan, library) = (looped(alloc)?, one_file(alloc)?);
+    let plan = looped(alloc)?;
     let held = [1, 0, 2, 0, 3, 0, 1, 0, 2, 0, 3, 0];
-    check(
-        &rt,
-        alloc,
-        &plan,
-        0,
-        &library,
-        Vec::new(alloc),
-        Ok(()),
-        &held,
-    )
+    check_looped(&rt, alloc, &plan, Vec::new(alloc), Ok(()), &held)
 }
 
 #[test]
 fn a_fallback_goes_on_behind_a_file(rt: HostRuntime) -> Result<(), Fail> {
     let alloc = rt.alloc();
-    let (plan, library) = (once(alloc)?, one_of_three(alloc)?);
+    let library = one_of_three(alloc)?;
+    let plan = once(alloc)?;
+    let fails = Vec::new(alloc);
     let held = [1, 0, 2, 0, 3, 0, 0, 0, 0, 0, 0, 0];
-    check(
-        &rt,
-        alloc,
-        &plan,
-        2,
-        &library,
-        Vec::new(alloc),
-        Ok(()),
-        &held,
-    )
+    check(&rt, alloc, &plan, 2, &library, fails, Ok(()), &held)
 }
 
 #[test]
 fn a_sink_fails_at_its_third_append(rt: HostRuntime) -> Result<(), Fail> {
     let alloc = rt.alloc();
-    let (plan, library) = (looped(alloc)?, one_file(alloc)?);
     let fails = vec![in alloc; (2, 3)]?;
+    let plan = looped(alloc)?;
     let fault = Err(TickFault::Write { sink: 0 });
     let held = [1, 0, 2, 0, 3, 0, 1, 0, 2, 0, 3];
-    check(&rt, alloc, &plan, 0, &library, fails, fault, &held)
+    check_looped(&rt, alloc, &plan, fails, fault, &held)
 }

@@ -1,24 +1,14 @@
 ghost use Rattle.std.specs.Prelude.{◌≡◌};
 
+use crate::chunks::numbered;
 use buffer_queue::{BufferQueue, PutPass, TakePass};
-use frame_core::{Cell, Chunk, Frame, Gave};
+use frame_core::Gave;
 use liq_base::Memory;
 use std::alloc::Global;
+use std::process::Abort;
 use std::sync::Wait;
 use std::test::Fail;
 use std::thread;
-
-// A chunk of one cell, whose sample is its number.
-fn numbered(alloc: Global, number: i16) -> Result<Option<Chunk>, Memory> {
-    let mut frame = Frame::new(alloc, 1)?;
-    let cell = Cell {
-        left: number,
-        right: 0,
-        first: false,
-    };
-    frame.set(0, Some(cell));
-    Chunk::from_frame(alloc, &frame)
-}
 
 // Puts a chunk whose sample is this number, and answers the sample of the chunk that comes back where the queue is full.
 fn put_one<R: Wait>(
@@ -54,21 +44,53 @@ fn take_one<R: Wait>(
     }
 }
 
+// Closes a window, whose calls were answered so.
+fn close(
+    rt: &impl Abort,
+    alloc: Global,
+    queue: &mut BufferQueue,
+    put: &mut PutPass,
+    take: &mut TakePass,
+    puts: &[bool],
+    takes: &[bool],
+) -> Result<(), Fail>
+    requires put { put.old.queue ≡ queue.old }
+    requires take { take.old.queue ≡ queue.old }
+    ensures put { put.new.queue ≡ queue.new }
+    ensures take { take.new.queue ≡ queue.new }
+{
+    let (put_answers, take_answers) = queue.close_window(alloc, put, take)?;
+    assert_eq!(rt; put_answers.as_slice(), puts);
+    assert_eq!(rt; take_answers.as_slice(), takes);
+    Ok(())
+}
+
+// A queue of one chunk accepts one put of two, gives one take of two, and keeps what is put behind a window for the next.
+fn check_calls<R: Abort + Wait>(
+    rt: &R,
+    alloc: Global,
+    queue: &mut BufferQueue,
+    put: &mut PutPass,
+    take: &mut TakePass,
+) -> Result<(), Fail>
+    requires put { put.old.queue ≡ queue.old }
+    requires take { take.old.queue ≡ queue.old }
+{
+    assert_eq!(rt; put_one(rt, alloc, queue, put, 7)?, None);
+    assert_eq!(rt; put_one(rt, alloc, queue, put, 8)?, Some(8));
+    assert_eq!(rt; take_one(rt, queue, take)?, Some(7));
+    assert_eq!(rt; take_one(rt, queue, take)?, None);
+    close(rt, alloc, queue, put, take, &[true, false], &[true, false])?;
+    assert_eq!(rt; put_one(rt, alloc, queue, put, 9)?, None);
+    close(rt, alloc, queue, put, take, &[true], &[])?;
+    assert_eq!(rt; take_one(rt, queue, take)?, Some(9));
+    Ok(())
+}
+
 #[test]
 fn one_call_after_another(rt: HostRuntime) -> Result<(), Fail> {
-    let alloc = rt.alloc();
-    let (mut queue, mut put, mut take) = BufferQueue::new(alloc, 1)?;
-    assert_eq!(rt; put_one(&rt, alloc, &queue, &mut put, 7)?, None);
-    assert_eq!(rt; put_one(&rt, alloc, &queue, &mut put, 8)?, Some(8));
-    assert_eq!(rt; take_one(&rt, &queue, &mut take)?, Some(7));
-    assert_eq!(rt; take_one(&rt, &queue, &mut take)?, None);
-    let (puts, takes) = queue.close_window(alloc, &mut put, &mut take)?;
-    assert_eq!(rt; puts.as_slice(), [true, false].as_slice());
-    assert_eq!(rt; takes.as_slice(), [true, false].as_slice());
-    assert_eq!(rt; put_one(&rt, alloc, &queue, &mut put, 9)?, None);
-    let _ = queue.close_window(alloc, &mut put, &mut take)?;
-    assert_eq!(rt; take_one(&rt, &queue, &mut take)?, Some(9));
-    Ok(())
+    let (mut queue, mut put, mut take) = BufferQueue::new(rt.alloc(), 1)?;
+    check_calls(&rt, rt.alloc(), &mut queue, &mut put, &mut take)
 }
 
 const CHUNKS: i16 = 1000;

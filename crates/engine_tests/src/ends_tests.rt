@@ -1,60 +1,84 @@
 ghost use Rattle.std.specs.Prelude.{◌≡◌, length, IfOk};
 
+use crate::chunks::numbered;
 use buffer_ends::LocalTaps;
-use frame_core::{Cell, Chunk, Frame, Gave, Taps};
+use frame_core::{Gave, Taps};
 use liq_base::Memory;
 use plan_core::{BufferPlan, Items, Plan};
-use std::alloc::Global;
+use std::alloc::{AllocError, Global};
+use std::process::Abort;
 use std::test::Fail;
 
-// A chunk of one cell.
-fn one_cell(alloc: Global) -> Result<Option<Chunk>, Memory> {
-    let mut frame = Frame::new(alloc, 1)?;
-    let cell = Cell {
-        left: 7,
-        right: 0,
-        first: false,
-    };
-    frame.set(0, Some(cell));
-    Chunk::from_frame(alloc, &frame)
-}
-
 // A plan of one buffer that holds one chunk.
-fn one_buffer(alloc: Global) -> Result<Plan, Memory>
+fn one_buffer(alloc: Global) -> Result<Plan, AllocError>
     ensures { IfOk result (λ plan. length plan.buffers ≡ 1) }
 {
-    let mut buffers = Items::new(alloc);
-    buffers.push(BufferPlan {
+    let buffer = BufferPlan {
         pre: 0,
         capacity: 1,
-    })?;
+    };
     Ok(Plan {
         rate: 8000,
         frame: 1,
         nodes: Items::new(alloc),
         sinks: Items::new(alloc),
-        buffers,
+        buffers: Items::from_vec(Vec::from_array(alloc, [buffer])?),
     })
 }
 
-#[test]
-fn a_list_of_one_chunk(rt: HostRuntime) -> Result<(), Fail> {
-    let alloc = rt.alloc();
-    let plan = one_buffer(alloc)?;
-    let mut taps = LocalTaps::new(alloc, &plan)?;
-    let (Some(first), Some(second)) = (one_cell(alloc)?, one_cell(alloc)?) else {
-        panic!(rt; "no chunk");
-    };
-    assert!(rt; matches!(taps.give(0, first), Ok(Gave::Accepted)));
-    assert!(rt; matches!(taps.give(0, second), Ok(Gave::Full(_))));
-    assert!(rt; taps.take(0)?.is_some());
-    assert!(rt; taps.take(0)?.is_none());
+// Gives a chunk, and answers whether it was accepted.
+fn give_one(alloc: Global, taps: &mut LocalTaps) -> Result<bool, Fail>
+    requires { length taps.old ≡ 1 }
+    ensures { length taps.new ≡ 1 }
+{
+    let chunk = numbered(alloc, 7)?.ok_or("no chunk")?;
+    match taps.give(0, chunk) {
+        Ok(Gave::Accepted) => Ok(true),
+        Ok(Gave::Full(_)) => Ok(false),
+        Err((_chunk, refused)) => Err(Fail::from(refused)),
+    }
+}
+
+// Takes a chunk, and answers whether there was one.
+fn take_one(taps: &mut LocalTaps) -> Result<bool, Memory>
+    requires { length taps.old ≡ 1 }
+    ensures { length taps.new ≡ 1 }
+{
+    let chunk = taps.take(0)?;
+    Ok(chunk.is_some())
+}
+
+// A buffer of one chunk in one window.
+fn check(rt: &impl Abort, alloc: Global, taps: &mut LocalTaps) -> Result<(), Fail>
+    requires { length taps.old ≡ 1 }
+    ensures { length taps.new ≡ 1 }
+{
+    assert!(rt; give_one(alloc, taps)?);
+    assert!(rt; !give_one(alloc, taps)?);
+    assert!(rt; take_one(taps)?);
+    assert!(rt; !take_one(taps)?);
     let counts = taps.counts(0);
     assert_eq!(rt;
         (counts.accepted, counts.full, counts.got, counts.empty),
         (1, 1, 1, 1)
     );
     taps.end_window(alloc)?;
+    Ok(())
+}
+
+// The taps of a plan of one buffer.
+fn one_tap(alloc: Global) -> Result<LocalTaps, Fail>
+    ensures { IfOk result (λ taps. length taps ≡ 1) }
+{
+    let plan = one_buffer(alloc)?;
+    let taps = LocalTaps::new(alloc, &plan)?;
+    Ok(taps)
+}
+
+#[test]
+fn a_list_of_one_chunk(rt: HostRuntime) -> Result<(), Fail> {
+    let mut taps = one_tap(rt.alloc())?;
+    check(&rt, rt.alloc(), &mut taps)?;
     let logs = taps.into_logs();
     assert_eq!(rt; logs.len(), 1);
     Ok(())

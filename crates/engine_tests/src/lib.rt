@@ -5,6 +5,8 @@
 #[cfg(test)]
 mod buffers_tests;
 #[cfg(test)]
+mod chunks;
+#[cfg(test)]
 mod ends_tests;
 #[cfg(test)]
 mod frames_tests;

@@ -6,7 +6,7 @@ ghost use Rattle.node_states.specs.States.{Fits};
 
 use fixed_text::WeekSecond;
 use frame_core::{Cell, Library};
-use liq_base::Kind;
+use liq_base::{Kind, Memory};
 use node_states::{Desk, NodeState};
 use plan_core::{Items, Node, Op};
 use std::alloc::{AllocError, Global};
@@ -41,6 +41,25 @@ fn zero(first: bool) -> Option<Cell> {
     })
 }
 
+// A blank of two samples begins again behind them.
+fn check_blank(
+    rt: &impl Abort,
+    alloc: Global,
+    library: &Library,
+    node: &Node,
+    state: &mut NodeState,
+) -> Result<(), Memory>
+    requires none { length node.now.children ≡ 0 }
+    requires number { HasChildren node.now.op 0 }
+    requires fits { Fits library.now 0 state.old }
+{
+    let mut desk = Desk::new(alloc, 0)?;
+    check(rt, &mut desk, state, node, library, zero(true));
+    check(rt, &mut desk, state, node, library, zero(false));
+    check(rt, &mut desk, state, node, library, zero(true));
+    Ok(())
+}
+
 #[test]
 fn a_blank_of_two_samples(rt: HostRuntime) -> Result<(), Fail> {
     let alloc = rt.alloc();
@@ -50,11 +69,8 @@ fn a_blank_of_two_samples(rt: HostRuntime) -> Result<(), Fail> {
         kind: Kind::Mono,
         children: Items::new(alloc),
     };
-    let mut desk = Desk::new(alloc, 0)?;
     let mut state = NodeState::new(alloc, &node, 0, 8000)?;
-    check(&rt, &mut desk, &mut state, &node, &library, zero(true));
-    check(&rt, &mut desk, &mut state, &node, &library, zero(false));
-    check(&rt, &mut desk, &mut state, &node, &library, zero(true));
+    check_blank(&rt, alloc, &library, &node, &mut state)?;
     Ok(())
 }
 
@@ -87,6 +103,31 @@ fn sample(left: i16, first: bool) -> Option<Cell> {
     })
 }
 
+// A crossfade over one sample offers the first of two samples, and the second once the next track has begun.
+fn check_crossfade(
+    rt: &impl Abort,
+    alloc: Global,
+    library: &Library,
+    node: &Node,
+    state: &mut NodeState,
+) -> Result<(), Memory>
+    requires one { length node.now.children ≡ 1 }
+    requires number { HasChildren node.now.op 1 }
+    requires fits { Fits library.now 1 state.old }
+{
+    let mut desk = Desk::new(alloc, 1)?;
+    give(rt, state, library, 10, true);
+    give(rt, state, library, 20, false);
+    let at = WeekSecond { second: 0 };
+    let part = desk.offer(state, node, &[], library, at);
+    assert_eq!(rt; part.slot, sample(10, true));
+    state.next(part, true, library, 1);
+    give(rt, state, library, 40, true);
+    let part = desk.offer(state, node, &[], library, at);
+    assert_eq!(rt; part.slot, sample(20, true));
+    Ok(())
+}
+
 #[test]
 fn a_crossfade_over_one_sample(rt: HostRuntime) -> Result<(), Fail> {
     let alloc = rt.alloc();
@@ -96,16 +137,7 @@ fn a_crossfade_over_one_sample(rt: HostRuntime) -> Result<(), Fail> {
         kind: Kind::Mono,
         children: Items::from_vec(Vec::from_slice(alloc, &[0])?),
     };
-    let mut desk = Desk::new(alloc, 1)?;
     let mut state = NodeState::new(alloc, &node, 1, 8000)?;
-    give(&rt, &mut state, &library, 10, true);
-    give(&rt, &mut state, &library, 20, false);
-    let at = WeekSecond { second: 0 };
-    let part = desk.offer(&state, &node, &[], &library, at);
-    assert_eq!(rt; part.slot, sample(10, true));
-    state.next(part, true, &library, 1);
-    give(&rt, &mut state, &library, 40, true);
-    let part = desk.offer(&state, &node, &[], &library, at);
-    assert_eq!(rt; part.slot, sample(20, true));
+    check_crossfade(&rt, alloc, &library, &node, &mut state)?;
     Ok(())
 }

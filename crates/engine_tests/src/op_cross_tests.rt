@@ -2,40 +2,36 @@
 ghost use Rattle.std.specs.Prelude.{◌<◌, ◌≤◌};
 
 use frame_core::Cell;
-use liq_base::Kind;
+use liq_base::{Kind, Memory};
 use op_cross::CrossState;
 use std::alloc::Global;
+use std::process::Abort;
 use std::test::Fail;
 
-// The tracks with these samples, one behind another.
-fn cells_of(alloc: Global, tracks: &[&[i16]]) -> Result<Vec<Option<Cell>>, Fail> {
-    let mut slots = Vec::new(alloc);
-    for track in tracks {
-        for (at, sample) in track.iter().enumerate() {
-            slots.push(Some(Cell {
-                left: *sample,
-                right: *sample,
-                first: at == 0,
-            }))?;
-        }
-    }
-    Ok(slots)
+// The slot of a sample, which begins a track or does not.
+fn slot(sample: i16, first: bool) -> Option<Cell> {
+    Some(Cell {
+        left: sample,
+        right: sample,
+        first,
+    })
 }
 
-// The left samples of so many items of a crossfade, 0 where an item is empty; `behind` comes behind the slots for good, or else they come again.
-fn items_of(
+// A crossfade over a source that gives these slots, again and again or once, gives items with these left samples, 0 where
+// one is empty.
+fn check(
+    rt: &impl Abort,
     alloc: Global,
     overlap: u32,
     slots: &[Option<Cell>],
     again: bool,
-    count: usize,
-) -> Result<Vec<i16>, Fail>
+    items: &[i16],
+) -> Result<(), Memory>
     requires { (0 < overlap) × (overlap ≤ 4194304) }
 {
     let mut state = CrossState::new(alloc, overlap, Kind::Mono)?;
     let mut at = 0;
-    let mut items = Vec::new(alloc);
-    for _ in 0..count {
+    for want in items {
         while state.wants() {
             if again && at >= slots.len() {
                 at = 0;
@@ -46,33 +42,32 @@ fn items_of(
             }
         }
         let item = state.offer();
-        items.push(item.map_or(0, |cell| cell.left))?;
+        assert_eq!(rt; item.map_or(0, |cell| cell.left), *want);
         state.advance(item.is_some());
     }
-    Ok(items)
+    Ok(())
 }
 
 #[test]
 fn overlaps_are_as_long_as_their_tracks(rt: HostRuntime) -> Result<(), Fail> {
-    let alloc = rt.alloc();
-    let high: &[i16] = &[80; 6];
-    let low: &[i16] = &[0; 5];
-    let slots = cells_of(alloc, &[high, low])?;
-    let items = items_of(alloc, 4, &slots, true, 16)?;
-    assert_eq!(rt;
-        items.as_slice(),
-        [80, 80, 80, 60, 40, 20, 0, 80, 80, 60, 40, 20, 0, 80, 80, 60].as_slice()
-    );
+    let mut slots = [slot(0, false); 11];
+    slots[..6].fill(slot(80, false));
+    slots[0] = slot(80, true);
+    slots[6] = slot(0, true);
+    let items = [80, 80, 80, 60, 40, 20, 0, 80, 80, 60, 40, 20, 0, 80, 80, 60];
+    check(&rt, rt.alloc(), 4, &slots, true, &items)?;
     Ok(())
 }
 
 #[test]
 fn an_overlap_of_one_keeps_every_other_sample(rt: HostRuntime) -> Result<(), Fail> {
-    let alloc = rt.alloc();
-    let one: &[i16] = &[10, 20, 30];
-    let other: &[i16] = &[1, 2];
-    let slots = cells_of(alloc, &[one, other])?;
-    let items = items_of(alloc, 1, &slots, false, 6)?;
-    assert_eq!(rt; items.as_slice(), [10, 20, 30, 2, 0, 0].as_slice());
+    let slots = [
+        slot(10, true),
+        slot(20, false),
+        slot(30, false),
+        slot(1, true),
+        slot(2, false),
+    ];
+    check(&rt, rt.alloc(), 1, &slots, false, &[10, 20, 30, 2, 0, 0])?;
     Ok(())
 }
