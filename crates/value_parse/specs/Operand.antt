@@ -32,10 +32,6 @@ braces_at at w = both por (expect is_close_curly) w >>= made (λ x. Braces at x.
 abbrev pub chained : {s : Sort} → (TokenKind → Bool) → Reader (Tree s) → Reader (Tree (Many s))
 chained comma item w = chain comma item w >>= made (λ x. more x.0 x.1)
 
--- they, up to another token
-abbrev pub some_closed : {s : Sort} → (TokenKind → Bool) → (TokenKind → Bool) → Reader (Tree s) → Reader (Tree (Many s))
-some_closed comma close item w = both (chain comma item) (expect close) w >>= made (λ x. more x.0.0 x.0.1)
-
 -- the operand that the values of a bracket make
 abbrev pub as_round : ℕ → Read (Tree (Many AFull)) → Read (Tree APrim)
 as_round at read = read >>= made (round_or_unit at)

@@ -21,6 +21,10 @@ use script_grammar::tree::{Arg, Call, Full};
 use script_lex::{Token, TokenKind};
 use std::alloc::Global;
 
+/// Room is made for so many arguments of a call. A list makes room for four at first, which most calls leave half empty,
+/// at 330 bytes an argument.
+const USUAL: usize = 2;
+
 /// call: NameOpen (argument (`,` argument)*)? `)`
 ///
 /// Its values nest less than `levels` deep.
@@ -47,7 +51,7 @@ pub fn call(
             after @ ..,
         ] => {
             let at = place(total, tokens);
-            let mut items = Vec::new(alloc);
+            let mut items = Vec::with_capacity(alloc, USUAL)?;
             let read = args(alloc, total, levels, &mut items, after);
             call_of(alloc, at, name, items, read)
         }
