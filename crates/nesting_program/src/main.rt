@@ -8,7 +8,7 @@ use std::io;
 
 /// What stands before all levels; what opens a level, stands within all of them and closes a level; what stands behind
 /// them; and how many levels there are. Each bracket is nested, in each place where a value or a predicate may stand in
-/// it. With the brackets that stand before the levels and within them there are 200; 180 behind operators of every kind,
+/// it. With the brackets that stand before the levels and within them there are 200; 170 behind operators of every kind,
 /// where a level takes the most stack.
 type Nest = (
     &'static str,
@@ -23,7 +23,7 @@ const NESTS: [Nest; 18] = [
     ("x = ", "(", "1", ")", "", 200),
     ("x = ", "(1, ", "1", ")", "", 200),
     ("x = ", "(1 + ", "1", ")", "", 200),
-    ("x = ", "(a or b and not 1 < 2 + 3 * ", "1", ")", "", 180),
+    ("x = ", "(a or b and not 1 < 2 + 3 * ", "1", ")", "", 170),
     ("x = ", "[", "1", "]", "", 200),
     ("x = ", "[1, ", "1", "]", "", 200),
     ("x = ", "f(", "1", ")", "", 200),
