@@ -1,4 +1,5 @@
 pub mod Adding
+pub mod Alone
 pub mod Applying
 pub mod NamesInOrder
 pub mod Operands

@@ -4,6 +4,7 @@
 mod arithmetic;
 mod calls;
 mod logic;
+mod lone;
 mod values;
 
 pub use calls::type_call;

@@ -8,6 +8,7 @@ ghost use Rattle.expression_types.specs.Order.{AreAddedIf, AreAddedWhere, tokens
 
 use crate::calls::type_call;
 use crate::logic::type_expr;
+use crate::lone::lone_operand;
 use liq_base::Memory;
 use script_grammar::tree::{Full, If, Operand};
 use std::alloc::Global;
@@ -35,7 +36,10 @@ pub fn type_full(
             let n = literal_type(alloc, subst, number)?;
             Ok(Some(n))
         }
-        Full::Plain(expr) => type_expr(alloc, subst, names, uses, expr),
+        Full::Plain(expr) => match lone_operand(expr) {
+            Some(prim) => type_prim(alloc, subst, names, uses, prim),
+            None => type_expr(alloc, subst, names, uses, expr),
+        },
     }
 }
 

@@ -31,6 +31,7 @@ use Rattle.value_types.proofs.Calling.{args_none, builtin_called, call_done, cal
 use Rattle.value_types.proofs.Seeing.{seen_later}
 use Rattle.expression_types.specs.Order.{tokens_used}
 use Rattle.expression_types.proofs.Adding.{added_if, added_where, all_added, alone_added, and_added, branches_added, call_added, compared_added, empty_added, expr_added, name_answered, none_added, not_added, part_added, product_added, sum_added, term_added, tuple_added, use_added}
+use Rattle.expression_types.proofs.Alone.{lone_added, lone_below, lone_typed}
 use Rattle.expression_types.proofs.Applying.{begun_seen, builtin_counted, def_called, def_counted, def_not_called, terms_later}
 use Rattle.expression_types.proofs.Operands.{answered_as, constant_infers, negative_infers, prim_list, prim_tuple}
 use Rattle.expression_types.proofs.Sizes.{arg_below, compared_below, else_below, item_below, then_below}
@@ -728,12 +729,25 @@ pub values::type_full-returns-in_ok-n-in-Minus-clause-order : goal.values::type_
 values::type_full-returns-in_ok-n-in-Minus-clause-order t c =
     rw c.in-Minus.is (none_added c.args.names (founds c.args.uses.now.items))
 
-pub values::type_full-returns-in-Plain-clause-typed : goal.values::type_full-returns-in-Plain-clause-typed
-values::type_full-returns-in-Plain-clause-typed t c =
+pub values::type_full-type_prim-requires : goal.values::type_full-type_prim-requires
+values::type_full-type_prim-requires t c =
+    let size = lone_below c.args.full.now c.in-Plain.expr c.in-Some.prim.now c.in-Plain.is (rw c.in-Some.is at c.lone_operand.ensures) in
+    (omega (arith, c.decreases, size), c.requires.seen)
+
+pub values::type_full-returns-in-Some-clause-typed : goal.values::type_full-returns-in-Some-clause-typed
+values::type_full-returns-in-Some-clause-typed t c =
+    rw c.in-Plain.is (lone_typed c.in-Plain.expr c.in-Some.prim.now (rw c.in-Some.is at c.lone_operand.ensures) c.args.subst.now c.type_prim.new.subst (env_of c.args.names) (founds c.args.uses.now.items) (founds c.type_prim.new.uses.items) c.type_prim.result c.type_prim.ensures.typed)
+
+pub values::type_full-returns-in-Some-clause-order : goal.values::type_full-returns-in-Some-clause-order
+values::type_full-returns-in-Some-clause-order t c =
+    rw c.in-Plain.is (lone_added c.in-Plain.expr c.in-Some.prim.now (rw c.in-Some.is at c.lone_operand.ensures) c.args.names (founds c.args.uses.now.items) (founds c.type_prim.new.uses.items) c.type_prim.result c.type_prim.ensures.order)
+
+pub values::type_full-returns-in-None-clause-typed : goal.values::type_full-returns-in-None-clause-typed
+values::type_full-returns-in-None-clause-typed t c =
     rw c.in-Plain.is (answered_as (view_expr c.in-Plain.expr) (Plain (view_expr c.in-Plain.expr)) (λ z g h. h) (λ z g h. h) c.args.subst.now c.type_expr.new.subst (env_of c.args.names) (founds c.args.uses.now.items) (founds c.type_expr.new.uses.items) c.type_expr.result c.type_expr.ensures.typed)
 
-pub values::type_full-returns-in-Plain-clause-order : goal.values::type_full-returns-in-Plain-clause-order
-values::type_full-returns-in-Plain-clause-order t c =
+pub values::type_full-returns-in-None-clause-order : goal.values::type_full-returns-in-None-clause-order
+values::type_full-returns-in-None-clause-order t c =
     rw c.in-Plain.is c.type_expr.ensures.order
 
 pub calls::apply-begin_call-requires : goal.calls::apply-begin_call-requires
