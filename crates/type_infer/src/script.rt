@@ -232,8 +232,7 @@ fn answered(alloc: Global, statements: &[Stmt], front: Front) -> Result<Vec<Use>
     ensures fault { IfErr result (IsTypeFault (listed (map view_stmt statements.now))) }
 {
     let typing = type_statements(alloc, statements, &front)?;
-    let uses = uses_or_fault(alloc, &typing, front.fault)?;
-    Ok(uses)
+    uses_or_fault(alloc, &typing, front.fault)
 }
 
 /// The uses of statements, or their first fault.

@@ -1,5 +1,5 @@
 // One statement more.
-ghost use Rattle.std.specs.Prelude.{◌≡◌, ◌++◌, ◌∷◌, [], IfOk, OnOk};
+ghost use Rattle.std.specs.Prelude.{◌≡◌, [], IfOk, OnOk};
 ghost use Rattle.script_grammar.specs.Tree.{BindPart, CallPart, DefPart, IfPart};
 ghost use Rattle.script_grammar.specs.View.{view_bind, view_call, view_def, view_if, view_part};
 ghost use Rattle.type_schemes.specs.Holding.{AreThere};
@@ -14,7 +14,6 @@ use indexmap::IndexMap;
 use liq_base::Memory;
 use script_grammar::tree::{Bind, Call, Def, If, StmtPart};
 use std::alloc::Global;
-use std::mem;
 use type_schemes::Held;
 use type_terms::{Subst, Ty};
 use typing_rules::Target;
@@ -87,28 +86,15 @@ fn catch_up(
     Ok(())
 }
 
-/// Adds what a statement binds.
-fn bind(alloc: Global, before: &mut Bindings, known: Known) -> Result<(), Memory>
-    ensures { OnOk result (before.new ≡ before.old ++ known ∷ []) }
-{
-    let all = mem::replace(before, Bindings::new(alloc));
-    *before = all.with(known)?;
-    Ok(())
-}
-
 /// Keeps a binding at a token, with the uses in its value. Where memory runs out, some of it may have been kept.
-fn keep_value(
-    alloc: Global,
-    typing: &mut Typing<'_>,
-    at: u32,
-    typed: TypedExpr,
-) -> Result<(), Memory>
+fn keep_value(typing: &mut Typing<'_>, at: u32, typed: TypedExpr) -> Result<(), Memory>
     ensures { OnOk result (IsValueKept at typed typing.old typing.new) }
 {
     let name = TypedName { at, var: typed.var };
     typing.steps.push(Step::Bound(name, typed.uses))?;
     typing.pending.push(name.var)?;
-    bind(alloc, &mut typing.before, Known::Value(name))
+    typing.before.push(Known::Value(name))?;
+    Ok(())
 }
 
 /// Keeps the uses of what runs.
@@ -120,7 +106,7 @@ fn keep_run(typing: &mut Typing<'_>, typed: TypedExpr) -> Result<(), Memory>
 }
 
 /// Keeps a def. Where memory runs out, some of it may have been kept.
-fn keep_def<'a>(alloc: Global, typing: &mut Typing<'a>, def: TypedDef<'a>) -> Result<(), Memory>
+fn keep_def<'a>(typing: &mut Typing<'a>, def: TypedDef<'a>) -> Result<(), Memory>
     ensures { OnOk result (IsDefKept def.entry typing.old typing.new) }
 {
     let place = typing.defs.len();
@@ -128,7 +114,8 @@ fn keep_def<'a>(alloc: Global, typing: &mut Typing<'a>, def: TypedDef<'a>) -> Re
     typing.held = held;
     typing.defs.push(known)?;
     typing.steps.push(Step::Defined(place))?;
-    bind(alloc, &mut typing.before, Known::Function(place))
+    typing.before.push(Known::Function(place))?;
+    Ok(())
 }
 
 /// A binding.
@@ -145,7 +132,7 @@ fn type_bind(
     match value_type(alloc, &mut typing.subst, seen, &bind.value)? {
         None => Ok(false),
         Some(typed) => {
-            keep_value(alloc, typing, bind.at, typed)?;
+            keep_value(typing, bind.at, typed)?;
             Ok(true)
         }
     }
@@ -206,7 +193,7 @@ fn type_function<'a>(
     match type_def(alloc, &mut typing.subst, seen, &typing.held, def)? {
         None => Ok(false),
         Some(typed) => {
-            keep_def(alloc, typing, typed)?;
+            keep_def(typing, typed)?;
             Ok(true)
         }
     }

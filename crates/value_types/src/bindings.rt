@@ -1,7 +1,7 @@
 // What statements have bound, with a look-up by token.
-ghost use Rattle.std.specs.Prelude.{◌≡◌, ◌++◌, ◌∷◌, [], ℕ, IfOk, OnOk, nat_eq};
+ghost use Rattle.std.specs.Prelude.{◌≡◌, ◌++◌, ◌∷◌, [], ℕ, OnErr, OnOk, nat_eq};
 ghost use Rattle.std.specs.Option.{option_or};
-ghost use Rattle.indexmap.specs.IndexMap.{get};
+ghost use Rattle.indexmap.specs.IndexMap.{IsUnchanged, get};
 ghost use Rattle.value_types.specs.Tables.{newest_number, number_known};
 
 use crate::environment::Known;
@@ -30,9 +30,10 @@ impl Model for Bindings {
     ghost invariant = { λ b. (t : ℕ) → get nat_eq b.vars t ≡ newest_number t b.all.items };
 }
 
-/// Notes the variable of a value by its token.
+/// Notes the variable of a value by its token. Where memory runs out nothing changes.
 fn note(vars: &mut IndexMap<u32, u64>, known: Known) -> Result<(), Memory>
-    ensures { OnOk result ((t : ℕ) → get nat_eq vars.new t ≡ option_or (number_known t known) (get nat_eq vars.old t)) }
+    ensures noted { OnOk result ((t : ℕ) → get nat_eq vars.new t ≡ option_or (number_known t known) (get nat_eq vars.old t)) }
+    ensures err { OnErr result (IsUnchanged vars.old vars.new) }
 {
     match known {
         Known::Function(_) => Ok(()),
@@ -54,14 +55,15 @@ impl Bindings {
         }
     }
 
-    /// These and one more, the newest.
-    pub fn with(self, known: Known) -> Result<Bindings, Memory>
-        ensures { IfOk result (λ b. b ≡ self ++ known ∷ []) }
+    /// One more, the newest. Where memory runs out nothing changes.
+    pub fn push(&mut self, known: Known) -> Result<(), Memory>
+        ensures pushed { OnOk result (self.new ≡ self.old ++ known ∷ []) }
+        ensures err { OnErr result (self.new ≡ self.old) }
     {
-        let Bindings { mut all, mut vars } = self;
-        note(&mut vars, known)?;
-        all.push(known)?;
-        Ok(Bindings { all, vars })
+        self.all.reserve(1)?;
+        note(&mut self.vars, known)?;
+        self.all.push_reserved(known);
+        Ok(())
     }
 
     /// The variable of the newest value at a token.
