@@ -51,8 +51,7 @@ logic::type_expr-is_truth_of_many-requires t c =
     record { inside = over_later c.type_and.new.subst c.join_ands.new.subst (variable c.in-Some.n) g.follows f.over }
 
 pub logic::type_expr-returns-in-None-clause-typed : goal.logic::type_expr-returns-in-None-clause-typed
-logic::type_expr-returns-in-None-clause-typed t c =
-    expr_first c.args.expr.now c.args.subst.now (env_of c.args.names) (founds c.args.uses.now.items) (rw c.in-None.is at c.in_ok-type_and.ensures.typed)
+logic::type_expr-returns-in-None-clause-typed t c = expr_first c.args.expr.now c.args.subst.now (env_of c.args.names) (founds c.args.uses.now.items) (rw c.in-None.is at c.in_ok-type_and.ensures.typed)
 
 pub logic::type_expr-returns-then-not-joined-clause-typed : goal.logic::type_expr-returns-then-not-joined-clause-typed
 logic::type_expr-returns-then-not-joined-clause-typed t c =
@@ -82,8 +81,7 @@ logic::type_and-is_truth_of_many-requires t c =
     record { inside = over_later c.type_not.new.subst c.join_nots.new.subst (variable c.in-Some.n) g.follows f.over }
 
 pub logic::type_and-returns-in-None-clause-typed : goal.logic::type_and-returns-in-None-clause-typed
-logic::type_and-returns-in-None-clause-typed t c =
-    and_first c.args.and.now c.args.subst.now (env_of c.args.names) (founds c.args.uses.now.items) (rw c.in-None.is at c.in_ok-type_not.ensures.typed)
+logic::type_and-returns-in-None-clause-typed t c = and_first c.args.and.now c.args.subst.now (env_of c.args.names) (founds c.args.uses.now.items) (rw c.in-None.is at c.in_ok-type_not.ensures.typed)
 
 pub logic::type_and-returns-then-not-joined-clause-typed : goal.logic::type_and-returns-then-not-joined-clause-typed
 logic::type_and-returns-then-not-joined-clause-typed t c =
@@ -113,8 +111,7 @@ arithmetic::type_sum-is_number_of_many-requires t c =
     record { inside = over_later c.type_product.new.subst c.join_addeds.new.subst (variable c.in-Some.n) g.follows f.over }
 
 pub arithmetic::type_sum-returns-in-None-clause-typed : goal.arithmetic::type_sum-returns-in-None-clause-typed
-arithmetic::type_sum-returns-in-None-clause-typed t c =
-    sum_first c.args.sum.now c.args.subst.now (env_of c.args.names) (founds c.args.uses.now.items) (rw c.in-None.is at c.in_ok-type_product.ensures.typed)
+arithmetic::type_sum-returns-in-None-clause-typed t c = sum_first c.args.sum.now c.args.subst.now (env_of c.args.names) (founds c.args.uses.now.items) (rw c.in-None.is at c.in_ok-type_product.ensures.typed)
 
 pub arithmetic::type_sum-returns-then-not-joined-clause-typed : goal.arithmetic::type_sum-returns-then-not-joined-clause-typed
 arithmetic::type_sum-returns-then-not-joined-clause-typed t c =
@@ -144,8 +141,7 @@ arithmetic::type_product-is_number_of_many-requires t c =
     record { inside = over_later c.type_prim.new.subst c.join_multiplieds.new.subst (variable c.in-Some.n) g.follows f.over }
 
 pub arithmetic::type_product-returns-in-None-clause-typed : goal.arithmetic::type_product-returns-in-None-clause-typed
-arithmetic::type_product-returns-in-None-clause-typed t c =
-    product_first c.args.product.now c.args.subst.now (env_of c.args.names) (founds c.args.uses.now.items) (rw c.in-None.is at c.in_ok-type_prim.ensures.typed)
+arithmetic::type_product-returns-in-None-clause-typed t c = product_first c.args.product.now c.args.subst.now (env_of c.args.names) (founds c.args.uses.now.items) (rw c.in-None.is at c.in_ok-type_prim.ensures.typed)
 
 pub arithmetic::type_product-returns-then-not-joined-clause-typed : goal.arithmetic::type_product-returns-then-not-joined-clause-typed
 arithmetic::type_product-returns-then-not-joined-clause-typed t c =
@@ -163,64 +159,52 @@ arithmetic::type_product-returns-in_ok-yes-in-Some-clause-order t c =
     product_added c.args.names (founds c.args.uses.now.items) (founds c.type_prim.new.uses.items) (founds c.join_multiplieds.new.uses.items) c.in_ok-yes-in-Some.yes c.in-Some.n c.some_if.result c.some_if.ensures c.args.product.now c.deref.result.now c.deref.ensures.value (rw c.in-Some.is at c.in_ok-type_prim.ensures.order) (rw c.if-not-joined.false at c.in_ok-joined-in-Some.ensures.order)
 
 pub logic::join_and-same-requires-clause-left : goal.logic::join_and-same-requires-clause-left
-logic::join_and-same-requires-clause-left t c =
-    let f = rw c.in-Some.is at c.in_ok-type_and.ensures.typed in over_later c.args.subst.now c.type_and.new.subst (variable c.args.n) f.follows c.requires.inside
+logic::join_and-same-requires-clause-left t c = let f = rw c.in-Some.is at c.in_ok-type_and.ensures.typed in over_later c.args.subst.now c.type_and.new.subst (variable c.args.n) f.follows c.requires.inside
 
 pub logic::join_and-same-requires-clause-right : goal.logic::join_and-same-requires-clause-right
-logic::join_and-same-requires-clause-right t c =
-    let f = rw c.in-Some.is at c.in_ok-type_and.ensures.typed in f.over
+logic::join_and-same-requires-clause-right t c = let f = rw c.in-Some.is at c.in_ok-type_and.ensures.typed in f.over
 
 pub logic::join_and-returns-in-None-clause-typed : goal.logic::join_and-returns-in-None-clause-typed
-logic::join_and-returns-in-None-clause-typed t c =
-    one_none c.args.subst.now (env_of c.args.names) (view_and c.args.and.now) (variable c.args.n) (founds c.args.uses.now.items) (rw c.in-None.is at c.in_ok-type_and.ensures.typed)
+logic::join_and-returns-in-None-clause-typed t c = one_none c.args.subst.now (env_of c.args.names) (view_and c.args.and.now) (variable c.args.n) (founds c.args.uses.now.items) (rw c.in-None.is at c.in_ok-type_and.ensures.typed)
 
 pub logic::join_and-returns-in_ok-yes-in-Some-clause-typed : goal.logic::join_and-returns-in_ok-yes-in-Some-clause-typed
 logic::join_and-returns-in_ok-yes-in-Some-clause-typed t c =
     join_done c.args.subst.now c.type_and.new.subst c.same.new.subst (env_of c.args.names) (view_and c.args.and.now) c.args.n c.in-Some.other (founds c.args.uses.now.items) (founds c.type_and.new.uses.items) c.in_ok-yes-in-Some.yes c.requires.seen.over c.requires.seen.uses_over c.requires.inside (rw c.in-Some.is at c.in_ok-type_and.ensures.typed) c.in_ok-yes-in-Some.ensures
 
 pub logic::join_and-returns-in_ok-yes-in-Some-clause-order : goal.logic::join_and-returns-in_ok-yes-in-Some-clause-order
-logic::join_and-returns-in_ok-yes-in-Some-clause-order t c =
-    added_where c.args.names (tokens_used (view_and c.args.and.now)) (founds c.args.uses.now.items) (founds c.type_and.new.uses.items) c.in_ok-yes-in-Some.yes (rw c.in-Some.is at c.in_ok-type_and.ensures.order)
+logic::join_and-returns-in_ok-yes-in-Some-clause-order t c = added_where c.args.names (tokens_used (view_and c.args.and.now)) (founds c.args.uses.now.items) (founds c.type_and.new.uses.items) c.in_ok-yes-in-Some.yes (rw c.in-Some.is at c.in_ok-type_and.ensures.order)
 
 pub logic::join_not-same-requires-clause-left : goal.logic::join_not-same-requires-clause-left
-logic::join_not-same-requires-clause-left t c =
-    let f = rw c.in-Some.is at c.in_ok-type_not.ensures.typed in over_later c.args.subst.now c.type_not.new.subst (variable c.args.n) f.follows c.requires.inside
+logic::join_not-same-requires-clause-left t c = let f = rw c.in-Some.is at c.in_ok-type_not.ensures.typed in over_later c.args.subst.now c.type_not.new.subst (variable c.args.n) f.follows c.requires.inside
 
 pub logic::join_not-same-requires-clause-right : goal.logic::join_not-same-requires-clause-right
-logic::join_not-same-requires-clause-right t c =
-    let f = rw c.in-Some.is at c.in_ok-type_not.ensures.typed in f.over
+logic::join_not-same-requires-clause-right t c = let f = rw c.in-Some.is at c.in_ok-type_not.ensures.typed in f.over
 
 pub logic::join_not-returns-in-None-clause-typed : goal.logic::join_not-returns-in-None-clause-typed
-logic::join_not-returns-in-None-clause-typed t c =
-    one_none c.args.subst.now (env_of c.args.names) (view_not c.args.not.now) (variable c.args.n) (founds c.args.uses.now.items) (rw c.in-None.is at c.in_ok-type_not.ensures.typed)
+logic::join_not-returns-in-None-clause-typed t c = one_none c.args.subst.now (env_of c.args.names) (view_not c.args.not.now) (variable c.args.n) (founds c.args.uses.now.items) (rw c.in-None.is at c.in_ok-type_not.ensures.typed)
 
 pub logic::join_not-returns-in_ok-yes-in-Some-clause-typed : goal.logic::join_not-returns-in_ok-yes-in-Some-clause-typed
 logic::join_not-returns-in_ok-yes-in-Some-clause-typed t c =
     join_done c.args.subst.now c.type_not.new.subst c.same.new.subst (env_of c.args.names) (view_not c.args.not.now) c.args.n c.in-Some.other (founds c.args.uses.now.items) (founds c.type_not.new.uses.items) c.in_ok-yes-in-Some.yes c.requires.seen.over c.requires.seen.uses_over c.requires.inside (rw c.in-Some.is at c.in_ok-type_not.ensures.typed) c.in_ok-yes-in-Some.ensures
 
 pub logic::join_not-returns-in_ok-yes-in-Some-clause-order : goal.logic::join_not-returns-in_ok-yes-in-Some-clause-order
-logic::join_not-returns-in_ok-yes-in-Some-clause-order t c =
-    added_where c.args.names (tokens_used (view_not c.args.not.now)) (founds c.args.uses.now.items) (founds c.type_not.new.uses.items) c.in_ok-yes-in-Some.yes (rw c.in-Some.is at c.in_ok-type_not.ensures.order)
+logic::join_not-returns-in_ok-yes-in-Some-clause-order t c = added_where c.args.names (tokens_used (view_not c.args.not.now)) (founds c.args.uses.now.items) (founds c.type_not.new.uses.items) c.in_ok-yes-in-Some.yes (rw c.in-Some.is at c.in_ok-type_not.ensures.order)
 
 pub arithmetic::join_sum-same-requires-clause-left : goal.arithmetic::join_sum-same-requires-clause-left
-arithmetic::join_sum-same-requires-clause-left t c =
-    let f = rw c.in-Some.is at c.in_ok-type_sum.ensures.typed in over_later c.args.subst.now c.type_sum.new.subst (variable c.args.n) f.follows c.requires.inside
+arithmetic::join_sum-same-requires-clause-left t c = let f = rw c.in-Some.is at c.in_ok-type_sum.ensures.typed in over_later c.args.subst.now c.type_sum.new.subst (variable c.args.n) f.follows c.requires.inside
 
 pub arithmetic::join_sum-same-requires-clause-right : goal.arithmetic::join_sum-same-requires-clause-right
-arithmetic::join_sum-same-requires-clause-right t c =
-    let f = rw c.in-Some.is at c.in_ok-type_sum.ensures.typed in f.over
+arithmetic::join_sum-same-requires-clause-right t c = let f = rw c.in-Some.is at c.in_ok-type_sum.ensures.typed in f.over
 
 pub arithmetic::join_sum-returns-in-None-clause-typed : goal.arithmetic::join_sum-returns-in-None-clause-typed
-arithmetic::join_sum-returns-in-None-clause-typed t c =
-    one_none c.args.subst.now (env_of c.args.names) (view_sum c.args.sum.now) (variable c.args.n) (founds c.args.uses.now.items) (rw c.in-None.is at c.in_ok-type_sum.ensures.typed)
+arithmetic::join_sum-returns-in-None-clause-typed t c = one_none c.args.subst.now (env_of c.args.names) (view_sum c.args.sum.now) (variable c.args.n) (founds c.args.uses.now.items) (rw c.in-None.is at c.in_ok-type_sum.ensures.typed)
 
 pub arithmetic::join_sum-returns-in_ok-yes-in-Some-clause-typed : goal.arithmetic::join_sum-returns-in_ok-yes-in-Some-clause-typed
 arithmetic::join_sum-returns-in_ok-yes-in-Some-clause-typed t c =
     join_done c.args.subst.now c.type_sum.new.subst c.same.new.subst (env_of c.args.names) (view_sum c.args.sum.now) c.args.n c.in-Some.other (founds c.args.uses.now.items) (founds c.type_sum.new.uses.items) c.in_ok-yes-in-Some.yes c.requires.seen.over c.requires.seen.uses_over c.requires.inside (rw c.in-Some.is at c.in_ok-type_sum.ensures.typed) c.in_ok-yes-in-Some.ensures
 
 pub arithmetic::join_sum-returns-in_ok-yes-in-Some-clause-order : goal.arithmetic::join_sum-returns-in_ok-yes-in-Some-clause-order
-arithmetic::join_sum-returns-in_ok-yes-in-Some-clause-order t c =
-    added_where c.args.names (tokens_used (view_sum c.args.sum.now)) (founds c.args.uses.now.items) (founds c.type_sum.new.uses.items) c.in_ok-yes-in-Some.yes (rw c.in-Some.is at c.in_ok-type_sum.ensures.order)
+arithmetic::join_sum-returns-in_ok-yes-in-Some-clause-order t c = added_where c.args.names (tokens_used (view_sum c.args.sum.now)) (founds c.args.uses.now.items) (founds c.type_sum.new.uses.items) c.in_ok-yes-in-Some.yes (rw c.in-Some.is at c.in_ok-type_sum.ensures.order)
 
 pub arithmetic::join_added-same-requires-clause-left : goal.arithmetic::join_added-same-requires-clause-left
 arithmetic::join_added-same-requires-clause-left t c =
