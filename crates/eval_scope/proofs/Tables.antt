@@ -7,7 +7,6 @@ use Rattle.std.proofs.lemmas.List.{length-take-le, length_push, take_more, take_
 use Rattle.std.proofs.lemmas.List.Folds.{find_at, position_or_len_push}
 use Rattle.std.proofs.lemmas.List.Sums.{prefix_len-le-length}
 use Rattle.std.proofs.lemmas.Option.{slice_get_past, slice_get-get_or}
-use Rattle.indexmap.specs.IndexMap.{IndexMap, get}
 use Rattle.script_grammar.specs.Tree.{Tree, ADef, AStmt, Many, more, Stmt, BindPart, DefPart, CallPart, IfPart}
 use Rattle.script_grammar.specs.View.{listed, view_stmt}
 use Rattle.script_grammar.specs.declared.tree.Stmt.{Stmt as ProgramStmt}
@@ -18,6 +17,7 @@ use Rattle.script_values.specs.Views.{view_slot}
 use Rattle.script_values.specs.declared.slots.Slot.{Slot}
 use Rattle.typing_rules.specs.Defs.{def_at}
 use Rattle.typing_rules.specs.Scripts.{def_token}
+use Rattle.token_table.specs.At.{at_token}
 use Rattle.eval_scope.specs.Places.{IsTable, Notes, def_if, is_def, is_slot, names}
 
 pub position_push : {X : Type 0} (p : X → Bool) (xs : List X) (y : X) → position p (xs ++ y ∷ []) ≡ option_or (position p xs) (cond (p y) (Some (length xs)) None)
@@ -26,22 +26,22 @@ position_push p xs y = grind (arith, position_or_len_push p xs y, length_push xs
 pub find_by_position : {X : Type 0} (p : X → Bool) (xs : List X) → option_and_then (λ i. slice_get xs i) (position p xs) ≡ find p xs
 find_by_position p xs = grind (arith, find_at p xs, slice_get_past xs (position_or_len p xs))
 
-pub table_push : {X S : Type 0} (test : ℕ → X → Bool) (old new : IndexMap ℕ ℕ S) (xs : List X) (y : X) → IsTable test old xs → Notes (λ k. test k y) old (length xs) new → IsTable test new (xs ++ y ∷ [])
+pub table_push : {X : Type 0} (test : ℕ → X → Bool) (old new : List (Option ℕ)) (xs : List X) (y : X) → IsTable test old xs → Notes (λ k. test k y) old (length xs) new → IsTable test new (xs ++ y ∷ [])
 table_push test old new xs y table notes k =
     notes k ∙ ap (λ (o : Option ℕ). option_or o (cond (test k y) (Some (length xs)) None)) (table k) ∙ sym (position_push (test k) xs y)
 
-pub table_more : {X S : Type 0} (test : ℕ → X → Bool) (old new : IndexMap ℕ ℕ S) (xs : List X) (y : X) (i : ℕ) → i < length xs → y ≡ get_or xs i y → IsTable test old (take i xs) → Notes (λ k. test k y) old i new → IsTable test new (take (i + 1) xs)
+pub table_more : {X : Type 0} (test : ℕ → X → Bool) (old new : List (Option ℕ)) (xs : List X) (y : X) (i : ℕ) → i < length xs → y ≡ get_or xs i y → IsTable test old (take i xs) → Notes (λ k. test k y) old i new → IsTable test new (take (i + 1) xs)
 table_more test old new xs y i lt is table notes =
     let long : length (take i xs) ≡ i = length-take-le i xs (omega arith) in
     let grown : IsTable test new (take i xs ++ y ∷ []) = table_push test old new (take i xs) y table (subst (λ (j : ℕ). Notes (λ k. test k y) old j new) (sym long) notes) in
     let step : take (i + 1) xs ≡ take i xs ++ y ∷ [] = take_more xs i y lt ∙ ap (λ (z : _). take i xs ++ z ∷ []) (sym is) in
     subst (λ (l : List _). IsTable test new l) (sym step) grown
 
-pub table_whole : {X S : Type 0} (test : ℕ → X → Bool) (places : IndexMap ℕ ℕ S) (xs : List X) (i : ℕ) → length xs ≤ i → IsTable test places (take i xs) → IsTable test places xs
+pub table_whole : {X : Type 0} (test : ℕ → X → Bool) (places : List (Option ℕ)) (xs : List X) (i : ℕ) → length xs ≤ i → IsTable test places (take i xs) → IsTable test places xs
 table_whole test places xs i over table = subst (λ (l : List _). IsTable test places l) (take_all i xs over) table
 
 -- what the table finds
-pub table_finds : {X S : Type 0} (test : ℕ → X → Bool) (places : IndexMap ℕ ℕ S) (xs : List X) (at : ℕ) (o : Option ℕ) → IsTable test places xs → o ≡ get nat_eq places at → option_and_then (λ i. slice_get xs i) o ≡ find (test at) xs
+pub table_finds : {X : Type 0} (test : ℕ → X → Bool) (places : List (Option ℕ)) (xs : List X) (at : ℕ) (o : Option ℕ) → IsTable test places xs → o ≡ at_token at places → option_and_then (λ i. slice_get xs i) o ≡ find (test at) xs
 table_finds test places xs at o table is = ap (λ (p : Option ℕ). option_and_then (λ i. slice_get xs i) p) (is ∙ table at) ∙ find_by_position (test at) xs
 
 -- what stands at a place

@@ -2,7 +2,7 @@
 use Rattle.std.specs.Prelude.{◌≡◌, ℕ, Bool, List, Option, Some, None, cond, nat_eq, true, false}
 use Rattle.std.specs.List.{position}
 use Rattle.std.specs.Option.{option_or}
-use Rattle.indexmap.specs.IndexMap.{IndexMap, get}
+use Rattle.token_table.specs.At.{at_token}
 use Rattle.script_grammar.specs.Tree.{Tree, ADef, AStmt, Stmt, BindPart, DefPart, CallPart, IfPart}
 use Rattle.script_grammar.specs.View.{view_stmt}
 use Rattle.script_grammar.specs.declared.tree.Stmt.{Stmt as ProgramStmt}
@@ -11,12 +11,12 @@ use Rattle.typing_rules.specs.Scripts.{def_token}
 use Rattle.typing_rules.specs.declared.uses.Use.{Use}
 
 -- the table has, for each token, the first place in the list at which the test finds it
-abbrev pub IsTable : {X S : Type 0} → (ℕ → X → Bool) → IndexMap ℕ ℕ S → List X → Type 0
-IsTable test places xs = (at : ℕ) → get nat_eq places at ≡ position (test at) xs
+abbrev pub IsTable : {X : Type 0} → (ℕ → X → Bool) → List (Option ℕ) → List X → Type 0
+IsTable test places xs = (at : ℕ) → at_token at places ≡ position (test at) xs
 
 -- each token that passes has this place now, unless it had one, and every other token has what it had
-abbrev pub Notes : {S : Type 0} → (ℕ → Bool) → IndexMap ℕ ℕ S → ℕ → IndexMap ℕ ℕ S → Type 0
-Notes test old place new = (at : ℕ) → get nat_eq new at ≡ option_or (get nat_eq old at) (cond (test at) (Some place) None)
+abbrev pub Notes : (ℕ → Bool) → List (Option ℕ) → ℕ → List (Option ℕ) → Type 0
+Notes test old place new = (at : ℕ) → at_token at new ≡ option_or (at_token at old) (cond (test at) (Some place) None)
 
 -- whether the use stands for the name at the token
 abbrev pub is_use : ℕ → Use → Bool

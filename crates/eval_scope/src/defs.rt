@@ -5,16 +5,16 @@ ghost use Rattle.script_grammar.specs.View.{view_def, view_script, view_stmt};
 ghost use Rattle.typing_rules.specs.Defs.{def_at};
 
 use crate::places::note;
-use indexmap::IndexMap;
 use liq_base::Memory;
 use script_grammar::tree::{Def, Script, Stmt, StmtPart};
 use std::alloc::Global;
+use token_table::TokenTable;
 
 /// A script, with a table of the statement of each def.
 #[derive(Drop)]
 pub struct Defs<'a> {
     pub script: &'a Script,
-    places: IndexMap<u32, usize>,
+    places: TokenTable<u32>,
     ghost table: { IsTable is_def places script.now.statements.items },
 }
 
@@ -23,7 +23,7 @@ impl<'a> Defs<'a> {
     pub fn new(alloc: Global, script: &'a Script) -> Result<Defs<'a>, Memory>
         ensures { IfOk result (λ d. d.script.now ≡ script.entry.now) }
     {
-        let mut places = IndexMap::new(alloc);
+        let mut places = TokenTable::new(alloc);
         for (place, stmt) in script.statements.iter().enumerate() {
             note_def(&mut places, stmt, place)?;
         }
@@ -34,14 +34,14 @@ impl<'a> Defs<'a> {
     pub fn find(&self, at: u32) -> Option<&'a Def>
         ensures { option_map (λ d. view_def d.now) result ≡ def_at at (view_script self.now.script.now) }
     {
-        let place = self.places.get(&at)?;
-        let stmt = self.script.statements.get(*place)?;
+        let place = self.places.get(at)?;
+        let stmt = self.script.statements.get(place as usize)?;
         def_of(stmt, at)
     }
 }
 
 // Notes the place of a statement, if it is a def.
-fn note_def(places: &mut IndexMap<u32, usize>, stmt: &Stmt, place: usize) -> Result<(), Memory>
+fn note_def(places: &mut TokenTable<u32>, stmt: &Stmt, place: usize) -> Result<(), Memory>
     ensures { OnOk result (Notes (names (view_stmt stmt.now)) places.old place places.new) }
 {
     match &stmt.part {

@@ -6,16 +6,16 @@ ghost use Rattle.script_values.specs.View.{view_value};
 ghost use Rattle.script_values.specs.Views.{view_slot};
 
 use crate::places::note;
-use indexmap::IndexMap;
 use liq_base::Memory;
 use script_values::{Slot, Value};
 use std::alloc::Global;
+use token_table::TokenTable;
 
 /// The values of the bindings of statements, with a table of the place of each token's first.
 #[derive(Drop)]
 pub struct Globals {
     pub all: Vec<Slot>,
-    places: IndexMap<u32, usize>,
+    places: TokenTable<u32>,
     ghost table: { IsTable is_slot places all.items },
 }
 
@@ -26,7 +26,7 @@ impl Globals {
     {
         Globals {
             all: Vec::new(alloc),
-            places: IndexMap::new(alloc),
+            places: TokenTable::new(alloc),
         }
     }
 
@@ -50,8 +50,8 @@ impl Globals {
     pub fn find(&self, at: u32) -> Option<&Value>
         ensures { option_map (λ v. view_value v.now) result ≡ slot_at at (map view_slot self.now.all.items) }
     {
-        let place = self.places.get(&at)?;
-        let slot = self.all.get(*place)?;
+        let place = self.places.get(at)?;
+        let slot = self.all.get(place as usize)?;
         Some(&slot.value)
     }
 }

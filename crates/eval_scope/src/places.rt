@@ -1,19 +1,22 @@
 // Tables from tokens to the places at which they stand first in a list.
-ghost use Rattle.std.specs.Prelude.{OnOk, OnErr, nat_eq};
-ghost use Rattle.indexmap.specs.IndexMap.{IsUnchanged};
+ghost use Rattle.std.specs.Prelude.{◌≡◌, ℕ, OnOk, OnErr, nat_eq};
+ghost use Rattle.token_table.specs.At.{at_token};
 ghost use Rattle.eval_scope.specs.Places.{Notes};
 
-use indexmap::IndexMap;
 use liq_base::Memory;
+use token_table::TokenTable;
 
-/// Notes the place of a token, unless it has one.
-pub fn note(places: &mut IndexMap<u32, usize>, at: u32, place: usize) -> Result<(), Memory>
+/// Notes the place of a token, unless it has one. Where memory runs out, or the place has no number of 32 bits, no place
+/// changes.
+pub fn note(places: &mut TokenTable<u32>, at: u32, place: usize) -> Result<(), Memory>
     ensures noted { OnOk result (Notes (nat_eq at) places.old place places.new) }
-    ensures err { OnErr result (IsUnchanged places.old places.new) }
+    ensures err { OnErr result ((t : ℕ) → at_token t places.new ≡ at_token t places.old) }
 {
-    if places.contains_key(&at) {
+    if places.get(at).is_some() {
         return Ok(());
     }
-    places.insert(at, place)?;
-    Ok(())
+    let Ok(number) = u32::try_from(place) else {
+        return Err(Memory);
+    };
+    places.put(at, number)
 }

@@ -4,16 +4,16 @@ ghost use Rattle.eval_scope.specs.Places.{IsTable, is_use};
 ghost use Rattle.typing_rules.specs.Uses.{use_at};
 
 use crate::places::note;
-use indexmap::IndexMap;
 use liq_base::Memory;
 use std::alloc::Global;
+use token_table::TokenTable;
 use typing_rules::Use;
 
 /// The uses of a script, with a table of the place of each token's first.
 #[derive(Drop)]
 pub struct Uses<'a> {
     pub all: &'a [Use],
-    places: IndexMap<u32, usize>,
+    places: TokenTable<u32>,
     ghost table: { IsTable is_use places all.now },
 }
 
@@ -22,7 +22,7 @@ impl<'a> Uses<'a> {
     pub fn new(alloc: Global, all: &'a [Use]) -> Result<Uses<'a>, Memory>
         ensures { IfOk result (λ u. u.all.now ≡ all.entry.now) }
     {
-        let mut places = IndexMap::new(alloc);
+        let mut places = TokenTable::new(alloc);
         for (place, one) in all.iter().enumerate() {
             note(&mut places, one.at, place)?;
         }
@@ -33,7 +33,7 @@ impl<'a> Uses<'a> {
     pub fn find(&self, at: u32) -> Option<&'a Use>
         ensures { option_map (λ u. u.now) result ≡ use_at at self.now.all.now }
     {
-        let place = self.places.get(&at)?;
-        self.all.get(*place)
+        let place = self.places.get(at)?;
+        self.all.get(place as usize)
     }
 }

@@ -18,10 +18,10 @@ use crate::front::{Front, resolve_front};
 use crate::settling::settled_uses;
 use crate::statements::type_part;
 use crate::steps::Typing;
-use indexmap::IndexMap;
 use name_scope::Resolved;
 use script_grammar::tree::{Script, Stmt, StmtPart};
 use std::alloc::Global;
+use token_table::TokenTable;
 use type_schemes::Held;
 use type_terms::Subst;
 use typing_rules::{Target, TypeFault, Use};
@@ -100,7 +100,7 @@ fn type_statements<'a>(
 /// The same, with what the names mean by their tokens.
 fn type_with<'a>(
     alloc: Global,
-    targets: &IndexMap<u32, Target>,
+    targets: &TokenTable<Target>,
     statements: &'a [Stmt],
     front: &Front,
 ) -> Result<Typing<'a>, TypeFault>
@@ -120,7 +120,7 @@ fn type_with<'a>(
 fn type_each<'a>(
     alloc: Global,
     typing: &mut Typing<'a>,
-    targets: &IndexMap<u32, Target>,
+    targets: &TokenTable<Target>,
     statements: &'a [Stmt],
     front: &Front,
 ) -> Result<(), TypeFault>
@@ -144,7 +144,7 @@ fn type_each<'a>(
 }
 
 /// What names mean, by their tokens, with want of memory as a fault of the script.
-fn told_table(alloc: Global, names: &[Resolved]) -> Result<IndexMap<u32, Target>, TypeFault>
+fn told_table(alloc: Global, names: &[Resolved]) -> Result<TokenTable<Target>, TypeFault>
     ensures table { IfOk result (λ m. targets_of m ≡ target_in (map resolved names.now)) }
     ensures refused { IfErr result (λ f. f ≡ TypeFault.Memory) }
 {
@@ -158,7 +158,7 @@ fn told_table(alloc: Global, names: &[Resolved]) -> Result<IndexMap<u32, Target>
 fn type_next<'a>(
     alloc: Global,
     typing: &mut Typing<'a>,
-    targets: &IndexMap<u32, Target>,
+    targets: &TokenTable<Target>,
     statements: &'a [Stmt],
     front: &Front,
     index: usize,
@@ -180,7 +180,7 @@ fn type_next<'a>(
 fn next<'a>(
     alloc: Global,
     typing: &mut Typing<'a>,
-    targets: &IndexMap<u32, Target>,
+    targets: &TokenTable<Target>,
     part: &'a StmtPart,
 ) -> Result<bool, TypeFault>
     requires ready { IsReady (targets_of targets.now) typing.old }

@@ -10,10 +10,10 @@ ghost use Rattle.type_infer.specs.States.{IsDefKept, IsReady, IsRunKept, IsStepp
 use crate::steps::{Step, TypedExpr, Typing};
 use crate::values::{choice_type, run_type, value_type};
 use def_types::{TypedDef, type_def};
-use indexmap::IndexMap;
 use liq_base::Memory;
 use script_grammar::tree::{Bind, Call, Def, If, StmtPart};
 use std::alloc::Global;
+use token_table::TokenTable;
 use type_schemes::Held;
 use type_terms::{Subst, Ty};
 use typing_rules::Target;
@@ -23,7 +23,7 @@ use value_types::{Bindings, Known, KnownDef, Names, TypedName};
 pub fn type_part<'a>(
     alloc: Global,
     typing: &mut Typing<'a>,
-    targets: &IndexMap<u32, Target>,
+    targets: &TokenTable<Target>,
     part: &'a StmtPart,
 ) -> Result<bool, Memory>
     requires ready { IsReady (targets_of targets.now) typing.old }
@@ -39,7 +39,7 @@ pub fn type_part<'a>(
 
 /// What is seen outside of defs.
 fn outside<'n, 'a>(
-    targets: &'n IndexMap<u32, Target>,
+    targets: &'n TokenTable<Target>,
     before: &'n Bindings,
     defs: &'n [KnownDef<'a>],
 ) -> Names<'n, 'a>
@@ -122,7 +122,7 @@ fn keep_def<'a>(typing: &mut Typing<'a>, def: TypedDef<'a>) -> Result<(), Memory
 fn type_bind(
     alloc: Global,
     typing: &mut Typing<'_>,
-    targets: &IndexMap<u32, Target>,
+    targets: &TokenTable<Target>,
     bind: &Bind,
 ) -> Result<bool, Memory>
     requires ready { IsReady (targets_of targets.now) typing.old }
@@ -142,7 +142,7 @@ fn type_bind(
 fn type_run(
     alloc: Global,
     typing: &mut Typing<'_>,
-    targets: &IndexMap<u32, Target>,
+    targets: &TokenTable<Target>,
     call: &Call,
 ) -> Result<bool, Memory>
     requires ready { IsReady (targets_of targets.now) typing.old }
@@ -162,7 +162,7 @@ fn type_run(
 fn type_branch(
     alloc: Global,
     typing: &mut Typing<'_>,
-    targets: &IndexMap<u32, Target>,
+    targets: &TokenTable<Target>,
     choice: &If,
 ) -> Result<bool, Memory>
     requires ready { IsReady (targets_of targets.now) typing.old }
@@ -182,7 +182,7 @@ fn type_branch(
 fn type_function<'a>(
     alloc: Global,
     typing: &mut Typing<'a>,
-    targets: &IndexMap<u32, Target>,
+    targets: &TokenTable<Target>,
     def: &'a Def,
 ) -> Result<bool, Memory>
     requires ready { IsReady (targets_of targets.now) typing.old }

@@ -4,7 +4,6 @@ use Rattle.std.proofs.lemmas.List.{at_drop_all, drop_more}
 use Rattle.std.specs.Option.{option_or}
 use Rattle.std.specs.Prelude.{option_map, slice_get}
 use Rattle.std.specs.Map.{lookup}
-use Rattle.indexmap.specs.IndexMap.{IndexMap}
 use Rattle.typing_rules.specs.declared.uses.Target.{Target}
 use Rattle.typing_rules.specs.Scripts.{Targets}
 use Rattle.typing_rules.specs.Scoping.{target_in}
@@ -29,8 +28,8 @@ table_more xs i m x old new one lt is before more t =
     ∙ ap (λ (y : Resolved). target_in (map resolved (y ∷ drop (i + 1) xs)) t) is
     ∙ sym (ap (λ l. target_in (map resolved l) t) (drop_more xs i x lt))
 
-pub table_none : {S : Type 0} (m : IndexMap ℕ Target S) (xs : List Resolved) (n : ℕ) → m.entries ≡ [] → length xs ≤ n → (t : ℕ) → targets_of m t ≡ target_in (map resolved (drop n xs)) t
-table_none m xs n empty all t = ap (λ es. lookup (nat_eq t) es) empty ∙ sym (at_drop_all (λ l. target_in (map resolved l) t) xs n all)
+pub table_none : (m : List (Option Target)) (xs : List Resolved) (n : ℕ) → ((t : ℕ) → targets_of m t ≡ None) → length xs ≤ n → (t : ℕ) → targets_of m t ≡ target_in (map resolved (drop n xs)) t
+table_none m xs n empty all t = empty t ∙ sym (at_drop_all (λ l. target_in (map resolved l) t) xs n all)
 
 pub same_targets : (f g : Targets) → ((t : ℕ) → f t ≡ g t) → f ≡ g
 same_targets f g h = λ i t. h t i

@@ -1,15 +1,15 @@
 -- What look-ups by token find.
 use Rattle.std.specs.Prelude.{ℕ, List, [], ◌∷◌, cond, nat_eq, Option, Some, None}
 use Rattle.std.specs.Option.{option_or}
-use Rattle.indexmap.specs.IndexMap.{IndexMap, get}
+use Rattle.token_table.specs.At.{at_token}
 use Rattle.typing_rules.specs.declared.uses.Target.{Target}
 use Rattle.typing_rules.specs.Scripts.{Targets}
 use Rattle.value_types.specs.declared.environment.Known.{Known}
 use Rattle.value_types.specs.declared.environment.Known.TheVariants as known
 
 -- what names mean, by a table of their tokens
-abbrev pub targets_of : {S : Type 0} → IndexMap ℕ Target S → Targets
-targets_of m t = get nat_eq m t
+abbrev pub targets_of : List (Option Target) → Targets
+targets_of m t = at_token t m
 
 -- the number of the variable of a statement's value at a token, and of the newest such value
 abbrev pub number_known : ℕ → Known → Option ℕ

@@ -1,25 +1,25 @@
 // What statements have bound, with a look-up by token.
 ghost use Rattle.std.specs.Prelude.{◌≡◌, ◌++◌, ◌∷◌, [], ℕ, OnErr, OnOk, nat_eq};
 ghost use Rattle.std.specs.Option.{option_or};
-ghost use Rattle.indexmap.specs.IndexMap.{IsUnchanged, get};
+ghost use Rattle.token_table.specs.At.{at_token};
 ghost use Rattle.value_types.specs.Tables.{newest_number, number_known};
 
 use crate::environment::Known;
-use indexmap::IndexMap;
 use liq_base::Memory;
 use std::alloc::Global;
+use token_table::TokenTable;
 use std::marker::Model;
 
 /// What statements have bound, the newest last, and by its token the variable of the newest value.
 #[derive(Drop)]
 pub struct Bindings {
     all: Vec<Known>,
-    vars: IndexMap<u32, u64>,
+    vars: TokenTable<u64>,
 }
 
 impl Model for Bindings {
     ghost use Rattle.std.specs.Prelude.{◌≡◌, ℕ, List, nat_eq};
-    ghost use Rattle.indexmap.specs.IndexMap.{get};
+    ghost use Rattle.token_table.specs.At.{at_token};
     ghost use Rattle.value_types.specs.Tables.{newest_number};
     ghost use Rattle.value_types.specs.declared.environment.Known.{Known};
 
@@ -27,18 +27,18 @@ impl Model for Bindings {
 
     ghost view = { λ b. b.all.items };
 
-    ghost invariant = { λ b. (t : ℕ) → get nat_eq b.vars t ≡ newest_number t b.all.items };
+    ghost invariant = { λ b. (t : ℕ) → at_token t b.vars ≡ newest_number t b.all.items };
 }
 
 /// Notes the variable of a value by its token. Where memory runs out nothing changes.
-fn note(vars: &mut IndexMap<u32, u64>, known: Known) -> Result<(), Memory>
-    ensures noted { OnOk result ((t : ℕ) → get nat_eq vars.new t ≡ option_or (number_known t known) (get nat_eq vars.old t)) }
-    ensures err { OnErr result (IsUnchanged vars.old vars.new) }
+fn note(vars: &mut TokenTable<u64>, known: Known) -> Result<(), Memory>
+    ensures noted { OnOk result ((t : ℕ) → at_token t vars.new ≡ option_or (number_known t known) (at_token t vars.old)) }
+    ensures err { OnErr result ((t : ℕ) → at_token t vars.new ≡ at_token t vars.old) }
 {
     match known {
         Known::Function(_) => Ok(()),
         Known::Value(name) => {
-            vars.insert(name.at, name.var)?;
+            vars.put(name.at, name.var)?;
             Ok(())
         }
     }
@@ -51,7 +51,7 @@ impl Bindings {
     {
         Bindings {
             all: Vec::new(alloc),
-            vars: IndexMap::new(alloc),
+            vars: TokenTable::new(alloc),
         }
     }
 
@@ -70,6 +70,6 @@ impl Bindings {
     pub fn var(&self, at: u32) -> Option<u64>
         ensures { result ≡ newest_number at self.now }
     {
-        self.vars.get(&at).copied()
+        self.vars.get(at)
     }
 }

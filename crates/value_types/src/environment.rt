@@ -5,9 +5,9 @@ ghost use Rattle.type_flow.specs.Environment.{term_at, term_seen};
 ghost use Rattle.value_types.specs.Seen.{def_seen, env_of, types_seen};
 
 use crate::bindings::Bindings;
-use indexmap::IndexMap;
 use name_scope::Parameter;
 use script_grammar::tree::Def;
+use token_table::TokenTable;
 use type_schemes::General;
 use type_terms::KindTerm;
 use typing_rules::Target;
@@ -62,7 +62,7 @@ pub enum Known {
 /// What names mean, the parameters and inner bindings of the def around, what statements have bound, the newest last, and their defs.
 #[derive(Clone, Copy)]
 pub struct Names<'n, 'a> {
-    pub targets: &'n IndexMap<u32, Target>,
+    pub targets: &'n TokenTable<Target>,
     pub inner: &'n [TypedName],
     pub before: &'n Bindings,
     pub defs: &'n [KnownDef<'a>],
@@ -97,7 +97,7 @@ impl<'n, 'a> Names<'n, 'a> {
     pub fn target(&self, at: u32) -> Option<Target>
         ensures { result ≡ (env_of self.now).targets at }
     {
-        self.targets.get(&at).copied()
+        self.targets.get(at)
     }
 
     /// The variable that is the type of the binding at a token.

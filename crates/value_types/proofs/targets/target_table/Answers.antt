@@ -8,8 +8,8 @@ use Rattle.value_types.proofs.targets.target_table.Goals as goal
 pub loop-left-preserved : goal.loop-left-preserved
 loop-left-preserved c = (
   omega (arith, c.loop-left-test.true, c.loop-left.invariant.0),
-  table_more c.args.names.now (c.loop-left.left - 1) c.loop-left.left c.name_at-name.result (targets_of c.loop-left.table) (targets_of c.insert.new.self)
-      (omega (arith, c.loop-left-test.true)) (omega (arith, c.loop-left-test.true, c.loop-left.invariant.0)) c.name_at-name.ensures.at c.loop-left.invariant.1 c.in_ok-insert.ensures.updates.0,
+  table_more c.args.names.now (c.loop-left.left - 1) c.loop-left.left c.name_at-name.result (targets_of c.loop-left.table) (targets_of c.put.new.self)
+      (omega (arith, c.loop-left-test.true)) (omega (arith, c.loop-left-test.true, c.loop-left.invariant.0)) c.name_at-name.ensures.at c.loop-left.invariant.1 c.in_ok-put.ensures.put,
 )
 
 pub returns : goal.returns

@@ -11,12 +11,12 @@ pub returns-in_err-place : goal.returns-in_err-place
 returns-in_err-place c =
     let none : c.from_residual.result ≡ None = search rules in
     ap (λ (o : Option (Bor Value)). option_map (λ v. view_value v.now) o) none
-    ∙ ap (λ (o : Option Slot). option_map (λ s. view_value s.value) o) (table_finds is_slot c.args.self.now.places c.args.self.now.all.items c.args.at None c.args.self.now.table c.in_err-place.ensures.value)
+    ∙ ap (λ (o : Option Slot). option_map (λ s. view_value s.value) o) (table_finds is_slot c.args.self.now.places c.args.self.now.all.items c.args.at None c.args.self.now.table c.in_err-place.ensures)
     ∙ sym (slot_found c.args.at c.args.self.now.all.items)
 
 pub returns : goal.returns
 returns c =
-    let place = c.in_ok-place.place.now in
+    let place = c.in_ok-place.place in
     let there : Some c.in_ok-slot.slot.now ≡ slice_get c.args.self.now.all.items place = item_found (Some c.in_ok-slot.slot) c.deref.result.now place c.in_ok-slot.ensures.lookup.1 c.in_ok-slot.ensures.lookup.3 ∙ ap (λ (l : List Slot). slice_get l place) c.deref.ensures.value in
-    ap (λ (o : Option Slot). option_map (λ s. view_value s.value) o) (there ∙ table_finds is_slot c.args.self.now.places c.args.self.now.all.items c.args.at (Some place) c.args.self.now.table c.in_ok-place.ensures.value)
+    ap (λ (o : Option Slot). option_map (λ s. view_value s.value) o) (there ∙ table_finds is_slot c.args.self.now.places c.args.self.now.all.items c.args.at (Some place) c.args.self.now.table c.in_ok-place.ensures)
     ∙ sym (slot_found c.args.at c.args.self.now.all.items)
