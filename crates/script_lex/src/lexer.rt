@@ -13,6 +13,10 @@ use crate::token::{LexFault, Token};
 use liq_base::limits::MAX_SCRIPT_BYTES;
 use std::alloc::Global;
 
+// Room for one token is taken at first for each so many bytes of a script. Most scripts have more bytes to a token, so
+// their list never grows; room that no token fills is never touched, and where tokens are shorter the list grows.
+const BYTES_A_TOKEN: usize = 3;
+
 /// The tokens of a script, each the longest that stands at its place (`docs/language.md`, "Tokens").
 ///
 /// It answers the list of tokens exactly where the script has one, and else the fault that stands first in it;
@@ -62,7 +66,7 @@ fn tokens(alloc: Global, text: &[u8]) -> Result<Vec<Token>, Refusal>
     ensures fault { IfErr result (λ e. IfFault e (RunsInto text.now)) }
     ensures within { IfErr result (λ e. left_of e ≤ length text.now) }
 {
-    let mut made = Vec::new(alloc);
+    let mut made = Vec::with_capacity(alloc, text.len() / BYTES_A_TOKEN)?;
     let mut rest = after_blanks(text);
     while !rest.is_empty() {
         let (kind, after) = token_at(alloc, rest)?;
