@@ -18,6 +18,7 @@ use Rattle.typing_rules.specs.declared.fault.NameFault.TheVariants.{Extra}
 use Rattle.typing_rules.specs.NameFaults.{is_among, missing_at, name_of, repeated_at, repeats, token_of}
 use Rattle.name_scope.specs.Noted.{all_sooner, mismatches, missing_with, sooner}
 use Rattle.name_scope.specs.Seen.{form_seen, seen_given, seen_parameter}
+use Rattle.name_scope.proofs.Searches.{search_default}
 
 abbrev Taken : Type 0
 Taken = Option (ℕ × List (Given ℕ))
@@ -31,7 +32,11 @@ none_behind : (g : Given ℕ) (rest : List (Given ℕ)) (b : Bool) (o : Taken) �
 none_behind g rest true o h = cc
 none_behind g rest false o h = (refl, not_after g o h)
 
-pub taken_at : (label : Option (List ℕ)) (gs : List AGiven) (i : ℕ) (x : AGiven) → i < length gs → x ≡ get_or gs i x → argument label (map seen_given (take i gs)) ≡ None → is_label label (seen_given x).0 ≡ true → argument label (map seen_given gs) ≡ Some (x.at, map seen_given (remove gs i))
+-- an item of a slice of the arguments, as an item of the arguments
+item_of : (gs slice : List AGiven) (i : ℕ) (d : AGiven) → slice ≡ gs → i < length gs → get_or slice i d ≡ get_or gs i (get_or slice i d)
+item_of gs slice i d whole lt = search_default gs i d (get_or slice i d) lt (ap (λ (l : List AGiven). get_or l i d) whole)
+
+taken_at : (label : Option (List ℕ)) (gs : List AGiven) (i : ℕ) (x : AGiven) → i < length gs → x ≡ get_or gs i x → argument label (map seen_given (take i gs)) ≡ None → is_label label (seen_given x).0 ≡ true → argument label (map seen_given gs) ≡ Some (x.at, map seen_given (remove gs i))
 taken_at label [] i x lt is h same = absurd (omega (arith, lt))
 taken_at label (g ∷ gs) zero x lt is h same = ap (λ (y : AGiven). cond (is_label label (seen_given y).0) (Some (y.at, map seen_given gs)) (after (seen_given y) (argument label (map seen_given gs)))) (sym is) ∙ ap (λ b. cond b (Some (x.at, map seen_given gs)) (after (seen_given x) (argument label (map seen_given gs)))) same
 taken_at label (g ∷ gs) (suc i) x lt is h same =
@@ -39,17 +44,24 @@ taken_at label (g ∷ gs) (suc i) x lt is h same =
     let later = taken_at label gs i x (omega (arith, lt)) is parts.1 same in
     ap (λ b. cond b (Some (g.at, map seen_given gs)) (after (seen_given g) (argument label (map seen_given gs)))) parts.0 ∙ ap (after (seen_given g)) later
 
-pub none_more : (label : Option (List ℕ)) (gs : List (Given ℕ)) (x : Given ℕ) → argument label gs ≡ None → is_label label x.0 ≡ false → argument label (gs ++ x ∷ []) ≡ None
+-- the same where the item is read from a slice of the arguments
+pub taken_from : (label : Option (List ℕ)) (gs slice : List AGiven) (i : ℕ) (d : AGiven) → slice ≡ gs → i < length gs → argument label (map seen_given (take i gs)) ≡ None → is_label label (seen_given (get_or slice i d)).0 ≡ true → argument label (map seen_given gs) ≡ Some ((get_or slice i d).at, map seen_given (remove gs i))
+taken_from label gs slice i d whole lt h same = taken_at label gs i (get_or slice i d) lt (item_of gs slice i d whole lt) h same
+
+none_more : (label : Option (List ℕ)) (gs : List (Given ℕ)) (x : Given ℕ) → argument label gs ≡ None → is_label label x.0 ≡ false → argument label (gs ++ x ∷ []) ≡ None
 none_more label [] x h other = ap (λ b. cond b (Some (x.1, [])) None) other
 none_more label (g ∷ gs) x h other =
     let parts = none_behind g gs (is_label label g.0) (argument label gs) h in
     ap (λ b. cond b (Some (g.1, gs ++ x ∷ [])) (after g (argument label (gs ++ x ∷ [])))) parts.0 ∙ ap (after g) (none_more label gs x parts.1 other)
 
-pub one_more_none : (label : Option (List ℕ)) (gs : List AGiven) (i : ℕ) (x : AGiven) → i < length gs → x ≡ get_or gs i x → argument label (map seen_given (take i gs)) ≡ None → is_label label (seen_given x).0 ≡ false → argument label (map seen_given (take (i + 1) gs)) ≡ None
+one_more_none : (label : Option (List ℕ)) (gs : List AGiven) (i : ℕ) (x : AGiven) → i < length gs → x ≡ get_or gs i x → argument label (map seen_given (take i gs)) ≡ None → is_label label (seen_given x).0 ≡ false → argument label (map seen_given (take (i + 1) gs)) ≡ None
 one_more_none label gs i x lt is h other =
     ap (λ (l : List AGiven). argument label (map seen_given l)) (take_more gs i x lt ∙ ap (λ (y : AGiven). take i gs ++ y ∷ []) (sym is))
     ∙ ap (argument label) (map-append seen_given (take i gs) (x ∷ []))
     ∙ none_more label (map seen_given (take i gs)) (seen_given x) h other
+
+pub none_from : (label : Option (List ℕ)) (gs slice : List AGiven) (i : ℕ) (d : AGiven) → slice ≡ gs → i < length gs → argument label (map seen_given (take i gs)) ≡ None → is_label label (seen_given (get_or slice i d)).0 ≡ false → argument label (map seen_given (take (i + 1) gs)) ≡ None
+none_from label gs slice i d whole lt h other = one_more_none label gs i (get_or slice i d) lt (item_of gs slice i d whole lt) h other
 
 -- the first missing parameter
 abbrev pub or_first : Option (List ℕ) → Option (List ℕ) → Option (List ℕ)

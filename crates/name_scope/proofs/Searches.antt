@@ -11,7 +11,7 @@ use Rattle.name_scope.specs.declared.scope.Binding.{Binding}
 use Rattle.script_grammar.specs.declared.tree.Param.{Param}
 
 -- P searches for the first item that passes, with what is found there
-search_default : {A : Type 0} (xs : List A) (i : ℕ) (d x : A) → i < length xs → x ≡ get_or xs i d → x ≡ get_or xs i x
+pub search_default : {A : Type 0} (xs : List A) (i : ℕ) (d x : A) → i < length xs → x ≡ get_or xs i d → x ≡ get_or xs i x
 search_default [] i d x lt is = absurd (omega (arith, lt))
 search_default (y ∷ ys) zero d x lt is = is
 search_default (y ∷ ys) (suc i) d x lt is = search_default ys i d x (omega (arith, lt)) is

@@ -1,5 +1,6 @@
 // Which parameter takes which argument.
 ghost use Rattle.std.specs.Prelude.{◌≡◌, map, is_some, IfOk};
+ghost use Rattle.std.specs.Str.{bytes_eq};
 ghost use Rattle.script_grammar.specs.View.{listed, view_arg, view_param};
 ghost use Rattle.typing_rules.specs.Arguments.{argument, first_missing, is_label as the_same_label, is_needed as is_wanted, label_of as the_label_of, left_over, others as the_others, parameters_of};
 ghost use Rattle.typing_rules.specs.Scoping.{tokens_given};
@@ -9,8 +10,12 @@ ghost use Rattle.name_scope.specs.Seen.{form_seen, seen_given, seen_label, seen_
 use crate::parameter::{Given, Parameter};
 use liq_base::Memory;
 use script_grammar::tree::{Arg, Param, ParamForm};
+use smallvec::SmallVec;
 use std::alloc::Global;
 use typing_rules::Form;
+
+/// The arguments of one call that no parameter has taken yet. Up to four of them take no memory.
+pub(crate) type Untaken<'a> = SmallVec<Given<'a>, 4>;
 
 /// The parameters of a def, in order.
 pub fn parameters<'a>(alloc: Global, params: &'a [Param]) -> Result<Vec<Parameter<'a>>, Memory>
@@ -27,10 +32,10 @@ pub fn parameters<'a>(alloc: Global, params: &'a [Param]) -> Result<Vec<Paramete
 }
 
 /// The arguments of a call by their labels and tokens, in order.
-pub fn given_arguments<'a>(alloc: Global, args: &'a [Arg]) -> Result<Vec<Given<'a>>, Memory>
+pub(crate) fn given_arguments<'a>(alloc: Global, args: &'a [Arg]) -> Result<Untaken<'a>, Memory>
     ensures same { IfOk result (λ r. map seen_given r.items ≡ tokens_given (listed (map view_arg args.now))) }
 {
-    let mut given = Vec::new(alloc);
+    let mut given = SmallVec::new(alloc);
     for arg in args {
         let label = match &arg.label {
             None => None,
@@ -71,12 +76,22 @@ pub fn is_label(wanted: Option<&str>, label: Option<&str>) -> bool
         (None, None) => true,
         (None, Some(_)) => false,
         (Some(_), None) => false,
-        (Some(name), Some(other)) => name == other,
+        (Some(name), Some(other)) => is_same_name(name, other),
     }
 }
 
+/// Whether two names are the same. Only those of one length are compared further.
+pub(crate) fn is_same_name(name: &str, other: &str) -> bool
+    ensures same { result ≡ bytes_eq name.now other.now }
+{
+    name.len() == other.len() && name == other
+}
+
 /// Takes out each argument that a parameter takes, and answers the first parameter that must have one and finds none.
-pub fn match_arguments<'a>(params: &[Parameter<'a>], given: &mut Vec<Given<'_>>) -> Option<&'a str>
+pub(crate) fn match_arguments<'a>(
+    params: &[Parameter<'a>],
+    given: &mut Untaken<'_>,
+) -> Option<&'a str>
     ensures missing { seen_label result ≡ first_missing (map seen_parameter params.now) (map seen_given given.old.items) }
     ensures left { map seen_given given.new.items ≡ left_over (map seen_parameter params.now) (map seen_given given.old.items) }
 {
@@ -100,7 +115,7 @@ fn form_of(form: &ParamForm) -> Form
 }
 
 /// Takes out the first argument with this label, or the first without one, and answers whether there is any.
-fn take_argument(given: &mut Vec<Given<'_>>, label: Option<&str>) -> bool
+fn take_argument(given: &mut Untaken<'_>, label: Option<&str>) -> bool
     ensures taken { result ≡ is_some (argument (seen_label label.entry) (map seen_given given.old.items)) }
     ensures others { map seen_given given.new.items ≡ the_others (map seen_given given.old.items) (argument (seen_label label.entry) (map seen_given given.old.items)) }
 {

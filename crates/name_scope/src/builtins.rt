@@ -3,6 +3,7 @@ ghost use Rattle.std.specs.Prelude.{◌≡◌, map};
 ghost use Rattle.typing_rules.specs.Table.{builtin_named as the_builtin_named, named_in as the_named_in, params_of};
 ghost use Rattle.name_scope.specs.Seen.{seen_parameter, seen_row};
 
+use crate::arguments::is_same_name;
 use crate::parameter::Parameter;
 use typing_rules::{Builtin, Form};
 
@@ -107,7 +108,7 @@ fn named_in(rows: &[(&str, Builtin)], name: &str) -> Option<Builtin>
     ensures same { result ≡ the_named_in name.now (map seen_row rows.now) }
 {
     for row in rows {
-        if name == row.0 {
+        if is_same_name(name, row.0) {
             return Some(row.1);
         }
     }

@@ -10,7 +10,7 @@ mod script;
 mod statements;
 mod values;
 
-pub use arguments::{given_arguments, is_label, is_needed, label_of, match_arguments, parameters};
+pub use arguments::{is_label, is_needed, label_of, parameters};
 pub use builtins::{builtin_named, builtin_params};
 pub use notes::{Notes, Resolved};
 pub use parameter::{Given, Parameter};

@@ -7,7 +7,7 @@ ghost use Rattle.typing_rules.specs.declared.fault.NameFault.TheVariants.{Extra}
 ghost use Rattle.name_scope.specs.Seen.{both_scopes, seen_label, seen_parameter};
 ghost use Rattle.name_scope.specs.Noted.{all_sooner, mismatches, noted, sooner, with_name};
 
-use crate::arguments::{given_arguments, match_arguments};
+use crate::arguments::{given_arguments, is_same_name, match_arguments};
 use crate::builtins::{builtin_named, builtin_params};
 use crate::parameter::{Given, Parameter};
 use crate::scope::{Bound, Scopes};
@@ -68,7 +68,7 @@ fn is_among(name: &Text, params: &[Param]) -> bool
     ensures same { result ≡ is_one_of name.now (map (λ p. p.name) params.now) }
 {
     for param in params {
-        if name.as_str() == param.name.as_str() {
+        if is_same_name(name.as_str(), param.name.as_str()) {
             return true;
         }
     }

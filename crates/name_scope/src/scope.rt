@@ -66,6 +66,9 @@ impl<'a> Scope<'a> {
     pub fn find(&self, name: &str) -> Option<&Bound<'a>>
         ensures found { option_map (λ b. seen_bound b.now) result ≡ the_bound name.now (in_scope self.now) }
     {
+        if self.bindings.is_empty() {
+            return None;
+        }
         match self.places.get(name) {
             Some(place) => Some(&self.bindings[*place].bound),
             None => None,
