@@ -18,6 +18,10 @@ use script_lex::Token;
 use std::alloc::Global;
 use value_parse::{call, choice};
 
+/// At first room is made for a statement to each so many tokens: most statements have as many or more. Room that is not
+/// used is never touched, and where statements are shorter the list grows as it is filled.
+const TOKENS_A_STATEMENT: usize = 4;
+
 /// statement*, up to the end of the tokens.
 pub fn statements(
     alloc: Global,
@@ -29,7 +33,7 @@ pub fn statements(
     ensures gives { Gives (λ x. (listed (map view_stmt x.0.items), kinds x.1.now)) result (many (next is_any) (stmt (places total)) (kinds tokens.now)) }
     ensures whole { IfOk result (λ x. All IsWholeStmt x.0.items) }
 {
-    let mut items = Vec::new(alloc);
+    let mut items = Vec::with_capacity(alloc, tokens.len() / TOKENS_A_STATEMENT)?;
     let mut rest = tokens;
     'turns: while token::next_is(rest, Class::Any) {
         let (item, after) = statement(alloc, total, rest)?;

@@ -12,12 +12,12 @@ use Rattle.statement_parse.proofs.statement.statements.Goals as goal
 
 pub turns-init : goal.turns-init
 turns-init c =
-    let none_yet : c.new-items.result.items ≡ [] = cc in
-    (omega arith, begins view_stmt (next is_any) (stmt (places c.args.total)) c.args.tokens.now c.new-items.result.items cc, rw none_yet (All-nil IsWholeStmt))
+    let none_yet : c.in_ok-items.items.items ≡ [] = c.in_ok-items.ensures.items in
+    (omega arith, begins view_stmt (next is_any) (stmt (places c.args.total)) c.args.tokens.now c.in_ok-items.items.items none_yet, rw none_yet (All-nil IsWholeStmt))
 
 pub returns-in_err-item-clause-gives : goal.returns-in_err-item-clause-gives
 returns-in_err-item-clause-gives c =
-    let p = err_from_is_err_and c.from_residual.result c.from_residual.ensures.1 in
+    let p = err_from_is_err_and c.from_residual-in_err-item.result c.from_residual-in_err-item.ensures.1 in
     rw (p.1, p.2) (fails c.turns.invariant.1 c.in_err-item.field-0.0 refl (sym c.next_is.ensures ∙ c.turns-test.true) c.in_err-item.ensures.gives)
 
 pub turns-preserved : goal.turns-preserved
