@@ -1,10 +1,10 @@
 -- Parts of what is read, as the functions read them. The number at is the index of a token that was read before.
-use Rattle.std.specs.Prelude.{ℕ, List, ◌∷◌, length, Bool, true, false, Ok, Err}
+use Rattle.std.specs.Prelude.{ℕ, List, [], ◌∷◌, ◌++◌, length, Bool, true, false, Ok, Err}
 use Rattle.script_lex.specs.declared.token.TokenKind.TheVariants.{Name, NameOpen, Symbol}
 use Rattle.script_lex.specs.declared.token.Symbol.TheVariants as sign
-use Rattle.script_grammar.specs.Tree.{Tree, Many, ABind, AParam, ADef, APart, AnExpr, more, Bind, Labelled, Optional, Def, BindPart, DefPart, CallPart, IfPart}
-use Rattle.script_grammar.specs.Read.{Reader, ◌>>=◌, made, both, expect, perhaps, many, chain, closed}
-use Rattle.script_grammar.specs.Kinds.{is_assign, is_comma, is_close_round, is_end}
+use Rattle.script_grammar.specs.Tree.{Sort, Tree, Many, ABind, ACall, AFull, AnIf, AParam, ADef, APart, AStmt, AnExpr, more, Bind, Labelled, Optional, Def, BindPart, DefPart, CallPart, IfPart, Stmt}
+use Rattle.script_grammar.specs.Read.{Read, Reader, ◌>>=◌, made, both, expect, perhaps, many, chain, closed}
+use Rattle.script_grammar.specs.Kinds.{is_assign, is_comma, is_close_round, is_end, is_semicolon}
 use Rattle.script_grammar.specs.ReadValue.{binds, call, choice, full_by}
 use Rattle.script_grammar.specs.ReadScript.{value, result, bind, inner, param, def}
 
@@ -48,15 +48,43 @@ ended stamp w = both (result stamp) (expect is_end) w
 abbrev pub def_of : (ℕ → ℕ) → ℕ → List ℕ → Reader (Tree ADef)
 def_of stamp at name w = both (closed is_comma is_close_round (param stamp)) (both (perhaps is_assign) (both (many binds (inner stamp)) (ended stamp))) w >>= made (λ x. Def at name x.0 x.1.0 x.1.1.0 x.1.1.1.0)
 
+-- the parts of statements, of what was read
+abbrev pub as_bind : ℕ → List ℕ → Read (Tree AFull) → Read (Tree APart)
+as_bind at name read = read >>= made (λ v. BindPart (Bind at name v))
+
+abbrev pub as_def : Read (Tree ADef) → Read (Tree APart)
+as_def read = read >>= made DefPart
+
+abbrev pub as_call : Read (Tree ACall) → Read (Tree APart)
+as_call read = read >>= made CallPart
+
+abbrev pub as_if : Read (Tree AnIf) → Read (Tree APart)
+as_if read = read >>= made IfPart
+
 -- the parts of statements
 abbrev pub bind_part : (ℕ → ℕ) → Reader (Tree APart)
 bind_part stamp w = bind false stamp w >>= made BindPart
 
 abbrev pub def_part : (ℕ → ℕ) → Reader (Tree APart)
-def_part stamp w = def stamp w >>= made DefPart
+def_part stamp w = as_def (def stamp w)
 
 abbrev pub call_part : (ℕ → ℕ) → ℕ → Reader (Tree APart)
-call_part stamp levels w = call stamp (full_by levels stamp) w >>= made CallPart
+call_part stamp levels w = as_call (call stamp (full_by levels stamp) w)
 
 abbrev pub if_part : (ℕ → ℕ) → ℕ → Reader (Tree APart)
-if_part stamp levels w = choice stamp (full_by levels stamp) w >>= made IfPart
+if_part stamp levels w = as_if (choice stamp (full_by levels stamp) w)
+
+-- the statement of a part that was read, with the ";" that may stand behind it
+abbrev pub as_stmt : Read (Tree APart) → Read (Tree AStmt)
+as_stmt read = read >>= λ x. perhaps is_semicolon x.1 >>= made (Stmt x.0)
+
+-- a statement that is a binding, and the same behind the name
+abbrev pub bind_stmt : (ℕ → ℕ) → Reader (Tree AStmt)
+bind_stmt stamp w = as_stmt (bind_part stamp w)
+
+abbrev pub bind_stmt_of : (ℕ → ℕ) → ℕ → List ℕ → Reader (Tree AStmt)
+bind_stmt_of stamp at name w = as_stmt (bind_of false stamp at name w >>= made BindPart)
+
+-- trees, and behind them one that was read
+abbrev pub pushed : {s : Sort} → List (Tree s) → Read (Tree s) → Read (List (Tree s))
+pushed before read = read >>= made (λ x. before ++ x ∷ [])

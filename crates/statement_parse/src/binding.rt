@@ -1,6 +1,6 @@
-// Bindings, each function reading as `script_grammar`'s reading functions do; the production that it reads stands at
+// Bindings in the body of a def, each function reading as `script_grammar`'s reading functions do; the production that it reads stands at
 // its head, in the notation of `docs/grammar.md`.
-ghost use Rattle.std.specs.Prelude.{◌<◌, ◌≤◌, ◌^◌, IfOk, length, map};
+ghost use Rattle.std.specs.Prelude.{◌<◌, ◌≤◌, ◌^◌, true, IfOk, length, map};
 ghost use Rattle.std.specs.List.{All};
 ghost use Rattle.script_grammar.specs.Read.{many};
 ghost use Rattle.statement_parse.specs.Reads.{bind_of};
@@ -18,25 +18,6 @@ use script_grammar::tree::{Bind, Inner};
 use script_lex::Token;
 use std::alloc::Global;
 use value_parse::value;
-
-/// binding: Name `=` value. Where it is loose, a `(` may stand behind it.
-#[tactic(auto, using(crate::proofs::Arms::bind_is))]
-pub fn bind(
-    alloc: Global,
-    total: usize,
-    loose: bool,
-    tokens: &[Token],
-) -> Result<(Bind, &[Token]), Fault>
-    requires within { length tokens.now ≤ total }
-    requires small { total < 2 ^ 32 }
-    ensures shorter { IfOk result (λ x. length x.1.now < length tokens.now) }
-    ensures gives { Gives (λ x. (view_bind x.0, kinds x.1.now)) result (bind loose (places total) (kinds tokens.now)) }
-    ensures whole { IfOk result (λ x. IsWholeBind x.0) }
-{
-    let at = place(total, tokens);
-    let (name, after) = name(tokens)?;
-    bind_of(alloc, total, loose, at, name, after)
-}
 
 /// inner*
 pub fn inners(
@@ -60,27 +41,6 @@ pub fn inners(
     Ok((items, rest))
 }
 
-// `=` value, behind the name.
-fn bind_of<'a>(
-    alloc: Global,
-    total: usize,
-    loose: bool,
-    at: u32,
-    name: &Text,
-    tokens: &'a [Token],
-) -> Result<(Bind, &'a [Token]), Fault>
-    requires within { length tokens.now ≤ total }
-    requires small { total < 2 ^ 32 }
-    ensures shorter { IfOk result (λ x. length x.1.now < length tokens.now) }
-    ensures gives { Gives (λ x. (view_bind x.0, kinds x.1.now)) result (bind_of loose (places total) at name.now (kinds tokens.now)) }
-    ensures whole { IfOk result (λ x. IsWholeBind x.0) }
-{
-    let name = name.copy(alloc)?;
-    let (_assign, rest) = token::expect(tokens, Class::Assign)?;
-    let (value, rest) = value(alloc, total, loose, rest)?;
-    Ok((Bind { at, name, value }, rest))
-}
-
 // inner: binding `;`?
 #[tactic(auto, unfolding(script_grammar::specs::ReadScript::inner))]
 fn inner(alloc: Global, total: usize, tokens: &[Token]) -> Result<(Inner, &[Token]), Fault>
@@ -90,7 +50,41 @@ fn inner(alloc: Global, total: usize, tokens: &[Token]) -> Result<(Inner, &[Toke
     ensures gives { Gives (λ x. (view_inner x.0, kinds x.1.now)) result (inner (places total) (kinds tokens.now)) }
     ensures whole { IfOk result (λ x. IsWholeInner x.0) }
 {
-    let (bind, rest) = bind(alloc, total, true, tokens)?;
+    let (bind, rest) = bind(alloc, total, tokens)?;
     let (semicolon, rest) = token::perhaps(rest, Class::Semicolon);
     Ok((Inner { bind, semicolon }, rest))
+}
+
+// binding: Name `=` value. A `(` may stand behind it.
+#[tactic(auto, using(crate::proofs::Arms::bind_is))]
+fn bind(alloc: Global, total: usize, tokens: &[Token]) -> Result<(Bind, &[Token]), Fault>
+    requires within { length tokens.now ≤ total }
+    requires small { total < 2 ^ 32 }
+    ensures shorter { IfOk result (λ x. length x.1.now < length tokens.now) }
+    ensures gives { Gives (λ x. (view_bind x.0, kinds x.1.now)) result (bind true (places total) (kinds tokens.now)) }
+    ensures whole { IfOk result (λ x. IsWholeBind x.0) }
+{
+    let at = place(total, tokens);
+    let (name, after) = name(tokens)?;
+    bind_of(alloc, total, at, name, after)
+}
+
+// `=` value, behind the name.
+fn bind_of<'a>(
+    alloc: Global,
+    total: usize,
+    at: u32,
+    name: &Text,
+    tokens: &'a [Token],
+) -> Result<(Bind, &'a [Token]), Fault>
+    requires within { length tokens.now ≤ total }
+    requires small { total < 2 ^ 32 }
+    ensures shorter { IfOk result (λ x. length x.1.now < length tokens.now) }
+    ensures gives { Gives (λ x. (view_bind x.0, kinds x.1.now)) result (bind_of true (places total) at name.now (kinds tokens.now)) }
+    ensures whole { IfOk result (λ x. IsWholeBind x.0) }
+{
+    let name = name.copy(alloc)?;
+    let (_assign, rest) = token::expect(tokens, Class::Assign)?;
+    let (value, rest) = value(alloc, total, true, rest)?;
+    Ok((Bind { at, name, value }, rest))
 }
