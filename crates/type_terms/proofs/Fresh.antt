@@ -118,7 +118,7 @@ number_within (v ∷ vs) zero e = omega arith
 number_within (v ∷ vs) (suc k) e = let h = number_within vs k e in omega arith
 
 -- the number of the new variable, or an old one
-number_cases : (vs : List Variable) (n : Bool) (k : ℕ) → number_at (vs ++ (record { number = n; bound = None } ∷ [])) k ≡ true → ((k ≡ length vs) × (n ≡ true)) ⊎ (k < length vs)
+pub number_cases : (vs : List Variable) (n : Bool) (k : ℕ) → number_at (vs ++ (record { number = n; bound = None } ∷ [])) k ≡ true → ((k ≡ length vs) × (n ≡ true)) ⊎ (k < length vs)
 number_cases [] n zero e = inl (refl, e)
 number_cases [] n (suc k) e = absurd (let f : ◌≡◌ {A = Bool} false true = e in cc)
 number_cases (v ∷ vs) n zero e = inr (omega arith)

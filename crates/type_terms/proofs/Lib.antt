@@ -4,6 +4,7 @@ pub mod Basics
 pub mod Bindings
 pub mod Defaults
 pub mod Fresh
+pub mod FreshBound
 pub mod KindLemmas
 pub mod Lookups
 pub mod Narrowed

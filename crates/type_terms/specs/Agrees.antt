@@ -1,7 +1,8 @@
 -- Assignments that agree on a substitution's variables, and how a later substitution stands to an earlier one.
-use Rattle.std.specs.Prelude.{◌≡◌, ℕ, ◌<◌, ◌≤◌, length}
+use Rattle.std.specs.Prelude.{◌≡◌, ◌↔◌, ℕ, ◌<◌, ◌≤◌, length}
 use Rattle.type_terms.specs.Ground.{Assignment, Ground, IsNumber}
 use Rattle.type_terms.specs.Table.{Table, Solves, number_at}
+use Rattle.type_terms.specs.Term.{Term, meaning}
 use Rattle.liq_base.specs.declared.memory.Kind.{Kind}
 
 pub record Agrees (s : Table) (a b : Assignment) : Type 0 where
@@ -20,6 +21,13 @@ pub record HasNewType (s s' : Table) (number : Type 0) (n : ℕ) : Type 0 where
   pub follows : Follows s s'
   pub is_number : number → (a : Assignment) → Solves a s' → IsNumber (a.type_of n)
   pub each : (a : Assignment) → Solves a s → (g : Ground) → (number → IsNumber g) → (b : Assignment) × Solves b s' × Agrees s a b × (b.type_of n ≡ g)
+
+-- with a new type variable, which is bound to t
+pub record HasBoundType (s s' : Table) (n : ℕ) (t : Term) : Type 0 where
+  pub inside : n < length s'.types
+  pub follows : Follows s s'
+  pub exactly : (a : Assignment) → Solves a s' ↔ (Solves a s × (a.type_of n ≡ meaning a t))
+  pub each : (a : Assignment) → Solves a s → (b : Assignment) × Solves b s' × Agrees s a b
 
 -- with a new kind variable, which may be either kind
 pub record HasNewKind (s s' : Table) (n : ℕ) : Type 0 where

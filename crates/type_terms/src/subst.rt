@@ -1,7 +1,7 @@
 // Substitutions, and the most general unifier over one.
-ghost use Rattle.std.specs.Prelude.{◌≡◌, ◌≢◌, ◌+◌, ◌<◌, ◌↔◌, ◌++◌, ℕ, None, Some, List, [], ◌∷◌, length, true, option_map, option_copied, IfOk, OnOk, OnErr, IsTrue, IsNone, IfSome};
+ghost use Rattle.std.specs.Prelude.{◌≡◌, ◌≢◌, ◌+◌, ◌<◌, ◌↔◌, ◌++◌, ℕ, None, Some, List, [], ◌∷◌, length, true, false, option_map, option_copied, IfOk, OnOk, OnErr, IsTrue, IsNone, IfSome};
 ghost use Rattle.std.specs.Bool.{OnTrue, OnFalse};
-ghost use Rattle.type_terms.specs.Agrees.{HasNewKind, HasNewType, SameVariables};
+ghost use Rattle.type_terms.specs.Agrees.{HasBoundType, HasNewKind, HasNewType, SameVariables};
 ghost use Rattle.type_terms.specs.Extends.{Extends, HasDefaults};
 ghost use Rattle.type_terms.specs.Ground.{Assignment, IsNumber};
 ghost use Rattle.type_terms.specs.Resolved.{IsUnbound};
@@ -9,8 +9,8 @@ ghost use Rattle.type_terms.specs.Table.{table, IsOver, Solves, bound_at, kind_a
 ghost use Rattle.type_terms.specs.Term.{meaning, term_of, variable};
 ghost use Rattle.type_terms.specs.declared.ty.KindTerm.TheVariants.{Var};
 
-use crate::naming::MOST_LEVELS;
-use crate::occurs::are_among;
+use crate::naming::{MOST_LEVELS, copy};
+use crate::occurs::{are_among, mark};
 use crate::resolving::{MOST_NODES, settle};
 use crate::ty::{KindTerm, Ty};
 use crate::type_variable::TypeVariable;
@@ -70,6 +70,25 @@ impl Subst {
         self.nested.push(false)?;
         self.types.push(TypeVariable::new(number))?;
         Ok(Ty::Var(next))
+    }
+
+    /// A new type variable that is bound to a copy of the type, and is no number variable. Its number is how many there were.
+    ///
+    /// The new variable cannot stand in a type over the older ones, so it is bound without a search.
+    /// Where memory runs out nothing changes. A type of more than a thousand levels is given up as if it had.
+    pub fn fresh_bound(&mut self, alloc: Global, ty: &Ty) -> Result<u64, Memory>
+        requires over { IsOver self.old (term_of ty.now) }
+        ensures next { IfOk result (λ n. n ≡ length self.old.types) }
+        ensures grown { OnOk result (self.new ≡ table (self.old.types ++ record { number = false; bound = Some (term_of ty.now) } ∷ []) self.old.kinds) }
+        ensures bound { IfOk result (λ n. HasBoundType self.old self.new n (term_of ty.now)) }
+        ensures err { OnErr result (self.new ≡ self.old) }
+    {
+        let next = self.types.len() as u64;
+        self.nested.push(false)?;
+        let bound = copy(alloc, ty)?;
+        mark(&mut self.nested, &bound);
+        self.types.push(TypeVariable::bound_to(bound))?;
+        Ok(next)
     }
 
     /// A new kind variable that is bound to nothing. Its number is how many there were.

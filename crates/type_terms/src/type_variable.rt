@@ -1,5 +1,5 @@
 // A type variable of a substitution.
-ghost use Rattle.std.specs.Prelude.{◌≡◌, option_map, option_copied};
+ghost use Rattle.std.specs.Prelude.{◌≡◌, false, option_map, option_copied};
 ghost use Rattle.type_terms.specs.Term.{term_of};
 
 use crate::ty::Ty;
@@ -33,6 +33,16 @@ impl TypeVariable {
         TypeVariable {
             number,
             bound: None,
+        }
+    }
+
+    /// A variable that is bound to the type, and is no number variable.
+    pub fn bound_to(ty: Ty) -> TypeVariable
+        ensures { result ≡ record { number = false; bound = Some (term_of ty) } }
+    {
+        TypeVariable {
+            number: false,
+            bound: Some(ty),
         }
     }
 
