@@ -1,5 +1,6 @@
 pub mod Searches
 pub mod Matching
+pub mod Filling
 pub mod Newest
 pub mod Rows
 pub mod Bindings

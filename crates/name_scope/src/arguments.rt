@@ -1,9 +1,10 @@
 // Which parameter takes which argument.
-ghost use Rattle.std.specs.Prelude.{◌≡◌, map, is_some, IfOk};
+ghost use Rattle.std.specs.Prelude.{◌≡◌, [], None, true, map, is_some, IfOk};
 ghost use Rattle.std.specs.Str.{bytes_eq};
 ghost use Rattle.script_grammar.specs.View.{listed, view_arg, view_param};
 ghost use Rattle.typing_rules.specs.Arguments.{argument, first_missing, is_label as the_same_label, is_needed as is_wanted, label_of as the_label_of, left_over, others as the_others, parameters_of};
 ghost use Rattle.typing_rules.specs.Scoping.{tokens_given};
+ghost use Rattle.name_scope.specs.InPlace.{has_label as has_a_label, left_behind as the_left_behind, left_by as the_left_by};
 ghost use Rattle.name_scope.specs.Noted.{missing_with};
 ghost use Rattle.name_scope.specs.Seen.{form_seen, seen_given, seen_label, seen_parameter};
 
@@ -87,6 +88,21 @@ pub(crate) fn is_same_name(name: &str, other: &str) -> bool
     name.len() == other.len() && name == other
 }
 
+/// Whether no argument has a label, and there is just one for each parameter that is given in its place, and none must be
+/// given by its label: then no argument is missing, and none is left over.
+pub(crate) fn are_filled(params: &[Parameter<'_>], args: &[Arg]) -> bool
+    ensures missing { result ≡ true → first_missing (map seen_parameter params.now) (tokens_given (listed (map view_arg args.now))) ≡ None }
+    ensures left { result ≡ true → left_over (map seen_parameter params.now) (tokens_given (listed (map view_arg args.now))) ≡ [] }
+{
+    if has_label(args) {
+        return false;
+    }
+    match left_behind(params, args.len()) {
+        Some(left) => left == 0,
+        None => false,
+    }
+}
+
 /// Takes out each argument that a parameter takes, and answers the first parameter that must have one and finds none.
 pub(crate) fn match_arguments<'a>(
     params: &[Parameter<'a>],
@@ -112,6 +128,49 @@ fn form_of(form: &ParamForm) -> Form
         ParamForm::Labelled => Form::ByLabel,
         ParamForm::Optional(_) => Form::Perhaps,
     }
+}
+
+/// Whether an argument has a label.
+fn has_label(args: &[Arg]) -> bool
+    ensures same { result ≡ has_a_label (tokens_given (listed (map view_arg args.now))) }
+{
+    for arg in args {
+        if arg.label.is_some() {
+            return true;
+        }
+    }
+    false
+}
+
+/// How many of so many arguments without labels are left behind these parameters, if none of them needs another one.
+fn left_behind(params: &[Parameter<'_>], count: usize) -> Option<usize>
+    ensures same { result ≡ the_left_behind (map seen_parameter params.now) (Some count) }
+{
+    let mut left = Some(count);
+    for param in params {
+        left = left_by(param.form, left);
+    }
+    left
+}
+
+/// The same behind one parameter of this form.
+fn left_by(form: Form, count: Option<usize>) -> Option<usize>
+    ensures same { result ≡ the_left_by form count }
+{
+    let count = count?;
+    match form {
+        Form::InPlace => one_less(count),
+        Form::ByLabel => None,
+        Form::Perhaps => Some(count),
+    }
+}
+
+/// One less, or none where there is none.
+#[tactic(auto, using(crate::proofs::Filling::nothing_before))]
+fn one_less(count: usize) -> Option<usize>
+    ensures same { result ≡ the_left_by Form.InPlace (Some count) }
+{
+    if count == 0 { None } else { Some(count - 1) }
 }
 
 /// Takes out the first argument with this label, or the first without one, and answers whether there is any.

@@ -7,7 +7,7 @@ ghost use Rattle.typing_rules.specs.declared.fault.NameFault.TheVariants.{Extra}
 ghost use Rattle.name_scope.specs.Seen.{both_scopes, seen_label, seen_parameter};
 ghost use Rattle.name_scope.specs.Noted.{all_sooner, mismatches, noted, sooner, with_name};
 
-use crate::arguments::{given_arguments, is_same_name, match_arguments};
+use crate::arguments::{are_filled, given_arguments, is_same_name, match_arguments};
 use crate::builtins::{builtin_named, builtin_params};
 use crate::parameter::{Given, Parameter};
 use crate::scope::{Bound, Scopes};
@@ -121,6 +121,9 @@ impl Notes {
         ensures fault { OnOk result (self.new.fault ≡ all_sooner self.old.fault (mismatches at (map seen_parameter params.now) (tokens_given (listed (map view_arg args.now))))) }
         ensures found { OnOk result (self.new.found ≡ self.old.found) }
     {
+        if are_filled(params, args) {
+            return Ok(());
+        }
         let mut given = given_arguments(alloc, args)?;
         let missing = match_arguments(params, &mut given);
         self.add_missing(alloc, at, missing)?;
