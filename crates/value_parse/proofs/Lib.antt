@@ -7,3 +7,4 @@ pub mod LoneTree
 pub mod Both
 pub mod Tuples
 pub mod Kept
+pub mod Pushed

@@ -1,11 +1,14 @@
 -- What the functions of the descent read, where no definition of the grammar has a name for it.
-use Rattle.std.specs.Prelude.{◌≡◌, ℕ, List, ◌∷◌, length, Bool, true, false, Option, Some, None, Result, Ok, Err}
+use Rattle.std.specs.Prelude.{◌≡◌, ℕ, List, [], ◌∷◌, ◌++◌, length, Bool, true, false, Option, Some, None, Result, Ok, Err}
+use Rattle.std.specs.Borrow.{Bor}
+use Rattle.script_lex.specs.declared.token.Token.{Token}
 use Rattle.script_lex.specs.declared.token.TokenKind.{TokenKind}
 use Rattle.script_lex.specs.declared.token.TokenKind.TheVariants.{Name, NameOpen, Keyword, Symbol}
 use Rattle.script_lex.specs.declared.token.Keyword.TheVariants as word
 use Rattle.script_lex.specs.declared.token.Symbol.TheVariants as sign
 use Rattle.parse_base.specs.declared.fault.Fault.{Fault}
 use Rattle.parse_base.specs.declared.fault.Fault.TheVariants as faults
+use Rattle.parse_base.specs.Gives.{kinds, Fails}
 use Rattle.script_grammar.specs.Tree.{Sort, Tree, Many, none, more, AFull, AnExpr, ANot, ACompare, APrim, ACall, AnArg, AnIf, Plain, Expr, And, Not, Alone, Sum, Product, Braces, Listed, Call, Arg, If}
 use Rattle.script_grammar.specs.Read.{Read, Reader, ◌>>=◌, made, both, expect, chain}
 use Rattle.script_grammar.specs.Kinds.{is_close_curly, is_then, is_else, is_end}
@@ -47,6 +50,11 @@ as_call at name read = read >>= made (Call at name)
 abbrev pub IsFaultOf : {X : Type 0} → Result X Fault → Fault → Type 0
 IsFaultOf read faults.Memory = Unit {0}
 IsFaultOf read (faults.Syntax left) = read ≡ Err (faults.Syntax left)
+
+-- one item more stands in the list, which is what reading gives; and a fault is the one of reading
+abbrev pub Pushes : {X Y : Type 0} → (X → Y) → List X → List X → Result (Bor (List Token)) Fault → Read Y → Type 0
+Pushes {X = X} view old new (Ok rest) read = (x : X) × (new ≡ old ++ x ∷ []) × (read ≡ Ok (view x, kinds rest.now))
+Pushes view old new (Err e) read = Fails e read
 
 -- the parts of an `if` behind its condition: what is read, and what is made of its values
 abbrev pub otherwise : Reader (Tree AFull) → Reader (Unit {0} × (Tree AFull × Unit {0}))

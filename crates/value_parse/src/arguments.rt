@@ -3,14 +3,13 @@ ghost use Rattle.std.specs.Prelude.{◌≡◌, ◌<◌, ◌≤◌, ◌^◌, [], 
 ghost use Rattle.std.specs.List.{All};
 ghost use Rattle.script_grammar.specs.Kinds.{is_comma};
 ghost use Rattle.script_grammar.specs.Read.{Read, behind};
-ghost use Rattle.script_grammar.specs.Tree.{Tree, Many, AFull, AnArg};
+ghost use Rattle.script_grammar.specs.Tree.{Tree, Many, AFull, AnArg, Arg as an_argument};
 ghost use Rattle.script_grammar.specs.ReadValue.{full_by, call, args, arg};
 ghost use Rattle.script_grammar.specs.View.{listed, view_full, view_call, view_arg};
 ghost use Rattle.script_grammar.specs.Whole.{IsWholeFull, IsWholeCall, IsWholeArg};
 ghost use Rattle.parse_base.specs.Gives.{kinds, Gives, places};
-ghost use Rattle.value_parse.specs.Operand.{as_call, chained, labelled, as_argument};
+ghost use Rattle.value_parse.specs.Operand.{as_call, chained, labelled, as_argument, Pushes};
 
-use crate::items::keep;
 use crate::number::argument_label;
 use crate::values::full;
 use liq_base::Text;
@@ -119,9 +118,9 @@ fn some_args<'a>(
     ensures gives { Gives (λ rest. (listed (map view_arg items.new.items), kinds rest.now)) result (chained is_comma (arg (places total) (full_by levels (places total))) (kinds tokens.now)) }
     ensures whole { IfOk result (λ _. All IsWholeArg items.new.items) }
 {
-    let mut rest = keep(items, arg(alloc, total, levels, tokens))?;
+    let mut rest = arg(alloc, total, levels, items, tokens)?;
     'turns: while token::next_is(rest, Class::Comma) {
-        rest = keep(items, comma_arg(alloc, total, levels, rest))?;
+        rest = comma_arg(alloc, total, levels, items, rest)?;
     }
     Ok(rest)
 }
@@ -129,72 +128,87 @@ fn some_args<'a>(
 // `,` argument
 #[cycle(value)]
 #[tactic(auto, unfolding(script_grammar::specs::Read::behind))]
-fn comma_arg(
+fn comma_arg<'a>(
     alloc: Global,
     total: usize,
     levels: usize,
-    tokens: &[Token],
-) -> Result<(Arg, &[Token]), Fault>
+    items: &mut Vec<Arg>,
+    tokens: &'a [Token],
+) -> Result<&'a [Token], Fault>
     requires within { length tokens.now ≤ total }
     requires small { total < 2 ^ 32 }
-    ensures shorter { IfOk result (λ x. length x.1.now < length tokens.now) }
-    ensures gives { Gives (λ x. (view_arg x.0, kinds x.1.now)) result (behind is_comma (arg (places total) (full_by levels (places total))) (kinds tokens.now)) }
-    ensures whole { IfOk result (λ x. IsWholeArg x.0) }
+    ensures shorter { IfOk result (λ rest. length rest.now < length tokens.now) }
+    ensures gives { Pushes view_arg items.old.items items.new.items result (behind is_comma (arg (places total) (full_by levels (places total))) (kinds tokens.now)) }
+    ensures whole { IfOk result (λ _. All IsWholeArg items.old.items → All IsWholeArg items.new.items) }
 {
     let ((), rest) = token::expect(tokens, Class::Comma)?;
-    arg(alloc, total, levels, rest)
+    arg(alloc, total, levels, items, rest)
 }
 
 // argument: value | Name `=` value
+//
+// It is pushed.
 #[cycle(value)]
 #[tactic(auto, using(crate::proofs::Labels::arg_labelled))]
-fn arg(
+fn arg<'a>(
     alloc: Global,
     total: usize,
     levels: usize,
-    tokens: &[Token],
-) -> Result<(Arg, &[Token]), Fault>
+    items: &mut Vec<Arg>,
+    tokens: &'a [Token],
+) -> Result<&'a [Token], Fault>
     requires within { length tokens.now ≤ total }
     requires small { total < 2 ^ 32 }
-    ensures shorter { IfOk result (λ x. length x.1.now < length tokens.now) }
-    ensures gives { Gives (λ x. (view_arg x.0, kinds x.1.now)) result (arg (places total) (full_by levels (places total)) (kinds tokens.now)) }
-    ensures whole { IfOk result (λ x. IsWholeArg x.0) }
+    ensures shorter { IfOk result (λ rest. length rest.now < length tokens.now) }
+    ensures gives { Pushes view_arg items.old.items items.new.items result (arg (places total) (full_by levels (places total)) (kinds tokens.now)) }
+    ensures whole { IfOk result (λ _. All IsWholeArg items.old.items → All IsWholeArg items.new.items) }
 {
     let at = place(total, tokens);
     let (label, rest) = argument_label(alloc, tokens)?;
-    labelled(alloc, total, levels, at, label, rest)
+    labelled(alloc, total, levels, at, label, items, rest)
 }
 
 // value, behind the label of an argument or without one.
 #[cycle(value)]
-fn labelled(
+fn labelled<'a>(
     alloc: Global,
     total: usize,
     levels: usize,
     at: u32,
     label: Option<Text>,
-    tokens: &[Token],
-) -> Result<(Arg, &[Token]), Fault>
+    items: &mut Vec<Arg>,
+    tokens: &'a [Token],
+) -> Result<&'a [Token], Fault>
     requires within { length tokens.now ≤ total }
     requires small { total < 2 ^ 32 }
-    ensures shorter { IfOk result (λ x. length x.1.now < length tokens.now) }
-    ensures gives { Gives (λ x. (view_arg x.0, kinds x.1.now)) result (labelled at label (full_by levels (places total)) (kinds tokens.now)) }
-    ensures whole { IfOk result (λ x. IsWholeArg x.0) }
+    ensures shorter { IfOk result (λ rest. length rest.now < length tokens.now) }
+    ensures gives { Pushes view_arg items.old.items items.new.items result (labelled at label (full_by levels (places total)) (kinds tokens.now)) }
+    ensures whole { IfOk result (λ _. All IsWholeArg items.old.items → All IsWholeArg items.new.items) }
 {
-    arg_of(at, label, full(alloc, total, levels, tokens))
+    push_arg(at, label, items, full(alloc, total, levels, tokens))
 }
 
 // The same, once the value is read.
 #[inline(never)]
-fn arg_of<'a>(
+fn push_arg<'a>(
     at: u32,
     label: Option<Text>,
+    items: &mut Vec<Arg>,
     read: Result<(Full, &'a [Token]), Fault>,
-) -> Result<(Arg, &'a [Token]), Fault>
-    ensures shorter { (n : ℕ) → IfOk read.entry (λ x. length x.1.now < n) → IfOk result (λ x. length x.1.now < n) }
-    ensures gives { (r : Read (Tree AFull)) → Gives (λ x. (view_full x.0, kinds x.1.now)) read.entry r → Gives (λ x. (view_arg x.0, kinds x.1.now)) result (as_argument at label r) }
-    ensures whole { IfOk read.entry (λ x. IsWholeFull x.0) → IfOk result (λ x. IsWholeArg x.0) }
+) -> Result<&'a [Token], Fault>
+    ensures shorter { (n : ℕ) → IfOk read.entry (λ x. length x.1.now < n) → IfOk result (λ rest. length rest.now < n) }
+    ensures gives { (r : Read (Tree AFull)) → Gives (λ x. (view_full x.0, kinds x.1.now)) read.entry r → Pushes view_arg items.old.items items.new.items result (as_argument at label r) }
+    ensures whole { IfOk read.entry (λ x. IsWholeFull x.0) → IfOk result (λ _. All IsWholeArg items.old.items → All IsWholeArg items.new.items) }
 {
     let (value, rest) = read?;
-    Ok((Arg { at, label, value }, rest))
+    items.push(argument(at, label, value))?;
+    Ok(rest)
+}
+
+// An argument of its parts.
+fn argument(at: u32, label: Option<Text>, value: Full) -> Arg
+    ensures made { view_arg result ≡ an_argument at label (view_full value) }
+    ensures whole { IsWholeFull value → IsWholeArg result }
+{
+    Arg { at, label, value }
 }

@@ -17,9 +17,10 @@ use Rattle.script_grammar.specs.Whole.{IsWholeFull, IsWholeAnd, IsWholeNot, IsWh
 use Rattle.parse_base.specs.Gives.{places}
 use Rattle.parse_base.proofs.Turns.{begins, ends}
 use Rattle.parse_base.specs.Classes.{is_in}
-use Rattle.value_parse.proofs.Chained.{chain_ends, closed_none, closed_goes, closed_fails, closing_fails}
+use Rattle.value_parse.proofs.Chained.{chain_ends, chain_fails_first, chain_fails, closed_none, closed_goes, closed_fails, closing_fails}
 use Rattle.value_parse.proofs.Kept.{keeps_first, keeps_more, keeps_turn, loses_first, loses_more, loses_turn}
 use Rattle.value_parse.proofs.Lone.{lone_goes, operand_fails}
+use Rattle.value_parse.proofs.Pushed.{pushes_first, pushes_more}
 use Rattle.value_parse.proofs.+value.Goals as goal
 
 pub logic::ands-turns-init : goal.logic::ands-turns-init
@@ -136,10 +137,10 @@ pub operands::fulls-returns-clause-gives : goal.operands::fulls-returns-clause-g
 operands::fulls-returns-clause-gives t c = closed_goes view_full is_comma (is_in c.args.close) (full_by c.args.levels (places c.args.total)) (kinds c.args.tokens.now) (kinds c.perhaps-is_closed.result.1.now) c.perhaps-is_closed.result.0 c.perhaps-is_closed.ensures.gives c.some_fulls.new.parts.items (kinds c.in_ok-rest.rest.now) (kinds c.in_ok-rest-2.rest.now) c.if-is_closed.false c.in_ok-rest.ensures.gives c.in_ok-rest-2.ensures.gives
 
 pub arguments::some_args-turns-init : goal.arguments::some_args-turns-init
-arguments::some_args-turns-init t c = keeps_first view_arg IsWholeArg is_comma (arg (places c.args.total) (full_by c.args.levels (places c.args.total))) c.args.tokens.now c.arg.result c.in_ok-rest.rest.now c.args.items.now.items c.keep.new.items.items c.arg.ensures.gives c.arg.ensures.shorter c.arg.ensures.whole c.in_ok-rest.ensures.kept c.requires.empty
+arguments::some_args-turns-init t c = pushes_first view_arg IsWholeArg is_comma (arg (places c.args.total) (full_by c.args.levels (places c.args.total))) c.args.tokens.now c.in_ok-rest.rest.now c.args.items.now.items c.arg.new.items.items c.in_ok-rest.ensures.gives c.in_ok-rest.ensures.shorter c.in_ok-rest.ensures.whole c.requires.empty
 
 pub arguments::some_args-turns-preserved : goal.arguments::some_args-turns-preserved
-arguments::some_args-turns-preserved t c = keeps_more view_arg IsWholeArg is_comma (arg (places c.args.total) (full_by c.args.levels (places c.args.total))) c.args.tokens.now c.turns.rest.now c.comma_arg.result c.in_ok-rest-2.rest.now c.turns.items.items c.keep-in-turns.new.items.items c.turns.invariant (sym c.next_is.ensures ∙ c.turns-test.true) c.comma_arg.ensures.gives c.comma_arg.ensures.shorter c.comma_arg.ensures.whole c.in_ok-rest-2.ensures.kept
+arguments::some_args-turns-preserved t c = pushes_more view_arg IsWholeArg is_comma (arg (places c.args.total) (full_by c.args.levels (places c.args.total))) c.args.tokens.now c.turns.rest.now c.in_ok-rest-2.rest.now c.turns.items.items c.comma_arg.new.items.items c.turns.invariant (sym c.next_is.ensures ∙ c.turns-test.true) c.in_ok-rest-2.ensures.gives c.in_ok-rest-2.ensures.shorter c.in_ok-rest-2.ensures.whole
 
 pub arguments::some_args-returns-clause-gives : goal.arguments::some_args-returns-clause-gives
 arguments::some_args-returns-clause-gives t c = chain_ends c.turns.invariant.1 (sym c.next_is.ensures ∙ c.turns-test.false)
@@ -147,12 +148,21 @@ arguments::some_args-returns-clause-gives t c = chain_ends c.turns.invariant.1 (
 pub arguments::some_args-returns-in_err-rest-clause-gives : goal.arguments::some_args-returns-in_err-rest-clause-gives
 arguments::some_args-returns-in_err-rest-clause-gives t c =
     let p = err_from_is_err_and c.from_residual.result c.from_residual.ensures.1 in
-    rw (p.1, p.2) (loses_first view_arg is_comma (arg (places c.args.total) (full_by c.args.levels (places c.args.total))) c.args.tokens.now c.arg.result c.in_err-rest.field-0.0 c.in_err-rest.ensures.fault c.arg.ensures.gives)
+    rw (p.1, p.2) (chain_fails_first is_comma (arg (places c.args.total) (full_by c.args.levels (places c.args.total))) (kinds c.args.tokens.now) c.in_err-rest.field-0.0 c.in_err-rest.ensures.gives)
 
 pub arguments::some_args-returns-in_err-rest-2-clause-gives : goal.arguments::some_args-returns-in_err-rest-2-clause-gives
 arguments::some_args-returns-in_err-rest-2-clause-gives t c =
     let p = err_from_is_err_and c.from_residual-in_err-rest-2.result c.from_residual-in_err-rest-2.ensures.1 in
-    rw (p.1, p.2) (loses_more view_arg is_comma (arg (places c.args.total) (full_by c.args.levels (places c.args.total))) c.args.tokens.now c.turns.rest.now c.comma_arg.result c.turns.items.items c.in_err-rest-2.field-0.0 c.turns.invariant.1 (sym c.next_is.ensures ∙ c.turns-test.true) c.in_err-rest-2.ensures.fault c.comma_arg.ensures.gives)
+    rw (p.1, p.2) (chain_fails c.turns.invariant.1 c.in_err-rest-2.field-0.0 (sym c.next_is.ensures ∙ c.turns-test.true) c.in_err-rest-2.ensures.gives)
+
+pub arguments::labelled-returns-clause-shorter : goal.arguments::labelled-returns-clause-shorter
+arguments::labelled-returns-clause-shorter t c = c.push_arg.ensures.shorter (length c.args.tokens.now) c.full.ensures.shorter
+
+pub arguments::labelled-returns-clause-gives : goal.arguments::labelled-returns-clause-gives
+arguments::labelled-returns-clause-gives t c = c.push_arg.ensures.gives (full_by c.args.levels (places c.args.total) (kinds c.args.tokens.now)) c.full.ensures.gives
+
+pub arguments::labelled-returns-clause-whole : goal.arguments::labelled-returns-clause-whole
+arguments::labelled-returns-clause-whole t c = c.push_arg.ensures.whole c.full.ensures.whole
 
 pub arguments::args-returns-then-is_closed-clause-gives : goal.arguments::args-returns-then-is_closed-clause-gives
 unfolding args
