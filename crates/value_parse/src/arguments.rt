@@ -200,8 +200,9 @@ fn push_arg<'a>(
     ensures gives { (r : Read (Tree AFull)) → Gives (λ x. (view_full x.0, kinds x.1.now)) read.entry r → Pushes view_arg items.old.items items.new.items result (as_argument at label r) }
     ensures whole { IfOk read.entry (λ x. IsWholeFull x.0) → IfOk result (λ _. All IsWholeArg items.old.items → All IsWholeArg items.new.items) }
 {
+    items.reserve(1)?;
     let (value, rest) = read?;
-    items.push(argument(at, label, value))?;
+    items.push_reserved(argument(at, label, value));
     Ok(rest)
 }
 

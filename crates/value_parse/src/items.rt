@@ -7,6 +7,8 @@ use parse_base::Fault;
 use script_lex::Token;
 
 /// Puts the item that was read behind the others, and answers the tokens behind it.
+///
+/// Room is made before the item is taken: a push that may be refused hands its item back, and so copies it twice more.
 #[inline(never)]
 pub fn keep<'a, T: Drop>(
     items: &mut Vec<T>,
@@ -15,7 +17,8 @@ pub fn keep<'a, T: Drop>(
     ensures kept { IfOk result (λ rest. IsOkAnd read.entry (λ x. (x.1.now ≡ rest.now) × (items.new.items ≡ items.old.items ++ x.0 ∷ []))) }
     ensures fault { IfErr result (λ e. IsFaultOf read.entry e) }
 {
+    items.reserve(1)?;
     let (item, rest) = read?;
-    items.push(item)?;
+    items.push_reserved(item);
     Ok(rest)
 }
