@@ -2,28 +2,18 @@
 use Rattle.std.proofs.Common.{◌≡◌, ◌∙◌, sym, subst, refl, ℕ, ◌<◌, true, false, length, Bool}
 use Rattle.std.specs.Prelude.{IsTrue}
 use Rattle.type_terms.specs.Ground.{Assignment, IsNumber}
-use Rattle.type_terms.specs.Term.{Term, meaning, term_of, variable}
+use Rattle.type_terms.specs.Term.{Term, term_of, variable}
 use Rattle.type_terms.specs.declared.ty.Ty.{Ty}
 use Rattle.type_terms.specs.declared.ty.Ty.TheVariants as ty
 use Rattle.type_terms.proofs.Views.{term_Var, variable_injective}
-use Rattle.type_terms.specs.Table.{Table, Solves, IsOver}
-use Rattle.type_terms.specs.Agrees.{Agrees, HasNewType}
+use Rattle.type_terms.specs.Table.{Table, Solves}
+use Rattle.type_terms.specs.Agrees.{Agrees, HasBoundType, HasNewType}
 use Rattle.type_flow.specs.Flow.{Restricts, Never, Defines, IsMade}
-use Rattle.type_flow.proofs.Tables.{over_later, follows_both, agrees_both, meaning_over}
+use Rattle.type_flow.proofs.Tables.{follows_both, agrees_both}
 
-no_number : {A : Type 0} → IsTrue false → A
-no_number b = absurd (let c : ◌≡◌ {A = Bool} false true = b in cc)
-
--- a new variable that is to be a type
-pub defined : (s s1 s2 : Table) (n : ℕ) (t : Term) → IsOver s t → HasNewType s s1 (IsTrue false) n → Restricts s1 s2 (λ a. a.type_of n ≡ meaning a t) → Defines s s2 n t
-defined s s1 s2 n t o f h = record {
-  inside = over_later s1 s2 (variable n) h.follows f.inside;
-  follows = follows_both s s1 s2 f.follows h.follows;
-  sound = h.sound;
-  complete = λ a m. with_type a (f.each a m (meaning a t) no_number);
-} where
-  with_type : (a : Assignment) → ((b : Assignment) × Solves b s1 × Agrees s a b × (b.type_of n ≡ meaning a t)) → (c : Assignment) × Solves c s2 × Agrees s a c
-  with_type a r = let z = h.complete r.0 r.1 (r.3 ∙ meaning_over s a r.0 t o r.2) in (z.0, z.1, agrees_both s s1 a r.0 z.0 f.follows r.2 z.2)
+-- a new variable that is bound to a type
+pub defined : (s s' : Table) (n : ℕ) (t : Term) → HasBoundType s s' n t → Defines s s' n t
+defined s s' n t f = record { inside = f.inside; follows = f.follows; sound = λ a m. ((f.exactly a).0 m).1; complete = f.each }
 
 -- a variable that is to be the same as a new number variable
 module _ (s s1 : Table) (n m : ℕ) (o : n < length s.types) (f : HasNewType s s1 (IsTrue true) m) where

@@ -65,14 +65,8 @@ pub fn new_type(alloc: Global, subst: &mut Subst, ty: &Ty) -> Result<u64, Memory
     requires over { IsOver subst.old (term_of ty.now) }
     ensures { IfOk result (λ n. Defines subst.old subst.new n (term_of ty.now)) }
 {
-    let n = new_var(subst, false)?;
-    let yes = is_type(alloc, subst, n, ty)?;
-    if yes {
-        Ok(n)
-    } else {
-        // A new variable can be anything.
-        Err(Memory)
-    }
+    let n = subst.fresh_bound(alloc, ty)?;
+    Ok(n)
 }
 
 /// A new variable that is bound to a list of a variable.
