@@ -7,8 +7,8 @@ ghost use Rattle.value_types.specs.Tables.{newest_number, number_known};
 use crate::environment::Known;
 use liq_base::Memory;
 use std::alloc::Global;
-use token_table::TokenTable;
 use std::marker::Model;
+use token_table::TokenTable;
 
 /// What statements have bound, the newest last, and by its token the variable of the newest value.
 #[derive(Drop)]
