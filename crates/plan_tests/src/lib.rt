@@ -12,4 +12,6 @@ mod plan_core_tests;
 #[cfg(test)]
 mod time_pred_tests;
 #[cfg(test)]
+mod token_table_tests;
+#[cfg(test)]
 mod type_terms_tests;

@@ -184,6 +184,25 @@ fn lists_and_tuples_that_can_be_made_equal_and_not(rt: HostRuntime) -> Result<()
     check_rows(&rt, rt.alloc(), &rows)
 }
 
+// A new variable that is bound to the list of variable 0.
+fn bound_to_a_list(rt: &impl Abort, alloc: Global, subst: &mut Subst) -> Result<Ty, Memory> {
+    let bound = list(alloc, Ty::Var(0))?;
+    let covered = subst.covers(alloc, &bound)?;
+    assert!(rt; covered);
+    Ok(Ty::Var(subst.fresh_bound(alloc, &bound)?))
+}
+
+#[test]
+fn a_new_variable_means_what_it_is_bound_to(rt: HostRuntime) -> Result<(), Fail> {
+    let alloc = rt.alloc();
+    let mut subst = six_variables(alloc)?;
+    let top = bound_to_a_list(&rt, alloc, &mut subst)?;
+    let ints = list(alloc, Ty::Int)?;
+    let told = outcome(&rt, alloc, &mut subst, &top, &ints)?;
+    assert_eq!(rt; told.as_str(), "List(Int)");
+    Ok(())
+}
+
 fn number_of(ty: &Ty) -> u64 {
     match ty {
         Ty::Var(number) => *number,

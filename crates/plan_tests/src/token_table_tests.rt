@@ -1,0 +1,16 @@
+// What no clause says: that a table takes values where memory is ample.
+use std::test::Fail;
+use token_table::TokenTable;
+
+#[test]
+fn a_table_keeps_the_value_of_each_token(rt: HostRuntime) -> Result<(), Fail> {
+    let mut table = TokenTable::new(rt.alloc());
+    table.put(3, 'c')?;
+    table.put(1, 'a')?;
+    table.put(3, 'd')?;
+    assert_eq!(rt; table.get(1), Some('a'));
+    assert_eq!(rt; table.get(2), None);
+    assert_eq!(rt; table.get(3), Some('d'));
+    assert_eq!(rt; table.get(4), None);
+    Ok(())
+}
