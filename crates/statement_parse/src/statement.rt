@@ -20,9 +20,9 @@ use script_lex::Token;
 use std::alloc::Global;
 use value_parse::{call, choice, value};
 
-/// At first room is made for a statement to each so many tokens: most statements have as many or more. Room that is not
-/// used is never touched, and where statements are shorter the list grows as it is filled.
-const TOKENS_A_STATEMENT: usize = 4;
+/// At first room is made for a statement to each so many tokens: only a call without arguments has fewer. Room that is not
+/// used is never touched, and a list that does not suffice grows as it is filled.
+const TOKENS_A_STATEMENT: usize = 3;
 
 /// statement*, up to the end of the tokens.
 pub fn statements(
