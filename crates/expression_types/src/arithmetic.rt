@@ -40,7 +40,7 @@ pub fn type_compare(
                 if !yes {
                     return Ok(None);
                 }
-                let truth = new_type(alloc, subst, &Ty::Bool)?;
+                let truth = new_type(subst, Ty::Bool)?;
                 Ok(Some(truth))
             }
         },

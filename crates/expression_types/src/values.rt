@@ -62,29 +62,29 @@ pub fn type_prim(
             Ok(Some(n))
         }
         Operand::Str { at: _, text: _ } => {
-            let n = new_type(alloc, subst, &Ty::Text)?;
+            let n = new_type(subst, Ty::Text)?;
             Ok(Some(n))
         }
         Operand::Bool { at: _, value: _ } => {
-            let n = new_type(alloc, subst, &Ty::Bool)?;
+            let n = new_type(subst, Ty::Bool)?;
             Ok(Some(n))
         }
         Operand::Name { at, name } => type_name(alloc, subst, names, uses, *at, name),
         Operand::Call(call) => type_call(alloc, subst, names, uses, call),
         Operand::If(choice) => type_choice(alloc, subst, names, uses, choice),
         Operand::Unit { at: _ } => {
-            let n = new_type(alloc, subst, &Ty::Unit)?;
+            let n = new_type(subst, Ty::Unit)?;
             Ok(Some(n))
         }
         Operand::Paren(full) => type_full(alloc, subst, names, uses, full),
         Operand::Tuple { at, parts } => type_tuple(alloc, subst, names, uses, *at, parts),
         Operand::List { at, parts } => type_list(alloc, subst, names, uses, *at, parts),
         Operand::Braces { at: _, pred: _ } => {
-            let n = new_type(alloc, subst, &Ty::Pred)?;
+            let n = new_type(subst, Ty::Pred)?;
             Ok(Some(n))
         }
         Operand::Wav { at: _, size: _ } => {
-            let n = new_type(alloc, subst, &Ty::Format)?;
+            let n = new_type(subst, Ty::Format)?;
             Ok(Some(n))
         }
     }
@@ -232,7 +232,7 @@ fn type_tuple(
     ensures order { IfOk result (λ r. AreAddedIf names.entry (tokens_used (tuple_of at (listed (map view_full parts.now)))) (founds uses.old.items) (founds uses.new.items) r) }
 {
     if parts.len() == 0 {
-        let unit = new_type(alloc, subst, &Ty::Unit)?;
+        let unit = new_type(subst, Ty::Unit)?;
         return Ok(Some(unit));
     }
     if parts.len() == 1 {

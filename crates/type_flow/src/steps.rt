@@ -61,11 +61,11 @@ pub fn is_number(alloc: Global, subst: &mut Subst, n: u64) -> Result<bool, Memor
 }
 
 /// A new variable that is bound to a type.
-pub fn new_type(alloc: Global, subst: &mut Subst, ty: &Ty) -> Result<u64, Memory>
-    requires over { IsOver subst.old (term_of ty.now) }
-    ensures { IfOk result (λ n. Defines subst.old subst.new n (term_of ty.now)) }
+pub fn new_type(subst: &mut Subst, ty: Ty) -> Result<u64, Memory>
+    requires over { IsOver subst.old (term_of ty) }
+    ensures { IfOk result (λ n. Defines subst.old subst.new n (term_of ty)) }
 {
-    let n = subst.fresh_bound(alloc, ty)?;
+    let n = subst.fresh_bound(ty)?;
     Ok(n)
 }
 
@@ -76,7 +76,7 @@ pub fn new_list(alloc: Global, subst: &mut Subst, item: u64) -> Result<u64, Memo
 {
     let item = Box::new(alloc, var(item))?;
     let ty = Ty::List(item);
-    let n = new_type(alloc, subst, &ty)?;
+    let n = new_type(subst, ty)?;
     Ok(n)
 }
 
@@ -87,7 +87,7 @@ pub fn new_tuple(alloc: Global, subst: &mut Subst, parts: &[u64]) -> Result<u64,
 {
     let types = vars(alloc, parts)?;
     let ty = Ty::Tuple(types);
-    let n = new_type(alloc, subst, &ty)?;
+    let n = new_type(subst, ty)?;
     Ok(n)
 }
 

@@ -179,10 +179,10 @@ fn has_kind_variable(builtin: Builtin) -> bool
 fn row_kinds(alloc: Global, builtin: Builtin, kind: u64) -> Result<Vec<KindTerm>, Memory>
     ensures { IfOk result (λ ks. ks.items ≡ replicate (signature builtin).kinds (Var kind)) }
 {
-    let mut kinds = Vec::new(alloc);
     if !has_kind_variable(builtin) {
-        return Ok(kinds);
+        return Ok(Vec::new(alloc));
     }
+    let mut kinds = Vec::with_capacity(alloc, 1)?;
     kinds.push(KindTerm::Var(kind))?;
     Ok(kinds)
 }

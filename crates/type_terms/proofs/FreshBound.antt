@@ -7,7 +7,7 @@ use Rattle.type_terms.specs.Table.{table, Avoids, Binds, IsOver, IsSound, Solves
 use Rattle.type_terms.specs.Term.{Term, InTerm, meaning}
 use Rattle.type_terms.specs.Variables.{Variable}
 use Rattle.type_terms.specs.declared.ty.KindTerm.{KindTerm}
-use Rattle.type_terms.proofs.Bindings.{marked_bind, marked_more, over_marks, solves_after, solves_before, sound_bind}
+use Rattle.type_terms.proofs.Bindings.{marked_bind, over_marks, solves_after, solves_before, sound_bind}
 use Rattle.type_terms.proofs.Fresh.{bound_push, marks_push, new_type, number_cases, number_last, number_push, sound_fresh, whole_fresh}
 use Rattle.type_terms.proofs.Settling.{over_types}
 use Rattle.type_terms.proofs.Terms.{InTerm-map, meaning_same}
@@ -79,9 +79,6 @@ module _ (vs : List Variable) (ks : List (Option KindTerm)) (ms ns : List Bool) 
 
   -- marks were set
   module _ (ms' : List Bool) (l : length ms' ≡ length ns) (kept : (k : ℕ) → mark_at ns k ≡ true → mark_at ms' k ≡ true) where
-    pub whole_marked : IsWhole (table vs ks) ms'
-    whole_marked = record { sound = h.sound; marked = marked_more vs ns ms' l kept marks_before }
-
     pub whole_bound : (t : Term) → IsOver (table vs ks) t → IsMarked ms' t → IsWhole (table (with_last vs (Some t)) ks) ms'
     whole_bound t o here = record {
       sound = sound_bound vs ks t h.sound o;

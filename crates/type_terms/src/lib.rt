@@ -11,5 +11,5 @@ mod type_variable;
 mod unifier;
 
 pub use naming::{VariableNumbers, renamed, variables};
-pub use subst::{Subst, resolved, unify};
+pub use subst::{Subst, resolved, resolved_kind, unify};
 pub use ty::{Base, KindTerm, Ty};

@@ -6,10 +6,11 @@ ghost use Rattle.type_terms.specs.Extends.{Extends, HasDefaults};
 ghost use Rattle.type_terms.specs.Ground.{Assignment, IsNumber};
 ghost use Rattle.type_terms.specs.Resolved.{IsUnbound};
 ghost use Rattle.type_terms.specs.Table.{table, IsOver, Solves, bound_at, kind_at, number_at};
-ghost use Rattle.type_terms.specs.Term.{meaning, term_of, variable};
+ghost use Rattle.type_terms.specs.Term.{kind_meaning, meaning, source_term, term_of, variable};
 ghost use Rattle.type_terms.specs.declared.ty.KindTerm.TheVariants.{Var};
 
-use crate::naming::{MOST_LEVELS, copy};
+use crate::differ::resolve_kind;
+use crate::naming::MOST_LEVELS;
 use crate::occurs::{are_among, mark};
 use crate::resolving::{MOST_NODES, settle};
 use crate::ty::{KindTerm, Ty};
@@ -57,6 +58,16 @@ impl Subst {
         })
     }
 
+    /// Makes room for so many type variables and kind variables more, so that the lists of them need not grow step by step.
+    pub fn reserve(&mut self, types: usize, kinds: usize) -> Result<(), Memory>
+        ensures same { self.new ≡ self.old }
+    {
+        self.types.reserve(types)?;
+        self.nested.reserve(types)?;
+        self.kinds.reserve(kinds)?;
+        Ok(())
+    }
+
     /// A new type variable that is bound to nothing. Its number is how many there were.
     ///
     /// A number variable where `number` is true. Where memory runs out nothing changes.
@@ -72,22 +83,22 @@ impl Subst {
         Ok(Ty::Var(next))
     }
 
-    /// A new type variable that is bound to a copy of the type, and is no number variable. Its number is how many there were.
+    /// A new type variable that is bound to the type, and is no number variable. Its number is how many there were.
     ///
     /// The new variable cannot stand in a type over the older ones, so it is bound without a search.
-    /// Where memory runs out nothing changes. A type of more than a thousand levels is given up as if it had.
-    pub fn fresh_bound(&mut self, alloc: Global, ty: &Ty) -> Result<u64, Memory>
-        requires over { IsOver self.old (term_of ty.now) }
+    /// Where memory runs out nothing changes.
+    pub fn fresh_bound(&mut self, ty: Ty) -> Result<u64, Memory>
+        requires over { IsOver self.old (term_of ty) }
         ensures next { IfOk result (λ n. n ≡ length self.old.types) }
-        ensures grown { OnOk result (self.new ≡ table (self.old.types ++ record { number = false; bound = Some (term_of ty.now) } ∷ []) self.old.kinds) }
-        ensures bound { IfOk result (λ n. HasBoundType self.old self.new n (term_of ty.now)) }
+        ensures grown { OnOk result (self.new ≡ table (self.old.types ++ record { number = false; bound = Some (term_of ty) } ∷ []) self.old.kinds) }
+        ensures bound { IfOk result (λ n. HasBoundType self.old self.new n (term_of ty)) }
         ensures err { OnErr result (self.new ≡ self.old) }
     {
         let next = self.types.len() as u64;
+        self.types.reserve(1)?;
         self.nested.push(false)?;
-        let bound = copy(alloc, ty)?;
-        mark(&mut self.nested, &bound);
-        self.types.push(TypeVariable::bound_to(bound))?;
+        mark(&mut self.nested, &ty);
+        self.types.push_reserved(TypeVariable::bound_to(ty));
         Ok(next)
     }
 
@@ -176,6 +187,15 @@ pub fn unify(alloc: Global, subst: &mut Subst, left: &Ty, right: &Ty) -> Result<
         left,
         right,
     )
+}
+
+/// The kind with all that is bound put in: a channel count, or a variable that is bound to nothing.
+pub fn resolved_kind(subst: &Subst, kind: KindTerm) -> KindTerm
+    requires { IsOver subst.now (source_term kind) }
+    ensures unbound { IsUnbound subst.now (source_term result) }
+    ensures same { (a : Assignment) → Solves a subst.now → kind_meaning a result ≡ kind_meaning a kind }
+{
+    resolve_kind(&subst.kinds, kind)
 }
 
 /// The type with all that is bound put in.

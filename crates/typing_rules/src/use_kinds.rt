@@ -1,5 +1,5 @@
 // The kinds of a use.
-ghost use Rattle.std.specs.Prelude.{◌≡◌, List, [], ◌∷◌, ◌++◌, OnOk, OnErr};
+ghost use Rattle.std.specs.Prelude.{◌≡◌, List, [], ◌∷◌, ◌++◌, IfOk, OnOk, OnErr};
 ghost use Rattle.typing_rules.specs.declared.uses.KindOf.{KindOf};
 
 use crate::uses::KindOf;
@@ -27,6 +27,15 @@ impl UseKinds {
         UseKinds {
             kinds: Vec::new(alloc),
         }
+    }
+
+    /// No kinds, with room for so many.
+    pub fn with_room(alloc: Global, room: usize) -> Result<UseKinds, Memory>
+        ensures { IfOk result (λ kinds. kinds ≡ []) }
+    {
+        Ok(UseKinds {
+            kinds: Vec::with_capacity(alloc, room)?,
+        })
     }
 
     /// The kinds, to be read.

@@ -55,6 +55,14 @@ impl Bindings {
         }
     }
 
+    /// Makes room for so many more, so that the list of them need not grow step by step.
+    pub fn reserve(&mut self, more: usize) -> Result<(), Memory>
+        ensures same { self.new ≡ self.old }
+    {
+        self.all.reserve(more)?;
+        Ok(())
+    }
+
     /// One more, the newest. Where memory runs out nothing changes.
     pub fn push(&mut self, known: Known) -> Result<(), Memory>
         ensures pushed { OnOk result (self.new ≡ self.old ++ known ∷ []) }

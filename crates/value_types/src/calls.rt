@@ -69,7 +69,7 @@ fn callee_of(
     requires over { IsOver subst.old (term_of instance.result) }
     ensures { IfOk result (λ p. (p.0.params ≡ instance.params) × (p.1 ≡ instance.kinds) × Defines subst.old subst.new p.0.result (term_of instance.result)) }
 {
-    let result = new_type(alloc, subst, &instance.result)?;
+    let result = new_type(subst, instance.result)?;
     Ok((
         Callee {
             params: instance.params,

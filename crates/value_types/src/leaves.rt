@@ -26,8 +26,8 @@ pub fn literal_type(alloc: Global, subst: &mut Subst, literal: &Literal) -> Resu
     ensures { IfOk result (λ n. Defines subst.old subst.new n (literal_term literal.now)) }
 {
     match literal {
-        Literal::Int(_) => new_type(alloc, subst, &Ty::Int),
-        Literal::Number(_) => new_type(alloc, subst, &Ty::Decimal),
+        Literal::Int(_) => new_type(subst, Ty::Int),
+        Literal::Number(_) => new_type(subst, Ty::Decimal),
     }
 }
 
@@ -40,7 +40,8 @@ pub fn push_use(
 ) -> Result<(), Memory>
     ensures { OnOk result (founds uses.new.items ≡ with_use (founds uses.old.items) at target kinds.items) }
 {
-    uses.push(FoundUse { at, target, kinds })?;
+    uses.reserve(1)?;
+    uses.push_reserved(FoundUse { at, target, kinds });
     Ok(())
 }
 
