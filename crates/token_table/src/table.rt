@@ -1,24 +1,32 @@
 // A table with a place for each token.
-ghost use Rattle.std.specs.Prelude.{◌≡◌, ◌<◌, ℕ, Some, None, OnErr, OnOk, cond, nat_eq, length};
+ghost use Rattle.std.specs.Prelude.{◌≡◌, ◌<◌, ◌+◌, ℕ, Some, None, IfOk, OnErr, OnOk, cond, nat_eq, length, get_or};
 ghost use Rattle.token_table.specs.At.{at_token};
 
 use liq_base::Memory;
 use std::alloc::Global;
 use std::marker::Model;
 
-/// Values by the indexes of tokens, with a place for each token up to the last that has a value. Contracts see the list of
-/// these places.
+/// Values by the indexes of tokens, with a place of four bytes for each token up to the last that has a value. Contracts see
+/// the list of these places, each with its value.
 #[derive(Drop)]
 pub struct TokenTable<T> {
-    places: Vec<Option<T>>,
+    // For each token 0 where it has no value, and otherwise how many values there were with its own: `place` names
+    // `values[place - 1]`.
+    places: Vec<u32>,
+
+    // In the order in which they were put, also those in whose place a later one stands.
+    values: Vec<T>,
 }
 
 impl<T> Model for TokenTable<T> {
-    ghost use Rattle.std.specs.Prelude.{List, Option};
+    ghost use Rattle.std.specs.Prelude.{ℕ, List, Option, map, get_or, ◌≤◌, length};
+    ghost use Rattle.token_table.specs.At.{value_at};
 
     ghost Value = { List (Option T) };
 
-    ghost view = { λ t. t.places.items };
+    ghost view = { λ t. map (value_at t.values.items) t.places.items };
+
+    ghost invariant = { λ t. (k : ℕ) → get_or t.places.items k 0 ≤ length t.values.items };
 }
 
 impl<T: Copy> TokenTable<T> {
@@ -28,6 +36,7 @@ impl<T: Copy> TokenTable<T> {
     {
         TokenTable {
             places: Vec::new(alloc),
+            values: Vec::new(alloc),
         }
     }
 
@@ -35,10 +44,9 @@ impl<T: Copy> TokenTable<T> {
     pub fn get(&self, at: u32) -> Option<T>
         ensures { result ≡ at_token at self.now }
     {
-        match self.places.get(at as usize) {
-            Some(place) => *place,
-            None => None,
-        }
+        let place = *self.places.get(at as usize)?;
+        let before = place.checked_sub(1)?;
+        self.values.get(before as usize).copied()
     }
 
     /// Gives the token at an index this value, in place of any that it had. Where memory runs out no value changes.
@@ -46,20 +54,36 @@ impl<T: Copy> TokenTable<T> {
         ensures put { OnOk result ((t : ℕ) → at_token t self.new ≡ cond (nat_eq at t) (Some value) (at_token t self.old)) }
         ensures err { OnErr result ((t : ℕ) → at_token t self.new ≡ at_token t self.old) }
     {
-        let index = at as usize;
-        self.reach(index)?;
-        self.places[index] = Some(value);
+        self.values.reserve(1)?;
+        reach(&mut self.places, at)?;
+        let place = next_place(self.values.len())?;
+        self.values.push_reserved(value);
+        self.places[at as usize] = place;
         Ok(())
     }
+}
 
-    // Makes a place for the token at an index, and for those before it. Where memory runs out, for some of them.
-    fn reach(&mut self, index: usize) -> Result<(), Memory>
-        ensures there { OnOk result (index < length self.new) }
-        ensures same { (t : ℕ) → at_token t self.new ≡ at_token t self.old }
-    {
-        while self.places.len() <= index {
-            self.places.push(None)?;
-        }
-        Ok(())
+// The place of the next value behind so many. Where places cannot tell so many values apart, there is none.
+fn next_place(before: usize) -> Result<u32, Memory>
+    ensures next { IfOk result (λ place. place ≡ before + 1) }
+{
+    let Ok(before) = u32::try_from(before) else {
+        return Err(Memory);
+    };
+    before.checked_add(1).ok_or(Memory)
+}
+
+// Makes a place for a token, and for those before it. Where memory runs out, for some of them.
+fn reach(places: &mut Vec<u32>, at: u32) -> Result<(), Memory>
+    ensures there { OnOk result (at < length places.new.items) }
+    ensures same { (t : ℕ) → get_or places.new.items t 0 ≡ get_or places.old.items t 0 }
+{
+    let index = at as usize;
+    if places.len() <= index {
+        places.reserve(index + 1 - places.len())?;
     }
+    while places.len() <= index {
+        places.push(0)?;
+    }
+    Ok(())
 }
