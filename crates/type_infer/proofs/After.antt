@@ -34,7 +34,7 @@ use Rattle.def_types.specs.Scope.{AreSeenDefs}
 use Rattle.def_types.specs.declared.defs.TypedDef.{TypedDef}
 use Rattle.type_infer.specs.Later.{HoldsLater, IsRenewed}
 use Rattle.type_infer.specs.Matches.{AreNumberedDefs, HaveCountsIn, IsTextCountedIn, aimed, opens_of}
-use Rattle.type_infer.specs.States.{IsAfter, IsDefKept, IsMore, IsNext, IsNoMore, IsNoted, IsReady, IsRunKept, IsTypedSo, IsTypedWith, IsValueKept, knowns}
+use Rattle.type_infer.specs.States.{IsAfter, IsDefKept, IsMore, IsNext, IsNoMore, IsNoted, IsReady, IsRunKept, IsSameTyping, IsTypedSo, IsTypedWith, IsValueKept, knowns}
 use Rattle.type_infer.specs.Steps.{AreThere, done_in, dones_in}
 use Rattle.type_infer.specs.declared.steps.Step.{Step}
 use Rattle.type_infer.specs.declared.steps.Step.TheVariants as step
@@ -82,6 +82,10 @@ state_as t s h p bs ds xs targets script es eh ep eb ed ex st =
     let d : State t.subst t.held t.pending.items t.before ds xs targets script = subst (λ (y : List AKnown). State t.subst t.held t.pending.items y ds xs targets script) (sym eb) c in
     let e : State t.subst t.held t.pending.items t.before t.defs.items xs targets script = subst (λ (y : List KnownDef). State t.subst t.held t.pending.items t.before y xs targets script) (sym ed) d in
     after_of targets script t (subst (λ (y : List Step). State t.subst t.held t.pending.items t.before t.defs.items y targets script) (sym ex) e)
+
+-- the same typing, whose lists may have room for more
+pub after_same : (targets : Targets) (script : Script) (old new : Typing) → IsSameTyping old new → IsAfter targets script old → IsAfter targets script new
+after_same targets script old new same a = state_as new old.subst old.held old.pending.items old.before old.defs.items old.steps.items targets script same.subst same.held same.pending same.before same.defs same.steps (state_of targets script old a.ready a.typed)
 
 -- ---- an expression, with what is known by the definitions
 

@@ -7,6 +7,7 @@ pub mod Naming
 pub mod Later
 pub mod After
 pub mod Beginning
+pub mod Taken
 pub mod Settled
 pub mod Overs
 pub mod Ending

@@ -64,26 +64,24 @@ pending_over_at s [] i d lt h = absurd (omega (arith, lt))
 pending_over_at s (k ∷ ks) zero d lt h = h.0
 pending_over_at s (k ∷ ks) (suc i) d lt h = pending_over_at s ks i d (omega (arith, lt)) h.1
 
-pub use_over_at : (s : Table) (xs : List FoundUse) (i : ℕ) (x : FoundUse) → i < length xs → x ≡ get_or xs i x → AreUsesOver s (founds xs) → AreKindsOver s x.kinds.items
-use_over_at s [] i x lt is h = absurd (omega (arith, lt))
-use_over_at s (y ∷ xs) zero x lt is h = subst (λ (z : FoundUse). AreKindsOver s z.kinds.items) (sym is) h.0
-use_over_at s (y ∷ xs) (suc i) x lt is h = use_over_at s xs i x (omega (arith, lt)) is h.1
-
 pub text_over_at : (s : Table) (xs : List ATextUse) (i : ℕ) (x : ATextUse) → i < length xs → x ≡ get_or xs i x → IsTextOver s (map text_use xs) → ArePendingOver s (map pending x.kinds.items)
 text_over_at s [] i x lt is h = absurd (omega (arith, lt))
 text_over_at s (y ∷ xs) zero x lt is h = subst (λ (z : ATextUse). ArePendingOver s (map pending z.kinds.items)) (sym is) h.0
 text_over_at s (y ∷ xs) (suc i) x lt is h = text_over_at s xs i x (omega (arith, lt)) is h.1
 
--- ---- steps
+-- ---- behind others in a list
+
+pub use_over_next : (s : Table) (xs : List FoundUse) (x : FoundUse) (ys : List FoundUse) → AreUsesOver s (founds (xs ++ x ∷ ys)) → AreKindsOver s x.kinds.items
+use_over_next s [] x ys h = h.0
+use_over_next s (z ∷ xs) x ys h = use_over_next s xs x ys h.1
 
 over_parts : (s : Table) (xs ys : List Done) → AreDonesOver s (xs ++ ys) → AreDonesOver s xs × AreDonesOver s ys
 over_parts s [] ys h = (tt, h)
 over_parts s (x ∷ xs) ys h = let p = over_parts s xs ys h.1 in ((h.0, p.0), p.1)
 
-pub step_over_at : (s : Table) (ds : List KnownDef) (xs : List Step) (i : ℕ) (x : Step) → i < length xs → x ≡ get_or xs i x → AreDonesOver s (dones_in ds xs) → AreDonesOver s (done_in ds x)
-step_over_at s ds [] i x lt is h = absurd (omega (arith, lt))
-step_over_at s ds (y ∷ xs) zero x lt is h = subst (λ (z : Step). AreDonesOver s (done_in ds z)) (sym is) (over_parts s (done_in ds y) (dones_in ds xs) h).0
-step_over_at s ds (y ∷ xs) (suc i) x lt is h = step_over_at s ds xs i x (omega (arith, lt)) is (over_parts s (done_in ds y) (dones_in ds xs) h).1
+pub step_over_next : (s : Table) (ds : List KnownDef) (xs : List Step) (x : Step) (ys : List Step) → AreDonesOver s (dones_in ds (xs ++ x ∷ ys)) → AreDonesOver s (done_in ds x)
+step_over_next s ds [] x ys h = (over_parts s (done_in ds x) (dones_in ds ys) h).0
+step_over_next s ds (z ∷ xs) x ys h = step_over_next s ds xs x ys (over_parts s (done_in ds z) (dones_in ds (xs ++ x ∷ ys)) h).1
 
 -- what is known behind statements is over the substitution, and so are their uses
 dones_over : (s : Table) (ks : List Known) (xs : List Done) → AreKnownOver s (known_after ks xs) → AreFoundsOver s xs → AreKnownOver s ks × AreDonesOver s xs

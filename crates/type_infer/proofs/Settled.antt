@@ -83,12 +83,9 @@ use_of x ks = record { at = x.at; target = x.target; kinds = ks }
 abbrev pub text_use_of : ATextUse → List KindOf → Use
 text_use_of x ks = record { at = x.at; target = x.target; kinds = ks }
 
-pub founds_more : (s : Table) (xs : List FoundUse) (i : ℕ) (x : FoundUse) (ks : List KindOf) (start old new : List Use) → i < length xs → x ≡ get_or xs i x → AddsFounds s (founds (take i xs)) start old → AreSettledKinds s x.kinds.items ks → new ≡ old ++ use_of x ks ∷ [] → AddsFounds s (founds (take (i + 1) xs)) start new
-founds_more s xs i x ks start old new lt is h kinds e = λ d.
-    added_more (found_use d.at) start old new (founds (take i xs)) (founds (take (i + 1) xs)) (found x) (use_of x ks) (next_mapped found xs i x lt is) (h d) e (ap (use_of x) (kinds d))
-
-pub founds_all : (s : Table) (xs : List FoundUse) (i : ℕ) (start new : List Use) → length xs ≤ i → AddsFounds s (founds (take i xs)) start new → AddsFounds s (founds xs) start new
-founds_all s xs i start new le h = subst (λ l. AddsFounds s (founds l) start new) (all_items xs i le) h
+pub founds_more : (s : Table) (xs : List FoundUse) (x : FoundUse) (ks : List KindOf) (start old new : List Use) → AddsFounds s (founds xs) start old → AreSettledKinds s x.kinds.items ks → new ≡ old ++ use_of x ks ∷ [] → AddsFounds s (founds (xs ++ x ∷ [])) start new
+founds_more s xs x ks start old new h kinds e = λ d.
+    added_more (found_use d.at) start old new (founds xs) (founds (xs ++ x ∷ [])) (found x) (use_of x ks) (map_push found xs x) (h d) e (ap (use_of x) (kinds d))
 
 pub uses_more : (s : Table) (xs : List ATextUse) (i : ℕ) (x : ATextUse) (ks : List KindOf) (start old new : List Use) → i < length xs → x ≡ get_or xs i x → AddsTexts s (map text_use (take i xs)) start old → AreSettledTexts s (map pending x.kinds.items) ks → new ≡ old ++ text_use_of x ks ∷ [] → AddsTexts s (map text_use (take (i + 1) xs)) start new
 uses_more s xs i x ks start old new lt is h kinds e = λ d.
@@ -118,10 +115,6 @@ dones_append : (ds : List KnownDef) (xs : List Step) (x : Step) → dones_in ds 
 dones_append ds [] x = append-nil (done_in ds x)
 dones_append ds (y ∷ xs) x = ap (λ l. done_in ds y ++ l) (dones_append ds xs x) ∙ sym (append_assoc (done_in ds y) (dones_in ds xs) (done_in ds x))
 
-pub steps_more : (s : Table) (ds : List KnownDef) (xs : List Step) (i : ℕ) (x : Step) (old new : List Use) → i < length xs → x ≡ get_or xs i x → AreDefaultOf s (dones_in ds (take i xs)) old → AddsDones s (done_in ds x) old new → AreDefaultOf s (dones_in ds (take (i + 1) xs)) new
-steps_more s ds xs i x old new lt is h adds = λ d.
-    adds d ∙ ap (λ l. l ++ uses_under d.at (done_in ds x)) (h d) ∙ sym (uses_append d.at (dones_in ds (take i xs)) (done_in ds x))
-    ∙ ap (uses_under d.at) (sym (dones_append ds (take i xs) x) ∙ ap (dones_in ds) (sym (next_item xs i x lt is)))
-
-pub steps_all : (s : Table) (ds : List KnownDef) (xs : List Step) (i : ℕ) (us : List Use) → length xs ≤ i → AreDefaultOf s (dones_in ds (take i xs)) us → AreDefaultOf s (dones_in ds xs) us
-steps_all s ds xs i us le h = subst (λ l. AreDefaultOf s (dones_in ds l) us) (all_items xs i le) h
+pub steps_more : (s : Table) (ds : List KnownDef) (xs : List Step) (x : Step) (old new : List Use) → AreDefaultOf s (dones_in ds xs) old → AddsDones s (done_in ds x) old new → AreDefaultOf s (dones_in ds (xs ++ x ∷ [])) new
+steps_more s ds xs x old new h adds = λ d.
+    adds d ∙ ap (λ l. l ++ uses_under d.at (done_in ds x)) (h d) ∙ sym (uses_append d.at (dones_in ds xs) (done_in ds x)) ∙ ap (uses_under d.at) (sym (dones_append ds xs x))

@@ -74,6 +74,15 @@ pub record IsAfter (targets : Targets) (script : Script) (t : Typing) : Type 0 w
   pub ready : IsReady targets t
   pub typed : IsTypedSo targets script t
 
+-- the same typing, whose lists may have room for more
+pub record IsSameTyping (old new : Typing) : Type 0 where
+  pub subst : new.subst ≡ old.subst
+  pub before : new.before ≡ old.before
+  pub defs : new.defs.items ≡ old.defs.items
+  pub steps : new.steps.items ≡ old.steps.items
+  pub held : new.held ≡ old.held
+  pub pending : new.pending.items ≡ old.pending.items
+
 -- The statement stands behind a script: the targets say what its names mean there, and its tokens are placed.
 pub record IsNext (targets : Targets) (script : Script) (s : Tree AStmt) : Type 0 where
   pub aimed : AreAimed targets (map meant (names (scope_after [] script) s))

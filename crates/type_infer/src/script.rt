@@ -10,7 +10,7 @@ ghost use Rattle.typing_rules.specs.Scripts.{Targets, first_of};
 ghost use Rattle.type_infer.specs.Clashes.{IsClashIn};
 ghost use Rattle.type_infer.specs.Fronts.{IsFront};
 ghost use Rattle.type_infer.specs.Settling.{AreDonesOver};
-ghost use Rattle.type_infer.specs.States.{AreDefaultUses, IsAfter, IsReady, IsStepped, IsTypedSo, dones};
+ghost use Rattle.type_infer.specs.States.{AreDefaultUses, IsAfter, IsReady, IsSameTyping, IsStepped, IsTypedSo, dones};
 ghost use Rattle.type_infer.specs.Turns.{IsTurned};
 ghost use Rattle.value_types.specs.Tables.{targets_of};
 
@@ -18,6 +18,7 @@ use crate::front::{Front, resolve_front};
 use crate::settling::settled_uses;
 use crate::statements::type_part;
 use crate::steps::Typing;
+use liq_base::Memory;
 use name_scope::Resolved;
 use script_grammar::tree::{Script, Stmt, StmtPart};
 use std::alloc::Global;
@@ -79,6 +80,15 @@ fn start<'a>(alloc: Global) -> Result<Typing<'a>, TypeFault>
     }
 }
 
+/// Room for what the statements leave, so that no list grows step by step: each leaves one step, and one type at most.
+fn make_room(typing: &mut Typing<'_>, front: &Front) -> Result<(), Memory>
+    ensures { IsSameTyping typing.old typing.new }
+{
+    typing.pending.reserve(front.count)?;
+    typing.steps.reserve(front.count)?;
+    Ok(())
+}
+
 /// The typings of the statements without a fault of names, or the first clash among them.
 fn type_statements<'a>(
     alloc: Global,
@@ -112,6 +122,9 @@ fn type_with<'a>(
     ensures clash { IfErr result (λ f. IsClashIn (target_in (map resolved front.now.all.items)) (listed (map view_stmt statements.entry.now)) front.now.count f) }
 {
     let mut typing = start(alloc)?;
+    if make_room(&mut typing, front).is_err() {
+        return Err(TypeFault::Memory);
+    }
     type_each(alloc, &mut typing, targets, statements, front)?;
     Ok(typing)
 }
@@ -204,20 +217,22 @@ fn told_front(alloc: Global, statements: &[Stmt]) -> Result<Front, TypeFault>
     }
 }
 
-/// The uses of the statements that were typed, where no fault of names stands behind them; or that fault.
+/// The uses of the statements that were typed, in a list that begins with room for so many, where no fault of names stands
+/// behind them; or that fault.
 fn uses_or_fault(
     alloc: Global,
-    typing: &Typing<'_>,
+    typing: Typing<'_>,
     fault: Option<TypeFault>,
+    room: usize,
 ) -> Result<Vec<Use>, TypeFault>
-    requires over { AreDonesOver typing.now.subst (dones typing.now) }
-    ensures uses { IfOk result (λ us. AreDefaultUses typing.now fault us.items) }
+    requires over { AreDonesOver typing.subst (dones typing) }
+    ensures uses { IfOk result (λ us. AreDefaultUses typing.entry fault us.items) }
     ensures fault { IfErr result (λ f. f ≢ TypeFault.Memory → fault ≡ Some f) }
 {
     typing.subst.has_defaults();
     match fault {
         Some(fault) => Err(fault),
-        None => match settled_uses(alloc, typing) {
+        None => match settled_uses(alloc, typing, room) {
             Ok(uses) => Ok(uses),
             Err(_) => Err(TypeFault::Memory),
         },
@@ -232,7 +247,7 @@ fn answered(alloc: Global, statements: &[Stmt], front: Front) -> Result<Vec<Use>
     ensures fault { IfErr result (IsTypeFault (listed (map view_stmt statements.now))) }
 {
     let typing = type_statements(alloc, statements, &front)?;
-    uses_or_fault(alloc, &typing, front.fault)
+    uses_or_fault(alloc, typing, front.fault, front.all.len())
 }
 
 /// The uses of statements, or their first fault.

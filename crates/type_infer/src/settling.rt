@@ -14,12 +14,14 @@ use type_terms::{KindTerm, Subst, Ty, resolved};
 use typing_rules::{KindOf, Use, UseKinds};
 use value_types::{FoundUse, KnownDef, TextKind, TextUse};
 
-/// The uses of all statements, in the order of the tokens.
-pub fn settled_uses(alloc: Global, typing: &Typing<'_>) -> Result<Vec<Use>, Memory>
-    requires over { AreDonesOver typing.now.subst (dones typing.now) }
-    ensures { IfOk result (λ us. AreDefaultOf typing.now.subst (dones typing.now) us.items) }
+/// The uses of all statements, in the order of the tokens, in a list that begins with room for so many. What was found is
+/// freed as it is turned into the answer, so that its memory is taken again at once.
+pub fn settled_uses(alloc: Global, typing: Typing<'_>, room: usize) -> Result<Vec<Use>, Memory>
+    requires over { AreDonesOver typing.subst (dones typing) }
+    ensures { IfOk result (λ us. AreDefaultOf typing.entry.subst (dones typing.entry) us.items) }
 {
-    steps_uses(alloc, &typing.subst, &typing.defs, &typing.steps)
+    let steps = typing.steps;
+    steps_uses(alloc, &typing.subst, &typing.defs, steps, room)
 }
 
 /// The kind of a source, if it is the type of one.
@@ -72,11 +74,11 @@ fn settled_kinds(alloc: Global, subst: &Subst, kinds: &[KindTerm]) -> Result<Use
 fn add_founds(
     alloc: Global,
     subst: &Subst,
-    found: &[FoundUse],
+    found: Vec<FoundUse>,
     uses: &mut Vec<Use>,
 ) -> Result<(), Memory>
-    requires over { AreUsesOver subst.now (founds found.now) }
-    ensures { OnOk result (AddsFounds subst.now (founds found.now) uses.old.items uses.new.items) }
+    requires over { AreUsesOver subst.now (founds found.items) }
+    ensures { OnOk result (AddsFounds subst.now (founds found.items) uses.old.items uses.new.items) }
 {
     for one in found {
         let kinds = settled_kinds(alloc, subst, &one.kinds)?;
@@ -158,30 +160,31 @@ fn add_step(
     alloc: Global,
     subst: &Subst,
     defs: &[KnownDef<'_>],
-    step: &Step,
+    step: Step,
     uses: &mut Vec<Use>,
 ) -> Result<(), Memory>
-    requires over { AreDonesOver subst.now (done_in defs.now step.now) }
-    ensures { OnOk result (AddsDones subst.now (done_in defs.now step.now) uses.old.items uses.new.items) }
+    requires over { AreDonesOver subst.now (done_in defs.now step) }
+    ensures { OnOk result (AddsDones subst.now (done_in defs.now step) uses.old.items uses.new.items) }
 {
     match step {
         Step::Bound(_, found) => add_founds(alloc, subst, found, uses),
-        Step::Defined(place) => add_def(alloc, subst, defs.get(*place), uses),
+        Step::Defined(place) => add_def(alloc, subst, defs.get(place), uses),
         Step::Ran(found) => add_founds(alloc, subst, found, uses),
     }
 }
 
-/// The uses of what statements have left, one after another.
+/// The uses of what statements have left, one after another, in a list that begins with room for so many.
 fn steps_uses(
     alloc: Global,
     subst: &Subst,
     defs: &[KnownDef<'_>],
-    steps: &[Step],
+    steps: Vec<Step>,
+    room: usize,
 ) -> Result<Vec<Use>, Memory>
-    requires over { AreDonesOver subst.now (dones_in defs.now steps.now) }
-    ensures { IfOk result (λ us. AreDefaultOf subst.now (dones_in defs.now steps.now) us.items) }
+    requires over { AreDonesOver subst.now (dones_in defs.now steps.items) }
+    ensures { IfOk result (λ us. AreDefaultOf subst.now (dones_in defs.now steps.items) us.items) }
 {
-    let mut uses = Vec::new(alloc);
+    let mut uses = Vec::with_capacity(alloc, room)?;
     for step in steps {
         add_step(alloc, subst, defs, step, &mut uses)?;
     }

@@ -12,6 +12,10 @@ use std::alloc::Global;
 use type_terms::Subst;
 use value_types::{FoundUse, Names};
 
+/// Room for the uses of a value at first. Most values use two names at most, and a list that begins without room takes room
+/// for four at its first use.
+const USES_OF_A_VALUE: usize = 2;
+
 /// The type of a value, and the uses in it; `None` where it has no type.
 pub fn value_type(
     alloc: Global,
@@ -22,7 +26,7 @@ pub fn value_type(
     requires seen { IsSeen subst.old seen [] }
     ensures { IfOk result (λ r. IsTypedAs subst.old subst.new (env_of seen.entry) seen.entry.defs.now (view_full full.now) r) }
 {
-    let mut uses = Vec::new(alloc);
+    let mut uses = Vec::with_capacity(alloc, USES_OF_A_VALUE)?;
     match type_full(alloc, subst, seen, &mut uses, full)? {
         None => Ok(None),
         Some(var) => Ok(Some(noted(subst, var, uses))),
@@ -39,7 +43,7 @@ pub fn run_type(
     requires seen { IsSeen subst.old seen [] }
     ensures { IfOk result (λ r. IsTypedAs subst.old subst.new (env_of seen.entry) seen.entry.defs.now (view_call call.now) r) }
 {
-    let mut uses = Vec::new(alloc);
+    let mut uses = Vec::with_capacity(alloc, USES_OF_A_VALUE)?;
     match type_call(alloc, subst, seen, &mut uses, call)? {
         None => Ok(None),
         Some(var) => Ok(Some(noted(subst, var, uses))),
@@ -56,7 +60,7 @@ pub fn choice_type(
     requires seen { IsSeen subst.old seen [] }
     ensures { IfOk result (λ r. IsTypedAs subst.old subst.new (env_of seen.entry) seen.entry.defs.now (view_if choice.now) r) }
 {
-    let mut uses = Vec::new(alloc);
+    let mut uses = Vec::with_capacity(alloc, USES_OF_A_VALUE)?;
     match type_choice(alloc, subst, seen, &mut uses, choice)? {
         None => Ok(None),
         Some(var) => Ok(Some(noted(subst, var, uses))),

@@ -4,8 +4,8 @@ use Rattle.type_infer.proofs.After.{not_typed, typed_with}
 use Rattle.type_infer.proofs.values.choice_type.Goals as goal
 
 pub returns-in-None : goal.returns-in-None
-returns-in-None c = not_typed c.args.subst.now c.type_choice.new.subst (env_of c.args.seen) (view_if c.args.choice.now) c.new-uses.result.items c.type_choice.new.uses.items c.new-uses.ensures.items (rw c.in-None.is at c.in_ok-type_choice.ensures.typed)
+returns-in-None c = not_typed c.args.subst.now c.type_choice.new.subst (env_of c.args.seen) (view_if c.args.choice.now) c.in_ok-uses.uses.items c.type_choice.new.uses.items c.in_ok-uses.ensures.items (rw c.in-None.is at c.in_ok-type_choice.ensures.typed)
 
 pub returns-in-Some : goal.returns-in-Some
 returns-in-Some c =
-    typed_with c.args.subst.now c.type_choice.new.subst c.args.seen (view_if c.args.choice.now) c.new-uses.result.items c.type_choice.new.uses.items c.in-Some.var c.noted.result c.new-uses.ensures.items (rw c.in-Some.is at c.in_ok-type_choice.ensures.typed) (rw c.in-Some.is at c.in_ok-type_choice.ensures.order) c.noted.ensures
+    typed_with c.args.subst.now c.type_choice.new.subst c.args.seen (view_if c.args.choice.now) c.in_ok-uses.uses.items c.type_choice.new.uses.items c.in-Some.var c.noted.result c.in_ok-uses.ensures.items (rw c.in-Some.is at c.in_ok-type_choice.ensures.typed) (rw c.in-Some.is at c.in_ok-type_choice.ensures.order) c.noted.ensures
