@@ -1,15 +1,7 @@
--- The kinds of what statements have left are over the substitution, and such a kind is settled as one of a source.
-use Rattle.std.proofs.Common.{◌≡◌, ◌≢◌, ◌∙◌, sym, ap, subst, refl, ℕ, zero, suc, ◌<◌, arith, length, get_or, List, [], ◌∷◌, ◌++◌, map, Option, Some, None}
-use Rattle.liq_base.specs.declared.memory.Kind.{Kind}
-use Rattle.type_terms.specs.Extends.{HasDefaults}
-use Rattle.type_terms.specs.Ground.{Assignment, source}
-use Rattle.type_terms.specs.Resolved.{IsUnbound}
-use Rattle.type_terms.specs.Table.{IsOver, Solves, Table}
-use Rattle.type_terms.specs.Term.{Term, base_term, kind_meaning, list_term, meaning, source_term, term_of, tuple_term, variable}
+-- The kinds of what statements have left are over the substitution.
+use Rattle.std.proofs.Common.{◌≡◌, sym, subst, ℕ, zero, suc, ◌<◌, arith, length, get_or, List, [], ◌∷◌, ◌++◌, map}
+use Rattle.type_terms.specs.Table.{Table}
 use Rattle.type_terms.specs.declared.ty.KindTerm.{KindTerm}
-use Rattle.type_terms.specs.declared.ty.Ty.{Ty}
-use Rattle.type_terms.specs.declared.ty.Ty.TheVariants as ty
-use Rattle.type_terms.proofs.Views.{term_Source}
 use Rattle.type_flow.specs.Environment.{AreKindsOver, AreKnownOver, ArePendingOver, AreUsesOver, IsKindOver, IsPendingOver, IsTextOver, Known, function, value}
 use Rattle.script_flow.specs.Statements.{AreFoundsOver, Done, bound, defined, known_after, ran}
 use Rattle.typing_rules.specs.Scripts.{Targets}
@@ -19,38 +11,11 @@ use Rattle.value_types.specs.declared.environment.FoundUse.{FoundUse}
 use Rattle.value_types.specs.declared.environment.KnownDef.{KnownDef}
 use Rattle.value_types.specs.declared.environment.TextKind.{TextKind}
 use Rattle.value_types.specs.declared.environment.TextUse.{TextUse as ATextUse}
-use Rattle.type_infer.specs.Settling.{AreDonesOver, source_of}
+use Rattle.type_infer.specs.Settling.{AreDonesOver}
 use Rattle.type_infer.specs.States.{IsTypedSo, dones}
 use Rattle.type_infer.specs.Steps.{done_in, dones_in}
 use Rattle.type_infer.specs.declared.steps.Step.{Step}
 use Rattle.type_infer.specs.declared.steps.Typing.{Typing}
-
--- ---- a kind
-
-pub kind_over : (s : Table) (k : KindTerm) → IsKindOver s k → IsOver s (term_of (ty.Source k))
-kind_over s k h = subst (IsOver s) (sym (term_Source (ty.Source k) k refl)) h
-
--- what is resolved and means a source at a solution whose free types are int is a source
-is_source : (s : Table) (d : HasDefaults s) (u : Term) (k : Kind) → IsUnbound s u → meaning d.at u ≡ source k → source_of u ≢ None
-is_source s d (base_term b) k h e = absurd cc
-is_source s d (list_term t) k h e = absurd cc
-is_source s d (tuple_term ts) k h e = absurd cc
-is_source s d (source_term j) k h e = λ n. cc
-is_source s d (variable n) k h e = absurd (let int = d.types n h.1 in cc)
-
-pub source_is_found : (s : Table) (d : HasDefaults s) (k : KindTerm) (u : Ty) → IsUnbound s (term_of u) → ((a : Assignment) → Solves a s → meaning a (term_of u) ≡ meaning a (term_of (ty.Source k))) → source_of (term_of u) ≢ None
-source_is_found s d k u unbound same =
-    is_source s d (term_of u) (kind_meaning d.at k) unbound (same d.at d.solves ∙ ap (meaning d.at) (term_Source (ty.Source k) k refl))
-
-source_as : (u : Term) (k : KindTerm) → source_of u ≡ Some k → u ≡ source_term k
-source_as (base_term b) k e = absurd cc
-source_as (list_term t) k e = absurd cc
-source_as (tuple_term ts) k e = absurd cc
-source_as (source_term j) k e = cc
-source_as (variable n) k e = absurd cc
-
-pub is_source_term : (u : Ty) (k : KindTerm) (o : Option KindTerm) → o ≡ source_of (term_of u) → o ≡ Some k → term_of u ≡ source_term k
-is_source_term u k o e f = source_as (term_of u) k (sym e ∙ f)
 
 -- ---- at a place of a list
 

@@ -7,16 +7,14 @@ use Rattle.std.proofs.lemmas.Option.{slice_get-get_or, slice_get_past}
 use Rattle.std.proofs.lemmas.List.{append-nil, get_or_default, map_push, take_all, take_more}
 use Rattle.liq_base.specs.declared.memory.Kind.{Kind}
 use Rattle.type_terms.specs.Extends.{HasDefaults}
-use Rattle.type_terms.specs.Ground.{Assignment, source}
+use Rattle.type_terms.specs.Ground.{Assignment}
 use Rattle.type_terms.specs.Resolved.{IsUnbound}
 use Rattle.type_terms.specs.Table.{Solves, Table}
-use Rattle.type_terms.specs.Term.{kind_meaning, meaning, source_term, term_of}
+use Rattle.type_terms.specs.Term.{kind_meaning, source_term}
 use Rattle.type_terms.specs.declared.ty.KindTerm.{KindTerm}
 use Rattle.type_terms.specs.declared.ty.KindTerm.TheVariants as term
-use Rattle.type_terms.specs.declared.ty.Ty.{Ty}
-use Rattle.type_terms.specs.declared.ty.Ty.TheVariants as ty
-use Rattle.type_terms.proofs.Views.{term_Source}
 use Rattle.typing_rules.specs.declared.uses.KindOf.{KindOf}
+use Rattle.typing_rules.specs.declared.uses.KindOf.TheVariants as kind_of
 use Rattle.typing_rules.specs.declared.uses.Use.{Use}
 use Rattle.type_flow.specs.Environment.{Found, TextUse, settled, settled_use}
 use Rattle.script_flow.specs.Statements.{Done, found_use, uses_in, uses_under}
@@ -35,13 +33,8 @@ free_at : (s : Table) (k : KindTerm) (d : HasDefaults s) → IsUnbound s (source
 free_at s (term.Fixed k) d h = refl
 free_at s (term.Var n) d h = sym (d.kinds n h.1)
 
-same_source : (j k : Kind) → source j ≡ source k → j ≡ k
-same_source j k e = cc
-
-pub kind_settled : (s : Table) (k k' : KindTerm) (u : Ty) (r : Kind) → IsUnbound s (term_of u) → ((a : Assignment) → Solves a s → meaning a (term_of u) ≡ meaning a (term_of (ty.Source k))) → term_of u ≡ source_term k' → r ≡ free_kind k' → IsSettledKind s k r
-kind_settled s k k' u r unbound same found is = λ d.
-    let sources : source (kind_meaning d.at k') ≡ source (kind_meaning d.at k) = sym (ap (meaning d.at) found) ∙ same d.at d.solves ∙ ap (meaning d.at) (term_Source (ty.Source k) k refl) in
-    is ∙ free_at s k' d (subst (IsUnbound s) found unbound) ∙ same_source (kind_meaning d.at k') (kind_meaning d.at k) sources
+pub kind_settled : (s : Table) (k k' : KindTerm) (r : Kind) → IsUnbound s (source_term k') → ((a : Assignment) → Solves a s → kind_meaning a k' ≡ kind_meaning a k) → r ≡ free_kind k' → IsSettledKind s k r
+kind_settled s k k' r unbound same is = λ d. is ∙ free_at s k' d unbound ∙ same d.at d.solves
 
 -- ---- one after another
 
@@ -60,6 +53,10 @@ all_items : {A : Type 0} (xs : List A) (i : ℕ) → length xs ≤ i → take i 
 all_items xs i le = take_all i xs le
 
 -- ---- kinds
+
+pub kinds_more_at : (s : Table) (ks : List KindTerm) (i : ℕ) (k : KindTerm) (one : Kind) (old new : List KindOf) → i < length ks → AreSettledKinds s (take i ks) old → IsSettledKind s (get_or ks i k) one → new ≡ old ++ kind_of.Fixed one ∷ [] → AreSettledKinds s (take (i + 1) ks) new
+kinds_more_at s ks i k one old new lt h settled_one e = λ d.
+    added_more (λ j. kind_of.Fixed (kind_meaning d.at j)) [] old new (take i ks) (take (i + 1) ks) (get_or ks i k) (kind_of.Fixed one) (next_item ks i (get_or ks i k) lt (get_or_default ks i k (get_or ks i k) lt)) (h d) e (ap kind_of.Fixed (settled_one d))
 
 pub kinds_all : (s : Table) (ks : List KindTerm) (i : ℕ) (rs : List KindOf) → length ks ≤ i → AreSettledKinds s (take i ks) rs → AreSettledKinds s ks rs
 kinds_all s ks i rs le h = subst (λ l. AreSettledKinds s l rs) (all_items ks i le) h

@@ -1,10 +1,10 @@
 -- Kinds and uses under the default solution.
-use Rattle.std.specs.Prelude.{◌≡◌, List, [], ◌∷◌, ◌++◌, map, Option, Some, None, ⊤}
+use Rattle.std.specs.Prelude.{◌≡◌, List, [], ◌∷◌, ◌++◌, map, ⊤}
 use Rattle.liq_base.specs.declared.memory.Kind.{Kind}
 use Rattle.liq_base.specs.declared.memory.Kind.TheVariants.{Stereo}
 use Rattle.type_terms.specs.Extends.{HasDefaults}
 use Rattle.type_terms.specs.Table.{Table}
-use Rattle.type_terms.specs.Term.{Term, kind_meaning, source_term}
+use Rattle.type_terms.specs.Term.{kind_meaning}
 use Rattle.type_terms.specs.declared.ty.KindTerm.{KindTerm}
 use Rattle.type_terms.specs.declared.ty.KindTerm.TheVariants as term
 use Rattle.typing_rules.specs.declared.uses.KindOf.{KindOf}
@@ -43,11 +43,6 @@ AreDefaultOf s xs us = (d : HasDefaults s) → us ≡ uses_under d.at xs
 abbrev pub free_kind : KindTerm → Kind
 free_kind (term.Fixed k) = k
 free_kind (term.Var n) = Stereo
-
--- the kind of a source
-abbrev pub source_of : Term → Option KindTerm
-source_of (source_term k) = Some k
-source_of _ = None
 
 -- the kinds of what statements have left are over the substitution
 abbrev pub IsDoneOver : Table → Done → Type 0

@@ -80,10 +80,14 @@ fn start<'a>(alloc: Global) -> Result<Typing<'a>, TypeFault>
     }
 }
 
-/// Room for what the statements leave, so that no list grows step by step: each leaves one step, and one type at most.
+/// Room for what the statements leave, so that few lists grow step by step: each leaves one step, and binds one name at most.
+/// A statement mostly needs a type variable, and each name that it uses another one, and perhaps one for its kind.
 fn make_room(typing: &mut Typing<'_>, front: &Front) -> Result<(), Memory>
     ensures { IsSameTyping typing.old typing.new }
 {
+    let names = front.all.len();
+    typing.subst.reserve(front.count.saturating_add(names), names)?;
+    typing.before.reserve(front.count)?;
     typing.pending.reserve(front.count)?;
     typing.steps.reserve(front.count)?;
     Ok(())

@@ -1,16 +1,15 @@
 // The uses of statements under the default solution.
 ghost use Rattle.std.specs.Prelude.{◌≡◌, map, option_map, IfOk, OnOk};
 ghost use Rattle.type_flow.specs.Environment.{AreKindsOver, ArePendingOver, AreUsesOver, IsKindOver, IsPendingOver, IsTextOver};
-ghost use Rattle.type_terms.specs.Term.{term_of};
 ghost use Rattle.value_types.specs.Seen.{founds, pending, text_use};
-ghost use Rattle.type_infer.specs.Settling.{AddsDones, AddsFounds, AddsTexts, AreDefaultOf, AreDonesOver, AreSettledKinds, AreSettledTexts, IsSettledKind, IsSettledText, free_kind as the_free_kind, source_of};
+ghost use Rattle.type_infer.specs.Settling.{AddsDones, AddsFounds, AddsTexts, AreDefaultOf, AreDonesOver, AreSettledKinds, AreSettledTexts, IsSettledKind, IsSettledText, free_kind as the_free_kind};
 ghost use Rattle.type_infer.specs.States.{dones};
 ghost use Rattle.type_infer.specs.Steps.{defined_as, done_in, dones_in};
 
 use crate::steps::{Step, Typing};
 use liq_base::{Kind, Memory};
 use std::alloc::Global;
-use type_terms::{KindTerm, Subst, Ty, resolved};
+use type_terms::{KindTerm, Subst, resolved_kind};
 use typing_rules::{KindOf, Use, UseKinds};
 use value_types::{FoundUse, KnownDef, TextKind, TextUse};
 
@@ -24,16 +23,6 @@ pub fn settled_uses(alloc: Global, typing: Typing<'_>, room: usize) -> Result<Ve
     steps_uses(alloc, &typing.subst, &typing.defs, steps, room)
 }
 
-/// The kind of a source, if it is the type of one.
-fn source_kind(ty: &Ty) -> Option<KindTerm>
-    ensures { result ≡ source_of (term_of ty.now) }
-{
-    match ty {
-        Ty::Source(kind) => Some(*kind),
-        _ => None,
-    }
-}
-
 /// A kind where nothing binds its variable: stereo.
 fn free_kind(kind: KindTerm) -> Kind
     ensures { result ≡ the_free_kind kind }
@@ -45,16 +34,11 @@ fn free_kind(kind: KindTerm) -> Kind
 }
 
 /// A kind under the default solution.
-fn settle_kind(alloc: Global, subst: &Subst, kind: KindTerm) -> Result<Kind, Memory>
+fn settle_kind(subst: &Subst, kind: KindTerm) -> Kind
     requires over { IsKindOver subst.now kind }
-    ensures { IfOk result (IsSettledKind subst.now kind) }
+    ensures { IsSettledKind subst.now kind result }
 {
-    subst.has_defaults();
-    let settled = resolved(alloc, subst, &Ty::Source(kind))?;
-    match source_kind(&settled) {
-        Some(found) => Ok(free_kind(found)),
-        None => unreachable!(),
-    }
+    free_kind(resolved_kind(subst, kind))
 }
 
 /// The kinds of a use outside of defs.
@@ -62,10 +46,9 @@ fn settled_kinds(alloc: Global, subst: &Subst, kinds: &[KindTerm]) -> Result<Use
     requires over { AreKindsOver subst.now kinds.now }
     ensures { IfOk result (AreSettledKinds subst.now kinds.now) }
 {
-    let mut settled = UseKinds::new(alloc);
+    let mut settled = UseKinds::with_room(alloc, kinds.len())?;
     for kind in kinds {
-        let one = settle_kind(alloc, subst, *kind)?;
-        settled.push(KindOf::Fixed(one))?;
+        settled.push(KindOf::Fixed(settle_kind(subst, *kind)))?;
     }
     Ok(settled)
 }
@@ -92,16 +75,13 @@ fn add_founds(
 }
 
 /// A kind in the text of a def.
-fn settle_text(alloc: Global, subst: &Subst, kind: TextKind) -> Result<KindOf, Memory>
+fn settle_text(subst: &Subst, kind: TextKind) -> KindOf
     requires over { IsPendingOver subst.now (pending kind) }
-    ensures { IfOk result (IsSettledText subst.now (pending kind)) }
+    ensures { IsSettledText subst.now (pending kind) result }
 {
     match kind {
-        TextKind::Outer(outer) => {
-            let one = settle_kind(alloc, subst, outer)?;
-            Ok(KindOf::Fixed(one))
-        }
-        TextKind::Open(number) => Ok(KindOf::Given(number)),
+        TextKind::Outer(outer) => KindOf::Fixed(settle_kind(subst, outer)),
+        TextKind::Open(number) => KindOf::Given(number),
     }
 }
 
@@ -110,10 +90,9 @@ fn settled_texts(alloc: Global, subst: &Subst, kinds: &[TextKind]) -> Result<Use
     requires over { ArePendingOver subst.now (map pending kinds.now) }
     ensures { IfOk result (AreSettledTexts subst.now (map pending kinds.now)) }
 {
-    let mut settled = UseKinds::new(alloc);
+    let mut settled = UseKinds::with_room(alloc, kinds.len())?;
     for kind in kinds {
-        let one = settle_text(alloc, subst, *kind)?;
-        settled.push(one)?;
+        settled.push(settle_text(subst, *kind))?;
     }
     Ok(settled)
 }
