@@ -184,12 +184,13 @@ fn lists_and_tuples_that_can_be_made_equal_and_not(rt: HostRuntime) -> Result<()
     check_rows(&rt, rt.alloc(), &rows)
 }
 
-// A new variable that is bound to the list of variable 0.
+// A new variable that is bound to the list of variable 0, with room for it made before.
 fn bound_to_a_list(rt: &impl Abort, alloc: Global, subst: &mut Subst) -> Result<Ty, Memory> {
     let bound = list(alloc, Ty::Var(0))?;
     let covered = subst.covers(alloc, &bound)?;
     assert!(rt; covered);
-    Ok(Ty::Var(subst.fresh_bound(alloc, &bound)?))
+    subst.reserve(1, 1)?;
+    Ok(Ty::Var(subst.fresh_bound(bound)?))
 }
 
 #[test]
