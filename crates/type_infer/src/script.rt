@@ -86,7 +86,9 @@ fn make_room(typing: &mut Typing<'_>, front: &Front) -> Result<(), Memory>
     ensures { IsSameTyping typing.old typing.new }
 {
     let names = front.all.len();
-    typing.subst.reserve(front.count.saturating_add(names), names)?;
+    typing
+        .subst
+        .reserve(front.count.saturating_add(names), names)?;
     typing.before.reserve(front.count)?;
     typing.pending.reserve(front.count)?;
     typing.steps.reserve(front.count)?;
