@@ -1,5 +1,5 @@
 -- A value that is one operand, with no operator behind it.
-use Rattle.std.proofs.Common.{◌≡◌, ℕ, List, [], ◌∷◌, Bool, false, Option, None, Ok, refl, ap, ◌∙◌}
+use Rattle.std.proofs.Common.{◌≡◌, ℕ, suc, ◌+◌, List, [], ◌∷◌, Bool, false, true, Option, None, Ok, refl, ap, ◌∙◌, arith}
 use Rattle.script_lex.specs.declared.token.TokenKind.{TokenKind}
 use Rattle.script_lex.specs.declared.token.TokenKind.TheVariants.{Keyword, Symbol}
 use Rattle.script_lex.specs.declared.token.Keyword.TheVariants as word
@@ -8,12 +8,12 @@ use Rattle.script_grammar.specs.declared.tree.CompareOp.{CompareOp}
 use Rattle.script_grammar.specs.Tree.{Sort, Tree, Many, none, AFull, AnAnd, ANot, ACompare, ASum, AnAdded, AProduct, AMultiplied, APrim, Expr, And, Not, Alone, Sum, Product}
 use Rattle.script_grammar.specs.Kinds.{is_or, is_and, is_not, is_added, is_multiplied}
 use Rattle.script_grammar.specs.Read.{Reader, Read, ◌>>=◌, made, both, next, perhaps, repeat, many, behind, chain}
-use Rattle.script_grammar.specs.ReadValue.{expr, and_, not_, compare, behind_op, next_op, sum, added, product, multiplied, prim}
+use Rattle.script_grammar.specs.ReadValue.{full_by, full_step, expr, and_, not_, compare, behind_op, next_op, sum, added, product, multiplied, prim}
 use Rattle.parse_base.specs.declared.fault.Fault.{Fault}
 use Rattle.parse_base.specs.declared.fault.Fault.TheVariants as faults
 use Rattle.parse_base.specs.Gives.{Fails}
 use Rattle.value_parse.proofs.Both.{both_goes}
-use Rattle.value_parse.specs.Operand.{is_operator, lone, as_plain, plain}
+use Rattle.value_parse.specs.Operand.{is_bare, is_operator, lone, as_plain, plain}
 
 -- ---- where no operator stands next, none of each kind does
 
@@ -100,3 +100,17 @@ module _ (loose : Bool) (stamp : ℕ → ℕ) (full : Reader (Tree AFull)) where
   unfolding expr and_ not_ compare sum product chain
   operand_fails w inner negated faults.Memory lead fault = tt
   operand_fails w inner negated (faults.Syntax left) lead fault = rw (lead, fault) refl
+
+-- ---- a value that begins with its first operand
+
+no_sign : (loose : Bool) (stamp : ℕ → ℕ) (full : Reader (Tree AFull)) (w : List TokenKind) → is_bare w ≡ true → full_step loose stamp full w ≡ plain loose stamp full w
+unfolding full_step
+no_sign loose stamp full [] is = refl
+no_sign loose stamp full (Symbol sign.Minus ∷ w) is = absurd cc
+no_sign loose stamp full (k ∷ w) is = refl
+
+pub bare_full : (n m : ℕ) (stamp : ℕ → ℕ) (w : List TokenKind) → n ≡ m + 1 → is_bare w ≡ true → full_by n stamp w ≡ plain false stamp (full_by m stamp) w
+unfolding full_by
+bare_full n m stamp w e is =
+    let next : n ≡ suc m = omega arith in
+    ap (λ (k : ℕ). full_by k stamp w) next ∙ no_sign false stamp (full_by m stamp) w is

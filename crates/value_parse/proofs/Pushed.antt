@@ -8,7 +8,9 @@ use Rattle.script_grammar.specs.Tree.{Sort, Tree, AFull, AnArg, Arg as an_argume
 use Rattle.script_grammar.specs.Read.{Reader, Read, next, behind}
 use Rattle.script_grammar.specs.View.{view_arg}
 use Rattle.script_grammar.specs.declared.tree.Arg.{Arg}
-use Rattle.parse_base.specs.Gives.{kinds}
+use Rattle.parse_base.specs.declared.fault.Fault.{Fault}
+use Rattle.parse_base.specs.declared.fault.Fault.TheVariants as faults
+use Rattle.parse_base.specs.Gives.{Fails, kinds}
 use Rattle.value_parse.specs.Operand.{as_argument}
 use Rattle.value_parse.proofs.Chained.{Chaining, chain_begins, chain_goes_on}
 
@@ -36,3 +38,8 @@ pub pushes_argument : (at : ℕ) (label : Option (List ℕ)) (x : Arg) (f : Tree
     → view_arg x ≡ an_argument at label f → items' ≡ items ++ x ∷ [] → r ≡ Ok (f, w) → (y : Arg) × (items' ≡ items ++ y ∷ []) × (as_argument at label r ≡ Ok (view_arg y, w))
 pushes_argument at label x f w r items items' made_of pushed is =
     (x, pushed, ap (as_argument at label) is ∙ ap (λ (t : Tree AnArg). Ok (t, w)) (sym made_of))
+
+-- and none, where no value was read
+pub argument_fails : (at : ℕ) (label : Option (List ℕ)) (e : Fault) (r : Read (Tree AFull)) → Fails e r → Fails e (as_argument at label r)
+argument_fails at label faults.Memory r fault = tt
+argument_fails at label (faults.Syntax left) r fault = ap (as_argument at label) fault

@@ -96,6 +96,12 @@ is_operator (Symbol sign.Greater) = true
 is_operator (Symbol sign.AtLeast) = true
 is_operator k = false
 
+-- whether a value that begins here begins with its first operand
+abbrev pub is_bare : List TokenKind → Bool
+is_bare (Symbol sign.Minus ∷ r) = false
+is_bare (Keyword word.Not ∷ r) = false
+is_bare w = true
+
 -- a value that is one operand, behind `not` or not
 abbrev pub lone : Bool → Tree APrim → Tree AFull
 lone negated p = Plain (Expr (And (Not negated (Alone (Sum (Product p none) none))) none) none)

@@ -1,22 +1,25 @@
 // Calls and their arguments.
-ghost use Rattle.std.specs.Prelude.{◌≡◌, ◌<◌, ◌≤◌, ◌^◌, [], IfOk, length, map, ℕ};
+ghost use Rattle.std.specs.Prelude.{◌≡◌, ◌<◌, ◌≤◌, ◌+◌, ◌^◌, ◌++◌, ◌∷◌, [], IfOk, IfSome, Ok, false, length, map, true, vec_capacity, vec_len, ℕ};
 ghost use Rattle.std.specs.List.{All};
-ghost use Rattle.script_grammar.specs.Kinds.{is_comma};
-ghost use Rattle.script_grammar.specs.Read.{Read, behind};
+ghost use Rattle.script_grammar.specs.Kinds.{is_comma, is_not};
+ghost use Rattle.script_grammar.specs.Read.{Read, behind, perhaps};
 ghost use Rattle.script_grammar.specs.Tree.{Tree, Many, AFull, AnArg, Arg as an_argument};
-ghost use Rattle.script_grammar.specs.ReadValue.{full_by, call, args, arg};
-ghost use Rattle.script_grammar.specs.View.{listed, view_full, view_call, view_arg};
-ghost use Rattle.script_grammar.specs.Whole.{IsWholeFull, IsWholeCall, IsWholeArg};
+ghost use Rattle.script_grammar.specs.ReadValue.{full_by, call, args, arg, prim};
+ghost use Rattle.script_grammar.specs.View.{listed, view_full, view_call, view_arg, view_prim};
+ghost use Rattle.script_grammar.specs.declared.tree.Arg.{Arg};
+ghost use Rattle.script_grammar.specs.Whole.{IsWholeFull, IsWholeCall, IsWholeArg, IsWholePrim};
 ghost use Rattle.parse_base.specs.Gives.{kinds, Gives, places};
-ghost use Rattle.value_parse.specs.Operand.{as_call, chained, labelled, as_argument, Pushes};
+ghost use Rattle.value_parse.specs.Operand.{as_call, chained, labelled, as_argument, is_bare, lone, plain, Pushes};
 
-use crate::number::argument_label;
-use crate::values::full;
+use crate::logic::expr_from;
+use crate::number::{argument_label, at_operator, is_bare};
+use crate::operands::operand;
+use crate::values::{full, in_full, lone};
 use liq_base::Text;
 use parse_base::Fault;
 use parse_base::token::{self, Class, place};
 use script_grammar::make;
-use script_grammar::tree::{Arg, Call, Full};
+use script_grammar::tree::{Arg, Call, Full, Operand};
 use script_lex::{Token, TokenKind};
 use std::alloc::Global;
 
@@ -185,7 +188,77 @@ fn labelled<'a>(
     ensures gives { Pushes view_arg items.old.items items.new.items result (labelled at label (full_by levels (places total)) (kinds tokens.now)) }
     ensures whole { IfOk result (λ _. All IsWholeArg items.old.items → All IsWholeArg items.new.items) }
 {
-    push_arg(at, label, items, full(alloc, total, levels, tokens))
+    match bare_levels(levels, tokens) {
+        None => push_arg(at, label, items, full(alloc, total, levels, tokens)),
+        Some(below) => {
+            items.reserve(1)?;
+            push_operand(
+                alloc,
+                total,
+                below,
+                at,
+                label,
+                items,
+                tokens,
+                operand(alloc, total, below, false, tokens),
+            )
+        }
+    }
+}
+
+// How many levels may nest in a value that begins with its first operand; none where it does not, or may not stand here.
+fn bare_levels(levels: usize, tokens: &[Token]) -> Option<usize>
+    ensures bare { IfSome result (λ below. (levels ≡ below + 1) × (is_bare (kinds tokens.now) ≡ true)) }
+{
+    if levels == 0 || !is_bare(tokens) {
+        None
+    } else {
+        Some(levels - 1)
+    }
+}
+
+// The same, once the first operand of the value is read. That is mostly all of the value, which is then made where it stays.
+#[inline(never)]
+#[cycle(value)]
+fn push_operand<'a>(
+    alloc: Global,
+    total: usize,
+    levels: usize,
+    at: u32,
+    label: Option<Text>,
+    items: &mut Vec<Arg>,
+    tokens: &[Token],
+    read: Result<(Operand, &'a [Token]), Fault>,
+) -> Result<&'a [Token], Fault>
+    requires within { length tokens.now ≤ total }
+    requires small { total < 2 ^ 32 }
+    requires lead { perhaps is_not (kinds tokens.now) ≡ Ok (false, kinds tokens.now) }
+    requires room { vec_len items.old < vec_capacity items.old }
+    requires shorter { IfOk read (λ x. length x.1.now < length tokens.now) }
+    requires gives { Gives (λ x. (view_prim x.0, kinds x.1.now)) read (prim false (places total) (full_by levels (places total)) (kinds tokens.now)) }
+    requires whole { IfOk read (λ x. IsWholePrim x.0) }
+    ensures shorter { IfOk result (λ rest. length rest.now < length tokens.now) }
+    ensures gives { Pushes view_arg items.old.items items.new.items result (as_argument at label (plain false (places total) (full_by levels (places total)) (kinds tokens.now))) }
+    ensures whole { IfOk result (λ _. All IsWholeArg items.old.items → All IsWholeArg items.new.items) }
+{
+    let (operand, rest) = read?;
+    if at_operator(rest) {
+        let first = Ok((operand, rest));
+        let value = expr_from(alloc, total, levels, false, tokens, false, tokens, first);
+        push_arg(at, label, items, in_full(value))
+    } else {
+        push_lone(alloc, at, label, items, operand);
+        Ok(rest)
+    }
+}
+
+// An argument that is one operand.
+fn push_lone(alloc: Global, at: u32, label: Option<Text>, items: &mut Vec<Arg>, operand: Operand)
+    requires room { vec_len items.old < vec_capacity items.old }
+    ensures pushed { (x : Arg) × (items.new.items ≡ items.old.items ++ x ∷ []) × (view_arg x ≡ an_argument at label (lone false (view_prim operand))) }
+    ensures whole { IsWholePrim operand → All IsWholeArg items.old.items → All IsWholeArg items.new.items }
+{
+    items.push_reserved(argument(at, label, lone(alloc, false, operand)));
 }
 
 // The same, once the value is read.

@@ -5,7 +5,7 @@ ghost use Rattle.script_lex.specs.declared.token.TokenKind.TheVariants.{Symbol a
 ghost use Rattle.script_grammar.specs.Read.{next};
 ghost use Rattle.script_grammar.specs.ReadValue.{digits, whole_number, the_name, size, wav, takes_option, optional, opens_name, next_op, binds};
 ghost use Rattle.parse_base.specs.Gives.{kinds, Gives};
-ghost use Rattle.value_parse.specs.Operand.{is_operator, label_of, product_sign, sum_sign};
+ghost use Rattle.value_parse.specs.Operand.{is_bare, is_operator, label_of, product_sign, sum_sign};
 
 use liq_base::{Memory, Text};
 use parse_base::Fault;
@@ -76,6 +76,29 @@ pub fn at_operator(tokens: &[Token]) -> bool
     match tokens {
         [first, ..] => is_operator(&first.kind),
         [] => false,
+    }
+}
+
+/// Whether a value that begins here begins with its first operand: neither with `-` nor with `not`.
+pub fn is_bare(tokens: &[Token]) -> bool
+    ensures { result ≡ is_bare (kinds tokens.now) }
+{
+    match tokens {
+        [
+            Token {
+                kind: TokenKind::Symbol(Symbol::Minus),
+                ..
+            },
+            ..
+        ] => false,
+        [
+            Token {
+                kind: TokenKind::Keyword(Keyword::Not),
+                ..
+            },
+            ..
+        ] => false,
+        _ => true,
     }
 }
 

@@ -160,8 +160,8 @@ fn plain_of<'a>(
     }
 }
 
-// A value that is one operand, behind `not` or not.
-fn lone(alloc: Global, negated: bool, operand: Operand) -> Full
+/// A value that is one operand, behind `not` or not.
+pub fn lone(alloc: Global, negated: bool, operand: Operand) -> Full
     ensures made { view_full result ≡ lone negated (view_prim operand) }
     ensures whole { IsWholePrim operand → IsWholeFull result }
 {
@@ -186,9 +186,9 @@ fn lone(alloc: Global, negated: bool, operand: Operand) -> Full
     })
 }
 
-// An expression that was read, as a value.
+/// An expression that was read, as a value.
 #[inline(never)]
-fn in_full<'a>(read: Result<(Expr, &'a [Token]), Fault>) -> Result<(Full, &'a [Token]), Fault>
+pub fn in_full<'a>(read: Result<(Expr, &'a [Token]), Fault>) -> Result<(Full, &'a [Token]), Fault>
     ensures shorter { (n : ℕ) → IfOk read.entry (λ x. length x.1.now < n) → IfOk result (λ x. length x.1.now < n) }
     ensures gives { (r : Read (Tree AnExpr)) → Gives (λ x. (view_expr x.0, kinds x.1.now)) read.entry r → Gives (λ x. (view_full x.0, kinds x.1.now)) result (as_plain r) }
     ensures whole { IfOk read.entry (λ x. IsWholeExpr x.0) → IfOk result (λ x. IsWholeFull x.0) }

@@ -1,17 +1,17 @@
 use Rattle.std.proofs.Common.{ℕ, Bool, Ok, ap, length}
 use Rattle.parse_base.proofs.Levels.{full_ends, full_turn}
 use Rattle.value_parse.proofs.Signs.{added_goes}
-use Rattle.script_grammar.specs.Tree.{Tree, AFull, AnAdded, Added}
+use Rattle.script_grammar.specs.Tree.{Tree, AFull, AnArg, AnAdded, Added}
 use Rattle.script_grammar.specs.View.{view_product}
 use Rattle.script_grammar.specs.declared.tree.Added as node
 use Rattle.script_grammar.specs.declared.tree.Product.{Product}
 use Rattle.parse_base.specs.Gives.{kinds}
-use Rattle.std.proofs.Common.{◌≡◌, [], refl, sym, ◌∙◌, ◌-◌, arith}
+use Rattle.std.proofs.Common.{◌≡◌, [], false, refl, subst, sym, ◌∙◌, ◌-◌, arith}
 use Rattle.std.proofs.lemmas.List.Elements.{All-nil}
 use Rattle.std.proofs.lemmas.Result.{err_from_is_err_and}
 use Rattle.script_grammar.specs.Kinds.{is_or, is_and, is_comma, is_added, is_multiplied, is_close_round}
-use Rattle.script_grammar.specs.Read.{next, behind}
-use Rattle.script_grammar.specs.ReadValue.{full_by, and_, not_, added, multiplied, arg, args}
+use Rattle.script_grammar.specs.Read.{Read, next, behind}
+use Rattle.script_grammar.specs.ReadValue.{full_by, expr, and_, not_, added, multiplied, arg, args}
 use Rattle.script_grammar.specs.View.{view_full, view_and, view_not, view_added, view_multiplied, view_arg, view_prim}
 use Rattle.script_grammar.specs.Whole.{IsWholeFull, IsWholeAnd, IsWholeNot, IsWholeAdded, IsWholeMultiplied, IsWholeArg}
 use Rattle.parse_base.specs.Gives.{places}
@@ -19,8 +19,9 @@ use Rattle.parse_base.proofs.Turns.{begins, ends}
 use Rattle.parse_base.specs.Classes.{is_in}
 use Rattle.value_parse.proofs.Chained.{chain_ends, chain_fails_first, chain_fails, closed_none, closed_goes, closed_fails, closing_fails}
 use Rattle.value_parse.proofs.Kept.{keeps_first, keeps_more, keeps_turn, loses_first, loses_more, loses_turn}
-use Rattle.value_parse.proofs.Lone.{lone_goes, operand_fails}
-use Rattle.value_parse.proofs.Pushed.{pushes_first, pushes_more}
+use Rattle.value_parse.proofs.Lone.{bare_full, lone_goes, operand_fails}
+use Rattle.value_parse.proofs.Pushed.{argument_fails, pushes_first, pushes_more}
+use Rattle.value_parse.specs.Operand.{as_argument, plain, Pushes}
 use Rattle.value_parse.proofs.+value.Goals as goal
 
 pub logic::ands-turns-init : goal.logic::ands-turns-init
@@ -155,14 +156,46 @@ arguments::some_args-returns-in_err-rest-2-clause-gives t c =
     let p = err_from_is_err_and c.from_residual-in_err-rest-2.result c.from_residual-in_err-rest-2.ensures.1 in
     rw (p.1, p.2) (chain_fails c.turns.invariant.1 c.in_err-rest-2.field-0.0 (sym c.next_is.ensures ∙ c.turns-test.true) c.in_err-rest-2.ensures.gives)
 
-pub arguments::labelled-returns-clause-shorter : goal.arguments::labelled-returns-clause-shorter
-arguments::labelled-returns-clause-shorter t c = c.push_arg.ensures.shorter (length c.args.tokens.now) c.full.ensures.shorter
+pub arguments::labelled-returns-in-None-clause-shorter : goal.arguments::labelled-returns-in-None-clause-shorter
+arguments::labelled-returns-in-None-clause-shorter t c = c.push_arg.ensures.shorter (length c.args.tokens.now) c.full.ensures.shorter
 
-pub arguments::labelled-returns-clause-gives : goal.arguments::labelled-returns-clause-gives
-arguments::labelled-returns-clause-gives t c = c.push_arg.ensures.gives (full_by c.args.levels (places c.args.total) (kinds c.args.tokens.now)) c.full.ensures.gives
+pub arguments::labelled-returns-in-None-clause-gives : goal.arguments::labelled-returns-in-None-clause-gives
+arguments::labelled-returns-in-None-clause-gives t c = c.push_arg.ensures.gives (full_by c.args.levels (places c.args.total) (kinds c.args.tokens.now)) c.full.ensures.gives
 
-pub arguments::labelled-returns-clause-whole : goal.arguments::labelled-returns-clause-whole
-arguments::labelled-returns-clause-whole t c = c.push_arg.ensures.whole c.full.ensures.whole
+pub arguments::labelled-returns-in-None-clause-whole : goal.arguments::labelled-returns-in-None-clause-whole
+arguments::labelled-returns-in-None-clause-whole t c = c.push_arg.ensures.whole c.full.ensures.whole
+
+pub arguments::labelled-returns-in_ok-reserve-in-Some-clause-gives : goal.arguments::labelled-returns-in_ok-reserve-in-Some-clause-gives
+arguments::labelled-returns-in_ok-reserve-in-Some-clause-gives t c =
+    let stamp = places c.args.total in
+    let w = kinds c.args.tokens.now in
+    let bare = bare_full c.args.levels c.in-Some.below stamp w c.in-Some.ensures.bare.0 c.in-Some.ensures.bare.1 in
+    let pushed = subst (λ l. Pushes view_arg l c.push_operand.new.items.items c.push_operand.result (as_argument c.args.at c.args.label (plain false stamp (full_by c.in-Some.below stamp) w))) c.in_ok-reserve-in-Some.ensures.items c.push_operand.ensures.gives in
+    subst (λ (read : Read (Tree AFull)). Pushes view_arg c.args.items.now.items c.push_operand.new.items.items c.push_operand.result (as_argument c.args.at c.args.label read)) (sym bare) pushed
+
+pub arguments::push_operand-returns-then-at_operator-clause-shorter : goal.arguments::push_operand-returns-then-at_operator-clause-shorter
+arguments::push_operand-returns-then-at_operator-clause-shorter t c = c.push_arg.ensures.shorter (length c.args.tokens.now) (c.in_full.ensures.shorter (length c.args.tokens.now) c.expr_from-value.ensures.shorter)
+
+pub arguments::push_operand-returns-then-at_operator-clause-gives : goal.arguments::push_operand-returns-then-at_operator-clause-gives
+arguments::push_operand-returns-then-at_operator-clause-gives t c =
+    c.push_arg.ensures.gives (plain false (places c.args.total) (full_by c.args.levels (places c.args.total)) (kinds c.args.tokens.now))
+    (c.in_full.ensures.gives (expr false (places c.args.total) (full_by c.args.levels (places c.args.total)) (kinds c.args.tokens.now)) c.expr_from-value.ensures.gives)
+
+pub arguments::push_operand-returns-then-at_operator-clause-whole : goal.arguments::push_operand-returns-then-at_operator-clause-whole
+arguments::push_operand-returns-then-at_operator-clause-whole t c = c.push_arg.ensures.whole (c.in_full.ensures.whole c.expr_from-value.ensures.whole)
+
+pub arguments::push_operand-returns-in_err-operand-clause-gives : goal.arguments::push_operand-returns-in_err-operand-clause-gives
+arguments::push_operand-returns-in_err-operand-clause-gives t c =
+    let p = err_from_is_err_and c.from_residual.result c.from_residual.ensures.1 in
+    rw (p.1, p.2)
+    (argument_fails c.args.at c.args.label c.in_err-operand.field-0.0 (plain false (places c.args.total) (full_by c.args.levels (places c.args.total)) (kinds c.args.tokens.now))
+    (operand_fails false (places c.args.total) (full_by c.args.levels (places c.args.total)) (kinds c.args.tokens.now) (kinds c.args.tokens.now) false c.in_err-operand.field-0.0 c.requires.lead (rw c.in_err-operand.was at c.requires.gives)))
+
+pub arguments::push_operand-returns-else-at_operator-clause-gives : goal.arguments::push_operand-returns-else-at_operator-clause-gives
+arguments::push_operand-returns-else-at_operator-clause-gives t c =
+    let goes = lone_goes false (places c.args.total) (full_by c.args.levels (places c.args.total)) (kinds c.args.tokens.now) (kinds c.args.tokens.now) (kinds c.in_ok-operand.rest.now) false (view_prim c.in_ok-operand.operand) c.requires.lead (rw c.in_ok-operand.was at c.requires.gives) (sym c.at_operator.ensures ∙ c.if-at_operator.false) in
+    let pushed = c.push_lone.ensures.pushed in
+    (pushed.0, pushed.1, ap (as_argument c.args.at c.args.label) goes ∙ ap (λ (a : Tree AnArg). Ok (a, kinds c.in_ok-operand.rest.now)) (sym pushed.2))
 
 pub arguments::args-returns-then-is_closed-clause-gives : goal.arguments::args-returns-then-is_closed-clause-gives
 unfolding args

@@ -100,6 +100,9 @@ decreases-values::full_box l = 20 * length l.tokens.now + 11
 abbrev pub decreases-values::plain_of : goal.decreases-values::plain_of
 decreases-values::plain_of l = 20 * length l.tokens.now + 3
 
+abbrev pub decreases-arguments::push_operand : goal.decreases-arguments::push_operand
+decreases-arguments::push_operand l = 20 * length l.tokens.now + 3
+
 abbrev pub decreases-logic::expr_from : goal.decreases-logic::expr_from
 decreases-logic::expr_from l = 20 * length l.tokens.now + 2
 
