@@ -1,6 +1,6 @@
 // A ring of cells.
-ghost use Rattle.std.specs.Prelude.{◌≡◌, ◌+◌, ◌<◌, ◌≤◌, ◌^◌, [], ◌∷◌, ◌++◌, length, map, take, drop, slice_get, IfOk};
-ghost use Rattle.cell_ring.specs.Rings.{Ring};
+ghost use Rattle.std.specs.Prelude.{◌≡◌, ◌+◌, ◌<◌, ◌≤◌, ◌^◌, [], ◌∷◌, ◌++◌, ℕ, true, length, map, take, drop, slice_get, IfOk};
+ghost use Rattle.cell_ring.specs.Rings.{Ring, inner_cells, is_inner};
 
 use circular_buffer::HeapCircularBuffer;
 use frame_core::Cell;
@@ -49,12 +49,39 @@ impl CellRing {
         self.cells.front().copied()
     }
 
+    /// How many cells, from the front on and at most so many, begin no track.
+    pub fn inner(&self, most: u32) -> u32
+        ensures inner { (j : ℕ) → j < result → is_inner (slice_get self.now.cells j) ≡ true }
+        ensures within { result ≤ most }
+    {
+        let mut at = 0;
+        while at < most && is_inner(self.cells.get(at as usize).copied()) {
+            at += 1;
+        }
+        at
+    }
+
     /// Appends a cell.
     pub fn push(&mut self, cell: Cell)
         requires { length self.old.cells < self.old.room }
         ensures { self.new ≡ record { cells = self.old.cells ++ cell ∷ []; room = self.old.room } }
     {
         self.cells.push_back(cell);
+    }
+
+    /// Appends cells with these samples, none of which begins a track.
+    pub fn push_run(&mut self, left: &[i16], right: &[i16])
+        requires same { length right.now ≡ length left.now }
+        requires there { length self.old.cells + length left.now ≤ self.old.room }
+        ensures { self.new ≡ record { cells = self.old.cells ++ inner_cells left.now right.now; room = self.old.room } }
+    {
+        for at in 0..left.len() {
+            self.push(Cell {
+                left: left[at],
+                right: right[at],
+                first: false,
+            });
+        }
     }
 
     /// Takes the first cell away, if there is one.
@@ -92,5 +119,15 @@ fn lay(cells: &[Cell], left: &mut [i16], right: &mut [i16])
     for at in 0..cells.len() {
         left[at] = cells[at].left;
         right[at] = cells[at].right;
+    }
+}
+
+// A cell that begins no track.
+fn is_inner(slot: Option<Cell>) -> bool
+    ensures { result ≡ is_inner slot }
+{
+    match slot {
+        Some(cell) => !cell.first,
+        None => false,
     }
 }

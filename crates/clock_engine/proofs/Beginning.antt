@@ -27,14 +27,14 @@ pushed (z ∷ xs) x y zero e = inl e
 pushed (z ∷ xs) x y (suc k) e = elim (pushed xs x y k e) [ inl old ↦ inl old | inr new ↦ inr (ap suc new.0, new.1) ]
 
 pub states_more : (plan : Plan) (i : ℕ) (states : List NodeState) (state : NodeState)
-    → ((node : Node) → slice_get plan.nodes i ≡ Some node → IsNewState plan.rate i node state)
+    → ((node : Node) → slice_get plan.nodes i ≡ Some node → IsNewState plan i node state)
     → AreNewStates plan i states → AreNewStates plan (i + 1) (states ++ state ∷ [])
 states_more plan i states state new before = record {
   size = length-append states (state ∷ []) ∙ ap (λ n. n + 1) before.size;
   each = λ k node s found stored. elim (pushed states state s k stored) [
     | inl old ↦ before.each k node s found old
     | inr last ↦ (let at : i ≡ k = sym before.size ∙ sym last.0 in
-        subst (λ j. slice_get plan.nodes j ≡ Some node → IsNewState plan.rate j node s) at
-        (λ there. subst (λ z. IsNewState plan.rate i node z) last.1 (new node there)) found)
+        subst (λ j. slice_get plan.nodes j ≡ Some node → IsNewState plan j node s) at
+        (λ there. subst (λ z. IsNewState plan i node z) last.1 (new node there)) found)
   ];
 }

@@ -1,10 +1,12 @@
-pub mod Quiet
+pub mod Giving
 pub mod Filling
 pub mod Numbered
 pub mod Holding
 pub mod Ticking
+pub mod Feeding
 pub mod Made
 pub mod Beginning
 pub mod Sinks
+pub mod FedSinks
 pub mod Starting
 pub mod Mapped

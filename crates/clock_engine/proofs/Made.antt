@@ -1,5 +1,5 @@
 -- An engine after a tick.
-use Rattle.std.proofs.Common.{◌≡◌, ◌<◌, ◌≤◌, ◌+◌, ◌*◌, ◌∙◌, ℕ, zero, suc, Some, Option, List, [], ◌∷◌, All, length, get_or, map, slice_get, true, arith, refl, ap, sym, subst, ◌-◌, None, add-one}
+use Rattle.std.proofs.Common.{◌≡◌, ◌++◌, drop, append_assoc, Bool, ◌<◌, ◌≤◌, ◌+◌, ◌*◌, ◌∙◌, ℕ, zero, suc, Some, Option, List, [], ◌∷◌, flat_map, All, length, get_or, map, slice_get, true, arith, refl, ap, sym, subst, ◌-◌, None, add-one}
 use mathlib.Core.Path.{fun_ext}
 use Rattle.std.proofs.Math.Nat.{suc-mul}
 use Rattle.std.proofs.lemmas.List.{append-nil, get_or_default, get_or-map, length-map}
@@ -8,25 +8,32 @@ use Rattle.liq_base.specs.Kinds.{channels_of}
 use Rattle.liq_base.specs.Pieces.{HasRoom, IsPrefix, grown, narrowed}
 use Rattle.clock_infer.specs.declared.clock_map.NodeClock.TheVariants.{Main}
 use Rattle.op_leaf.specs.Readers.{Answer}
-use Rattle.stream_meaning.specs.Instants.{Setting, IsMeaning, clock_of, sub_of}
-use Rattle.stream_meaning.specs.Sinks.{gaps, kind_of, tick_bytes, tick_slots}
-use Rattle.stream_meaning.specs.Calls.{after_calls, calls_of_tick}
+use Rattle.frame_core.specs.Slots.{Slot}
+use Rattle.frame_core.specs.Calls.{Call}
+use Rattle.stream_meaning.specs.Arithmetic.{cells_of}
+use Rattle.stream_meaning.specs.Instants.{Setting, clock_of, sub_of}
+use Rattle.stream_meaning.specs.Sinks.{feed_cells, gaps, kind_of, tick_bytes, tick_slots}
+use Rattle.stream_meaning.specs.Calls.{HasAnswers, IsBegin, IsUnread, after_calls, answers_in, calls_of_tick, give_by, joined_upto, takes_of_tick}
+use Rattle.stream_meaning.proofs.Answering.{answers_first, answers_in-append, begin_all, begin_behind, begin_more}
+use Rattle.stream_meaning.proofs.Unread.{no_given, no_tick_takes, none_in_joined}
 use Rattle.node_states.specs.Ticks.{HasStopped, HasTicked, IsOutput, with_rest}
 use Rattle.clock_outputs.specs.declared.port.Port.{Port}
+use Rattle.clock_outputs.specs.declared.feed.FeedPort.{FeedPort}
+use Rattle.clock_outputs.specs.Feeds.{HaveGiven, HaveGivenSome, HaveOwnBuffers, given_by}
 use Rattle.clock_outputs.specs.Ports.{after_slots, emptied}
 use Rattle.clock_outputs.specs.Appends.{HaveRoom, TookAll, TookParts}
-use Rattle.engine_clocks.specs.Clocks.{AreOwnRoots}
 use Rattle.engine_ticks.specs.Lanes.{AreLanes, LanesStand}
-use Rattle.engine_ticks.specs.Runs.{Heard}
+use Rattle.engine_ticks.specs.Runs.{HasRun, Heard, HeardSome, IsMeant, with_slots}
 use Rattle.clock_engine.specs.declared.engine.Works.{Works}
 use Rattle.clock_engine.specs.declared.fault.TickFault.{TickFault}
-use Rattle.clock_engine.specs.Engines.{AreWorks, EngineStands, after_tick, held_in, output_of, setting_of}
+use Rattle.clock_engine.specs.Engines.{AreWorks, EngineStands, after_tick, feed_of, feeds_of, held_in, output_of, scene_of, setting_of}
 use Rattle.clock_engine.specs.Ticks.{HaveTickRoom, RoomsFell, HaveTicksRoom}
-use Rattle.clock_engine.proofs.Quiet.{no_calls}
+use Rattle.clock_engine.proofs.Giving.{gives_are, gives_flat}
 use Rattle.clock_engine.proofs.Filling.{filled_kind, filled_long, filled_room, filled_sink}
 use Rattle.clock_engine.proofs.Numbered.{from_mapped, got_mapped, no_item, port_inside, port_node}
 use Rattle.clock_engine.proofs.Holding.{held_grew, held_part, held_same}
-use Rattle.clock_engine.proofs.Mapped.{meaning_of}
+use Rattle.clock_engine.proofs.Mapped.{goes_down, meaning_of}
+use Rattle.clock_engine.proofs.Feeding.{feed_inside, own_buffers, own_readers}
 use Rattle.clock_engine.proofs.Ticking.{bytes_are, gaps_more, tick_heard}
 use Rattle.engine_ticks.proofs.Hearing.{after_slots-node}
 
@@ -47,17 +54,18 @@ room_less (Some left) ticks size has = λ x e.
     let same : left - size ≡ x = cc in
     omega (arith, enough, more, same)
 
+-- an engine whose outputs heard some slots of their nodes
 module _ (works other : Works) (parts : AreWorks works)
     (are_lanes : AreLanes works.shape.plan.now works.shape.library.now works.shape.clocks.now other.lanes)
-    (heard : Heard works.shape.plan.now works.shape.library.now works.shape.clocks.now (Main works.clock) works.own.items works.shape.plan.now.frame works.lanes other.lanes works.ports.items other.ports.items) where
+    (slots : ℕ → List Slot) (ports_are : other.ports.items ≡ map (λ port. after_slots (emptied port) (slots port.node)) works.ports.items) where
   -- an output that has heard its node in the tick
   abbrev hear : Port → Port
-  hear port = after_slots (emptied port) (heard.slots port.node)
+  hear port = after_slots (emptied port) (slots port.node)
 
   hear_output : (port : Port) → output_of (hear port) ≡ output_of port
   hear_output port =
-      ap (λ n. (n, (hear port).node)) (filled_sink (emptied port) (heard.slots port.node))
-      ∙ ap (λ n. (port.sink, n)) (after_slots-node (emptied port) (heard.slots port.node))
+      ap (λ n. (n, (hear port).node)) (filled_sink (emptied port) (slots port.node))
+      ∙ ap (λ n. (port.sink, n)) (after_slots-node (emptied port) (slots port.node))
 
   same_outputs : (old : List Port) → map output_of (map hear old) ≡ map output_of old
   same_outputs [] = refl
@@ -66,119 +74,173 @@ module _ (works other : Works) (parts : AreWorks works)
   -- a fact of each output that hearing keeps
   kept : (P : Port → Type 0) → ((port : Port) → P port → P (hear port)) → All P works.ports.items → All P other.ports.items
   kept P keeps all k d h =
-      subst P (sym (ap (λ xs. get_or xs k d) heard.ports_are ∙ get_or-map hear works.ports.items k d d (within k h)))
+      subst P (sym (ap (λ xs. get_or xs k d) ports_are ∙ get_or-map hear works.ports.items k d d (within k h)))
       (keeps (get_or works.ports.items k d) (all k d (within k h)))
     where
       within : (k : ℕ) → k < length other.ports.items → k < length works.ports.items
-      within k h = let same = ap length heard.ports_are ∙ length-map works.ports.items hear in omega (arith, same, h)
+      within k h = let same = ap length ports_are ∙ length-map works.ports.items hear in omega (arith, same, h)
 
-  pub parts_after : (ticks : ℕ) (stopped : Option TickFault) → AreWorks (after_tick works other ticks stopped)
-  parts_after ticks stopped = record {
+  pub parts_after : (ticks : ℕ) (stopped : Option TickFault) → map feed_of other.feeds.items ≡ map feed_of works.feeds.items
+      → All (λ feed. length feed.frame ≡ works.shape.plan.now.frame) other.feeds.items → AreWorks (after_tick works other ticks stopped)
+  parts_after ticks stopped same_feeds frames = record {
+    plan = parts.plan;
     nodes = parts.nodes;
     frame = parts.frame;
     few = parts.few;
-    readers = parts.readers;
-    feeds = parts.feeds;
     in_clocks = parts.in_clocks;
     clocks = parts.clocks;
     lanes = are_lanes;
     in_own = parts.in_own;
     own = record { each = parts.own.each };
-    outputs = ap (map output_of) heard.ports_are ∙ same_outputs works.ports.items ∙ parts.outputs;
+    outputs = ap (map output_of) ports_are ∙ same_outputs works.ports.items ∙ parts.outputs;
     kinds = kept (λ port. port.kind ≡ kind_of (setting_of works) port.node)
-        (λ port is. filled_kind (emptied port) (heard.slots port.node) ∙ is ∙ ap (kind_of (setting_of works)) (sym (after_slots-node (emptied port) (heard.slots port.node)))) parts.kinds;
+        (λ port is. filled_kind (emptied port) (slots port.node) ∙ is ∙ ap (kind_of (setting_of works)) (sym (after_slots-node (emptied port) (slots port.node)))) parts.kinds;
     rooms = kept (λ port. works.shape.plan.now.frame * (2 * channels_of port.kind) ≤ port.piece.room)
         (λ port is.
-        let kind = ap (λ k. works.shape.plan.now.frame * (2 * channels_of k)) (filled_kind (emptied port) (heard.slots port.node)) in
-        let room = filled_room (emptied port) (heard.slots port.node) in
+        let kind = ap (λ k. works.shape.plan.now.frame * (2 * channels_of k)) (filled_kind (emptied port) (slots port.node)) in
+        let room = filled_room (emptied port) (slots port.node) in
         omega (arith, is, kind, room)) parts.rooms;
+    feeds = same_feeds ∙ parts.feeds;
+    frames = frames;
   }
 
   -- an output, as it was before the tick
   pub port_before : (k : ℕ) (port : Port) → slice_get other.ports.items k ≡ Some port
       → (old : Port) × (slice_get works.ports.items k ≡ Some old) × (port ≡ hear old)
   port_before k port at =
-      let found = from_mapped hear works.ports.items k port (sym (ap (λ xs. slice_get xs k) heard.ports_are) ∙ at) in
+      let found = from_mapped hear works.ports.items k port (sym (ap (λ xs. slice_get xs k) ports_are) ∙ at) in
       (found.0, found.1, sym found.2)
 
   pub sink_before : (old : Port) → (hear old).sink ≡ old.sink
-  sink_before old = filled_sink (emptied old) (heard.slots old.node)
+  sink_before old = filled_sink (emptied old) (slots old.node)
 
   pub as_many : length other.ports.items ≡ length works.ports.items
-  as_many = ap length heard.ports_are ∙ length-map works.ports.items hear
+  as_many = ap length ports_are ∙ length-map works.ports.items hear
 
-  -- the pieces have room where pieces of a tick have
-  pub have_room : {S : Type 0} (room : S → Option ℕ) (outs : List S) → HaveTickRoom room works outs → HaveRoom room other.ports.items outs
-  have_room room outs tick = record {
-    each = λ k port out at_port at_out.
-        let found = port_before k port at_port in
-        subst (λ n. HasRoom (room out) n)
-        (sym (ap (λ p. length p.piece.bytes) found.2 ∙ filled_long (emptied found.0) (heard.slots found.0.node) works.shape.plan.now.frame refl (heard.long found.0.node)))
-        (tick.each k found.0 out found.1 at_out);
-  }
+  pub held_before : {S : Type 0} (held : S → Option (List ℕ)) (old : List S) (sink : ℕ) → held_in held other.ports.items old sink ≡ held_in held works.ports.items old sink
+  held_before held old sink =
+      ap (λ xs. held_in held xs old sink) ports_are
+      ∙ held_same held hear (λ port. filled_sink (emptied port) (slots port.node)) works.ports.items old sink
 
-  -- and take as much of it
-  pub rooms_fell : {S : Type 0} (held : S → Option (List ℕ)) (room : S → Option ℕ) (old new : List S) → TookAll held room other.ports.items (length other.ports.items) old new
-      → RoomsFell room works old new
-  rooms_fell held room old new took = record {
-    each = λ k port before after at_port at_old at_new.
-        let at : slice_get other.ports.items k ≡ Some (hear port) = ap (λ xs. slice_get xs k) heard.ports_are ∙ got_mapped hear works.ports.items k port at_port in
-        (took.each k (hear port) before after (slice_get_within other.ports.items k (hear port) at) at at_old at_new).room_fell
-        ∙ ap (λ n. narrowed n (room before)) (filled_long (emptied port) (heard.slots port.node) works.shape.plan.now.frame refl (heard.long port.node));
-  }
+  module _ (long : (i : ℕ) → length (slots i) ≡ works.shape.plan.now.frame) where
+    -- the pieces have room where pieces of a tick have
+    pub have_room : {S : Type 0} (room : S → Option ℕ) (outs : List S) → HaveTickRoom room works outs → HaveRoom room other.ports.items outs
+    have_room room outs tick = record {
+      each = λ k port out at_port at_out.
+          let found = port_before k port at_port in
+          subst (λ n. HasRoom (room out) n)
+          (sym (ap (λ p. length p.piece.bytes) found.2 ∙ filled_long (emptied found.0) (slots found.0.node) works.shape.plan.now.frame refl (long found.0.node)))
+          (tick.each k found.0 out found.1 at_out);
+    }
 
-  -- what the sinks took in the tick is off the room for so many ticks
-  pub room_after : {S : Type 0} (held : S → Option (List ℕ)) (room : S → Option ℕ) (old new : List S) → length old ≡ length works.ports.items → length new ≡ length old
-      → TookAll held room other.ports.items (length other.ports.items) old new
-      → (stopped : Option TickFault) (count ticks : ℕ) → HaveTicksRoom room works old (ticks + 1) → HaveTicksRoom room (after_tick works other count stopped) new ticks
-  room_after held room old new old_size new_size took stopped count ticks all = record {
-    each = λ k port out at_port at_out.
-        let found = port_before k port at_port in
-        let here : k < length other.ports.items = slice_get_within other.ports.items k port at_port in
-        let many = as_many in
-        let within : k < length old = omega (arith, here, many, old_size) in
-        let before = get_or old k out in
-        let was : slice_get old k ≡ Some before = slice_get_read old (length old) k before refl within (get_or_default old k out before within) in
-        let fell = (took.each k port before out here at_port was at_out).room_fell in
-        let long = ap (λ p. length p.piece.bytes) found.2 ∙ filled_long (emptied found.0) (heard.slots found.0.node) works.shape.plan.now.frame refl (heard.long found.0.node) in
-        let kind = ap (λ p. p.kind) found.2 ∙ filled_kind (emptied found.0) (heard.slots found.0.node) in
-        subst (λ r. HasRoom r (ticks * (works.shape.plan.now.frame * (2 * channels_of port.kind)))) (sym fell)
-        (subst (λ q. HasRoom (narrowed (length port.piece.bytes) (room before)) (ticks * (works.shape.plan.now.frame * (2 * channels_of q)))) (sym kind)
-        (subst (λ n. HasRoom (narrowed n (room before)) (ticks * (works.shape.plan.now.frame * (2 * channels_of found.0.kind)))) (sym long)
-        (room_less (room before) ticks (works.shape.plan.now.frame * (2 * channels_of found.0.kind)) (all.each k found.0 before found.1 was))));
-  }
+    -- and take as much of it
+    pub rooms_fell : {S : Type 0} (held : S → Option (List ℕ)) (room : S → Option ℕ) (old new : List S) → TookAll held room other.ports.items (length other.ports.items) old new
+        → RoomsFell room works old new
+    rooms_fell held room old new took = record {
+      each = λ k port before after at_port at_old at_new.
+          let at : slice_get other.ports.items k ≡ Some (hear port) = ap (λ xs. slice_get xs k) ports_are ∙ got_mapped hear works.ports.items k port at_port in
+          (took.each k (hear port) before after (slice_get_within other.ports.items k (hear port) at) at at_old at_new).room_fell
+          ∙ ap (λ n. narrowed n (room before)) (filled_long (emptied port) (slots port.node) works.shape.plan.now.frame refl (long port.node));
+    }
 
-  module _ (t : ℕ) (answers : ℕ → List Answer) (stands : EngineStands works t answers) (few : works.ticks < 1000000000) (rest : ℕ → List Answer) where
+    -- what the sinks took in the tick is off the room for so many ticks
+    pub room_after : {S : Type 0} (held : S → Option (List ℕ)) (room : S → Option ℕ) (old new : List S) → length old ≡ length works.ports.items → length new ≡ length old
+        → TookAll held room other.ports.items (length other.ports.items) old new
+        → (stopped : Option TickFault) (count ticks : ℕ) → HaveTicksRoom room works old (ticks + 1) → HaveTicksRoom room (after_tick works other count stopped) new ticks
+    room_after held room old new old_size new_size took stopped count ticks all = record {
+      each = λ k port out at_port at_out.
+          let found = port_before k port at_port in
+          let here : k < length other.ports.items = slice_get_within other.ports.items k port at_port in
+          let many = as_many in
+          let within : k < length old = omega (arith, here, many, old_size) in
+          let before = get_or old k out in
+          let was : slice_get old k ≡ Some before = slice_get_read old (length old) k before refl within (get_or_default old k out before within) in
+          let fell = (took.each k port before out here at_port was at_out).room_fell in
+          let size = ap (λ p. length p.piece.bytes) found.2 ∙ filled_long (emptied found.0) (slots found.0.node) works.shape.plan.now.frame refl (long found.0.node) in
+          let kind = ap (λ p. p.kind) found.2 ∙ filled_kind (emptied found.0) (slots found.0.node) in
+          subst (λ r. HasRoom r (ticks * (works.shape.plan.now.frame * (2 * channels_of port.kind)))) (sym fell)
+          (subst (λ q. HasRoom (narrowed (length port.piece.bytes) (room before)) (ticks * (works.shape.plan.now.frame * (2 * channels_of q)))) (sym kind)
+          (subst (λ n. HasRoom (narrowed n (room before)) (ticks * (works.shape.plan.now.frame * (2 * channels_of found.0.kind)))) (sym size)
+          (room_less (room before) ticks (works.shape.plan.now.frame * (2 * channels_of found.0.kind)) (all.each k found.0 before found.1 was))));
+    }
+
+filled_whole : (slots frame : List Slot) → length slots ≡ length frame → slots ++ drop (length slots) frame ≡ slots
+filled_whole [] [] same = refl
+filled_whole [] (s ∷ frame) same = absurd (omega (arith, same))
+filled_whole (s ∷ slots) [] same = absurd (omega (arith, same))
+filled_whole (s ∷ slots) (f ∷ frame) same = ap (λ (xs : List Slot). s ∷ xs) (filled_whole slots frame (omega (arith, same)))
+
+keys_same : (slots : ℕ → List Slot) (feeds : List FeedPort) → map feed_of (map (λ feed. with_slots feed (slots feed.node)) feeds) ≡ map feed_of feeds
+keys_same slots [] = refl
+keys_same slots (feed ∷ feeds) = ap (λ keys. feed_of feed ∷ keys) (keys_same slots feeds)
+
+none_given_by : (buffer : ℕ) (accepted : ℕ → Bool) (found : Option FeedPort) → answers_in buffer (given_by accepted found) ≡ []
+none_given_by buffer accepted None = refl
+none_given_by buffer accepted (Some feed) = no_given buffer feed.buffer (cells_of feed.frame) (accepted feed.buffer)
+
+pub none_given_in : (buffer : ℕ) (accepted : ℕ → Bool) (feeds : List FeedPort) (n : ℕ) → answers_in buffer (joined_upto (λ k. given_by accepted (slice_get feeds k)) n) ≡ []
+none_given_in buffer accepted feeds n = none_in_joined buffer (λ k. given_by accepted (slice_get feeds k)) (λ k. none_given_by buffer accepted (slice_get feeds k)) n
+
+grown_none : (held : Option (List ℕ)) → held ≡ grown [] held
+grown_none None = refl
+grown_none (Some bytes) = ap Some (sym (append-nil bytes))
+
+-- other answers behind the same ones: first those of these calls
+abbrev pub behind_calls : List Call → (ℕ → List Answer) → ℕ → List Answer
+behind_calls more rest buffer = answers_in buffer more ++ rest buffer
+
+pub world_is : (setting : Setting) (answers : ℕ → List Answer) (more : List Call) (rest : ℕ → List Answer)
+    → with_rest setting answers (behind_calls more rest) ≡ with_rest setting (after_calls answers more) rest
+world_is setting answers more rest =
+    ap (λ (f : ℕ → List Answer). record { plan = setting.plan; library = setting.library; clocks = setting.clocks; start = setting.start; answers = f })
+    (fun_ext (λ buffer. sym (append_assoc (answers buffer) (answers_in buffer more) (rest buffer))))
+
+pub world_has : (setting : Setting) (answers : ℕ → List Answer) (more : List Call) (rest : ℕ → List Answer) → HasAnswers (with_rest setting answers (behind_calls more rest)) (after_calls answers more)
+world_has setting answers more rest = record {
+  rest = rest;
+  are = λ buffer. sym (append_assoc (answers buffer) (answers_in buffer more) (rest buffer));
+}
+
+-- what holds of a plan whatever its answers
+pub meant_by : (works : Works) → AreWorks works → (answers rest : ℕ → List Answer) → IsMeant (with_rest (setting_of works) answers rest) (sub_of (with_rest (setting_of works) answers rest)) works.own.items
+meant_by works parts answers rest =
+    let S = with_rest (setting_of works) answers rest in
+    record {
+      meaning = meaning_of S parts.clocks parts.in_clocks;
+      down = goes_down S parts.clocks parts.in_clocks (sub_of S);
+      readers = own_readers S parts.plan;
+      roots = record { each = parts.own.each };
+    }
+
+module _ (works other : Works) (parts : AreWorks works) {T : Type 0} (stands_for : T → List Call → Type 0) (a b : T)
+    (heard : Heard stands_for works.shape.plan.now works.shape.library.now works.shape.clocks.now (Main works.clock) works.own.items works.shape.plan.now.frame (scene_of works a) (scene_of other b))
+    (t : ℕ) (answers : ℕ → List Answer) (stands : EngineStands works t answers) (few : works.ticks < 1000000000) where
+  module _ (rest : ℕ → List Answer) (has : HasAnswers (with_rest (setting_of works) answers rest) (after_calls answers heard.more)) where
     abbrev S : Setting
     S = with_rest (setting_of works) answers rest
 
-    own : AreOwnRoots S works.own.items
-    own = record { each = parts.own.each }
-
-    meaning : IsMeaning S (sub_of S)
-    meaning = meaning_of S parts.clocks parts.in_clocks
+    ran : HasRun S (sub_of S) (Main works.clock) (t * works.shape.plan.now.frame) works.shape.plan.now.frame heard.slots answers heard.more other.lanes
+    ran = heard.run S (sub_of S) (t * works.shape.plan.now.frame) answers (meant_by works parts answers rest) has (stands.lanes rest)
 
     slots_are : (i : ℕ) → clock_of S i ≡ Main works.clock → heard.slots i ≡ tick_slots S i t
-    slots_are i inside = tick_heard S works.clock t i (heard.slots i) inside
-        ((heard.run S (sub_of S) (t * works.shape.plan.now.frame) meaning own (stands.lanes rest)).slots_are i)
+    slots_are i inside = tick_heard S works.clock t i (heard.slots i) inside (ran.slots_are i)
 
     -- an output after the tick
     port_after : (k : ℕ) (port : Port) → slice_get other.ports.items k ≡ Some port
-        → (old : Port) × (slice_get works.ports.items k ≡ Some old) × (hear old ≡ port) × (clock_of S old.node ≡ Main works.clock)
+        → (old : Port) × (slice_get works.ports.items k ≡ Some old) × (after_slots (emptied old) (heard.slots old.node) ≡ port) × (clock_of S old.node ≡ Main works.clock)
     port_after k port at =
-        let found = from_mapped hear works.ports.items k port (sym (ap (λ xs. slice_get xs k) heard.ports_are) ∙ at) in
+        let found = from_mapped (λ p. after_slots (emptied p) (heard.slots p.node)) works.ports.items k port (sym (ap (λ xs. slice_get xs k) heard.ports_are) ∙ at) in
         (found.0, found.1, found.2, port_inside (setting_of works) works.clock works.ports.items parts.outputs k found.0 found.1)
 
-    gaps_after : (k : ℕ) (port : Port) → slice_get other.ports.items k ≡ Some port → port.gaps ≡ gaps S port.node (suc t)
+    pub gaps_after : (k : ℕ) (port : Port) → slice_get other.ports.items k ≡ Some port → port.gaps ≡ gaps S port.node (suc t)
     gaps_after k port at =
         let found = port_after k port at in
-        let old = found.0 in
         let small : t < 1000000000 = (let made = stands.made in omega (arith, made, few)) in
         sym (ap (λ p. p.gaps) found.2)
         ∙ gaps_more S t found.0 (heard.slots found.0.node) small parts.frame (stands.gaps_are rest k found.0 found.1) (slots_are found.0.node found.3)
         ∙ ap (λ i. gaps S i (suc t)) (sym (after_slots-node (emptied found.0) (heard.slots found.0.node)) ∙ ap (λ p. p.node) found.2)
 
-    bytes_after : (sink node : ℕ) → IsOutput (setting_of works) works.clock sink node → (k : ℕ) (port : Port) → slice_get other.ports.items k ≡ Some port → port.sink ≡ sink
+    pub bytes_after : (sink node : ℕ) → IsOutput (setting_of works) works.clock sink node → (k : ℕ) (port : Port) → slice_get other.ports.items k ≡ Some port → port.sink ≡ sink
         → port.piece.bytes ≡ tick_bytes S node t
     bytes_after sink node output k port at same =
         let found = port_after k port at in
@@ -188,62 +250,167 @@ module _ (works other : Works) (parts : AreWorks works)
         ∙ bytes_are S t found.0 (heard.slots found.0.node) (all_at (λ p. p.kind ≡ kind_of (setting_of works) p.node) works.ports.items parts.kinds k found.0 found.1) (slots_are found.0.node found.3)
         ∙ ap (λ i. tick_bytes S i t) its
 
-    lanes_after : LanesStand S (sub_of S) (Main works.clock) (suc t * works.shape.plan.now.frame) other.lanes
-    lanes_after =
-        let run = heard.run S (sub_of S) (t * works.shape.plan.now.frame) meaning own (stands.lanes rest) in
-        subst (λ n. LanesStand S (sub_of S) (Main works.clock) n other.lanes) (sym (suc-mul t works.shape.plan.now.frame)) run.lanes_stand
+    pub lanes_after : LanesStand S (sub_of S) (Main works.clock) (suc t * works.shape.plan.now.frame) (after_calls answers heard.more) other.lanes
+    lanes_after = subst (λ n. LanesStand S (sub_of S) (Main works.clock) n (after_calls answers heard.more) other.lanes) (sym (suc-mul t works.shape.plan.now.frame)) ran.lanes_stand
 
-  pub stands_after : (t : ℕ) (answers : ℕ → List Answer) → EngineStands works t answers → works.ticks < 1000000000
-      → EngineStands (after_tick works other (works.ticks + 1) works.stopped) (suc t) answers
-  stands_after t answers stands few = record {
-    made = (let made = stands.made in omega (arith, made));
-    runs = stands.runs;
-    none = stands.none;
-    lanes = λ rest. lanes_after t answers stands few rest;
-    gaps_are = λ rest k port at. gaps_after t answers stands few rest k port at;
-  }
+    pub takes_are : heard.more ≡ takes_of_tick S works.clock t
+    takes_are = ran.calls
 
-  module _ {S : Type 0} (held : S → Option (List ℕ)) (room : S → Option ℕ) (old new : List S)
-      (old_size : length old ≡ length works.ports.items) (new_size : length new ≡ length old) where
-    in_ports : length other.ports.items ≡ length works.ports.items
-    in_ports = ap length heard.ports_are ∙ length-map works.ports.items hear
+    -- a feed has the cells of its node
+    feed_cells_are : (k : ℕ) (feed : FeedPort) → slice_get other.feeds.items k ≡ Some feed → cells_of feed.frame ≡ feed_cells S feed.node t
+    feed_cells_are k feed at =
+        let found = from_mapped (λ f. with_slots f (heard.slots f.node)) works.feeds.items k feed (sym (ap (λ xs. slice_get xs k) heard.feeds_are) ∙ at) in
+        let inside = feed_inside (setting_of works) works.clock works.feeds.items parts.feeds k found.0 found.1 in
+        let size = all_at (λ f. length f.frame ≡ works.shape.plan.now.frame) works.feeds.items parts.frames k found.0 found.1 in
+        ap (λ f. cells_of f.frame) (sym found.2)
+        ∙ ap cells_of (filled_whole (heard.slots found.0.node) found.0.frame (heard.long found.0.node ∙ sym size) ∙ slots_are found.0.node inside)
+        ∙ ap (λ i. feed_cells S i t) (ap (λ f. f.node) found.2)
 
-    held_before : (sink : ℕ) → held_in held other.ports.items old sink ≡ held_in held works.ports.items old sink
-    held_before sink =
-        ap (λ xs. held_in held xs old sink) heard.ports_are
-        ∙ held_same held hear (λ port. filled_sink (emptied port) (heard.slots port.node)) works.ports.items old sink
+    same_feeds : map feed_of other.feeds.items ≡ feeds_of (setting_of works) works.clock
+    same_feeds = ap (map feed_of) heard.feeds_are ∙ keys_same heard.slots works.feeds.items ∙ parts.feeds
 
-    nothing_more : (answers : ℕ → List Answer) → answers ≡ after_calls answers []
-    nothing_more answers = fun_ext (λ buffer. sym (append-nil (answers buffer)))
+    -- the gives are those of the definition
+    pub gives_of : (accepted : ℕ → Bool) → joined_upto (λ k. given_by accepted (slice_get other.feeds.items k)) (length other.feeds.items) ≡ flat_map (give_by S accepted works.clock t) S.plan.sinks
+    gives_of accepted = gives_flat accepted other.feeds.items ∙ gives_are S accepted works.clock t S.plan.sinks other.feeds.items same_feeds feed_cells_are
 
-    pub has_ticked : (t : ℕ) (answers : ℕ → List Answer) → EngineStands works t answers → works.ticks < 1000000000
+  pub own_feeds : HaveOwnBuffers other.feeds.items
+  own_feeds = own_buffers (setting_of works) works.clock parts.plan other.feeds.items (ap (map feed_of) heard.feeds_are ∙ keys_same heard.slots works.feeds.items ∙ parts.feeds)
+
+  -- after all gives
+  module _ (c : T) (given : HaveGiven stands_for other.feeds.items (length other.feeds.items) b c) where
+    abbrev all_calls : List Call
+    all_calls = heard.more ++ given.more
+
+    -- a give brings no answer
+    no_more : (buffer : ℕ) → answers_in buffer given.more ≡ []
+    no_more buffer =
+        ap (answers_in buffer) (given.are own_feeds)
+        ∙ none_given_in buffer given.accepted other.feeds.items (length other.feeds.items)
+
+    front_is : after_calls answers heard.more ≡ after_calls answers all_calls
+    front_is = fun_ext (λ buffer. ap (λ (as' : List Answer). answers buffer ++ as')
+        (sym (answers_in-append buffer heard.more given.more ∙ ap (λ (as' : List Answer). answers_in buffer heard.more ++ as') (no_more buffer) ∙ append-nil (answers_in buffer heard.more))))
+
+    has_first : (rest : ℕ → List Answer) → HasAnswers (with_rest (setting_of works) answers (behind_calls all_calls rest)) (after_calls answers heard.more)
+    has_first rest = answers_first (with_rest (setting_of works) answers (behind_calls all_calls rest)) answers heard.more given.more (world_has (setting_of works) answers all_calls rest)
+
+    calls_are_tick : (rest : ℕ → List Answer) → all_calls ≡ calls_of_tick (with_rest (setting_of works) (after_calls answers all_calls) rest) given.accepted works.clock t
+    calls_are_tick rest =
+        let S = with_rest (setting_of works) answers (behind_calls all_calls rest) in
+        ap (λ (cs : List Call). cs ++ given.more) (takes_are (behind_calls all_calls rest) (has_first rest))
+        ∙ ap (λ (cs : List Call). takes_of_tick S works.clock t ++ cs) (given.are own_feeds ∙ gives_of (behind_calls all_calls rest) (has_first rest) given.accepted)
+        ∙ ap (λ W. calls_of_tick W given.accepted works.clock t) (world_is (setting_of works) answers all_calls rest)
+
+    none_unread : (buffer : ℕ) → IsUnread (setting_of works) (Main works.clock) buffer → after_calls answers all_calls buffer ≡ []
+    none_unread buffer unread =
+        let W = with_rest (setting_of works) (after_calls answers all_calls) (λ buffer. []) in
+        let calls = calls_are_tick (λ buffer. []) in
+        let none : answers_in buffer all_calls ≡ [] = ap (answers_in buffer) calls ∙ no_tick_takes W given.accepted works.clock t buffer (record { none = unread.none }) in
+        ap (λ (as' : List Answer). as' ++ answers_in buffer all_calls) (stands.others buffer unread) ∙ none
+
+    pub stands_after : EngineStands (after_tick works other (works.ticks + 1) works.stopped) (suc t) (after_calls answers all_calls)
+    stands_after = record {
+      made = (let made = stands.made in omega (arith, made));
+      runs = stands.runs;
+      others = λ buffer unread. none_unread buffer (record { none = unread.none });
+      lanes = λ rest.
+          subst (λ W. LanesStand W (sub_of W) (Main works.clock) (suc t * works.shape.plan.now.frame) (after_calls answers all_calls) other.lanes) (world_is (setting_of works) answers all_calls rest)
+          (subst (λ (f : ℕ → List Answer). LanesStand (with_rest (setting_of works) answers (behind_calls all_calls rest)) (sub_of (with_rest (setting_of works) answers (behind_calls all_calls rest))) (Main works.clock)
+          (suc t * works.shape.plan.now.frame) f other.lanes) front_is (lanes_after (behind_calls all_calls rest) (has_first rest)));
+      gaps_are = λ rest k port at.
+          gaps_after (behind_calls all_calls rest) (has_first rest) k port at ∙ ap (λ W. gaps W port.node (suc t)) (world_is (setting_of works) answers all_calls rest);
+    }
+
+    pub has_ticked : {X : Type 0} (held : X → Option (List ℕ)) (room : X → Option ℕ) (old new : List X) → length old ≡ length works.ports.items → length new ≡ length old
         → TookAll held room other.ports.items (length other.ports.items) old new
-        → HasTicked (EngineStands (after_tick works other (works.ticks + 1) works.stopped)) (setting_of works) works.clock t answers []
+        → HasTicked (EngineStands (after_tick works other (works.ticks + 1) works.stopped)) (setting_of works) works.clock t answers all_calls
         (held_in held works.ports.items old) (held_in held other.ports.items new)
-    has_ticked t answers stands few took = record {
-      accepted = λ buffer. true;
-      are = λ rest. no_calls (with_rest (setting_of works) (after_calls answers []) rest) parts.readers parts.feeds (λ buffer. true) works.clock t;
-      stand = subst (λ a. EngineStands (after_tick works other (works.ticks + 1) works.stopped) (suc t) a) (nothing_more answers) (stands_after t answers stands few);
-      grew = λ rest sink node output. subst
-          (λ a. held_in held other.ports.items new sink ≡ grown (tick_bytes (with_rest (setting_of works) a rest) node t) (held_in held works.ports.items old sink)) (nothing_more answers)
-          (held_grew held room sink (tick_bytes (with_rest (setting_of works) answers rest) node t) other.ports.items old new
-          (old_size ∙ sym in_ports) (new_size ∙ old_size ∙ sym in_ports)
-          (λ k port at same. bytes_after t answers stands few rest sink node output k port at same) took.each
-          ∙ ap (grown (tick_bytes (with_rest (setting_of works) answers rest) node t)) (held_before sink));
-    }
+    has_ticked held room old new old_size new_size took =
+        let in_ports : length other.ports.items ≡ length works.ports.items = ap length heard.ports_are ∙ length-map works.ports.items (λ port. after_slots (emptied port) (heard.slots port.node)) in
+        record {
+          accepted = given.accepted;
+          are = calls_are_tick;
+          stand = stands_after;
+          grew = λ rest sink node output.
+              held_grew held room sink (tick_bytes (with_rest (setting_of works) (after_calls answers all_calls) rest) node t) other.ports.items old new
+              (old_size ∙ sym in_ports) (new_size ∙ old_size ∙ sym in_ports)
+              (λ k port at same. bytes_after (behind_calls all_calls rest) (has_first rest) sink node output k port at same
+              ∙ ap (λ W. tick_bytes W node t) (world_is (setting_of works) answers all_calls rest)) took.each
+              ∙ ap (grown (tick_bytes (with_rest (setting_of works) (after_calls answers all_calls) rest) node t))
+              (ap (λ xs. held_in held xs old sink) heard.ports_are ∙ held_same held (λ port. after_slots (emptied port) (heard.slots port.node)) (λ port. filled_sink (emptied port) (heard.slots port.node)) works.ports.items old sink);
+        }
 
-    pub has_stopped : (t : ℕ) (answers : ℕ → List Answer) → EngineStands works t answers → works.ticks < 1000000000
-        → TookParts held room other.ports.items old new
-        → HasStopped (setting_of works) works.clock t answers [] (held_in held works.ports.items old) (held_in held other.ports.items new)
-    has_stopped t answers stands few took = record {
-      accepted = λ buffer. true;
-      begun = λ rest. record { rest = calls_of_tick (with_rest (setting_of works) (after_calls answers []) rest) (λ buffer. true) works.clock t; are = refl };
-      part = λ rest sink node output.
-          let grew = held_part held room sink (tick_bytes (with_rest (setting_of works) answers rest) node t) other.ports.items old new
-          (old_size ∙ sym in_ports) (new_size ∙ old_size ∙ sym in_ports)
-          (λ k port at same. bytes_after t answers stands few rest sink node output k port at same) took.each in (
-            grew.part,
-            subst (λ a. IsPrefix grew.part (tick_bytes (with_rest (setting_of works) a rest) node t)) (nothing_more answers) grew.front,
-            grew.is ∙ ap (grown grew.part) (held_before sink),
-          );
-    }
+  -- an output failed: no chunk was given
+  pub has_stopped : {X : Type 0} (held : X → Option (List ℕ)) (room : X → Option ℕ) (old new : List X) → length old ≡ length works.ports.items → length new ≡ length old
+      → TookParts held room other.ports.items old new
+      → HasStopped (setting_of works) works.clock t answers heard.more (held_in held works.ports.items old) (held_in held other.ports.items new)
+  has_stopped held room old new old_size new_size took =
+      let in_ports : length other.ports.items ≡ length works.ports.items = ap length heard.ports_are ∙ length-map works.ports.items (λ port. after_slots (emptied port) (heard.slots port.node)) in
+      record {
+        accepted = λ buffer. true;
+        begun = λ rest.
+            let S = with_rest (setting_of works) answers (behind_calls heard.more rest) in
+            subst (λ W. IsBegin heard.more (calls_of_tick W (λ buffer. true) works.clock t)) (world_is (setting_of works) answers heard.more rest)
+            (begin_more heard.more (takes_of_tick S works.clock t) (flat_map (give_by S (λ buffer. true) works.clock t) S.plan.sinks)
+            (subst (λ (cs : List Call). IsBegin heard.more cs) (takes_are (behind_calls heard.more rest) (world_has (setting_of works) answers heard.more rest)) (begin_all heard.more)));
+        part = λ rest sink node output.
+            let S = with_rest (setting_of works) answers (behind_calls heard.more rest) in
+            let grew = held_part held room sink (tick_bytes S node t) other.ports.items old new
+            (old_size ∙ sym in_ports) (new_size ∙ old_size ∙ sym in_ports)
+            (λ k port at same. bytes_after (behind_calls heard.more rest) (world_has (setting_of works) answers heard.more rest) sink node output k port at same) took.each in (
+              grew.part,
+              subst (λ W. IsPrefix grew.part (tick_bytes W node t)) (world_is (setting_of works) answers heard.more rest) grew.front,
+              grew.is ∙ ap (grown grew.part) (ap (λ xs. held_in held xs old sink) heard.ports_are
+                  ∙ held_same held (λ port. after_slots (emptied port) (heard.slots port.node)) (λ port. filled_sink (emptied port) (heard.slots port.node)) works.ports.items old sink),
+            );
+      }
+
+  -- memory was refused at a feed: the outputs are whole
+  pub has_stopped_giving : {X : Type 0} (held : X → Option (List ℕ)) (room : X → Option ℕ) (old new : List X) → length old ≡ length works.ports.items → length new ≡ length old
+      → TookAll held room other.ports.items (length other.ports.items) old new → (c : T) (some : HaveGivenSome stands_for other.feeds.items b c)
+      → HasStopped (setting_of works) works.clock t answers (heard.more ++ some.made) (held_in held works.ports.items old) (held_in held other.ports.items new)
+  has_stopped_giving held room old new old_size new_size took c some =
+      let in_ports : length other.ports.items ≡ length works.ports.items = ap length heard.ports_are ∙ length-map works.ports.items (λ port. after_slots (emptied port) (heard.slots port.node)) in
+      let made = heard.more ++ some.made in
+      let first : (rest : ℕ → List Answer) → HasAnswers (with_rest (setting_of works) answers (behind_calls made rest)) (after_calls answers heard.more) =
+      λ rest. answers_first (with_rest (setting_of works) answers (behind_calls made rest)) answers heard.more some.made (world_has (setting_of works) answers made rest) in
+      record {
+        accepted = some.accepted;
+        begun = λ rest.
+            let S = with_rest (setting_of works) answers (behind_calls made rest) in
+            subst (λ W. IsBegin made (calls_of_tick W some.accepted works.clock t)) (world_is (setting_of works) answers made rest)
+            (subst (λ (cs : List Call). IsBegin (cs ++ some.made) (takes_of_tick S works.clock t ++ flat_map (give_by S some.accepted works.clock t) S.plan.sinks)) (sym (takes_are (behind_calls made rest) (first rest)))
+            (begin_behind (takes_of_tick S works.clock t) some.made (flat_map (give_by S some.accepted works.clock t) S.plan.sinks)
+            (subst (λ (cs : List Call). IsBegin some.made cs) (gives_of (behind_calls made rest) (first rest) some.accepted) (some.begins own_feeds))));
+        part = λ rest sink node output.
+            let S = with_rest (setting_of works) answers (behind_calls made rest) in (
+              tick_bytes (with_rest (setting_of works) (after_calls answers made) rest) node t,
+              record { rest = []; whole_is = sym (append-nil (tick_bytes (with_rest (setting_of works) (after_calls answers made) rest) node t)) },
+              held_grew held room sink (tick_bytes (with_rest (setting_of works) (after_calls answers made) rest) node t) other.ports.items old new
+                  (old_size ∙ sym in_ports) (new_size ∙ old_size ∙ sym in_ports)
+                  (λ k port at same. bytes_after (behind_calls made rest) (first rest) sink node output k port at same ∙ ap (λ W. tick_bytes W node t) (world_is (setting_of works) answers made rest)) took.each
+                  ∙ ap (grown (tick_bytes (with_rest (setting_of works) (after_calls answers made) rest) node t))
+                  (ap (λ xs. held_in held xs old sink) heard.ports_are ∙ held_same held (λ port. after_slots (emptied port) (heard.slots port.node)) (λ port. filled_sink (emptied port) (heard.slots port.node)) works.ports.items old sink),
+            );
+      }
+
+-- memory was refused within the instants: no output has grown
+pub has_broken : (works other : Works) (parts : AreWorks works) {T : Type 0} (stands_for : T → List Call → Type 0) (a b : T)
+    (heard : HeardSome stands_for works.shape.plan.now works.shape.library.now works.shape.clocks.now (Main works.clock) works.own.items works.shape.plan.now.frame (scene_of works a) (scene_of other b))
+    (t : ℕ) (answers : ℕ → List Answer) → EngineStands works t answers → {X : Type 0} (held : X → Option (List ℕ)) (outs : List X)
+    → HasStopped (setting_of works) works.clock t answers heard.made (held_in held works.ports.items outs) (held_in held other.ports.items outs)
+has_broken works other parts stands_for a b heard t answers stands held outs = record {
+  accepted = λ buffer. true;
+  begun = λ rest.
+      let S = with_rest (setting_of works) answers (behind_calls heard.made rest) in
+      subst (λ W. IsBegin heard.made (calls_of_tick W (λ buffer. true) works.clock t)) (world_is (setting_of works) answers heard.made rest)
+      (begin_more heard.made (takes_of_tick S works.clock t) (flat_map (give_by S (λ buffer. true) works.clock t) S.plan.sinks)
+      (heard.begins S (sub_of S) (t * works.shape.plan.now.frame) answers (meant_by works parts answers (behind_calls heard.made rest)) (world_has (setting_of works) answers heard.made rest) (stands.lanes (behind_calls heard.made rest))));
+  part = λ rest sink node output. (
+    [],
+    record { rest = tick_bytes (with_rest (setting_of works) (after_calls answers heard.made) rest) node t; whole_is = refl },
+    ap (λ xs. held_in held xs outs sink) heard.ports_are
+        ∙ held_same held (λ port. after_slots (emptied port) (heard.slots port.node)) (λ port. filled_sink (emptied port) (heard.slots port.node)) works.ports.items outs sink
+        ∙ grown_none (held_in held works.ports.items outs sink),
+  );
+}

@@ -1,16 +1,17 @@
 -- What the clocks of a plan give: ranks, a bound on how deep sub-clocks nest, and the slots of the sub-clocks.
 use mathlib.Core.Path.{fun_ext}
-use Rattle.std.proofs.Common.{◌≡◌, ◌<◌, ◌≤◌, ◌+◌, ◌∙◌, ℕ, zero, suc, Some, List, length, get_or, slice_get, arith, refl, ap, sym}
+use Rattle.std.proofs.Common.{◌≡◌, ◌<◌, ◌+◌, ◌∙◌, ℕ, zero, suc, Some, List, length, slice_get, arith, refl, ap, sym}
 use Rattle.std.proofs.lemmas.Option.{slice_get_within, slice_get-get_or}
 use Rattle.plan_core.specs.declared.plan.Plan.{Plan}
-use Rattle.clock_infer.specs.declared.clock_map.ClockMap.{ClockMap}
 use Rattle.clock_infer.specs.declared.clock_map.NodeClock.{NodeClock}
 use Rattle.clock_infer.specs.declared.clock_map.NodeClock.TheVariants.{Main, Sub}
-use Rattle.clock_infer.specs.Answers.{AreRanks, IsClockMap}
 use Rattle.clock_infer.proofs.MapLaws.{ranks, crossfades}
-use Rattle.stream_meaning.specs.Instants.{Setting, IsMeaning, clock_of, crossfaded, slots_of, sub_of, sub_within}
+use Rattle.stream_meaning.specs.Instants.{Setting, IsMeaning, crossfaded, slots_of, sub_of, sub_within}
 use Rattle.stream_meaning.proofs.Ranks.{AreNested, rank_below}
-use Rattle.stream_meaning.proofs.Existence.{AreSame, history-sub}
+use Rattle.stream_meaning.proofs.Existence.{history-sub}
+use Rattle.stream_meaning.proofs.Calling.{calls_are}
+use Rattle.stream_meaning.specs.Calls.{GoDown}
+use Rattle.frame_core.specs.Slots.{Slot}
 use Rattle.engine_clocks.specs.Clocks.{HasLevels, HasRanks, clock_at}
 use Rattle.clock_engine.specs.Engines.{AreClocksOf}
 
@@ -60,3 +61,8 @@ module _ (setting : Setting) (of : AreClocksOf setting.plan setting.clocks) (in_
   meaning_of k m = ap (λ past. slots_of past (crossfaded setting.plan.nodes k))
       (history-sub setting (sub_within setting (length setting.plan.nodes)) (sub_of setting) (Sub k)
       (record { each = λ i h e. within_more (length setting.plan.nodes) i h (omega arith) }) m)
+
+  pub goes_down : (sub : ℕ → ℕ → List Slot) → GoDown setting sub
+  goes_down sub = record {
+    each = λ clock past. calls_are setting sub of.map (ranks setting.plan of.map of.assigned).0 (ranks setting.plan of.map of.assigned).1 (nested setting.plan setting.clocks of in_clocks) clock past (λ k h e. omega arith);
+  }

@@ -9,7 +9,7 @@ use Rattle.clock_outputs.specs.declared.port.Port.{Port}
 use Rattle.clock_engine.proofs.Numbered.{no_item}
 use Rattle.clock_engine.specs.Engines.{output_of, outputs_from}
 
-dropped : {A : Type 0} (xs : List A) (i : ℕ) (x : A) → slice_get xs i ≡ Some x → drop i xs ≡ x ∷ drop (suc i) xs
+pub dropped : {A : Type 0} (xs : List A) (i : ℕ) (x : A) → slice_get xs i ≡ Some x → drop i xs ≡ x ∷ drop (suc i) xs
 dropped [] i x e = absurd (no_item i x e)
 dropped (y ∷ xs) zero x e = (let same : y ≡ x = cc in ap (λ z. z ∷ xs) same)
 dropped (y ∷ xs) (suc i) x e = dropped xs i x e

@@ -10,20 +10,25 @@ use Rattle.stream_meaning.specs.Sinks.{kind_of}
 use Rattle.node_states.specs.declared.state.NodeState.{NodeState}
 use Rattle.node_states.specs.States.{Fits, StateStands}
 use Rattle.clock_outputs.specs.declared.port.Port.{Port}
+use Rattle.clock_outputs.specs.declared.feed.FeedPort.{FeedPort}
 
--- the state of node i before the first instant, in a plan of this rate
-pub record IsNewState (rate i : ℕ) (node : Node) (state : NodeState) : Type 0 where
+-- the state of node i of a plan before the first instant
+pub record IsNewState (plan : Plan) (i : ℕ) (node : Node) (state : NodeState) : Type 0 where
   pub fits : (library : Sounds) → IsLibrary library → i < length library.leaves → Fits library (length node.children) state
-  pub stands : (setting : Setting) (sub : ℕ → ℕ → List Slot) → setting.plan.rate ≡ rate → sub i 0 ≡ []
+  pub stands : (setting : Setting) (sub : ℕ → ℕ → List Slot) → setting.plan ≡ plan → sub i 0 ≡ []
       → StateStands setting sub [] 0 i (work_at setting i node) state
 
 -- the states of the first n nodes before the first instant
 pub record AreNewStates (plan : Plan) (n : ℕ) (states : List NodeState) : Type 0 where
   pub size : length states ≡ n
-  pub each : (i : ℕ) (node : Node) (state : NodeState) → slice_get plan.nodes i ≡ Some node → slice_get states i ≡ Some state → IsNewState plan.rate i node state
+  pub each : (i : ℕ) (node : Node) (state : NodeState) → slice_get plan.nodes i ≡ Some node → slice_get states i ≡ Some state → IsNewState plan i node state
 
 -- an output before the first tick
 pub record IsNewPort (setting : Setting) (port : Port) : Type 0 where
   pub kind : port.kind ≡ kind_of setting port.node
   pub room : setting.plan.frame * (2 * channels_of port.kind) ≤ port.piece.room
   pub gaps : port.gaps ≡ 0
+
+-- a feed before the first tick
+pub record IsNewFeed (frame : ℕ) (feed : FeedPort) : Type 0 where
+  pub long : length feed.frame ≡ frame

@@ -3,7 +3,7 @@ use Rattle.std.specs.Prelude.{◌≡◌, ◌≤◌, ◌*◌, ℕ, suc, Option, S
 use Rattle.liq_base.specs.Kinds.{channels_of}
 use Rattle.liq_base.specs.declared.limits.TheConstants.{MAX_NODES}
 use Rattle.plan_core.specs.declared.plan.Plan.{Plan}
-use Rattle.plan_core.specs.Plans.{AreNodes}
+use Rattle.plan_core.specs.Plans.{AreNodes, IsWellFormed}
 use Rattle.plan_core.specs.declared.sink.SinkPlan.{SinkPlan}
 use Rattle.plan_core.specs.declared.sink.SinkPlan.TheVariants.{Output, Feed}
 use Rattle.clock_infer.specs.declared.clock_map.ClockMap.{ClockMap}
@@ -13,10 +13,13 @@ use Rattle.clock_infer.specs.Answers.{IsClockMap}
 use Rattle.op_leaf.specs.Readers.{Answer}
 use Rattle.stream_meaning.specs.Instants.{Setting, lies_in, sub_of}
 use Rattle.stream_meaning.specs.Sinks.{gaps, kind_of}
+use Rattle.stream_meaning.specs.Calls.{IsUnread}
 use Rattle.node_states.specs.Ticks.{with_rest}
 use Rattle.clock_outputs.specs.declared.port.Port.{Port}
+use Rattle.clock_outputs.specs.declared.feed.FeedPort.{FeedPort}
 use Rattle.engine_clocks.specs.Clocks.{AreOwnRoots}
-use Rattle.engine_ticks.specs.Lanes.{AreLanes, HasNoReaders, LanesStand}
+use Rattle.engine_ticks.specs.Lanes.{AreLanes, LanesStand}
+use Rattle.engine_ticks.specs.Runs.{Scene}
 use Rattle.clock_engine.specs.declared.fault.TickFault.{TickFault}
 use Rattle.clock_engine.specs.declared.engine.Works.{Works}
 
@@ -44,7 +47,21 @@ outputs_of setting m = outputs_from setting m 0 setting.plan.sinks
 abbrev pub output_of : Port → ℕ × ℕ
 output_of port = (port.sink, port.node)
 
--- an engine with the lanes and outputs of another one
+-- the feeds of main clock m among these sinks: their buffers and nodes
+abbrev pub feeds_from : Setting → (m : ℕ) → List SinkPlan → List (ℕ × ℕ)
+feeds_from setting m [] = []
+feeds_from setting m (Output name node fallible ∷ sinks) = feeds_from setting m sinks
+feeds_from setting m (Feed buffer node ∷ sinks) =
+    if lies_in setting (Main m) node then (buffer, node) ∷ feeds_from setting m sinks else feeds_from setting m sinks
+
+-- the feeds of main clock m, in sink order
+abbrev pub feeds_of : Setting → ℕ → List (ℕ × ℕ)
+feeds_of setting m = feeds_from setting m setting.plan.sinks
+
+abbrev pub feed_of : FeedPort → ℕ × ℕ
+feed_of feed = (feed.buffer, feed.node)
+
+-- an engine with the lanes, outputs and feeds of another one
 abbrev pub after_tick : Works → (other : Works) → (ticks : ℕ) → Option TickFault → Works
 after_tick works other ticks stopped = record {
   shape = works.shape;
@@ -53,6 +70,7 @@ after_tick works other ticks stopped = record {
   own = works.own;
   lanes = other.lanes;
   ports = other.ports;
+  feeds = other.feeds;
   ticks = ticks;
   stopped = stopped;
 }
@@ -63,13 +81,12 @@ pub record AreClocksOf (plan : Plan) (clocks : List NodeClock) : Type 0 where
   pub assigned : IsClockMap plan map
   pub are : clocks ≡ map.of
 
--- the parts of an engine of main clock m fit together: a plan without buffers
+-- the parts of an engine of main clock m fit together
 pub record AreWorks (works : Works) : Type 0 where
+  pub plan : IsWellFormed works.shape.plan.now
   pub nodes : AreNodes works.shape.plan.now.nodes
   pub frame : works.shape.plan.now.frame ≤ 65536
   pub few : length works.shape.plan.now.nodes ≤ MAX_NODES
-  pub readers : HasNoReaders works.shape.plan.now
-  pub feeds : (i buffer node : ℕ) → slice_get works.shape.plan.now.sinks i ≡ Some (Feed buffer node) → ⊥
   pub in_clocks : length works.shape.clocks.now ≡ length works.shape.plan.now.nodes
   pub clocks : AreClocksOf works.shape.plan.now works.shape.clocks.now
   pub lanes : AreLanes works.shape.plan.now works.shape.library.now works.shape.clocks.now works.lanes
@@ -78,14 +95,17 @@ pub record AreWorks (works : Works) : Type 0 where
   pub outputs : map output_of works.ports.items ≡ outputs_of (setting_of works) works.clock
   pub kinds : All (λ port. port.kind ≡ kind_of (setting_of works) port.node) works.ports.items
   pub rooms : All (λ port. works.shape.plan.now.frame * (2 * channels_of port.kind) ≤ port.piece.room) works.ports.items
+  pub feeds : map feed_of works.feeds.items ≡ feeds_of (setting_of works) works.clock
+  pub frames : All (λ feed. length feed.frame ≡ works.shape.plan.now.frame) works.feeds.items
 
--- an engine that stands for so many ticks: no tick of it had a fault, and since its plan has no buffers there are no answers
+-- an engine that stands for so many ticks and these answers: no tick of it had a fault; whatever answers follow, its readers have taken
+-- exactly these, and its state is the one that the instants imply. No answers are those of buffers that its clock does not read
 pub record EngineStands (works : Works) (ticks : ℕ) (answers : ℕ → List Answer) : Type 0 where
   pub made : works.ticks ≡ ticks
   pub runs : works.stopped ≡ None
-  pub none : (buffer : ℕ) → answers buffer ≡ []
+  pub others : (buffer : ℕ) → IsUnread (setting_of works) (Main works.clock) buffer → answers buffer ≡ []
   pub lanes : (rest : ℕ → List Answer) → LanesStand (with_rest (setting_of works) answers rest) (sub_of (with_rest (setting_of works) answers rest)) (Main works.clock)
-      (ticks * works.shape.plan.now.frame) works.lanes
+      (ticks * works.shape.plan.now.frame) answers works.lanes
   pub gaps_are : (rest : ℕ → List Answer) (k : ℕ) (port : Port) → slice_get works.ports.items k ≡ Some port
       → port.gaps ≡ gaps (with_rest (setting_of works) answers rest) port.node ticks
 
@@ -94,3 +114,7 @@ abbrev pub held_in : {S : Type 0} → (S → Option (List ℕ)) → List Port �
 held_in held [] outs sink = None
 held_in held (port ∷ ports) [] sink = None
 held_in held (port ∷ ports) (out ∷ outs) sink = if nat_eq port.sink sink then held out else held_in held ports outs sink
+
+-- what changes in a tick
+abbrev pub scene_of : {T : Type 0} → Works → T → Scene T
+scene_of works taps = record { lanes = works.lanes; ports = works.ports.items; feeds = works.feeds.items; taps = taps }

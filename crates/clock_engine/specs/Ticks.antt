@@ -1,5 +1,7 @@
 -- What a tick of an engine without buffers owes.
-use Rattle.std.specs.Prelude.{◌≡◌, ◌*◌, ℕ, Option, Some, List, ◌++◌, slice_get}
+use Rattle.std.specs.Prelude.{◌≡◌, ◌<◌, ◌*◌, ℕ, Option, Some, List, ◌++◌, length, slice_get, ◌⊎◌}
+use Rattle.clock_infer.specs.declared.clock_map.NodeClock.TheVariants.{Main}
+use Rattle.engine_instants.specs.Takes.{HasReader}
 use Rattle.liq_base.specs.Kinds.{channels_of}
 use Rattle.liq_base.specs.Pieces.{HasRoom, narrowed}
 use Rattle.frame_core.specs.Calls.{Call}
@@ -7,10 +9,14 @@ use Rattle.op_leaf.specs.Readers.{Answer}
 use Rattle.node_states.specs.Ticks.{HasStopped, HasTicked}
 use Rattle.clock_outputs.specs.declared.port.Port.{Port}
 use Rattle.clock_outputs.specs.Appends.{RoseAt}
-use Rattle.clock_engine.specs.Engines.{EngineStands, held_in, setting_of}
+use Rattle.clock_engine.specs.Engines.{EngineStands, feeds_of, held_in, setting_of}
 use Rattle.clock_engine.specs.declared.engine.Works.{Works}
 use Rattle.clock_engine.specs.declared.fault.TickFault.{TickFault}
 use Rattle.clock_engine.specs.declared.fault.TickFault.TheVariants.{Write}
+
+-- an engine with a feed, or with a reader in its clock or below it
+abbrev pub HasEnds : Works → Type 0
+HasEnds works = HasReader works.shape.plan.now works.shape.clocks.now (Main works.clock) ⊎ (0 < length (feeds_of (setting_of works) works.clock))
 
 -- each sink that tells its room has room for the piece of a tick
 pub record HaveTickRoom {S : Type 0} (room : S → Option ℕ) (works : Works) (outs : List S) : Type 0 where

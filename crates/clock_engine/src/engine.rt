@@ -1,24 +1,27 @@
 // The engine of one clock.
-ghost use Rattle.std.specs.Prelude.{◌≡◌, ◌<◌, ◌+◌, ℕ, Some, None, List, [], length, IfOk, OnOk, OnErr, IfErr};
+ghost use Rattle.clock_engine.specs.declared.fault.TickFault.TheVariants.{Memory as OutOfMemory, Write};
+ghost use Rattle.clock_outputs.specs.Feeds.{HaveGiven, HaveGivenSome};
+ghost use Rattle.std.specs.Prelude.{◌≡◌, ◌<◌, ◌+◌, ℕ, Some, None, List, [], All, map, length, IfOk, OnOk, OnErr, IfErr};
 ghost use Rattle.plan_core.specs.Plans.{IsWellFormed};
 ghost use Rattle.clock_infer.specs.Answers.{IsClockMap};
 ghost use Rattle.frame_core.specs.Library.{IsLibrary};
-ghost use Rattle.engine_ticks.specs.Lanes.{AreLanes, HasNoReaders};
-ghost use Rattle.engine_ticks.specs.Runs.{Heard};
+ghost use Rattle.engine_ticks.specs.Lanes.{AreLanes};
+ghost use Rattle.engine_ticks.specs.Runs.{Heard, HeardSome};
 ghost use Rattle.clock_infer.specs.declared.clock_map.NodeClock.TheVariants.{Main as InMain};
 ghost use Rattle.op_leaf.specs.Readers.{Answer};
 ghost use Rattle.clock_outputs.specs.Appends.{AreKept};
-ghost use Rattle.clock_engine.specs.Engines.{AreClocksOf, AreWorks, EngineStands, after_tick, outputs_of, setting_of};
+ghost use Rattle.clock_engine.specs.Engines.{AreClocksOf, AreWorks, EngineStands, after_tick, feed_of, outputs_of, scene_of, setting_of};
 ghost use Rattle.clock_outputs.specs.Appends.{NoneFell};
 ghost use Rattle.stream_meaning.specs.Sinks.{gaps};
 ghost use Rattle.node_states.specs.Ticks.{IsOutput, with_rest};
-ghost use Rattle.clock_engine.specs.Ticks.{HasFailed, HasMade, HaveTickRoom, IsWriteFault, RoomsFell, HaveTicksRoom};
+ghost use Rattle.engine_instants.specs.Takes.{HasReader};
+ghost use Rattle.clock_engine.specs.Ticks.{HasEnds, HasFailed, HasMade, HaveTickRoom, IsWriteFault, RoomsFell, HaveTicksRoom};
 
 use crate::TickFault;
-use crate::outputs::ports_of;
+use crate::outputs::{feeds_of, ports_of};
 use crate::parts::{most_children, own_roots, states_of, times_of};
 use clock_infer::{ClockMap, NodeClock};
-use clock_outputs::{Port, append_all};
+use clock_outputs::{FeedPort, Port, append_all, give_all};
 use engine_clocks::ClockLanes;
 use engine_instants::{ClockNodes, Latest, Shape};
 use engine_ticks::{Lanes, run_tick};
@@ -46,6 +49,9 @@ pub struct Works<'a> {
     /// The outputs of the clock, in sink order.
     pub ports: Vec<Port>,
 
+    /// The feeds of the clock, in sink order.
+    pub feeds: Vec<FeedPort>,
+
     /// How many ticks were made.
     pub ticks: u64,
     pub stopped: Option<TickFault>,
@@ -65,7 +71,6 @@ fn make_works<'a>(
     start: WeekSecond,
 ) -> Result<Works<'a>, Memory>
     requires plan { IsWellFormed shape.plan.now }
-    requires readers { HasNoReaders shape.plan.now }
     requires in_clocks { length shape.clocks.now ≡ length shape.plan.now.nodes }
     requires clocks { AreClocksOf shape.plan.now shape.clocks.now }
     requires library { IsLibrary shape.library.now }
@@ -80,7 +85,7 @@ fn make_works<'a>(
         slot: None,
         pick: None,
     };
-    let time = WeekTime::new(start, shape.plan.rate);
+    let time = WeekTime::new(start, shape.plan.rate, shape.plan.frame);
     let times = times_of(alloc, time, states.len())?;
     let parts = vec![in alloc; silent; states.len()]?;
     let marks = vec![in alloc; false; states.len()]?;
@@ -88,6 +93,7 @@ fn make_works<'a>(
     let desk = Desk::new(alloc, most_children(shape.plan))?;
     let own = own_roots(alloc, &shape)?;
     let ports = ports_of(alloc, &shape, clock)?;
+    let feeds = feeds_of(alloc, &shape, clock)?;
     Ok(Works {
         shape,
         clock,
@@ -108,18 +114,27 @@ fn make_works<'a>(
             time,
         },
         ports,
+        feeds,
         ticks: 0,
         stopped: None,
     })
 }
 
 // Makes the instants of a tick.
-fn run_works(works: &mut Works<'_>)
-    requires { AreWorks works.old }
-    ensures same { works.new ≡ after_tick works.old works.new works.old.ticks works.old.stopped }
+fn run_works<T: Taps>(works: &mut Works<'_>, taps: &mut T) -> Result<(), Memory>
+    requires works { AreWorks works.old }
+    requires buffers { T.buffers taps.old ≡ length works.old.shape.plan.now.buffers }
+    ensures kept { works.new ≡ after_tick works.old works.new works.old.ticks works.old.stopped }
     ensures lanes { AreLanes works.old.shape.plan.now works.old.shape.library.now works.old.shape.clocks.now works.new.lanes }
-    ensures heard { Heard works.old.shape.plan.now works.old.shape.library.now works.old.shape.clocks.now (InMain works.old.clock) works.old.own.items works.old.shape.plan.now.frame
-        works.old.lanes works.new.lanes works.old.ports.items works.new.ports.items }
+    ensures frames { All (λ feed. length feed.frame ≡ works.old.shape.plan.now.frame) works.new.feeds.items }
+    ensures feeds { map feed_of works.new.feeds.items ≡ map feed_of works.old.feeds.items }
+    ensures buffers { T.buffers taps.new ≡ T.buffers taps.old }
+    ensures same { T.same taps.old taps.new }
+    ensures heard { OnOk result (Heard T.stands works.old.shape.plan.now works.old.shape.library.now works.old.shape.clocks.now (InMain works.old.clock) works.old.own.items works.old.shape.plan.now.frame
+        (scene_of works.old taps.old) (scene_of works.new taps.new)) }
+    ensures stopped { OnErr result (HeardSome T.stands works.old.shape.plan.now works.old.shape.library.now works.old.shape.clocks.now (InMain works.old.clock) works.old.own.items works.old.shape.plan.now.frame
+        (scene_of works.old taps.old) (scene_of works.new taps.new)) }
+    ensures reads { OnErr result (HasReader works.old.shape.plan.now works.old.shape.clocks.now (InMain works.old.clock)) }
 {
     let clock = NodeClock::Main(works.clock);
     run_tick(
@@ -128,11 +143,63 @@ fn run_works(works: &mut Works<'_>)
         &works.own,
         &mut works.lanes,
         &mut works.ports,
-    );
+        &mut works.feeds,
+        taps,
+    )
+}
+
+// The same, and a fault stops the engine.
+fn run_or_stop<T: Taps>(works: &mut Works<'_>, taps: &mut T) -> Result<(), TickFault>
+    requires works { AreWorks works.old }
+    requires buffers { T.buffers taps.old ≡ length works.old.shape.plan.now.buffers }
+    ensures kept { OnOk result (works.new ≡ after_tick works.old works.new works.old.ticks works.old.stopped) }
+    ensures ended { IfErr result (λ fault. (fault ≡ OutOfMemory) × (works.new ≡ after_tick works.old works.new works.old.ticks (Some OutOfMemory))) }
+    ensures lanes { AreLanes works.old.shape.plan.now works.old.shape.library.now works.old.shape.clocks.now works.new.lanes }
+    ensures frames { All (λ feed. length feed.frame ≡ works.old.shape.plan.now.frame) works.new.feeds.items }
+    ensures feeds { map feed_of works.new.feeds.items ≡ map feed_of works.old.feeds.items }
+    ensures buffers { T.buffers taps.new ≡ T.buffers taps.old }
+    ensures same { T.same taps.old taps.new }
+    ensures heard { OnOk result (Heard T.stands works.old.shape.plan.now works.old.shape.library.now works.old.shape.clocks.now (InMain works.old.clock) works.old.own.items works.old.shape.plan.now.frame
+        (scene_of works.old taps.old) (scene_of works.new taps.new)) }
+    ensures stopped { OnErr result (HeardSome T.stands works.old.shape.plan.now works.old.shape.library.now works.old.shape.clocks.now (InMain works.old.clock) works.old.own.items works.old.shape.plan.now.frame
+        (scene_of works.old taps.old) (scene_of works.new taps.new)) }
+    ensures reads { OnErr result (HasReader works.old.shape.plan.now works.old.shape.clocks.now (InMain works.old.clock)) }
+{
+    match run_works(works, taps) {
+        Ok(()) => Ok(()),
+        Err(_) => {
+            works.stopped = Some(TickFault::Memory);
+            Err(TickFault::Memory)
+        }
+    }
+}
+
+// Gives the chunks of the tick; a fault stops the engine.
+fn give_or_stop<T: Taps>(
+    alloc: Global,
+    works: &mut Works<'_>,
+    taps: &mut T,
+) -> Result<(), TickFault>
+    requires { All (λ feed. feed.buffer < T.buffers taps.old) works.old.feeds.items }
+    ensures kept { OnOk result (works.new ≡ works.old) }
+    ensures ended { IfErr result (λ fault. (fault ≡ OutOfMemory) × (works.new ≡ after_tick works.old works.old works.old.ticks (Some OutOfMemory))) }
+    ensures buffers { T.buffers taps.new ≡ T.buffers taps.old }
+    ensures same { T.same taps.old taps.new }
+    ensures given { OnOk result (HaveGiven T.stands works.old.feeds.items (length works.old.feeds.items) taps.old taps.new) }
+    ensures stopped { OnErr result (HaveGivenSome T.stands works.old.feeds.items taps.old taps.new) }
+    ensures feeds { OnErr result (0 < length works.old.feeds.items) }
+{
+    match give_all(alloc, &works.feeds, taps) {
+        Ok(()) => Ok(()),
+        Err(_) => {
+            works.stopped = Some(TickFault::Memory);
+            Err(TickFault::Memory)
+        }
+    }
 }
 
 impl<'a, O: Sink> ClockEngine<'a, O> {
-    /// An engine of a running main clock that made no tick: over a plan without readers of buffers, its clocks, its
+    /// An engine of a running main clock that made no tick: over a plan, its clocks, its
     /// files, and one sink for each output of the clock, in sink order. Where memory is refused the sinks come back.
     pub fn new(
         alloc: Global,
@@ -144,7 +211,6 @@ impl<'a, O: Sink> ClockEngine<'a, O> {
         start: WeekSecond,
     ) -> Result<ClockEngine<'a, O>, (Vec<O>, Memory)>
         requires plan { IsWellFormed plan.now }
-        requires readers { HasNoReaders plan.now }
         requires clocks { IsClockMap plan.now clocks.now }
         requires library { IsLibrary library.now }
         requires leaves { length library.now.leaves ≡ length plan.now.nodes }
@@ -168,14 +234,15 @@ impl<'a, O: Sink> ClockEngine<'a, O> {
         }
     }
 
-    /// Makes a tick: each output of the clock takes its bytes, in one piece and in sink order. The plan has no
-    /// buffers, so no call of the taps is made and no memory is taken. A fault stops the engine.
-    pub fn tick<T: Taps>(&mut self, _taps: &mut T) -> Result<(), TickFault>
+    /// Makes a tick: its readers take from the taps, each output of the clock takes its bytes, in one piece and in sink order,
+    /// and then each feed gives its chunk, in sink order. A fault stops the engine.
+    pub fn tick<T: Taps>(&mut self, alloc: Global, taps: &mut T) -> Result<(), TickFault>
         requires works { AreWorks self.old.works }
         requires sinks { length self.old.outs.items ≡ length self.old.works.ports.items }
         requires runs { self.old.works.stopped ≡ None }
         requires few { self.old.works.ticks < 1000000000 }
         requires room { HaveTickRoom O.room self.old.works self.old.outs.items }
+        requires buffers { T.buffers taps.old ≡ length self.old.works.shape.plan.now.buffers }
         ensures works { AreWorks self.new.works }
         ensures sinks { length self.new.outs.items ≡ length self.new.works.ports.items }
         ensures outs { length self.new.outs.items ≡ length self.old.outs.items }
@@ -183,17 +250,18 @@ impl<'a, O: Sink> ClockEngine<'a, O> {
         ensures clock { self.new.works.clock ≡ self.old.works.clock }
         ensures faults { NoneFell O.faults self.old.outs.items self.new.outs.items }
         ensures room { OnOk result ((ticks : ℕ) → HaveTicksRoom O.room self.old.works self.old.outs.items (ticks + 1) → HaveTicksRoom O.room self.new.works self.new.outs.items ticks) }
-        ensures ticked { OnOk result (HasMade O.held T.stands self.old.works self.new.works self.old.outs.items self.new.outs.items _taps.old _taps.new) }
-        ensures stopped { OnErr result (HasFailed O.held T.stands self.old.works self.new.works self.old.outs.items self.new.outs.items _taps.old _taps.new) }
-        ensures taps { T.same _taps.old _taps.new }
-        ensures buffers { T.buffers _taps.new ≡ T.buffers _taps.old }
+        ensures ticked { OnOk result (HasMade O.held T.stands self.old.works self.new.works self.old.outs.items self.new.outs.items taps.old taps.new) }
+        ensures stopped { OnErr result (HasFailed O.held T.stands self.old.works self.new.works self.old.outs.items self.new.outs.items taps.old taps.new) }
+        ensures taps { T.same taps.old taps.new }
+        ensures buffers { T.buffers taps.new ≡ T.buffers taps.old }
         ensures kept { AreKept O.name O.faults self.old.outs.items self.new.outs.items }
         ensures rooms { OnOk result (RoomsFell O.room self.old.works self.old.outs.items self.new.outs.items) }
-        ensures cause { IfErr result (λ fault. IsWriteFault O.faults self.old.works self.old.outs.items self.new.outs.items fault) }
+        ensures cause { IfErr result (λ fault. (sink : ℕ) → fault ≡ Write sink → IsWriteFault O.faults self.old.works self.old.outs.items self.new.outs.items fault) }
+        ensures memory { IfErr result (λ fault. fault ≡ OutOfMemory → HasEnds self.old.works) }
         ensures fault { IfErr result (λ fault. self.new.works.stopped ≡ Some fault) }
         ensures runs { OnOk result (self.new.works.stopped ≡ None) }
     {
-        run_works(&mut self.works);
+        run_or_stop(&mut self.works, taps)?;
         if let Err(place) = append_all(&mut self.outs, &self.works.ports) {
             let fault = TickFault::Write {
                 sink: self.works.ports[place].sink,
@@ -201,6 +269,7 @@ impl<'a, O: Sink> ClockEngine<'a, O> {
             self.works.stopped = Some(fault);
             return Err(fault);
         }
+        give_or_stop(alloc, &mut self.works, taps)?;
         self.works.ticks += 1;
         Ok(())
     }

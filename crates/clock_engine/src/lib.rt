@@ -6,8 +6,6 @@ mod fault;
 pub mod laws;
 mod outputs;
 mod parts;
-mod plain;
 
 pub use engine::{ClockEngine, Works};
 pub use fault::TickFault;
-pub use plain::has_no_readers;

@@ -3,12 +3,13 @@ ghost use Rattle.std.specs.Prelude.{◌≡◌, ◌<◌, ◌≤◌, ◌^◌, ℕ,
 ghost use Rattle.plan_core.specs.Plans.{sink_node};
 ghost use Rattle.stream_meaning.specs.Instants.{Setting};
 ghost use Rattle.engine_instants.specs.States.{over};
-ghost use Rattle.clock_engine.specs.Beginnings.{IsNewPort};
-ghost use Rattle.clock_engine.specs.Engines.{output_of, outputs_of};
+ghost use Rattle.clock_engine.specs.Beginnings.{IsNewFeed, IsNewPort};
+ghost use Rattle.clock_engine.specs.Engines.{feed_of, feeds_of, output_of, outputs_of};
 
 use crate::parts::is_main;
-use clock_outputs::{Piece, Port};
+use clock_outputs::{FeedPort, Piece, Port};
 use engine_instants::Shape;
+use frame_core::Frame;
 use liq_base::Memory;
 use plan_core::SinkPlan;
 use std::alloc::Global;
@@ -52,5 +53,41 @@ fn port_of(alloc: Global, shape: &Shape<'_>, sink: u32, node: u32) -> Result<Por
         kind,
         piece,
         gaps: 0,
+    })
+}
+
+/// The feeds of a main clock, in sink order.
+pub fn feeds_of(alloc: Global, shape: &Shape<'_>, clock: u32) -> Result<Vec<FeedPort>, Memory>
+    requires in_clocks { length shape.now.clocks.now ≡ length shape.now.plan.now.nodes }
+    requires frame { shape.now.plan.now.frame ≤ 65536 }
+    requires sinks { All (λ sink. sink_node sink < length shape.now.plan.now.nodes) shape.now.plan.now.sinks }
+    ensures feeds { IfOk result (λ feeds. (other : Setting) → map feed_of feeds.items ≡ feeds_of (over shape.now.plan.now shape.now.library.now shape.now.clocks.now other) clock) }
+    ensures new { IfOk result (λ feeds. All (IsNewFeed shape.now.plan.now.frame) feeds.items) }
+{
+    let sinks = shape.plan.sinks.as_slice();
+    let mut feeds = Vec::with_capacity(alloc, sinks.len())?;
+    for i in 0..sinks.len() {
+        let SinkPlan::Feed { buffer, node } = &sinks[i] else {
+            continue;
+        };
+        if !is_main(shape.clocks[*node as usize], clock) {
+            continue;
+        }
+        feeds.push(feed_port(alloc, shape, *buffer, *node)?)?;
+    }
+    Ok(feeds)
+}
+
+// The feed of a node.
+fn feed_port(alloc: Global, shape: &Shape<'_>, buffer: u32, node: u32) -> Result<FeedPort, Memory>
+    requires frame { shape.now.plan.now.frame ≤ 65536 }
+    ensures feed { IfOk result (λ feed. feed_of feed ≡ (buffer, node)) }
+    ensures new { IfOk result (IsNewFeed shape.now.plan.now.frame) }
+{
+    let frame = Frame::new(alloc, shape.plan.frame)?;
+    Ok(FeedPort {
+        buffer,
+        node,
+        frame,
     })
 }

@@ -3,7 +3,7 @@ ghost use Rattle.std.specs.Prelude.{◌≡◌, ◌<◌, ◌≤◌, ℕ, Some, na
 ghost use Rattle.std.specs.List.{list_any};
 ghost use Rattle.liq_base.specs.declared.limits.TheConstants.{MAX_CHILDREN, MAX_NODES};
 ghost use Rattle.plan_core.specs.declared.node.Node.{Node as PlanNode};
-ghost use Rattle.plan_core.specs.Plans.{AreNodes, IsInRange, IsNoReader, sink_node};
+ghost use Rattle.plan_core.specs.Plans.{AreNodes, IsInRange, sink_node};
 ghost use Rattle.clock_infer.specs.declared.clock_map.NodeClock.TheVariants.{Main as InMain};
 ghost use Rattle.stream_meaning.specs.Instants.{Setting, is_root, same_clock};
 ghost use Rattle.node_states.specs.declared.time.WeekTime.{WeekTime as Time};
@@ -24,13 +24,12 @@ pub fn states_of(alloc: Global, plan: &Plan) -> Result<Vec<NodeState>, Memory>
     requires rate { 0 < plan.now.rate }
     requires nodes { AreNodes plan.now.nodes }
     requires few { length plan.now.nodes ≤ MAX_NODES }
-    requires readers { (i : ℕ) (node : PlanNode) → slice_get plan.now.nodes i ≡ Some node → IsNoReader node.op }
     ensures { IfOk result (λ states. AreNewStates plan.now (length plan.now.nodes) states.items) }
 {
     let nodes = plan.nodes.as_slice();
     let mut states = Vec::with_capacity(alloc, nodes.len())?;
     for i in 0..nodes.len() {
-        states.push(state_of(alloc, &nodes[i], i as u32, plan.rate)?)?;
+        states.push(state_of(alloc, plan, &nodes[i], i as u32)?)?;
     }
     Ok(states)
 }
@@ -79,14 +78,13 @@ pub fn most_children(plan: &Plan) -> usize
 }
 
 // The state of a node.
-fn state_of(alloc: Global, node: &Node, i: u32, rate: u32) -> Result<NodeState, Memory>
-    requires rate { 0 < rate }
+fn state_of(alloc: Global, plan: &Plan, node: &Node, i: u32) -> Result<NodeState, Memory>
+    requires rate { 0 < plan.now.rate }
     requires range { IsInRange node.now.op }
     requires few { length node.now.children ≤ MAX_CHILDREN }
-    requires reads { IsNoReader node.now.op }
-    ensures { IfOk result (λ state. IsNewState rate i node.now state) }
+    ensures { IfOk result (λ state. IsNewState plan.now i node.now state) }
 {
-    NodeState::new(alloc, node, i, rate)
+    NodeState::new(alloc, plan, node, i)
 }
 
 // The node of a sink.

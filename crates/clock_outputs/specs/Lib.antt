@@ -1,3 +1,4 @@
 pub mod Filled
 pub mod Ports
+pub mod Feeds
 pub mod Appends

@@ -2,9 +2,11 @@
 #![tactic(auto)]
 
 mod appends;
+mod feed;
 mod piece;
 mod port;
 
 pub use appends::append_all;
+pub use feed::{FeedPort, fill_all, give_all};
 pub use piece::Piece;
 pub use port::{Port, begin_tick, hear_all};

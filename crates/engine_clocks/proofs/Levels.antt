@@ -1,5 +1,5 @@
 -- How far down sub-clocks go, and what they leave as it was.
-use Rattle.std.proofs.Common.{◌≡◌, ◌<◌, ◌≤◌, ◌+◌, ◌-◌, ◌∙◌, ℕ, suc, false, List, length, slice_get, arith, refl, ap, sym, subst}
+use Rattle.std.proofs.Common.{◌≡◌, ◌<◌, ◌≤◌, ◌-◌, ◌∙◌, ℕ, false, List, length, slice_get, arith, refl, ap, sym, subst}
 use Rattle.clock_infer.specs.declared.clock_map.NodeClock.{NodeClock}
 use Rattle.clock_infer.specs.declared.clock_map.NodeClock.TheVariants.{Sub}
 use Rattle.stream_meaning.specs.Instants.{same_clock}

@@ -5,6 +5,7 @@ mod clocks;
 mod feeding;
 mod finishing;
 mod lanes;
+mod opening;
 
 pub use clocks::make_instant;
 pub use feeding::child_of;

@@ -7,3 +7,6 @@ pub mod Marking
 pub mod Unmarked
 pub mod Demanded
 pub mod Going
+pub mod Beginning
+pub mod Reading
+mod Stretched

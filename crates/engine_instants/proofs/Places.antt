@@ -22,3 +22,9 @@ same_or_other (suc i) (suc k) = elim (same_or_other i k) [ inl e ↦ inl (ap suc
 
 pub below_or_same : (m f : ℕ) → m < f + 1 → (m < f) ⊎ (m ≡ f)
 below_or_same m f h = elim (same_or_other m f) [ inl e ↦ inr e | inr other ↦ inl (omega arith) ]
+
+-- the item at a place
+pub item_there : {C : Type 0} (xs : List C) (i : ℕ) → i < length xs → (x : C) × (slice_get xs i ≡ Some x)
+item_there [] i h = absurd (omega arith)
+item_there (x ∷ xs) zero h = (x, refl)
+item_there (x ∷ xs) (suc i) h = item_there xs i (omega arith)

@@ -1,3 +1,5 @@
 pub mod States
+pub mod Takes
 pub mod Demands
 pub mod Nodes
+pub mod Resting

@@ -7,10 +7,14 @@ mod instant;
 mod latest;
 mod nodes;
 mod offers;
+mod resting;
 mod roots;
 mod shape;
+mod takes;
 
 pub use instant::finish_instant;
 pub use latest::Latest;
 pub use nodes::ClockNodes;
+pub use resting::rest_of;
 pub use shape::Shape;
+pub use takes::begin_readers;

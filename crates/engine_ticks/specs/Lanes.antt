@@ -6,6 +6,7 @@ use Rattle.plan_core.specs.Plans.{IsNoReader}
 use Rattle.clock_infer.specs.declared.clock_map.NodeClock.{NodeClock}
 use Rattle.frame_core.specs.Slots.{Slot}
 use Rattle.frame_core.specs.Library.{Sounds}
+use Rattle.op_leaf.specs.Readers.{Answer}
 use Rattle.stream_meaning.specs.Instants.{Setting}
 use Rattle.node_states.specs.Times.{TimeStands}
 use Rattle.engine_clocks.specs.Clocks.{AreClockLanes, HasRanks, RanAsNeeded, Stand}
@@ -19,14 +20,16 @@ pub record HasNoReaders (plan : Plan) : Type 0 where
 pub record AreLanes (plan : Plan) (library : Sounds) (clocks : List NodeClock) (lanes : Lanes) : Type 0 where
   pub below : AreClockLanes plan library clocks lanes.clocks
   pub rate : lanes.time.rate ≡ plan.rate
+  pub frame : lanes.time.frame ≡ plan.frame
 
--- they stand for the first n instants of a clock, and for as many of the sub-clocks below it as its crossfades asked for
-pub record LanesStand (setting : Setting) (sub : ℕ → ℕ → List Slot) (clock : NodeClock) (n : ℕ) (lanes : Lanes) : Type 0 where
+-- they stand for the first n instants of a clock, and for as many of the sub-clocks below it as its crossfades asked for; all readers
+-- have taken these answers by them
+pub record LanesStand (setting : Setting) (sub : ℕ → ℕ → List Slot) (clock : NodeClock) (n : ℕ) (front : ℕ → List Answer) (lanes : Lanes) : Type 0 where
   pub rank : NodeClock → ℕ
   pub ran : NodeClock → ℕ
   pub fed : ℕ → ℕ
   pub ranks : HasRanks setting.clocks rank
   pub made : ran clock ≡ n
-  pub stand : Stand setting sub rank (rank clock) ran fed lanes.clocks
-  pub needed : RanAsNeeded setting sub rank (rank clock) ran
+  pub stand : Stand setting sub rank (rank clock) ran fed front lanes.clocks
+  pub needed : RanAsNeeded setting sub rank (rank clock) ran fed
   pub time : TimeStands setting.start n lanes.time

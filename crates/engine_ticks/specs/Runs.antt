@@ -1,34 +1,105 @@
--- What the outputs of a clock hear in a tick.
-use Rattle.std.specs.Prelude.{◌≡◌, ℕ, ◌+◌, Bool, List, length, map}
+-- What the outputs and feeds of a clock hear in a tick.
+use Rattle.std.specs.Prelude.{◌≡◌, ℕ, suc, ◌+◌, Bool, List, ◌++◌, drop, length, map}
 use Rattle.std.specs.List.{range_with_len}
 use Rattle.plan_core.specs.declared.plan.Plan.{Plan}
 use Rattle.clock_infer.specs.declared.clock_map.NodeClock.{NodeClock}
 use Rattle.frame_core.specs.Slots.{Slot}
 use Rattle.frame_core.specs.Library.{Sounds}
+use Rattle.frame_core.specs.Calls.{Adds, Call}
+use Rattle.op_leaf.specs.Readers.{Answer}
 use Rattle.stream_meaning.specs.Instants.{Setting, IsMeaning, history, moment_after, offer}
+use Rattle.stream_meaning.specs.Calls.{GoDown, HasAnswers, IsBegin, after_calls, calls_of, joined_upto}
 use Rattle.clock_outputs.specs.declared.port.Port.{Port}
+use Rattle.clock_outputs.specs.declared.feed.FeedPort.{FeedPort}
 use Rattle.clock_outputs.specs.Ports.{after_slots, emptied}
 use Rattle.engine_instants.specs.States.{over}
+use Rattle.engine_instants.specs.Takes.{HasOwnReaders}
 use Rattle.engine_clocks.specs.Clocks.{AreOwnRoots}
 use Rattle.engine_ticks.specs.declared.lanes.Lanes.{Lanes}
 use Rattle.engine_ticks.specs.Lanes.{LanesStand}
+
+-- what holds of a setting, whatever its answers are
+pub record IsMeant (setting : Setting) (sub : ℕ → ℕ → List Slot) (own : List Bool) : Type 0 where
+  pub meaning : IsMeaning setting sub
+  pub down : GoDown setting sub
+  pub readers : HasOwnReaders setting
+  pub roots : AreOwnRoots setting own
 
 -- the slot of node i at instant n of a clock
 abbrev pub slot_in : Setting → (sub : ℕ → ℕ → List Slot) → NodeClock → (i n : ℕ) → Slot
 slot_in setting sub clock i n = offer (moment_after setting sub clock (history setting sub clock n)) i
 
--- what lanes stand for after so many instants more, where these were the slots
-pub record HasRun (setting : Setting) (sub : ℕ → ℕ → List Slot) (clock : NodeClock) (n count : ℕ) (slots : ℕ → List Slot) (lanes : Lanes) : Type 0 where
-  pub lanes_stand : LanesStand setting sub clock (n + count) lanes
-  pub slots_are : (i : ℕ) → slots i ≡ map (slot_in setting sub clock i) (range_with_len n count)
+-- the calls of so many instants from n on
+abbrev pub calls_from : Setting → (sub : ℕ → ℕ → List Slot) → NodeClock → (n count : ℕ) → List Call
+calls_from setting sub clock n count = joined_upto (λ j. calls_of setting sub clock (history setting sub clock (n + j))) count
 
--- so many instants were made, and the outputs have heard the slots of their nodes; whatever instants the lanes stood for, these
--- are the next ones
-pub record Heard (plan : Plan) (library : Sounds) (clocks : List NodeClock) (clock : NodeClock) (own : List Bool) (count : ℕ)
-    (before after : Lanes) (first now : List Port) : Type 0 where
+-- the buffer and the node of a feed
+abbrev pub feed_key : FeedPort → ℕ × ℕ
+feed_key feed = (feed.buffer, feed.node)
+
+-- a feed whose node had these slots in the tick so far
+abbrev pub with_slots : FeedPort → List Slot → FeedPort
+with_slots feed slots = record { buffer = feed.buffer; node = feed.node; frame = slots ++ drop (length slots) feed.frame }
+
+-- what lanes stand for after so many instants more, where these were the slots and the calls
+pub record HasRun (setting : Setting) (sub : ℕ → ℕ → List Slot) (clock : NodeClock) (n count : ℕ) (slots : ℕ → List Slot) (front : ℕ → List Answer) (more : List Call)
+    (lanes : Lanes) : Type 0 where
+  pub lanes_stand : LanesStand setting sub clock (n + count) (after_calls front more) lanes
+  pub slots_are : (i : ℕ) → slots i ≡ map (slot_in setting sub clock i) (range_with_len n count)
+  pub calls : more ≡ calls_from setting sub clock n count
+
+-- the lanes, the outputs and the feeds of a clock, and its taps
+pub record Scene (T : Type 0) : Type 0 where
+  pub lanes : Lanes
+  pub ports : List Port
+  pub feeds : List FeedPort
+  pub taps : T
+
+-- so many instants were made, by these calls, and the outputs and feeds have heard the slots of their nodes; whatever instants the
+-- lanes stood for, these are the next ones
+pub record Heard {T : Type 0} (stands : T → List Call → Type 0) (plan : Plan) (library : Sounds) (clocks : List NodeClock) (clock : NodeClock) (own : List Bool) (count : ℕ)
+    (before after : Scene T) : Type 0 where
   pub slots : ℕ → List Slot
   pub long : (i : ℕ) → length (slots i) ≡ count
-  pub ports_are : now ≡ map (λ port. after_slots (emptied port) (slots port.node)) first
-  pub run : (other : Setting) (sub : ℕ → ℕ → List Slot) (n : ℕ) → IsMeaning (over plan library clocks other) sub
-      → AreOwnRoots (over plan library clocks other) own → LanesStand (over plan library clocks other) sub clock n before
-      → HasRun (over plan library clocks other) sub clock n count slots after
+  pub ports_are : after.ports ≡ map (λ port. after_slots (emptied port) (slots port.node)) before.ports
+  pub feeds_are : after.feeds ≡ map (λ feed. with_slots feed (slots feed.node)) before.feeds
+  pub more : List Call
+  pub taps : Adds stands before.taps after.taps more
+  pub run : (other : Setting) (sub : ℕ → ℕ → List Slot) (n : ℕ) (front : ℕ → List Answer) → IsMeant (over plan library clocks other) sub own
+      → HasAnswers (over plan library clocks other) (after_calls front more) → LanesStand (over plan library clocks other) sub clock n front before.lanes
+      → HasRun (over plan library clocks other) sub clock n count slots front more after.lanes
+
+-- memory was refused within a tick of so many instants: these are its first calls
+pub record HeardSome {T : Type 0} (stands : T → List Call → Type 0) (plan : Plan) (library : Sounds) (clocks : List NodeClock) (clock : NodeClock) (own : List Bool) (total : ℕ)
+    (before after : Scene T) : Type 0 where
+  pub slots : ℕ → List Slot
+  pub ports_are : after.ports ≡ map (λ port. after_slots (emptied port) (slots port.node)) before.ports
+  pub made : List Call
+  pub taps : Adds stands before.taps after.taps made
+  pub begins : (other : Setting) (sub : ℕ → ℕ → List Slot) (n : ℕ) (front : ℕ → List Answer) → IsMeant (over plan library clocks other) sub own
+      → HasAnswers (over plan library clocks other) (after_calls front made) → LanesStand (over plan library clocks other) sub clock n front before.lanes
+      → IsBegin made (calls_from (over plan library clocks other) sub clock n total)
+
+-- what lanes stand for after one instant more
+pub record InstantDone (setting : Setting) (sub : ℕ → ℕ → List Slot) (clock : NodeClock) (n : ℕ) (front : ℕ → List Answer) (more : List Call) (lanes : Lanes) : Type 0 where
+  pub lanes_stand : LanesStand setting sub clock (suc n) (after_calls front more) lanes
+  pub parts : lanes.clocks.latest.parts.items ≡ (moment_after setting sub clock (history setting sub clock n)).parts
+  pub calls : more ≡ calls_of setting sub clock (history setting sub clock n)
+
+-- one instant more
+pub record InstantRun {T : Type 0} (stands : T → List Call → Type 0) (plan : Plan) (library : Sounds) (clocks : List NodeClock) (clock : NodeClock) (own : List Bool)
+    (old new : Lanes) (taps_old taps_new : T) : Type 0 where
+  pub more : List Call
+  pub taps : Adds stands taps_old taps_new more
+  pub stand : (other : Setting) (sub : ℕ → ℕ → List Slot) (n : ℕ) (front : ℕ → List Answer) → IsMeant (over plan library clocks other) sub own
+      → HasAnswers (over plan library clocks other) (after_calls front more) → LanesStand (over plan library clocks other) sub clock n front old
+      → InstantDone (over plan library clocks other) sub clock n front more new
+
+-- memory was refused in it
+pub record InstantBroken {T : Type 0} (stands : T → List Call → Type 0) (plan : Plan) (library : Sounds) (clocks : List NodeClock) (clock : NodeClock) (own : List Bool)
+    (old : Lanes) (taps_old taps_new : T) : Type 0 where
+  pub made : List Call
+  pub taps : Adds stands taps_old taps_new made
+  pub begins : (other : Setting) (sub : ℕ → ℕ → List Slot) (n : ℕ) (front : ℕ → List Answer) → IsMeant (over plan library clocks other) sub own
+      → HasAnswers (over plan library clocks other) (after_calls front made) → LanesStand (over plan library clocks other) sub clock n front old
+      → IsBegin made (calls_of (over plan library clocks other) sub clock (history (over plan library clocks other) sub clock n))

@@ -1,26 +1,32 @@
 // The instants of a tick.
-ghost use Rattle.std.specs.Prelude.{◌≡◌, ◌≤◌, length, map};
+ghost use Rattle.std.specs.Prelude.{◌≡◌, ◌≤◌, All, length, map, OnOk, OnErr};
 ghost use Rattle.liq_base.specs.declared.limits.TheConstants.{MAX_NODES};
 ghost use Rattle.plan_core.specs.Plans.{AreNodes};
 ghost use Rattle.clock_outputs.specs.Ports.{AllHaveRoomLeft, emptied};
+ghost use Rattle.engine_instants.specs.Takes.{HasReader, ReadersAreIn};
 ghost use Rattle.engine_clocks.specs.Clocks.{HasLevels};
 ghost use Rattle.engine_ticks.specs.Lanes.{AreLanes};
-ghost use Rattle.engine_ticks.specs.Runs.{Heard};
+ghost use Rattle.engine_ticks.specs.Runs.{Heard, HeardSome, feed_key};
 
 use crate::Lanes;
 use crate::lanes::make_instant;
 use clock_infer::NodeClock;
-use clock_outputs::{Port, begin_tick, hear_all};
+use clock_outputs::{FeedPort, Port, begin_tick, fill_all, hear_all};
 use engine_instants::Shape;
+use frame_core::Taps;
+use liq_base::Memory;
 
-/// Makes the instants of a tick of a clock, and lets the outputs hear their nodes.
-pub fn run_tick(
+/// Makes the instants of a tick of a clock, and lets its outputs and feeds hear their nodes. Where memory is refused some of
+/// the takes of the tick were made, from the first on.
+pub fn run_tick<T: Taps>(
     shape: &Shape<'_>,
     clock: NodeClock,
     own: &[bool],
     lanes: &mut Lanes,
     ports: &mut Vec<Port>,
-)
+    feeds: &mut Vec<FeedPort>,
+    taps: &mut T,
+) -> Result<(), Memory>
     requires nodes { AreNodes shape.now.plan.now.nodes }
     requires few { length shape.now.plan.now.nodes ≤ MAX_NODES }
     requires in_clocks { length shape.now.clocks.now ≡ length shape.now.plan.now.nodes }
@@ -28,12 +34,26 @@ pub fn run_tick(
     requires levels { HasLevels shape.now.clocks.now clock (length shape.now.plan.now.nodes) }
     requires lanes { AreLanes shape.now.plan.now shape.now.library.now shape.now.clocks.now lanes.old }
     requires room { AllHaveRoomLeft shape.now.plan.now.frame (map emptied ports.old.items) }
+    requires frames { All (λ feed. length feed.frame ≡ shape.now.plan.now.frame) feeds.old.items }
+    requires readers { ReadersAreIn shape.now.plan.now (T.buffers taps.old) }
     ensures lanes { AreLanes shape.now.plan.now shape.now.library.now shape.now.clocks.now lanes.new }
-    ensures heard { Heard shape.now.plan.now shape.now.library.now shape.now.clocks.now clock own.now shape.now.plan.now.frame lanes.old lanes.new ports.old.items ports.new.items }
+    ensures frames { All (λ feed. length feed.frame ≡ shape.now.plan.now.frame) feeds.new.items }
+    ensures keys { map feed_key feeds.new.items ≡ map feed_key feeds.old.items }
+    ensures buffers { T.buffers taps.new ≡ T.buffers taps.old }
+    ensures same { T.same taps.old taps.new }
+    ensures heard { OnOk result (Heard T.stands shape.now.plan.now shape.now.library.now shape.now.clocks.now clock own.now shape.now.plan.now.frame
+        (record { lanes = lanes.old; ports = ports.old.items; feeds = feeds.old.items; taps = taps.old })
+        (record { lanes = lanes.new; ports = ports.new.items; feeds = feeds.new.items; taps = taps.new })) }
+    ensures stopped { OnErr result (HeardSome T.stands shape.now.plan.now shape.now.library.now shape.now.clocks.now clock own.now shape.now.plan.now.frame
+        (record { lanes = lanes.old; ports = ports.old.items; feeds = feeds.old.items; taps = taps.old })
+        (record { lanes = lanes.new; ports = ports.new.items; feeds = feeds.new.items; taps = taps.new })) }
+    ensures reads { OnErr result (HasReader shape.now.plan.now shape.now.clocks.now clock) }
 {
     begin_tick(ports);
     for instant in 0..shape.plan.frame {
-        make_instant(shape, clock, own, lanes);
+        make_instant(shape, clock, own, lanes, taps)?;
         hear_all(ports, &lanes.clocks.latest.parts);
+        fill_all(feeds, instant, &lanes.clocks.latest.parts);
     }
+    Ok(())
 }

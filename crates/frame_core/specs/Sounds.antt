@@ -1,5 +1,6 @@
 -- The sound of an audio file, and its cells in a source of either kind.
-use Rattle.std.specs.Prelude.{◌≡◌, ◌<◌, ℕ, ℤ, pos, ◌+◌, ◌+ℤ◌, ◌*◌, ◌/◌, ◌%◌, List, length, slice_index_or, nat_eq, int_div}
+use Rattle.std.specs.Prelude.{◌≡◌, ◌<◌, ℕ, ℤ, pos, ◌+◌, ◌+ℤ◌, ◌*◌, ◌/◌, ◌%◌, List, length, map, slice_index_or, nat_eq, int_div}
+use Rattle.std.specs.List.{range_with_len}
 use Rattle.liq_base.specs.Kinds.{channels_of}
 use Rattle.liq_base.specs.declared.memory.Kind.{Kind}
 use Rattle.liq_base.specs.declared.memory.Kind.TheVariants.{Mono, Stereo}
@@ -40,3 +41,10 @@ cell_of sound kind at = record {
   right = right_at sound.kind sound.samples kind at;
   first = nat_eq at 0;
 }
+
+-- the samples of so many cells of a file from a place on, in a source of this kind
+abbrev pub lefts_from : Sound → Kind → (at count : ℕ) → List ℤ
+lefts_from sound kind at count = map (λ n. (cell_of sound kind n).left) (range_with_len at count)
+
+abbrev pub rights_from : Sound → Kind → (at count : ℕ) → List ℤ
+rights_from sound kind at count = map (λ n. (cell_of sound kind n).right) (range_with_len at count)

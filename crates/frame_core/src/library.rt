@@ -1,7 +1,7 @@
 // The audio files of a plan, and the files that each leaf plays.
-ghost use Rattle.std.specs.Prelude.{◌≡◌, ◌<◌, length, map};
+ghost use Rattle.std.specs.Prelude.{◌≡◌, ◌<◌, ◌≤◌, ◌+◌, length, map};
 ghost use Rattle.frame_core.specs.Library.{IsLibrary, Sounds, sound_at, tracks_of};
-ghost use Rattle.frame_core.specs.Sounds.{cell_of, length_of};
+ghost use Rattle.frame_core.specs.Sounds.{cell_of, lefts_from, length_of, rights_from};
 
 use crate::{Cell, Track};
 use liq_base::Kind;
@@ -52,6 +52,27 @@ impl Library {
     {
         let file = self.leaves[leaf as usize][track as usize];
         self.files[file as usize].samples()
+    }
+
+    /// The samples of as many cells as the slices are long, from a place of a file on, which is a leaf's file number `track`.
+    pub fn read(
+        &self,
+        leaf: u32,
+        track: u32,
+        at: u64,
+        kind: Kind,
+        left: &mut [i16],
+        right: &mut [i16],
+    )
+        requires leaf { leaf < length self.now.leaves }
+        requires track { track < length (tracks_of self.now leaf) }
+        requires same { length right.old ≡ length left.old }
+        requires within { at + length left.old ≤ length_of (sound_at self.now leaf track) }
+        ensures left { left.new ≡ lefts_from (sound_at self.now leaf track) kind at (length left.old) }
+        ensures right { right.new ≡ rights_from (sound_at self.now leaf track) kind at (length left.old) }
+    {
+        let file = self.leaves[leaf as usize][track as usize];
+        self.files[file as usize].read(at, kind, left, right);
     }
 
     /// The cell at a place of a file, which is a leaf's file number `track`, in a source of this kind. All of them are counted from 0.

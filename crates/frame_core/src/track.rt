@@ -1,6 +1,6 @@
 // An audio file, held as samples.
 ghost use Rattle.std.specs.Prelude.{◌≡◌, ◌<◌, ◌≤◌, ◌+ℤ◌, ◌*◌, ◌+◌, ◌/◌, ◌^◌, ℕ, ℤ, pos, length, int_div, nat_eq};
-ghost use Rattle.frame_core.specs.Sounds.{Sound, IsSound, cell_of, length_of, sample_at};
+ghost use Rattle.frame_core.specs.Sounds.{Sound, IsSound, cell_of, lefts_from, length_of, rights_from, sample_at};
 
 use crate::Cell;
 use liq_base::Kind;
@@ -80,6 +80,24 @@ impl Track {
                 right: self.samples[2 * at + 1],
                 first,
             },
+        }
+    }
+}
+
+impl Track {
+    /// The samples of as many cells as the slices are long, from a place on, in a source of this kind.
+    pub fn read(&self, at: u64, kind: Kind, left: &mut [i16], right: &mut [i16])
+        requires same { length right.old ≡ length left.old }
+        requires within { at + length left.old ≤ length_of self.now }
+        ensures left { left.new ≡ lefts_from self.now kind at (length left.old) }
+        ensures right { right.new ≡ rights_from self.now kind at (length left.old) }
+    {
+        let end = self.samples();
+        prove!(at <= end);
+        for j in 0..left.len() {
+            let cell = self.cell(at + j as u64, kind);
+            left[j] = cell.left;
+            right[j] = cell.right;
         }
     }
 }

@@ -19,7 +19,7 @@ as_many setting sub meaning = record { each = each }
 
 pub no_tick : (setting : Setting) (m : ℕ) (states : List NodeState)
     → ((i : ℕ) (node : Node) (state : NodeState) → slice_get setting.plan.nodes i ≡ Some node → slice_get states i ≡ Some state
-    → (world : Setting) (sub : ℕ → ℕ → List Slot) → world.plan.rate ≡ setting.plan.rate → sub i 0 ≡ [] → StateStands world sub [] 0 i (work_at world i node) state)
+    → (world : Setting) (sub : ℕ → ℕ → List Slot) → world.plan ≡ setting.plan → sub i 0 ≡ [] → StateStands world sub [] 0 i (work_at world i node) state)
     → StandsFor setting m 0 (λ buffer. []) states
 no_tick setting m states each = record {
   ran = λ clock. 0;

@@ -3,3 +3,6 @@ pub mod Stepped
 pub mod Begun
 pub mod Fed
 pub mod Seconds
+pub mod Chunks
+mod Rested
+pub mod Running

@@ -10,10 +10,12 @@ use Rattle.op_cross.specs.States.{Crossing, StandsFor, position_after}
 use Rattle.op_cross.proofs.LeastRuns.{item_of-is}
 use Rattle.stream_meaning.specs.declared.part.Part.{Part}
 use Rattle.stream_meaning.specs.Operators.{Work, Plays, Picks, Mixes, Fades, Reads, marks_at}
-use Rattle.stream_meaning.specs.Instants.{Setting, Moment, demanded, gives, last_pick, part_at, part_by, picked_part, position, second_at}
+use Rattle.stream_meaning.specs.Instants.{Setting, Moment, Reading, reading_after, reading_at, read_on, demanded, gives, last_pick, part_at, part_by, picked_part, position, second_at}
 use Rattle.stream_meaning.proofs.Choosing.{picked_within}
-use Rattle.node_states.specs.declared.state.NodeState.TheVariants.{Select, Cross}
-use Rattle.node_states.specs.States.{AreLong, IsSettled, StateStands}
+use Rattle.node_states.specs.declared.state.NodeState.TheVariants.{Select, Cross, Read}
+use Rattle.node_states.specs.States.{AreLong, IsSettled, StateStands, reading_by}
+use Rattle.op_leaf.specs.Readers.{Reader, after_cell}
+use Rattle.node_states.proofs.Chunks.{reading_closed, reading_open}
 
 -- an instant at which node i had this part and this mark
 pub record HasPart (moment : Moment) (i : ℕ) (part : Part) (mark : Bool) : Type 0 where
@@ -77,6 +79,10 @@ not_before : (test : Bool) (p : ℕ) → p ≤ cond test (suc p) p
 not_before true p = omega arith
 not_before false p = omega arith
 
+read_reader : (gave : Bool) (reading : Reading) → cond gave (after_cell reading.reader) reading.reader ≡ (read_on gave reading).reader
+read_reader true reading = refl
+read_reader false reading = refl
+
 pub cross_step : (setting : Setting) (sub : ℕ → ℕ → List Slot) (past : List Moment) (moment : Moment) (fed i : ℕ) (work : Work) (slots : List Slot)
     (old new : Crossing) (part : Part) (mark gave : Bool) → AreLong sub → gave ≡ (mark && is_some part.slot) → new.overlap ≡ old.overlap
     → ((list : List Slot) (p : ℕ) → StandsFor old list p → p < length (cross old.overlap list) → StandsFor new list (position_after gave (slot_at (cross old.overlap list) p) p))
@@ -108,3 +114,21 @@ cross_step setting sub past moment fed i (Fades overlap) slots old new part mark
         ∙ ap (λ (g : Bool). cond (g || not (is_some part.slot)) (suc (position past i)) (position past i)) (gave_is ∙ sym (given moment i part mark had))
         ∙ ap (λ (q : Part). cond (gives moment i || not (is_some q.slot)) (suc (position past i)) (position past i)) (sym had.part_is)
 cross_step setting sub past moment fed i (Reads buffer) slots old new part mark gave long gave_is same steps stands settled is had = absurd stands
+
+-- a reader that has begun, behind the instant
+pub read_step : (setting : Setting) (sub : ℕ → ℕ → List Slot) (past : List Moment) (moment : Moment) (fed i : ℕ) (work : Work) (slots : List Slot)
+    (old new : Reader) (part : Part) (mark gave : Bool) → gave ≡ (mark && is_some part.slot) → new ≡ cond gave (after_cell old) old
+    → StateStands setting sub past fed i work (Read old) → IsSettled sub past fed i work → HasPart moment i part mark
+    → StateStands setting sub (moment ∷ past) fed i work (Read new)
+read_step setting sub past moment fed i (Plays leaf) slots old new part mark gave gave_is steps stands settled had = absurd stands
+read_step setting sub past moment fed i (Picks rule eligible) slots old new part mark gave gave_is steps stands settled had = absurd stands
+read_step setting sub past moment fed i (Mixes mixing) slots old new part mark gave gave_is steps stands settled had = absurd stands
+read_step setting sub past moment fed i (Fades overlap) slots old new part mark gave gave_is steps stands settled had = absurd stands
+read_step setting sub past moment fed i (Reads buffer) slots old new part mark gave gave_is steps stands settled had =
+    let now : Reading = reading_at setting buffer (length past) (reading_after setting i buffer past) in
+    let was : old ≡ now.reader = stands ∙ ap (λ (n : ℕ). (reading_by setting i buffer past n).reader) settled ∙ ap (λ (r : Reading). r.reader) (reading_open setting i buffer past) in
+    steps
+    ∙ ap (λ (g : Bool). cond g (after_cell old) old) (gave_is ∙ sym (given moment i part mark had))
+    ∙ ap (λ (r : Reader). cond (gives moment i) (after_cell r) r) was
+    ∙ read_reader (gives moment i) now
+    ∙ ap (λ (r : Reading). r.reader) (sym (ap (λ (n : ℕ). reading_by setting i buffer (moment ∷ past) n) settled ∙ reading_closed setting i buffer (moment ∷ past)))

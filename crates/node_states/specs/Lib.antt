@@ -1,4 +1,5 @@
 pub mod Times
 pub mod Works
 pub mod States
+pub mod Takes
 pub mod Ticks

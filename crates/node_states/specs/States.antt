@@ -1,6 +1,6 @@
 -- For what the state of a node stands. A past is a list of the instants of the node's clock, the latest first; `sub k m` are
 -- the first m slots of the child of crossfade k.
-use Rattle.std.specs.Prelude.{◌≡◌, ⊤, ◌<◌, ◌≤◌, Bool, false, Option, List, ℕ, length}
+use Rattle.std.specs.Prelude.{◌≡◌, ⊤, ◌<◌, ◌≤◌, Bool, true, false, Option, Some, None, List, ℕ, suc, length, nat_eq, slice_get, if◌then◌else◌}
 use Rattle.frame_core.specs.Library.{Sounds}
 use Rattle.frame_core.specs.Slots.{Slot}
 use Rattle.op_leaf.specs.declared.leaf.Leaf.{Leaf as TheLeaf}
@@ -9,12 +9,14 @@ use Rattle.op_leaf.specs.Standing.{leaf_of, IsPlacedIn, StandsAt}
 use Rattle.op_select.specs.declared.rule.Rule.{Rule}
 use Rattle.op_select.specs.Selection.{Selection}
 use Rattle.op_cross.specs.Crossfade.{cross}
+use Rattle.op_cross.specs.Runs.{run_of}
 use Rattle.op_cross.specs.States.{Crossing, StandsFor, wants as crossing_wants, left as crossing_left}
 use Rattle.stream_meaning.specs.Operators.{Work, Plays, Picks, Mixes, Fades, Reads}
-use Rattle.stream_meaning.specs.Instants.{Setting, Moment, count, last_pick, position}
+use Rattle.plan_core.specs.declared.node.Node.{Node}
+use Rattle.stream_meaning.specs.Instants.{Setting, Moment, Reading, count, last_pick, position, reading_after, reading_at, work_at}
 use Rattle.node_mixing.specs.Mixings.{mixing_of}
 use Rattle.node_states.specs.declared.state.NodeState.{NodeState}
-use Rattle.node_states.specs.declared.state.NodeState.TheVariants.{Leaf, Select, Mix, Cross}
+use Rattle.node_states.specs.declared.state.NodeState.TheVariants.{Leaf, Select, Mix, Cross, Read}
 
 -- a leaf gave so many cells
 pub record LeafStands (library : Sounds) (leaf : TheLeaf) (given : ℕ) (state : LeafState) : Type 0 where
@@ -32,21 +34,37 @@ pub record CrossStands (slots : ℕ → List Slot) (fed p overlap : ℕ) (state 
   pub stands : StandsFor state (slots fed) p
   pub least : (m : ℕ) → m < fed → length (cross overlap (slots m)) ≤ p
 
--- node i, which does this work, has the state that its past implies, where a crossfade was fed so many slots of its child
+-- a reader that has begun so many instants: before the takes of the instant after these, or behind them
+abbrev pub reading_by : Setting → (i buffer : ℕ) → List Moment → (begun : ℕ) → Reading
+reading_by setting i buffer past begun =
+    if nat_eq begun (length past) then reading_after setting i buffer past
+    else reading_at setting buffer (length past) (reading_after setting i buffer past)
+
+-- node i, which does this work, has the state that its past implies, where a crossfade was fed so many slots of its child, and a
+-- reader has begun so many instants
 abbrev pub StateStands : Setting → (sub : ℕ → ℕ → List Slot) → List Moment → (fed i : ℕ) → Work → NodeState → Type 0
 StateStands setting sub past fed i (Plays leaf) (Leaf state) = LeafStands setting.library leaf (count past i) state
 StateStands setting sub past fed i (Picks rule eligible) (Select state) = SelectStands rule (last_pick past i) state
 StateStands setting sub past fed i (Mixes mixing) (Mix mixer) = mixing_of mixer ≡ mixing
 StateStands setting sub past fed i (Fades overlap) (Cross state) = CrossStands (sub i) fed (position past i) overlap state
+StateStands setting sub past fed i (Reads buffer) (Read reader) = reader ≡ (reading_by setting i buffer past fed).reader
 StateStands setting sub past fed i work state = ⊥
 
--- the item of a crossfade with this past is settled by so many slots of its child
+-- the item of a crossfade with this past is settled by so many slots of its child; a reader has begun the next instant
 abbrev pub IsSettled : (sub : ℕ → ℕ → List Slot) → List Moment → (fed i : ℕ) → Work → Type 0
 IsSettled sub past fed i (Plays leaf) = ⊤
 IsSettled sub past fed i (Picks rule eligible) = ⊤
 IsSettled sub past fed i (Mixes mixing) = ⊤
 IsSettled sub past fed i (Fades overlap) = position past i < length (cross overlap (sub i fed))
-IsSettled sub past fed i (Reads buffer) = ⊤
+IsSettled sub past fed i (Reads buffer) = fed ≡ suc (length past)
+
+-- it is the work of a crossfade whose item with this past asks for more slots than these
+abbrev pub FadesOn : (sub : ℕ → ℕ → List Slot) → List Moment → (fed i : ℕ) → Work → Type 0
+FadesOn sub past fed i (Plays leaf) = ⊥
+FadesOn sub past fed i (Picks rule eligible) = ⊥
+FadesOn sub past fed i (Mixes mixing) = ⊥
+FadesOn sub past fed i (Fades overlap) = fed < run_of overlap (sub i) (position past i)
+FadesOn sub past fed i (Reads buffer) = ⊥
 
 -- m slots are a list of m, for each crossfade
 pub record AreLong (sub : ℕ → ℕ → List Slot) : Type 0 where
@@ -58,6 +76,7 @@ Fits library children (Leaf state) = IsPlacedIn library state
 Fits library children (Select state) = state.children ≡ children
 Fits library children (Mix mixer) = ⊤
 Fits library children (Cross state) = ⊤
+Fits library children (Read reader) = ⊤
 
 -- it is a crossfade, and its item is not settled
 abbrev pub wants : NodeState → Bool
@@ -65,6 +84,7 @@ wants (Leaf state) = false
 wants (Select state) = false
 wants (Mix mixer) = false
 wants (Cross state) = crossing_wants state
+wants (Read reader) = false
 
 -- a bound on the slots that it asks for before its item is settled
 abbrev pub left : NodeState → ℕ
@@ -72,3 +92,20 @@ left (Leaf state) = 0
 left (Select state) = 0
 left (Mix mixer) = 0
 left (Cross state) = crossing_left state
+left (Read reader) = 0
+
+-- whether a node's work is to read a buffer
+abbrev pub reads : Work → Bool
+reads (Plays leaf) = false
+reads (Picks rule eligible) = false
+reads (Mixes mixing) = false
+reads (Fades overlap) = false
+reads (Reads buffer) = true
+
+abbrev pub reads_in : Setting → ℕ → Option Node → Bool
+reads_in setting i None = false
+reads_in setting i (Some node) = reads (work_at setting i node)
+
+-- node i reads a buffer
+abbrev pub reads_at : Setting → ℕ → Bool
+reads_at setting i = reads_in setting i (slice_get setting.plan.nodes i)

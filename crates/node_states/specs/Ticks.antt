@@ -11,14 +11,9 @@ use Rattle.frame_core.specs.Calls.{Call}
 use Rattle.op_leaf.specs.Readers.{Answer}
 use Rattle.stream_meaning.specs.Instants.{Setting, Moment, answered, clock_of, reading_after, work_at, history, sub_of}
 use Rattle.stream_meaning.specs.Sinks.{tick_bytes, ticks_bytes}
-use Rattle.stream_meaning.specs.Calls.{ran_by, calls_of_tick, after_calls}
+use Rattle.stream_meaning.specs.Calls.{IsBegin, ran_by, calls_of_tick, after_calls}
 use Rattle.node_states.specs.declared.state.NodeState.{NodeState}
 use Rattle.node_states.specs.States.{StateStands}
-
--- these calls are the first ones of others
-pub record IsBegin (made calls : List Call) : Type 0 where
-  pub rest : List Call
-  pub are : calls ≡ made ++ rest
 
 -- node i lies in main clock m, or so many sub-clocks below it
 abbrev pub IsUnder : Setting → (m rank i : ℕ) → Type 0

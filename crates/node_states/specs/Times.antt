@@ -6,3 +6,4 @@ use Rattle.node_states.specs.declared.time.WeekTime.{WeekTime}
 pub record TimeStands (start n : ℕ) (time : WeekTime) : Type 0 where
   pub second : time.second.second ≡ (start + n / time.rate) % 604800
   pub samples : time.samples ≡ n % time.rate
+  pub place : time.place ≡ n % time.frame

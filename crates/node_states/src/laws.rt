@@ -16,7 +16,7 @@ pub fn slots_are_as_many()
 pub fn new_states_stand_for_no_tick()
     ensures { (setting : Setting) (m : ℕ) (states : List State)
         → ((i : ℕ) (node : Node) (state : State) → slice_get setting.plan.nodes i ≡ Some node → slice_get states i ≡ Some state
-        → (world : Setting) (sub : ℕ → ℕ → List Slot) → world.plan.rate ≡ setting.plan.rate → sub i 0 ≡ []
+        → (world : Setting) (sub : ℕ → ℕ → List Slot) → world.plan ≡ setting.plan → sub i 0 ≡ []
         → StateStands world sub [] 0 i (work_at world i node) state)
         → StandsFor setting m 0 (λ buffer. []) states }
 {}

@@ -7,6 +7,7 @@ pub mod laws;
 mod marks;
 mod state;
 mod steps;
+mod takes;
 mod task;
 mod time;
 

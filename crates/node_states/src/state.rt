@@ -4,22 +4,26 @@ ghost use Rattle.liq_base.specs.declared.limits.TheConstants.{MAX_CHILDREN};
 ghost use Rattle.frame_core.specs.Library.{IsLibrary, Sounds};
 ghost use Rattle.frame_core.specs.Slots.{Slot as TheSlot};
 ghost use Rattle.op_cross.specs.Runs.{run_of};
-ghost use Rattle.plan_core.specs.Plans.{HasChildren, IsInRange, IsNoReader};
-ghost use Rattle.stream_meaning.specs.Operators.{Work, Fades};
-ghost use Rattle.stream_meaning.specs.Instants.{Setting, Moment, demanded, part_at, part_by, position, second_at, work_at};
-ghost use Rattle.node_states.specs.States.{AreLong, Fits, IsSettled, left, StateStands, wants};
+ghost use Rattle.plan_core.specs.Plans.{HasChildren, IsInRange};
+ghost use Rattle.op_select.specs.declared.rule.Rule.{Rule as TheRule};
+ghost use Rattle.stream_meaning.specs.Operators.{Work, Eligible, Fades, Picks, Reads};
+ghost use Rattle.segment_laws.specs.Stretches.{AreFed, NodeGoes};
+ghost use Rattle.stream_meaning.specs.Instants.{Setting, Moment, demanded, gives, last_pick, part_at, part_by, position, second_at, work_at};
+ghost use Rattle.node_states.specs.States.{AreLong, FadesOn, Fits, IsSettled, left, StateStands, wants};
 
 use crate::marks::mark_eligible;
-use crate::steps::{gives, item, picked, step_crossfade, step_leaf, step_selection, unpicked};
-use crate::task::{Task, task_of};
+use crate::steps::{
+    gives, item, picked, step_crossfade, step_leaf, step_reader, step_selection, unpicked,
+};
+use crate::task::{Task, prefill_of, task_of};
 use fixed_text::WeekSecond;
 use frame_core::{Cell, Library};
 use liq_base::Memory;
 use node_mixing::Mixer;
 use op_cross::CrossState;
-use op_leaf::LeafState;
+use op_leaf::{LeafState, ReaderState};
 use op_select::SelectState;
-use plan_core::Node;
+use plan_core::{Node, Plan};
 use std::alloc::Global;
 use stream_meaning::Part;
 
@@ -37,21 +41,23 @@ pub enum NodeState {
 
     /// A crossfade.
     Cross(CrossState),
+
+    /// The reader of a buffer.
+    Read(ReaderState),
 }
 
 impl NodeState {
-    /// The state of node `i` before the first instant, in a plan of this rate.
-    pub fn new(alloc: Global, node: &Node, i: u32, rate: u32) -> Result<NodeState, Memory>
-        requires rate { 0 < rate }
+    /// The state of node `i` of a plan before the first instant.
+    pub fn new(alloc: Global, plan: &Plan, node: &Node, i: u32) -> Result<NodeState, Memory>
+        requires rate { 0 < plan.now.rate }
         requires range { IsInRange node.now.op }
         requires few { length node.now.children ≤ MAX_CHILDREN }
-        requires reads { IsNoReader node.now.op }
         ensures fits { IfOk result (λ state. (library : Sounds) → IsLibrary library → i < length library.leaves
             → Fits library (length node.now.children) state) }
-        ensures stands { IfOk result (λ state. (setting : Setting) (sub : ℕ → ℕ → List TheSlot) → setting.plan.rate ≡ rate
+        ensures stands { IfOk result (λ state. (setting : Setting) (sub : ℕ → ℕ → List TheSlot) → setting.plan ≡ plan.now
             → sub i 0 ≡ [] → StateStands setting sub [] 0 i (work_at setting i node.now) state) }
     {
-        match task_of(node, i, rate) {
+        match task_of(node, i, plan.rate) {
             Task::Play(leaf) => Ok(NodeState::Leaf(LeafState::new(leaf))),
             Task::Pick(rule) => {
                 let children = node.children.len() as u32;
@@ -62,7 +68,11 @@ impl NodeState {
                 let state = CrossState::new(alloc, overlap, node.kind)?;
                 Ok(NodeState::Cross(state))
             }
-            Task::Read(_) => unreachable!(),
+            Task::Read(buffer) => {
+                let pre = prefill_of(plan, buffer);
+                let state = ReaderState::new(alloc, pre, plan.frame)?;
+                Ok(NodeState::Read(state))
+            }
         }
     }
 
@@ -71,7 +81,10 @@ impl NodeState {
         ensures wants { result ≡ wants self.now }
         ensures ends { result ≡ true → 0 < left self.now }
         ensures settled { (setting : Setting) (sub : ℕ → ℕ → List TheSlot) (past : List Moment) (fed i : ℕ) (work : Work)
-            → StateStands setting sub past fed i work self.now → result ≡ false → IsSettled sub past fed i work }
+            → StateStands setting sub past fed i work self.now → result ≡ false
+            → ((buffer : ℕ) → work ≡ Reads buffer → fed ≡ suc (length past)) → IsSettled sub past fed i work }
+        ensures more { (setting : Setting) (sub : ℕ → ℕ → List TheSlot) (past : List Moment) (fed i : ℕ) (work : Work) → AreLong sub
+            → StateStands setting sub past fed i work self.now → result ≡ true → FadesOn sub past fed i work }
         ensures run { (setting : Setting) (sub : ℕ → ℕ → List TheSlot) (past : List Moment) (fed i overlap : ℕ) → AreLong sub
             → StateStands setting sub past fed i (Fades overlap) self.now → result ≡ false
             → run_of overlap (sub i) (position past i) ≡ fed }
@@ -127,6 +140,67 @@ impl NodeState {
             }
             NodeState::Mix(mixer) => unpicked(mixer.slot(slots)),
             NodeState::Cross(state) => unpicked(item(state)),
+            NodeState::Read(state) => unpicked(state.offer()),
+        }
+    }
+
+    /// The child that a selection used when it last gave.
+    pub fn last(&self) -> Option<u32>
+        ensures { (setting : Setting) (sub : ℕ → ℕ → List TheSlot) (past : List Moment) (fed i : ℕ) (rule : TheRule) (eligible : Eligible)
+            → StateStands setting sub past fed i (Picks rule eligible) self.now → result ≡ last_pick past i }
+    {
+        match self {
+            NodeState::Select(state) => state.last(),
+            _ => None,
+        }
+    }
+
+    /// How many instants, at most so many, go on behind one at which the node had this part and gave, or did not, as far as it
+    /// goes; a reader within its tick. `begins` tells whether the child that a selection used last begins a track there, and
+    /// `below` how many instants of a crossfade's sub-clock go on with a track.
+    pub fn rest(
+        &self,
+        part: Part,
+        gave: bool,
+        begins: bool,
+        library: &Library,
+        below: u32,
+        most: u32,
+    ) -> u32
+        requires fits { (children : ℕ) × Fits library.now children self.now }
+        ensures within { result ≤ most }
+        ensures goes { (setting : Setting) (sub : ℕ → ℕ → List TheSlot) (past : List Moment) (moment : Moment) (fed i : ℕ) (work : Work)
+            → setting.library ≡ library.now → AreLong sub → StateStands setting sub (moment ∷ past) fed i work self.now
+            → ((buffer : ℕ) → work ≡ Reads buffer → fed ≡ suc (length past))
+            → part_at moment.parts i ≡ part → gives moment i ≡ gave → AreFed setting sub i fed below
+            → NodeGoes setting sub past moment i work begins result }
+    {
+        match self {
+            NodeState::Leaf(state) => {
+                if gave {
+                    state.rest(library, most)
+                } else {
+                    most
+                }
+            }
+            NodeState::Select(_) => {
+                if begins && part.slot.is_none() {
+                    0
+                } else {
+                    most
+                }
+            }
+            NodeState::Mix(_) => most,
+            NodeState::Cross(state) => {
+                if part.slot.is_none() {
+                    0
+                } else if gave {
+                    state.rest(below, most)
+                } else {
+                    most
+                }
+            }
+            NodeState::Read(state) => { if gave { state.rest(most) } else { most } }
         }
     }
 
@@ -147,6 +221,7 @@ impl NodeState {
             NodeState::Select(state) => step_selection(state, gave, part.pick, children),
             NodeState::Mix(_) => {}
             NodeState::Cross(state) => step_crossfade(state, gave),
+            NodeState::Read(state) => step_reader(state, gave),
         }
     }
 }

@@ -6,12 +6,13 @@ ghost use Rattle.op_cross.specs.States.{position_after, StandsFor};
 ghost use Rattle.op_leaf.specs.declared.leaf.Leaf.{Leaf};
 ghost use Rattle.op_leaf.specs.Leaves.{leaf_slot};
 ghost use Rattle.op_leaf.specs.Standing.{IsPlacedIn};
+ghost use Rattle.op_leaf.specs.Readers.{after_cell};
 ghost use Rattle.stream_meaning.specs.Instants.{picked_part, unpicked};
 ghost use Rattle.node_states.specs.States.{LeafStands};
 
 use frame_core::{Cell, Library};
 use op_cross::CrossState;
-use op_leaf::LeafState;
+use op_leaf::{LeafState, ReaderState};
 use op_select::{Picked, SelectState};
 use stream_meaning::Part;
 
@@ -93,5 +94,14 @@ pub fn step_crossfade(state: &mut CrossState, gave: bool)
 {
     if !state.wants() {
         state.advance(gave);
+    }
+}
+
+/// Takes a reader on by the cell that it offers, where it gave.
+pub fn step_reader(state: &mut ReaderState, gave: bool)
+    ensures { state.new ≡ (if gave then after_cell state.old else state.old) }
+{
+    if gave {
+        state.advance();
     }
 }

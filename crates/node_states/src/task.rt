@@ -1,5 +1,7 @@
 // What a node does, sorted.
 ghost use Rattle.std.specs.Prelude.{◌≡◌};
+ghost use Rattle.std.specs.Option.{option_map_or};
+ghost use Rattle.std.specs.Prelude.{slice_get};
 ghost use Rattle.stream_meaning.specs.Operators.{work_of};
 ghost use Rattle.node_states.specs.Works.{IsTask};
 
@@ -7,7 +9,7 @@ use liq_base::Kind;
 use node_mixing::Mixer;
 use op_leaf::Leaf;
 use op_select::Rule;
-use plan_core::{Node, Op};
+use plan_core::{Node, Op, Plan};
 
 /// What a node does: it plays, picks among its children, mixes them, fades its child's tracks or reads a buffer.
 #[derive(Clone, Copy, Debug)]
@@ -53,4 +55,14 @@ fn files(node: u32, again: bool, kind: Kind) -> Leaf
     ensures { result ≡ Leaf.Files node again kind }
 {
     Leaf::Files { node, again, kind }
+}
+
+/// How many samples the reader of a buffer holds before it plays; 0 where there is no such buffer.
+pub fn prefill_of(plan: &Plan, buffer: u32) -> u64
+    ensures { result ≡ option_map_or (λ plan. plan.pre) (slice_get plan.now.buffers buffer) 0 }
+{
+    match plan.buffers.as_slice().get(buffer as usize) {
+        Some(plan) => plan.pre,
+        None => 0,
+    }
 }

@@ -1,9 +1,10 @@
 // The time of a clock.
-ghost use Rattle.std.specs.Prelude.{◌≡◌, ◌<◌, ◌+◌, ◌%◌};
+ghost use Rattle.std.specs.Prelude.{◌≡◌, ◌<◌, ◌≤◌, ◌+◌, ◌/◌, ◌%◌, ℕ, suc, false, nat_eq};
 
 use fixed_text::WeekSecond;
 
-/// The second of the week of a clock's instant, and how many samples of this second are over. No count of instants is kept.
+/// The second of the week of a clock's instant, how many samples of this second are over, and how many instants of its tick.
+/// No count of instants is kept.
 #[derive(Clone, Copy, Debug)]
 pub struct WeekTime {
     /// Samples a second, above 0.
@@ -14,42 +15,106 @@ pub struct WeekTime {
 
     /// How many samples of this second are over, below the rate.
     pub samples: u32,
+
+    /// Instants of a tick, above 0.
+    pub frame: u32,
+
+    /// How many instants of this tick are over, below the frame.
+    pub place: u32,
     ghost within: { samples < rate },
+    ghost inside: { place < frame },
 }
 
 impl WeekTime {
-    ghost use Rattle.std.specs.Prelude.{ℕ, suc};
     ghost use Rattle.node_states.specs.Times.{TimeStands};
 
     /// The time of a clock's first instant: the beginning of this second.
-    pub fn new(start: WeekSecond, rate: u32) -> WeekTime
-        requires { 0 < rate }
+    pub fn new(start: WeekSecond, rate: u32, frame: u32) -> WeekTime
+        requires rate { 0 < rate }
+        requires frame { 0 < frame }
         ensures rate { result.rate ≡ rate }
+        ensures frame { result.frame ≡ frame }
         ensures stands { TimeStands start.second 0 result }
     {
         WeekTime {
             rate,
             second: start,
             samples: 0,
+            frame,
+            place: 0,
+        }
+    }
+
+    /// Whether a tick begins with this instant.
+    pub fn begins_tick(self) -> bool
+        ensures { result ≡ nat_eq self.place 0 }
+    {
+        self.place == 0
+    }
+
+    /// How many instants behind this one lie in its second.
+    pub fn second_left(self) -> u32
+        ensures { (start n j : ℕ) → TimeStands start n self → j ≤ result → (n + j) / self.rate ≡ n / self.rate }
+    {
+        self.rate - 1 - self.samples
+    }
+
+    /// How many instants behind this one lie in its tick.
+    pub fn tick_left(self) -> u32
+        ensures { (start n j : ℕ) → TimeStands start n self → 0 < j → j ≤ result → nat_eq ((n + j) % self.frame) 0 ≡ false }
+    {
+        self.frame - 1 - self.place
+    }
+
+    /// The time so many instants later, at most a second.
+    pub fn later(self, count: u32) -> WeekTime
+        requires { count ≤ self.rate }
+        ensures rate { result.rate ≡ self.rate }
+        ensures frame { result.frame ≡ self.frame }
+        ensures stands { (start n : ℕ) → TimeStands start n self → TimeStands start (n + count) result }
+    {
+        let place = place_later(self.place, self.frame, count);
+        let left = self.rate - self.samples;
+        if count < left {
+            return WeekTime {
+                rate: self.rate,
+                second: self.second,
+                samples: self.samples + count,
+                frame: self.frame,
+                place,
+            };
+        }
+        WeekTime {
+            rate: self.rate,
+            second: next_second(self.second),
+            samples: count - left,
+            frame: self.frame,
+            place,
         }
     }
 
     /// The time of the next instant.
     pub fn next(self) -> WeekTime
         ensures rate { result.rate ≡ self.rate }
+        ensures frame { result.frame ≡ self.frame }
         ensures stands { (start n : ℕ) → TimeStands start n self → TimeStands start (suc n) result }
     {
+        let place = next_place(self.place, self.frame);
         if self.samples + 1 < self.rate {
             return WeekTime {
                 rate: self.rate,
                 second: self.second,
                 samples: self.samples + 1,
+                frame: self.frame,
+                place,
             };
         }
         WeekTime {
             rate: self.rate,
             second: next_second(self.second),
             samples: 0,
+            frame: self.frame,
+            place,
         }
     }
 }
@@ -61,4 +126,25 @@ fn next_second(at: WeekSecond) -> WeekSecond
     WeekSecond {
         second: (at.second + 1) % 604_800,
     }
+}
+
+// The place in its tick of the next instant.
+fn next_place(place: u32, frame: u32) -> u32
+    requires { place < frame }
+    ensures small { result < frame }
+    ensures next { (n : ℕ) → place ≡ n % frame → result ≡ suc n % frame }
+{
+    if place + 1 < frame {
+        return place + 1;
+    }
+    0
+}
+
+// The place in its tick of the instant so many instants later.
+fn place_later(place: u32, frame: u32, count: u32) -> u32
+    requires { place < frame }
+    ensures small { result < frame }
+    ensures later { (n : ℕ) → place ≡ n % frame → result ≡ (n + count) % frame }
+{
+    ((u64::from(place) + u64::from(count)) % u64::from(frame)) as u32
 }

@@ -22,7 +22,7 @@ pub record Wanting (s : Crossing) : Type 0 where
 pub no_test : (n : ℕ) → nat_lt 0 n ≡ false → n ≡ 0
 no_test n e = grind (arith, nat_tests)
 
-wants_none : (s : Crossing) → wants s ≡ true → (s.ready ≡ 0) × (s.gap ≡ false)
+pub wants_none : (s : Crossing) → wants s ≡ true → (s.ready ≡ 0) × (s.gap ≡ false)
 wants_none s e = by s.gap e
   where
     by : (gap : Bool) → (nat_eq s.ready 0 && not gap) ≡ true → (s.ready ≡ 0) × (gap ≡ false)
@@ -45,7 +45,7 @@ wanting s slots p is stands e =
       less = is.growing none.0;
     }
 
-unsettled_is : (s : Crossing) (more : List Slot) → s.ready ≡ 0 → unsettled s more ≡ map Some s.cells ++ (map Some s.next ++ more)
+pub unsettled_is : (s : Crossing) (more : List Slot) → s.ready ≡ 0 → unsettled s more ≡ map Some s.cells ++ (map Some s.next ++ more)
 unsettled_is s more ready = ap (λ n. map Some (drop n s.cells) ++ (map Some (growing_at n s.next) ++ more)) ready
 
 step : (s t : Crossing) (slots : List Slot) (slot : Slot) (p : ℕ) → StandsFor s slots p → Wanting s → t.overlap ≡ s.overlap →
@@ -67,7 +67,7 @@ step s t slots slot p stands w same law plain track next = record {
   next = next;
 }
 
-track_none : (n : ℕ) (cells : List Cell) → n ≡ 0 → IsTrack (take n cells)
+pub track_none : (n : ℕ) (cells : List Cell) → n ≡ 0 → IsTrack (take n cells)
 track_none n cells none = subst (λ n. IsTrack (take n cells)) (sym none) tt
 
 track_part : (n : ℕ) (cells : List Cell) → IsTrack cells → IsTrack (take n cells)
@@ -81,7 +81,7 @@ track_part (suc n) (a ∷ cells) track = inner_part n cells track
     inner_part (suc n) (a ∷ cells) inner = (inner.0, inner_part n cells inner.1)
 
 -- the plain cells of what is ready, of a track r with more behind it
-plain_track : (t : Crossing) (r more next : List Cell) → IsTrack r → length next ≤ length r → t.ready ≡ length r → t.next ≡ next → t.cells ≡ r ++ more → IsTrack (take (t.ready - length t.next) t.cells)
+pub plain_track : (t : Crossing) (r more next : List Cell) → IsTrack r → length next ≤ length r → t.ready ≡ length r → t.next ≡ next → t.cells ≡ r ++ more → IsTrack (take (t.ready - length t.next) t.cells)
 plain_track t r more next track few ready is_next cells =
     let n : t.ready - length t.next ≡ length r - length next = ap (λ m. m - length t.next) ready ∙ ap (λ l. length r - length l) is_next in
     let same : take (t.ready - length t.next) t.cells ≡ take (length r - length next) r =
@@ -93,12 +93,12 @@ growing_none zero [] less = refl
 growing_none zero (b ∷ next) less = absurd (omega (arith, less (omega arith)))
 growing_none (suc n) next less = refl
 
-growing_some : (n : ℕ) (next : List Cell) → 0 < n → growing_at n next ≡ []
+pub growing_some : (n : ℕ) (next : List Cell) → 0 < n → growing_at n next ≡ []
 growing_some zero next some = absurd (omega (arith, some))
 growing_some (suc n) next some = refl
 
 -- all that was held is ready
-all_ready : (r more next : List Cell) → length next ≤ length r → ready_of (length r) (length next) (r ++ more) next ≡ mixed_end r next
+pub all_ready : (r more next : List Cell) → length next ≤ length r → ready_of (length r) (length next) (r ++ more) next ≡ mixed_end r next
 all_ready r more next few =
     let none : length next - length next ≡ 0 = omega arith in
     ap (λ l. map Some l ++ mixed_cells (drop (length r - length next) (take (length r) (r ++ more))) next (length next - length next) (length next))
@@ -214,7 +214,7 @@ fed_joining s t slots p cell stands w same inner first cells next ready gap =
     (subst IsTrack (sym held_same) w.track)
     (subst BeginsTrack (sym growing_more) (begins_more s.next cell w.next inner first))
 
-complete_law : (most : ℕ) (r next : List Cell) (more : List Slot) → IsTrack r → BeginsTrack next → length r ≤ most → 0 < length next → length next ≡ length r →
+pub complete_law : (most : ℕ) (r next : List Cell) (more : List Slot) → IsTrack r → BeginsTrack next → length r ≤ most → 0 < length next → length next ≡ length r →
     cross most (map Some r ++ (map Some next ++ more)) ≡ mixed_end r next ++ cross most more
 complete_law most r [] more track begins short some all = absurd (omega (arith, some))
 complete_law most [] (b ∷ next) more track begins short some all = absurd (omega (arith, all))
@@ -246,7 +246,7 @@ fed_complete s t slots p cell stands w same inner first full cells next ready wh
 
 -- ---- a cell of the track that is held back
 
-no_cells : (next : List Cell) → length next ≡ 0 → next ≡ []
+pub no_cells : (next : List Cell) → length next ≡ 0 → next ≡ []
 no_cells [] none = refl
 no_cells (b ∷ next) none = absurd (omega (arith, none))
 

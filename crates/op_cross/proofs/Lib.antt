@@ -9,3 +9,6 @@ pub mod Stretching
 pub mod Copying
 pub mod PlainStretch
 mod Rows
+pub mod Running
+mod Passing
+mod Resting

@@ -76,11 +76,11 @@ plain_copied s t slots p k is stands plain few same cells next ready whole gap =
     }
 
 -- the samples that were laid are the items'
-lefts : (cells : List Cell) → map left_of (map Some cells) ≡ map (λ cell. cell.left) cells
+pub lefts : (cells : List Cell) → map left_of (map Some cells) ≡ map (λ cell. cell.left) cells
 lefts [] = refl
 lefts (a ∷ cells) = ap (λ l. a.left ∷ l) (lefts cells)
 
-rights : (cells : List Cell) → map right_of (map Some cells) ≡ map (λ cell. cell.right) cells
+pub rights : (cells : List Cell) → map right_of (map Some cells) ≡ map (λ cell. cell.right) cells
 rights [] = refl
 rights (a ∷ cells) = ap (λ l. a.right ∷ l) (rights cells)
 

@@ -66,6 +66,15 @@ unsettled state more = map Some (held state) ++ (map Some (growing state) ++ mor
 abbrev pub wants : Crossing → Bool
 wants state = nat_eq state.ready 0 && not state.gap
 
+-- how many cells of a track that goes on settle its item, where it is not settled
+abbrev pub track_room : Crossing → ℕ
+track_room state =
+    if nat_lt 0 (length state.next) then length state.cells - length state.next else suc state.overlap - length state.cells
+
+-- as much of a track is held as overlaps, and nothing else: each cell that goes on with it settles one item
+abbrev pub passes : Crossing → Bool
+passes state = wants state && (nat_eq (length state.next) 0 && nat_eq (length state.cells) state.overlap)
+
 -- a bound on the slots that it asks for before its item is settled
 abbrev pub left : Crossing → ℕ
 left state = if wants state then 2 * state.overlap - length state.cells - length state.next else 0

@@ -1,6 +1,10 @@
 -- Items that are cells of one track.
-use Rattle.std.specs.Prelude.{Some, None, List, [], ◌∷◌, ℕ, ℤ, pos, suc, if◌then◌else◌}
-use Rattle.frame_core.specs.Slots.{Slot}
+use Rattle.std.specs.Prelude.{Bool, is_some, not, ◌&&◌, Some, None, List, [], ◌∷◌, ℕ, ℤ, pos, suc, if◌then◌else◌}
+use Rattle.frame_core.specs.Slots.{Slot, is_first}
+
+-- a cell that begins no track
+abbrev pub is_inner : Slot → Bool
+is_inner slot = is_some slot && not (is_first slot)
 
 -- how many items, from the first on, are cells that begin no track
 abbrev pub inner_run : List Slot → ℕ

@@ -2,8 +2,9 @@
 ghost use Rattle.std.specs.Prelude.{◌≡◌, ◌+◌, ◌-◌, ◌*◌, ◌<◌, ◌≤◌, ◌↔◌, true, false, IsTrue, min, [], ◌∷◌, ◌++◌, ℕ, List, map, take, drop, length, IfOk};
 ghost use Rattle.frame_core.specs.Slots.{Slot, slot_at};
 ghost use Rattle.op_cross.specs.Crossfade.{mixed_cell, cross};
-ghost use Rattle.op_cross.specs.States.{Crossing, StandsFor, wants, left, position_after, ready_stretch};
-ghost use Rattle.op_cross.specs.Stretches.{stretch, left_of, right_of};
+ghost use Rattle.cell_ring.specs.Rings.{inner_cells};
+ghost use Rattle.op_cross.specs.States.{AllInner, Crossing, IsCrossing, StandsFor, passes, wants, left, position_after, ready_stretch, track_room};
+ghost use Rattle.op_cross.specs.Stretches.{is_inner, stretch, left_of, right_of};
 
 use cell_ring::CellRing;
 use frame_core::Cell;
@@ -11,6 +12,9 @@ use liq_base::{Kind, Memory};
 use sample_kernels::mixed_sample;
 use std::alloc::Global;
 use std::marker::Model;
+
+/// The most cells that are passed on at once.
+pub const MAX_RUN: u32 = 1024;
 
 /// A crossfade, one slot at a time. It keeps what is not settled, and the items that are ready: `docs/streams.md`,
 /// "Crossfade". Items are counted from 0, and the state stands at one of them, its item.
@@ -32,7 +36,7 @@ impl Model for CrossState {
 
     ghost view = { λ s. record { overlap = s.overlap; cells = s.cells.cells; next = s.next.cells; ready = s.ready; whole = s.whole; gap = s.gap } };
 
-    ghost invariant = { λ s. IsCrossing (record { overlap = s.overlap; cells = s.cells.cells; next = s.next.cells; ready = s.ready; whole = s.whole; gap = s.gap }) × (s.cells.room ≡ s.overlap + 1) × (s.next.room ≡ s.overlap) };
+    ghost invariant = { λ s. IsCrossing (record { overlap = s.overlap; cells = s.cells.cells; next = s.next.cells; ready = s.ready; whole = s.whole; gap = s.gap }) × (s.cells.room ≡ s.overlap + 1025) × (s.next.room ≡ s.overlap) };
 }
 
 impl CrossState {
@@ -44,7 +48,7 @@ impl CrossState {
         ensures overlap { IfOk result (λ state. state.overlap ≡ overlap) }
         ensures stands { IfOk result (λ state. StandsFor state [] 0) }
     {
-        let cells = CellRing::new(alloc, overlap + 1)?;
+        let cells = CellRing::new(alloc, overlap + 1 + MAX_RUN)?;
         let next = CellRing::new(alloc, overlap)?;
         Ok(CrossState {
             overlap,
@@ -98,6 +102,78 @@ impl CrossState {
                 }
             }
         }
+    }
+
+    /// How many cells of a track that goes on settle its item.
+    pub fn room(&self) -> u32
+        requires { wants self.now ≡ true }
+        ensures { result ≡ track_room self.now }
+    {
+        let begun = self.next.len();
+        if begun > 0 {
+            self.cells.len() - begun
+        } else {
+            self.overlap + 1 - self.cells.len()
+        }
+    }
+
+    /// Takes the next slots of its source, which are cells of a track that goes on, no more than settle its item.
+    pub fn feed_run(&mut self, lefts: &[i16], rights: &[i16])
+        requires wants { wants self.old ≡ true }
+        requires same { length rights.now ≡ length lefts.now }
+        requires few { length lefts.now ≤ track_room self.old }
+        ensures overlap { self.new.overlap ≡ self.old.overlap }
+        ensures fed { (slots : List Slot) (p : ℕ) → StandsFor self.old slots p → StandsFor self.new (slots ++ map Some (inner_cells lefts.now rights.now)) p }
+        ensures least { (slots : List Slot) (p m : ℕ) → StandsFor self.old slots p → m < length lefts.now
+            → length (cross self.old.overlap (slots ++ map Some (take m (inner_cells lefts.now rights.now)))) ≤ p }
+        ensures less { 0 < length lefts.now → left self.new < left self.old }
+    {
+        if self.next.len() > 0 {
+            self.next.push_run(lefts, rights);
+            if self.next.len() == self.cells.len() {
+                self.whole = self.next.len();
+                self.ready = self.cells.len();
+            }
+        } else {
+            self.cells.push_run(lefts, rights);
+            if self.cells.len() > self.overlap {
+                self.ready = 1;
+            }
+        }
+    }
+
+    /// Whether as much of a track is held as overlaps, and nothing else: each cell that goes on with it settles one item.
+    pub fn passes(&self) -> bool
+        ensures { result ≡ passes self.now }
+    {
+        self.ready == 0 && !self.gap && self.next.len() == 0 && self.cells.len() == self.overlap
+    }
+
+    /// Takes the next slots of its source, which are cells of the track that goes on, and gives as many items.
+    pub fn pass(
+        &mut self,
+        from_left: &[i16],
+        from_right: &[i16],
+        left: &mut [i16],
+        right: &mut [i16],
+    )
+        requires passes { passes self.old ≡ true }
+        requires from { length from_right.now ≡ length from_left.now }
+        requires same { (length left.old ≡ length from_left.now) × (length right.old ≡ length from_left.now) }
+        requires few { length from_left.now ≤ 1024 }
+        ensures overlap { self.new.overlap ≡ self.old.overlap }
+        ensures passes { passes self.new ≡ true }
+        ensures stands { (slots : List Slot) (p : ℕ) → StandsFor self.old slots p
+            → StandsFor self.new (slots ++ map Some (inner_cells from_left.now from_right.now)) (p + length from_left.now) }
+        ensures least { (slots : List Slot) (p m : ℕ) → StandsFor self.old slots p → m ≤ length from_left.now
+            → length (cross self.old.overlap (slots ++ map Some (take m (inner_cells from_left.now from_right.now)))) ≡ p + m }
+        ensures left { (slots : List Slot) (p : ℕ) → StandsFor self.old slots p
+            → left.new ≡ map left_of (take (length left.old) (drop p (cross self.old.overlap (slots ++ map Some (inner_cells from_left.now from_right.now))))) }
+        ensures right { (slots : List Slot) (p : ℕ) → StandsFor self.old slots p
+            → right.new ≡ map right_of (take (length left.old) (drop p (cross self.old.overlap (slots ++ map Some (inner_cells from_left.now from_right.now))))) }
+    {
+        self.cells.push_run(from_left, from_right);
+        self.cells.take_into(left, right);
     }
 
     /// Its item: a cell, or nothing.
@@ -179,6 +255,29 @@ impl CrossState {
         }
     }
 
+    /// A number of items, from its item on and at most so many, that are cells which begin no track: those that are settled
+    /// so, or where cells pass through, as many as there are behind it of a track that its source goes on with.
+    pub fn rest(&self, below: u32, most: u32) -> u32
+        ensures ready { (slots : List Slot) (p j : ℕ) → StandsFor self.now slots p → passes self.now ≡ false → j < result
+            → is_inner (slot_at (cross self.now.overlap slots) (p + j)) ≡ true }
+        ensures plain { (slots : List Slot) (p : ℕ) → StandsFor self.now slots p → passes self.now ≡ true → 0 < result → AllInner self.now.cells }
+        ensures below { passes self.now ≡ true → result ≤ below }
+        ensures within { result ≤ most }
+        ensures crossing { IsCrossing self.now }
+    {
+        if self.passes() {
+            return if is_inner(self.cells.front()) {
+                below.min(most)
+            } else {
+                0
+            };
+        }
+        if self.wants() || !is_inner(self.offer()) {
+            return 0;
+        }
+        self.ready(most)
+    }
+
     // What wants no slot has its item settled.
     fn is_settled(&self)
         requires { wants self.now ≡ false }
@@ -203,6 +302,16 @@ impl CrossState {
             self.cells.pop();
             self.ready -= 1;
         }
+    }
+}
+
+// A cell that begins no track.
+fn is_inner(slot: Option<Cell>) -> bool
+    ensures { result ≡ is_inner slot }
+{
+    match slot {
+        Some(cell) => !cell.first,
+        None => false,
     }
 }
 

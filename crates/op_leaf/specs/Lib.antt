@@ -2,3 +2,4 @@ pub mod Leaves
 pub mod Standing
 pub mod Readers
 pub mod Stores
+pub mod Inner

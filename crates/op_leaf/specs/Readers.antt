@@ -1,5 +1,5 @@
 -- The reader of a buffer: the cells that it holds, and whether it plays.
-use Rattle.std.specs.Prelude.{Bool, true, false, Option, Some, None, List, [], ◌∷◌, ◌++◌, ℕ, ◌-◌, length, drop, nat_lt, nat_le, if◌then◌else◌}
+use Rattle.std.specs.Prelude.{Bool, true, false, Option, Some, None, List, [], ◌∷◌, ◌++◌, ℕ, zero, suc, ◌-◌, length, drop, nat_lt, nat_le, if◌then◌else◌}
 use Rattle.frame_core.specs.declared.cell.Cell.{Cell}
 use Rattle.frame_core.specs.Slots.{Slot}
 
@@ -56,6 +56,11 @@ reader_slot reader = if reader.playing then front reader.cells else None
 -- after a cell was given
 abbrev pub after_cell : Reader → Reader
 after_cell reader = if reader.playing then record reader { cells = drop 1 reader.cells } else reader
+
+-- a reader that has given so many cells more
+abbrev pub read_by : ℕ → Reader → Reader
+read_by zero reader = reader
+read_by (suc j) reader = after_cell (read_by j reader)
 
 -- an answer of the buffer: a chunk, or empty
 abbrev pub Answer : Type 0

@@ -1,5 +1,6 @@
 // Zeros, cut into tracks.
-ghost use Rattle.std.specs.Prelude.{◌≡◌, ℕ, suc};
+ghost use Rattle.std.specs.Prelude.{◌≡◌, ◌<◌, ◌≤◌, ℕ, suc, Some};
+ghost use Rattle.op_leaf.specs.Inner.{stretch_from};
 ghost use Rattle.op_leaf.specs.Leaves.{blank_cell};
 ghost use Rattle.op_leaf.specs.Standing.{BlankStandsAt};
 
@@ -33,6 +34,19 @@ impl Blank {
             right: 0,
             first: self.at == 0,
         }
+    }
+
+    /// How many samples, from its own on and at most so many, lie in its track.
+    pub fn stretch(&self, most: u32) -> u32
+        requires { 0 < most }
+        ensures stretch { (p : ℕ) → BlankStandsAt self.now p → result ≡ stretch_from (λ q. Some (blank_cell self.now.track q)) p most }
+        ensures within { result ≤ most }
+        ensures some { 0 < result }
+    {
+        if self.track == 0 || self.at >= self.track {
+            return most;
+        }
+        u64::from(most).min(self.track - self.at) as u32
     }
 
     /// Goes on by one sample.

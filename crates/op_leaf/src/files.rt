@@ -1,6 +1,7 @@
 // The audio files of a node, one after the other.
-ghost use Rattle.std.specs.Prelude.{◌≡◌, ◌<◌, ◌+◌, ◌&&◌, ℕ, length, suc, nat_eq, None, IsSome, if◌then◌else◌};
+ghost use Rattle.std.specs.Prelude.{◌≡◌, ◌<◌, ◌≤◌, ◌+◌, ◌&&◌, ℕ, length, suc, nat_eq, None, IsSome, if◌then◌else◌};
 ghost use Rattle.frame_core.specs.Library.{IsLibrary, Sounds};
+ghost use Rattle.op_leaf.specs.Inner.{LieInFile, lefts_of, rights_of, stretch_from};
 ghost use Rattle.op_leaf.specs.Leaves.{files_slot, sounds_of};
 ghost use Rattle.op_leaf.specs.Standing.{FilesArePlacedIn, FilesStandAt};
 
@@ -50,6 +51,49 @@ impl Files {
             Some(library.cell(self.node, self.track, self.at, self.kind))
         } else {
             None
+        }
+    }
+
+    /// How many cells, from its own on and at most so many, lie in its file.
+    pub fn stretch(&self, library: &Library, most: u32) -> u32
+        requires placed { FilesArePlacedIn library.now self.now }
+        requires some { 0 < most }
+        ensures stretch { (p : ℕ) → FilesStandAt library.now self.now p → IsSome (files_slot (sounds_of library.now self.now.node) self.now.again self.now.kind p)
+            → result ≡ stretch_from (files_slot (sounds_of library.now self.now.node) self.now.again self.now.kind) p most }
+        ensures within { result ≤ most }
+        ensures some { 0 < result }
+    {
+        if self.track >= library.tracks(self.node) {
+            return most;
+        }
+        let left = library.samples(self.node, self.track) - self.at;
+        u64::from(most).min(left) as u32
+    }
+
+    /// Gives as many cells as the slices are long, which lie in its file, and goes on behind them.
+    pub fn run(&mut self, library: &Library, left: &mut [i16], right: &mut [i16])
+        requires placed { FilesArePlacedIn library.now self.old }
+        requires same { length right.old ≡ length left.old }
+        requires some { 0 < length left.old }
+        requires lie { LieInFile library.now self.old (length left.old) }
+        ensures node { self.new.node ≡ self.old.node }
+        ensures again { self.new.again ≡ self.old.again }
+        ensures kind { self.new.kind ≡ self.old.kind }
+        ensures placed { FilesArePlacedIn library.now self.new }
+        ensures stands { (p : ℕ) → FilesStandAt library.now self.old p → FilesStandAt library.now self.new (p + length left.old) }
+        ensures left { (p : ℕ) → FilesStandAt library.now self.old p
+            → left.new ≡ lefts_of (files_slot (sounds_of library.now self.old.node) self.old.again self.old.kind) p (length left.old) }
+        ensures right { (p : ℕ) → FilesStandAt library.now self.old p
+            → right.new ≡ rights_of (files_slot (sounds_of library.now self.old.node) self.old.again self.old.kind) p (length left.old) }
+    {
+        library.read(self.node, self.track, self.at, self.kind, left, right);
+        let samples = library.samples(self.node, self.track);
+        let count = left.len() as u64;
+        if count < samples - self.at {
+            self.at += count;
+        } else {
+            self.at = 0;
+            self.track = track_after(self.track, library.tracks(self.node), self.again);
         }
     }
 

@@ -1,5 +1,6 @@
 // What a leaf plays, and where it stands.
-ghost use Rattle.std.specs.Prelude.{◌≡◌, ◌<◌, ℕ, suc, None, IsSome};
+ghost use Rattle.std.specs.Prelude.{◌≡◌, ◌<◌, ◌≤◌, ◌+◌, ℕ, suc, true, None, IsSome};
+ghost use Rattle.op_leaf.specs.Inner.{is_inner, stretch_from};
 ghost use Rattle.frame_core.specs.Library.{IsLibrary, Sounds};
 ghost use Rattle.op_leaf.specs.Leaves.{leaf_slot, HasRate, HasTracksOf};
 ghost use Rattle.op_leaf.specs.Standing.{leaf_of, IsPlacedIn, StandsAt};
@@ -81,6 +82,35 @@ impl LeafState {
         }
     }
 
+    /// How many of its cells, from the offered one on and at most so many, are of one track.
+    pub fn stretch(&self, library: &Library, most: u32) -> u32
+        requires placed { IsPlacedIn library.now self.now }
+        requires some { 0 < most }
+        ensures stretch { (p : ℕ) → StandsAt library.now self.now p → IsSome (leaf_slot library.now (leaf_of self.now) p)
+            → result ≡ stretch_from (leaf_slot library.now (leaf_of self.now)) p most }
+        ensures within { result ≤ most }
+        ensures some { 0 < result }
+    {
+        match &self.cursor {
+            Cursor::Track(files) => files.stretch(library, most),
+            Cursor::Silence(blank) => blank.stretch(most),
+            Cursor::Wave(_) => most,
+            Cursor::Nothing => most,
+        }
+    }
+
+    /// A number of cells, from the offered one on and at most so many, that begin no track.
+    pub fn rest(&self, library: &Library, most: u32) -> u32
+        requires placed { IsPlacedIn library.now self.now }
+        ensures inner { (p j : ℕ) → StandsAt library.now self.now p → j < result → is_inner (leaf_slot library.now (leaf_of self.now) (p + j)) ≡ true }
+        ensures within { result ≤ most }
+    {
+        if most == 0 || !is_inner(self.offer(library)) {
+            return 0;
+        }
+        self.stretch(library, most)
+    }
+
     /// Goes on by the cell that it offers. Where it offers nothing it stays.
     pub fn advance(&mut self, library: &Library)
         requires { IsPlacedIn library.now self.old }
@@ -95,5 +125,15 @@ impl LeafState {
             Cursor::Wave(square) => square.advance(),
             Cursor::Nothing => {}
         }
+    }
+}
+
+// A cell that begins no track.
+fn is_inner(slot: Option<Cell>) -> bool
+    ensures { result ≡ is_inner slot }
+{
+    match slot {
+        Some(cell) => !cell.first,
+        None => false,
     }
 }

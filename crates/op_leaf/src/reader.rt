@@ -1,7 +1,8 @@
 // The reader of a buffer.
-ghost use Rattle.std.specs.Prelude.{◌≡◌, ◌<◌, ◌≤◌, ◌+◌, ◌++◌, [], true, false, length, max, IfOk};
+ghost use Rattle.std.specs.Prelude.{◌≡◌, ◌<◌, ◌≤◌, ◌+◌, ◌++◌, [], ℕ, true, false, length, max, IfOk};
 ghost use Rattle.cell_ring.specs.Rings.{Ring};
-ghost use Rattle.op_leaf.specs.Readers.{after_cell, begun, missing, Reader, reader_slot, wants};
+ghost use Rattle.op_leaf.specs.Inner.{is_inner};
+ghost use Rattle.op_leaf.specs.Readers.{after_cell, begun, missing, read_by, Reader, reader_slot, wants};
 
 use cell_ring::CellRing;
 use frame_core::{Cell, Chunk, MAX_FRAME};
@@ -95,6 +96,17 @@ impl ReaderState {
         let cell = self.ring.front()?;
         let first = cell.first || self.fresh;
         Some(Cell { first, ..cell })
+    }
+
+    /// A number of cells, from the offered one on and at most so many, that begin no track.
+    pub fn rest(&self, most: u32) -> u32
+        ensures inner { (j : ℕ) → j < result → is_inner (reader_slot (read_by j self.now)) ≡ true }
+        ensures within { result ≤ most }
+    {
+        if !self.playing || self.fresh {
+            return 0;
+        }
+        self.ring.inner(most)
     }
 
     /// Goes on by the cell that it offers. Where it offers nothing it stays.

@@ -58,6 +58,13 @@ impl SelectState {
         })
     }
 
+    /// The child that was used last.
+    pub fn last(&self) -> Option<u32>
+        ensures { result ≡ self.now.last }
+    {
+        self.last
+    }
+
     /// Goes on by one instant, at which this child was used.
     pub fn advance(&mut self, child: u32)
         requires { child < self.old.children }

@@ -1,2 +1,8 @@
 pub mod Fronts
+pub mod Apart
+pub mod Worlds
 pub mod Going
+pub mod Lawful
+pub mod Endings
+pub mod Needing
+pub mod Records

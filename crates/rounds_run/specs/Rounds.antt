@@ -1,7 +1,11 @@
 -- Runs of the engines of all clocks, in rounds: each clock makes a tick, then each makes the next.
-use Rattle.std.specs.Prelude.{◌≡◌, ◌+◌, ℕ, suc, Option, Some, List, [], length, nat_lt, slice_get, if◌then◌else◌}
+use Rattle.std.specs.Prelude.{◌≡◌, ◌+◌, ◌*◌, ◌/◌, ◌%◌, ℕ, suc, Bool, Option, Some, List, [], length, nat_lt, slice_get, if◌then◌else◌, ◌⊎◌}
 use Rattle.liq_base.specs.Pieces.{IsPrefix, grown}
+use Rattle.clock_infer.specs.declared.clock_map.NodeClock.TheVariants.{Main}
+use Rattle.frame_core.specs.Calls.{Adds, Call}
 use Rattle.op_leaf.specs.Readers.{Answer}
+use Rattle.stream_meaning.specs.Instants.{Setting}
+use Rattle.stream_meaning.specs.Calls.{IsUnread, answers_in, calls_of_tick, joined_upto}
 use Rattle.stream_meaning.specs.Sinks.{ticks_bytes}
 use Rattle.node_states.specs.Ticks.{HoldTicks, IsOutput, with_rest}
 use Rattle.clock_outputs.specs.Appends.{AreKept, NoneFell, RoseAt}
@@ -11,9 +15,23 @@ use Rattle.clock_engine.specs.Ticks.{HaveTicksRoom}
 use Rattle.buffer_ends.specs.declared.run_end.End.{End}
 use Rattle.buffer_ends.specs.declared.run_end.End.TheVariants.{Write}
 
--- no answers: the plans have no buffers
-abbrev pub nothing : ℕ → List Answer
-nothing buffer = []
+-- the answers of these calls, for each buffer
+abbrev pub answers_of : List Call → ℕ → List Answer
+answers_of calls buffer = answers_in buffer calls
+
+-- a setting in which these calls gave the answers, and any others come behind them
+abbrev pub world : Setting → List Call → (rest : ℕ → List Answer) → Setting
+world setting calls rest = with_rest setting (answers_of calls) rest
+
+-- the calls of so many turns of so many clocks: turn j is tick j / clocks of clock j % clocks. `accepted j b` is what buffer b answers
+-- to the give of turn j
+abbrev pub calls_of_turns : Setting → (accepted : ℕ → ℕ → Bool) → (clocks turns : ℕ) → List Call
+calls_of_turns setting accepted clocks turns = joined_upto (λ j. calls_of_tick setting (accepted j) (j % clocks) (j / clocks)) turns
+
+-- these are the calls of so many turns, given the answers that they got, whatever answers follow
+pub record AreTurns (setting : Setting) (clocks turns : ℕ) (calls : List Call) : Type 0 where
+  pub accepted : ℕ → ℕ → Bool
+  pub are : (rest : ℕ → List Answer) → calls ≡ calls_of_turns (world setting calls rest) accepted clocks turns
 
 -- what the outputs of an engine hold, by their numbers
 abbrev pub held_of : {S : Type 0} → (S → Option (List ℕ)) → ClockEngine S → ℕ → Option (List ℕ)
@@ -23,6 +41,10 @@ held_of held engine = held_in held engine.works.ports.items engine.outs.items
 abbrev pub made_by : (rounds clock k : ℕ) → ℕ
 made_by rounds clock k = if nat_lt k clock then suc rounds else rounds
 
+-- no answers
+abbrev pub nothing : ℕ → List Answer
+nothing buffer = []
+
 -- an engine may begin: its parts fit together, it made no tick and did not stop, and its sinks have room for so many ticks
 pub record MayRun {S : Type 0} (room : S → Option ℕ) (ticks : ℕ) (engine : ClockEngine S) : Type 0 where
   pub works : AreWorks engine.works
@@ -30,45 +52,49 @@ pub record MayRun {S : Type 0} (room : S → Option ℕ) (ticks : ℕ) (engine :
   pub fresh : EngineStands engine.works 0 nothing
   pub rooms : HaveTicksRoom room engine.works engine.outs.items ticks
 
--- the engines of a run, one per clock, in clock order
-pub record AreEngines {S : Type 0} (room : S → Option ℕ) (ticks : ℕ) (engines : List (ClockEngine S)) : Type 0 where
+-- the engines of a run, one per clock, in clock order, over one plan with its files, clocks and start
+pub record AreEngines {S : Type 0} (room : S → Option ℕ) (ticks : ℕ) (setting : Setting) (engines : List (ClockEngine S)) : Type 0 where
   pub each : (k : ℕ) (engine : ClockEngine S) → slice_get engines k ≡ Some engine → MayRun room ticks engine
   pub in_order : (k : ℕ) (engine : ClockEngine S) → slice_get engines k ≡ Some engine → engine.works.clock ≡ k
+  pub over : (k : ℕ) (engine : ClockEngine S) → slice_get engines k ≡ Some engine → setting_of engine.works ≡ setting
 
--- an engine has gone from `old` to `new` by so many ticks, none of them with a fault: each output holds its bytes of these ticks
--- more, no count of faults fell, and its sinks are those that they were, by their names
-pub record HasRun {S : Type 0} (held name : S → Option (List ℕ)) (faults : S → ℕ) (ticks : ℕ) (old new : ClockEngine S) : Type 0 where
+-- an engine has gone from `old` to `new` by so many ticks, none of them with a fault, in a run that made these calls: it has taken the
+-- answers of the buffers that it reads; each output holds its bytes of these ticks more, no count of faults fell, and its sinks are
+-- those that they were, by their names
+pub record HasRun {S : Type 0} (held name : S → Option (List ℕ)) (faults : S → ℕ) (calls : List Call) (ticks : ℕ) (old new : ClockEngine S) : Type 0 where
   pub works : AreWorks new.works
   pub sinks : length new.outs.items ≡ length new.works.ports.items
   pub setting : setting_of new.works ≡ setting_of old.works
   pub clock : new.works.clock ≡ old.works.clock
-  pub stands : EngineStands new.works ticks nothing
-  pub grew : HoldTicks (setting_of old.works) old.works.clock ticks nothing (held_of held old) (held_of held new)
+  pub answers : ℕ → List Answer
+  pub own : (buffer : ℕ) → (answers buffer ≡ answers_in buffer calls) ⊎ IsUnread (setting_of old.works) (Main old.works.clock) buffer
+  pub stands : EngineStands new.works ticks answers
+  pub grew : HoldTicks (setting_of old.works) old.works.clock ticks answers (held_of held old) (held_of held new)
   pub none_fell : NoneFell faults old.outs.items new.outs.items
   pub outs : length new.outs.items ≡ length old.outs.items
   pub kept : AreKept name faults old.outs.items new.outs.items
 
--- each output of an engine holds a front of its bytes of so many ticks more, no count of faults fell, and its sinks are those that
--- they were, by their names
-pub record HasRunPart {S : Type 0} (held name : S → Option (List ℕ)) (faults : S → ℕ) (ticks : ℕ) (old new : ClockEngine S) : Type 0 where
+-- each output of an engine holds a front of its bytes of so many ticks more, given the answers of these calls, whatever answers follow;
+-- no count of faults fell, and its sinks are those that they were, by their names
+pub record HasRunPart {S : Type 0} (held name : S → Option (List ℕ)) (faults : S → ℕ) (calls : List Call) (ticks : ℕ) (old new : ClockEngine S) : Type 0 where
   pub works : AreWorks new.works
   pub setting : setting_of new.works ≡ setting_of old.works
   pub clock : new.works.clock ≡ old.works.clock
   pub part : (rest : ℕ → List Answer) (sink node : ℕ) → IsOutput (setting_of old.works) old.works.clock sink node
-      → (bytes : List ℕ) × IsPrefix bytes (ticks_bytes (with_rest (setting_of old.works) nothing rest) node ticks) × (held_of held new sink ≡ grown bytes (held_of held old sink))
+      → (bytes : List ℕ) × IsPrefix bytes (ticks_bytes (world (setting_of old.works) calls rest) node ticks) × (held_of held new sink ≡ grown bytes (held_of held old sink))
   pub none_fell : NoneFell faults old.outs.items new.outs.items
   pub outs : length new.outs.items ≡ length old.outs.items
   pub kept : AreKept name faults old.outs.items new.outs.items
 
 -- each engine has run so many ticks
-pub record HaveRun {S : Type 0} (held name : S → Option (List ℕ)) (faults : S → ℕ) (ticks : ℕ → ℕ) (old new : List (ClockEngine S)) : Type 0 where
+pub record HaveRun {S : Type 0} (held name : S → Option (List ℕ)) (faults : S → ℕ) (calls : List Call) (ticks : ℕ → ℕ) (old new : List (ClockEngine S)) : Type 0 where
   pub size : length new ≡ length old
-  pub each : (k : ℕ) (before after : ClockEngine S) → slice_get old k ≡ Some before → slice_get new k ≡ Some after → HasRun held name faults (ticks k) before after
+  pub each : (k : ℕ) (before after : ClockEngine S) → slice_get old k ≡ Some before → slice_get new k ≡ Some after → HasRun held name faults calls (ticks k) before after
 
 -- each engine has run a part of so many ticks
-pub record HaveRunPart {S : Type 0} (held name : S → Option (List ℕ)) (faults : S → ℕ) (ticks : ℕ) (old new : List (ClockEngine S)) : Type 0 where
+pub record HaveRunPart {S : Type 0} (held name : S → Option (List ℕ)) (faults : S → ℕ) (calls : List Call) (ticks : ℕ) (old new : List (ClockEngine S)) : Type 0 where
   pub size : length new ≡ length old
-  pub each : (k : ℕ) (before after : ClockEngine S) → slice_get old k ≡ Some before → slice_get new k ≡ Some after → HasRunPart held name faults ticks before after
+  pub each : (k : ℕ) (before after : ClockEngine S) → slice_get old k ≡ Some before → slice_get new k ≡ Some after → HasRunPart held name faults calls ticks before after
 
 -- the end names an output of a clock, whose sink's count of faults rose
 pub record IsWriteEnd {S : Type 0} (faults : S → ℕ) (old new : List (ClockEngine S)) (end : End) : Type 0 where
@@ -84,7 +110,49 @@ pub record IsWriteEnd {S : Type 0} (faults : S → ℕ) (old new : List (ClockEn
   pub end_is : end ≡ Write clock sink
   pub rose : RoseAt faults place before.outs.items after.outs.items
 
--- between two ticks of a run: what each engine has run, and the room that is left for the ticks that are not made
-pub record AreGoing {S : Type 0} (held name : S → Option (List ℕ)) (room : S → Option ℕ) (faults : S → ℕ) (total : ℕ) (made : ℕ → ℕ) (first now : List (ClockEngine S)) : Type 0 where
-  pub run : HaveRun held name faults made first now
+-- between two ticks of a run: the calls so far, what each engine has run, and the room that is left for the ticks that are not made
+pub record AreGoing {S T : Type 0} (held name : S → Option (List ℕ)) (room : S → Option ℕ) (faults : S → ℕ) (stands : T → List Call → Type 0) (setting : Setting)
+    (total : ℕ) (made : ℕ → ℕ) (turns : ℕ) (first now : List (ClockEngine S)) (taps_first taps_now : T) : Type 0 where
+  pub calls : List Call
+  pub taps : Adds stands taps_first taps_now calls
+  pub turned : AreTurns setting (length first) turns calls
+  pub run : HaveRun held name faults calls made first now
   pub rooms : (k left : ℕ) (engine : ClockEngine S) → slice_get now k ≡ Some engine → made k + left ≡ total → HaveTicksRoom room engine.works engine.outs.items left
+
+-- all rounds were made, by these calls
+pub record RoundsMade {S T : Type 0} (held name : S → Option (List ℕ)) (faults : S → ℕ) (stands : T → List Call → Type 0) (setting : Setting)
+    (ticks turns : ℕ) (first now : List (ClockEngine S)) (taps_first taps_now : T) : Type 0 where
+  pub calls : List Call
+  pub taps : Adds stands taps_first taps_now calls
+  pub turned : AreTurns setting (length first) turns calls
+  pub run : HaveRun held name faults calls (λ clock. ticks) first now
+
+-- a fault ended the rounds, after these calls
+pub record RoundsStopped {S T : Type 0} (held name : S → Option (List ℕ)) (faults : S → ℕ) (stands : T → List Call → Type 0)
+    (ticks : ℕ) (first now : List (ClockEngine S)) (taps_first taps_now : T) : Type 0 where
+  pub calls : List Call
+  pub taps : Adds stands taps_first taps_now calls
+  pub part : HaveRunPart held name faults calls ticks first now
+
+-- the engines of a run are over one setting
+pub record AreAlike {S : Type 0} (room : S → Option ℕ) (ticks : ℕ) (engines : List (ClockEngine S)) : Type 0 where
+  pub setting : Setting
+  pub are : AreEngines room ticks setting engines
+
+-- there are as many buffers as each engine's plan has
+pub record HaveBuffers {S : Type 0} (buffers : ℕ) (engines : List (ClockEngine S)) : Type 0 where
+  pub each : (k : ℕ) (engine : ClockEngine S) → slice_get engines k ≡ Some engine → buffers ≡ length engine.works.shape.plan.now.buffers
+
+-- so many rounds were made
+pub record HaveMade {S T : Type 0} (held name : S → Option (List ℕ)) (room : S → Option ℕ) (faults : S → ℕ) (stands : T → List Call → Type 0)
+    (ticks : ℕ) (first now : List (ClockEngine S)) (taps_first taps_now : T) : Type 0 where
+  pub setting : Setting
+  pub are : AreEngines room ticks setting first
+  pub made : RoundsMade held name faults stands setting ticks (ticks * length first) first now taps_first taps_now
+
+-- a run between two turns
+pub record Goes {S T : Type 0} (held name : S → Option (List ℕ)) (room : S → Option ℕ) (faults : S → ℕ) (stands : T → List Call → Type 0)
+    (total : ℕ) (made : ℕ → ℕ) (turns : ℕ) (first now : List (ClockEngine S)) (taps_first taps_now : T) : Type 0 where
+  pub setting : Setting
+  pub are : AreEngines room total setting first
+  pub going : AreGoing held name room faults stands setting total made turns first now taps_first taps_now

@@ -2,5 +2,7 @@
 #![tactic(auto)]
 
 mod rounds;
+mod run;
 
-pub use rounds::run_rounds;
+pub use rounds::make_rounds;
+pub use run::run_rounds;

@@ -58,7 +58,7 @@ module _ (setting : Setting) (sub : ℕ → ℕ → List Slot) (clocks : ClockMa
       calls_at-more depth (Sub k) (suc (rank k)) (history setting sub (Sub k) m) (sub_ranked k there) (omega (arith, same, enough))))))
 
   -- the calls of an instant, with those of the sub-clocks' instants at the same depth
-  calls_are : (clock : NodeClock) (past : List Moment) → ((k : ℕ) → k < length setting.plan.nodes → clock_of setting k ≡ clock → length setting.plan.nodes < length setting.plan.nodes + suc (rank k))
+  pub calls_are : (clock : NodeClock) (past : List Moment) → ((k : ℕ) → k < length setting.plan.nodes → clock_of setting k ≡ clock → length setting.plan.nodes < length setting.plan.nodes + suc (rank k))
       → calls_of setting sub clock past ≡ takes_at setting clock past ++ joined_upto (λ k. fades_in setting sub (λ j m. calls_of setting sub (Sub j) (history setting sub (Sub j) m))
       (lies_in setting clock k) past k (slice_get setting.plan.nodes k)) (length setting.plan.nodes)
   calls_are clock past enough =

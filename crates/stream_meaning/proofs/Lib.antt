@@ -1,7 +1,9 @@
+pub mod Answering
 pub mod Bufferless
 pub mod Ranks
 pub mod Existence
 pub mod Calling
+pub mod Unread
 pub mod Marks
 pub mod Choosing
 pub mod Crossed

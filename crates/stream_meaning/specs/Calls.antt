@@ -1,5 +1,5 @@
 -- The calls that a tick of a main clock makes of its buffers.
-use Rattle.std.specs.Prelude.{Bool, true, false, Option, Some, None, List, [], ◌∷◌, ◌++◌, ℕ, zero, suc, ◌+◌, ◌-◌, ◌*◌, ◌%◌, length, map, nat_eq, slice_get, if◌then◌else◌}
+use Rattle.std.specs.Prelude.{◌≡◌, Bool, true, false, Option, Some, None, List, [], ◌∷◌, ◌++◌, ℕ, zero, suc, ◌+◌, ◌-◌, ◌*◌, ◌%◌, length, map, nat_eq, slice_get, if◌then◌else◌}
 use Rattle.std.specs.List.{flat_map}
 use Rattle.frame_core.specs.declared.cell.Cell.{Cell}
 use Rattle.plan_core.specs.declared.node.Node.{Node}
@@ -12,7 +12,7 @@ use Rattle.frame_core.specs.Calls.{Call, Took, Given}
 use Rattle.op_cross.specs.Runs.{run_of}
 use Rattle.op_leaf.specs.Readers.{Answer, takes_of}
 use Rattle.stream_meaning.specs.Operators.{Work, Plays, Picks, Mixes, Fades, Reads}
-use Rattle.stream_meaning.specs.Instants.{Setting, Moment, lies_in, position, next_answers, reading_after, work_at, history, sub_of}
+use Rattle.stream_meaning.specs.Instants.{Setting, Moment, clock_of, lies_in, position, next_answers, reading_after, work_at, history, sub_of}
 use Rattle.stream_meaning.specs.Sinks.{feed_cells}
 
 -- the calls of 0 to n - 1, one after another
@@ -108,3 +108,28 @@ answers_in buffer (Given other cells accepted ∷ calls) = answers_in buffer cal
 -- answers, and behind them those of these calls
 abbrev pub after_calls : (ℕ → List Answer) → List Call → ℕ → List Answer
 after_calls answers calls buffer = answers buffer ++ answers_in buffer calls
+
+-- a setting gives these answers, and behind them any others
+pub record HasAnswers (setting : Setting) (answers : ℕ → List Answer) : Type 0 where
+  pub rest : ℕ → List Answer
+  pub are : (buffer : ℕ) → setting.answers buffer ≡ answers buffer ++ rest buffer
+
+-- these calls are the first ones of others
+pub record IsBegin (made calls : List Call) : Type 0 where
+  pub rest : List Call
+  pub are : calls ≡ made ++ rest
+
+-- the calls of each instant of each clock go by those of the sub-clocks' instants
+pub record GoDown (setting : Setting) (sub : ℕ → ℕ → List Slot) : Type 0 where
+  pub each : (clock : NodeClock) (past : List Moment) → calls_of setting sub clock past
+      ≡ takes_at setting clock past ++ joined_upto (λ k. fades_in setting sub (λ j m. calls_of setting sub (Sub j) (history setting sub (Sub j) m))
+      (lies_in setting clock k) past k (slice_get setting.plan.nodes k)) (length setting.plan.nodes)
+
+-- node i lies in a clock, or in a sub-clock so many ranks below it
+abbrev pub IsBelow : Setting → NodeClock → (rank i : ℕ) → Type 0
+IsBelow setting clock zero i = clock_of setting i ≡ clock
+IsBelow setting clock (suc rank) i = (k : ℕ) × (clock_of setting i ≡ Sub k) × IsBelow setting clock rank k
+
+-- no node in a clock or below it reads this buffer
+pub record IsUnread (setting : Setting) (clock : NodeClock) (buffer : ℕ) : Type 0 where
+  pub none : (rank i : ℕ) (node : Node) → slice_get setting.plan.nodes i ≡ Some node → work_at setting i node ≡ Reads buffer → IsBelow setting clock rank i → ⊥

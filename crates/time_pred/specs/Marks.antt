@@ -1,5 +1,5 @@
 -- The time marks of a script, and when they hold. Times are in seconds since Monday at 00:00:00.
-use Rattle.std.specs.Prelude.{ℕ, zero, suc, ◌+◌, ◌*◌, ◌%◌, max, Bool, ◌&&◌, ◌||◌, nat_lt, nat_le, if◌then◌else◌, pos, ◌-ℤ◌, unsigned_abs, unwrap_or, is_some}
+use Rattle.std.specs.Prelude.{◌≡◌, ◌<◌, ℕ, zero, suc, ◌+◌, ◌*◌, ◌%◌, max, Bool, ◌&&◌, ◌||◌, nat_lt, nat_le, if◌then◌else◌, pos, ◌-ℤ◌, unsigned_abs, unwrap_or, is_some}
 use Rattle.std.specs.Int.{int_rem_euclid}
 use Rattle.std.specs.Option.{option_map_or}
 use Rattle.fixed_text.specs.declared.time_mark.TimeMark.{TimeMark}
@@ -32,3 +32,7 @@ is_within a b x = if nat_le a b then nat_le a x && nat_lt x b else nat_le a x ||
 -- an interval has the period of the coarser of its marks
 abbrev pub is_between : TimeMark → TimeMark → ℕ → Bool
 is_between from to at = is_within (value_of from) (value_of to) (at % max (period_of from) (period_of to))
+
+-- from a second on, what is told of a second stays for so many
+abbrev pub Stays : (ℕ → Bool) → (at seconds : ℕ) → Type 0
+Stays test at seconds = (j : ℕ) → j < seconds → test ((at + j) % 604800) ≡ test at

@@ -1,6 +1,7 @@
 // When a time mark and an interval of two of them hold.
-ghost use Rattle.std.specs.Prelude.{◌≡◌, ◌≤◌, ◌<◌};
-ghost use Rattle.time_pred.specs.Marks.{value_of, period_of, finest_of, is_at, is_between};
+ghost use Rattle.std.specs.Prelude.{◌≡◌, ◌≤◌, ◌<◌, ◌-◌, ◌%◌, ◌-ℤ◌, pos, unsigned_abs};
+ghost use Rattle.std.specs.Int.{int_rem_euclid};
+ghost use Rattle.time_pred.specs.Marks.{Stays, value_of, period_of, finest_of, is_at, is_between};
 
 use fixed_text::{TimeMark, WeekSecond};
 
@@ -10,7 +11,7 @@ const HOUR: u32 = 3600;
 
 const DAY: u32 = 86_400;
 
-const WEEK: u32 = 604_800;
+pub const WEEK: u32 = 604_800;
 
 // Whether a mark alone holds at a second of the week.
 pub fn is_at(mark: TimeMark, at: WeekSecond) -> bool
@@ -31,6 +32,59 @@ pub fn is_between(from: TimeMark, to: TimeMark, at: WeekSecond) -> bool
         first <= since && since < end
     } else {
         first <= since || since < end
+    }
+}
+
+// For how many seconds a mark alone holds on, or does not.
+pub fn steady_at(mark: TimeMark, at: WeekSecond) -> u32
+    ensures stays { Stays (is_at mark) at.second result }
+    ensures some { 0 < result }
+    ensures most { result ≤ 604800 }
+{
+    let period = period(mark);
+    let phase = phase(mark, at);
+    let finest = finest(mark);
+    let left = period - phase;
+    if phase < finest {
+        left.min(finest - phase)
+    } else {
+        left
+    }
+}
+
+// How many seconds have gone by since a mark's value, around its period.
+fn phase(mark: TimeMark, at: WeekSecond) -> u32
+    ensures is { result ≡ unsigned_abs (int_rem_euclid (pos (at.second % period_of mark) -ℤ pos (value_of mark)) (pos (period_of mark))) }
+    ensures below { result < period_of mark }
+{
+    let period = period(mark);
+    let since = i64::from(at.second % period) - i64::from(value(mark));
+    since.rem_euclid(i64::from(period)) as u32
+}
+
+// For how many seconds the interval from one mark to another holds on, or does not.
+pub fn steady_between(from: TimeMark, to: TimeMark, at: WeekSecond) -> u32
+    ensures stays { Stays (is_between from to) at.second result }
+    ensures some { 0 < result }
+    ensures most { result ≤ 604800 }
+{
+    let period = period(from).max(period(to));
+    let since = at.second % period;
+    let left = until(since, value(from), period - since);
+    until(since, value(to), left)
+}
+
+// The least of both: how far ahead a time is, and this.
+fn until(since: u32, time: u32, most: u32) -> u32
+    requires { 0 < most }
+    ensures some { 0 < result }
+    ensures within { result ≤ most }
+    ensures before { since < time → result ≤ time - since }
+{
+    if since < time {
+        most.min(time - since)
+    } else {
+        most
     }
 }
 

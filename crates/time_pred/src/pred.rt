@@ -1,10 +1,11 @@
 // Predicates, by form and at a second of the week.
-ghost use Rattle.std.specs.Prelude.{◌≡◌, ℕ, IsTrue, true, IfOk, map};
+ghost use Rattle.std.specs.Prelude.{◌≡◌, ◌<◌, ◌≤◌, ℕ, IsTrue, true, IfOk, map};
 ghost use Rattle.std.specs.List.{list_all, list_any};
 ghost use Rattle.time_pred.specs.Predicates.{holds, is_always, is_never};
+ghost use Rattle.time_pred.specs.Marks.{Stays};
 ghost use Rattle.time_pred.specs.View.{view_pred};
 
-use crate::mark::{is_at, is_between};
+use crate::mark::{WEEK, is_at, is_between, steady_at, steady_between};
 use fixed_text::{TimeMark, WeekSecond};
 use liq_base::Memory;
 use std::alloc::Global;
@@ -51,6 +52,24 @@ impl Pred {
         }
     }
 
+    /// A number of seconds from this one on, at least 1 and at most a week, for which the answer of `holds` stays. It takes
+    /// no memory.
+    #[cycle(steady)]
+    pub fn steady(&self, at: WeekSecond) -> u32
+        ensures stays { Stays (holds (view_pred self.now)) at.second result }
+        ensures some { 0 < result }
+        ensures most { result ≤ 604800 }
+    {
+        match self {
+            Pred::Always | Pred::Never => WEEK,
+            Pred::At(mark) => steady_at(*mark, at),
+            Pred::Between(from, to) => steady_between(*from, *to, at),
+            Pred::Not(inner) => inner.steady(at),
+            Pred::All(parts) => steady_all(parts, at),
+            Pred::Any(parts) => steady_all(parts, at),
+        }
+    }
+
     /// A copy of the predicate.
     #[cycle(copy)]
     pub fn copy(&self, alloc: Global) -> Result<Pred, Memory>
@@ -86,6 +105,20 @@ fn copies(alloc: Global, parts: &[Pred]) -> Result<Vec<Pred>, Memory>
         copies.push(part.copy(alloc)?)?;
     }
     Ok(copies)
+}
+
+#[cycle(steady)]
+fn steady_all(parts: &[Pred], at: WeekSecond) -> u32
+    ensures all { Stays (λ second. list_all (λ p. holds (view_pred p) second) parts.now) at.second result }
+    ensures any { Stays (λ second. list_any (λ p. holds (view_pred p) second) parts.now) at.second result }
+    ensures some { 0 < result }
+    ensures most { result ≤ 604800 }
+{
+    let mut least = WEEK;
+    for part in parts {
+        least = part.steady(at).min(least);
+    }
+    least
 }
 
 #[cycle(holds)]

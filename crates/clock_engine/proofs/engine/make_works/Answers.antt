@@ -6,7 +6,6 @@ use Rattle.node_states.specs.Ticks.{with_rest}
 use Rattle.clock_engine.specs.Beginnings.{IsNewPort}
 use Rattle.clock_engine.proofs.Made.{all_at}
 use Rattle.clock_engine.proofs.Mapped.{has_ranks}
-use Rattle.clock_engine.proofs.Quiet.{no_feeds}
 use Rattle.clock_engine.proofs.Starting.{all_alike, new_stand}
 use Rattle.clock_engine.proofs.engine.make_works.Goals as goal
 
@@ -14,11 +13,10 @@ pub returns-clause-works : goal.returns-clause-works
 returns-clause-works c =
     let S : Setting = record { plan = c.args.shape.plan.now; library = c.args.shape.library.now; clocks = c.args.shape.clocks.now; start = c.args.start.second; answers = λ buffer. [] } in
     record {
+      plan = c.requires.plan;
       nodes = c.requires.plan.nodes;
       frame = c.requires.plan.frame.1;
       few = c.requires.plan.few_nodes;
-      readers = c.requires.readers;
-      feeds = no_feeds c.args.shape.plan.now c.requires.plan c.requires.readers;
       in_clocks = c.requires.in_clocks;
       clocks = c.requires.clocks;
       lanes = record {
@@ -38,14 +36,18 @@ returns-clause-works c =
           };
           room = search rules;
           rates = λ k time at. ap (λ t. t.rate) (c.in_ok-times.ensures.each k time at) ∙ c.new-time.ensures.rate;
+          frames = λ k time at. ap (λ t. t.frame) (c.in_ok-times.ensures.each k time at) ∙ c.new-time.ensures.frame;
         };
         rate = c.new-time.ensures.rate;
+        frame = c.new-time.ensures.frame;
       };
       in_own = c.in_ok-own.ensures.size;
       own = record { each = (c.in_ok-own.ensures.roots S).each };
       outputs = c.in_ok-ports.ensures.outputs S;
       kinds = λ k d h. (c.in_ok-ports.ensures.new S k d h).kind;
       rooms = λ k d h. (c.in_ok-ports.ensures.new S k d h).room;
+      feeds = c.in_ok-feeds.ensures.feeds S;
+      frames = λ k d h. (c.in_ok-feeds.ensures.new k d h).long;
     }
 
 pub returns-clause-stands : goal.returns-clause-stands
@@ -54,7 +56,7 @@ returns-clause-stands c =
     record {
       made = refl;
       runs = refl;
-      none = λ buffer. refl;
+      others = λ buffer unread. refl;
       lanes = λ rest. new_stand (with_rest S (λ buffer. []) rest) (Main c.args.clock) _ (length c.args.shape.plan.now.nodes) _ (has_ranks c.args.shape.plan.now c.args.shape.clocks.now c.requires.clocks c.requires.in_clocks) c.in_ok-states.ensures c.new-time.ensures.stands c.in_ok-times.ensures.each;
       gaps_are = λ rest k port at. (all_at (IsNewPort S) c.in_ok-ports.ports.items (c.in_ok-ports.ensures.new S) k port at).gaps;
     }

@@ -5,10 +5,15 @@ use Rattle.clock_engine.proofs.Mapped.{has_levels}
 use Rattle.clock_engine.proofs.engine.run_works.Goals as goal
 
 pub run_tick-requires-clause-room : goal.run_tick-requires-clause-room
-run_tick-requires-clause-room c k d h =
+run_tick-requires-clause-room g c k d h =
     let within : k < length c.args.works.now.ports.items = (let long = length-map c.args.works.now.ports.items emptied in omega (arith, long, h)) in
-    let room = c.requires.rooms k d within in
+    let room = c.requires.works.rooms k d within in
     subst (λ p. HasRoomLeft c.args.works.now.shape.plan.now.frame p) (sym (get_or-map emptied c.args.works.now.ports.items k d d within)) (omega (arith, room))
 
 pub run_tick-requires-clause-levels : goal.run_tick-requires-clause-levels
-run_tick-requires-clause-levels c = has_levels c.args.works.now.shape.plan.now c.args.works.now.shape.clocks.now c.requires.clocks c.requires.in_clocks c.args.works.now.clock
+run_tick-requires-clause-levels g c = has_levels c.args.works.now.shape.plan.now c.args.works.now.shape.clocks.now c.requires.works.clocks c.requires.works.in_clocks c.args.works.now.clock
+
+pub run_tick-requires-clause-readers : goal.run_tick-requires-clause-readers
+run_tick-requires-clause-readers g c = record {
+  each = λ i buffer node found op. (let low = c.requires.works.plan.read buffer i (node, found, op) in omega (arith, low, c.requires.buffers));
+}

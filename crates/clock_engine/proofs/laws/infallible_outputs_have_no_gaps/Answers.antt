@@ -1,4 +1,4 @@
-use Rattle.std.proofs.Common.{◌≡◌, ◌<◌, ℕ, Bool, List, length}
+use Rattle.std.proofs.Common.{◌<◌, ℕ, List, length}
 use Rattle.clock_infer.specs.declared.clock_map.ClockMap.{ClockMap}
 use Rattle.op_leaf.specs.Readers.{Answer}
 use Rattle.plan_core.specs.declared.sink.SinkPlan.TheVariants.{Output}
@@ -6,7 +6,7 @@ use Rattle.plan_core.specs.Plans.{sink_node}
 use Rattle.stream_meaning.specs.Instants.{Setting}
 use Rattle.stream_meaning.specs.Settings.{IsSetting}
 use Rattle.stream_meaning.proofs.Unfailing.{no_gaps}
-use Rattle.node_states.specs.Ticks.{IsOutput, with_rest}
+use Rattle.node_states.specs.Ticks.{with_rest}
 use Rattle.clock_engine.proofs.Made.{all_at}
 use Rattle.clock_engine.proofs.laws.infallible_outputs_have_no_gaps.Goals as goal
 

@@ -1,7 +1,7 @@
-use Rattle.std.proofs.Common.{◌≡◌, ◌<◌, ◌+◌, ◌∙◌, ◌++◌, ◌∷◌, [], ℕ, false, length, get_or, arith, refl, ap, sym, subst, inl, inr}
+use Rattle.std.proofs.Common.{◌≡◌, ◌<◌, ◌+◌, ◌∙◌, ◌∷◌, [], false, length, get_or, arith, ap, sym, inl, inr}
 use Rattle.std.proofs.lemmas.List.{get_or_default, length-append}
 use Rattle.clock_infer.specs.declared.clock_map.NodeClock.TheVariants.{Main}
-use Rattle.stream_meaning.specs.Instants.{Setting, is_root}
+use Rattle.stream_meaning.specs.Instants.{is_root}
 use Rattle.engine_instants.specs.States.{over}
 use Rattle.engine_instants.proofs.Places.{below_or_same}
 use Rattle.clock_engine.proofs.Beginning.{behind, in_front}

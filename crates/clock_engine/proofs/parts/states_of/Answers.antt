@@ -18,13 +18,6 @@ state_of-requires-clause-few c =
     slice_get_read _ _ _ _ refl within (c.index-nodes-i.is ∙ ap (λ nodes. get_or nodes c.loop-i.i c.index-nodes-i.result) c.as_slice-nodes.ensures) in
     (c.requires.nodes c.loop-i.i c.index-nodes-i.result found).few
 
-pub state_of-requires-clause-reads : goal.state_of-requires-clause-reads
-state_of-requires-clause-reads c =
-    let within : c.loop-i.i < length c.args.plan.now.nodes = omega (arith, c.loop-i-test.true, ap length c.as_slice-nodes.ensures) in
-    let found : slice_get c.args.plan.now.nodes c.loop-i.i ≡ Some c.index-nodes-i.result =
-    slice_get_read _ _ _ _ refl within (c.index-nodes-i.is ∙ ap (λ nodes. get_or nodes c.loop-i.i c.index-nodes-i.result) c.as_slice-nodes.ensures) in
-    c.requires.readers c.loop-i.i c.index-nodes-i.result found
-
 pub loop-i-preserved : goal.loop-i-preserved
 loop-i-preserved c =
     let within : c.loop-i.i < length c.args.plan.now.nodes = omega (arith, c.loop-i-test.true, ap length c.as_slice-nodes.ensures) in
@@ -35,5 +28,5 @@ loop-i-preserved c =
     (λ node at.
     let one : Some c.index-nodes-i.result ≡ Some node = sym found ∙ at in
     let same : c.index-nodes-i.result ≡ node = cc in
-    subst (λ n. IsNewState c.args.plan.now.rate c.loop-i.i n c.in_ok-state_of.field-0) same c.in_ok-state_of.ensures)
+    subst (λ n. IsNewState c.args.plan.now c.loop-i.i n c.in_ok-state_of.field-0) same c.in_ok-state_of.ensures)
     c.loop-i.invariant)

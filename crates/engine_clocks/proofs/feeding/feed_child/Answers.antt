@@ -29,6 +29,13 @@ returns-clause-lanes c =
             ap (λ t. t.rate) (sym is) ∙ c.next.ensures.rate ∙ c.requires.lanes.rates c.args.k c.index.result.now was)
         | inr other ↦ c.requires.lanes.rates j time (sym (slice_get-set_other c.args.lanes.now.times.items c.args.k j c.next.result other) ∙ stored)
       ];
+      frames = λ j time stored. elim (same_or_other c.args.k j) [
+        | inl same ↦ (let put : Some c.next.result ≡ Some time = sym (slice_get-set_same c.args.lanes.now.times.items c.args.k c.next.result in_times)
+            ∙ ap (slice_get (set c.args.lanes.now.times.items c.args.k c.next.result)) same ∙ stored in
+            let is : c.next.result ≡ time = cc in
+            ap (λ t. t.frame) (sym is) ∙ c.next.ensures.frame ∙ c.requires.lanes.frames c.args.k c.index.result.now was)
+        | inr other ↦ c.requires.lanes.frames j time (sym (slice_get-set_other c.args.lanes.now.times.items c.args.k j c.next.result other) ∙ stored)
+      ];
     }
 
 pub returns-clause-states : goal.returns-clause-states

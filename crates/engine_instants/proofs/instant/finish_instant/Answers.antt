@@ -1,6 +1,6 @@
 use Rattle.std.proofs.Common.{◌≡◌, ◌∙◌, false, length, get_or, arith, ap}
 use Rattle.std.proofs.lemmas.List.{with_items_is}
-use Rattle.stream_meaning.specs.Instants.{part_at, silent}
+use Rattle.stream_meaning.specs.Instants.{part_at}
 use Rattle.engine_instants.proofs.instant.finish_instant.Goals as goal
 
 pub returns-clause-latest : goal.returns-clause-latest

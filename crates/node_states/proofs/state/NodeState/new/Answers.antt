@@ -29,4 +29,4 @@ has_tracks library rate i kind (Clock id) leaf within is = absurd is
 
 pub returns-in-Play-clause-fits : goal.returns-in-Play-clause-fits
 returns-in-Play-clause-fits c = λ library is within.
-    c.new.ensures.placed library is (has_tracks library c.args.rate c.args.i c.args.node.now.kind c.args.node.now.op c.in-Play.leaf within c.in-Play.ensures)
+    c.new.ensures.placed library is (has_tracks library c.args.plan.now.rate c.args.i c.args.node.now.kind c.args.node.now.op c.in-Play.leaf within c.in-Play.ensures)

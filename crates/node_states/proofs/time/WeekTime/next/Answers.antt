@@ -7,6 +7,7 @@ pub returns-then-self-clause-stands : goal.returns-then-self-clause-stands
 returns-then-self-clause-stands c = λ start n stands. record {
   second = stands.second ∙ ap (λ k. (start + k) % 604800) (sym (same_second n c.args.self.rate c.args.self.samples stands.samples c.if-self.true));
   samples = sym (mod-step n c.args.self.rate c.args.self.samples stands.samples c.if-self.true);
+  place = c.next_place-place.ensures.next n stands.place;
 }
 
 pub returns-clause-stands : goal.returns-clause-stands
@@ -17,4 +18,5 @@ returns-clause-stands c = λ start n stands.
       second = c.next_second.ensures ∙ week_later start (n / c.args.self.rate) c.args.self.second.second stands.second
           ∙ ap (λ k. (start + k) % 604800) (sym (later_second n c.args.self.rate c.args.self.samples some stands.samples long));
       samples = sym (mod-round n c.args.self.rate c.args.self.samples stands.samples long);
+      place = c.next_place-place.ensures.next n stands.place;
     }

@@ -1,0 +1,52 @@
+-- How far a node goes on behind an instant, and with it its clock.
+use Rattle.std.specs.Prelude.{◌≡◌, ◌<◌, ◌≤◌, ◌+◌, ◌%◌, Bool, true, false, Option, Some, None, List, ℕ, length, is_some, nat_eq, slice_index_or}
+use Rattle.plan_core.specs.declared.node.Node.{Node}
+use Rattle.clock_infer.specs.declared.clock_map.NodeClock.{NodeClock}
+use Rattle.frame_core.specs.Slots.{Slot, slot_at, is_first}
+use Rattle.op_cross.specs.Runs.{item_of}
+use Rattle.op_leaf.specs.declared.leaf.Leaf.{Leaf}
+use Rattle.op_leaf.specs.Leaves.{leaf_slot}
+use Rattle.op_leaf.specs.Readers.{read_by, reader_slot}
+use Rattle.op_select.specs.declared.rule.Rule.{Rule}
+use Rattle.stream_meaning.specs.declared.part.Part.{Part}
+use Rattle.stream_meaning.specs.Operators.{Eligible, Plays, Picks, Fades, Reads, marks_at}
+use Rattle.stream_meaning.specs.Instants.{Setting, Moment, count, gives, last_pick, moment_after, offer, parts_upto, position, reading_after, reading_at, second_at, slots_at, work_at}
+use Rattle.segment_laws.specs.Steady.{IsFree, is_inner}
+use Rattle.segment_laws.specs.Stretches.{AreFed, IsNode}
+
+-- the child at a place begins a track
+abbrev pub begins_at : List Part → List ℕ → Option ℕ → Bool
+begins_at parts children None = false
+begins_at parts children (Some place) = is_first (slot_at (slots_at parts children) place)
+
+-- node i goes on for so many instants behind the instant after these
+pub record NodeStretches (setting : Setting) (sub : ℕ → ℕ → List Slot) (clock : NodeClock) (past : List Moment) (i : ℕ) (node : Node) (rest : ℕ) : Type 0 where
+  pub leaves : (leaf : Leaf) (j : ℕ) → work_at setting i node ≡ Plays leaf → 0 < j → j ≤ rest
+      → gives (moment_after setting sub clock past) i ≡ true → is_inner (leaf_slot setting.library leaf (count past i + j)) ≡ true
+  pub ticks : (buffer j : ℕ) → work_at setting i node ≡ Reads buffer → 0 < j → j ≤ rest → nat_eq ((length past + j) % setting.plan.frame) 0 ≡ false
+  pub readers : (buffer j : ℕ) → work_at setting i node ≡ Reads buffer → 0 < j → j ≤ rest → gives (moment_after setting sub clock past) i ≡ true
+      → is_inner (reader_slot (read_by j (reading_at setting buffer (length past) (reading_after setting i buffer past)).reader)) ≡ true
+  pub items : (overlap : ℕ) → work_at setting i node ≡ Fades overlap → 0 < rest → is_some (offer (moment_after setting sub clock past) i) ≡ true
+  pub settled : (overlap j : ℕ) → work_at setting i node ≡ Fades overlap → 0 < j → j ≤ rest
+      → gives (moment_after setting sub clock past) i ≡ true → is_inner (item_of overlap (sub i) (position past i + j)) ≡ true
+  pub marks : (rule : Rule) (eligible : Eligible) (j children : ℕ) → work_at setting i node ≡ Picks rule eligible → 0 < j → j ≤ rest
+      → marks_at eligible (second_at setting (length past + j)) children ≡ marks_at eligible (second_at setting (length past)) children
+  pub free : (rule : Rule) (eligible : Eligible) → work_at setting i node ≡ Picks rule eligible → 0 < rest
+      → IsFree rule (slots_at (parts_upto setting sub clock past i) node.children)
+      (marks_at eligible (second_at setting (length past)) (length (slots_at (parts_upto setting sub clock past i) node.children))) (last_pick past i)
+
+-- the readers of a clock have begun so many instants
+pub record AreReadTo (setting : Setting) (clock : NodeClock) (fed : ℕ → ℕ) (n : ℕ) : Type 0 where
+  pub each : (i : ℕ) (node : Node) (buffer : ℕ) → IsNode setting clock i node → work_at setting i node ≡ Reads buffer → fed i ≡ n
+
+-- each crossfade's sub-clock goes on with a track for so many instants
+pub record AreFedOn (setting : Setting) (sub : ℕ → ℕ → List Slot) (fed : ℕ → ℕ) (rests : List ℕ) : Type 0 where
+  pub each : (i : ℕ) → AreFed setting sub i (fed i) (slice_index_or rests i 0)
+
+-- so many instants lie behind this one in its second
+pub record IsSameSecond (setting : Setting) (n second : ℕ) : Type 0 where
+  pub each : (j : ℕ) → j ≤ second → second_at setting (n + j) ≡ second_at setting n
+
+-- so many instants lie behind this one in its tick
+pub record IsSameTick (setting : Setting) (n tick : ℕ) : Type 0 where
+  pub each : (j : ℕ) → 0 < j → j ≤ tick → nat_eq ((n + j) % setting.plan.frame) 0 ≡ false

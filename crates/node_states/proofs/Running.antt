@@ -1,0 +1,182 @@
+-- What states stand for behind a run of instants.
+use Rattle.std.proofs.Common.{◌≡◌, ◌<◌, ◌≤◌, ◌+◌, ◌-◌, ◌∙◌, ◌++◌, ℕ, zero, suc, Some, List, length, map, take, if◌then◌else◌, Bool, true, false, arith, refl, ap, sym, subst, inl, inr}
+use Rattle.std.specs.Prelude.{is_some, not}
+use Rattle.std.proofs.lemmas.Bool.{cases_lt}
+use Rattle.std.proofs.lemmas.List.{take_all}
+use Rattle.plan_core.specs.declared.node.Node.{Node}
+use Rattle.plan_core.specs.Plans.{AreNodes}
+use Rattle.clock_infer.specs.declared.clock_map.NodeClock.{NodeClock}
+use Rattle.frame_core.specs.declared.cell.Cell.{Cell}
+use Rattle.frame_core.specs.Slots.{Slot}
+use Rattle.op_cross.specs.Crossfade.{cross}
+use Rattle.op_cross.specs.Runs.{run_of}
+use Rattle.op_cross.specs.States.{AllInner, Crossing, IsCrossing, StandsFor, passes}
+use Rattle.op_cross.proofs.LeastRuns.{run_of-is}
+use Rattle.op_cross.proofs.Running.{passing}
+use Rattle.stream_meaning.specs.Operators.{Work, Plays, Picks, Mixes, Fades, Reads}
+use Rattle.op_leaf.specs.Readers.{Reader, after_cell, read_by}
+use Rattle.stream_meaning.specs.Instants.{Setting, Moment, Reading, count, gives, last_pick, moment_after, offer, position, reading_after, reading_at, work_at}
+use Rattle.stream_meaning.specs.Calls.{ran_by}
+use Rattle.segment_laws.specs.Stretches.{AreFed, IsNode, IsOn, IsStretch, going_on}
+use Rattle.segment_laws.proofs.Stretching.{on_all}
+use Rattle.segment_laws.proofs.Reaching.{run_more}
+use Rattle.node_states.specs.declared.state.NodeState.{NodeState}
+use Rattle.node_states.specs.declared.state.NodeState.TheVariants.{Leaf, Select, Mix, Cross, Read}
+use Rattle.node_states.specs.States.{AreLong, CrossStands, LeafStands, SelectStands, StateStands, reading_by, reads}
+use Rattle.node_states.proofs.Chunks.{reading_closed}
+
+-- two pasts are the same to a node of this work
+abbrev pub SamePast : Setting → Work → ℕ → List Moment → List Moment → Type 0
+SamePast setting (Plays leaf) i past later = count later i ≡ count past i
+SamePast setting (Picks rule eligible) i past later = last_pick later i ≡ last_pick past i
+SamePast setting (Mixes mixing) i past later = Unit {0}
+SamePast setting (Fades overlap) i past later = position later i ≡ position past i
+SamePast setting (Reads buffer) i past later = (reading_after setting i buffer later).reader ≡ (reading_after setting i buffer past).reader
+
+-- what a node has begun or was fed, where a reader has begun so many instants more
+abbrev pub fed_on : Bool → (many fed : ℕ) → ℕ
+fed_on reading many fed = if reading then fed + many else fed
+
+-- a reader that has begun each instant of its past holds what they left
+closed_reader : (setting : Setting) (i buffer : ℕ) (past : List Moment) (fed : ℕ) → fed ≡ length past → (reading_by setting i buffer past fed).reader ≡ (reading_after setting i buffer past).reader
+closed_reader setting i buffer past fed closed =
+    ap (λ (n : ℕ). (reading_by setting i buffer past n).reader) closed ∙ ap (λ (r : Reading). r.reader) (reading_closed setting i buffer past)
+
+pub stands_same : (setting : Setting) (sub : ℕ → ℕ → List Slot) (past later : List Moment) (many fed i : ℕ) (work : Work) (state : NodeState) → SamePast setting work i past later
+    → length later ≡ length past + many → (reads work ≡ true → fed ≡ length past)
+    → StateStands setting sub past fed i work state → StateStands setting sub later (fed_on (reads work) many fed) i work state
+stands_same setting sub past later many fed i (Plays leaf) (Leaf state) same long closed s = subst (λ n. LeafStands setting.library leaf n state) (sym same) s
+stands_same setting sub past later many fed i (Picks rule eligible) (Select state) same long closed s = subst (λ last. SelectStands rule last state) (sym same) s
+stands_same setting sub past later many fed i (Mixes mixing) (Mix mixer) same long closed s = s
+stands_same setting sub past later many fed i (Fades overlap) (Cross state) same long closed s = subst (λ p. CrossStands (sub i) fed p overlap state) (sym same) s
+stands_same setting sub past later many fed i (Reads buffer) (Read reader) same long closed s =
+    let now = closed refl in
+    s ∙ closed_reader setting i buffer past fed now ∙ sym same ∙ sym (closed_reader setting i buffer later (fed + many) (omega (arith, now, long)))
+stands_same setting sub past later many fed i work state same long closed s = absurd s
+
+-- so many cells more of a reader
+read_more : (m n : ℕ) (reader : Reader) → read_by (m + n) reader ≡ read_by n (read_by m reader)
+read_more m zero reader = let e : m + 0 ≡ m = omega arith in ap (λ k. read_by k reader) e
+read_more m (suc n) reader = let e : m + suc n ≡ suc (m + n) = omega arith in ap (λ k. read_by k reader) e ∙ ap after_cell (read_more m n reader)
+
+module _ (setting : Setting) (sub : ℕ → ℕ → List Slot) (clock : NodeClock) (past : List Moment) (instants m many : ℕ) (nodes : AreNodes setting.plan.nodes)
+    (stretch : IsStretch setting sub clock past instants) (begun : 0 < m) (within : m + many ≤ instants) (some : 0 < many) (i : ℕ) (node : Node) (is : IsNode setting clock i node) where
+  abbrev First : Moment
+  First = moment_after setting sub clock past
+
+  abbrev Past : List Moment
+  Past = going_on setting sub clock m past
+
+  abbrev Later : List Moment
+  Later = going_on setting sub clock (m + many) past
+
+  on_now : IsOn setting sub clock past m Past
+  on_now = on_all setting sub clock past instants nodes stretch m (omega (arith, within))
+
+  on_later : IsOn setting sub clock past (m + many) Later
+  on_later = on_all setting sub clock past instants nodes stretch (m + many) within
+
+  later_long : length Later ≡ length Past + many
+  later_long = let a = on_now.long in let b = on_later.long in omega (arith, a, b)
+
+  same_by : (work : Work) → work_at setting i node ≡ work → gives First i ≡ false → SamePast setting work i Past Later
+  same_by (Plays leaf) at not = on_later.kept i not ∙ sym (on_now.kept i not)
+  same_by (Picks rule eligible) at not = on_later.stayed i not ∙ sym (on_now.stayed i not)
+  same_by (Mixes mixing) at not = tt
+  same_by (Fades overlap) at not =
+      let there = stretch.items i node overlap 1 is at (omega arith) (omega (arith, begun, within, some)) in
+      on_later.held i not there ∙ sym (on_now.held i not there)
+  same_by (Reads buffer) at not = on_later.unread i node buffer is at (omega (arith, begun)) not ∙ sym (on_now.unread i node buffer is at begun not)
+
+  -- a node that does not give keeps its state
+  pub kept_stands : (fed : ℕ) (state : NodeState) → gives First i ≡ false → (reads (work_at setting i node) ≡ true → fed ≡ length Past)
+      → StateStands setting sub Past fed i (work_at setting i node) state
+      → StateStands setting sub Later (fed_on (reads (work_at setting i node)) many fed) i (work_at setting i node) state
+  kept_stands fed state not closed s =
+      stands_same setting sub Past Later many fed i (work_at setting i node) state (same_by (work_at setting i node) refl not) later_long closed s
+
+  -- a reader that gives holds as many cells less
+  pub read_stands : (fed buffer : ℕ) (old new : Reader) → work_at setting i node ≡ Reads buffer → gives First i ≡ true → fed ≡ length Past → new ≡ read_by many old
+      → StateStands setting sub Past fed i (Reads buffer) (Read old) → StateStands setting sub Later (fed + many) i (Reads buffer) (Read new)
+  read_stands fed buffer old new at gave closed goes s =
+      let R : Reader = (reading_at setting buffer (length past) (reading_after setting i buffer past)).reader in
+      let was : old ≡ read_by m R = s ∙ closed_reader setting i buffer Past fed closed ∙ on_now.read i node buffer is at begun gave in
+      let long = later_long in
+      goes ∙ ap (read_by many) was ∙ sym (read_more m many R) ∙ sym (on_later.read i node buffer is at (omega (arith, begun)) gave)
+      ∙ sym (closed_reader setting i buffer Later (fed + many) (omega (arith, closed, long)))
+
+  -- so do a selection and a mix that give
+  pub picked_same : gives First i ≡ true → last_pick Later i ≡ last_pick Past i
+  picked_same gave = on_later.picked i gave (omega (arith, begun)) ∙ sym (on_now.picked i gave begun)
+
+  -- and the others have gone on by as many cells or items
+  pub count_later : gives First i ≡ true → count Later i ≡ count Past i + many
+  count_later gave = let a = on_later.given i gave in let b = on_now.given i gave in omega (arith, a, b)
+
+  pub position_later : gives First i ≡ true → position Later i ≡ position Past i + many
+  position_later gave = let a = on_later.passed i gave in let b = on_now.passed i gave in omega (arith, a, b)
+
+  -- the item of the last instant of the run
+  position_last : gives First i ≡ true → position (going_on setting sub clock (m + many - 1) past) i ≡ position Past i + (many - 1)
+  position_last gave =
+      let on = on_all setting sub clock past instants nodes stretch (m + many - 1) (omega (arith, within)) in
+      let a = on.passed i gave in let b = on_now.passed i gave in omega (arith, a, b, some)
+
+  position_kept : gives First i ≡ false → is_some (offer First i) ≡ true → position (going_on setting sub clock (m + many - 1) past) i ≡ position past i
+  position_kept not there = (on_all setting sub clock past instants nodes stretch (m + many - 1) (omega (arith, within))).held i not there
+
+  position_first : gives First i ≡ false → is_some (offer First i) ≡ true → position (going_on setting sub clock (m - 1) past) i ≡ position past i
+  position_first not there = (on_all setting sub clock past instants nodes stretch (m - 1) (omega (arith, within))).held i not there
+
+  -- how many instants of the sub-clock the crossfade has asked for, by its last instant
+  ran_at : (n overlap : ℕ) → 0 < n → ran_by sub i overlap (going_on setting sub clock n past) ≡ run_of overlap (sub i) (position (going_on setting sub clock (n - 1) past) i)
+  ran_at zero overlap more = absurd (omega (arith, more))
+  ran_at (suc n) overlap more = let e : suc n - 1 ≡ n = omega arith in ap (λ k. run_of overlap (sub i) (position (going_on setting sub clock k past) i)) (sym e)
+
+  -- a crossfade that does not give asks for no more
+  pub needed_kept : (overlap : ℕ) → work_at setting i node ≡ Fades overlap → gives First i ≡ false → ran_by sub i overlap Later ≡ ran_by sub i overlap Past
+  needed_kept overlap at not =
+      let there = stretch.items i node overlap 1 is at (omega arith) (omega (arith, begun, within, some)) in
+      ran_at (m + many) overlap (omega (arith, begun)) ∙ ap (run_of overlap (sub i)) (position_kept not there ∙ sym (position_first not there)) ∙ sym (ran_at m overlap begun)
+
+  module _ (fed overlap : ℕ) (state : Crossing) (long : AreLong sub) (stands : CrossStands (sub i) fed (position Past i) overlap state) where
+    -- where items are ready, it asks for no more
+    pub needed_ready : gives First i ≡ true → position Past i + many ≤ length (cross overlap (sub i fed)) → ran_by sub i overlap Later ≡ fed
+    needed_ready gave ready =
+        ran_at (m + many) overlap (omega (arith, begun)) ∙ ap (run_of overlap (sub i)) (position_last gave)
+        ∙ run_of-is overlap (sub i) (position Past i + (many - 1)) fed (long.each i) (omega (arith, ready, some))
+        (λ k less. let l = stands.least k less in omega (arith, l))
+
+    -- where cells pass, for as many more
+    pub needed_through : gives First i ≡ true → AreFed setting sub i fed many → IsCrossing state → passes state ≡ true → AllInner state.cells → ran_by sub i overlap Later ≡ fed + many
+    needed_through gave are is_crossing through plain =
+        let e : suc (many - 1) ≡ many = omega (arith, some) in
+        ran_at (m + many) overlap (omega (arith, begun)) ∙ ap (run_of overlap (sub i)) (position_last gave)
+        ∙ ap (λ most. run_of most (sub i) (position Past i + (many - 1))) (sym stands.overlap_is)
+        ∙ run_more setting sub i fed many (position Past i) state (long.each i) are is_crossing stands.stands (passing state through) plain
+        (λ k less. subst (λ most. length (cross most (sub i k)) ≤ position Past i) (sym stands.overlap_is) (stands.least k less)) (many - 1) (omega (arith, some))
+        ∙ ap (λ n. fed + n) e
+
+    -- and the state behind `pass`
+    pub passed_stands : (new : Crossing) (cells : List Cell) → gives First i ≡ true → new.overlap ≡ state.overlap → length cells ≡ many
+        → ((k : ℕ) → k ≤ many → sub i (fed + k) ≡ sub i fed ++ map Some (take k cells))
+        → ((slots : List Slot) (p : ℕ) → StandsFor state slots p → StandsFor new (slots ++ map Some cells) (p + many))
+        → ((slots : List Slot) (p k : ℕ) → StandsFor state slots p → k ≤ many → length (cross state.overlap (slots ++ map Some (take k cells))) ≡ p + k)
+        → CrossStands (sub i) (fed + many) (position Later i) overlap new
+    passed_stands new cells gave same many_cells fed_cells goes least = record {
+      overlap_is = same ∙ stands.overlap_is;
+      stands = subst (λ p. StandsFor new (sub i (fed + many)) p) (sym (position_later gave))
+          (subst (λ slots. StandsFor new slots (position Past i + many))
+          (sym (fed_cells many (omega arith) ∙ ap (λ l. sub i fed ++ map Some l) (take_all many cells (omega (arith, many_cells)))))
+          (goes (sub i fed) (position Past i) stands.stands));
+      least = λ k less. elim (cases_lt k fed) [
+        | inl low ↦ (let l = stands.least k low in let p = position_later gave in omega (arith, l, p))
+        | inr high ↦ (let e : fed + (k - fed) ≡ k = omega (arith, high) in
+            let few : k - fed ≤ many = omega (arith, high, less) in
+            let count : length (cross overlap (sub i k)) ≡ position Past i + (k - fed) =
+            ap (λ n. length (cross overlap (sub i n))) (sym e) ∙ ap (λ slots. length (cross overlap slots)) (fed_cells (k - fed) few)
+            ∙ ap (λ most. length (cross most (sub i fed ++ map Some (take (k - fed) cells)))) (sym stands.overlap_is)
+            ∙ least (sub i fed) (position Past i) (k - fed) stands.stands few in
+            let p = position_later gave in omega (arith, count, p, few))
+      ];
+    }

@@ -1,0 +1,179 @@
+-- A leaf goes on with its track until that ends.
+use Rattle.std.proofs.Common.{◌≡◌, ◌<◌, ◌≤◌, ◌+◌, ◌-◌, ◌%◌, ◌∙◌, ◌&&◌, ℕ, zero, suc, Bool, true, false, not, min, Some, None, Option, IsSome, List, length, get_or, take, nat_eq, nat_lt, if◌then◌else◌, cond, arith, refl, sym, ap, subst}
+use Rattle.std.specs.Prelude.{is_some}
+use Rattle.std.proofs.lemmas.Bool.{false≢true}
+use Rattle.std.proofs.lemmas.Bool.Decides.{nat_tests}
+use Rattle.std.proofs.Math.Nat.{mod-eq_of_lt, mod_self}
+use Rattle.std.proofs.lemmas.Nat.{mod_below}
+use Rattle.liq_base.specs.declared.memory.Kind.{Kind}
+use Rattle.frame_core.specs.declared.cell.Cell.{Cell}
+use Rattle.frame_core.specs.Slots.{Slot}
+use Rattle.frame_core.specs.Sounds.{Sound, cell_of, length_of}
+use Rattle.frame_core.specs.Library.{IsLibrary, Sounds, no_sound, sound_at, tracks_of}
+use Rattle.op_leaf.specs.declared.blank.Blank.{Blank}
+use Rattle.op_leaf.specs.declared.files.Files.{Files}
+use Rattle.op_leaf.specs.Inner.{inner_from, is_inner, stretch_from}
+use Rattle.op_leaf.specs.Leaves.{blank_cell, files_slot, place_in_round, sounds_of, square_cell, total_of}
+use Rattle.op_leaf.specs.Standing.{BlankStandsAt, FilesArePlacedIn, FilesStandAt}
+use Rattle.op_leaf.proofs.Cursors.{files-here, files-over, later-here, later-next, length-sounds, some_samples, sounds-at}
+use Rattle.op_leaf.proofs.Positions.{joined-within}
+use Rattle.op_leaf.proofs.Turns.{mod-step, mod-round}
+
+inner_is : (slots : ℕ → Slot) (n position most : ℕ) → n ≤ most → ((i : ℕ) → i < n → is_inner (slots (position + i)) ≡ true)
+    → (n < most → is_inner (slots (position + n)) ≡ false) → inner_from slots position most ≡ n
+inner_is slots zero position zero few inner ends = refl
+inner_is slots zero position (suc most) few inner ends =
+    let e : position + 0 ≡ position = omega arith in
+    let no : is_inner (slots position) ≡ false = sym (ap (λ n. is_inner (slots n)) e) ∙ ends (omega arith) in
+    rw no refl
+inner_is slots (suc n) position zero few inner ends = absurd (omega (arith, few))
+inner_is slots (suc n) position (suc most) few inner ends =
+    let e : position + 0 ≡ position = omega arith in
+    let yes : is_inner (slots position) ≡ true = sym (ap (λ n. is_inner (slots n)) e) ∙ inner 0 (omega arith) in
+    let rest : inner_from slots (suc position) most ≡ n =
+    inner_is slots n (suc position) most (omega (arith, few))
+    (λ i less. let f : position + suc i ≡ suc position + i = omega arith in sym (ap (λ n. is_inner (slots n)) f) ∙ inner (suc i) (omega (arith, less)))
+    (λ less. let f : position + suc n ≡ suc position + n = omega arith in sym (ap (λ n. is_inner (slots n)) f) ∙ ends (omega (arith, less))) in
+    rw (yes, rest) refl
+
+-- a stretch, by the cells in it and what follows it
+pub stretch_is : (slots : ℕ → Slot) (position most n : ℕ) → 0 < n → n ≤ most → ((i : ℕ) → 0 < i → i < n → is_inner (slots (position + i)) ≡ true)
+    → (n < most → is_inner (slots (position + n)) ≡ false) → n ≡ stretch_from slots position most
+stretch_is slots position zero n some few inner ends = absurd (omega (arith, some, few))
+stretch_is slots position (suc most) zero some few inner ends = absurd (omega (arith, some))
+stretch_is slots position (suc most) (suc n) some few inner ends = sym (ap suc (inner_is slots n (suc position) most (omega (arith, few))
+    (λ i less. let f : position + suc i ≡ suc position + i = omega arith in sym (ap (λ n. is_inner (slots n)) f) ∙ inner (suc i) (omega arith) (omega (arith, less)))
+    (λ less. let f : position + suc n ≡ suc position + n = omega arith in sym (ap (λ n. is_inner (slots n)) f) ∙ ends (omega (arith, less)))))
+
+-- some samples further within a file
+pub run_here : (sounds : List Sound) (again : Bool) (track at position n : ℕ) → track < length sounds → at + n < length_of (get_or sounds track no_sound)
+    → total_of (take track sounds) + at ≡ place_in_round sounds again position → total_of (take track sounds) + (at + n) ≡ place_in_round sounds again (position + n)
+run_here sounds again track at position zero there within stands =
+    let e : at + 0 ≡ at = omega arith in let f : position + 0 ≡ position = omega arith in
+    ap (λ n. total_of (take track sounds) + n) e ∙ stands ∙ sym (ap (place_in_round sounds again) f)
+run_here sounds again track at position (suc n) there within stands =
+    let e : at + suc n ≡ at + n + 1 = omega arith in let f : suc (position + n) ≡ position + suc n = omega arith in
+    ap (λ n. total_of (take track sounds) + n) e
+    ∙ later-here sounds again track (at + n) (position + n) there (omega (arith, within)) (run_here sounds again track at position n there (omega (arith, within)) stands)
+    ∙ ap (place_in_round sounds again) f
+
+pub further_is : (at n : ℕ) → 0 < n → not (nat_eq (at + n) 0) ≡ true
+further_is at n some = let e : nat_eq (at + n) 0 ≡ false = grind (arith, nat_tests, some) in ap not e
+
+-- the cells of a file behind its first one begin no track
+pub file_inner : (library : Sounds) (files : Files) (position n : ℕ) → FilesArePlacedIn library files → FilesStandAt library files position → files.track < length (tracks_of library files.node)
+    → 0 < n → files.at + n < length_of (sound_at library files.node files.track)
+    → is_inner (files_slot (sounds_of library files.node) files.again files.kind (position + n)) ≡ true
+file_inner library files position n placed stands there some within =
+    let sounds : List Sound = sounds_of library files.node in
+    let long = length-sounds library files.node in
+    let in_sounds : files.track < length sounds = omega (arith, there, long) in
+    let inside : files.at + n < length_of (get_or sounds files.track no_sound) =
+    subst (λ (sound : Sound). files.at + n < length_of sound) (sym (sounds-at library files.node files.track there)) within in
+    ap is_inner (joined-within sounds files.kind files.track (files.at + n) (place_in_round sounds files.again (position + n)) in_sounds inside
+    (sym (run_here sounds files.again files.track files.at position n in_sounds inside stands)))
+    ∙ further_is files.at n some
+
+-- behind a file another one begins, or nothing follows
+module _ (library : Sounds) (files : Files) (position n : ℕ) (is : IsLibrary library) (placed : FilesArePlacedIn library files) (stands : FilesStandAt library files position)
+    (there : files.track < length (tracks_of library files.node)) (ends : files.at + suc n ≡ length_of (sound_at library files.node files.track)) where
+  abbrev All : List Sound
+  All = sounds_of library files.node
+
+  abbrev Next : ℕ
+  Next = if files.again && nat_eq (files.track + 1) (length All) then 0 else (files.track + 1)
+
+  in_sounds : files.track < length All
+  in_sounds = let long = length-sounds library files.node in omega (arith, there, long)
+
+  at_end : files.at + n + 1 ≡ length_of (get_or All files.track no_sound)
+  at_end = subst (λ (sound : Sound). files.at + n + 1 ≡ length_of sound) (sym (sounds-at library files.node files.track there)) (omega (arith, ends))
+
+  some_there : (k : ℕ) → k < length All → 0 < length_of (get_or All k no_sound)
+  some_there k low =
+      let long = length-sounds library files.node in
+      let there_next : k < length (tracks_of library files.node) = omega (arith, low, long) in
+      subst (λ (sound : Sound). 0 < length_of sound) (sym (sounds-at library files.node k there_next)) (some_samples library files.node k is placed.there there_next)
+
+  stands_next : total_of (take Next All) + 0 ≡ place_in_round All files.again (suc (position + n))
+  stands_next = later-next All files.again files.track (files.at + n) (position + n) (length All) refl in_sounds some_there at_end
+      (run_here All files.again files.track files.at position n in_sounds (let e = at_end in omega (arith, e)) stands)
+
+  next_by : (low : Bool) → nat_lt Next (length (tracks_of library files.node)) ≡ low → is_inner (files_slot All files.again files.kind (suc (position + n))) ≡ false
+  next_by true e =
+      let long = length-sounds library files.node in
+      let low : Next < length All = (let l : Next < length (tracks_of library files.node) = grind (arith, nat_tests, e) in omega (arith, l, long)) in
+      ap is_inner (joined-within All files.kind Next 0 (place_in_round All files.again (suc (position + n))) low (some_there Next low) (sym stands_next))
+  next_by false e =
+      let high : length (tracks_of library files.node) ≤ Next = grind (arith, nat_tests, e) in
+      ap is_inner (files-over library (record files { track = Next; at = 0 }) (suc (position + n)) stands_next high)
+
+  file_over : is_inner (files_slot All files.again files.kind (position + suc n)) ≡ false
+  file_over =
+      let f : position + suc n ≡ suc (position + n) = omega arith in
+      ap (λ q. is_inner (files_slot All files.again files.kind q)) f ∙ next_by (nat_lt Next (length (tracks_of library files.node))) refl
+
+pub file_ends : (library : Sounds) (files : Files) (position n : ℕ) → IsLibrary library → FilesArePlacedIn library files → FilesStandAt library files position → files.track < length (tracks_of library files.node)
+    → 0 < n → files.at + n ≡ length_of (sound_at library files.node files.track)
+    → is_inner (files_slot (sounds_of library files.node) files.again files.kind (position + n)) ≡ false
+file_ends library files position zero is placed stands there some ends = absurd (omega (arith, some))
+file_ends library files position (suc n) is placed stands there some ends = file_over library files position n is placed stands there ends
+
+-- ---- zeros
+
+pub endless_inner : (position n : ℕ) → 0 < n → is_inner (Some (blank_cell 0 (position + n))) ≡ true
+endless_inner position n some = further_is position n some
+
+blank_place : (track at position n : ℕ) → 0 < track → at ≡ position % track → at + n < track → (position + n) % track ≡ at + n
+blank_place track at position zero some is within =
+    let e : position + 0 ≡ position = omega arith in let f : at + 0 ≡ at = omega arith in ap (λ q. q % track) e ∙ sym is ∙ sym f
+blank_place track at position (suc n) some is within =
+    let e : position + suc n ≡ suc (position + n) = omega arith in let f : at + n + 1 ≡ at + suc n = omega arith in
+    ap (λ q. q % track) e
+    ∙ mod-step (position + n) track (at + n) (sym (blank_place track at position n some is (omega (arith, within)))) (omega (arith, within)) ∙ f
+
+blank_first : (track position : ℕ) → 0 < track → is_inner (Some (blank_cell track position)) ≡ not (nat_eq (position % track) 0)
+blank_first track position some = let e : nat_eq track 0 ≡ false = grind (arith, nat_tests, some) in rw e refl
+
+blank_at : (blank : Blank) (position : ℕ) → 0 < blank.track → BlankStandsAt blank position → blank.at ≡ position % blank.track
+blank_at blank position some stands = let e : nat_eq blank.track 0 ≡ false = grind (arith, nat_tests, some) in rw e at stands
+
+pub blank_inner : (blank : Blank) (position n : ℕ) → 0 < blank.track → BlankStandsAt blank position → 0 < n → blank.at + n < blank.track → is_inner (Some (blank_cell blank.track (position + n))) ≡ true
+blank_inner blank position n track stands some within =
+    blank_first blank.track (position + n) track ∙ ap (λ q. not (nat_eq q 0)) (blank_place blank.track blank.at position n track (blank_at blank position track stands) within) ∙ further_is blank.at n some
+
+pub blank_ends : (blank : Blank) (position n : ℕ) → 0 < blank.track → BlankStandsAt blank position → 0 < n → blank.at + n ≡ blank.track → is_inner (Some (blank_cell blank.track (position + n))) ≡ false
+blank_ends blank position zero track stands some ends = absurd (omega (arith, some))
+blank_ends blank position (suc n) track stands some ends =
+    let e : position + suc n ≡ suc (position + n) = omega arith in
+    blank_first blank.track (position + suc n) track
+    ∙ ap (λ q. not (nat_eq (q % blank.track) 0)) e
+    ∙ ap (λ q. not (nat_eq q 0)) (mod-round (position + n) blank.track (blank.at + n) (sym (blank_place blank.track blank.at position n track (blank_at blank position track stands) (omega (arith, ends)))) (omega (arith, ends)))
+
+pub below_track : (blank : Blank) (position : ℕ) → 0 < blank.track → BlankStandsAt blank position → blank.at < blank.track
+below_track blank position some stands = let low = mod_below position blank.track some in let is = blank_at blank position some stands in omega (arith, low, is)
+
+-- ---- the cells of a stretch
+
+inner_by : (slots : ℕ → Slot) (position most : ℕ) → ((j : ℕ) → j < inner_from slots (suc position) most → is_inner (slots (suc position + j)) ≡ true)
+    → (now : Bool) → is_inner (slots position) ≡ now → (j : ℕ) → j < cond now (suc (inner_from slots (suc position) most)) zero → is_inner (slots (position + j)) ≡ true
+inner_by slots position most more false e j low = absurd (omega (arith, low))
+inner_by slots position most more true e zero low = let f : position + 0 ≡ position = omega arith in ap (λ n. is_inner (slots n)) f ∙ e
+inner_by slots position most more true e (suc j) low =
+    let f : position + suc j ≡ suc position + j = omega arith in
+    ap (λ n. is_inner (slots n)) f ∙ more j (omega (arith, low))
+
+inner_of : (slots : ℕ → Slot) (position most j : ℕ) → j < inner_from slots position most → is_inner (slots (position + j)) ≡ true
+inner_of slots position zero j low = absurd (omega (arith, low))
+inner_of slots position (suc most) j low = inner_by slots position most (λ j low. inner_of slots (suc position) most j low) (is_inner (slots position)) refl j low
+
+pub stretch_inner : (slots : ℕ → Slot) (position most j : ℕ) → is_inner (slots position) ≡ true → j < stretch_from slots position most → is_inner (slots (position + j)) ≡ true
+stretch_inner slots position zero j here low = absurd (omega (arith, low))
+stretch_inner slots position (suc most) zero here low = let f : position + 0 ≡ position = omega arith in ap (λ n. is_inner (slots n)) f ∙ here
+stretch_inner slots position (suc most) (suc j) here low =
+    let f : position + suc j ≡ suc position + j = omega arith in
+    ap (λ n. is_inner (slots n)) f ∙ inner_of slots (suc position) most j (omega (arith, low))
+
+pub inner_some : (slot : Slot) → is_inner slot ≡ true → IsSome slot
+inner_some None e = absurd (false≢true e)
+inner_some (Some cell) e = refl

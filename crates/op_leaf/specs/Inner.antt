@@ -1,0 +1,41 @@
+-- How long a leaf goes on with its track.
+use Rattle.std.specs.Prelude.{◌<◌, ◌≤◌, ◌+◌, Bool, ℕ, ℤ, pos, Some, None, List, length, map, zero, suc, is_some, not, ◌&&◌, if◌then◌else◌}
+use Rattle.std.specs.List.{range_with_len}
+use Rattle.frame_core.specs.Library.{Sounds, sound_at, tracks_of}
+use Rattle.frame_core.specs.Slots.{Slot, is_first}
+use Rattle.frame_core.specs.Sounds.{length_of}
+use Rattle.op_leaf.specs.declared.files.Files.{Files}
+
+-- a cell that begins no track
+abbrev pub is_inner : Slot → Bool
+is_inner slot = is_some slot && not (is_first slot)
+
+-- how many positions, from this one on and at most so many, have cells that begin no track
+abbrev pub inner_from : (slots : ℕ → Slot) → (position most : ℕ) → ℕ
+inner_from slots position zero = zero
+inner_from slots position (suc most) = if is_inner (slots position) then suc (inner_from slots (suc position) most) else zero
+
+-- how many positions, from this one on and at most so many, are of one track, where this one has a cell
+abbrev pub stretch_from : (slots : ℕ → Slot) → (position most : ℕ) → ℕ
+stretch_from slots position zero = zero
+stretch_from slots position (suc most) = suc (inner_from slots (suc position) most)
+
+abbrev pub slot_left : Slot → ℤ
+slot_left None = pos 0
+slot_left (Some cell) = cell.left
+
+abbrev pub slot_right : Slot → ℤ
+slot_right None = pos 0
+slot_right (Some cell) = cell.right
+
+-- the samples of so many slots from a position on
+abbrev pub lefts_of : (slots : ℕ → Slot) → (position count : ℕ) → List ℤ
+lefts_of slots position count = map (λ q. slot_left (slots q)) (range_with_len position count)
+
+abbrev pub rights_of : (slots : ℕ → Slot) → (position count : ℕ) → List ℤ
+rights_of slots position count = map (λ q. slot_right (slots q)) (range_with_len position count)
+
+-- so many cells from the cursor on lie in its file
+pub record LieInFile (library : Sounds) (files : Files) (count : ℕ) : Type 0 where
+  pub there : files.track < length (tracks_of library files.node)
+  pub within : files.at + count ≤ length_of (sound_at library files.node files.track)

@@ -1,0 +1,85 @@
+-- The answers of one engine, and those of all.
+use Rattle.std.proofs.Common.{◌≡◌, ◌∙◌, ◌++◌, ◌/◌, ◌%◌, ℕ, suc, Bool, true, false, cond, List, [], ◌∷◌, nat_eq, append-nil, append_assoc, arith, refl, ap, sym, ◌⊎◌, inl, inr}
+use mathlib.Core.Path.{fun_ext}
+use Rattle.std.proofs.lemmas.Bool.Decides.{nat_tests}
+use Rattle.clock_infer.specs.declared.clock_map.NodeClock.{NodeClock}
+use Rattle.frame_core.specs.Calls.{Call}
+use Rattle.op_leaf.specs.Readers.{Answer}
+use Rattle.stream_meaning.specs.Instants.{Setting}
+use Rattle.stream_meaning.specs.Calls.{IsUnread, answers_in, calls_of_tick}
+use Rattle.stream_meaning.proofs.Answering.{answers_in-append, joined_same}
+use Rattle.node_states.specs.Ticks.{with_rest}
+use Rattle.rounds_run.specs.Rounds.{AreTurns, calls_of_turns, world}
+
+-- an engine has its own answers, or does not read the buffer
+abbrev pub Owns : Setting → NodeClock → List Call → (ℕ → List Answer) → Type 0
+Owns setting clock calls answers = (buffer : ℕ) → (answers buffer ≡ answers_in buffer calls) ⊎ IsUnread setting clock buffer
+
+abbrev rest_by : {U : Type 0} (a c r : List Answer) → ((a ≡ c) ⊎ U) → List Answer
+rest_by a c r (inl same) = r
+rest_by a c r (inr unread) = c ++ r
+
+rest_is : {U : Type 0} (a c r : List Answer) (own : (a ≡ c) ⊎ U) → (U → a ≡ []) → a ++ rest_by a c r own ≡ c ++ r
+rest_is a c r (inl same) none = ap (λ (xs : List Answer). xs ++ r) same
+rest_is a c r (inr unread) none = ap (λ (xs : List Answer). xs ++ (c ++ r)) (none unread)
+
+-- what is to follow an engine's own answers
+abbrev pub meets : (setting : Setting) (clock : NodeClock) (calls : List Call) (answers : ℕ → List Answer) → Owns setting clock calls answers → (rest : ℕ → List Answer) → ℕ → List Answer
+meets setting clock calls answers own rest buffer = rest_by (answers buffer) (answers_in buffer calls) (rest buffer) (own buffer)
+
+pub meets_is : (setting : Setting) (clock : NodeClock) (calls : List Call) (answers : ℕ → List Answer) (own : Owns setting clock calls answers) (rest : ℕ → List Answer)
+    → ((buffer : ℕ) → IsUnread setting clock buffer → answers buffer ≡ []) → with_rest setting answers (meets setting clock calls answers own rest) ≡ world setting calls rest
+meets_is setting clock calls answers own rest none =
+    ap (λ (f : ℕ → List Answer). record { plan = setting.plan; library = setting.library; clocks = setting.clocks; start = setting.start; answers = f })
+    (fun_ext (λ buffer. rest_is (answers buffer) (answers_in buffer calls) (rest buffer) (own buffer) (none buffer)))
+
+pub own_this : (setting : Setting) (clock : NodeClock) (calls more : List Call) (buffer : ℕ) (answers : List Answer) → (answers ≡ answers_in buffer calls) ⊎ IsUnread setting clock buffer
+    → (answers ++ answers_in buffer more ≡ answers_in buffer (calls ++ more)) ⊎ IsUnread setting clock buffer
+own_this setting clock calls more buffer answers (inl same) = inl (ap (λ (xs : List Answer). xs ++ answers_in buffer more) same ∙ sym (answers_in-append buffer calls more))
+own_this setting clock calls more buffer answers (inr unread) = inr unread
+
+pub own_other : (setting : Setting) (clock : NodeClock) (calls more : List Call) (buffer : ℕ) (answers : List Answer) → (answers ≡ answers_in buffer calls) ⊎ IsUnread setting clock buffer
+    → (answers_in buffer more ≡ []) ⊎ IsUnread setting clock buffer → (answers ≡ answers_in buffer (calls ++ more)) ⊎ IsUnread setting clock buffer
+own_other setting clock calls more buffer answers (inl same) (inl none) =
+    inl (same ∙ sym (answers_in-append buffer calls more ∙ ap (λ (xs : List Answer). answers_in buffer calls ++ xs) none ∙ append-nil (answers_in buffer calls)))
+own_other setting clock calls more buffer answers (inl same) (inr unread) = inr unread
+own_other setting clock calls more buffer answers (inr unread) apart = inr unread
+
+-- calls that begin quiet ones are quiet
+front_nil : (xs ys : List Answer) → xs ++ ys ≡ [] → xs ≡ []
+front_nil [] ys is = refl
+front_nil (x ∷ xs) ys is = absurd cc
+
+pub none_begun : (buffer : ℕ) (made rest : List Call) → answers_in buffer (made ++ rest) ≡ [] → answers_in buffer made ≡ []
+none_begun buffer made rest none = front_nil (answers_in buffer made) (answers_in buffer rest) (sym (answers_in-append buffer made rest) ∙ none)
+
+world_more : (setting : Setting) (calls more : List Call) (rest : ℕ → List Answer) → world setting calls (λ buffer. answers_in buffer more ++ rest buffer) ≡ world setting (calls ++ more) rest
+world_more setting calls more rest =
+    ap (λ (f : ℕ → List Answer). record { plan = setting.plan; library = setting.library; clocks = setting.clocks; start = setting.start; answers = f })
+    (fun_ext (λ buffer. sym (append_assoc (answers_in buffer calls) (answers_in buffer more) (rest buffer)) ∙ ap (λ (xs : List Answer). xs ++ rest buffer) (sym (answers_in-append buffer calls more))))
+
+-- one turn more
+abbrev with_turn : (ℕ → ℕ → Bool) → ℕ → (ℕ → Bool) → ℕ → ℕ → Bool
+with_turn accepted turns new j buffer = cond (nat_eq j turns) (new buffer) (accepted j buffer)
+
+pub turned_more : (setting : Setting) (clocks turns : ℕ) (calls more : List Call) (clock : NodeClock) (answers : ℕ → List Answer) → Owns setting clock (calls ++ more) answers
+    → ((buffer : ℕ) → IsUnread setting clock buffer → answers buffer ≡ []) → (accepted : ℕ → Bool)
+    → ((rest : ℕ → List Answer) → more ≡ calls_of_tick (with_rest setting answers rest) accepted (turns % clocks) (turns / clocks))
+    → AreTurns setting clocks turns calls → AreTurns setting clocks (suc turns) (calls ++ more)
+turned_more setting clocks turns calls more clock answers own none accepted is before = record {
+  accepted = with_turn before.accepted turns accepted;
+  are = λ rest.
+      let W = world setting (calls ++ more) rest in
+      let old : calls ≡ calls_of_turns W before.accepted clocks turns =
+      before.are (λ buffer. answers_in buffer more ++ rest buffer) ∙ ap (λ V. calls_of_turns V before.accepted clocks turns) (world_more setting calls more rest) in
+      let same : calls_of_turns W before.accepted clocks turns ≡ calls_of_turns W (with_turn before.accepted turns accepted) clocks turns =
+      joined_same (λ j. calls_of_tick W (before.accepted j) (j % clocks) (j / clocks)) (λ j. calls_of_tick W (with_turn before.accepted turns accepted j) (j % clocks) (j / clocks)) turns
+      (λ j low. ap (λ f. calls_of_tick W f (j % clocks) (j / clocks)) (fun_ext (λ buffer.
+      let differs : nat_eq j turns ≡ false = grind (arith, nat_tests) in sym (ap (λ (b : Bool). cond b (accepted buffer) (before.accepted j buffer)) differs)))) in
+      let new : more ≡ calls_of_tick W (with_turn before.accepted turns accepted turns) (turns % clocks) (turns / clocks) =
+      is (meets setting clock (calls ++ more) answers own rest)
+      ∙ ap (λ V. calls_of_tick V accepted (turns % clocks) (turns / clocks)) (meets_is setting clock (calls ++ more) answers own rest none)
+      ∙ ap (λ f. calls_of_tick W f (turns % clocks) (turns / clocks)) (fun_ext (λ buffer.
+      let one : nat_eq turns turns ≡ true = grind (arith, nat_tests) in sym (ap (λ (b : Bool). cond b (accepted buffer) (before.accepted turns buffer)) one))) in
+      ap (λ (cs : List Call). cs ++ more) (old ∙ same) ∙ ap (λ (cs : List Call). calls_of_turns W (with_turn before.accepted turns accepted) clocks turns ++ cs) new;
+}

@@ -1,0 +1,95 @@
+// A run over buffers that are lists.
+ghost use Rattle.std.specs.Prelude.{◌≡◌, ◌<◌, ◌≤◌, map, length, IfOk, OnErr};
+ghost use Rattle.buffer_ends.specs.Local.{all_answers, closed, closed_windows, counts_of};
+ghost use Rattle.buffer_ends.specs.declared.run_end.End.TheVariants.{Done, Memory as NoMemory};
+ghost use Rattle.rounds_run.specs.Rounds.{AreAlike, IsWriteEnd};
+ghost use Rattle.rounds_run.specs.Runs.{AreOver, HasRunAll, HasRunSome};
+
+use crate::rounds::make_rounds;
+use buffer_ends::{Counts, End, LocalTaps, RunEnd};
+use clock_engine::ClockEngine;
+use liq_base::{Memory, Sink};
+use plan_core::Plan;
+use std::alloc::Global;
+
+/// Renders so many ticks, at most 1000000000, of each clock, on one thread: tick r of clock 0, of clock 1 and so on, then
+/// tick r + 1. The engines stand in clock order, made no tick, and are over this plan. Buffers are lists. The first fault
+/// ends the run.
+pub fn run_rounds<O: Sink>(
+    alloc: Global,
+    plan: &Plan,
+    engines: &mut [ClockEngine<'_, O>],
+    ticks: u64,
+) -> RunEnd
+    requires engines { AreAlike O.room ticks engines.old }
+    requires plan { AreOver plan.now engines.old }
+    requires few { ticks ≤ 1000000000 }
+    ensures done { result.end ≡ Done → HasRunAll O.held O.name O.room O.faults plan.now ticks engines.old engines.new result.counts.items result.logs.items }
+    ensures stopped { (result.end ≡ Done → ⊥) → HasRunSome O.held O.name O.faults ticks engines.old engines.new }
+    ensures memory { result.end ≡ NoMemory → 0 < length plan.now.buffers }
+    ensures write { (result.end ≡ Done → ⊥) → (result.end ≡ NoMemory → ⊥) → IsWriteEnd O.faults engines.old engines.new result.end }
+{
+    let Ok(mut taps) = LocalTaps::new(alloc, plan) else {
+        return ended(alloc, End::Memory);
+    };
+    match make_rounds(alloc, engines, &mut taps, ticks) {
+        Ok(()) => told_or_ended(alloc, taps, plan.buffers.len()),
+        Err(end) => ended(alloc, end),
+    }
+}
+
+// The answers of a whole run, or want of memory.
+fn told_or_ended(alloc: Global, taps: LocalTaps, buffers: usize) -> RunEnd
+    requires { buffers ≡ length taps }
+    ensures counts { result.end ≡ Done → result.counts.items ≡ map (λ list. counts_of (all_answers list)) taps }
+    ensures logs { result.end ≡ Done → result.logs.items ≡ map closed_windows (map closed taps) }
+    ensures ended { (result.end ≡ Done → ⊥) → result.end ≡ NoMemory }
+    ensures memory { result.end ≡ NoMemory → 0 < length taps }
+{
+    match told(alloc, taps, buffers) {
+        Ok(run) => run,
+        Err(_) => ended(alloc, End::Memory),
+    }
+}
+
+// The answers of a whole run.
+fn told(alloc: Global, mut taps: LocalTaps, buffers: usize) -> Result<RunEnd, Memory>
+    requires { buffers ≡ length taps }
+    ensures counts { IfOk result (λ run. run.counts.items ≡ map (λ list. counts_of (all_answers list)) taps) }
+    ensures logs { IfOk result (λ run. run.logs.items ≡ map closed_windows (map closed taps)) }
+    ensures end { IfOk result (λ run. run.end ≡ Done) }
+    ensures memory { OnErr result (0 < length taps) }
+{
+    let counts = count_all(alloc, &taps, buffers)?;
+    taps.end_window(alloc)?;
+    Ok(RunEnd {
+        counts,
+        logs: taps.into_logs(),
+        end: End::Done,
+    })
+}
+
+// The counts of each buffer.
+fn count_all(alloc: Global, taps: &LocalTaps, buffers: usize) -> Result<Vec<Counts>, Memory>
+    requires { buffers ≡ length taps.now }
+    ensures counts { IfOk result (λ counts. counts.items ≡ map (λ list. counts_of (all_answers list)) taps.now) }
+    ensures memory { OnErr result (0 < buffers) }
+{
+    let mut counts = Vec::with_capacity(alloc, buffers)?;
+    for buffer in 0..buffers {
+        let number = u32::try_from(buffer).map_err(|_| Memory)?;
+        counts.push(taps.counts(number))?;
+    }
+    Ok(counts)
+}
+
+// The answer of a run that did not come to its end.
+fn ended(alloc: Global, end: End) -> RunEnd
+    ensures { result.end ≡ end }
+{
+    RunEnd {
+        counts: Vec::new(alloc),
+        logs: Vec::new(alloc),
+        end,
+    }
+}
