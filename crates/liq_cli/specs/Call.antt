@@ -5,8 +5,10 @@ use Rattle.liq_base.specs.Counts.{Rose}
 use Rattle.liq_base.specs.Pieces.{IsPrefix, grown}
 use Rattle.liq_base.specs.Files.{Files}
 use Rattle.fallible_infer.specs.Infallible.{IsMarking}
-use Rattle.stations.specs.Outputs.{with_outputs, HoldsSome}
-use Rattle.stations.specs.Stations.{Station, Run, IsLawful, IsBegun}
+use Rattle.run_records.specs.Records.{Run}
+use Rattle.stations.specs.Outputs.{with_outputs}
+use Rattle.stations.specs.Renderings.{WrotePart}
+use Rattle.stations.specs.Stations.{Station, IsLawful}
 use Rattle.stations.specs.Streams.{outputs_of, HasNoGaps}
 use Rattle.stations.specs.Reports.{report_of, check_report_of}
 use Rattle.refusal_lines.specs.Lines.{line_of}
@@ -47,14 +49,7 @@ pub record Told (station : Station) (files : Files) (after : Option Files) (repo
   pub kept : after ≡ Some files
   pub mark : ℕ → Bool
   pub marking : IsMarking station.plan.nodes mark
-  pub report_is : report ≡ check_report_of station.plan station.clocks mark
-
--- A run was broken off: each output holds a prefix of its bytes, or what it held. That a name keeps what it held only
--- where its own creation or closing failed is not said here, where one count stands for all outputs.
-pub record WrotePart (station : Station) (cause : Type 0) (files : Files) (after : Option Files) : Type 0 where
-  pub run : Run
-  pub begun : IsBegun station run
-  pub parts : IsSomeAnd after (HoldsSome cause files (outputs_of station run))
+  pub report_is : report ≡ check_report_of station mark
 
 abbrev pub Rendered : Answer → Files → Option Files → List ℕ → Type 0
 Rendered (Accepted station) files after report = Wrote station files after report

@@ -8,7 +8,6 @@ use Rattle.liq_base.specs.declared.memory.Kind.TheVariants.{Stereo}
 use Rattle.frame_core.specs.Library.{Sounds, IsLibrary}
 use Rattle.plan_core.specs.declared.plan.Plan.{Plan}
 use Rattle.plan_core.specs.declared.node.Node.{Node}
-use Rattle.plan_core.specs.declared.node.Op.TheVariants.{Buffer}
 use Rattle.plan_core.specs.declared.sink.SinkPlan.{SinkPlan}
 use Rattle.plan_core.specs.declared.sink.SinkPlan.TheVariants.{Output, Feed}
 use Rattle.plan_core.specs.Plans.{IsWellFormed, sink_node}
@@ -22,17 +21,8 @@ use Rattle.track_library.specs.declared.rules.Rules.{Rules}
 use Rattle.track_library.specs.declared.fault.LoadFault.{LoadFault}
 use Rattle.track_library.specs.declared.fault.LoadFault.TheVariants.{Missing, BadAudio, OtherRate, FileTooLarge, AllTooLarge, ReadFault, Memory}
 use Rattle.track_library.specs.Walk.{load_of}
-use Rattle.stations.specs.Stations.{HasNoReader}
 use Rattle.stations.specs.declared.fault.StationFault.{StationFault}
-use Rattle.stations.specs.declared.fault.StationFault.TheVariants.{OtherForm, Files as Unloaded, FallibleOutput, Clocks, OutputTooLong}
-
--- a node reads a buffer
-pub record HasReader (plan : Plan) : Type 0 where
-  pub number : ℕ
-  pub node : Node
-  pub buffer : ℕ
-  pub there : slice_get plan.nodes number ≡ Some node
-  pub reads : node.op ≡ Buffer buffer
+use Rattle.stations.specs.declared.fault.StationFault.TheVariants.{Files as Unloaded, FallibleOutput, Clocks, OutputTooLong}
 
 -- what may be loaded: files at the rate of the plan, each of at most 2^28 bytes and all of at most 2^32
 abbrev pub rules_of : Plan → Rules
@@ -56,10 +46,9 @@ abbrev pub is_too_long : Plan → (ticks : ℕ) → SinkPlan → Bool
 is_too_long plan ticks (Output name node fallible) = is_none (header_of (kind_at plan node) plan.rate (ticks * plan.frame))
 is_too_long plan ticks (Feed buffer node) = false
 
--- no node reads a buffer, and these are the audio files of the plan
-pub record IsLoaded (files : Files) (plan : Plan) (library : Sounds) : Type 0 where
-  pub readers : HasNoReader plan
-  pub loaded : load_of (rules_of plan) files plan.nodes ≡ Ok library
+-- these are the audio files of the plan
+abbrev pub IsLoaded : Files → Plan → (library : Sounds) → Type 0
+IsLoaded files plan library = load_of (rules_of plan) files plan.nodes ≡ Ok library
 
 -- beside that, each output has a node that is infallible, or is written with `fallible=true`
 pub record IsSafe (files : Files) (plan : Plan) (library : Sounds) : Type 0 where
@@ -80,9 +69,8 @@ pub record IsAccepted (files : Files) (plan : Plan) (ticks : ℕ) (library : Sou
   pub none : first_name (is_too_long plan ticks) plan.sinks ≡ None
 
 -- the audio files are not loaded, for this fault
-pub record IsUnloaded (files : Files) (plan : Plan) (fault : LoadFault) : Type 0 where
-  pub readers : HasNoReader plan
-  pub fails : load_of (rules_of plan) files plan.nodes ≡ Err fault
+abbrev pub IsUnloaded : Files → Plan → LoadFault → Type 0
+IsUnloaded files plan fault = load_of (rules_of plan) files plan.nodes ≡ Err fault
 
 -- the output of this name is the first that needs an infallible node and has none
 pub record IsUnsafe (files : Files) (plan : Plan) (name : List ℕ) : Type 0 where
@@ -117,7 +105,6 @@ IsFileFault files plan (ReadFault name) = ⊥
 IsFileFault files plan Memory = ⊥
 
 abbrev pub IsStationFault : Files → Plan → (ticks : ℕ) → StationFault → Type 0
-IsStationFault files plan ticks OtherForm = HasReader plan
 IsStationFault files plan ticks (Unloaded fault) = IsFileFault files plan fault
 IsStationFault files plan ticks (FallibleOutput name) = IsUnsafe files plan name
 IsStationFault files plan ticks (Clocks fault) = IsUnclocked files plan fault
@@ -140,7 +127,6 @@ pub record IsFound (files : Files) (plan : Plan) (ticks : ℕ) (finding : Findin
 -- what the rendering of a plan for so many ticks may rely on, whatever the files are
 pub record IsFit (plan : Plan) (library : Sounds) (clocks : ClockMap) (ticks : ℕ) : Type 0 where
   pub plan_is : IsWellFormed plan
-  pub readers : HasNoReader plan
   pub sounds : IsLibrary library
   pub leaves : length library.leaves ≡ length plan.nodes
   pub map : IsClockMap plan clocks

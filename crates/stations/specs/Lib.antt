@@ -3,3 +3,4 @@ pub mod Stations
 pub mod Streams
 pub mod Reports
 pub mod Findings
+pub mod Renderings

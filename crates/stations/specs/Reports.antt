@@ -1,12 +1,14 @@
 -- What a call tells of a station.
-use Rattle.std.specs.Prelude.{ℕ, ◌*◌, Bool, List, [], ◌∷◌, ◌++◌, codes, decimal, slice_index_or, if◌then◌else◌}
-use Rattle.plan_core.specs.declared.plan.Plan.{Plan}
+use Rattle.std.specs.Prelude.{ℕ, suc, ◌*◌, Bool, List, [], ◌∷◌, ◌++◌, codes, count_by, decimal, is_none, is_some, slice_index_or, if◌then◌else◌}
+use Rattle.plan_core.specs.declared.sink.BufferPlan.{BufferPlan}
 use Rattle.plan_core.specs.declared.sink.SinkPlan.{SinkPlan}
 use Rattle.plan_core.specs.declared.sink.SinkPlan.TheVariants.{Output, Feed}
 use Rattle.clock_infer.specs.declared.clock_map.ClockMap.{ClockMap}
 use Rattle.clock_infer.specs.declared.clock_map.NodeClock.{NodeClock}
 use Rattle.clock_infer.specs.declared.clock_map.NodeClock.TheVariants.{Main, Sub}
-use Rattle.stations.specs.Stations.{Station, Run}
+use Rattle.run_records.specs.Buffers.{feeder, reader}
+use Rattle.run_records.specs.Records.{Run, answers_of, puts_of}
+use Rattle.stations.specs.Stations.{Station, bare}
 use Rattle.stations.specs.Streams.{gaps_of}
 
 -- the line of an output that was rendered
@@ -20,9 +22,26 @@ rendered_lines station run (Output name node fallible ∷ sinks) =
     rendered_line name (station.ticks * station.plan.frame) (gaps_of station run node) ++ rendered_lines station run sinks
 rendered_lines station run (Feed buffer node ∷ sinks) = rendered_lines station run sinks
 
--- the report of a rendering
+-- the line of a buffer after a run: how many of its puts were accepted and how many found it full, how many of its takes got a
+-- chunk and how many found it empty
+abbrev pub answers_line : (buffer accepted full got empty : ℕ) → List ℕ
+answers_line buffer accepted full got empty =
+    codes "buffer " ++ decimal buffer ++ codes " accepted " ++ decimal accepted ++ codes " full " ++ decimal full
+    ++ codes " got " ++ decimal got ++ codes " empty " ++ decimal empty ++ codes "\n"
+
+abbrev pub answered_line : Run → (buffer : ℕ) → List ℕ
+answered_line run buffer = answers_line buffer
+    (count_by is_some (puts_of run buffer)) (count_by is_none (puts_of run buffer))
+    (count_by is_some (answers_of run buffer)) (count_by is_none (answers_of run buffer))
+
+-- the lines of these buffers, of which the first has this number
+abbrev pub answered_lines : Run → (buffer : ℕ) → List BufferPlan → List ℕ
+answered_lines run buffer [] = []
+answered_lines run buffer (plan ∷ plans) = answered_line run buffer ++ answered_lines run (suc buffer) plans
+
+-- the report of a rendering: its outputs, and then its buffers
 abbrev pub report_of : Station → Run → List ℕ
-report_of station run = rendered_lines station run station.plan.sinks
+report_of station run = rendered_lines station run station.plan.sinks ++ answered_lines run 0 station.plan.buffers
 
 -- the name of a main clock; a sink's node lies in one
 abbrev pub main_name : List (List ℕ) → NodeClock → List ℕ
@@ -47,6 +66,19 @@ checked_lines clocks mark (Output name node fallible ∷ sinks) =
     checked_line clocks mark name node ++ checked_lines clocks mark sinks
 checked_lines clocks mark (Feed buffer node ∷ sinks) = checked_lines clocks mark sinks
 
--- the report of a check
-abbrev pub check_report_of : Plan → ClockMap → (mark : ℕ → Bool) → List ℕ
-check_report_of plan clocks mark = checked_lines clocks mark plan.sinks
+-- the line of a buffer that was checked: the main clocks in which its feed and its reader lie, through sub-clocks, the samples that
+-- it gathers before it plays, and the chunks that it may hold
+abbrev pub buffer_line : Station → (buffer : ℕ) → BufferPlan → List ℕ
+buffer_line station buffer plan =
+    codes "buffer " ++ decimal buffer
+    ++ codes " from " ++ slice_index_or station.clocks.names (feeder (bare station) buffer) []
+    ++ codes " to " ++ slice_index_or station.clocks.names (reader (bare station) buffer) []
+    ++ codes " pre " ++ decimal plan.pre ++ codes " capacity " ++ decimal plan.capacity ++ codes "\n"
+
+abbrev pub buffer_lines : Station → (buffer : ℕ) → List BufferPlan → List ℕ
+buffer_lines station buffer [] = []
+buffer_lines station buffer (plan ∷ plans) = buffer_line station buffer plan ++ buffer_lines station (suc buffer) plans
+
+-- the report of a check: its outputs, and then its buffers
+abbrev pub check_report_of : Station → (mark : ℕ → Bool) → List ℕ
+check_report_of station mark = checked_lines station.clocks mark station.plan.sinks ++ buffer_lines station 0 station.plan.buffers

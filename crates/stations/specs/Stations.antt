@@ -1,14 +1,11 @@
 -- What an accepted script renders.
-use Rattle.std.specs.Prelude.{◌≡◌, ℕ, List, [], Option, Some, slice_get, slice_index_or}
-use Rattle.std.specs.List.{flat_map}
-use Rattle.frame_core.specs.declared.cell.Cell.{Cell}
+use Rattle.std.specs.Prelude.{ℕ, List, []}
 use Rattle.frame_core.specs.Library.{Sounds}
 use Rattle.plan_core.specs.declared.plan.Plan.{Plan}
-use Rattle.plan_core.specs.declared.node.Node.{Node}
-use Rattle.plan_core.specs.Plans.{IsNoReader}
 use Rattle.clock_infer.specs.declared.clock_map.ClockMap.{ClockMap}
 use Rattle.stream_meaning.specs.Instants.{Setting}
 use Rattle.op_leaf.specs.Readers.{Answer}
+use Rattle.run_records.specs.Records.{AreRoundsBegun, IsRounds, Run, setting_in, setting_then}
 use Rattle.stations.specs.declared.ready.Ready.{Ready}
 
 -- a plan with its audio files and its clocks, the second of the week at which it begins, and how many ticks are rendered;
@@ -20,43 +17,29 @@ pub record Station : Type 0 where
   pub start : ℕ
   pub ticks : ℕ
 
--- One window of a buffer: its puts, each the chunk or nothing where the buffer was full, and its takes, each a chunk or
--- nothing where it was empty.
-abbrev pub Window : Type 0
-Window = List (Option (List Cell)) × List (Option (List Cell))
-
--- What the buffers of a station answered in a run, which no station determines: for each buffer its windows, one after
--- another.
-pub record Run : Type 0 where
-  pub buffers : List (List Window)
-
--- the run is one of this station, to its end or as far as it came; such a station has no buffer
-abbrev pub IsLawful : Station → Run → Type 0
-IsLawful station run = run.buffers ≡ []
-
-abbrev pub IsBegun : Station → Run → Type 0
-IsBegun station run = run.buffers ≡ []
-
-abbrev pub no_buffers : Run
-no_buffers = record { buffers = [] }
-
--- what a buffer answered to its takes
-abbrev pub answers_of : Run → (buffer : ℕ) → List Answer
-answers_of run buffer = flat_map (λ window. window.1) (slice_index_or run.buffers buffer [])
-
--- what the streams of a station rest on, in a run
-abbrev pub setting_of : Station → Run → Setting
-setting_of station run = record {
+-- what the streams of a station rest on, but for the answers of its buffers
+abbrev pub bare : Station → Setting
+bare station = record {
   plan = station.plan;
   library = station.library;
   clocks = station.clocks.of;
   start = station.start;
-  answers = answers_of run;
+  answers = λ buffer. [];
 }
 
--- no node reads a buffer
-abbrev pub HasNoReader : Plan → Type 0
-HasNoReader plan = (i : ℕ) (node : Node) → slice_get plan.nodes i ≡ Some node → IsNoReader node.op
+-- what they rest on in a run; and in a run that was broken off, if these answers had followed
+abbrev pub setting_of : Station → Run → Setting
+setting_of station run = setting_in (bare station) run
+
+abbrev pub setting_with : Station → Run → (rest : ℕ → List Answer) → Setting
+setting_with station run rest = setting_then (bare station) run rest
+
+-- the run is one of this station on one thread: in rounds, to its end or as far as it came
+abbrev pub IsLawful : Station → Run → Type 0
+IsLawful station run = IsRounds (bare station) station.clocks.running station.ticks run
+
+abbrev pub IsBegun : Station → Run → Type 0
+IsBegun station run = AreRoundsBegun (bare station) station.clocks.running station.ticks run
 
 -- the station of a plan with these files and clocks
 abbrev pub station_of : Plan → Ready → (start ticks : ℕ) → Station

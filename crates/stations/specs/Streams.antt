@@ -7,7 +7,9 @@ use Rattle.stream_meaning.specs.Instants.{Setting}
 use Rattle.stream_meaning.specs.Sinks.{kind_of, ticks_bytes, gaps}
 use Rattle.wav_io.specs.Header.{header_bytes}
 use Rattle.stations.specs.Outputs.{OutputFile}
-use Rattle.stations.specs.Stations.{Station, Run, setting_of}
+use Rattle.op_leaf.specs.Readers.{Answer}
+use Rattle.run_records.specs.Records.{Run}
+use Rattle.stations.specs.Stations.{Station, setting_of, setting_with}
 
 -- the header of an output of a node, for so many ticks
 abbrev pub header_for : Setting → (ticks node : ℕ) → List ℕ
@@ -42,8 +44,12 @@ gaps_of station run node = gaps (setting_of station run) node station.ticks
 abbrev pub outputs_of : Station → Run → List OutputFile
 outputs_of station run = outputs_in (setting_of station run) station.ticks station.plan.sinks
 
-abbrev pub counts_of : Station → Run → List ℕ
-counts_of station run = counts_in (setting_of station run) station.ticks station.plan.sinks
+-- the files that a run which was broken off would have written, if these answers had followed
+abbrev pub outputs_with : Station → Run → (rest : ℕ → List Answer) → List OutputFile
+outputs_with station run rest = outputs_in (setting_with station run rest) station.ticks station.plan.sinks
+
+abbrev pub gaps_in_order : Station → Run → List ℕ
+gaps_in_order station run = counts_in (setting_of station run) station.ticks station.plan.sinks
 
 -- an output of an infallible node has no gap
 abbrev pub HasNoGaps : Station → Run → Type 0

@@ -7,9 +7,6 @@ use track_library::LoadFault;
 /// `docs/formats.md`.
 #[derive(Debug, Drop)]
 pub enum StationFault {
-    /// A node reads a buffer, which is not rendered yet.
-    OtherForm,
-
     /// The audio files are not loaded.
     Files(LoadFault),
 

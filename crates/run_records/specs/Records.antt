@@ -1,0 +1,115 @@
+-- The record of a run: what its buffers answered. It is lawful, or that of rounds on one thread.
+use Rattle.std.specs.Prelude.{◌≡◌, ◌<◌, ◌*◌, ℕ, zero, suc, min, Bool, true, false, Option, Some, None, List, [], ◌∷◌, ◌++◌, length, slice_get, slice_index_or, nat_eq, nat_lt, if◌then◌else◌}
+use Rattle.std.specs.List.{flat_map}
+use Rattle.std.specs.Option.{option_map_or}
+use Rattle.frame_core.specs.declared.cell.Cell.{Cell}
+use Rattle.frame_core.specs.Legal.{IsRun}
+use Rattle.frame_core.specs.Calls.{Call, takes_of, puts_to}
+use Rattle.frame_core.specs.Calls.Call.{Took, Given}
+use Rattle.op_leaf.specs.Readers.{Answer}
+use Rattle.stream_meaning.specs.Instants.{Setting, answered}
+use Rattle.stream_meaning.specs.Calls.{IsBegin, calls_of_tick, joined_upto, joined_between}
+use Rattle.run_records.specs.Buffers.{feeder, reader}
+
+-- One window of a buffer: its puts, each the chunk or nothing where the buffer was full, and its takes, each a chunk or
+-- nothing where it was empty.
+abbrev pub Window : Type 0
+Window = List (Option (List Cell)) × List (Option (List Cell))
+
+-- What the buffers of a plan answered in a run, which no script determines: for each buffer its windows, one after another.
+pub record Run : Type 0 where
+  pub buffers : List (List Window)
+
+abbrev pub windows_of : Run → (buffer : ℕ) → List Window
+windows_of run buffer = slice_index_or run.buffers buffer []
+
+-- what a buffer answered to its puts, and to its takes
+abbrev pub puts_of : Run → (buffer : ℕ) → List (Option (List Cell))
+puts_of run buffer = flat_map (λ (window : Window). window.0) (windows_of run buffer)
+
+abbrev pub answers_of : Run → (buffer : ℕ) → List Answer
+answers_of run buffer = flat_map (λ (window : Window). window.1) (windows_of run buffer)
+
+-- a setting with what the takes of a run got
+abbrev pub setting_in : Setting → Run → Setting
+setting_in setting run = answered setting (answers_of run)
+
+-- and with more answers behind them
+abbrev pub setting_then : Setting → Run → (rest : ℕ → List Answer) → Setting
+setting_then setting run rest = answered setting (λ buffer. answers_of run buffer ++ rest buffer)
+
+abbrev pub capacity_of : Setting → (buffer : ℕ) → ℕ
+capacity_of setting buffer = option_map_or (λ plan. plan.capacity) (slice_get setting.plan.buffers buffer) 0
+
+-- the calls on one buffer
+abbrev pub on : (buffer : ℕ) → List Call → List Call
+on buffer [] = []
+on buffer (Took other answer ∷ calls) = if nat_eq buffer other then Took other answer ∷ on buffer calls else on buffer calls
+on buffer (Given other chunk accepted ∷ calls) = if nat_eq buffer other then Given other chunk accepted ∷ on buffer calls else on buffer calls
+
+-- These calls on a list of at most so many chunks, in this order, lead from `queue` to `rest`: a take gets the front, and nothing
+-- only where there is none; a put goes to the back, and is refused only where the list is full.
+abbrev pub Follows : (capacity : ℕ) → List (List Cell) → List Call → List (List Cell) → Type 0
+Follows capacity queue [] rest = queue ≡ rest
+Follows capacity queue (Took buffer None ∷ calls) rest = (queue ≡ []) × Follows capacity queue calls rest
+Follows capacity queue (Took buffer (Some chunk) ∷ calls) rest = (behind : List (List Cell)) × (queue ≡ chunk ∷ behind) × Follows capacity behind calls rest
+Follows capacity queue (Given buffer chunk true ∷ calls) rest = (length queue < capacity) × Follows capacity (queue ++ chunk ∷ []) calls rest
+Follows capacity queue (Given buffer chunk false ∷ calls) rest = (length queue ≡ capacity) × Follows capacity queue calls rest
+
+-- the tick with which window j begins, where windows have W ticks and the last one ends with the run, after N ticks
+abbrev pub start : (W N j : ℕ) → ℕ
+start W N j = min N (j * W)
+
+-- the calls of tick t of clock m; `accepted m t` are the answers of its puts
+abbrev pub ticks_of : Setting → (accepted : ℕ → ℕ → ℕ → Bool) → (m t : ℕ) → List Call
+ticks_of setting accepted m t = calls_of_tick setting (accepted m t) m t
+
+-- the same, where clocks 0 to `clocks - 1` run; a clock that does not run makes no call
+abbrev pub calls_in : Setting → (clocks : ℕ) → (accepted : ℕ → ℕ → ℕ → Bool) → (m t : ℕ) → List Call
+calls_in setting clocks accepted m t = if nat_lt m clocks then ticks_of setting accepted m t else []
+
+-- the first windows of a buffer: the puts of its feed's clock, and the takes of its reader's
+abbrev pub windows_in : Setting → (clocks : ℕ) → (accepted : ℕ → ℕ → ℕ → Bool) → (buffer W N count : ℕ) → List Window
+windows_in setting clocks accepted buffer W N zero = []
+windows_in setting clocks accepted buffer W N (suc j) =
+    windows_in setting clocks accepted buffer W N j
+    ++ (
+      puts_to buffer (joined_between (calls_in setting clocks accepted (feeder setting buffer)) (start W N j) (start W N (suc j))),
+      takes_of buffer (joined_between (calls_in setting clocks accepted (reader setting buffer)) (start W N j) (start W N (suc j))),
+    ) ∷ []
+
+-- A lawful record of N ticks of each running clock in windows of W ticks: each buffer's windows hold the puts and the takes of
+-- these ticks and are one history of a bounded queue; those of a buffer with both ends in one clock stand in the order in which
+-- this clock calls.
+pub record IsLawful (setting : Setting) (clocks W N : ℕ) (run : Run) : Type 0 where
+  pub buffers : length run.buffers ≡ length setting.plan.buffers
+  pub accepted : (m t buffer : ℕ) → Bool
+  pub count : ℕ
+  pub whole : start W N count ≡ N
+  pub tight : (j : ℕ) → j < count → start W N j < N
+  pub are : (buffer : ℕ) → buffer < length setting.plan.buffers → windows_of run buffer ≡ windows_in (setting_in setting run) clocks accepted buffer W N count
+  pub legal : (buffer : ℕ) → buffer < length setting.plan.buffers → (rest : List (List Cell)) × IsRun (capacity_of setting buffer) [] (windows_of run buffer) rest
+  pub in_order : (buffer : ℕ) → buffer < length setting.plan.buffers → feeder setting buffer ≡ reader setting buffer
+      → (rest : List (List Cell)) × Follows (capacity_of setting buffer) [] (on buffer (joined_upto (calls_in (setting_in setting run) clocks accepted (feeder setting buffer)) N)) rest
+
+-- the calls of N rounds: tick t of clock 0, of clock 1 and so on, and then tick t + 1
+abbrev pub rounds_of : Setting → (accepted : ℕ → ℕ → ℕ → Bool) → (clocks N : ℕ) → List Call
+rounds_of setting accepted clocks N = joined_upto (λ t. joined_upto (λ m. ticks_of setting accepted m t) clocks) N
+
+-- the record of N rounds on one thread: one window a buffer, in the order of the rounds
+pub record IsRounds (setting : Setting) (clocks N : ℕ) (run : Run) : Type 0 where
+  pub buffers : length run.buffers ≡ length setting.plan.buffers
+  pub accepted : (m t buffer : ℕ) → Bool
+  pub are : (buffer : ℕ) → buffer < length setting.plan.buffers
+      → windows_of run buffer ≡ (puts_to buffer (rounds_of (setting_in setting run) accepted clocks N), takes_of buffer (rounds_of (setting_in setting run) accepted clocks N)) ∷ []
+  pub in_order : (buffer : ℕ) → buffer < length setting.plan.buffers
+      → (rest : List (List Cell)) × Follows (capacity_of setting buffer) [] (on buffer (rounds_of (setting_in setting run) accepted clocks N)) rest
+
+-- the record of rounds that were broken off, maybe in the middle of a tick: its calls begin those of N rounds, whatever answers
+-- follow
+pub record AreRoundsBegun (setting : Setting) (clocks N : ℕ) (run : Run) : Type 0 where
+  pub buffers : length run.buffers ≡ length setting.plan.buffers
+  pub calls : List Call
+  pub begun : (rest : ℕ → List Answer) → (accepted : ℕ → ℕ → ℕ → Bool) × IsBegin calls (rounds_of (setting_then setting run rest) accepted clocks N)
+  pub are : (buffer : ℕ) → buffer < length setting.plan.buffers → windows_of run buffer ≡ (puts_to buffer calls, takes_of buffer calls) ∷ []
+  pub in_order : (buffer : ℕ) → buffer < length setting.plan.buffers → (rest : List (List Cell)) × Follows (capacity_of setting buffer) [] (on buffer calls) rest

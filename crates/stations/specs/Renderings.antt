@@ -1,0 +1,16 @@
+-- What a rendering leaves that was broken off.
+use Rattle.std.specs.Prelude.{ℕ, List, Option, IsSomeAnd}
+use Rattle.liq_base.specs.Files.{Files}
+use Rattle.op_leaf.specs.Readers.{Answer}
+use Rattle.run_records.specs.Records.{Run}
+use Rattle.stations.specs.Outputs.{HoldsSome}
+use Rattle.stations.specs.Stations.{Station, IsBegun}
+use Rattle.stations.specs.Streams.{outputs_with}
+
+-- A run was broken off: whatever answers had followed those that it got, each output holds a prefix of its bytes, or what it
+-- held. That a name keeps what it held only where its own creation or closing failed is not said here, where one count stands
+-- for all outputs.
+pub record WrotePart (station : Station) (cause : Type 0) (files : Files) (after : Option Files) : Type 0 where
+  pub run : Run
+  pub begun : IsBegun station run
+  pub parts : (rest : ℕ → List Answer) → IsSomeAnd after (HoldsSome cause files (outputs_with station run rest))
