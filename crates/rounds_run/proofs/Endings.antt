@@ -17,17 +17,16 @@ use Rattle.op_leaf.specs.Readers.{Answer}
 use Rattle.stream_meaning.specs.Instants.{Setting}
 use Rattle.stream_meaning.specs.Sinks.{ticks_bytes}
 use Rattle.stream_meaning.proofs.Answering.{begin_none}
-use Rattle.run_records.specs.Records.{Follows, Window, capacity_of, on as calls_on, setting_in, setting_then}
+use Rattle.run_records.specs.Records.{Follows, Window, capacity_of, on as calls_on, setting_in}
 use Rattle.node_states.specs.Ticks.{with_rest}
 use Rattle.clock_engine.specs.declared.engine.ClockEngine.{ClockEngine}
 use Rattle.clock_engine.specs.Engines.{setting_of}
 use Rattle.buffer_ends.specs.Ends.{LocalStands}
 use Rattle.buffer_ends.specs.Local.{Answers, Leads, LocalBuffer, all_answers, closed, closed_windows, counts_of, empty_list, held as list_held, on, planned}
 use Rattle.buffer_ends.specs.Same.{SameBuffers}
-use Rattle.buffer_ends.specs.declared.counts.Counts.{Counts}
 use Rattle.buffer_ends.specs.declared.run_end.End.{End}
 use Rattle.buffer_ends.specs.declared.run_end.End.TheVariants.{Done, Write, Memory as NoMemory}
-use Rattle.rounds_run.specs.Rounds.{AreEngines, AreTurnsBegun, HasRun, HasRunPart, HaveRun, HaveRunPart, IsWriteEnd, RoundsMade, RoundsStopped, held_of, made_by, nothing, ticks_by, world}
+use Rattle.rounds_run.specs.Rounds.{AreTurnsBegun, HasRun, HasRunPart, HaveRunPart, IsWriteEnd, RoundsMade, RoundsStopped, held_of, made_by, nothing, ticks_by, world}
 use Rattle.rounds_run.specs.Runs.{AreOver, HasRunAll, HasRunSome, HasRunTicks, counts_of_windows, log_of_window}
 use Rattle.rounds_run.proofs.Fronts.{read}
 use Rattle.rounds_run.proofs.Worlds.{meets, meets_is}

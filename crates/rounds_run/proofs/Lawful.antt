@@ -1,5 +1,5 @@
 -- What lists tell of the calls that led to them.
-use Rattle.std.proofs.Common.{◌≡◌, ◌<◌, ◌+◌, ◌∙◌, ◌++◌, ℕ, zero, suc, Bool, true, false, cond, Option, Some, None, List, [], ◌∷◌, length, get_or, map, slice_get, take, ◌==◌, append-nil, append_assoc, count_by, arith, refl, ap, sym, subst}
+use Rattle.std.proofs.Common.{◌≡◌, ◌<◌, ◌+◌, ◌∙◌, ◌++◌, ℕ, suc, Bool, true, false, cond, Option, Some, None, List, [], ◌∷◌, length, get_or, map, take, ◌==◌, append-nil, append_assoc, count_by, arith, refl, ap, sym, subst}
 use Rattle.std.specs.Prelude.{is_none, is_some, not}
 use Rattle.std.specs.List.{fold}
 use Rattle.std.proofs.lemmas.List.{map-append}
@@ -9,7 +9,6 @@ use Rattle.frame_core.specs.Calls.{Call, Took, Given, put_of, puts_to, takes_of}
 use Rattle.buffer_queue.specs.Window.{is_chunk}
 use Rattle.run_records.specs.Records.{Follows, Window, on as calls_on}
 use Rattle.buffer_ends.specs.Local.{Answers, Held, Leads, LocalBuffer, Step, all_answers, closed, closed_windows, counts_of, empty_list, held, on, yes}
-use Rattle.buffer_ends.specs.declared.counts.Counts.{Counts}
 use Rattle.rounds_run.specs.Runs.{counts_of_windows, log_of_window}
 
 -- the answers of a list, before and after calls

@@ -4,12 +4,11 @@ use mathlib.Core.Path.{fun_ext}
 use Rattle.std.proofs.lemmas.Bool.{cases_lt}
 use Rattle.std.proofs.lemmas.Bool.Decides.{nat_tests}
 use Rattle.plan_core.specs.Plans.{IsWellFormed}
-use Rattle.clock_infer.specs.declared.clock_map.NodeClock.TheVariants.{Main}
 use Rattle.frame_core.specs.declared.cell.Cell.{Cell}
-use Rattle.frame_core.specs.Calls.{Call, Took, Given, puts_to, takes_of}
+use Rattle.frame_core.specs.Calls.{Call, Took, Given, takes_of}
 use Rattle.op_leaf.specs.Readers.{Answer}
 use Rattle.stream_meaning.specs.Instants.{Setting, answered}
-use Rattle.stream_meaning.specs.Calls.{IsBegin, IsUnread, answers_in, calls_of_tick}
+use Rattle.stream_meaning.specs.Calls.{IsBegin, answers_in, calls_of_tick}
 use Rattle.stream_meaning.proofs.Answering.{begin_all}
 use Rattle.stream_meaning.proofs.Unread.{no_tick_takes, none_in_joined}
 use Rattle.engine_instants.proofs.Reading.{op_of_reads}

@@ -1,5 +1,5 @@
 -- Runs of the engines of all clocks, in rounds: each clock makes a tick, then each makes the next.
-use Rattle.std.specs.Prelude.{◌≡◌, ◌+◌, ◌*◌, ◌/◌, ◌%◌, ℕ, suc, min, Bool, Option, Some, List, [], length, nat_lt, slice_get, if◌then◌else◌, ◌⊎◌}
+use Rattle.std.specs.Prelude.{◌≡◌, ◌+◌, ◌/◌, ◌%◌, ℕ, suc, min, Bool, Option, Some, List, [], length, nat_lt, slice_get, if◌then◌else◌, ◌⊎◌}
 use Rattle.liq_base.specs.Pieces.{IsPrefix, grown}
 use Rattle.clock_infer.specs.declared.clock_map.NodeClock.TheVariants.{Main}
 use Rattle.frame_core.specs.Calls.{Adds, Call}

@@ -1,6 +1,5 @@
-use Rattle.std.proofs.Common.{◌≡◌, map, sym, subst}
+use Rattle.std.proofs.Common.{map, sym, subst}
 use Rattle.buffer_ends.specs.Local.{all_answers, counts_of}
-use Rattle.buffer_ends.specs.declared.run_end.End.TheVariants.{Memory as NoMemory}
 use Rattle.rounds_run.specs.Runs.{HasRunAll, HasRunSome}
 use Rattle.rounds_run.proofs.Endings.{all_made, all_told, none_made, one_stopped}
 use Rattle.rounds_run.proofs.run.run_rounds.Goals as goal
