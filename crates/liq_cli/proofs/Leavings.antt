@@ -10,7 +10,7 @@ use Rattle.clock_infer.specs.declared.clock_map.ClockMap.{ClockMap}
 use Rattle.fallible_infer.specs.Infallible.{IsMarking}
 use Rattle.stations.specs.Outputs.{HoldsSome, with_outputs}
 use Rattle.stations.specs.Stations.{Station, no_buffers}
-use Rattle.stations.specs.Streams.{HasNoGaps, outputs_of}
+use Rattle.stations.specs.Streams.{HasNoGaps, outputs_of, outputs_with}
 use Rattle.stations.specs.Reports.{check_report_of, report_of}
 use Rattle.station_render.specs.declared.fault.RenderFault.{RenderFault}
 use Rattle.station_render.specs.declared.fault.RenderFault.TheVariants.{Write as render_write, Memory as render_memory}
@@ -22,6 +22,7 @@ use Rattle.liq_cli.specs.Call.{Broken, Rendered, Starved}
 use Rattle.liq_cli.specs.Prepared.{EndsFor, ForOne, Found, IsOneOutcome, Lost, Stops, halt_of_render, station_for}
 use Rattle.liq_cli.proofs.Outcomes.{for_each, for_one}
 use Rattle.liq_cli.proofs.Parts.{none_created, some_later, whole_created}
+use Rattle.liq_cli.proofs.Uncalled.{uncalled, uncalled_begun}
 
 -- where nothing was created, each answer has what it may
 kept_starved : (asked : Asked) (files : Files) (answer : Answer) (cause : Type 0) (before after : Option Files) → IsAnswerTo asked files answer
@@ -30,7 +31,11 @@ kept_starved asked files Usage cause before after is told same = absurd is
 kept_starved asked files (Refused fault) cause before after is told same = same ∙ told
 kept_starved asked files (Checked station) cause before after is told same = same ∙ told
 kept_starved asked files (Accepted station) cause before after is told same =
-    record { run = no_buffers; begun = refl; parts = none_created cause (outputs_of station no_buffers) before after same files told }
+    record {
+      run = uncalled station;
+      begun = uncalled_begun station;
+      parts = λ rest. none_created cause (outputs_with station (uncalled station) rest) before after same files told;
+    }
 
 -- a job ends as the steps before the rendering do
 pub stopped_early : {T U : Type 0} (asked : Asked) (told left : Option Files) (reads_before reads_after writes_before writes_after : ℕ) (e : Halt)
@@ -88,11 +93,11 @@ of_report (Err e) s P Q is holds on = tt
 -- the report of a check
 pub checked : (file : List ℕ) (told left : Option Files) (plan : Plan) (library : Sounds) (clocks : ClockMap) (report : List ℕ)
     → ForSome told (λ files. IsOneOutcome files file 0 (Found plan library clocks)) → left ≡ told
-    → (mark : ℕ → Bool) × IsMarking plan.nodes mark × (report ≡ check_report_of plan clocks mark)
+    → (mark : ℕ → Bool) × IsMarking plan.nodes mark × ((station : Station) → station.plan ≡ plan → station.clocks ≡ clocks → report ≡ check_report_of station mark)
     → ForSome told (λ files. ForOne (Check file) files (λ a. Rendered a files left report))
 checked file told left plan library clocks report one same tells files t =
     for_one (Check file) files (Found plan library clocks) (λ a. Rendered a files left report) (one files t)
-    (record { kept = same ∙ t; mark = tells.0; marking = tells.1; report_is = tells.2 })
+    (record { kept = same ∙ t; mark = tells.0; marking = tells.1; report_is = tells.2 (station_for (Check file) plan library clocks) refl refl })
 
 module _ (file : List ℕ) (start ticks : ℕ) (told left : Option Files) (plan : Plan) (library : Sounds) (clocks : ClockMap)
     (one : ForSome told (λ files. IsOneOutcome files file ticks (Found plan library clocks))) where

@@ -10,7 +10,8 @@ use Rattle.liq_base.specs.declared.memory.Kind.TheVariants.{Mono, Stereo}
 use Rattle.frame_core.specs.Slots.{Slot}
 use Rattle.wav_io.specs.Header.{block_size, header_bytes}
 use Rattle.wav_io.proofs.Headers.{length_header}
-use Rattle.stations.specs.Stations.{Run, Station, setting_of}
+use Rattle.run_records.specs.Records.{Run}
+use Rattle.stations.specs.Stations.{Station, setting_of}
 use Rattle.stations.specs.Streams.{bytes_of, header_for}
 use Rattle.stream_meaning.specs.Instants.{Setting, stream_of}
 use Rattle.stream_meaning.specs.Sinks.{kind_of, slot_block, tick_bytes, tick_slots, ticks_bytes}
