@@ -14,9 +14,8 @@ ghost use Rattle.station_render.specs.Engines.{AreAt, AreEmptyBelow, ArePast, Is
 ghost use Rattle.station_render.specs.Renders.{AreMain, IsReady, body_size, order_of, setting_for, written};
 ghost use Rattle.station_render.specs.Runs.{RanPart, RanWhole};
 
-use crate::RenderFault;
-use crate::Rendered;
 use crate::headers::clock_of;
+use crate::{RenderFault, Rendered};
 use buffer_ends::{End, RunEnd};
 use clock_engine::ClockEngine;
 use clock_infer::ClockMap;

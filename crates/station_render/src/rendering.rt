@@ -8,12 +8,11 @@ ghost use Rattle.stations.specs.Stations.{station_of};
 ghost use Rattle.station_render.specs.Sinks.{AreEmpty, HasFailed, lists_of};
 ghost use Rattle.station_render.specs.Runs.{IsRendered, RanPart, RanWhole};
 
-use crate::RenderFault;
-use crate::Rendered;
 use crate::close::close_each;
 use crate::create::create_each;
 use crate::engines::run_all;
 use crate::sinks::no_sinks;
+use crate::{RenderFault, Rendered};
 use fixed_text::WeekSecond;
 use liq_base::Shelf;
 use plan_core::Plan;

@@ -15,12 +15,7 @@ use std::alloc::{AllocError, Global};
 
 /// The report of a rendering of so many ticks, at most 1000000000: a line for each output, in sink order, with its gaps, and
 /// a line for each buffer, with its counts.
-pub fn report(
-    alloc: Global,
-    plan: &Plan,
-    ticks: u64,
-    rendered: &Rendered,
-) -> Result<String, Memory>
+pub fn report(alloc: Global, plan: &Plan, ticks: u64, rendered: &Rendered) -> Result<String, Memory>
     requires few { ticks ≤ 1000000000 }
     requires many { length rendered.now.gaps.items ≡ length (written plan.now.sinks) }
     ensures { IfOk result (λ text. (station : Station) → (run : Run) → station.plan ≡ plan.now → station.ticks ≡ ticks → IsTold station run rendered.now

@@ -27,11 +27,12 @@ returns-in_err-engines-clause-part g c =
 
 pub run_rounds-run-requires-clause-engines : goal.run_rounds-run-requires-clause-engines
 run_rounds-run-requires-clause-engines g c =
-    let main = are_main c.args.plan.now c.args.ready.now.library c.args.ready.now.clocks c.args.ticks c.requires.fit in
-    ((setting_for c.args.plan.now c.args.ready.now.library c.args.ready.now.clocks c.args.start.second),
-    may_begin c.args.plan.now c.args.ready.now.library c.args.ready.now.clocks c.args.start.second c.args.ticks main g.O.Sink.name g.O.Sink.held g.O.Sink.room g.O.Sink.faults
-    c.in_ok-engines.engines.items c.deref_mut.result.now c.deref_mut.result.now c.deref_mut.result.now (lists_of c.args.groups.now.items) (lists_of c.args.groups.now.items) (lists_of c.args.groups.now.items)
-    c.in_ok-engines.ensures.made c.in_ok-engines.ensures.outs c.deref_mut.ensures.value c.requires.fit.plan_is c.requires.rooms)
+    let main = are_main c.args.plan.now c.args.ready.now.library c.args.ready.now.clocks c.args.ticks c.requires.fit in (
+      (setting_for c.args.plan.now c.args.ready.now.library c.args.ready.now.clocks c.args.start.second),
+      may_begin c.args.plan.now c.args.ready.now.library c.args.ready.now.clocks c.args.start.second c.args.ticks main g.O.Sink.name g.O.Sink.held g.O.Sink.room g.O.Sink.faults
+          c.in_ok-engines.engines.items c.deref_mut.result.now c.deref_mut.result.now c.deref_mut.result.now (lists_of c.args.groups.now.items) (lists_of c.args.groups.now.items) (lists_of c.args.groups.now.items)
+          c.in_ok-engines.ensures.made c.in_ok-engines.ensures.outs c.deref_mut.ensures.value c.requires.fit.plan_is c.requires.rooms,
+    )
 
 pub tell-told-requires-clause-main : goal.tell-told-requires-clause-main
 tell-told-requires-clause-main g c = are_main c.args.plan.now c.args.ready.now.library c.args.ready.now.clocks c.args.ticks c.requires.fit
