@@ -1,1 +1,9 @@
 pub mod Turning
+pub mod Owning
+pub mod Rounding
+pub mod Running
+pub mod Flattening
+pub mod Alone
+pub mod Replaying
+mod Plans
+mod Examples
