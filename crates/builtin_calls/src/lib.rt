@@ -3,7 +3,7 @@
 
 mod calls;
 mod children;
-pub mod law;
+pub mod laws;
 mod leaves;
 mod nodes;
 mod outputs;

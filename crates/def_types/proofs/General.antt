@@ -18,9 +18,9 @@ use Rattle.type_schemes.specs.declared.general.TextKind.TheVariants.{Open, Outer
 use Rattle.type_schemes.specs.Generals.{AreTextKindsOver, IsGeneral, settled as settled_text}
 use Rattle.type_schemes.specs.Holding.{HeldVariables, IsHeldBy, SameTypes}
 use Rattle.type_schemes.specs.Schemes.{IsInstance, IsSchemeOver, Scheme}
-use Rattle.type_flow.specs.Environment.{AreFound, AreKnownOver, EachTakes, Found, Known, Texts, entries_under, function, settled_use, texts_under, value}
-use Rattle.type_flow.proofs.Tables.{meaning_over}
-use Rattle.script_flow.specs.Defs.{HoldsBefore, IsTypingOf, KeepsTypings, IsTextTaken, outside, terms_before}
+use Rattle.type_steps.specs.Environment.{AreFound, AreKnownOver, EachTakes, Found, Known, Texts, entries_under, function, settled_use, texts_under, value}
+use Rattle.type_steps.proofs.Tables.{meaning_over}
+use Rattle.type_steps.specs.Defs.{HoldsBefore, IsTypingOf, KeepsTypings, IsTextTaken, outside, terms_before}
 use Rattle.def_types.specs.PartsOf.{InfersDef, types_at}
 use Rattle.def_types.specs.TextUses.{kinds_in, text_uses}
 use Rattle.def_types.proofs.Taken.{found_of, taken_of, text_is_over, uses_same}

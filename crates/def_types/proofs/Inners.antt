@@ -10,10 +10,10 @@ use Rattle.type_terms.specs.Table.{Table, Solves}
 use Rattle.type_terms.specs.Term.{Term, meaning, variable}
 use Rattle.typing_rules.specs.Scripts.{Places, Targets}
 use Rattle.typing_rules.specs.Typing.{Has, InnersHave, Sight, Types, within}
-use Rattle.type_flow.specs.Environment.{AreFound, AreTypesOver, AreUsesOver, Env, Found, IsEnvOver, Known, sight_under, types_under}
-use Rattle.type_flow.specs.Flow.{HasNoType, Infers, Reached}
-use Rattle.type_flow.proofs.Tables.{ends_with, follows_both, follows_same, meaning_over, over_later, reach, seen_over, stay}
-use Rattle.script_flow.specs.Defs.{outside}
+use Rattle.type_steps.specs.Environment.{AreFound, AreTypesOver, AreUsesOver, Env, Found, IsEnvOver, Known, sight_under, types_under}
+use Rattle.type_steps.specs.Flow.{HasNoType, Infers, Reached}
+use Rattle.type_steps.proofs.Tables.{ends_with, follows_both, follows_same, meaning_over, over_later, reach, seen_over, stay}
+use Rattle.type_steps.specs.Defs.{outside}
 use Rattle.def_types.specs.PartsOf.{HaveNoInners, InfersInners, TypesAs, with_inner}
 
 -- ---- the types of bindings

@@ -8,14 +8,14 @@ use Rattle.script_grammar.specs.declared.tree.Inner.{Inner as ABinding}
 use Rattle.type_terms.specs.Table.{Table}
 use Rattle.type_terms.specs.Term.{Term, variable}
 use Rattle.typing_rules.specs.Typing.{token_of}
-use Rattle.type_flow.specs.Environment.{AreTypesOver, AreUsesOver, Found, IsEnvOver}
-use Rattle.type_flow.specs.Flow.{HasNoType, Infers}
-use Rattle.value_types.specs.Seen.{env_of, types_seen}
-use Rattle.value_types.specs.declared.environment.Names.{Names}
-use Rattle.value_types.specs.declared.environment.TypedName.{TypedName}
+use Rattle.type_steps.specs.Environment.{AreTypesOver, AreUsesOver, Found, IsEnvOver}
+use Rattle.type_steps.specs.Flow.{HasNoType, Infers}
+use Rattle.type_scope.specs.Seen.{env_of, types_seen}
+use Rattle.type_scope.specs.declared.environment.Names.{Names}
+use Rattle.type_scope.specs.declared.environment.TypedName.{TypedName}
 use Rattle.expression_types.specs.Order.{AreAdded, tokens_used}
 use Rattle.expression_types.proofs.Adding.{next_added, none_added}
-use Rattle.script_flow.specs.Defs.{outside}
+use Rattle.type_steps.specs.Defs.{outside}
 use Rattle.def_types.specs.PartsOf.{HasNoParam, HaveNoInners, HaveNoParams, InfersInners, InfersParam, InfersParams, with_inner}
 use Rattle.def_types.specs.Steps.{AreTypedParams, param_tokens, tokens_named, vars_named}
 use Rattle.def_types.proofs.Inners.{inners_next, inners_none, inners_stop}

@@ -10,9 +10,9 @@ use Rattle.type_terms.specs.Table.{Table, Solves}
 use Rattle.type_terms.specs.Term.{variable}
 use Rattle.typing_rules.specs.Scripts.{Places}
 use Rattle.typing_rules.specs.Typing.{DefaultHas, DefaultsHave, Sight}
-use Rattle.type_flow.specs.Environment.{AreFound, AreUsesOver, Env, Found, IsEnvOver, sight_under}
-use Rattle.type_flow.specs.Flow.{HasNoType, Infers, Reached}
-use Rattle.type_flow.proofs.Tables.{ends_with, follows_both, follows_same, found_over, over_later, reach, seen_over, stay, uses_later}
+use Rattle.type_steps.specs.Environment.{AreFound, AreUsesOver, Env, Found, IsEnvOver, sight_under}
+use Rattle.type_steps.specs.Flow.{HasNoType, Infers, Reached}
+use Rattle.type_steps.proofs.Tables.{ends_with, follows_both, follows_same, found_over, over_later, reach, seen_over, stay, uses_later}
 use Rattle.def_types.specs.PartsOf.{AreVars, HasNoParam, HaveNoParams, InfersParam, InfersParams, VarsAs, types_at}
 
 -- ---- variables

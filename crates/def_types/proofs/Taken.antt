@@ -12,7 +12,7 @@ use Rattle.typing_rules.specs.declared.uses.Use.{Use}
 use Rattle.type_schemes.specs.declared.general.TextKind.{TextKind}
 use Rattle.type_schemes.specs.declared.general.TextKind.TheVariants.{Open, Outer}
 use Rattle.type_schemes.specs.Generals.{AreTextKindsOver, settled as settled_text}
-use Rattle.type_flow.specs.Environment.{ArePendingOver, CallTakes, EachTakes, Found, IsTextOver, Takes, TextTakes, Texts, settled, settled_use}
+use Rattle.type_steps.specs.Environment.{ArePendingOver, CallTakes, EachTakes, Found, IsTextOver, Takes, TextTakes, Texts, settled, settled_use}
 use Rattle.def_types.specs.TextUses.{kinds_in, pending_of, text_uses}
 
 -- ---- reading the kinds of a text in parts

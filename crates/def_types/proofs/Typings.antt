@@ -15,11 +15,11 @@ use Rattle.type_schemes.specs.declared.general.TextKind.{TextKind}
 use Rattle.type_schemes.specs.declared.general.TextKind.TheVariants.{Open, Outer}
 use Rattle.type_schemes.specs.Generals.{IsGeneral, open_of, settled as settled_text}
 use Rattle.type_schemes.specs.Holding.{AreThere, HeldVariables, IsHeldBy}
-use Rattle.type_flow.specs.Environment.{AreKnownOver, Found, Known, TextUse, function}
-use Rattle.value_types.specs.declared.environment.Names.{Names}
+use Rattle.type_steps.specs.Environment.{AreKnownOver, Found, Known, TextUse, function}
+use Rattle.type_scope.specs.declared.environment.Names.{Names}
 use Rattle.expression_types.specs.Order.{AreAdded, Said, said_at, said_of}
-use Rattle.script_flow.specs.Counts.{open_in, opens_in}
-use Rattle.script_flow.specs.Defs.{HasNoTyping, HoldsBefore, IsTypingOf, outside, terms_before}
+use Rattle.type_steps.specs.Counts.{open_in, opens_in}
+use Rattle.type_steps.specs.Defs.{HasNoTyping, HoldsBefore, IsTypingOf, outside, terms_before}
 use Rattle.def_types.specs.Answers.{AreSaidAs, IsNumberedDef, IsTypedDef, said_in, text_of}
 use Rattle.def_types.specs.PartsOf.{HasNoDef, InfersDef}
 use Rattle.def_types.specs.Steps.{IsGeneralDef}

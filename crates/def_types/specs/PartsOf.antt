@@ -7,8 +7,8 @@ use Rattle.type_terms.specs.Table.{Table, Solves}
 use Rattle.type_terms.specs.Term.{Term}
 use Rattle.typing_rules.specs.Scripts.{Places}
 use Rattle.typing_rules.specs.Typing.{DefHas, DefaultHas, DefaultsHave, InnersHave, Types}
-use Rattle.type_flow.specs.Environment.{AreFound, AreTypesOver, AreUsesOver, Env, Found, sight_under, types_under}
-use Rattle.type_flow.specs.Flow.{Reached}
+use Rattle.type_steps.specs.Environment.{AreFound, AreTypesOver, AreUsesOver, Env, Found, sight_under, types_under}
+use Rattle.type_steps.specs.Flow.{Reached}
 
 -- what is seen behind these bindings
 abbrev pub with_inner : Env → List (ℕ × Term) → Env

@@ -14,10 +14,10 @@ use Rattle.type_schemes.specs.Generals.{AreTextKindsOver, IsGeneral, IsNumberedT
 use Rattle.type_schemes.specs.Holding.{HeldVariables, IsHeldBy}
 use Rattle.type_schemes.specs.Schemes.{IsSchemeOver, scheme_of}
 use Rattle.name_scope.specs.Seen.{seen_parameter}
-use Rattle.type_flow.specs.Environment.{AreFound, AreUsesOver, Env, Found, Known, sight_under, types_under}
-use Rattle.type_flow.specs.Flow.{Reached}
-use Rattle.value_types.specs.declared.environment.TypedName.{TypedName}
-use Rattle.script_flow.specs.Defs.{outside}
+use Rattle.type_steps.specs.Environment.{AreFound, AreUsesOver, Env, Found, Known, sight_under, types_under}
+use Rattle.type_steps.specs.Flow.{Reached}
+use Rattle.type_scope.specs.declared.environment.TypedName.{TypedName}
+use Rattle.type_steps.specs.Defs.{outside}
 use Rattle.def_types.specs.Answers.{text_of}
 use Rattle.def_types.specs.PartsOf.{HasNoDef, HaveNoInners, HaveNoParams, InfersDef, InfersInners, InfersParams}
 use Rattle.def_types.specs.TextUses.{kinds_in, text_uses}

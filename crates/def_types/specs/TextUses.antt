@@ -3,7 +3,7 @@ use Rattle.std.specs.Prelude.{List, [], ◌∷◌, ◌++◌, map, take, drop, le
 use Rattle.type_terms.specs.declared.ty.KindTerm.{KindTerm}
 use Rattle.type_schemes.specs.declared.general.TextKind.{TextKind}
 use Rattle.type_schemes.specs.declared.general.TextKind.TheVariants.{Open, Outer}
-use Rattle.type_flow.specs.Environment.{Found, Pending, TextUse, of_def, of_term}
+use Rattle.type_steps.specs.Environment.{Found, Pending, TextUse, of_def, of_term}
 
 -- a kind of the text as the uses have it
 abbrev pub pending_of : TextKind → Pending

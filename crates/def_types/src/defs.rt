@@ -3,10 +3,10 @@ ghost use Rattle.std.specs.Prelude.{◌≡◌, ◌<◌, [], length, IfOk, IfSome
 ghost use Rattle.script_grammar.specs.View.{view_def};
 ghost use Rattle.type_terms.specs.Term.{term_of, variable};
 ghost use Rattle.type_schemes.specs.Holding.{AreThere};
-ghost use Rattle.type_flow.specs.Environment.{AreUsesOver};
-ghost use Rattle.value_types.specs.Seen.{IsSeen, env_of, founds};
+ghost use Rattle.type_steps.specs.Environment.{AreUsesOver};
+ghost use Rattle.type_scope.specs.Seen.{IsSeen, env_of, founds};
 ghost use Rattle.expression_types.specs.Order.{tokens_used};
-ghost use Rattle.script_flow.specs.Defs.{HoldsBefore};
+ghost use Rattle.type_steps.specs.Defs.{HoldsBefore};
 ghost use Rattle.def_types.specs.Answers.{AreSaidAs, IsDefTyped, IsNumberedDef, text_of};
 ghost use Rattle.def_types.specs.PartsOf.{AreVars};
 ghost use Rattle.def_types.specs.Steps.{IsGeneralDef};
@@ -18,8 +18,8 @@ use name_scope::parameters;
 use script_grammar::tree::Def;
 use std::alloc::Global;
 use type_schemes::{Held, generalise};
+use type_scope::{FoundUse, KnownDef, Names};
 use type_terms::{Subst, Ty};
-use value_types::{FoundUse, KnownDef, Names};
 
 /// A def with its general type and the uses in its text, and the variables that the types of earlier values hold behind it.
 #[derive(Drop)]

@@ -1,15 +1,15 @@
 // The uses in the text of a def, from the kinds that its general type tells one after another.
 ghost use Rattle.std.specs.Prelude.{◌≡◌, ◌++◌, map, IfOk, OnOk};
 ghost use Rattle.type_terms.specs.Term.{term_of, variable};
-ghost use Rattle.value_types.specs.Seen.{found, founds, pending, text_use};
+ghost use Rattle.type_scope.specs.Seen.{found, founds, pending, text_use};
 ghost use Rattle.def_types.specs.TextUses.{kinds_in, pending_of, text_uses, use_of};
 
 use liq_base::Memory;
 use std::alloc::Global;
 use std::cmp::min;
 use type_schemes::TextKind as KindInText;
+use type_scope::{FoundUse, TextKind, TextUse};
 use type_terms::{KindTerm, Ty};
-use value_types::{FoundUse, TextKind, TextUse};
 
 /// Variables as types.
 pub fn variables(alloc: Global, numbers: &[u64]) -> Result<Vec<Ty>, Memory>

@@ -1,1 +1,16 @@
 pub mod Checks
+pub mod BuiltinGrowth
+pub mod BuiltinTaking
+pub mod BuiltinSteps
+pub mod BuiltinCalls
+pub mod KeepingEvaluations
+pub mod KeepingScripts
+pub mod SafeGrowth
+pub mod SafeOperators
+pub mod SafeExpressions
+pub mod SafeDefs
+pub mod SafeScripts
+pub mod UsesAlike
+pub mod UsesTokens
+pub mod UsesReadable
+pub mod UsesScripts

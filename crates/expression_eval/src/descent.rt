@@ -13,7 +13,6 @@ ghost use Rattle.script_values.specs.Views.{view_given, view_slot};
 ghost use Rattle.script_values.specs.View.{view_value};
 
 use crate::preds::counted_pred;
-use crate::single::single;
 use crate::steps::{
     Operator, counted_format, counted_negative, counted_text, counted_value, negate, operate,
     taken, truth,
@@ -21,6 +20,7 @@ use crate::steps::{
 use builtin_calls::builtin;
 use eval_scope::{Scope, kinds_of, named};
 use liq_base::Kind;
+use script_grammar::lone_operand;
 use script_grammar::tree::{
     self, Added, And, Arg, Call, Compare, CompareOp, Def, Expr, Full, If, Inner, Multiplied, Not,
     Param, ParamForm, Product, Sum,
@@ -47,7 +47,7 @@ pub fn full(
     }
     match node {
         Full::Minus { at, number } => counted_negative(machine, *at, *number),
-        Full::Plain(inside) => match single(inside) {
+        Full::Plain(inside) => match lone_operand(inside) {
             Some(operand) => prim(alloc, scope, left - 1, machine, operand),
             None => expr(alloc, scope, left - 1, machine, inside),
         },

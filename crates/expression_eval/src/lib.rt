@@ -4,7 +4,6 @@
 mod descent;
 mod held;
 mod preds;
-mod single;
 mod steps;
 
 pub use descent::{call, choice, full};

@@ -19,11 +19,11 @@ use Rattle.script_grammar.specs.declared.tree.Arg as arg
 use Rattle.typing_rules.specs.declared.uses.Target.{Target}
 use Rattle.typing_rules.specs.declared.uses.Target.TheVariants as target
 use Rattle.type_terms.specs.declared.ty.KindTerm.{KindTerm}
-use Rattle.name_scope.proofs.Rows.{added_seen, and_seen, call_seen, compare_alone, compare_seen, expr_seen, not_seen, product_seen, sum_seen}
-use Rattle.type_flow.specs.Environment.{Found, with_use}
-use Rattle.type_flow.specs.Flow.{if_yes}
-use Rattle.value_types.specs.Seen.{IsNamed, env_of}
-use Rattle.value_types.specs.declared.environment.Names.{Names}
+use Rattle.script_grammar.proofs.Rows.{added_seen, and_seen, call_seen, compare_alone, compare_seen, expr_seen, not_seen, product_seen, sum_seen}
+use Rattle.type_steps.specs.Environment.{Found, with_use}
+use Rattle.type_steps.specs.Flow.{if_yes}
+use Rattle.type_scope.specs.Seen.{IsNamed, env_of}
+use Rattle.type_scope.specs.declared.environment.Names.{Names}
 use Rattle.expression_types.specs.Order.{AreAdded, AreAddedIf, AreAddedWhere, Said, kinds_count, said_at, said_of, tokens_used}
 
 pub none_added : (ns : Names) (fs : List Found) → AreAdded ns [] fs fs

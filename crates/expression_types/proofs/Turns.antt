@@ -7,13 +7,13 @@ use Rattle.script_grammar.specs.declared.tree.Full.{Full}
 use Rattle.typing_rules.specs.Arguments.{Given}
 use Rattle.type_terms.specs.Table.{Table}
 use Rattle.type_terms.specs.Term.{terms_of, variable}
-use Rattle.type_flow.specs.Environment.{Found, AreUsesOver, IsEnvOver}
-use Rattle.type_flow.specs.Flow.{Infers, InfersAll, InfersEach, InfersGiven}
-use Rattle.type_flow.proofs.Ends.{args_next, fulls_next, joins_next}
-use Rattle.type_flow.proofs.Forms.{each_none}
-use Rattle.type_flow.proofs.Parts.{all_none, given_none}
-use Rattle.value_types.specs.Seen.{env_of}
-use Rattle.value_types.specs.declared.environment.Names.{Names}
+use Rattle.type_steps.specs.Environment.{Found, AreUsesOver, IsEnvOver}
+use Rattle.type_steps.specs.Flow.{Infers, InfersAll, InfersEach, InfersGiven}
+use Rattle.type_steps.proofs.Ends.{args_next, fulls_next, joins_next}
+use Rattle.type_steps.proofs.Forms.{each_none}
+use Rattle.type_steps.proofs.Parts.{all_none, given_none}
+use Rattle.type_scope.specs.Seen.{env_of}
+use Rattle.type_scope.specs.declared.environment.Names.{Names}
 use Rattle.expression_types.specs.Order.{AreAdded, tokens_used}
 use Rattle.expression_types.proofs.Adding.{next_added, none_added}
 

@@ -5,10 +5,10 @@ use Rattle.typing_rules.specs.declared.uses.Target.{Target}
 use Rattle.typing_rules.specs.declared.uses.Target.TheVariants as target
 use Rattle.typing_rules.specs.Table.{signature}
 use Rattle.type_schemes.specs.Schemes.{open_numbers, scheme_of}
-use Rattle.type_flow.specs.Environment.{Found}
-use Rattle.value_types.specs.Seen.{def_seen, env_of}
-use Rattle.value_types.specs.declared.environment.KnownDef.{KnownDef}
-use Rattle.value_types.specs.declared.environment.Names.{Names}
+use Rattle.type_steps.specs.Environment.{Found}
+use Rattle.type_scope.specs.Seen.{def_seen, env_of}
+use Rattle.type_scope.specs.declared.environment.KnownDef.{KnownDef}
+use Rattle.type_scope.specs.declared.environment.Names.{Names}
 
 -- the tokens of the names that a tree uses, in order
 abbrev pub tokens_used : {s : Sort} → Tree s → List ℕ

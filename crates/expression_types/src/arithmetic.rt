@@ -2,17 +2,17 @@
 ghost use Rattle.std.specs.Prelude.{length, map, IfOk, ◌<◌};
 ghost use Rattle.script_grammar.specs.Tree.{more, none};
 ghost use Rattle.script_grammar.specs.View.{listed, view_added, view_compare, view_multiplied, view_product, view_sum};
-ghost use Rattle.type_flow.specs.Flow.{AreJoined, IsTypeOf};
-ghost use Rattle.value_types.specs.Seen.{IsSeen, env_of, founds};
+ghost use Rattle.type_steps.specs.Flow.{AreJoined, IsTypeOf};
+ghost use Rattle.type_scope.specs.Seen.{IsSeen, env_of, founds};
 ghost use Rattle.expression_types.specs.Order.{AreAddedIf, AreAddedWhere, tokens_used};
 
 use crate::values::type_prim;
 use liq_base::Memory;
 use script_grammar::tree::{Added, Compare, Multiplied, Product, Sum};
 use std::alloc::Global;
-use type_flow::{is_number, is_number_of_many, new_type, same};
+use type_scope::{FoundUse, Names, some_if};
+use type_steps::{is_number, is_number_of_many, new_type, same};
 use type_terms::{Subst, Ty};
-use value_types::{FoundUse, Names, some_if};
 
 /// The type of a sum, perhaps compared with another.
 #[cycle(value)]

@@ -4,7 +4,6 @@
 mod arithmetic;
 mod calls;
 mod logic;
-mod lone;
 mod values;
 
 pub use calls::type_call;

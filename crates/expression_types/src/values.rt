@@ -2,19 +2,19 @@
 ghost use Rattle.std.specs.Prelude.{length, map, option_map, IfOk, ◌<◌};
 ghost use Rattle.script_grammar.specs.Tree.{Listed, more, none};
 ghost use Rattle.script_grammar.specs.View.{listed, tuple_of, view_full, view_if, view_prim};
-ghost use Rattle.type_flow.specs.Flow.{AreJoined, AreTypesOf, IsTypeOf};
-ghost use Rattle.value_types.specs.Seen.{IsSeen, env_of, founds};
+ghost use Rattle.type_steps.specs.Flow.{AreJoined, AreTypesOf, IsTypeOf};
+ghost use Rattle.type_scope.specs.Seen.{IsSeen, env_of, founds};
 ghost use Rattle.expression_types.specs.Order.{AreAddedIf, AreAddedWhere, tokens_used};
 
 use crate::calls::type_call;
 use crate::logic::type_expr;
-use crate::lone::lone_operand;
 use liq_base::Memory;
+use script_grammar::lone_operand;
 use script_grammar::tree::{Full, If, Operand};
 use std::alloc::Global;
-use type_flow::{is_truth, new_list, new_tuple, new_type, new_var, same};
+use type_scope::{FoundUse, Names, literal_type, some_if, type_name};
+use type_steps::{is_truth, new_list, new_tuple, new_type, new_var, same};
 use type_terms::{Subst, Ty};
-use value_types::{FoundUse, Names, literal_type, some_if, type_name};
 
 /// The variable that is the type of a value; `None` where it has no type. It fails only where memory is refused.
 ///

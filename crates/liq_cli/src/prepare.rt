@@ -11,7 +11,7 @@ use liq_base::{Fetched, Shelf, ShelfFault};
 use plan_core::Plan;
 use refusal_lines::Fault;
 use script_lex::LexFault;
-use script_plan::law::one_answer;
+use script_plan::laws::one_answer;
 use script_plan::{ScriptFault, plan_of};
 use station_check::check_plan;
 use stations::Ready;

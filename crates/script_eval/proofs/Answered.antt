@@ -9,10 +9,10 @@ use Rattle.script_values.specs.declared.fault.EvalFault.{EvalFault}
 use Rattle.eval_meaning.specs.Scripts.{Answers, evaluation}
 use Rattle.script_grammar.specs.Placed.{IsPlaced}
 use Rattle.typing_rules.specs.Answers.{IsTypedScript}
-use Rattle.builtin_safety.proofs.Calls.{builtins_are_safe}
-use Rattle.eval_safety.specs.Safety.{IsNotStuck}
-use Rattle.eval_safety.proofs.Scripts.{safe_script}
-use Rattle.eval_laws.proofs.Scripts.{plan_is_well_formed}
+use Rattle.eval_meaning.proofs.BuiltinCalls.{builtins_are_safe}
+use Rattle.eval_meaning.specs.Safety.{IsNotStuck}
+use Rattle.eval_meaning.proofs.SafeScripts.{safe_script}
+use Rattle.eval_meaning.proofs.KeepingScripts.{plan_is_well_formed}
 
 pub made_well : (script : Script) (uses : List Use) (r : Result Plan EvalFault) → Answers (λ (p : Plan). p) r (evaluation script uses) → IfOk r (λ (p : Plan). IsWellFormed p)
 made_well script uses (Ok p) is = plan_is_well_formed script uses p is

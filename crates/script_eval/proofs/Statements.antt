@@ -14,7 +14,7 @@ use Rattle.script_values.specs.declared.machine.Machine.{Machine}
 use Rattle.script_values.specs.Faults.{fault_in}
 use Rattle.script_values.specs.Gives.{Fails}
 use Rattle.script_values.specs.Slots.{Slot}
-use Rattle.eval_safety.specs.Safety.{IsNotStuck}
+use Rattle.eval_meaning.specs.Safety.{IsNotStuck}
 use Rattle.eval_meaning.specs.Scripts.{Ending, Ends, and_then, in_statement, settled, statements, turned}
 
 -- a fault of a statement is told with its number

@@ -3,7 +3,7 @@ ghost use Rattle.std.specs.Prelude.{◌≡◌, ◌≢◌, ℕ, Option, Some, Non
 ghost use Rattle.std.specs.List.{list_any};
 ghost use Rattle.eval_meaning.specs.Meaning.{call, choice, full};
 ghost use Rattle.eval_meaning.specs.Scripts.{Answers, ended, evaluation, is_output, settled, statement, statements, tick_of, top_scope, turned};
-ghost use Rattle.eval_safety.specs.Safety.{IsNotStuck};
+ghost use Rattle.eval_meaning.specs.Safety.{IsNotStuck};
 ghost use Rattle.plan_core.specs.Plans.{IsWellFormed};
 ghost use Rattle.script_grammar.specs.Placed.{IsPlaced};
 ghost use Rattle.script_grammar.specs.Tree.{BindPart as a_binding};

@@ -1,16 +1,18 @@
 -- A struct that holds a Vec, seen by its fields and made of them.
-use Rattle.std.proofs.Common.{◌≡◌, ◌<◌, ℕ, length, arith, List, [], ◌∷◌, refl, sym, ap, ◌∙◌}
+use Rattle.std.proofs.Common.{◌≡◌, ◌<◌, ℕ, length, arith, List, [], ◌∷◌, Option, Some, None, refl, sym, ap, ◌∙◌}
 use Rattle.std.specs.Prelude.{map}
 use Rattle.std.specs.Global.{Vec}
-use Rattle.script_grammar.specs.Tree.{more, Expr, And, Sum, Product, Call, Listed, POr, PAnd}
+use Rattle.script_grammar.specs.Tree.{more, Expr, And, Not, Alone, Compared as a_comparison, Sum, Added, Product, Call, Listed, POr, PAnd}
 use Rattle.script_grammar.specs.ReadValue.{round_of}
-use Rattle.script_grammar.specs.View.{listed, por_of, pand_of, tuple_of, view_por, view_pands, view_pand, view_pnots, view_pnot, view_expr, view_ands, view_and, view_nots, view_not, view_sum, view_addeds, view_added, view_product, view_multiplieds, view_multiplied, view_prim, view_fulls, view_full, view_call, view_args, view_arg}
+use Rattle.script_grammar.specs.View.{listed, por_of, pand_of, tuple_of, view_por, view_pands, view_pand, view_pnots, view_pnot, view_expr, view_ands, view_and, view_nots, view_not, view_compare, view_sum, view_addeds, view_added, view_product, view_multiplieds, view_multiplied, view_prim, view_fulls, view_full, view_call, view_args, view_arg}
 use Rattle.script_grammar.specs.declared.tree.Full.{Full}
 use Rattle.script_grammar.specs.declared.tree.Full.TheBlock as block
 use Rattle.script_grammar.specs.declared.predicate.PAtom.TheBlock as pblock
 use Rattle.script_grammar.specs.declared.tree.Expr as expr
 use Rattle.script_grammar.specs.declared.tree.And as and_
 use Rattle.script_grammar.specs.declared.tree.Not as not_
+use Rattle.script_grammar.specs.declared.tree.Compare as compare
+use Rattle.script_grammar.specs.declared.tree.Compared as compared
 use Rattle.script_grammar.specs.declared.tree.Sum as sum
 use Rattle.script_grammar.specs.declared.tree.Added as added
 use Rattle.script_grammar.specs.declared.tree.Product as product
@@ -98,6 +100,23 @@ product_seen e = ap view_product (sym (product.roll-out-Product e) ∙ product.r
 
 pub call_seen : (e : call.Call) → view_call e ≡ Call (call.out-Call e).at (call.out-Call e).name (listed (map view_arg (call.out-Call e).args.items))
 call_seen e = ap view_call (sym (call.roll-out-Call e) ∙ call.rolls-Call' (call.out-Call e)) ∙ ap (Call (call.out-Call e).at (call.out-Call e).name) (args_listed (call.out-Call e).args)
+
+pub compare_seen : (e : compare.Compare) (r : compared.Compared) → (compare.out-Compare e).right ≡ Some r → view_compare e ≡ a_comparison (view_sum (compare.out-Compare e).left) (compared.out-Compared r).at (compared.out-Compared r).op (view_sum (compared.out-Compared r).sum)
+compare_seen e r is =
+    ap view_compare (sym (compare.roll-out-Compare e) ∙ compare.rolls-Compare' (compare.out-Compare e))
+    ∙ ap (λ (o : Option compared.Compared). view_compare (compare.Compare' (compare.out-Compare e).left (block.back-Compare-right o))) is
+    ∙ ap (λ (x : compared.Compared). view_compare (compare.Compare' (compare.out-Compare e).left (block.back-Compare-right (Some x)))) (sym (compared.roll-out-Compared r) ∙ compared.rolls-Compared' (compared.out-Compared r))
+
+pub compare_alone : (e : compare.Compare) → (compare.out-Compare e).right ≡ None → view_compare e ≡ Alone (view_sum (compare.out-Compare e).left)
+compare_alone e is =
+    ap view_compare (sym (compare.roll-out-Compare e) ∙ compare.rolls-Compare' (compare.out-Compare e))
+    ∙ ap (λ (o : Option compared.Compared). view_compare (compare.Compare' (compare.out-Compare e).left (block.back-Compare-right o))) is
+
+pub not_seen : (e : not_.Not) → view_not e ≡ Not (not_.out-Not e).negated (view_compare (not_.out-Not e).inner)
+not_seen e = ap view_not (sym (not_.roll-out-Not e) ∙ not_.rolls-Not' (not_.out-Not e))
+
+pub added_seen : (e : added.Added) → view_added e ≡ Added (added.out-Added e).at (added.out-Added e).minus (view_product (added.out-Added e).product)
+added_seen e = ap view_added (sym (added.roll-out-Added e) ∙ added.rolls-Added' (added.out-Added e))
 
 -- ---- the structs that are made of their parts
 

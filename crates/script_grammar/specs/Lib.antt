@@ -10,3 +10,8 @@ pub mod ReadScript
 pub mod Placed
 pub mod Ats
 pub mod Whole
+pub mod Stops
+pub mod Steady
+pub mod Pieces
+pub mod DefPieces
+pub mod Lone

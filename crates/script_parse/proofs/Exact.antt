@@ -9,8 +9,8 @@ use Rattle.script_grammar.specs.Bare.{bare}
 use Rattle.script_grammar.specs.Kinds.{is_any}
 use Rattle.script_grammar.specs.Read.{next, many}
 use Rattle.script_grammar.specs.ReadScript.{no_place, stmt, script}
-use Rattle.script_reading.specs.Stops.{Begun}
-use Rattle.script_reading.specs.Steady.{peek}
+use Rattle.script_grammar.specs.Stops.{Begun}
+use Rattle.script_grammar.specs.Steady.{peek}
 use Rattle.script_parse.specs.Places.{Begins, IsSyntaxPlace}
 
 -- ---- what is known of reading: three laws of the crates below

@@ -2,7 +2,7 @@
 #![tactic(auto)]
 
 mod fault;
-pub mod law;
+pub mod laws;
 mod script;
 
 pub use fault::ParseFault;

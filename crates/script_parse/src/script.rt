@@ -13,10 +13,9 @@ ghost use Rattle.script_parse.specs.Answer.{Whole, IsShallow, IsFault};
 use crate::fault::{ParseFault, Refusal};
 use liq_base::limits::MAX_NESTING;
 use parse_base::Fault;
-use script_grammar::law::{one_placed_script, reads_again};
+use script_grammar::laws::{faults_are_steady, one_placed_script, reads_again, reads_spellings};
 use script_grammar::tree::Script;
 use script_lex::{Keyword, Symbol, Token, TokenKind};
-use script_reading::law::{faults_are_steady, reads_spellings};
 use statement_parse::statements;
 use std::alloc::Global;
 

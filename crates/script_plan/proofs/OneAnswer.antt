@@ -14,7 +14,7 @@ use Rattle.script_parse.specs.Answer.{IsFault, IsShallow}
 use Rattle.typing_rules.specs.declared.fault.TypeFault.{TypeFault}
 use Rattle.typing_rules.specs.declared.uses.Use.{Use}
 use Rattle.typing_rules.specs.Answers.{IsTyped, IsTypeFault}
-use Rattle.typing_rules.proofs.Laws.{typed_or_fault}
+use Rattle.typing_rules.proofs.TypedScripts.{typed_or_fault}
 use Rattle.typing_rules.proofs.OneFault.{one_fault}
 use Rattle.script_values.specs.declared.fault.EvalFault.{EvalFault}
 use Rattle.eval_meaning.specs.Scripts.{Ending, evaluation}

@@ -2,7 +2,7 @@
 #![tactic(auto)]
 
 mod fault;
-pub mod law;
+pub mod laws;
 mod plan;
 
 pub use fault::ScriptFault;

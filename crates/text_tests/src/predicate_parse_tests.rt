@@ -1,8 +1,7 @@
 // Texts that begin with a predicate, and what is read of them, each by the grammar of `docs/grammar.md`.
 use crate::texts::{check_same, tokens};
 use fixed_text::TimeMark;
-use parse_base::Fault;
-use predicate_parse::predicate;
+use parse_base::{Fault, predicate};
 use script_grammar::predicate::{PAtom, PNot, POr};
 use std::alloc::{AllocError, Global};
 use std::fmt::Write;

@@ -1,9 +1,9 @@
 // Texts that are scripts or not, each by the grammar of `docs/grammar.md`.
 use crate::texts::{check_same, tokens};
+use script_grammar::spell;
 use script_grammar::tree::{Script, Stmt, StmtPart};
 use script_lex::{Token, TokenKind};
 use script_parse::{ParseFault, parse};
-use script_spelling::spell;
 use std::alloc::{AllocError, Global};
 use std::fmt::Write;
 use std::process::Abort;

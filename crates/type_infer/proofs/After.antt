@@ -12,22 +12,22 @@ use Rattle.typing_rules.specs.Scoping.{names}
 use Rattle.typing_rules.specs.Scripts.{Targets}
 use Rattle.type_schemes.specs.Holding.{AreThere as AreHeldThere, HeldVariables}
 use Rattle.type_schemes.specs.Schemes.{scheme_of}
-use Rattle.type_flow.specs.Environment.{Env, Found, IsEnvOver, Known, function, value}
-use Rattle.type_flow.specs.Flow.{HasNoType, Infers, IsTypeOf}
-use Rattle.script_flow.specs.Counts.{AreCounted, IsTextCounted}
-use Rattle.script_flow.specs.Defs.{HasNoTyping, HoldsBefore, IsTypingOf, KeepsTypings, outside}
-use Rattle.script_flow.specs.Statements.{AreTypings, Done, HasNoTypings, IsNewDef, AreApart, bound, defined, known_of, ran, scope_after, text_said, with_last}
-use Rattle.script_flow.specs.Whole.{AreWhole, IsDoneCounted}
-use Rattle.script_flow.proofs.Appended.{known_more, whole_more}
-use Rattle.script_flow.proofs.Going.{no_bound, no_call, no_def, no_if, typings_bound, typings_call, typings_def, typings_if}
-use Rattle.script_flow.proofs.Wholes.{whole_apart}
-use Rattle.value_types.specs.Seen.{DefIs, IsSeen, def_seen, env_of, founds, newest_first, types_seen}
-use Rattle.value_types.specs.declared.environment.FoundUse.{FoundUse}
-use Rattle.value_types.specs.declared.environment.Known.{Known as AKnown}
-use Rattle.value_types.specs.declared.environment.Known.TheVariants as known
-use Rattle.value_types.specs.declared.environment.KnownDef.{KnownDef}
-use Rattle.value_types.specs.declared.environment.Names.{Names}
-use Rattle.value_types.specs.declared.environment.TypedName.{TypedName}
+use Rattle.type_steps.specs.Environment.{Env, Found, IsEnvOver, Known, function, value}
+use Rattle.type_steps.specs.Flow.{HasNoType, Infers, IsTypeOf}
+use Rattle.type_steps.specs.Counts.{AreCounted, IsTextCounted}
+use Rattle.type_steps.specs.Defs.{HasNoTyping, HoldsBefore, IsTypingOf, KeepsTypings, outside}
+use Rattle.type_steps.specs.Statements.{AreTypings, Done, HasNoTypings, IsNewDef, AreApart, bound, defined, known_of, ran, scope_after, text_said, with_last}
+use Rattle.type_steps.specs.Whole.{AreWhole, IsDoneCounted}
+use Rattle.type_steps.proofs.Appended.{known_more, whole_more}
+use Rattle.type_steps.proofs.Going.{no_bound, no_call, no_def, no_if, typings_bound, typings_call, typings_def, typings_if}
+use Rattle.type_steps.proofs.Wholes.{whole_apart}
+use Rattle.type_scope.specs.Seen.{DefIs, IsSeen, def_seen, env_of, founds, newest_first, types_seen}
+use Rattle.type_scope.specs.declared.environment.FoundUse.{FoundUse}
+use Rattle.type_scope.specs.declared.environment.Known.{Known as AKnown}
+use Rattle.type_scope.specs.declared.environment.Known.TheVariants as known
+use Rattle.type_scope.specs.declared.environment.KnownDef.{KnownDef}
+use Rattle.type_scope.specs.declared.environment.Names.{Names}
+use Rattle.type_scope.specs.declared.environment.TypedName.{TypedName}
 use Rattle.expression_types.specs.Order.{AreAdded, said_at, said_of, tokens_used}
 use Rattle.def_types.specs.Answers.{AreSaidAs, IsNumberedDef, IsTypedDef, text_of}
 use Rattle.def_types.specs.Scope.{AreSeenDefs}

@@ -5,7 +5,7 @@ use Rattle.type_terms.specs.Extends.{HasDefaults}
 use Rattle.type_terms.specs.Table.{Table}
 use Rattle.typing_rules.specs.Scripts.{Targets}
 use Rattle.type_schemes.specs.Holding.{HeldVariables, IsHeldBy}
-use Rattle.script_flow.proofs.Going.{typings_none}
+use Rattle.type_steps.proofs.Going.{typings_none}
 use Rattle.type_infer.specs.States.{IsAfter}
 use Rattle.type_infer.specs.declared.steps.Typing.{Typing}
 use Rattle.type_infer.proofs.After.{State, state_as}

@@ -5,11 +5,11 @@ use Rattle.script_grammar.specs.Tree.{Tree, ADef}
 use Rattle.typing_rules.specs.declared.uses.Target.{Target}
 use Rattle.typing_rules.specs.declared.uses.Target.TheVariants as target
 use Rattle.typing_rules.specs.Scripts.{def_token}
-use Rattle.type_flow.specs.Environment.{Found, Known, TextUse, function}
-use Rattle.script_flow.specs.Counts.{AreCounted, HasCount, IsTextCounted, count_at, text_count}
-use Rattle.script_flow.specs.Statements.{Done, IsNewDef}
-use Rattle.value_types.specs.Seen.{def_seen}
-use Rattle.value_types.specs.declared.environment.KnownDef.{KnownDef}
+use Rattle.type_steps.specs.Environment.{Found, Known, TextUse, function}
+use Rattle.type_steps.specs.Counts.{AreCounted, HasCount, IsTextCounted, count_at, text_count}
+use Rattle.type_steps.specs.Statements.{Done, IsNewDef}
+use Rattle.type_scope.specs.Seen.{def_seen}
+use Rattle.type_scope.specs.declared.environment.KnownDef.{KnownDef}
 use Rattle.type_infer.specs.Matches.{AreNumberedDefs, HasCountIn, HaveCountsIn, IsTextCountedIn, opens_of}
 use Rattle.type_infer.specs.Steps.{AreThere, defined_as, done_in, dones_in}
 use Rattle.type_infer.specs.declared.steps.Step.{Step}

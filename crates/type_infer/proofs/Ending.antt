@@ -15,11 +15,11 @@ use Rattle.typing_rules.specs.Kinds.{read}
 use Rattle.typing_rules.specs.NameFaults.{first_fault, in_statement}
 use Rattle.typing_rules.specs.Scoping.{Meaning, meanings_of, meant, names, target_in}
 use Rattle.typing_rules.specs.Scripts.{HasTyping, Targets, count, first_of}
-use Rattle.type_flow.specs.Environment.{entries_under}
-use Rattle.script_flow.specs.Statements.{AreTypings, HasNoTypings, known_of, scope_after, uses_under}
-use Rattle.script_flow.proofs.Readings.{dones_are_read}
-use Rattle.script_flow.proofs.Typed.{typed_by_defaults}
-use Rattle.script_flow.proofs.Wholes.{whole_in}
+use Rattle.type_steps.specs.Environment.{entries_under}
+use Rattle.type_steps.specs.Statements.{AreTypings, HasNoTypings, known_of, scope_after, uses_under}
+use Rattle.type_steps.proofs.Readings.{dones_are_read}
+use Rattle.type_steps.proofs.Typed.{typed_by_defaults}
+use Rattle.type_steps.proofs.Wholes.{whole_in}
 use Rattle.type_infer.specs.Clashes.{IsClashAt, IsClashIn}
 use Rattle.type_infer.specs.Fronts.{IsFront}
 use Rattle.type_infer.specs.Matches.{AreAimed}

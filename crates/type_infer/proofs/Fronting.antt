@@ -10,8 +10,8 @@ use Rattle.typing_rules.specs.declared.fault.TypeFault.TheVariants.{Memory}
 use Rattle.typing_rules.specs.NameFaults.{faults_in, first_fault, in_statement, or_later, told}
 use Rattle.typing_rules.specs.Scoping.{Meaning, Scope, meanings_of, meant, names, used, with_statement}
 use Rattle.typing_rules.specs.Scripts.{first_of}
-use Rattle.script_flow.specs.Statements.{scope_after, with_last}
-use Rattle.script_flow.proofs.Appended.{used_more}
+use Rattle.type_steps.specs.Statements.{scope_after, with_last}
+use Rattle.type_steps.proofs.Appended.{used_more}
 use Rattle.type_infer.specs.Fronts.{AreNamesOf, IsFront, IsNextFault}
 use Rattle.type_infer.proofs.Fronts.{first_next, no_first}
 

@@ -11,7 +11,7 @@ use Rattle.typing_rules.specs.Answers.{IsNameFault, IsTypeClash}
 use Rattle.typing_rules.specs.NameFaults.{faults_in, first_fault, in_statement, or_later, told}
 use Rattle.typing_rules.specs.Scoping.{Meaning, Name, Scope, meanings_of, meant, names, target_in, used, with_statement}
 use Rattle.typing_rules.specs.Scripts.{HasTyping, Targets, count, first_of}
-use Rattle.script_flow.specs.Statements.{with_last}
+use Rattle.type_steps.specs.Statements.{with_last}
 use Rattle.expression_types.specs.Order.{tokens_used}
 use Rattle.expression_types.proofs.NamesInOrder.{names_in_order}
 use Rattle.type_infer.proofs.Moving.{AllSame, moved_typing, same_left}

@@ -8,9 +8,9 @@ use Rattle.type_terms.specs.Term.{Term, meaning, term_of, variable}
 use Rattle.type_terms.specs.declared.ty.Ty.TheVariants as ty
 use Rattle.type_terms.proofs.Views.{term_Var}
 use Rattle.type_schemes.specs.Holding.{AreThere, HeldVariables, IsHeldBy}
-use Rattle.type_flow.specs.Environment.{Known, value}
-use Rattle.type_flow.proofs.Tables.{follows_both, follows_same}
-use Rattle.script_flow.specs.Defs.{HoldsBefore, terms_before}
+use Rattle.type_steps.specs.Environment.{Known, value}
+use Rattle.type_steps.proofs.Tables.{follows_both, follows_same}
+use Rattle.type_steps.specs.Defs.{HoldsBefore, terms_before}
 use Rattle.type_infer.specs.Later.{AddsValues, AreValues, HoldsLater, IsRenewed, terms_since}
 
 since_push : (ns : List ℕ) (n : ℕ) (ts : List Term) → terms_since (ns ++ n ∷ []) ts ≡ variable n ∷ terms_since ns ts

@@ -7,14 +7,14 @@ use Rattle.typing_rules.specs.declared.uses.Target.{Target}
 use Rattle.typing_rules.specs.declared.uses.Target.TheVariants as target
 use Rattle.typing_rules.specs.Scoping.{Meaning, Name, Scope, meanings_of, meant, names, target_in, target_of, used}
 use Rattle.typing_rules.specs.Scripts.{Targets, first_of}
-use Rattle.type_flow.specs.Environment.{Found, TextUse}
-use Rattle.script_flow.specs.Statements.{found_said, scope_after, text_said, with_last}
-use Rattle.script_flow.proofs.Appended.{used_more}
-use Rattle.script_flow.proofs.NameTokens.{RiseTo}
-use Rattle.script_flow.proofs.Wholes.{used_rise}
-use Rattle.value_types.specs.Seen.{env_of}
-use Rattle.value_types.specs.declared.environment.KnownDef.{KnownDef}
-use Rattle.value_types.specs.declared.environment.Names.{Names}
+use Rattle.type_steps.specs.Environment.{Found, TextUse}
+use Rattle.type_steps.specs.Statements.{found_said, scope_after, text_said, with_last}
+use Rattle.type_steps.proofs.Appended.{used_more}
+use Rattle.type_steps.proofs.NameTokens.{RiseTo}
+use Rattle.type_steps.proofs.Wholes.{used_rise}
+use Rattle.type_scope.specs.Seen.{env_of}
+use Rattle.type_scope.specs.declared.environment.KnownDef.{KnownDef}
+use Rattle.type_scope.specs.declared.environment.Names.{Names}
 use Rattle.expression_types.specs.Order.{Said, kinds_count, said_at, said_of, tokens_used}
 use Rattle.expression_types.proofs.NamesInOrder.{names_in_order}
 use Rattle.def_types.specs.Answers.{said_in}

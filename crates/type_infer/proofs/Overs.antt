@@ -2,15 +2,15 @@
 use Rattle.std.proofs.Common.{◌≡◌, sym, subst, ℕ, zero, suc, ◌<◌, arith, length, get_or, List, [], ◌∷◌, ◌++◌, map}
 use Rattle.type_terms.specs.Table.{Table}
 use Rattle.type_terms.specs.declared.ty.KindTerm.{KindTerm}
-use Rattle.type_flow.specs.Environment.{AreKindsOver, AreKnownOver, ArePendingOver, AreUsesOver, IsKindOver, IsPendingOver, IsTextOver, Known, function, value}
-use Rattle.script_flow.specs.Statements.{AreFoundsOver, Done, bound, defined, known_after, ran}
+use Rattle.type_steps.specs.Environment.{AreKindsOver, AreKnownOver, ArePendingOver, AreUsesOver, IsKindOver, IsPendingOver, IsTextOver, Known, function, value}
+use Rattle.type_steps.specs.Statements.{AreFoundsOver, Done, bound, defined, known_after, ran}
 use Rattle.typing_rules.specs.Scripts.{Targets}
 use Rattle.script_grammar.specs.Tree.{Script}
-use Rattle.value_types.specs.Seen.{founds, pending, text_use}
-use Rattle.value_types.specs.declared.environment.FoundUse.{FoundUse}
-use Rattle.value_types.specs.declared.environment.KnownDef.{KnownDef}
-use Rattle.value_types.specs.declared.environment.TextKind.{TextKind}
-use Rattle.value_types.specs.declared.environment.TextUse.{TextUse as ATextUse}
+use Rattle.type_scope.specs.Seen.{founds, pending, text_use}
+use Rattle.type_scope.specs.declared.environment.FoundUse.{FoundUse}
+use Rattle.type_scope.specs.declared.environment.KnownDef.{KnownDef}
+use Rattle.type_scope.specs.declared.environment.TextKind.{TextKind}
+use Rattle.type_scope.specs.declared.environment.TextUse.{TextUse as ATextUse}
 use Rattle.type_infer.specs.Settling.{AreDonesOver}
 use Rattle.type_infer.specs.States.{IsTypedSo, dones}
 use Rattle.type_infer.specs.Steps.{done_in, dones_in}

@@ -4,7 +4,7 @@ use Rattle.script_grammar.specs.Tree.{Script}
 use Rattle.typing_rules.specs.declared.fault.TypeFault.{TypeFault}
 use Rattle.typing_rules.specs.declared.fault.TypeFault.TheVariants as fault
 use Rattle.typing_rules.specs.Scripts.{HasTyping, Targets, first_of}
-use Rattle.script_flow.specs.Statements.{HasNoTypings}
+use Rattle.type_steps.specs.Statements.{HasNoTypings}
 
 -- the statements up to the k-th, of the first n, have no typing, and those before it have one
 pub record IsClashAt (targets : Targets) (script : Script) (n k : ℕ) : Type 0 where

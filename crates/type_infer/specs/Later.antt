@@ -6,8 +6,8 @@ use Rattle.type_terms.specs.Ground.{Assignment}
 use Rattle.type_terms.specs.Table.{Solves, Table}
 use Rattle.type_terms.specs.Term.{Term, variable}
 use Rattle.type_schemes.specs.Holding.{HeldVariables, IsHeldBy, SameTypes}
-use Rattle.type_flow.specs.Environment.{Known, texts_under}
-use Rattle.script_flow.specs.Defs.{terms_before}
+use Rattle.type_steps.specs.Environment.{Known, texts_under}
+use Rattle.type_steps.specs.Defs.{terms_before}
 
 -- these variables before other types, the last one first
 abbrev pub terms_since : List ℕ → List Term → List Term

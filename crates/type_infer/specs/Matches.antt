@@ -6,10 +6,10 @@ use Rattle.typing_rules.specs.Scoping.{Meaning}
 use Rattle.typing_rules.specs.Scripts.{Targets}
 use Rattle.typing_rules.specs.Table.{signature}
 use Rattle.type_schemes.specs.Schemes.{scheme_of}
-use Rattle.type_flow.specs.Environment.{Found, Known, TextUse}
-use Rattle.script_flow.specs.Counts.{count_at, scheme_count}
-use Rattle.value_types.specs.Seen.{def_seen}
-use Rattle.value_types.specs.declared.environment.KnownDef.{KnownDef}
+use Rattle.type_steps.specs.Environment.{Found, Known, TextUse}
+use Rattle.type_steps.specs.Counts.{count_at, scheme_count}
+use Rattle.type_scope.specs.Seen.{def_seen}
+use Rattle.type_scope.specs.declared.environment.KnownDef.{KnownDef}
 
 -- a token, and what the name there means
 abbrev pub aimed : Targets → ℕ → Meaning

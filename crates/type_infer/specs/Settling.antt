@@ -10,8 +10,8 @@ use Rattle.type_terms.specs.declared.ty.KindTerm.TheVariants as term
 use Rattle.typing_rules.specs.declared.uses.KindOf.{KindOf}
 use Rattle.typing_rules.specs.declared.uses.KindOf.TheVariants.{Fixed}
 use Rattle.typing_rules.specs.declared.uses.Use.{Use}
-use Rattle.type_flow.specs.Environment.{AreUsesOver, Found, IsTextOver, Pending, TextUse, settled, settled_use}
-use Rattle.script_flow.specs.Statements.{Done, bound, defined, found_use, ran, uses_under}
+use Rattle.type_steps.specs.Environment.{AreUsesOver, Found, IsTextOver, Pending, TextUse, settled, settled_use}
+use Rattle.type_steps.specs.Statements.{Done, bound, defined, found_use, ran, uses_under}
 
 abbrev pub IsSettledKind : Table → KindTerm → Kind → Type 0
 IsSettledKind s k r = (d : HasDefaults s) → r ≡ kind_meaning d.at k

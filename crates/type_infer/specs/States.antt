@@ -10,14 +10,14 @@ use Rattle.typing_rules.specs.declared.fault.TypeFault.{TypeFault}
 use Rattle.typing_rules.specs.declared.uses.Use.{Use}
 use Rattle.typing_rules.specs.Scoping.{meant, names}
 use Rattle.typing_rules.specs.Scripts.{Targets}
-use Rattle.type_flow.specs.Environment.{Env, Known}
-use Rattle.type_flow.specs.Flow.{HasNoType, Infers}
-use Rattle.script_flow.specs.Statements.{AreTypings, Done, HasNoTypings, found_said, known_of, scope_after, uses_under, with_last}
-use Rattle.script_flow.specs.Whole.{AreWhole}
-use Rattle.value_types.specs.Seen.{founds, newest_first}
-use Rattle.value_types.specs.declared.environment.FoundUse.{FoundUse}
-use Rattle.value_types.specs.declared.environment.Known.TheVariants as known
-use Rattle.value_types.specs.declared.environment.KnownDef.{KnownDef}
+use Rattle.type_steps.specs.Environment.{Env, Known}
+use Rattle.type_steps.specs.Flow.{HasNoType, Infers}
+use Rattle.type_steps.specs.Statements.{AreTypings, Done, HasNoTypings, found_said, known_of, scope_after, uses_under, with_last}
+use Rattle.type_steps.specs.Whole.{AreWhole}
+use Rattle.type_scope.specs.Seen.{founds, newest_first}
+use Rattle.type_scope.specs.declared.environment.FoundUse.{FoundUse}
+use Rattle.type_scope.specs.declared.environment.Known.TheVariants as known
+use Rattle.type_scope.specs.declared.environment.KnownDef.{KnownDef}
 use Rattle.expression_types.specs.Order.{tokens_used}
 use Rattle.def_types.specs.Scope.{AreSeenDefs}
 use Rattle.def_types.specs.declared.defs.TypedDef.{TypedDef}

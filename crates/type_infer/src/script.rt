@@ -12,7 +12,7 @@ ghost use Rattle.type_infer.specs.Fronts.{IsFront};
 ghost use Rattle.type_infer.specs.Settling.{AreDonesOver};
 ghost use Rattle.type_infer.specs.States.{AreDefaultUses, IsAfter, IsReady, IsSameTyping, IsStepped, IsTypedSo, dones};
 ghost use Rattle.type_infer.specs.Turns.{IsTurned};
-ghost use Rattle.value_types.specs.Tables.{targets_of};
+ghost use Rattle.type_scope.specs.Tables.{targets_of};
 
 use crate::front::{Front, resolve_front};
 use crate::settling::settled_uses;
@@ -24,9 +24,9 @@ use script_grammar::tree::{Script, Stmt, StmtPart};
 use std::alloc::Global;
 use token_table::TokenTable;
 use type_schemes::Held;
+use type_scope::{Bindings, target_table};
 use type_terms::Subst;
 use typing_rules::{Target, TypeFault, Use};
-use value_types::{Bindings, target_table};
 
 /// A script with what each name in it means, in the order of the tokens, and the kinds of each use.
 #[derive(Drop)]

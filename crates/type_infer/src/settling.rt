@@ -1,7 +1,7 @@
 // The uses of statements under the default solution.
 ghost use Rattle.std.specs.Prelude.{◌≡◌, map, option_map, IfOk, OnOk};
-ghost use Rattle.type_flow.specs.Environment.{AreKindsOver, ArePendingOver, AreUsesOver, IsKindOver, IsPendingOver, IsTextOver};
-ghost use Rattle.value_types.specs.Seen.{founds, pending, text_use};
+ghost use Rattle.type_steps.specs.Environment.{AreKindsOver, ArePendingOver, AreUsesOver, IsKindOver, IsPendingOver, IsTextOver};
+ghost use Rattle.type_scope.specs.Seen.{founds, pending, text_use};
 ghost use Rattle.type_infer.specs.Settling.{AddsDones, AddsFounds, AddsTexts, AreDefaultOf, AreDonesOver, AreSettledKinds, AreSettledTexts, IsSettledKind, IsSettledText, free_kind as the_free_kind};
 ghost use Rattle.type_infer.specs.States.{dones};
 ghost use Rattle.type_infer.specs.Steps.{defined_as, done_in, dones_in};
@@ -9,9 +9,9 @@ ghost use Rattle.type_infer.specs.Steps.{defined_as, done_in, dones_in};
 use crate::steps::{Step, Typing};
 use liq_base::{Kind, Memory};
 use std::alloc::Global;
+use type_scope::{FoundUse, KnownDef, TextKind, TextUse};
 use type_terms::{KindTerm, Subst, resolved_kind};
 use typing_rules::{KindOf, Use, UseKinds};
-use value_types::{FoundUse, KnownDef, TextKind, TextUse};
 
 /// The uses of all statements, in the order of the tokens, in a list that begins with room for so many. What was found is
 /// freed as it is turned into the answer, so that its memory is taken again at once.

@@ -3,7 +3,7 @@ ghost use Rattle.std.specs.Prelude.{◌≡◌, [], IfOk, OnOk};
 ghost use Rattle.script_grammar.specs.Tree.{BindPart, CallPart, DefPart, IfPart};
 ghost use Rattle.script_grammar.specs.View.{view_bind, view_call, view_def, view_if, view_part};
 ghost use Rattle.type_schemes.specs.Holding.{AreThere};
-ghost use Rattle.value_types.specs.Tables.{targets_of};
+ghost use Rattle.type_scope.specs.Tables.{targets_of};
 ghost use Rattle.type_infer.specs.Later.{AddsValues, AreValues, IsRenewed};
 ghost use Rattle.type_infer.specs.States.{IsDefKept, IsReady, IsRunKept, IsStepped, IsValueKept};
 
@@ -15,9 +15,9 @@ use script_grammar::tree::{Bind, Call, Def, If, StmtPart};
 use std::alloc::Global;
 use token_table::TokenTable;
 use type_schemes::Held;
+use type_scope::{Bindings, Known, KnownDef, Names, TypedName};
 use type_terms::{Subst, Ty};
 use typing_rules::Target;
-use value_types::{Bindings, Known, KnownDef, Names, TypedName};
 
 /// One statement more: whether there is a typing with it.
 pub fn type_part<'a>(

@@ -1,7 +1,7 @@
 // The statements that were typed so far.
 use type_schemes::Held;
+use type_scope::{Bindings, FoundUse, KnownDef, TypedName};
 use type_terms::Subst;
-use value_types::{Bindings, FoundUse, KnownDef, TypedName};
 
 /// The variable that is the type of a value, and the uses in it.
 #[derive(Drop)]

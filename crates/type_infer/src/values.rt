@@ -1,7 +1,7 @@
 // The type of the value of a statement.
 ghost use Rattle.std.specs.Prelude.{[], IfOk};
 ghost use Rattle.script_grammar.specs.View.{view_call, view_full, view_if};
-ghost use Rattle.value_types.specs.Seen.{IsSeen, env_of};
+ghost use Rattle.type_scope.specs.Seen.{IsSeen, env_of};
 ghost use Rattle.type_infer.specs.States.{IsNoted, IsTypedAs};
 
 use crate::steps::TypedExpr;
@@ -9,8 +9,8 @@ use expression_types::{type_call, type_choice, type_full};
 use liq_base::Memory;
 use script_grammar::tree::{Call, Full, If};
 use std::alloc::Global;
+use type_scope::{FoundUse, Names};
 use type_terms::Subst;
-use value_types::{FoundUse, Names};
 
 /// Room for the uses of a value at first. Most values use two names at most, and a list that begins without room takes room
 /// for four at its first use.

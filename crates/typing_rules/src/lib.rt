@@ -3,7 +3,7 @@
 
 mod fault;
 mod form;
-pub mod law;
+pub mod laws;
 mod use_kinds;
 mod uses;
 

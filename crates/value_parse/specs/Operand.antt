@@ -9,7 +9,8 @@ use Rattle.script_lex.specs.declared.token.Symbol.TheVariants as sign
 use Rattle.parse_base.specs.declared.fault.Fault.{Fault}
 use Rattle.parse_base.specs.declared.fault.Fault.TheVariants as faults
 use Rattle.parse_base.specs.Gives.{kinds, Fails}
-use Rattle.script_grammar.specs.Tree.{Sort, Tree, Many, none, more, AFull, AnExpr, ANot, ACompare, APrim, ACall, AnArg, AnIf, Plain, Expr, And, Not, Alone, Sum, Product, Braces, Listed, Call, Arg, If}
+use Rattle.script_grammar.specs.Lone.{lone as lone_expr}
+use Rattle.script_grammar.specs.Tree.{Sort, Tree, Many, more, AFull, AnExpr, ANot, ACompare, APrim, ACall, AnArg, AnIf, Plain, Not, Braces, Listed, Call, Arg, If}
 use Rattle.script_grammar.specs.Read.{Read, Reader, ◌>>=◌, made, both, expect, chain}
 use Rattle.script_grammar.specs.Kinds.{is_close_curly, is_then, is_else, is_end}
 use Rattle.script_grammar.specs.ReadPredicate.{por}
@@ -104,7 +105,7 @@ is_bare w = true
 
 -- a value that is one operand, behind `not` or not
 abbrev pub lone : Bool → Tree APrim → Tree AFull
-lone negated p = Plain (Expr (And (Not negated (Alone (Sum (Product p none) none))) none) none)
+lone negated p = Plain (lone_expr negated p)
 
 -- what was read, behind what was read before
 abbrev pub paired : {A B : Type 0} → A → Read B → Read (A × B)

@@ -9,9 +9,8 @@ ghost use Rattle.parse_base.specs.Gives.{kinds, Gives, places};
 ghost use Rattle.value_parse.specs.Operand.{braces_at, holds_values, no_value};
 
 use crate::number::wav;
-use parse_base::Fault;
 use parse_base::token::{self, Class, place};
-use predicate_parse::predicate;
+use parse_base::{Fault, predicate};
 use script_grammar::tree::{self, Full, If, Literal};
 use script_lex::{Keyword, Symbol, Token, TokenKind};
 use std::alloc::Global;

@@ -17,21 +17,22 @@ use Rattle.type_terms.specs.Term.{Term, term_of, variable}
 use Rattle.type_terms.specs.declared.ty.Ty as ty
 use Rattle.type_terms.proofs.Views.{term_Bool, term_Format, term_Pred, term_Text, term_Unit}
 use Rattle.typing_rules.specs.Arguments.{Given}
-use Rattle.type_flow.specs.Flow.{Defines}
+use Rattle.type_steps.specs.Flow.{Defines}
 use Rattle.type_terms.specs.declared.ty.Base.TheVariants as base
 use Rattle.name_scope.specs.Seen.{seen_parameter}
-use Rattle.type_flow.specs.Fitting.{seen_argument}
-use Rattle.type_flow.proofs.Tables.{follows_both, over_later, uses_later}
-use Rattle.type_flow.proofs.Forms.{one_none}
-use Rattle.type_flow.proofs.Exits.{and_done, and_first, and_others, expr_done, expr_first, expr_others, product_done, product_first, product_others, sum_done, sum_first, sum_others}
-use Rattle.type_flow.proofs.Shapes.{choice_condition, choice_first, choice_untrue, list_infers, list_none}
-use Rattle.type_flow.proofs.Ends.{added_done, alone_infers, args_end, args_stop, branches_done, comparison_done, factor_done, fulls_end, fulls_stop, join_done, joins_end, joins_stop, leaf_infers, left_none, not_done, not_none, not_plain, numbers_never, right_none, tuple_done, tuple_empty, tuple_never, tuple_one}
-use Rattle.value_types.specs.Seen.{called_scheme, def_seen, env_of, founds}
-use Rattle.value_types.proofs.Calling.{args_none, builtin_called, call_done, call_no_def, call_none, call_value}
-use Rattle.value_types.proofs.Seeing.{seen_later}
+use Rattle.type_steps.specs.Fitting.{seen_argument}
+use Rattle.type_steps.proofs.Tables.{follows_both, over_later, uses_later}
+use Rattle.type_steps.proofs.Forms.{one_none}
+use Rattle.type_steps.proofs.Exits.{and_done, and_first, and_others, expr_done, expr_first, expr_others, product_done, product_first, product_others, sum_done, sum_first, sum_others}
+use Rattle.type_steps.proofs.Shapes.{choice_condition, choice_first, choice_untrue, list_infers, list_none}
+use Rattle.type_steps.proofs.Ends.{added_done, alone_infers, args_end, args_stop, branches_done, comparison_done, factor_done, fulls_end, fulls_stop, join_done, joins_end, joins_stop, leaf_infers, left_none, not_done, not_none, not_plain, numbers_never, right_none, tuple_done, tuple_empty, tuple_never, tuple_one}
+use Rattle.type_scope.specs.Seen.{called_scheme, def_seen, env_of, founds}
+use Rattle.type_scope.proofs.Calling.{args_none, builtin_called, call_done, call_no_def, call_none, call_value}
+use Rattle.type_scope.proofs.Seeing.{seen_later}
 use Rattle.expression_types.specs.Order.{tokens_used}
 use Rattle.expression_types.proofs.Adding.{added_if, added_where, all_added, alone_added, and_added, branches_added, call_added, compared_added, empty_added, expr_added, name_answered, none_added, not_added, part_added, product_added, sum_added, term_added, tuple_added, use_added}
-use Rattle.expression_types.proofs.Alone.{lone_added, lone_below, lone_typed}
+use Rattle.script_grammar.proofs.OneOperand.{lone_below}
+use Rattle.expression_types.proofs.Alone.{lone_added, lone_typed}
 use Rattle.expression_types.proofs.Applying.{begun_seen, builtin_counted, def_called, def_counted, def_not_called, terms_later}
 use Rattle.expression_types.proofs.Operands.{answered_as, constant_infers, negative_infers, prim_list, prim_tuple}
 use Rattle.expression_types.proofs.Sizes.{arg_below, compared_below, else_below, item_below, then_below}

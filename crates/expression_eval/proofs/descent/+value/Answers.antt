@@ -204,7 +204,7 @@ prim-returns-in-List t c =
 pub full-returns-in-Some : goal.full-returns-in-Some
 full-returns-in-Some t c =
     let seen : meaning.full (scope_of c.args.scope.now) (view_full c.args.node.now) c.args.machine.now ≡ meaning.prim (scope_of c.args.scope.now) (view_prim c.in-Some.operand.now) c.args.machine.now =
-    full_lone (scope_of c.args.scope.now) c.args.node.now c.in-Plain.inside (view_prim c.in-Some.operand.now) c.args.machine.now c.in-Plain.is c.in-Some.ensures in
+    full_lone (scope_of c.args.scope.now) c.args.node.now c.in-Plain.inside (view_prim c.in-Some.operand.now) c.args.machine.now c.in-Plain.is c.in-Some.ensures.seen in
     subst (λ (r : Outcome). Gives (λ v. (view_value v, c.prim.new.machine)) c.prim.result r) (sym seen) c.prim.ensures
 
 pub or_one-returns-in_err-other : goal.or_one-returns-in_err-other

@@ -3,7 +3,7 @@ use Rattle.script_grammar.specs.View.{listed, view_stmt}
 use Rattle.typing_rules.specs.Scripts.{first_of}
 use Rattle.name_scope.specs.Noted.{resolved}
 use Rattle.name_scope.specs.Seen.{in_scope}
-use Rattle.script_flow.specs.Statements.{scope_after}
+use Rattle.type_steps.specs.Statements.{scope_after}
 use Rattle.type_infer.specs.Fronts.{AreNamesOf}
 use Rattle.type_infer.proofs.front.resolve_front.Given as goal
 

@@ -1,8 +1,8 @@
 use Rattle.std.proofs.Common.{map, subst, sym}
-use Rattle.value_types.specs.Seen.{pending}
+use Rattle.type_scope.specs.Seen.{pending}
 use Rattle.type_infer.specs.Settling.{AreSettledTexts}
 use Rattle.type_infer.proofs.Settled.{uses_all, uses_more}
-use Rattle.type_flow.specs.Environment.{ArePendingOver}
+use Rattle.type_steps.specs.Environment.{ArePendingOver}
 use Rattle.type_infer.proofs.Overs.{text_over_at}
 use Rattle.type_infer.proofs.settling.add_texts.Goals as goal
 

@@ -1,4 +1,0 @@
-pub mod Growth
-pub mod Taking
-pub mod Steps
-pub mod Calls

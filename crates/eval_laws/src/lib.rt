@@ -1,4 +1,0 @@
-//! What evaluation keeps true, for all scripts.
-#![tactic(auto)]
-
-pub mod law;

@@ -1,0 +1,5 @@
+use Rattle.eval_meaning.proofs.UsesScripts.{one_plan}
+use Rattle.eval_meaning.proofs.laws.one_plan.Goals as goal
+
+pub returns : goal.returns
+returns c = record { one = one_plan c.ats_are_within.ensures.within }

@@ -1,0 +1,37 @@
+// What follows from the meaning of a script. A caller that needs a law calls its function, which does nothing.
+ghost use Rattle.std.specs.Prelude.{◌≡◌, List, Ok};
+ghost use Rattle.eval_meaning.specs.BuiltinSafety.{BuiltinsAreSafe};
+ghost use Rattle.eval_meaning.specs.Safety.{IsNotStuck};
+ghost use Rattle.eval_meaning.specs.Scripts.{evaluation};
+ghost use Rattle.plan_core.specs.declared.plan.Plan.{Plan};
+ghost use Rattle.plan_core.specs.Plans.{IsWellFormed};
+ghost use Rattle.script_grammar.specs.Placed.{IsPlaced};
+ghost use Rattle.script_grammar.specs.Tree.{Script};
+ghost use Rattle.typing_rules.specs.Answers.{IsTyped, IsTypedScript};
+ghost use Rattle.typing_rules.specs.declared.uses.Use.{Use};
+
+use script_grammar::laws::ats_are_within;
+
+/// A call of a builtin with arguments of the types of its row, and with its open kinds, gives a value of the type of its
+/// row or a fault that is told, and keeps the nodes that are there.
+pub fn builtins_are_safe()
+    ensures safe { BuiltinsAreSafe }
+{}
+
+/// The plan of a script is well formed.
+pub fn plans_are_well_formed()
+    ensures made { (script : Script) (uses : List Use) (plan : Plan) → evaluation script uses ≡ Ok plan → IsWellFormed plan }
+{}
+
+/// The evaluation of a typed script meets no value of a wrong type: it ends with a plan or with a fault that is told.
+pub fn typed_scripts_are_not_stuck()
+    ensures told { (script : Script) (uses : List Use) → IsPlaced 0 script → IsTypedScript script uses → IsNotStuck (evaluation script uses) }
+{}
+
+/// Whichever of the uses that typing allows a script it is given, evaluation ends with the same plan or the same fault.
+pub fn one_plan()
+    ensures one { (script : Script) (uses others : List Use) → IsPlaced 0 script → IsTyped script uses → IsTyped script others → evaluation script uses ≡ evaluation script others }
+{
+    // a law of the grammar, which the proof rests on: this call does nothing
+    ats_are_within();
+}

@@ -1,6 +1,0 @@
-use Rattle.builtin_safety.proofs.Calls.{builtins_are_safe}
-use Rattle.eval_safety.proofs.Scripts.{safe_script}
-use Rattle.eval_safety.proofs.laws.typed_scripts_are_not_stuck.Goals as goal
-
-pub returns : goal.returns
-returns c = record { told = safe_script builtins_are_safe }

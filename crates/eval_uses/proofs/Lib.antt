@@ -1,4 +1,0 @@
-pub mod Alike
-pub mod Tokens
-pub mod Readable
-pub mod Scripts

@@ -1,0 +1,187 @@
+// Predicates, each nonterminal by a function of its own.
+ghost use Rattle.std.specs.Prelude.{◌≡◌, ◌<◌, ◌≤◌, IfOk, length, map};
+ghost use Rattle.std.specs.List.{All};
+ghost use Rattle.script_grammar.specs.Kinds.{is_and, is_or};
+ghost use Rattle.script_grammar.specs.Read.{behind, many, next};
+ghost use Rattle.script_grammar.specs.ReadPredicate.{interval, pand, patom, pnot, por, por_by, por_step};
+ghost use Rattle.script_grammar.specs.View.{listed, view_pand, view_patom, view_pnot, view_por};
+ghost use Rattle.script_grammar.specs.Whole.{IsWholePAnd, IsWholePAtom, IsWholePNot, IsWholePOr};
+ghost use Rattle.parse_base.specs.Gives.{kinds, Gives};
+
+use crate::Fault;
+use crate::token::{self, Class};
+use fixed_text::TimeMark;
+use script_grammar::make;
+use script_grammar::predicate::{PAnd, PAtom, PNot, POr};
+use script_lex::{Keyword, Symbol, Token, TokenKind};
+use std::alloc::Global;
+
+/// The predicate that the tokens begin with, and the tokens behind it. Calls nest once for each open parenthesis.
+///
+/// A fault counts the tokens from the first one that cannot go on.
+#[tactic(auto, using(crate::proofs::Levels::por_levels))]
+pub fn predicate(alloc: Global, tokens: &[Token]) -> Result<(POr, &[Token]), Fault>
+    ensures shorter { IfOk result (λ x. length x.1.now < length tokens.now) }
+    ensures gives { Gives (λ x. (view_por x.0, kinds x.1.now)) result (por (kinds tokens.now)) }
+    ensures whole { IfOk result (λ x. IsWholePOr x.0) }
+{
+    por(alloc, tokens.len() + 1, tokens)
+}
+
+// The same with so many levels at most: one for the predicate itself, and one for each that it nests. More
+// levels than tokens are enough.
+#[cycle(predicate)]
+fn por(alloc: Global, levels: usize, tokens: &[Token]) -> Result<(POr, &[Token]), Fault>
+    ensures shorter { IfOk result (λ x. length x.1.now < length tokens.now) }
+    ensures gives { Gives (λ x. (view_por x.0, kinds x.1.now)) result (por_by levels (kinds tokens.now)) }
+    ensures whole { IfOk result (λ x. IsWholePOr x.0) }
+{
+    if levels == 0 {
+        Err(Fault::Syntax(tokens.len()))
+    } else {
+        por_step(alloc, levels - 1, tokens)
+    }
+}
+
+#[cycle(predicate)]
+#[tactic(auto, unfolding(script_grammar::specs::ReadPredicate::por_step, script_grammar::specs::Read::chain))]
+fn por_step(alloc: Global, levels: usize, tokens: &[Token]) -> Result<(POr, &[Token]), Fault>
+    ensures shorter { IfOk result (λ x. length x.1.now < length tokens.now) }
+    ensures gives { Gives (λ x. (view_por x.0, kinds x.1.now)) result (por_step (por_by levels) (kinds tokens.now)) }
+    ensures whole { IfOk result (λ x. IsWholePOr x.0) }
+{
+    let (first, rest) = pand(alloc, levels, tokens)?;
+    let (others, rest) = pands(alloc, levels, rest)?;
+    Ok((make::predicate(first, others)?, rest))
+}
+
+#[cycle(predicate)]
+fn pands(alloc: Global, levels: usize, tokens: &[Token]) -> Result<(Vec<PAnd>, &[Token]), Fault>
+    ensures shorter { IfOk result (λ x. length x.1.now ≤ length tokens.now) }
+    ensures gives { Gives (λ x. (listed (map view_pand x.0.items), kinds x.1.now)) result (many (next is_or) (behind is_or (pand (por_by levels))) (kinds tokens.now)) }
+    ensures whole { IfOk result (λ x. All IsWholePAnd x.0.items) }
+{
+    let mut items = Vec::new(alloc);
+    let mut rest = tokens;
+    'turns: while token::next_is(rest, Class::Or) {
+        let (item, after) = or_pand(alloc, levels, rest)?;
+        items.push(item)?;
+        rest = after;
+    }
+    Ok((items, rest))
+}
+
+#[cycle(predicate)]
+#[tactic(auto, unfolding(script_grammar::specs::Read::behind))]
+fn or_pand(alloc: Global, levels: usize, tokens: &[Token]) -> Result<(PAnd, &[Token]), Fault>
+    ensures shorter { IfOk result (λ x. length x.1.now < length tokens.now) }
+    ensures gives { Gives (λ x. (view_pand x.0, kinds x.1.now)) result (behind is_or (pand (por_by levels)) (kinds tokens.now)) }
+    ensures whole { IfOk result (λ x. IsWholePAnd x.0) }
+{
+    let ((), rest) = token::expect(tokens, Class::Or)?;
+    pand(alloc, levels, rest)
+}
+
+#[cycle(predicate)]
+#[tactic(auto, unfolding(script_grammar::specs::ReadPredicate::pand, script_grammar::specs::Read::chain))]
+fn pand(alloc: Global, levels: usize, tokens: &[Token]) -> Result<(PAnd, &[Token]), Fault>
+    ensures shorter { IfOk result (λ x. length x.1.now < length tokens.now) }
+    ensures gives { Gives (λ x. (view_pand x.0, kinds x.1.now)) result (pand (por_by levels) (kinds tokens.now)) }
+    ensures whole { IfOk result (λ x. IsWholePAnd x.0) }
+{
+    let (first, rest) = pnot(alloc, levels, tokens)?;
+    let (others, rest) = pnots(alloc, levels, rest)?;
+    Ok((make::predicate_term(first, others)?, rest))
+}
+
+#[cycle(predicate)]
+fn pnots(alloc: Global, levels: usize, tokens: &[Token]) -> Result<(Vec<PNot>, &[Token]), Fault>
+    ensures shorter { IfOk result (λ x. length x.1.now ≤ length tokens.now) }
+    ensures gives { Gives (λ x. (listed (map view_pnot x.0.items), kinds x.1.now)) result (many (next is_and) (behind is_and (pnot (por_by levels))) (kinds tokens.now)) }
+    ensures whole { IfOk result (λ x. All IsWholePNot x.0.items) }
+{
+    let mut items = Vec::new(alloc);
+    let mut rest = tokens;
+    'turns: while token::next_is(rest, Class::And) {
+        let (item, after) = and_pnot(alloc, levels, rest)?;
+        items.push(item)?;
+        rest = after;
+    }
+    Ok((items, rest))
+}
+
+#[cycle(predicate)]
+#[tactic(auto, unfolding(script_grammar::specs::Read::behind))]
+fn and_pnot(alloc: Global, levels: usize, tokens: &[Token]) -> Result<(PNot, &[Token]), Fault>
+    ensures shorter { IfOk result (λ x. length x.1.now < length tokens.now) }
+    ensures gives { Gives (λ x. (view_pnot x.0, kinds x.1.now)) result (behind is_and (pnot (por_by levels)) (kinds tokens.now)) }
+    ensures whole { IfOk result (λ x. IsWholePNot x.0) }
+{
+    let ((), rest) = token::expect(tokens, Class::And)?;
+    pnot(alloc, levels, rest)
+}
+
+#[cycle(predicate)]
+#[tactic(auto, unfolding(script_grammar::specs::ReadPredicate::pnot))]
+fn pnot(alloc: Global, levels: usize, tokens: &[Token]) -> Result<(PNot, &[Token]), Fault>
+    ensures shorter { IfOk result (λ x. length x.1.now < length tokens.now) }
+    ensures gives { Gives (λ x. (view_pnot x.0, kinds x.1.now)) result (pnot (por_by levels) (kinds tokens.now)) }
+    ensures whole { IfOk result (λ x. IsWholePNot x.0) }
+{
+    let (negated, rest) = token::perhaps(tokens, Class::Not);
+    let (atom, rest) = patom(alloc, levels, rest)?;
+    Ok((PNot { negated, atom }, rest))
+}
+
+#[cycle(predicate)]
+#[tactic(auto, unfolding(script_grammar::specs::ReadPredicate::patom))]
+fn patom(alloc: Global, levels: usize, tokens: &[Token]) -> Result<(PAtom, &[Token]), Fault>
+    ensures shorter { IfOk result (λ x. length x.1.now < length tokens.now) }
+    ensures gives { Gives (λ x. (view_patom x.0, kinds x.1.now)) result (patom (por_by levels) (kinds tokens.now)) }
+    ensures whole { IfOk result (λ x. IsWholePAtom x.0) }
+{
+    let Some((first, rest)) = tokens.split_first() else {
+        return Err(Fault::Syntax(0));
+    };
+    match &first.kind {
+        TokenKind::Keyword(Keyword::True) => Ok((PAtom::True, rest)),
+        TokenKind::Keyword(Keyword::False) => Ok((PAtom::False, rest)),
+        TokenKind::Time(from) => interval(*from, rest),
+        TokenKind::Symbol(Symbol::OpenRound) => {
+            let (inside, rest) = por(alloc, levels, rest)?;
+            let ((), rest) = token::expect(rest, Class::CloseRound)?;
+            Ok((PAtom::Paren(Box::new(alloc, inside)?), rest))
+        }
+        _ => Err(Fault::Syntax(tokens.len())),
+    }
+}
+
+// A time mark, or two with a `-` between: the tokens behind the first.
+#[tactic(auto, unfolding(script_grammar::specs::ReadPredicate::interval))]
+fn interval(from: TimeMark, tokens: &[Token]) -> Result<(PAtom, &[Token]), Fault>
+    ensures shorter { IfOk result (λ x. length x.1.now ≤ length tokens.now) }
+    ensures gives { Gives (λ x. (view_patom x.0, kinds x.1.now)) result (interval from (kinds tokens.now)) }
+    ensures whole { IfOk result (λ x. IsWholePAtom x.0) }
+{
+    match tokens {
+        [
+            Token {
+                kind: TokenKind::Symbol(Symbol::Minus),
+                ..
+            },
+            Token {
+                kind: TokenKind::Time(to),
+                ..
+            },
+            rest @ ..,
+        ] => Ok((PAtom::Between(from, *to), rest)),
+        [
+            Token {
+                kind: TokenKind::Symbol(Symbol::Minus),
+                ..
+            },
+            rest @ ..,
+        ] => Err(Fault::Syntax(rest.len())),
+        _ => Ok((PAtom::At(from), tokens)),
+    }
+}

@@ -1,6 +1,0 @@
-//! Reading a predicate.
-#![tactic(auto)]
-
-mod predicates;
-
-pub use predicates::predicate;

@@ -1,4 +1,0 @@
-pub mod Counts
-pub mod Defs
-pub mod Statements
-pub mod Whole

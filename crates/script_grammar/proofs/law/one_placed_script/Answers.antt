@@ -1,5 +1,0 @@
-use Rattle.script_grammar.proofs.Settled.{one_placed_script}
-use Rattle.script_grammar.proofs.law.one_placed_script.Goals as goal
-
-pub returns : goal.returns
-returns c = record { one = one_placed_script }

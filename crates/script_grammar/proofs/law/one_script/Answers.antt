@@ -1,5 +1,0 @@
-use Rattle.script_grammar.proofs.ScriptRead.{one_script}
-use Rattle.script_grammar.proofs.law.one_script.Goals as goal
-
-pub returns : goal.returns
-returns c = record { one = one_script }

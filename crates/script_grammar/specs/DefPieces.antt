@@ -1,0 +1,16 @@
+-- The spelling of a def, in two pieces.
+use Rattle.std.specs.Prelude.{ℕ, List, [], ◌∷◌, ◌++◌}
+use Rattle.script_lex.specs.declared.token.TokenKind.{TokenKind}
+use Rattle.script_lex.specs.declared.token.TokenKind.TheVariants.{NameOpen, Keyword, Symbol}
+use Rattle.script_lex.specs.declared.token.Keyword.TheVariants as word
+use Rattle.script_lex.specs.declared.token.Symbol.TheVariants as sign
+use Rattle.script_grammar.specs.Tree.{Tree, AParam, AnInner, AnExpr}
+use Rattle.script_grammar.specs.Spelling.{spell}
+use Rattle.script_grammar.specs.Pieces.{each, between_commas}
+
+-- a def up to the bracket behind its parameters, and from its bindings on
+abbrev pub def_head : List ℕ → List (Tree AParam) → List TokenKind
+def_head name params = Keyword word.Def ∷ NameOpen name ∷ (between_commas params ++ (Symbol sign.CloseRound ∷ []))
+
+abbrev pub def_body : List (Tree AnInner) → Tree AnExpr → List TokenKind
+def_body inner value = each inner ++ (spell value ++ (Keyword word.End ∷ []))

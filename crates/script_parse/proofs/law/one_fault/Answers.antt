@@ -1,5 +1,0 @@
-use Rattle.script_parse.proofs.Only.{fault_unique}
-use Rattle.script_parse.proofs.law.one_fault.Goals as goal
-
-pub returns : goal.returns
-returns c = record { one = fault_unique }

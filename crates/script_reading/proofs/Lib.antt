@@ -1,9 +1,0 @@
-mod SoundRules
-mod SoundPredicate
-mod SoundValue
-mod SoundScript
-mod SteadyRules
-mod SteadyLists
-mod SteadyPredicate
-mod SteadyValue
-mod SteadyScript

@@ -1,9 +1,0 @@
-pub mod Tables
-pub mod Forms
-pub mod Shapes
-pub mod StepLemmas
-pub mod Parts
-pub mod Calls
-pub mod Fits
-pub mod Exits
-pub mod Ends

@@ -1,5 +1,0 @@
-use Rattle.type_flow.proofs.StepLemmas.{defined}
-use Rattle.type_flow.proofs.steps.new_type.Goals as goal
-
-pub returns : goal.returns
-returns c = defined _ _ _ _ c.in_ok-n.ensures.bound

@@ -1,3 +1,0 @@
-pub mod Environment
-pub mod Flow
-pub mod Fitting

@@ -1,0 +1,46 @@
+-- How many open kinds the text of a def has, and how many kinds each use is to have.
+use Rattle.std.specs.Prelude.{◌≡◌, ℕ, List, [], ◌∷◌, length, Option, Some, None, cond, nat_eq, ⊤}
+use Rattle.std.specs.List.{flat_map}
+use Rattle.typing_rules.specs.declared.uses.Target.{Target}
+use Rattle.typing_rules.specs.declared.uses.Target.TheVariants as target
+use Rattle.typing_rules.specs.Kinds.{counted}
+use Rattle.typing_rules.specs.Scripts.{def_token}
+use Rattle.typing_rules.specs.Table.{signature}
+use Rattle.type_schemes.specs.Schemes.{Scheme, open_numbers}
+use Rattle.type_steps.specs.Environment.{Found, Known, Pending, TextUse, function, of_def, of_term, value}
+
+-- the numbers of open kinds in a text, in its order
+abbrev pub open_in : Pending → List ℕ
+open_in (of_term k) = []
+open_in (of_def j) = j ∷ []
+
+abbrev pub opens_in : List TextUse → List ℕ
+opens_in us = flat_map (λ u. flat_map open_in u.kinds) us
+
+-- how many open kinds there are, if each new one has the next number
+abbrev pub text_count : List TextUse → Option ℕ
+text_count us = counted 0 (opens_in us)
+
+-- how many open kinds a general type has
+abbrev pub scheme_count : Scheme → ℕ
+scheme_count g = length (open_numbers 0 g.kinds)
+
+-- how many the newest def has whose name stands at a token
+abbrev pub count_at : ℕ → List Known → Option ℕ
+count_at t [] = None
+count_at t (value x u ∷ ks) = count_at t ks
+count_at t (function d us ∷ ks) = cond (nat_eq (def_token d) t) (text_count us) (count_at t ks)
+
+-- a use of this has so many kinds: a value has none, and a def or a builtin has its open ones
+abbrev pub HasCount : List Known → Target → ℕ → Type 0
+HasCount ks (target.Slot t) n = n ≡ 0
+HasCount ks (target.Def t) n = count_at t ks ≡ Some n
+HasCount ks (target.Builtin b) n = n ≡ (signature b).kinds
+
+abbrev pub AreCounted : List Known → List Found → Type 0
+AreCounted ks [] = ⊤
+AreCounted ks (f ∷ fs) = HasCount ks f.target (length f.kinds) × AreCounted ks fs
+
+abbrev pub IsTextCounted : List Known → List TextUse → Type 0
+IsTextCounted ks [] = ⊤
+IsTextCounted ks (u ∷ us) = HasCount ks u.target (length u.kinds) × IsTextCounted ks us

@@ -1,0 +1,20 @@
+-- What one parameter takes.
+use Rattle.std.specs.Prelude.{◌≡◌, ℕ, ◌<◌, length, false, Option, Some, None, ⊤}
+use Rattle.type_terms.specs.Ground.{Ground}
+use Rattle.type_terms.specs.Table.{Table}
+use Rattle.typing_rules.specs.Arguments.{Parameter, Given, is_needed}
+use Rattle.name_scope.specs.Seen.{seen_label}
+use Rattle.type_steps.specs.declared.arguments.Argument.{Argument}
+
+-- an argument as its label and its variable
+abbrev pub seen_argument : Argument → Given ℕ
+seen_argument g = (seen_label g.label, g.var)
+
+-- A parameter takes an argument of its type, or takes none and need not.
+abbrev pub FitsOne : Parameter → Option Ground → Ground → Type 0
+FitsOne p None t = is_needed p.form ≡ false
+FitsOne p (Some g) t = g ≡ t
+
+abbrev pub IsInside : Table → Option ℕ → Type 0
+IsInside s None = ⊤
+IsInside s (Some n) = n < length s.types

@@ -1,5 +1,0 @@
-use Rattle.typing_rules.proofs.Laws.{call_typed, typed_call}
-use Rattle.typing_rules.proofs.law.newest_call.Goals as goal
-
-pub returns : goal.returns
-returns c = record { typed = call_typed; call = typed_call }

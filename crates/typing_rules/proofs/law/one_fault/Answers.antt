@@ -1,5 +1,0 @@
-use Rattle.typing_rules.proofs.OneFault.{one_fault}
-use Rattle.typing_rules.proofs.law.one_fault.Goals as goal
-
-pub returns : goal.returns
-returns c = record { one = one_fault }

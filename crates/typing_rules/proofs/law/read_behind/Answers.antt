@@ -1,5 +1,0 @@
-use Rattle.typing_rules.proofs.Shift.{read_behind}
-use Rattle.typing_rules.proofs.law.read_behind.Goals as goal
-
-pub returns : goal.returns
-returns c = record { same = read_behind }

@@ -1,5 +1,0 @@
-use Rattle.typing_rules.proofs.Shift.{text_comes, text_goes}
-use Rattle.typing_rules.proofs.law.text_behind.Goals as goal
-
-pub returns : goal.returns
-returns c = record { alone = text_comes; called = text_goes }
