@@ -16,3 +16,5 @@ mod node_states_tests;
 mod op_cross_tests;
 #[cfg(test)]
 mod op_select_tests;
+#[cfg(test)]
+mod trace_log_tests;

@@ -1,0 +1,11 @@
+mod Joins
+mod Marks
+mod Words
+mod Stopping
+mod Parts
+mod FirstLine
+mod Letters
+mod Filling
+mod Whole
+mod OneTrace
+mod Answering

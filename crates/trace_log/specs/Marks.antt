@@ -1,0 +1,23 @@
+-- Texts without a byte, and the letters of answers.
+use Rattle.std.specs.List.{list_all}
+use Rattle.std.specs.Prelude.{Bool, false, ◌==◌, ◌||◌, ◌≢◌, ℕ, List, [], ◌∷◌, map, if◌then◌else◌}
+
+abbrev pub Lacks : ℕ → List ℕ → Type 0
+Lacks stop [] = Unit {0}
+Lacks stop (b ∷ more) = (b ≢ stop) × Lacks stop more
+
+-- a byte is one of the two letters
+abbrev pub is_letter : ℕ → ℕ → ℕ → Bool
+is_letter one other b = b == one || b == other
+
+-- a text is that of some answers
+abbrev pub are_letters : ℕ → ℕ → List ℕ → Bool
+are_letters one other [] = false
+are_letters one other (b ∷ []) = b == 45 || is_letter one other b
+are_letters one other (b ∷ c ∷ bs) = list_all (is_letter one other) (b ∷ c ∷ bs)
+
+-- the answers that letters tell, of which the one stands for true
+abbrev pub answers_in : ℕ → List ℕ → List Bool
+answers_in one [] = []
+answers_in one (b ∷ []) = if b == 45 then [] else (b == one) ∷ []
+answers_in one (b ∷ c ∷ bs) = map (λ x. x == one) (b ∷ c ∷ bs)

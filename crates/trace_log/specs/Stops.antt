@@ -1,0 +1,41 @@
+-- The first line of a text that is outside the form of a trace.
+use Rattle.std.specs.Prelude.{◌≡◌, ◌<◌, ◌*◌, ◌/◌, ◌%◌, ℕ, zero, suc, List, [], ◌++◌}
+use Rattle.buffer_ends.specs.Local.{Answers}
+use Rattle.trace_log.specs.Texts.{header, line, windows_of, InBounds}
+
+-- the first k lines behind line 0, whose logs are the items of a list
+pub data Lines (many : ℕ) : ℕ → List ℕ → Type 0 where
+  none : Lines many zero []
+  more : (k : ℕ) (text : List ℕ) (log : Answers) → Lines many k text → Lines many (suc k) (text ++ line (k / many) (k % many) log)
+
+-- a line of this window and this buffer begins the text
+abbrev pub HasLine : ℕ → ℕ → List ℕ → Type 0
+HasLine window buffer text = (log : Answers) × (rest : List ℕ) × (text ≡ line window buffer log ++ rest)
+
+-- no line of place k begins the text
+abbrev pub NoLine : ℕ → ℕ → List ℕ → Type 0
+NoLine many k text = (log : Answers) (rest : List ℕ) → text ≡ line (k / many) (k % many) log ++ rest → ⊥
+
+-- Line `at` is the first that is outside: line 0, or one in the place of a line, or anything behind the last line.
+pub data StopsAt (text : List ℕ) : ℕ → Type 0 where
+  first : ((n w b : ℕ) (rest : List ℕ) → InBounds n w b → text ≡ header n w b ++ rest → ⊥) → StopsAt text zero
+  inside : (n w b k : ℕ) (front rest : List ℕ) → InBounds n w b → Lines b k front → text ≡ header n w b ++ front ++ rest
+      → k < windows_of n w * b → NoLine b k rest → StopsAt text (suc k)
+  behind : (n w b : ℕ) (front rest : List ℕ) → InBounds n w b → Lines b (windows_of n w * b) front → text ≡ header n w b ++ front ++ rest
+      → (rest ≡ [] → ⊥) → StopsAt text (suc (windows_of n w * b))
+
+-- the text of some logs, within the bounds
+pub record IsText (text : List ℕ) : Type 0 where
+  pub ticks : ℕ
+  pub window : ℕ
+  pub buffers : ℕ
+  pub lines : List ℕ
+  pub bounds : InBounds ticks window buffers
+  pub form : Lines buffers (windows_of ticks window * buffers) lines
+  pub is : text ≡ header ticks window buffers ++ lines
+
+-- the first lines stand, and this is what follows
+pub record Stands (text : List ℕ) (ticks window buffers k : ℕ) (rest : List ℕ) : Type 0 where
+  pub lines : List ℕ
+  pub form : Lines buffers k lines
+  pub is : text ≡ header ticks window buffers ++ lines ++ rest

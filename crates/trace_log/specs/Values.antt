@@ -1,0 +1,14 @@
+-- What a trace holds, as plain data.
+use Rattle.std.specs.Prelude.{ℕ, List, refl}
+use Rattle.std.specs.Coded.{Coded, code_by, coded×, coded_ℕ, coded_list}
+use Rattle.buffer_ends.specs.Local.{Answers, answers_coded}
+
+-- the ticks of a run, the ticks of a window, and the windows of each buffer
+pub record TraceValue : Type 0 where
+  pub ticks : ℕ
+  pub window : ℕ
+  pub buffers : List (List Answers)
+
+abbrev pub trace_coded : Coded TraceValue
+trace_coded = code_by (ℕ × (ℕ × List (List Answers))) (coded× coded_ℕ (coded× coded_ℕ (coded_list (coded_list answers_coded))))
+    (λ t. (t.ticks, (t.window, t.buffers))) (λ p. record { ticks = p.0; window = p.1.0; buffers = p.1.1 }) (λ _. refl)

@@ -1,0 +1,111 @@
+// Parts are cut from the front of a text.
+ghost use Rattle.std.specs.Prelude.{◌≡◌, ◌<◌, ◌^◌, ◌++◌, ◌∷◌, ℕ, List, Bool, ◌≢◌, IfSome, IsSomeAnd, decimal, position, ◌==◌};
+ghost use Rattle.std.specs.List.{list_all};
+ghost use Rattle.trace_log.specs.Marks.{Lacks, are_letters, is_letter};
+ghost use Rattle.trace_log.specs.Texts.{header, letters, line, InBounds};
+ghost use Rattle.buffer_ends.specs.Local.{Answers};
+
+use fixed_text::read_u64;
+
+// Where a byte first stands.
+fn first_mark(text: &[u8], stop: u8) -> Option<usize>
+    ensures { result ≡ position (λ b. b == stop) text.now }
+{
+    text.iter().position(|byte| *byte == stop)
+}
+
+// What stands before and behind the first such byte.
+fn cut_at(text: &[u8], stop: u8) -> Option<(&[u8], &[u8])>
+    ensures found { IfSome result (λ p. text.now ≡ p.0.now ++ stop ∷ p.1.now) }
+    ensures only { (w f : List ℕ) → Lacks stop w → text.now ≡ w ++ stop ∷ f → IsSomeAnd result (λ p. (p.0.now ≡ w) × (p.1.now ≡ f)) }
+{
+    let mark = first_mark(text, stop)?;
+    Some((&text[..mark], &text[mark + 1..]))
+}
+
+// The number before the first such byte, and what stands behind it.
+fn cut_number(text: &[u8], stop: u8) -> Option<(u64, &[u8])>
+    requires { stop < 48 }
+    ensures found { IfSome result (λ p. text.now ≡ decimal p.0 ++ stop ∷ p.1.now) }
+    ensures only { (n : ℕ) (f : List ℕ) → n < 2 ^ 64 → text.now ≡ decimal n ++ stop ∷ f → IsSomeAnd result (λ p. (p.0 ≡ n) × (p.1.now ≡ f)) }
+{
+    let (front, rest) = cut_at(text, stop)?;
+    let number = read_u64(front)?;
+    Some((number, rest))
+}
+
+// What stands behind a word.
+fn cut_word<'a>(text: &'a [u8], word: &[u8]) -> Option<&'a [u8]>
+    ensures found { IfSome result (λ r. text.now ≡ word.now ++ r.now) }
+    ensures only { (f : List ℕ) → text.now ≡ word.now ++ f → IsSomeAnd result (λ r. r.now ≡ f) }
+{
+    text.strip_prefix(word)
+}
+
+// The numbers of line 0, and what stands behind it. `None` exactly where line 0 has not its form.
+pub(crate) fn cut_header(text: &[u8]) -> Option<(u64, u64, u64, &[u8])>
+    ensures found { IfSome result (λ p. InBounds p.0 p.1 p.2 × (text.now ≡ header p.0 p.1 p.2 ++ p.3.now)) }
+    ensures only { (n w b : ℕ) (f : List ℕ) → InBounds n w b → text.now ≡ header n w b ++ f → IsSomeAnd result (λ p. (p.0 ≡ n) × (p.1 ≡ w) × (p.2 ≡ b) × (p.3.now ≡ f)) }
+{
+    let behind = cut_word(text, b"liq trace 1 ")?;
+    let (ticks, behind_ticks) = cut_number(behind, b' ')?;
+    let (window, behind_window) = cut_number(behind_ticks, b' ')?;
+    let (many, rest) = cut_number(behind_window, b'\n')?;
+    if ticks > 1_000_000_000 || window < 1 || window > 1_000_000 || many > 4096 {
+        return None;
+    }
+    Some((ticks, window, many, rest))
+}
+
+// Whether a text is that of some answers.
+fn are_letters(text: &[u8], one: u8, other: u8) -> bool
+    ensures { result ≡ are_letters one other text.now }
+{
+    match text {
+        [] => false,
+        [only] => *only == b'-' || (*only == one || *only == other),
+        _ => all_letters(text, one, other),
+    }
+}
+
+// Whether each byte is one of the two letters.
+fn all_letters(text: &[u8], one: u8, other: u8) -> bool
+    ensures { result ≡ list_all (is_letter one other) text.now }
+{
+    text.iter().all(|b| *b == one || *b == other)
+}
+
+// The letters of answers before such a byte, and what stands behind it.
+fn cut_letters(text: &[u8], stop: u8, one: u8, other: u8) -> Option<(&[u8], &[u8])>
+    requires one { one ≢ stop }
+    requires other { other ≢ stop }
+    requires none { 45 ≢ stop }
+    ensures found { IfSome result (λ p. (answers : List Bool) × (p.0.now ≡ letters one other answers) × (text.now ≡ p.0.now ++ stop ∷ p.1.now)) }
+    ensures only { (answers : List Bool) (f : List ℕ) → text.now ≡ letters one other answers ++ stop ∷ f → IsSomeAnd result (λ p. (p.0.now ≡ letters one other answers) × (p.1.now ≡ f)) }
+{
+    let (front, rest) = cut_at(text, stop)?;
+    if !are_letters(front, one, other) {
+        return None;
+    }
+    Some((front, rest))
+}
+
+// The letters of the puts and of the takes of a line, and what stands behind it. `None` exactly where the text does not
+// begin with a line of this window and this buffer.
+pub(crate) fn cut_line(text: &[u8], window: u64, buffer: u64) -> Option<(&[u8], &[u8], &[u8])>
+    ensures found { IfSome result (λ p. (log : Answers) × (p.0.now ≡ letters 65 70 log.puts) × (p.1.now ≡ letters 71 69 log.takes) × (text.now ≡ line window buffer log ++ p.2.now)) }
+    ensures only { (log : Answers) (f : List ℕ) → text.now ≡ line window buffer log ++ f → IsSomeAnd result (λ p. (p.0.now ≡ letters 65 70 log.puts) × (p.1.now ≡ letters 71 69 log.takes) × (p.2.now ≡ f)) }
+{
+    let in_window = cut_word(text, b"window ")?;
+    let (found_window, behind_window) = cut_number(in_window, b' ')?;
+    let in_buffer = cut_word(behind_window, b"buffer ")?;
+    let (found_buffer, behind_buffer) = cut_number(in_buffer, b' ')?;
+    if found_window != window || found_buffer != buffer {
+        return None;
+    }
+    let in_puts = cut_word(behind_buffer, b"puts ")?;
+    let (puts, behind_puts) = cut_letters(in_puts, b' ', b'A', b'F')?;
+    let in_takes = cut_word(behind_puts, b"takes ")?;
+    let (takes, rest) = cut_letters(in_takes, b'\n', b'G', b'E')?;
+    Some((puts, takes, rest))
+}
