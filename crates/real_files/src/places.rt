@@ -344,7 +344,9 @@ impl Places {
         folder: FileId,
         path: &str,
         make: F,
-    ) -> Result<(String, T), Unmade> {
+    ) -> Result<(String, T), Unmade>
+        requires { F.IsAlwaysCallable make }
+    {
         for number in 1..u32::MAX {
             let free = temporary_path(rt.alloc(), path, number)?;
             if self.is_place(folder, split_path(free.as_str()).1) {

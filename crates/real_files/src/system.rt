@@ -12,7 +12,7 @@ const STICKY: u32 = 0o1000;
 const REPORT: &str = "/dev/stdout";
 
 /// What tells a real file from all others that are there at the same time.
-#[derive(Clone, Copy, Debug, PartialEq, Eq)]
+#[derive(Clone, Copy, PartialEq, Eq)]
 pub(crate) struct FileId {
     device: u64,
     node: u64,
