@@ -1,8 +1,9 @@
 // Real files as a shelf. It tells no files; it counts its failures.
-ghost use Rattle.std.specs.Prelude.{◌≡◌, ◌≤◌, ◌+◌, vec_len, Ok};
+ghost use Rattle.std.specs.Prelude.{◌≡◌, ◌≢◌, ◌≤◌, ◌+◌, vec_len, Ok};
 ghost use Rattle.real_files.specs.Reading.{Extends};
 
 use crate::outputs::FileSink;
+use crate::places::Places;
 use crate::reading::read_rest;
 use liq_base::{Failed, Fetched, Shelf, ShelfFault};
 use std::alloc::Global;
@@ -10,10 +11,11 @@ use std::fs::File;
 use std::io::ErrorKind;
 use std::rt::Files;
 
-/// The files of the system, by their paths.
+/// The files of the system, by their paths, for one run: each real file is created once.
 #[derive(Drop)]
 pub struct FileShelf<'a, R: Files<File = File> + Alloc<A = Global>> {
     rt: &'a R,
+    outputs: Places,
     read_faults: u64,
     write_faults: u64,
 }
@@ -26,6 +28,7 @@ impl<'a, R: Files<File = File> + Alloc<A = Global>> FileShelf<'a, R> {
     {
         FileShelf {
             rt,
+            outputs: Places::new(rt.alloc()),
             read_faults: 0,
             write_faults: 0,
         }
@@ -55,8 +58,8 @@ impl<'a, R: Files<File = File> + Alloc<A = Global>> Shelf for FileShelf<'a, R> {
         fetched
     }
 
-    fn create(&mut self, name: &str, _room: u64) -> Result<FileSink<File>, ShelfFault> {
-        let created = FileSink::create(self.rt, self.rt.alloc(), name);
+    fn create(&mut self, name: &str, room: u64) -> Result<FileSink<File>, ShelfFault> {
+        let created = self.outputs.create(self.rt, name, room);
         if let Err(ShelfFault::Failed) = created {
             self.write_faults = self.write_faults.saturating_add(1);
         }
@@ -64,9 +67,8 @@ impl<'a, R: Files<File = File> + Alloc<A = Global>> Shelf for FileShelf<'a, R> {
     }
 
     fn close(&mut self, out: FileSink<File>) -> Result<(), Failed> {
-        let whole = out.faults() == 0;
-        let closed = out.close(self.rt);
-        if !whole || closed.is_err() {
+        let closed = self.outputs.close(self.rt, out);
+        if closed.is_err() {
             self.write_faults = self.write_faults.saturating_add(1);
         }
         closed
@@ -85,7 +87,17 @@ fn read_file<R: Files<File = File>>(
 {
     match File::open(rt, name) {
         Ok(mut file) => read_rest(&mut file, into, most),
-        Err(error) if error.kind() == ErrorKind::NotFound => Ok(Fetched::Missing),
-        Err(_) => Err(ShelfFault::Failed),
+        Err(error) => unopened(error.kind()),
     }
+}
+
+// What a failed opening says of a file: it is missing only where the system did not find it.
+fn unopened(kind: ErrorKind) -> Result<Fetched, ShelfFault>
+    ensures missing { result ≡ Ok Fetched.Missing → kind ≡ ErrorKind.NotFound }
+    ensures no_file { result ≢ Ok Fetched.Found }
+{
+    if kind == ErrorKind::NotFound {
+        return Ok(Fetched::Missing);
+    }
+    Err(ShelfFault::Failed)
 }

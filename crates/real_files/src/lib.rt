@@ -2,9 +2,12 @@
 #![tactic(auto)]
 
 mod files;
+mod names;
 mod outputs;
+mod places;
 mod reading;
 mod streams;
+mod system;
 
 pub use files::FileShelf;
 pub use outputs::FileSink;

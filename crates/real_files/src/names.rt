@@ -1,0 +1,34 @@
+// The names of files: the folder of a name, and the names of the temporary files beside it.
+use std::alloc::{AllocError, Global};
+
+/// What stands behind the name of an output in the names of its temporary files.
+const UNFINISHED: &str = ".unfinished";
+
+/// What stands there for a name that is too long for more.
+const SHORT: &str = "liq";
+
+/// Bytes of the longest name to which the system lets us add the rest.
+const LONGEST: usize = 230;
+
+/// The folder that a path leads to, and its name there.
+pub(crate) fn split_path(path: &str) -> (&str, &str) {
+    match path.rsplit_once('/') {
+        Some((folder, last)) => (if folder.is_empty() { "/" } else { folder }, last),
+        None => (".", path),
+    }
+}
+
+/// The path of the temporary file of this number beside a path: numbers from 2 on are written out.
+pub(crate) fn temporary_path(alloc: Global, path: &str, number: u32) -> Result<String, AllocError> {
+    let (folder, last) = split_path(path);
+    let mut text = if last.len() <= LONGEST {
+        String::from_str(alloc, path)?
+    } else {
+        format!(in alloc; "{folder}/{SHORT}")?
+    };
+    text.push_str(UNFINISHED)?;
+    if number > 1 {
+        write!(text, "{number}")?;
+    }
+    Ok(text)
+}
