@@ -1,5 +1,5 @@
 -- The line and the column of a place, by the bytes before it. Both count from 1.
-use Rattle.std.specs.Prelude.{ℕ, suc, ◌+◌, ◌-◌, Bool, not, ◌&&◌, ◌==◌, nat_le, List, [], ◌∷◌, length, take, drop, if◌then◌else◌}
+use Rattle.std.specs.Prelude.{ℕ, zero, suc, ◌+◌, ◌-◌, Bool, not, ◌&&◌, ◌==◌, nat_le, List, [], ◌∷◌, length, take, drop, if◌then◌else◌}
 use Rattle.std.specs.List.{count_by, suffix_len}
 use Rattle.std.specs.Str.{is_utf8}
 
@@ -14,7 +14,7 @@ abbrev pub line : List ℕ → ℕ
 line before = count_by is_lf before + 1
 
 -- the first n bytes are there, and are UTF-8
-abbrev pub are_utf8 : ℕ → List ℕ → Bool
+unfoldable pub are_utf8 : ℕ → List ℕ → Bool
 are_utf8 n bytes = nat_le n (length bytes) && is_utf8 (take n bytes)
 
 -- how many bytes the first character has: the shortest front that is UTF-8; where none is, the byte counts as one
@@ -24,7 +24,7 @@ width bytes = if are_utf8 1 bytes then 1 else (if are_utf8 2 bytes then 2 else (
 -- the first byte of each character that begins in bytes, where so many at the front belong to one that has begun
 unfoldable pub begun : ℕ → List ℕ → List ℕ
 begun inside [] = []
-begun 0 (b ∷ bs) = b ∷ begun (width (b ∷ bs) - 1) bs
+begun zero (b ∷ bs) = b ∷ begun (width (b ∷ bs) - 1) bs
 begun (suc n) (b ∷ bs) = begun n bs
 
 -- a byte for each character

@@ -1,5 +1,6 @@
 // Lines and characters, by the bytes before a place.
-ghost use Rattle.std.specs.Prelude.{◌≡◌, ◌+◌, ◌<◌, ◌≤◌, length};
+ghost use Rattle.std.specs.Prelude.{◌≡◌, ◌<◌, ◌≤◌, ◌∷◌, length, true};
+ghost use Rattle.std.specs.Str.{is_utf8};
 ghost use Rattle.script_places.specs.Counting.{line, are_utf8, width, characters, in_line, column};
 
 use std::str;
@@ -26,15 +27,26 @@ pub fn in_line(before: &[u8]) -> &[u8]
     &before[start..]
 }
 
-// Whether the first bytes, so many, are there and are UTF-8.
-fn are_utf8(count: usize, bytes: &[u8]) -> bool
-    ensures { result ≡ are_utf8 count bytes.now }
+fn is_utf8(bytes: &[u8]) -> bool
+    ensures { result ≡ is_utf8 bytes.now }
 {
-    count <= bytes.len() && str::from_utf8(&bytes[..count]).is_ok()
+    match str::from_utf8(bytes) {
+        Ok(_) => true,
+        Err(_) => false,
+    }
 }
 
-/// How many bytes the first character has. A byte with which none begins counts as one.
-pub fn width(bytes: &[u8]) -> usize
+// Whether the first bytes, so many, are there and are UTF-8.
+#[tactic(auto, unfolding(crate::specs::Counting::are_utf8))]
+fn are_utf8(count: usize, bytes: &[u8]) -> bool
+    ensures same { result ≡ are_utf8 count bytes.now }
+    ensures within { result ≡ true → count ≤ length bytes.now }
+{
+    count <= bytes.len() && is_utf8(&bytes[..count])
+}
+
+// How many bytes the first character has. A byte with which none begins counts as one.
+fn width(bytes: &[u8]) -> usize
     requires { 0 < length bytes.now }
     ensures width { result ≡ width bytes.now }
     ensures some { 0 < result }
@@ -53,6 +65,16 @@ pub fn width(bytes: &[u8]) -> usize
     }
 }
 
+/// The first byte of the first character, and what stands behind that character.
+pub fn first_character(bytes: &[u8]) -> (u8, &[u8])
+    requires { 0 < length bytes.now }
+    ensures characters { characters bytes.now ≡ result.0 ∷ characters result.1.now }
+    ensures shorter { length result.1.now < length bytes.now }
+{
+    let (_, behind) = bytes.split_at(width(bytes));
+    (bytes[0], behind)
+}
+
 // How many characters bytes have.
 fn count(bytes: &[u8]) -> usize
     ensures count { result ≡ length (characters bytes.now) }
@@ -61,7 +83,8 @@ fn count(bytes: &[u8]) -> usize
     let mut count = 0;
     let mut rest = bytes;
     while !rest.is_empty() {
-        rest = &rest[width(rest)..];
+        let (_, behind) = first_character(rest);
+        rest = behind;
         count += 1;
     }
     count

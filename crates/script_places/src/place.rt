@@ -1,4 +1,5 @@
 // Places of a text.
+ghost use Rattle.std.specs.Prelude.{◌≡◌, take, drop};
 ghost use Rattle.script_places.specs.Standing.{Stands};
 
 use crate::counting::{column, line};
@@ -17,9 +18,24 @@ pub struct Place {
 pub fn byte_place(text: &[u8], at: usize) -> Place
     ensures { Stands text.now at result }
 {
-    let before = &text[..at.min(text.len())];
+    let before = before(text, at);
     Place {
         line: line(before),
         column: column(before),
     }
+}
+
+/// What stands before the byte of this number.
+pub fn before(text: &[u8], at: usize) -> &[u8]
+    ensures { result.now ≡ take at text.now }
+{
+    &text[..at.min(text.len())]
+}
+
+/// What stands from the byte of this number on.
+pub fn behind(text: &[u8], at: usize) -> &[u8]
+    ensures { result.now ≡ drop at text.now }
+{
+    let (_, behind) = text.split_at(at.min(text.len()));
+    behind
 }

@@ -1,9 +1,9 @@
 // The two lines that show a place.
-ghost use Rattle.std.specs.Prelude.{◌≡◌, ◌++◌, IfOk, OnOk, string_bytes, take};
+ghost use Rattle.std.specs.Prelude.{◌≡◌, ◌++◌, IfOk, OnOk, codes, string_bytes};
 ghost use Rattle.script_places.specs.Pointing.{trimmed, up_to_lf, blank_for, blanks_for, head, pointer};
 
-use crate::counting::{in_line, width};
-use crate::place::byte_place;
+use crate::counting::{column, first_character, in_line, line};
+use crate::place::{before, behind};
 use liq_base::Memory;
 use std::alloc::Global;
 
@@ -12,27 +12,42 @@ use std::alloc::Global;
 pub fn pointer(alloc: Global, file: &str, text: &[u8], at: usize) -> Result<Vec<u8>, Memory>
     ensures { IfOk result (λ lines. lines.items ≡ pointer file.now text.now at) }
 {
-    let at = at.min(text.len());
-    let head = head(alloc, file, text, at)?;
-    let front = trimmed(in_line(&text[..at]));
+    let before = before(text, at);
+    let head = head(alloc, file, before)?;
+    let front = trimmed(in_line(before));
     let mut lines = Vec::new(alloc);
-    lines.extend_from_slice(head.as_bytes())?;
-    lines.extend_from_slice(front)?;
-    lines.extend_from_slice(up_to_lf(&text[at..]))?;
-    lines.push(b'\n')?;
-    push_blanks(&mut lines, head.as_bytes())?;
-    push_blanks(&mut lines, front)?;
-    lines.extend_from_slice(b"^\n")?;
+    push_line(&mut lines, head.as_bytes(), front, up_to_lf(behind(text, at)))?;
+    push_caret(&mut lines, head.as_bytes(), front)?;
     Ok(lines)
 }
 
 // FILE:LINE:COLUMN and a blank.
-fn head(alloc: Global, file: &str, text: &[u8], at: usize) -> Result<String, Memory>
-    ensures { IfOk result (λ line. string_bytes line ≡ head file.now (take at text.now)) }
+fn head(alloc: Global, file: &str, before: &[u8]) -> Result<String, Memory>
+    ensures { IfOk result (λ line. string_bytes line ≡ head file.now before.now) }
 {
-    let place = byte_place(text, at);
-    let (line, column) = (place.line, place.column);
+    let (line, column) = (line(before), column(before));
     Ok(format!(in alloc; "{file}:{line}:{column}: ")?)
+}
+
+// Adds a line of three parts.
+fn push_line(lines: &mut Vec<u8>, head: &[u8], front: &[u8], rest: &[u8]) -> Result<(), Memory>
+    ensures { OnOk result (lines.new.items ≡ lines.old.items ++ head.now ++ front.now ++ rest.now ++ codes "\n") }
+{
+    lines.extend_from_slice(head)?;
+    lines.extend_from_slice(front)?;
+    lines.extend_from_slice(rest)?;
+    lines.push(b'\n')?;
+    Ok(())
+}
+
+// Adds a line with a caret behind two parts.
+fn push_caret(lines: &mut Vec<u8>, head: &[u8], front: &[u8]) -> Result<(), Memory>
+    ensures { OnOk result (lines.new.items ≡ lines.old.items ++ blanks_for head.now ++ blanks_for front.now ++ codes "^\n") }
+{
+    push_blanks(lines, head)?;
+    push_blanks(lines, front)?;
+    lines.extend_from_slice(b"^\n")?;
+    Ok(())
 }
 
 // Without its leading blanks.
@@ -69,9 +84,10 @@ fn push_blanks(out: &mut Vec<u8>, bytes: &[u8]) -> Result<(), Memory>
     ensures { OnOk result (out.new.items ≡ out.old.items ++ blanks_for bytes.now) }
 {
     let mut rest = bytes;
-    while let [first, ..] = rest {
-        out.push(blank_for(*first))?;
-        rest = &rest[width(rest)..];
+    while !rest.is_empty() {
+        let (first, behind) = first_character(rest);
+        out.push(blank_for(first))?;
+        rest = behind;
     }
     Ok(())
 }

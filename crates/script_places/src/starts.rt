@@ -12,9 +12,10 @@ use script_lex::Token;
 pub fn start(total: usize, tokens: &[Token], token: u64) -> usize
     ensures { result ≡ start total tokens.now token }
 {
-    match tokens.get(token as usize) {
-        Some(token) => token.start as usize,
-        None => total,
+    if token < tokens.len() as u64 {
+        tokens[token as usize].start as usize
+    } else {
+        total
     }
 }
 
@@ -23,9 +24,14 @@ pub fn first_token(script: &Script, statement: u64) -> Option<u64>
     requires { IsPlaced 0 (view_script script.now) }
     ensures { result ≡ first_token (view_script script.now) statement }
 {
-    let index = statement.checked_sub(1)?;
-    let statement = script.statements.get(index as usize)?;
-    Some(first_at(&statement.part))
+    if statement == 0 {
+        return None;
+    }
+    let index = statement as usize - 1;
+    if index >= script.statements.len() {
+        return None;
+    }
+    Some(first_at(&script.statements[index].part))
 }
 
 // The first token of a statement, by its fields.
