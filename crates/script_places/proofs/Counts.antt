@@ -1,5 +1,5 @@
 -- Characters, one by one; the ends of lines, one byte more.
-use Rattle.std.proofs.Common.{◌≡◌, ℕ, zero, suc, ◌+◌, ◌-◌, ◌<◌, ◌≤◌, List, [], ◌∷◌, ◌++◌, length, map, take, drop, Bool, true, false, refl, sym, ap, ◌∙◌, arith, append_assoc, append-nil, IsUtf8}
+use Rattle.std.proofs.Common.{◌≡◌, ℕ, zero, suc, ◌+◌, ◌-◌, ◌<◌, List, [], ◌∷◌, ◌++◌, length, map, take, drop, Bool, true, false, refl, sym, ap, ◌∙◌, arith, append_assoc, append-nil, IsUtf8}
 use Rattle.std.specs.Prelude.{get_or}
 use Rattle.std.specs.List.{count_by}
 use Rattle.std.specs.Str.{is_utf8}
@@ -49,9 +49,9 @@ one_more b bs (suc w) e wide =
     let less : width (b ∷ bs) - 1 ≡ w = omega (arith, e) in
     ap (λ (n : ℕ). b ∷ begun n bs) less ∙ ap (λ (cs : List ℕ). b ∷ cs) (behind w bs)
 
-pub first_of_them : (bs : List ℕ) (w b : ℕ) → 0 < length bs → b ≡ get_or bs 0 b → w ≡ width bs → 0 < w → characters bs ≡ b ∷ characters (drop w bs)
-first_of_them [] w b some at e wide = absurd (omega (arith, some))
-first_of_them (c ∷ bs) w b some at e wide = one_more c bs w (sym e) wide ∙ ap (λ (x : ℕ). x ∷ characters (drop w (c ∷ bs))) (sym at)
+pub first_of_them : (bs : List ℕ) (w : ℕ) → 0 < length bs → w ≡ width bs → 0 < w → characters bs ≡ get_or bs 0 0 ∷ characters (drop w bs)
+first_of_them [] w some e wide = absurd (omega (arith, some))
+first_of_them (c ∷ bs) w some e wide = one_more c bs w (sym e) wide
 
 pub none_of_them : (bs : List ℕ) → length bs ≡ 0 → characters bs ≡ []
 unfolding begun

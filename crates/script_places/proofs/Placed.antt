@@ -3,7 +3,7 @@ use Rattle.std.proofs.Common.{◌≡◌, ℕ, zero, suc, ◌+◌, ◌<◌, ◌�
 use Rattle.std.specs.Prelude.{get_or, option_map, unwrap_or}
 use Rattle.std.proofs.lemmas.List.{length-append}
 use Rattle.script_lex.specs.declared.token.Token.{Token}
-use Rattle.script_grammar.specs.Tree.{Tree, APart, AStmt, none, more, Stmt, Script, BindPart, DefPart, CallPart, IfPart, Bind, Def, Call, If}
+use Rattle.script_grammar.specs.Tree.{Tree, APart, AStmt, more, Script, BindPart, DefPart, CallPart, IfPart, Bind, Def, Call, If}
 use Rattle.script_grammar.specs.Spelling.{spell, spelling}
 use Rattle.script_grammar.specs.Placed.{IsPlaced}
 use Rattle.script_grammar.specs.View.{listed, view_stmt, view_part}

@@ -1,5 +1,5 @@
 -- The two lines that show a place: FILE:LINE:COLUMN, the line's text without its leading blanks, and a caret below the place.
-use Rattle.std.specs.Prelude.{ℕ, ◌+◌, Bool, ◌||◌, ◌==◌, List, ◌++◌, map, length, take, drop, codes, decimal, if◌then◌else◌}
+use Rattle.std.specs.Prelude.{ℕ, Bool, ◌||◌, ◌==◌, List, ◌++◌, map, take, drop, codes, decimal, if◌then◌else◌}
 use Rattle.std.specs.List.{prefix_len}
 use Rattle.script_places.specs.Counting.{is_no_lf, line, column, in_line, characters}
 

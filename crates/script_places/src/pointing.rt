@@ -16,7 +16,12 @@ pub fn pointer(alloc: Global, file: &str, text: &[u8], at: usize) -> Result<Vec<
     let head = head(alloc, file, before)?;
     let front = trimmed(in_line(before));
     let mut lines = Vec::new(alloc);
-    push_line(&mut lines, head.as_bytes(), front, up_to_lf(behind(text, at)))?;
+    push_line(
+        &mut lines,
+        head.as_bytes(),
+        front,
+        up_to_lf(behind(text, at)),
+    )?;
     push_caret(&mut lines, head.as_bytes(), front)?;
     Ok(lines)
 }

@@ -1,4 +1,4 @@
-use Rattle.std.proofs.Common.{arith, rules}
+use Rattle.std.proofs.Common.{arith}
 use Rattle.script_places.proofs.Counts.{all_counted}
 use Rattle.script_places.proofs.counting.count.Goals as goal
 

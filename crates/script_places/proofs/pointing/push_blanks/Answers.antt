@@ -1,5 +1,5 @@
-use Rattle.std.proofs.Common.{arith, rules}
-use Rattle.script_places.proofs.Counts.{all_blank, blank_more}
+use Rattle.std.proofs.Common.{arith}
+use Rattle.script_places.proofs.Counts.{all_blank}
 use Rattle.script_places.proofs.pointing.push_blanks.Goals as goal
 
 pub returns : goal.returns

@@ -1,4 +1,4 @@
-use Rattle.std.proofs.Common.{sym, ap, ◌∙◌, ◌-◌, arith, rules, inr, Some, ℕ}
+use Rattle.std.proofs.Common.{sym, ap, ◌∙◌, ◌-◌, arith, inr, Some, ℕ}
 use Rattle.script_places.proofs.Placed.{first_there, first_missing}
 use Rattle.script_places.proofs.starts.first_token.Goals as goal
 
