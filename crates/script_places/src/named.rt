@@ -1,4 +1,5 @@
 // What a line of a fault names.
+use fixed_text::read_u64;
 
 /// A place that a line names.
 #[derive(Clone, Copy, Debug, PartialEq, Eq)]
@@ -30,11 +31,11 @@ pub fn named_in(line: &str) -> Option<Named> {
 // The number behind these words, at the end of a line.
 fn behind(line: &str, words: &str) -> Option<u64> {
     let (_, number) = line.split_once(words)?;
-    number.parse().ok()
+    read_u64(number.as_bytes())
 }
 
 // The number of `statement S: ..`.
 fn statement(line: &str) -> Option<u64> {
     let (number, _) = line.strip_prefix("statement ")?.split_once(':')?;
-    number.parse().ok()
+    read_u64(number.as_bytes())
 }

@@ -57,13 +57,14 @@ fn file_of<R: Env + Alloc<A = Global>>(rt: &R) -> Option<String> {
 }
 
 /// A script by its name, and its bytes where it could be read.
+#[derive(Clone, Copy)]
 struct Script<'a> {
     file: &'a str,
     text: Option<&'a [u8]>,
 }
 
 // Passes lines on to their end, and answers the status.
-fn pass_on<I: Read, W: Write + Drop>(alloc: Global, input: I, out: &mut OutSink<W>, script: &Script<'_>) -> u8 {
+fn pass_on<I: Read + Drop, W: Write + Drop>(alloc: Global, input: I, out: &mut OutSink<W>, script: &Script<'_>) -> u8 {
     let Ok(mut input) = BufReader::new(alloc, input) else {
         return NO_MEMORY;
     };
