@@ -1,0 +1,4 @@
+pub mod Counting
+pub mod Pointing
+pub mod Starts
+pub mod Standing

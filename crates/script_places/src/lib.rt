@@ -1,0 +1,13 @@
+//! From the line of a fault to the place in the script: its line and column, and the two lines that show it.
+#![tactic(auto)]
+
+mod counting;
+mod named;
+mod place;
+mod pointing;
+mod starts;
+
+pub use named::{Named, named_in};
+pub use place::{Place, byte_place};
+pub use pointing::pointer;
+pub use starts::{first_token, start};

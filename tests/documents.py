@@ -1,0 +1,211 @@
+"""What the documents say, against the repository and the built program. tests/run calls each of `checks`."""
+import os
+import re
+import shutil
+import struct
+import subprocess
+import sys
+import tempfile
+import wave
+
+TOP = os.path.dirname(os.path.dirname(os.path.abspath(__file__)))
+SECONDS = 60
+
+# Tops of paths: a text in backticks that begins with one of them and `/` is a path of the repository.
+TOPS = ("crates", "docs", "tests", "bench", "examples")
+
+
+def text_of(path):
+    with open(os.path.join(TOP, path), encoding="utf-8") as file:
+        return file.read()
+
+
+def documents():
+    """The pages of the repository, by their paths from its top."""
+    found = ["README.md", "liq.1"]
+    for folder in ("docs", "examples", "bench", "crates"):
+        for base, folders, names in os.walk(os.path.join(TOP, folder)):
+            folders[:] = [name for name in folders if name != "out"]
+            found += [os.path.relpath(os.path.join(base, name), TOP) for name in names if name.endswith(".md")]
+    return sorted(name for name in found if os.path.exists(os.path.join(TOP, name)))
+
+
+def is_there(path, places):
+    """Whether a path exists, counted from one of these folders; words in capitals and a star stand for any name."""
+    if re.search(r"[A-Z]{4,}|NAME|[*{<]", re.sub(r"README\.md|DECISIONS\.md", "", path)):
+        return True
+    return any(os.path.exists(os.path.join(TOP, place, path)) for place in places)
+
+
+def paths_that_are_missing(_program):
+    """Each path in backticks and each link of the documents exists. The page of a crate names files of its own, and of the
+    crates that it names."""
+    found = []
+    for page in documents():
+        text, place = text_of(page), os.path.dirname(page)
+        named = re.findall(r"`((?:%s)/[^`\s]*)`" % "|".join(TOPS), text)
+        places = ["", place]
+        if page.startswith("crates/"):
+            named += re.findall(r"`((?:specs|proofs|src|must-fail)/[\w/.-]+)`", text)
+            places += [f"crates/{name}" for name in re.findall(r"`(?:crates/)?([a-z_]+)[`/]", text)]
+        linked = [link for link in re.findall(r"\]\(([^)\s]+)\)", text) if not re.match(r"https?:|#", link)]
+        found += [f"{page} names {path}" for path in named if not is_there(path, places)]
+        found += [f"{page} links to {link}" for link in linked if not os.path.exists(os.path.join(TOP, place, link.split("#")[0]))]
+    return found
+
+
+def cells_of(line):
+    return [cell.strip() for cell in re.split(r"(?<!\\)\|", line.strip())[1:-1]]
+
+
+def section(text, title):
+    """The lines below a title, up to the next one."""
+    return text.split(f"## {title}\n", 1)[1].split("\n## ", 1)[0].splitlines()
+
+
+def written_wave(path, channels, samples):
+    with wave.open(path, "wb") as file:
+        file.setnchannels(channels)
+        file.setsampwidth(2)
+        file.setframerate(44100)
+        file.writeframes(struct.pack(f"<{len(samples)}h", *samples))
+
+
+def left_side(path, count):
+    with wave.open(path, "rb") as file:
+        frames, channels = file.readframes(file.getnframes()), file.getnchannels()
+    return list(struct.unpack(f"<{len(frames) // 2}h", frames))[::channels][:count]
+
+
+def example_differs(program, call, script, report, samples):
+    """What is wrong with a row of the table of examples, or nothing."""
+    if call + "(" not in script:
+        return f"does not call {call}"
+    with tempfile.TemporaryDirectory(prefix="liq-page-") as place:
+        written_wave(os.path.join(place, "tone.wav"), 1, [1, 2, 3])
+        written_wave(os.path.join(place, "wide.wav"), 2, [5, 7, 10, 20])
+        with open(os.path.join(place, "list.m3u"), "w", encoding="utf-8") as file:
+            file.write("tone.wav\n")
+        with open(os.path.join(place, "f"), "w", encoding="utf-8") as file:
+            file.write(script)
+        run = {"cwd": place, "stdin": subprocess.DEVNULL, "capture_output": True, "timeout": SECONDS}
+        done = subprocess.run([program, "check", "f"], check=False, **run)
+        told = (done.stdout + done.stderr).decode()
+        if told != report + "\n":
+            return f"answers {told!r}"
+        if not samples:
+            return ""
+        subprocess.run([program, "render", "f", "1"], check=True, **run)
+        played = left_side(os.path.join(place, "A"), len(samples))
+        return "" if played == samples else f"plays {played}"
+
+
+def builtins_that_differ(program):
+    """The page of builtins has a row and an example for each builtin, and each example answers and plays what it says."""
+    page = text_of("docs/builtins.md")
+    table = text_of("crates/typing_rules/specs/Table.antt").split("builtin_names =", 1)[1].split("\n\n", 1)[0]
+    names = re.findall(r'codes "([\w.]+)"', table)
+    rows = [re.match(r"`([\w.]+)\(", cells[0])[1] for cells in map(cells_of, section(page, "The calls"))
+            if len(cells) == 6 and cells[0].startswith("`")]
+    found = [] if rows == names else [f"the rows are {rows}, the builtins {names}"]
+    examples = [cells for cells in map(cells_of, section(page, "An example of each")) if len(cells) == 4 and cells[0].startswith("`")]
+    if [cells[0].strip("`") for cells in examples] != names:
+        found.append("the examples are not those of the builtins")
+    for call, script, report, samples in examples:
+        lines = re.findall(r"`([^`]*)`", script)
+        wrong = example_differs(program, call.strip("`"), "\n".join(lines) + "\n", report.strip("`"), [int(part) for part in samples.split()])
+        found += [f"the example of {call} {wrong}"] if wrong else []
+    return found
+
+
+# A text for each word of the usage line.
+WORDS = {"FILE": "f", "N": "1", "W": "1", "D:HH:MM:SS": "1:00:00:00", "NAME": "t", "SEED": "1", "SIZE": "1"}
+
+
+def parts_of(usage):
+    """The forms of a usage line: each is its words, and its options."""
+    for form in usage.split(" | "):
+        yield re.sub(r" \[[^]]*\]", "", form), re.findall(r"\[([^]]*)\]", form)
+
+
+def spoken(form):
+    """Words of a form."""
+    return [re.sub("[A-Z]+$|D:HH:MM:SS$", lambda match: WORDS[match[0]], word) for word in form.split()]
+
+
+def known_forms(program):
+    """The forms of the usage line that the program takes, as far as it takes them."""
+    with tempfile.TemporaryDirectory(prefix="liq-page-") as place:
+        with open(os.path.join(place, "f"), "w", encoding="utf-8") as file:
+            file.write('output.file(%wav, "A", blank())')
+
+        def status(words):
+            return subprocess.run([program] + words, cwd=place, stdin=subprocess.DEVNULL, capture_output=True, check=False, timeout=SECONDS)
+        usage = status([]).stderr.decode().strip().removeprefix("usage: ")
+        return {form: [option for option in options if status(spoken(form) + spoken(option)).returncode != 2]
+                for form, options in parts_of(usage) if status(spoken(form)).returncode != 2}
+
+
+def forms_of_the_man_page():
+    """The forms of its SYNOPSIS."""
+    text = text_of("liq.1").split(".SH SYNOPSIS\n", 1)[1].split(".SH ", 1)[0]
+    forms = [part.split(".YS")[0] for part in text.split(".SY liq\n")[1:]]
+    plain = [re.sub(r"\\f.", "", re.sub(r"^\.(?:B|I|RB) ", "", form, flags=re.M)).replace("\\-", "-").replace(" ]", "]").replace("[ ", "[") for form in forms]
+    return dict(parts_of(" | ".join(" ".join(form.split()) for form in plain)))
+
+
+def forms_of_the_readme():
+    """The forms of its table of words."""
+    rows = [cells_of(line) for line in section(text_of("README.md"), "The words")]
+    return dict(parts_of(" | ".join(row[0].strip("`") for row in rows if row and row[0].startswith("`"))))
+
+
+def completed(words):
+    """What bash offers for the last of these words."""
+    line = " ".join(f"'{word}'" for word in words)
+    script = f'. completion/liq.bash; COMP_WORDS=({line}); COMP_CWORD={len(words) - 1}; _liq; printf "%s\\n" "${{COMPREPLY[@]}}"'
+    done = subprocess.run(["bash", "-c", script], cwd=TOP, capture_output=True, check=True, timeout=SECONDS)
+    return done.stdout.decode().split()
+
+
+def forms_that_differ(program):
+    """The man page, the README and the completion have the forms that the program takes, and the page has no warning."""
+    known = known_forms(program)
+    found = [f"{name} has {forms}, the program {known}"
+             for name, forms in (("liq.1", forms_of_the_man_page()), ("README.md", forms_of_the_readme())) if forms != known]
+    if shutil.which("bash"):
+        if completed(["liq", ""]) != [form.split()[0] for form in known]:
+            found.append(f"bash offers {completed(['liq', ''])}")
+        for form, options in known.items():
+            offered, wanted = completed(["liq"] + spoken(form) + [""]), [re.sub("=.*", "=", option) for option in options]
+            found += [f"bash offers {offered} behind {form}"] if offered != wanted else []
+    if shutil.which("man"):
+        done = subprocess.run(["man", "--warnings", "-l", "liq.1"], cwd=TOP, capture_output=True, check=False, timeout=SECONDS)
+        found += [done.stderr.decode()] if done.stderr or done.returncode else []
+    return found
+
+
+def recipes_that_fail(program):
+    """Each recipe whose program is installed runs, in a folder of the examples with `liq` on PATH."""
+    found = []
+    for needs, script in re.findall(r"```sh\n# needs (\w+)\n(.*?)```", text_of("examples/README.md"), flags=re.S):
+        if not shutil.which(needs):
+            continue
+        with tempfile.TemporaryDirectory(prefix="liq-page-") as place:
+            shutil.copytree(os.path.join(TOP, "examples"), os.path.join(place, "examples"))
+            os.symlink(program, os.path.join(place, "liq"))
+            run = {"cwd": os.path.join(place, "examples"), "capture_output": True, "timeout": SECONDS}
+            subprocess.run([sys.executable, "sounds.py"], check=True, **run)
+            done = subprocess.run(["sh", "-c", script.replace("540000", "50")], check=False, stdin=subprocess.DEVNULL,
+                                  env={**os.environ, "PATH": f"{place}:{os.environ['PATH']}"}, **run)
+            if done.returncode or done.stderr:
+                found.append(f"the recipe with {needs} ends with {done.returncode}: {done.stderr.decode()[-300:]}")
+    return found
+
+
+checks = {
+    "documents/paths": paths_that_are_missing,
+    "documents/builtins": builtins_that_differ,
+    "documents/forms": forms_that_differ,
+    "documents/recipes": recipes_that_fail,
+}
