@@ -1,5 +1,5 @@
 -- What is found of a plan is one.
-use Rattle.std.proofs.Common.{◌≡◌, ◌∙◌, ℕ, List, Some, None, refl, sym, ap}
+use Rattle.std.proofs.Common.{◌≡◌, ◌∙◌, ℕ, List, Some, None, sym, ap}
 use Rattle.std.specs.Prelude.{Ok, Err, Result}
 use Rattle.liq_base.specs.Files.{Files}
 use Rattle.frame_core.specs.Library.{Sounds, IsLibrary}

@@ -1,13 +1,9 @@
 -- The walk from a clock up to its main clock.
-use Rattle.std.proofs.Common.{◌≡◌, ◌∙◌, ℕ, zero, suc, List, get_or, ap, refl, sym}
-use Rattle.clock_infer.specs.declared.clock_map.ClockMap.{ClockMap}
+use Rattle.std.proofs.Common.{◌≡◌, ℕ, zero, suc, ap, refl}
 use Rattle.clock_infer.specs.declared.clock_map.NodeClock.{NodeClock}
 use Rattle.clock_infer.specs.declared.clock_map.NodeClock.TheVariants.{Main, Sub}
-use Rattle.plan_core.specs.declared.plan.Plan.{Plan}
-use Rattle.run_records.specs.Buffers.{main_of, main_within}
-use Rattle.stream_meaning.specs.Instants.{clock_of}
+use Rattle.run_records.specs.Buffers.{main_within}
 use Rattle.stations.specs.Stations.{Station, bare}
-use Rattle.station_check.specs.Ends.{IsOf}
 
 -- no step is left, or none is needed
 pub walked : (station : Station) (depth : ℕ) (clock : NodeClock) → depth ≡ 0 → main_within (bare station) depth clock ≡ main_within (bare station) 0 clock

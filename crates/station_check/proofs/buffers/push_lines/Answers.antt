@@ -1,4 +1,4 @@
-use Rattle.std.proofs.Common.{◌≡◌, ◌<◌, length, arith, ap}
+use Rattle.std.proofs.Common.{◌<◌, length, arith, ap}
 use Rattle.station_check.proofs.Lines.{found_at, lines_told}
 use Rattle.station_check.proofs.buffers.push_lines.Goals as goal
 

@@ -16,12 +16,15 @@ returns c =
     let clocks = c.args.ready.now.clocks in
     let mark = mark_at c.in_ok-marks.marks.items in
     let all : take c.loop-sink.sink-index plan.sinks ≡ plan.sinks =
-    take_all c.loop-sink.sink-index plan.sinks (omega (arith, c.loop-sink-test.false, ap length c.as_slice-sink-items.ensures)) in
-    (mark, c.in_ok-marks.ensures.exact, λ station plan_is clocks_are.
-        c.in_ok-push_buffers.ensures station (record { plan_is = plan_is; clocks_are = clocks_are })
-        ∙ ap (λ text. text ++ buffer_lines station 0 plan.buffers) (c.loop-sink.invariant ∙ ap (checked_lines clocks mark) all)
-        ∙ ap (λ (m : ClockMap). checked_lines m mark plan.sinks ++ buffer_lines station 0 plan.buffers) (sym clocks_are)
-        ∙ ap (λ (p : Plan). checked_lines station.clocks mark p.sinks ++ buffer_lines station 0 p.buffers) (sym plan_is))
+    take_all c.loop-sink.sink-index plan.sinks (omega (arith, c.loop-sink-test.false, ap length c.as_slice-sink-items.ensures)) in (
+      mark,
+      c.in_ok-marks.ensures.exact,
+      λ station plan_is clocks_are.
+          c.in_ok-push_buffers.ensures station (record { plan_is = plan_is; clocks_are = clocks_are })
+          ∙ ap (λ text. text ++ buffer_lines station 0 plan.buffers) (c.loop-sink.invariant ∙ ap (checked_lines clocks mark) all)
+          ∙ ap (λ (m : ClockMap). checked_lines m mark plan.sinks ++ buffer_lines station 0 plan.buffers) (sym clocks_are)
+          ∙ ap (λ (p : Plan). checked_lines station.clocks mark p.sinks ++ buffer_lines station 0 p.buffers) (sym plan_is),
+    )
 
 pub loop-sink-preserved : goal.loop-sink-preserved
 loop-sink-preserved c =
