@@ -4,11 +4,10 @@ ghost use Rattle.std.specs.Prelude.{◌≡◌, ◌∷◌, [], Some, length, slic
 ghost use Rattle.plan_core.specs.Plans.{IsWellFormed};
 ghost use Rattle.clock_infer.specs.Answers.{IsClockMap};
 ghost use Rattle.frame_core.specs.Library.{IsLibrary};
-ghost use Rattle.engine_ticks.specs.Lanes.{HasNoReaders};
-ghost use Rattle.clock_engine.specs.Engines.{AreWorks};
+ghost use Rattle.clock_engine.specs.Engines.{AreWorks, setting_of};
 
 use buffer_ends::LocalTaps;
-use clock_engine::{ClockEngine, TickFault, has_no_readers};
+use clock_engine::{ClockEngine, TickFault};
 use clock_infer::{ClockMap, NodeClock, assign};
 use fixed_text::WeekSecond;
 use frame_core::{Library, Track};
@@ -140,7 +139,6 @@ fn begun<'a>(
     start: WeekSecond,
 ) -> Result<ClockEngine<'a, MemSink>, (Vec<MemSink>, Memory)>
     requires plan { IsWellFormed plan.now }
-    requires readers { HasNoReaders plan.now }
     requires clocks { IsClockMap plan.now clocks.now }
     requires library { IsLibrary library.now }
     requires leaves { length library.now.leaves ≡ length plan.now.nodes }
@@ -149,6 +147,7 @@ fn begun<'a>(
     requires one { length outs.items ≡ 1 }
     ensures works { IfOk result (λ engine. AreWorks engine.works) }
     ensures sinks { IfOk result (λ engine. length engine.outs.items ≡ length engine.works.ports.items) }
+    ensures setting { IfOk result (λ engine. (setting_of engine.works).plan ≡ plan.now) }
 {
     ClockEngine::new(alloc, plan, clocks, 0, library, outs, start)
 }
@@ -156,34 +155,42 @@ fn begun<'a>(
 // Makes a tick of an engine that runs.
 fn tick(
     rt: &impl Abort,
+    alloc: Global,
     engine: &mut ClockEngine<'_, MemSink>,
     taps: &mut LocalTaps,
 ) -> Result<(), TickFault>
     requires works { AreWorks engine.old.works }
     requires sinks { length engine.old.outs.items ≡ length engine.old.works.ports.items }
+    requires buffers { length taps.old ≡ length (setting_of engine.old.works).plan.buffers }
     ensures works { AreWorks engine.new.works }
     ensures sinks { length engine.new.outs.items ≡ length engine.new.works.ports.items }
+    ensures buffers { length taps.new ≡ length taps.old }
+    ensures setting { setting_of engine.new.works ≡ setting_of engine.old.works }
 {
     assert!(rt; engine.works.ticks < 1_000_000_000);
     assert!(rt; engine.works.stopped.is_none());
-    engine.tick(taps)
+    engine.tick(alloc, taps)
 }
 
 // The first two ticks are made, the third ends so.
 fn check_ticks(
     rt: &impl Abort,
+    alloc: Global,
     engine: &mut ClockEngine<'_, MemSink>,
     taps: &mut LocalTaps,
     ending: Result<(), TickFault>,
 )
     requires works { AreWorks engine.old.works }
     requires sinks { length engine.old.outs.items ≡ length engine.old.works.ports.items }
+    requires buffers { length taps.old ≡ length (setting_of engine.old.works).plan.buffers }
     ensures works { AreWorks engine.new.works }
     ensures sinks { length engine.new.outs.items ≡ length engine.new.works.ports.items }
+    ensures buffers { length taps.new ≡ length taps.old }
+    ensures setting { setting_of engine.new.works ≡ setting_of engine.old.works }
 {
-    assert_eq!(rt; tick(rt, engine, taps), Ok(()));
-    assert_eq!(rt; tick(rt, engine, taps), Ok(()));
-    assert_eq!(rt; tick(rt, engine, taps), ending);
+    assert_eq!(rt; tick(rt, alloc, engine, taps), Ok(()));
+    assert_eq!(rt; tick(rt, alloc, engine, taps), Ok(()));
+    assert_eq!(rt; tick(rt, alloc, engine, taps), ending);
     assert_eq!(rt; engine.stopped(), ending.err());
     assert_eq!(rt; engine.works.ticks, if ending.is_ok() { 3 } else { 2 });
 }
@@ -210,18 +217,18 @@ fn check_clock(
     held: &[u8],
 ) -> Result<(), Fail>
     requires plan { IsWellFormed plan.now }
-    requires readers { HasNoReaders plan.now }
     requires clocks { IsClockMap plan.now clocks.now }
     requires library { IsLibrary library.now }
     requires leaves { length library.now.leaves ≡ length plan.now.nodes }
     requires sinks { plan.now.sinks ≡ SinkPlan.Output [] node false ∷ [] }
     requires clock { slice_get clocks.now.of node ≡ Some (NodeClock.Main 0) }
+    requires buffers { length taps.old ≡ length plan.now.buffers }
 {
     let outs = one_sink(alloc, fails)?;
     let start = WeekSecond { second: 0 };
     match begun(alloc, plan, clocks, node, library, outs, start) {
         Ok(mut engine) => {
-            check_ticks(rt, &mut engine, taps, ending);
+            check_ticks(rt, alloc, &mut engine, taps, ending);
             check_held(rt, &engine.into_outs(), held);
             Ok(())
         }
@@ -246,7 +253,6 @@ fn check(
     requires sinks { plan.now.sinks ≡ SinkPlan.Output [] node false ∷ [] }
 {
     let clocks = assign(alloc, plan)?;
-    assert!(rt; has_no_readers(plan));
     assert!(rt; lies_in_first(&clocks, node));
     let mut taps = LocalTaps::new(alloc, plan)?;
     check_clock(
