@@ -136,28 +136,17 @@ fn printed(alloc: Global, text: &[u8]) -> Result<Vec<u8>, TraceFault> {
     Ok(out)
 }
 
-// How many lines end in a text.
-fn lines_of(text: &[u8]) -> u64 {
-    let mut lines = 0;
-    for byte in text {
-        if *byte == b'\n' {
-            lines += 1;
-        }
-    }
-    lines
-}
-
 // Lines of the whole trace by their numbers, behind its first; another byte stands as it is.
 fn lined(alloc: Global, lines: &[u8]) -> Result<Vec<u8>, Memory> {
     let mut text = Vec::new(alloc);
     text.extend_from_slice(b"liq trace 1 3 2 2\n")?;
     for line in lines {
-        match line {
+        match *line {
             b'1' => text.extend_from_slice(b"window 0 buffer 0 puts AF takes -\n")?,
             b'2' => text.extend_from_slice(b"window 0 buffer 1 puts - takes GE\n")?,
             b'3' => text.extend_from_slice(b"window 1 buffer 0 puts A takes G\n")?,
             b'4' => text.extend_from_slice(b"window 1 buffer 1 puts - takes -\n")?,
-            other => text.push(*other)?,
+            other => text.push(other)?,
         }
     }
     Ok(text)
@@ -166,10 +155,21 @@ fn lined(alloc: Global, lines: &[u8]) -> Result<Vec<u8>, Memory> {
 // Each text is read, and printed as it was.
 fn check_traces(rt: &impl Abort, alloc: Global, texts: &[&[u8]]) -> Result<(), Fail> {
     for text in texts {
-        let out = printed(alloc, text)?;
+        let out = printed(alloc, *text)?;
         assert_eq!(rt; out.as_slice(), *text);
     }
     Ok(())
+}
+
+// Each front of a text is told at the line that is not whole in it.
+fn check_fronts(rt: &impl Abort, alloc: Global, text: &[u8]) {
+    let mut line: u64 = 0;
+    for length in 0..text.len() {
+        assert_eq!(rt; told_line(alloc, &text[..length]), Some(line));
+        if text[length] == b'\n' {
+            line = line.saturating_add(1);
+        }
+    }
 }
 
 // Each text behind this front is told at this line.
@@ -183,7 +183,7 @@ fn check_lines(
     for text in texts {
         let mut whole = Vec::new(alloc);
         whole.extend_from_slice(front)?;
-        whole.extend_from_slice(text)?;
+        whole.extend_from_slice(*text)?;
         assert_eq!(rt; told_line(alloc, &whole), Some(line));
     }
     Ok(())
@@ -206,10 +206,7 @@ fn a_trace_is_printed_as_it_was_read(rt: HostRuntime) -> Result<(), Fail> {
 
 #[test]
 fn a_trace_that_is_cut_is_told_at_the_line_that_is_not_whole(rt: HostRuntime) {
-    for length in 0..WHOLE.len() {
-        let front = &WHOLE[..length];
-        assert_eq!(rt; told_line(rt.alloc(), front), Some(lines_of(front)));
-    }
+    check_fronts(&rt, rt.alloc(), WHOLE);
 }
 
 #[test]

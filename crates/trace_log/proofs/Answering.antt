@@ -1,5 +1,5 @@
 -- What is answered for a text: each answer at its end of `read`.
-use Rattle.std.proofs.Common.{◌≡◌, ◌≢◌, ◌↔◌, ℕ, List, Result, Ok, Err, refl, sym, ap, ◌∙◌, subst}
+use Rattle.std.proofs.Common.{◌≡◌, ◌↔◌, ℕ, List, Result, Err, sym, ap, ◌∙◌, subst}
 use Rattle.trace_log.specs.Values.{TraceValue}
 use Rattle.trace_log.specs.Texts.{trace_text, IsTrace}
 use Rattle.trace_log.specs.Stops.{StopsAt, IsText}
@@ -10,9 +10,9 @@ use Rattle.trace_log.proofs.OneTrace.{one_trace}
 
 pub told_there : (text : List ℕ) (at : ℕ) (r : Result TraceValue TraceFault) → r ≡ Err (faults.NotTrace at) → StopsAt text at → (j : ℕ) → (r ≡ Err (faults.NotTrace j)) ↔ StopsAt text j
 told_there text at r is stops j = (
-    λ e. let same : at ≡ j = cc in subst (λ n. StopsAt text n) same stops,
-    λ s. is ∙ ap (λ n. Err (faults.NotTrace n)) (one_stop text at j stops s),
-  )
+  λ e. let same : at ≡ j = cc in subst (λ n. StopsAt text n) same stops,
+  λ s. is ∙ ap (λ n. Err (faults.NotTrace n)) (one_stop text at j stops s),
+)
 
 pub told_never : (text : List ℕ) (r : Result TraceValue TraceFault) → ((j : ℕ) → r ≡ Err (faults.NotTrace j) → ⊥) → IsText text → (j : ℕ) → (r ≡ Err (faults.NotTrace j)) ↔ StopsAt text j
 told_never text r never whole j = (λ e. absurd (never j e), λ s. absurd (stop_excludes text j s whole))

@@ -1,11 +1,11 @@
 -- The logs of lines are put to their buffers, one line after the other.
-use Rattle.std.proofs.Common.{◌≡◌, ◌≢◌, ◌<◌, ◌≤◌, ◌+◌, ◌*◌, ◌/◌, ◌%◌, ◌⊎◌, inl, inr, ℕ, zero, suc, List, [], ◌∷◌, ◌++◌, length, get_or, set, replicate, refl, sym, ap, ◌∙◌, subst, arith, append_assoc, append-nil, add-one, length-append}
+use Rattle.std.proofs.Common.{◌≡◌, ◌≢◌, ◌<◌, ◌≤◌, ◌+◌, ◌*◌, ◌/◌, ◌%◌, ◌⊎◌, inl, inr, ℕ, zero, suc, List, [], ◌∷◌, ◌++◌, length, get_or, set, replicate, refl, sym, ap, ◌∙◌, subst, arith, append_assoc, add-one, length-append}
 use Rattle.std.proofs.lemmas.Bool.{cases_lt}
 use Rattle.std.proofs.lemmas.Bool.Decides.{eqb_tells}
 use Rattle.std.proofs.lemmas.Nat.{div-add-mod', div-mul-add, mod-mul-add, mod_below, mul-le}
 use Rattle.std.proofs.lemmas.List.{length-set, length-replicate, get_or-replicate, get_or-set_same, get_or-set_other, get_or_append_left, get_or_push}
 use Rattle.buffer_ends.specs.Local.{Answers, no_answers}
-use Rattle.trace_log.specs.Texts.{header, line, lines_below, log_at, place_line}
+use Rattle.trace_log.specs.Texts.{line, lines_below, log_at, place_line}
 
 -- buffer b has n windows where the lines before place k are read
 abbrev pub WindowsBefore : ℕ → ℕ → ℕ → ℕ → Type 0
@@ -29,14 +29,14 @@ next_place k m some =
     let whole : k / m * m + k % m ≡ k = div-add-mod' k m in
     let below : k % m < m = mod_below k m some in
     elim (cases_lt (k % m + 1) m) [
-      inl h ↦
-        let e : k + 1 ≡ k / m * m + (k % m + 1) = omega (arith, whole) in
-        inl (h, (ap (λ x. x / m) e ∙ div-mul-add (k / m) m (k % m + 1) h, ap (λ x. x % m) e ∙ mod-mul-add (k / m) m (k % m + 1) h))
-    | inr h ↦
-        let last : k % m + 1 ≡ m = omega (arith, below, h) in
-        let more : (k / m + 1) * m ≡ k / m * m + m = omega arith in
-        let e : k + 1 ≡ (k / m + 1) * m + 0 = omega (arith, whole, last, more) in
-        inr (last, (ap (λ x. x / m) e ∙ div-mul-add (k / m + 1) m 0 some, ap (λ x. x % m) e ∙ mod-mul-add (k / m + 1) m 0 some))
+      | inl h ↦
+          let e : k + 1 ≡ k / m * m + (k % m + 1) = omega (arith, whole) in
+          inl (h, (ap (λ x. x / m) e ∙ div-mul-add (k / m) m (k % m + 1) h, ap (λ x. x % m) e ∙ mod-mul-add (k / m) m (k % m + 1) h))
+      | inr h ↦
+          let last : k % m + 1 ≡ m = omega (arith, below, h) in
+          let more : (k / m + 1) * m ≡ k / m * m + m = omega arith in
+          let e : k + 1 ≡ (k / m + 1) * m + 0 = omega (arith, whole, last, more) in
+          inr (last, (ap (λ x. x / m) e ∙ div-mul-add (k / m + 1) m 0 some, ap (λ x. x % m) e ∙ mod-mul-add (k / m + 1) m 0 some))
     ]
 
 own_windows : (m k n : ℕ) → WindowsBefore m k (k % m) n → n ≡ k / m
@@ -46,19 +46,21 @@ own_more : (m k n : ℕ) → 0 < m → WindowsBefore m k (k % m) n → WindowsBe
 own_more m k n some w =
     let now : n ≡ k / m = own_windows m k n w in
     elim (next_place k m some) [
-      inl p ↦ inl (omega (arith, p.1.1), omega (arith, now, p.1.0))
-    | inr p ↦ inr (omega (arith, p.1.1), omega (arith, now, p.1.0))
+      | inl p ↦ inl (omega (arith, p.1.1), omega (arith, now, p.1.0))
+      | inr p ↦ inr (omega (arith, p.1.1), omega (arith, now, p.1.0))
     ]
 
 other_same : (m k b n : ℕ) → 0 < m → b < m → b ≢ k % m → WindowsBefore m k b n → WindowsBefore m (k + 1) b n
 other_same m k b n some below apart w = elim (next_place k m some) [
-    inl p ↦ elim w [
-        inl q ↦ inl (omega (arith, p.1.1, q.0), omega (arith, p.1.0, q.1))
-      | inr q ↦ inr (omega (arith, p.1.1, q.0, apart), omega (arith, p.1.0, q.1)) ]
-  | inr p ↦ elim w [
-        inl q ↦ inr (omega (arith, p.1.1), omega (arith, p.1.0, q.1))
-      | inr q ↦ absurd (omega (arith, p.0, q.0, apart, below)) ]
+  | inl p ↦ elim w [
+    | inl q ↦ inl (omega (arith, p.1.1, q.0), omega (arith, p.1.0, q.1))
+    | inr q ↦ inr (omega (arith, p.1.1, q.0, apart), omega (arith, p.1.0, q.1))
   ]
+  | inr p ↦ elim w [
+    | inl q ↦ inr (omega (arith, p.1.1), omega (arith, p.1.0, q.1))
+    | inr q ↦ absurd (omega (arith, p.0, q.0, apart, below))
+  ]
+]
 
 pub filled_none : (m : ℕ) → Filled (replicate m []) m 0
 filled_none m = record {
@@ -74,9 +76,9 @@ pub filled_more : (bs : List (List Answers)) (m k : ℕ) (log : Answers) → 0 <
 filled_more bs m k log some f = record {
   all = length-set bs (k % m) (longer bs m k log) ∙ f.all;
   each = λ b h. elim (eqb_tells b (k % m)) [
-      inl p ↦ subst (λ i. WindowsBefore m (k + 1) i (length (get_or (with_log bs m k log) i []))) (sym p.1) (own h)
+    | inl p ↦ subst (λ i. WindowsBefore m (k + 1) i (length (get_or (with_log bs m k log) i []))) (sym p.1) (own h)
     | inr p ↦ subst (λ n. WindowsBefore m (k + 1) b n) (sym (ap length (get_or-set_other bs (k % m) b (longer bs m k log) [] p.1))) (other_same m k b _ some h p.1 (f.each b h))
-    ];
+  ];
 }
   where
     inside : k % m < length bs
@@ -94,20 +96,20 @@ earlier j k m below same =
     let a : j / m * m + j % m ≡ j = div-add-mod' j m in
     let b : k / m * m + k % m ≡ k = div-add-mod' k m in
     elim (cases_lt (j / m) (k / m)) [
-      inl h ↦ h
-    | inr h ↦ let c : k / m * m ≤ j / m * m = mul-le (k / m) m (j / m) m h (omega arith) in absurd (omega (arith, a, b, c, below, same))
+      | inl h ↦ h
+      | inr h ↦ let c : k / m * m ≤ j / m * m = mul-le (k / m) m (j / m) m h (omega arith) in absurd (omega (arith, a, b, c, below, same))
     ]
 
 log_kept : (bs : List (List Answers)) (m k j : ℕ) (log : Answers) → 0 < m → Filled bs m k → j < k → log_at (with_log bs m k log) (j % m) (j / m) ≡ log_at bs (j % m) (j / m)
 log_kept bs m k j log some f below = elim (eqb_tells (j % m) (k % m)) [
-    inl p ↦
+  | inl p ↦
       let inside : k % m < length bs = omega (arith, f.all, mod_below k m some) in
       let now : length (get_or bs (k % m) []) ≡ k / m = own_windows m k _ (f.each (k % m) (mod_below k m some)) in
       let short : j / m < length (get_or bs (k % m) []) = omega (arith, now, earlier j k m below p.1) in
       subst (λ i. log_at (with_log bs m k log) i (j / m) ≡ log_at bs i (j / m)) (sym p.1)
-        (ap (λ (l : List Answers). get_or l (j / m) no_answers) (get_or-set_same bs (k % m) (longer bs m k log) [] inside) ∙ get_or_append_left (get_or bs (k % m) []) (log ∷ []) no_answers (j / m) short)
+      (ap (λ (l : List Answers). get_or l (j / m) no_answers) (get_or-set_same bs (k % m) (longer bs m k log) [] inside) ∙ get_or_append_left (get_or bs (k % m) []) (log ∷ []) no_answers (j / m) short)
   | inr p ↦ ap (λ (l : List Answers). get_or l (j / m) no_answers) (get_or-set_other bs (k % m) (j % m) (longer bs m k log) [] p.1)
-  ]
+]
 
 log_new : (bs : List (List Answers)) (m k : ℕ) (log : Answers) → 0 < m → Filled bs m k → log_at (with_log bs m k log) (k % m) (k / m) ≡ log
 log_new bs m k log some f =

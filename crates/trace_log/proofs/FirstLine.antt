@@ -1,20 +1,11 @@
 -- A text has one first line outside the form, and a text of the form has none.
-use Rattle.std.proofs.Common.{◌≡◌, ◌<◌, ◌*◌, ◌/◌, ◌%◌, ◌⊎◌, ◌^◌, ℕ, zero, suc, List, [], ◌∷◌, ◌++◌, refl, sym, ap, ◌∙◌, subst, arith, append_assoc, append-nil, codes, length, decimal, Bool, inl, inr}
-use Rattle.std.specs.Str.Parse.{digits_value}
+use Rattle.std.proofs.Common.{◌≡◌, ◌<◌, ◌*◌, ◌/◌, ◌%◌, ℕ, suc, List, [], ◌++◌, refl, sym, ap, ◌∙◌, subst, append_assoc, append-nil, length, inl, inr}
 use Rattle.std.proofs.lemmas.Bool.{cases_order}
-use Rattle.std.proofs.lemmas.Bool.Decides.{eqb_tells}
-use Rattle.std.proofs.lemmas.Fmt.{decimal_is_IsNumeral}
-use Rattle.std.proofs.lemmas.List.{append_cancel_left}
-use Rattle.buffer_ends.specs.Local.{Answers}
 use Rattle.trace_log.specs.Values.{TraceValue}
-use Rattle.trace_log.specs.Marks.{Lacks}
-use Rattle.trace_log.specs.Texts.{header, lines_below, place_line, places_of, log_at, trace_text, IsTrace, line, letters, windows_of, InBounds}
+use Rattle.trace_log.specs.Texts.{header, lines_below, places_of, trace_text, IsTrace, line, windows_of, InBounds}
 use Rattle.trace_log.specs.Stops.{Lines, NoLine, StopsAt, IsText}
-use Rattle.trace_log.specs.Stops.Lines.{none, more}
 use Rattle.trace_log.specs.Stops.StopsAt.{first, inside, behind}
-use Rattle.trace_log.proofs.Marks.{decimal_lacks, letters_lack}
-use Rattle.trace_log.proofs.Words.{header_parts, line_parts}
-use Rattle.trace_log.proofs.Parts.{Among, among, lines_are, one_header, one_rest}
+use Rattle.trace_log.proofs.Parts.{among, lines_are, one_header, one_rest}
 
 -- a text of the form has no line outside it
 pub stop_excludes : (text : List ℕ) (at : ℕ) → StopsAt text at → IsText text → ⊥
@@ -59,10 +50,12 @@ one_stop text _ _ (first f) (behind n w b front rest bounds form is some) = absu
 one_stop text _ _ (inside n w b k front rest bounds form is below g) (first f) = absurd (f n w b (front ++ rest) bounds (is ∙ append_assoc (header n w b) front rest))
 one_stop text _ _ (behind n w b front rest bounds form is some) (first f) = absurd (f n w b (front ++ rest) bounds (is ∙ append_assoc (header n w b) front rest))
 one_stop text _ _ (inside n w b k front rest bounds form is below f) (inside n' w' b' k' front' rest' bounds' form' is' below' g) = elim (cases_order k k') [
-    inl e ↦ ap suc e
+  | inl e ↦ ap suc e
   | inr h ↦ elim h [
-      inl l ↦ absurd (meets text n w b n' w' b' k k' front rest front' rest' bounds bounds' form form' is is' f l)
-    | inr l ↦ absurd (meets text n' w' b' n w b k' k front' rest' front rest bounds' bounds form' form is' is g l) ] ]
+    | inl l ↦ absurd (meets text n w b n' w' b' k k' front rest front' rest' bounds bounds' form form' is is' f l)
+    | inr l ↦ absurd (meets text n' w' b' n w b k' k front' rest' front rest bounds' bounds form' form is' is g l)
+  ]
+]
 one_stop text _ _ (inside n w b k front rest bounds form is below f) (behind n' w' b' front' rest' bounds' form' is' some) =
     let same = places_same text n w b n' w' b' front rest front' rest' bounds bounds' is is' in
     absurd (meets text n w b n' w' b' k (windows_of n' w' * b') front rest front' rest' bounds bounds' form form' is is' f (subst (λ j. k < j) same below))
@@ -76,6 +69,11 @@ one_stop text _ _ (behind n w b front rest bounds form is some) (behind n' w' b'
 pub text_is : (t : TraceValue) → IsTrace t → IsText (trace_text t)
 unfolding trace_text
 text_is t is = record {
-  ticks = t.ticks; window = t.window; buffers = length t.buffers; lines = lines_below t.buffers (length t.buffers) (places_of t);
-  bounds = is.bounds; form = lines_are t.buffers (length t.buffers) (places_of t); is = refl;
+  ticks = t.ticks;
+  window = t.window;
+  buffers = length t.buffers;
+  lines = lines_below t.buffers (length t.buffers) (places_of t);
+  bounds = is.bounds;
+  form = lines_are t.buffers (length t.buffers) (places_of t);
+  is = refl;
 }

@@ -1,17 +1,14 @@
 -- The parts of a text that has the form are found in one way.
-use Rattle.std.proofs.Common.{◌≡◌, ◌<◌, ◌*◌, ◌/◌, ◌%◌, ◌⊎◌, ◌^◌, ℕ, zero, suc, List, [], ◌∷◌, ◌++◌, refl, sym, ap, ◌∙◌, subst, arith, append_assoc, append-nil, codes, length, decimal, Bool, inl, inr}
+use Rattle.std.proofs.Common.{◌≡◌, ◌<◌, ◌/◌, ◌%◌, ◌^◌, ℕ, zero, suc, List, [], ◌∷◌, ◌++◌, refl, sym, ap, ◌∙◌, subst, arith, append_assoc, append-nil, codes, decimal, Bool, inl, inr}
 use Rattle.std.specs.Str.Parse.{digits_value}
-use Rattle.std.proofs.lemmas.Bool.{cases_order}
 use Rattle.std.proofs.lemmas.Bool.Decides.{eqb_tells}
 use Rattle.std.proofs.lemmas.Fmt.{decimal_is_IsNumeral}
 use Rattle.std.proofs.lemmas.List.{append_cancel_left}
 use Rattle.buffer_ends.specs.Local.{Answers}
-use Rattle.trace_log.specs.Values.{TraceValue}
 use Rattle.trace_log.specs.Marks.{Lacks}
-use Rattle.trace_log.specs.Texts.{header, lines_below, place_line, places_of, log_at, trace_text, IsTrace, line, letters, windows_of, InBounds}
-use Rattle.trace_log.specs.Stops.{Lines, NoLine, StopsAt, IsText}
+use Rattle.trace_log.specs.Texts.{header, lines_below, place_line, log_at, line, letters, InBounds}
+use Rattle.trace_log.specs.Stops.{Lines}
 use Rattle.trace_log.specs.Stops.Lines.{none, more}
-use Rattle.trace_log.specs.Stops.StopsAt.{first, inside, behind}
 use Rattle.trace_log.proofs.Marks.{decimal_lacks, letters_lack}
 use Rattle.trace_log.proofs.Letters.{one_letters}
 use Rattle.trace_log.proofs.Words.{header_parts, line_parts}
@@ -80,13 +77,18 @@ pub record Among (b k : ℕ) (text : List ℕ) : Type 0 where
 pub among : (b m k : ℕ) (text : List ℕ) → Lines b m text → k < m → Among b k text
 among b zero k _ none h = absurd (omega arith)
 among b (suc m) k _ (more _ t log form) h = elim (eqb_tells k m) [
-    inl p ↦ subst (λ j. Among b j (t ++ line (m / b) (m % b) log)) (sym p.1) (record { before = t; log = log; after = []; form = form; is = rw (append-nil (line (m / b) (m % b) log)) refl })
+  | inl p ↦ subst (λ j. Among b j (t ++ line (m / b) (m % b) log)) (sym p.1) (record { before = t; log = log; after = []; form = form; is = rw (append-nil (line (m / b) (m % b) log)) refl })
   | inr p ↦
-    let below : k < m = omega (arith, p.1, h) in
-    let r = among b m k t form below in
-    record { before = r.before; log = r.log; after = r.after ++ line (m / b) (m % b) log; form = r.form;
-      is = ap (λ (u : List ℕ). u ++ line (m / b) (m % b) log) r.is ∙ simp append_assoc }
-  ]
+      let below : k < m = omega (arith, p.1, h) in
+      let r = among b m k t form below in
+      record {
+        before = r.before;
+        log = r.log;
+        after = r.after ++ line (m / b) (m % b) log;
+        form = r.form;
+        is = ap (λ (u : List ℕ). u ++ line (m / b) (m % b) log) r.is ∙ simp append_assoc;
+      }
+]
 
 -- the lines of logs have the form
 pub lines_are : (bs : List (List Answers)) (m k : ℕ) → Lines m k (lines_below bs m k)

@@ -28,6 +28,11 @@ stops_behind text n w b k rest bounds s all some =
 
 pub whole : (text : List ℕ) (n w b k : ℕ) (rest : List ℕ) → InBounds n w b → Stands text n w b k rest → k ≡ windows_of n w * b → rest ≡ [] → IsText text
 whole text n w b k rest bounds s all empty = record {
-  ticks = n; window = w; buffers = b; lines = s.lines; bounds = bounds; form = subst (λ j. Lines b j s.lines) all s.form;
+  ticks = n;
+  window = w;
+  buffers = b;
+  lines = s.lines;
+  bounds = bounds;
+  form = subst (λ j. Lines b j s.lines) all s.form;
   is = s.is ∙ ap (λ (t : List ℕ). header n w b ++ s.lines ++ t) empty ∙ append-nil (header n w b ++ s.lines);
 }

@@ -1,14 +1,13 @@
 -- The lines of a text that has the form are read to its end.
-use Rattle.std.proofs.Common.{◌≡◌, ◌<◌, ◌≤◌, ◌*◌, ◌+◌, ◌-◌, ◌/◌, ◌%◌, ◌^◌, ◌⊎◌, inl, inr, Bool, ℕ, List, [], ◌++◌, length, get_or, refl, sym, ap, ◌∙◌, subst, arith, append-nil}
+use Rattle.std.proofs.Common.{◌≡◌, ◌<◌, ◌≤◌, ◌*◌, ◌+◌, ◌-◌, ◌/◌, ◌%◌, ◌^◌, inl, inr, Bool, ℕ, List, [], ◌++◌, length, get_or, refl, sym, ap, ◌∙◌, subst, arith, append-nil}
 use Rattle.std.proofs.lemmas.Nat.{div-add-mod', div-mul-add, mod-mul-add, mul-le}
 use Rattle.buffer_ends.specs.Local.{Answers}
-use Rattle.trace_log.specs.Values.{TraceValue}
-use Rattle.trace_log.specs.Texts.{header, letters, line, lines_below, places_of, trace_text, windows_of, InBounds, IsTrace}
+use Rattle.trace_log.specs.Texts.{header, letters, line, lines_below, trace_text, windows_of, InBounds, IsTrace}
 use Rattle.trace_log.specs.Marks.{answers_in}
 use Rattle.trace_log.specs.Stops.{Lines, HasLine, IsText}
 use Rattle.trace_log.proofs.Letters.{letters_told}
 use Rattle.trace_log.proofs.Parts.{among, lines_are, one_header, one_rest}
-use Rattle.trace_log.proofs.Filling.{AreRead, WindowsBefore}
+use Rattle.trace_log.proofs.Filling.{AreRead}
 
 -- what stands behind line 0
 pub lines_behind : (text : List ℕ) (n w b : ℕ) (behind : List ℕ) → IsText text → InBounds n w b → text ≡ header n w b ++ behind → Lines b (windows_of n w * b) behind
@@ -39,8 +38,8 @@ windows_end text bs m w k rest r all b h =
     let whole : k / m ≡ w = ap (λ j. j / m) at ∙ div-mul-add w m 0 some in
     let first : k % m ≡ 0 = ap (λ j. j % m) at ∙ mod-mul-add w m 0 some in
     elim (r.filled.each b h) [
-      inl p ↦ absurd (omega (arith, p.0, first))
-    | inr p ↦ p.1 ∙ whole
+      | inl p ↦ absurd (omega (arith, p.0, first))
+      | inr p ↦ p.1 ∙ whole
     ]
 
 -- logs whose lines stand behind line 0 are a trace, and the text is its text
@@ -49,9 +48,9 @@ pub whole_trace : (text : List ℕ) (n w b : ℕ) (behind : List ℕ) (bs : List
     → IsTrace (record { ticks = n; window = w; buffers = bs }) × (text ≡ trace_text (record { ticks = n; window = w; buffers = bs }))
 unfolding trace_text
 whole_trace text n w b behind bs bounds is all logs lines = (
-    record { bounds = subst (λ j. InBounds n w j) (sym all) bounds; logs = λ k h. logs k (omega (arith, h, all)) },
-    is ∙ ap (λ (t : List ℕ). header n w b ++ t) lines ∙ ap (λ j. header n w j ++ lines_below bs j (windows_of n w * j)) (sym all),
-  )
+  record { bounds = subst (λ j. InBounds n w j) (sym all) bounds; logs = λ k h. logs k (omega (arith, h, all)) },
+  is ∙ ap (λ (t : List ℕ). header n w b ++ t) lines ∙ ap (λ j. header n w j ++ lines_below bs j (windows_of n w * j)) (sym all),
+)
 
 -- the places of a trace are counted by a number of 64 bits
 pub places_fit : (n w b : ℕ) → InBounds n w b → windows_of n w * b < 2 ^ 64

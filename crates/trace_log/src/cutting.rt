@@ -7,6 +7,41 @@ ghost use Rattle.buffer_ends.specs.Local.{Answers};
 
 use fixed_text::read_u64;
 
+// The numbers of line 0, and what stands behind it. `None` exactly where line 0 has not its form.
+pub(crate) fn cut_header(text: &[u8]) -> Option<(u64, u64, u64, &[u8])>
+    ensures found { IfSome result (λ p. InBounds p.0 p.1 p.2 × (text.now ≡ header p.0 p.1 p.2 ++ p.3.now)) }
+    ensures only { (n w b : ℕ) (f : List ℕ) → InBounds n w b → text.now ≡ header n w b ++ f → IsSomeAnd result (λ p. (p.0 ≡ n) × (p.1 ≡ w) × (p.2 ≡ b) × (p.3.now ≡ f)) }
+{
+    let behind = cut_word(text, b"liq trace 1 ")?;
+    let (ticks, behind_ticks) = cut_number(behind, b' ')?;
+    let (window, behind_window) = cut_number(behind_ticks, b' ')?;
+    let (many, rest) = cut_number(behind_window, b'\n')?;
+    if ticks > 1_000_000_000 || window < 1 || window > 1_000_000 || many > 4096 {
+        return None;
+    }
+    Some((ticks, window, many, rest))
+}
+
+// The letters of the puts and of the takes of a line, and what stands behind it. `None` exactly where the text does not
+// begin with a line of this window and this buffer.
+pub(crate) fn cut_line(text: &[u8], window: u64, buffer: u64) -> Option<(&[u8], &[u8], &[u8])>
+    ensures found { IfSome result (λ p. (log : Answers) × (p.0.now ≡ letters 65 70 log.puts) × (p.1.now ≡ letters 71 69 log.takes) × (text.now ≡ line window buffer log ++ p.2.now)) }
+    ensures only { (log : Answers) (f : List ℕ) → text.now ≡ line window buffer log ++ f → IsSomeAnd result (λ p. (p.0.now ≡ letters 65 70 log.puts) × (p.1.now ≡ letters 71 69 log.takes) × (p.2.now ≡ f)) }
+{
+    let in_window = cut_word(text, b"window ")?;
+    let (found_window, behind_window) = cut_number(in_window, b' ')?;
+    let in_buffer = cut_word(behind_window, b"buffer ")?;
+    let (found_buffer, behind_buffer) = cut_number(in_buffer, b' ')?;
+    if found_window != window || found_buffer != buffer {
+        return None;
+    }
+    let in_puts = cut_word(behind_buffer, b"puts ")?;
+    let (puts, behind_puts) = cut_letters(in_puts, b' ', b'A', b'F')?;
+    let in_takes = cut_word(behind_puts, b"takes ")?;
+    let (takes, rest) = cut_letters(in_takes, b'\n', b'G', b'E')?;
+    Some((puts, takes, rest))
+}
+
 // Where a byte first stands.
 fn first_mark(text: &[u8], stop: u8) -> Option<usize>
     ensures { result ≡ position (λ b. b == stop) text.now }
@@ -42,21 +77,6 @@ fn cut_word<'a>(text: &'a [u8], word: &[u8]) -> Option<&'a [u8]>
     text.strip_prefix(word)
 }
 
-// The numbers of line 0, and what stands behind it. `None` exactly where line 0 has not its form.
-pub(crate) fn cut_header(text: &[u8]) -> Option<(u64, u64, u64, &[u8])>
-    ensures found { IfSome result (λ p. InBounds p.0 p.1 p.2 × (text.now ≡ header p.0 p.1 p.2 ++ p.3.now)) }
-    ensures only { (n w b : ℕ) (f : List ℕ) → InBounds n w b → text.now ≡ header n w b ++ f → IsSomeAnd result (λ p. (p.0 ≡ n) × (p.1 ≡ w) × (p.2 ≡ b) × (p.3.now ≡ f)) }
-{
-    let behind = cut_word(text, b"liq trace 1 ")?;
-    let (ticks, behind_ticks) = cut_number(behind, b' ')?;
-    let (window, behind_window) = cut_number(behind_ticks, b' ')?;
-    let (many, rest) = cut_number(behind_window, b'\n')?;
-    if ticks > 1_000_000_000 || window < 1 || window > 1_000_000 || many > 4096 {
-        return None;
-    }
-    Some((ticks, window, many, rest))
-}
-
 // Whether a text is that of some answers.
 fn are_letters(text: &[u8], one: u8, other: u8) -> bool
     ensures { result ≡ are_letters one other text.now }
@@ -88,24 +108,4 @@ fn cut_letters(text: &[u8], stop: u8, one: u8, other: u8) -> Option<(&[u8], &[u8
         return None;
     }
     Some((front, rest))
-}
-
-// The letters of the puts and of the takes of a line, and what stands behind it. `None` exactly where the text does not
-// begin with a line of this window and this buffer.
-pub(crate) fn cut_line(text: &[u8], window: u64, buffer: u64) -> Option<(&[u8], &[u8], &[u8])>
-    ensures found { IfSome result (λ p. (log : Answers) × (p.0.now ≡ letters 65 70 log.puts) × (p.1.now ≡ letters 71 69 log.takes) × (text.now ≡ line window buffer log ++ p.2.now)) }
-    ensures only { (log : Answers) (f : List ℕ) → text.now ≡ line window buffer log ++ f → IsSomeAnd result (λ p. (p.0.now ≡ letters 65 70 log.puts) × (p.1.now ≡ letters 71 69 log.takes) × (p.2.now ≡ f)) }
-{
-    let in_window = cut_word(text, b"window ")?;
-    let (found_window, behind_window) = cut_number(in_window, b' ')?;
-    let in_buffer = cut_word(behind_window, b"buffer ")?;
-    let (found_buffer, behind_buffer) = cut_number(in_buffer, b' ')?;
-    if found_window != window || found_buffer != buffer {
-        return None;
-    }
-    let in_puts = cut_word(behind_buffer, b"puts ")?;
-    let (puts, behind_puts) = cut_letters(in_puts, b' ', b'A', b'F')?;
-    let in_takes = cut_word(behind_puts, b"takes ")?;
-    let (takes, rest) = cut_letters(in_takes, b'\n', b'G', b'E')?;
-    Some((puts, takes, rest))
 }

@@ -1,7 +1,7 @@
 // A trace becomes its text.
-ghost use Rattle.std.specs.Prelude.{◌≡◌, ◌++◌, ◌<◌, ◌*◌, ◌+◌, codes, decimal, length, map, slice_index_or, take, OnOk, OnErr};
+ghost use Rattle.std.specs.Prelude.{◌≡◌, ◌++◌, ◌<◌, ◌*◌, ◌+◌, decimal, length, map, slice_index_or, take, OnOk, OnErr};
 ghost use Rattle.buffer_ends.specs.Local.{no_answers};
-ghost use Rattle.trace_log.specs.Texts.{header, letter, letters, log_at, line, lines_below, place_line, places_of, trace_text, windows_of, IsTrace};
+ghost use Rattle.trace_log.specs.Texts.{header, letter, letters, log_at, line, place_line, places_of, trace_text, windows_of, IsTrace};
 
 use crate::trace::Trace;
 use buffer_ends::WindowLog;
@@ -108,7 +108,13 @@ fn append_number(into: &mut Vec<u8>, text: &[u8], number: u64) -> Result<(), Mem
 }
 
 // Appends a text and the letters of answers, or a front of both.
-fn append_letters(into: &mut Vec<u8>, text: &[u8], answers: &[bool], one: u8, other: u8) -> Result<(), Memory>
+fn append_letters(
+    into: &mut Vec<u8>,
+    text: &[u8],
+    answers: &[bool],
+    one: u8,
+    other: u8,
+) -> Result<(), Memory>
     ensures ok { OnOk result (into.new.items ≡ into.old.items ++ text.now ++ letters one other answers.now) }
     ensures kept { take (length into.old.items) into.new.items ≡ into.old.items }
 {

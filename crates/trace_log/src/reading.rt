@@ -1,6 +1,5 @@
 // A text becomes its trace.
-ghost use Rattle.std.specs.Prelude.{◌≡◌, ◌<◌, ◌*◌, ◌^◌, ◌++◌, ◌∷◌, [], ◌↔◌, ◌≢◌, ℕ, List, Err, Ok, IfOk, OnOk, length, replicate, slice_index_or, slice_set};
-ghost use Rattle.buffer_ends.specs.Local.{Answers};
+ghost use Rattle.std.specs.Prelude.{◌≡◌, ◌<◌, ◌*◌, ◌^◌, ◌++◌, ◌∷◌, [], ◌↔◌, ◌≢◌, ℕ, Err, Ok, IfOk, OnOk, length, replicate, slice_index_or, slice_set};
 ghost use Rattle.trace_log.specs.Marks.{answers_in};
 ghost use Rattle.trace_log.specs.Stops.{HasLine, IsText, Lines, StopsAt};
 ghost use Rattle.trace_log.specs.Texts.{IsTrace, line, lines_below, trace_text};

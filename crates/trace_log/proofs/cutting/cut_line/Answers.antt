@@ -108,13 +108,17 @@ returns-clause-found c =
     let takes = c.in_ok-takes.ensures.found in
     let log : Answers = record { puts = puts.0; takes = takes.0 } in
     let same_window : c.in_ok-found_window.found_window ≡ c.args.window = search rules in
-    let same_buffer : c.in_ok-found_buffer.found_buffer ≡ c.args.buffer = search rules in
-    (log, puts.1, takes.1, line_joins c.args.window c.args.buffer log c.args.text.now c.in_ok-in_window.in_window.now c.in_ok-found_window.behind_window.now c.in_ok-in_buffer.in_buffer.now c.in_ok-found_buffer.behind_buffer.now c.in_ok-in_puts.in_puts.now c.in_ok-puts.behind_puts.now c.in_ok-in_takes.in_takes.now c.in_ok-takes.rest.now
-        c.in_ok-in_window.ensures.found
-        (c.in_ok-found_window.ensures.found ∙ ap (λ n. decimal n ++ 32 ∷ c.in_ok-found_window.behind_window.now) same_window)
-        c.in_ok-in_buffer.ensures.found
-        (c.in_ok-found_buffer.ensures.found ∙ ap (λ n. decimal n ++ 32 ∷ c.in_ok-found_buffer.behind_buffer.now) same_buffer)
-        c.in_ok-in_puts.ensures.found
-        (puts.2 ∙ ap (λ (t : List ℕ). t ++ 32 ∷ c.in_ok-puts.behind_puts.now) puts.1)
-        c.in_ok-in_takes.ensures.found
-        (takes.2 ∙ ap (λ (t : List ℕ). t ++ 10 ∷ c.in_ok-takes.rest.now) takes.1))
+    let same_buffer : c.in_ok-found_buffer.found_buffer ≡ c.args.buffer = search rules in (
+      log,
+      puts.1,
+      takes.1,
+      line_joins c.args.window c.args.buffer log c.args.text.now c.in_ok-in_window.in_window.now c.in_ok-found_window.behind_window.now c.in_ok-in_buffer.in_buffer.now c.in_ok-found_buffer.behind_buffer.now c.in_ok-in_puts.in_puts.now c.in_ok-puts.behind_puts.now c.in_ok-in_takes.in_takes.now c.in_ok-takes.rest.now
+          c.in_ok-in_window.ensures.found
+          (c.in_ok-found_window.ensures.found ∙ ap (λ n. decimal n ++ 32 ∷ c.in_ok-found_window.behind_window.now) same_window)
+          c.in_ok-in_buffer.ensures.found
+          (c.in_ok-found_buffer.ensures.found ∙ ap (λ n. decimal n ++ 32 ∷ c.in_ok-found_buffer.behind_buffer.now) same_buffer)
+          c.in_ok-in_puts.ensures.found
+          (puts.2 ∙ ap (λ (t : List ℕ). t ++ 32 ∷ c.in_ok-puts.behind_puts.now) puts.1)
+          c.in_ok-in_takes.ensures.found
+          (takes.2 ∙ ap (λ (t : List ℕ). t ++ 10 ∷ c.in_ok-takes.rest.now) takes.1),
+    )

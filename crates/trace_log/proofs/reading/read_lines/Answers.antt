@@ -1,4 +1,4 @@
-use Rattle.std.proofs.Common.{rules, ◌≡◌, ◌<◌, ◌*◌, ◌^◌, [], ℕ, length, replicate, sym, ap, ◌∙◌, subst, arith}
+use Rattle.std.proofs.Common.{rules, ◌≡◌, ◌<◌, ◌*◌, ◌^◌, [], length, replicate, sym, ap, ◌∙◌, subst, arith}
 use Rattle.trace_log.specs.Stops.{Lines}
 use Rattle.trace_log.specs.Texts.{lines_below}
 use Rattle.trace_log.proofs.Joins.{some_inside}
@@ -41,4 +41,4 @@ returns-clause-lines c =
     let all : c.loop-place.place ≡ c.args.windows * c.len-many.result = search rules in
     let form : Lines c.len-many.result (c.args.windows * c.len-many.result) c.args.text.now = subst (λ m. Lines m (c.args.windows * m) c.args.text.now) (sym many) c.requires.lines in
     subst (λ m. c.args.text.now ≡ lines_below c.loop-place.buffers.items m (c.args.windows * m)) many
-      (lines_end c.args.text.now c.loop-place.buffers.items c.len-many.result (c.args.windows * c.len-many.result) c.loop-place.place c.loop-place.rest.now form c.loop-place.invariant.read all)
+    (lines_end c.args.text.now c.loop-place.buffers.items c.len-many.result (c.args.windows * c.len-many.result) c.loop-place.place c.loop-place.rest.now form c.loop-place.invariant.read all)

@@ -11,5 +11,5 @@ returns c =
     let ended = c.in_ok-read_lines.ensures in
     let windows = windows_of c.unwrap-ticks.result.0 c.unwrap-ticks.result.1 in
     whole_trace c.args.text.now c.unwrap-ticks.result.0 c.unwrap-ticks.result.1 c.unwrap-ticks.result.2 c.unwrap-ticks.result.3.now c.read_lines.new.buffers.items found.0 found.1 (ended.all ∙ many)
-      (λ k h. ended.each k (omega (arith, h, many)))
-      (subst (λ m. c.unwrap-ticks.result.3.now ≡ lines_below c.read_lines.new.buffers.items m (windows * m)) many ended.lines)
+    (λ k h. ended.each k (omega (arith, h, many)))
+    (subst (λ m. c.unwrap-ticks.result.3.now ≡ lines_below c.read_lines.new.buffers.items m (windows * m)) many ended.lines)
