@@ -1,3 +1,4 @@
+pub mod Turning
 pub mod Owning
 pub mod Rounding
 pub mod Running
