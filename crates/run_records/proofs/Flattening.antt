@@ -10,6 +10,7 @@ use Rattle.stream_meaning.specs.Calls.{joined_upto, joined_between}
 use Rattle.run_records.specs.Buffers.{feeder, reader}
 use Rattle.run_records.specs.Records.{Window, Run, start, on, calls_in, windows_in, answers_of}
 use Rattle.run_records.specs.Rounds.{merged, as_one}
+use Rattle.run_records.proofs.Turning.{joined_split}
 use Rattle.run_records.proofs.Rounding.{on-append}
 use Rattle.run_records.specs.Owning.{IsOwn}
 use Rattle.std.specs.Prelude.{All}
@@ -36,12 +37,6 @@ puts-append b (Given k c a ∷ cs) ds = go (b == k) (puts-append b cs ds)
 flat_snoc : {A B : Type 0} (f : A → List B) (xs : List A) (y : A) → flat_map f (xs ++ y ∷ []) ≡ flat_map f xs ++ f y
 flat_snoc f [] y = append-nil (f y)
 flat_snoc f (x ∷ xs) y = ap (λ l. f x ++ l) (flat_snoc f xs y) ∙ sym (append_assoc (f x) (flat_map f xs) (f y))
-
-pub joined_split : (f : ℕ → List Call) (t n : ℕ) → joined_upto f (t + n) ≡ joined_upto f t ++ joined_upto (λ j. f (t + j)) n
-joined_split f t zero = let e : t + 0 ≡ t = omega arith in ap (joined_upto f) e ∙ sym (append-nil (joined_upto f t))
-joined_split f t (suc n) =
-    let e : t + suc n ≡ suc (t + n) = omega arith in
-    ap (joined_upto f) e ∙ (λ i. joined_split f t n i ++ f (t + n)) ∙ append_assoc (joined_upto f t) (joined_upto (λ j. f (t + j)) n) (f (t + n))
 
 start_zero : (W N : ℕ) → start W N 0 ≡ 0
 start_zero W N = let z : 0 * W ≡ 0 = grind arith in ap (min N) z ∙ min-eq_right (omega arith)
