@@ -64,7 +64,12 @@ struct Script<'a> {
 }
 
 // Passes lines on to their end, and answers the status.
-fn pass_on<I: Read + Drop, W: Write + Drop>(alloc: Global, input: I, out: &mut OutSink<W>, script: &Script<'_>) -> u8 {
+fn pass_on<I: Read + Drop, W: Write + Drop>(
+    alloc: Global,
+    input: I,
+    out: &mut OutSink<W>,
+    script: &Script<'_>,
+) -> u8 {
     let Ok(mut input) = BufReader::new(alloc, input) else {
         return NO_MEMORY;
     };
@@ -88,7 +93,12 @@ fn pass_on<I: Read + Drop, W: Write + Drop>(alloc: Global, input: I, out: &mut O
 }
 
 // Shows the place that a line names, if it names one.
-fn show<W: Write + Drop>(alloc: Global, line: &[u8], out: &mut OutSink<W>, script: &Script<'_>) -> u8 {
+fn show<W: Write + Drop>(
+    alloc: Global,
+    line: &[u8],
+    out: &mut OutSink<W>,
+    script: &Script<'_>,
+) -> u8 {
     let Some(text) = script.text else {
         return DONE;
     };
