@@ -6,3 +6,5 @@
 mod liq_cli_tests;
 #[cfg(test)]
 mod real_files_tests;
+#[cfg(test)]
+mod workload_tests;

@@ -1,0 +1,29 @@
+use Rattle.std.proofs.Common.{rules, ◌≡◌, ◌∙◌, ◌+◌, ◌-◌, ◌++◌, ℕ, suc, List, [], ◌∷◌, map, ap, append_assoc, arith, refl, sym, add-one}
+use Rattle.rand_pcg.specs.Lcg.{Lcg}
+use Rattle.frame_core.specs.Bytes.{sample_bytes}
+use Rattle.workload_gen.specs.Files.{begin_of, drawn, file_of, length_at, sample_of, track, track_bytes, tracks, workload}
+use Rattle.workload_gen.specs.Words.{generator_after, word}
+use Rattle.workload_gen.proofs.Drawing.{drawn_more, drew, first_begin, first_generator, further, next_begin, next_generator}
+use Rattle.workload_gen.proofs.Listing.{all_files, track_more}
+use Rattle.workload_gen.proofs.workload.make.Goals as goal
+
+pub loop-number-init : goal.loop-number-init
+loop-number-init c = (
+  c.seed_from_u64-words.ensures ∙ sym (first_generator c.args.seed) ∙ ap (generator_after c.args.seed) (sym (first_begin c.args.seed)),
+  ap (map file_of) c.in_ok-files.ensures.items,
+)
+
+pub loop-number-preserved : goal.loop-number-preserved
+loop-number-preserved c =
+    let e : suc c.loop-number.number ≡ c.loop-number.number + 1 = omega arith in (
+      c.in_ok-next_file.ensures.words c.args.seed c.loop-number.invariant.0 ∙ ap (λ i. generator_after c.args.seed (begin_of c.args.seed i)) e,
+      track_more c.args.seed c.loop-number.number _ _ _ c.in_ok-push.ensures.items c.loop-number.invariant.1 (c.in_ok-next_file.ensures.file c.args.seed c.loop-number.invariant.0),
+    )
+
+pub returns : goal.returns
+returns c = λ n size.
+    let whole : c.args.size ≡ suc n = omega (arith, size) in
+    let number : c.loop-number.number ≡ suc n = omega (arith, size, c.loop-number-test.false, c.loop-number.auto.number-end) in
+    let last : c.args.size - 1 ≡ n = omega (arith, size) in
+    all_files c.args.seed n c.loop-number.number c.args.size (c.args.size - 1) _ _ _ _ _ number whole last c.loop-number.invariant.1
+    c.in_ok-push-2.ensures.items c.in_ok-push-3.ensures.items c.in_ok-list_file.ensures c.in_ok-script_file.ensures

@@ -1,0 +1,7 @@
+use Rattle.std.proofs.Common.{◌≡◌, ◌+◌, ◌++◌, ◌∙◌, ◌-◌, ℕ, suc, List, string_bytes, map}
+use Rattle.workload_gen.specs.Files.{begin_of, drawn, file_of, list_text, players, source_names, tracks}
+use Rattle.workload_gen.specs.Words.{generator_after}
+use Rattle.workload_gen.proofs.workload.make.Given as goal
+
+abbrev pub invariant-loop-number : goal.invariant-loop-number
+invariant-loop-number l = (l.words ≡ generator_after l.seed (begin_of l.seed l.number)) × (map file_of l.files.items ≡ tracks l.seed l.number)

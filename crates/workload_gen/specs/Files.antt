@@ -1,0 +1,81 @@
+-- The files of a workload: audio files, a list of them, and a script that plays them.
+use Rattle.std.specs.Prelude.{ℕ, zero, suc, ℤ, pos, ◌+◌, ◌%◌, ◌-ℤ◌, List, [], ◌∷◌, ◌++◌, codes, decimal, string_bytes, String, Vec}
+use Rattle.std.specs.declared.alloc.Global.{Global}
+use Rattle.liq_base.specs.declared.memory.Kind.TheVariants.{Mono}
+use Rattle.frame_core.specs.Bytes.{sample_bytes}
+use Rattle.wav_io.specs.Header.{header_bytes}
+use Rattle.workload_gen.specs.Words.{word}
+
+-- a file: its name and its bytes
+abbrev pub File : Type 0
+File = List ℕ × List ℕ
+
+abbrev pub file_of : String Global × Vec ℕ Global → File
+file_of file = (string_bytes file.0, file.1.items)
+
+-- the sample of a word, from -10000 to 10000
+abbrev pub sample_of : (word : ℕ) → ℤ
+sample_of word = pos (word % 20001) -ℤ pos 10000
+
+-- how many samples an audio file has, from 1 to 4000, by the word at which it begins
+abbrev pub length_at : (seed begin : ℕ) → ℕ
+length_at seed begin = 1 + word seed begin % 4000
+
+-- the word at which audio file i begins: each takes one for its length, and one for each sample
+unfoldable pub begin_of : (seed i : ℕ) → ℕ
+begin_of seed zero = 0
+begin_of seed (suc i) = begin_of seed i + 1 + length_at seed (begin_of seed i)
+
+-- the bytes of so many samples, from word `from` on
+abbrev pub drawn : (seed from count : ℕ) → List ℕ
+drawn seed from zero = []
+drawn seed from (suc count) = drawn seed from count ++ sample_bytes (sample_of (word seed (from + count)))
+
+abbrev pub track_name : (i : ℕ) → List ℕ
+track_name i = codes "t" ++ decimal i ++ codes ".wav"
+
+-- the audio file that begins with this word: mono, 8000 samples a second
+abbrev pub track_bytes : (seed begin : ℕ) → List ℕ
+track_bytes seed begin = header_bytes Mono 8000 (length_at seed begin) ++ drawn seed (begin + 1) (length_at seed begin)
+
+abbrev pub track : (seed i : ℕ) → File
+track seed i = (track_name i, track_bytes seed (begin_of seed i))
+
+-- the first n audio files
+abbrev pub tracks : (seed n : ℕ) → List File
+tracks seed zero = []
+tracks seed (suc n) = tracks seed n ++ track seed n ∷ []
+
+-- the list of the first n audio files, a line each
+abbrev pub list_text : (n : ℕ) → List ℕ
+list_text zero = []
+list_text (suc n) = list_text n ++ track_name n ++ codes "\n"
+
+abbrev pub source_name : (i : ℕ) → List ℕ
+source_name i = codes "x" ++ decimal i
+
+-- the statements that play the first n audio files
+abbrev pub players : (n : ℕ) → List ℕ
+players zero = []
+players (suc n) = players n ++ source_name n ++ codes " = amplify(0.5, single(\"" ++ track_name n ++ codes "\"))\n"
+
+-- the names of n + 1 sources, with a comma and a blank between two
+abbrev pub source_names : (n : ℕ) → List ℕ
+source_names zero = source_name 0
+source_names (suc n) = source_names n ++ codes ", " ++ source_name (suc n)
+
+-- the statements that set the rate and the tick, and those of the two outputs
+unfoldable pub settings : List ℕ
+settings = codes "set(\"frame.audio.samplerate\", 8000)\nset(\"frame.duration\", 0.008)\n"
+
+unfoldable pub outputs : List ℕ
+outputs =
+    codes "output.file(%wav, \"one.wav\", mksafe(crossfade(duration=0.05, playlist(\"all.m3u\"))))\noutput.file(%wav, \"two.wav\", clock(id=\"two\", mix))\n"
+
+-- the script over n + 1 audio files
+abbrev pub script_text : (n : ℕ) → List ℕ
+script_text n = settings ++ players (suc n) ++ codes "mix = add([" ++ source_names n ++ codes "])\n" ++ outputs
+
+-- the files of a seed and a size of n + 1, in their order
+abbrev pub workload : (seed n : ℕ) → List File
+workload seed n = tracks seed (suc n) ++ (codes "all.m3u", list_text (suc n)) ∷ (codes "make.liq", script_text n) ∷ []

@@ -1,0 +1,117 @@
+// The list of the audio files, and the script that plays them.
+ghost use Rattle.std.specs.Prelude.{◌≡◌, ◌≤◌, ◌++◌, suc, IfOk, OnOk, codes, string_bytes};
+ghost use Rattle.workload_gen.specs.Files.{list_text, outputs, players, script_text, settings, source_name, source_names, track_name};
+
+use std::alloc::{AllocError, Global};
+
+/// The name of audio file `number`.
+pub fn track_name(alloc: Global, number: u32) -> Result<String, AllocError>
+    ensures { IfOk result (λ name. string_bytes name ≡ track_name number) }
+{
+    let mut name = String::new(alloc);
+    push_track_name(alloc, &mut name, number)?;
+    Ok(name)
+}
+
+/// The list of the first `size` audio files.
+pub fn list(alloc: Global, size: u32) -> Result<String, AllocError>
+    ensures { IfOk result (λ text. string_bytes text ≡ list_text size) }
+{
+    let mut text = String::new(alloc);
+    for number in 0..size {
+        push_track_name(alloc, &mut text, number)?;
+        text.push_str("\n")?;
+    }
+    Ok(text)
+}
+
+/// The script over audio files 0 to `last`.
+pub fn script(alloc: Global, last: u32) -> Result<String, AllocError>
+    requires { last ≤ 99 }
+    ensures { IfOk result (λ text. string_bytes text ≡ script_text last) }
+{
+    let mut text = String::new(alloc);
+    push_settings(&mut text)?;
+    push_players(alloc, &mut text, last)?;
+    text.push_str("mix = add([")?;
+    push_source_names(alloc, &mut text, last)?;
+    text.push_str("])\n")?;
+    push_outputs(&mut text)?;
+    Ok(text)
+}
+
+// The statements that set the rate and the tick.
+fn push_settings(text: &mut String) -> Result<(), AllocError>
+    ensures { OnOk result (string_bytes text.new ≡ string_bytes text.old ++ settings) }
+{
+    text.push_str("set(\"frame.audio.samplerate\", 8000)\nset(\"frame.duration\", 0.008)\n")?;
+    Ok(())
+}
+
+// The statements of the two outputs.
+fn push_outputs(text: &mut String) -> Result<(), AllocError>
+    ensures { OnOk result (string_bytes text.new ≡ string_bytes text.old ++ outputs) }
+{
+    text.push_str(
+        "output.file(%wav, \"one.wav\", mksafe(crossfade(duration=0.05, playlist(\"all.m3u\"))))\noutput.file(%wav, \"two.wav\", clock(id=\"two\", mix))\n",
+    )?;
+    Ok(())
+}
+
+// The statements that play audio files 0 to `last`.
+fn push_players(alloc: Global, text: &mut String, last: u32) -> Result<(), AllocError>
+    requires { last ≤ 99 }
+    ensures { OnOk result (string_bytes text.new ≡ string_bytes text.old ++ players (suc last)) }
+{
+    for number in 0..last + 1 {
+        push_player(alloc, text, number)?;
+    }
+    Ok(())
+}
+
+// The statement that plays an audio file.
+fn push_player(alloc: Global, text: &mut String, number: u32) -> Result<(), AllocError>
+    ensures { OnOk result (string_bytes text.new ≡ string_bytes text.old ++ source_name number ++ codes " = amplify(0.5, single(\"" ++ track_name number ++ codes "\"))\n") }
+{
+    push_source_name(alloc, text, number)?;
+    text.push_str(" = amplify(0.5, single(\"")?;
+    push_track_name(alloc, text, number)?;
+    text.push_str("\"))\n")
+}
+
+// The names of sources 0 to `last`.
+fn push_source_names(alloc: Global, text: &mut String, last: u32) -> Result<(), AllocError>
+    requires { last ≤ 99 }
+    ensures { OnOk result (string_bytes text.new ≡ string_bytes text.old ++ source_names last) }
+{
+    push_source_name(alloc, text, 0)?;
+    for number in 0..last {
+        push_next_name(alloc, text, number + 1)?;
+    }
+    Ok(())
+}
+
+// The name of a source that is not the first.
+fn push_next_name(alloc: Global, text: &mut String, number: u32) -> Result<(), AllocError>
+    ensures { OnOk result (string_bytes text.new ≡ string_bytes text.old ++ codes ", " ++ source_name number) }
+{
+    text.push_str(", ")?;
+    push_source_name(alloc, text, number)
+}
+
+// The name of the source of an audio file.
+fn push_source_name(alloc: Global, text: &mut String, number: u32) -> Result<(), AllocError>
+    ensures { OnOk result (string_bytes text.new ≡ string_bytes text.old ++ source_name number) }
+{
+    text.push_str("x")?;
+    text.push_str(&number.to_string(alloc)?)
+}
+
+// The name of an audio file.
+fn push_track_name(alloc: Global, text: &mut String, number: u32) -> Result<(), AllocError>
+    ensures { OnOk result (string_bytes text.new ≡ string_bytes text.old ++ track_name number) }
+{
+    text.push_str("t")?;
+    text.push_str(&number.to_string(alloc)?)?;
+    text.push_str(".wav")
+}

@@ -1,0 +1,56 @@
+// An audio file of words that are drawn one after another.
+ghost use Rattle.std.specs.Prelude.{◌≡◌, ◌≤◌, ◌<◌, ◌+◌, ◌%◌, ◌++◌, ℕ, suc, IfOk, OnOk};
+ghost use Rattle.frame_core.specs.Bytes.{sample_bytes};
+ghost use Rattle.workload_gen.specs.Files.{drawn, length_at, sample_of, track_bytes};
+ghost use Rattle.workload_gen.specs.Words.{generator_after, word};
+
+use liq_base::{Kind, Memory};
+use rand_core::utils::NextWord;
+use rand_pcg::Pcg32;
+use std::alloc::{AllocError, Global};
+use wav_io::header;
+
+/// Samples a second of each audio file.
+const RATE: u32 = 8000;
+
+/// The bytes of the next audio file: its length, from 1 to 4000 samples, takes one word, and so does each sample.
+pub fn track(alloc: Global, words: &mut Pcg32) -> Result<Vec<u8>, Memory>
+    ensures bytes { IfOk result (λ bytes. (seed begin : ℕ) → words.old ≡ generator_after seed begin → bytes.items ≡ track_bytes seed begin) }
+    ensures words { OnOk result ((seed begin : ℕ) → words.old ≡ generator_after seed begin → words.new ≡ generator_after seed (begin + 1 + length_at seed begin)) }
+{
+    let length = 1 + words.next_word() % 4000;
+    let Some(head) = header(Kind::Mono, RATE, u64::from(length)) else {
+        return Err(Memory);
+    };
+    let mut bytes = Vec::with_capacity(alloc, head.len() + 2 * length as usize)?;
+    bytes.extend_from_slice(&head)?;
+    draw(words, length, &mut bytes)?;
+    Ok(bytes)
+}
+
+// So many samples more.
+fn draw(words: &mut Pcg32, count: u32, bytes: &mut Vec<u8>) -> Result<(), Memory>
+    ensures bytes { OnOk result ((seed from : ℕ) → words.old ≡ generator_after seed from → bytes.new.items ≡ bytes.old.items ++ drawn seed from count) }
+    ensures words { OnOk result ((seed from : ℕ) → words.old ≡ generator_after seed from → words.new ≡ generator_after seed (from + count)) }
+{
+    for _ in 0..count {
+        let sample = next_sample(words);
+        push_sample(bytes, sample)?;
+    }
+    Ok(())
+}
+
+// The sample of the next word, from -10000 to 10000.
+fn next_sample(words: &mut Pcg32) -> i16
+    ensures sample { (seed n : ℕ) → words.old ≡ generator_after seed n → result ≡ sample_of (word seed n) }
+    ensures words { (seed n : ℕ) → words.old ≡ generator_after seed n → words.new ≡ generator_after seed (suc n) }
+{
+    (words.next_word() % 20001) as i16 - 10000
+}
+
+// The two bytes of a sample.
+fn push_sample(bytes: &mut Vec<u8>, sample: i16) -> Result<(), AllocError>
+    ensures { OnOk result (bytes.new.items ≡ bytes.old.items ++ sample_bytes sample) }
+{
+    bytes.extend_from_slice(&sample.to_le_bytes())
+}

@@ -1,0 +1,54 @@
+// All files of a workload.
+ghost use Rattle.std.specs.Prelude.{◌≡◌, ◌≤◌, ◌+◌, ℕ, suc, IfOk, OnOk, codes, map};
+ghost use Rattle.workload_gen.specs.Files.{begin_of, file_of, list_text, script_text, track, workload};
+ghost use Rattle.workload_gen.specs.Words.{generator_after};
+
+use crate::script::{list, script, track_name};
+use crate::track::track;
+use liq_base::Memory;
+use rand_core::SeedableRng;
+use rand_pcg::Pcg32;
+use std::alloc::Global;
+
+/// The files of a workload, by name: `size` audio files, from 1 to 100, the list `all.m3u` of them, and the script
+/// `make.liq` that plays them. They are the same for the same two numbers; `docs/formats.md` says what they hold.
+pub fn make(alloc: Global, seed: u64, size: u32) -> Result<Vec<(String, Vec<u8>)>, Memory>
+    requires some { 1 ≤ size }
+    requires few { size ≤ 100 }
+    ensures { IfOk result (λ files. (n : ℕ) → size ≡ n + 1 → map file_of files.items ≡ workload seed n) }
+{
+    let mut words = Pcg32::seed_from_u64(seed);
+    let mut files = Vec::with_capacity(alloc, size as usize + 2)?;
+    for number in 0..size {
+        files.push(next_file(alloc, &mut words, number)?)?;
+    }
+    files.push(list_file(alloc, size)?)?;
+    files.push(script_file(alloc, size - 1)?)?;
+    Ok(files)
+}
+
+// The next audio file, with its name.
+fn next_file(alloc: Global, words: &mut Pcg32, number: u32) -> Result<(String, Vec<u8>), Memory>
+    ensures file { IfOk result (λ file. (seed : ℕ) → words.old ≡ generator_after seed (begin_of seed number) → file_of file ≡ track seed number) }
+    ensures words { OnOk result ((seed : ℕ) → words.old ≡ generator_after seed (begin_of seed number) → words.new ≡ generator_after seed (begin_of seed (suc number))) }
+{
+    let bytes = track(alloc, words)?;
+    Ok((track_name(alloc, number)?, bytes))
+}
+
+// The list of the audio files, with its name.
+fn list_file(alloc: Global, size: u32) -> Result<(String, Vec<u8>), Memory>
+    ensures { IfOk result (λ file. file_of file ≡ (codes "all.m3u", list_text size)) }
+{
+    let text = list(alloc, size)?;
+    Ok((String::from_str(alloc, "all.m3u")?, text.into_bytes()))
+}
+
+// The script, with its name.
+fn script_file(alloc: Global, last: u32) -> Result<(String, Vec<u8>), Memory>
+    requires { last ≤ 99 }
+    ensures { IfOk result (λ file. file_of file ≡ (codes "make.liq", script_text last)) }
+{
+    let text = script(alloc, last)?;
+    Ok((String::from_str(alloc, "make.liq")?, text.into_bytes()))
+}
