@@ -1,5 +1,5 @@
 -- One word more of a seed.
-use Rattle.std.proofs.Common.{◌≡◌, ◌∙◌, ◌+◌, ◌%◌, ◌++◌, ℕ, zero, suc, Bool, true, false, Some, None, List, [], ◌∷◌, if◌then◌else◌, ap, append_assoc, arith, refl, sym}
+use Rattle.std.proofs.Common.{◌≡◌, ◌∙◌, ◌+◌, ◌%◌, ◌++◌, ℕ, suc, Bool, true, false, Some, None, List, if◌then◌else◌, ap, append_assoc, arith, refl, sym}
 use Rattle.liq_base.specs.declared.memory.Kind.TheVariants.{Mono}
 use Rattle.wav_io.specs.Header.{header_bytes, header_of}
 use Rattle.frame_core.specs.Bytes.{sample_bytes}

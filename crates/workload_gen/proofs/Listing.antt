@@ -1,5 +1,5 @@
 -- One file more.
-use Rattle.std.proofs.Common.{◌≡◌, ◌∙◌, ◌+◌, ◌++◌, ℕ, suc, List, [], ◌∷◌, String, Vec, codes, map, ap, append_assoc, arith, refl, sym}
+use Rattle.std.proofs.Common.{◌≡◌, ◌∙◌, ◌+◌, ◌++◌, ℕ, suc, List, [], ◌∷◌, String, Vec, codes, map, ap, append_assoc, arith, refl}
 use Rattle.std.specs.declared.alloc.Global.{Global}
 use Rattle.workload_gen.specs.Files.{File, file_of, list_text, script_text, track, tracks, workload}
 

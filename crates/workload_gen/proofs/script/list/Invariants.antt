@@ -1,5 +1,5 @@
-use Rattle.std.proofs.Common.{◌≡◌, ◌+◌, ◌++◌, ◌∙◌, ◌-◌, ℕ, suc, List, string_bytes, map}
-use Rattle.workload_gen.specs.Files.{begin_of, drawn, file_of, list_text, players, source_names, tracks}
+use Rattle.std.proofs.Common.{◌≡◌, string_bytes}
+use Rattle.workload_gen.specs.Files.{list_text}
 use Rattle.workload_gen.proofs.script.list.Given as goal
 
 abbrev pub invariant-loop-number : goal.invariant-loop-number

@@ -1,9 +1,6 @@
-use Rattle.std.proofs.Common.{rules, ◌≡◌, ◌∙◌, ◌+◌, ◌++◌, ℕ, suc, List, [], ◌∷◌, map, ap, append_assoc, arith, refl, sym, add-one}
-use Rattle.rand_pcg.specs.Lcg.{Lcg}
+use Rattle.std.proofs.Common.{rules, ◌≡◌, ◌+◌, ◌++◌, ap}
 use Rattle.frame_core.specs.Bytes.{sample_bytes}
-use Rattle.workload_gen.specs.Files.{begin_of, drawn, file_of, length_at, sample_of, track, track_bytes, tracks, workload}
-use Rattle.workload_gen.specs.Words.{generator_after, word}
-use Rattle.workload_gen.proofs.Drawing.{drawn_more, drew, first_begin, first_generator, further, next_begin, next_generator}
+use Rattle.workload_gen.proofs.Drawing.{drawn_more, further}
 use Rattle.workload_gen.proofs.track.draw.Goals as goal
 
 pub loop-preserved : goal.loop-preserved

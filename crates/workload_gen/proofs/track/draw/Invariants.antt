@@ -1,5 +1,5 @@
-use Rattle.std.proofs.Common.{◌≡◌, ◌+◌, ◌++◌, ◌∙◌, ◌-◌, ℕ, suc, List, string_bytes, map}
-use Rattle.workload_gen.specs.Files.{begin_of, drawn, file_of, list_text, players, source_names, tracks}
+use Rattle.std.proofs.Common.{◌≡◌, ◌+◌, ◌++◌, ℕ}
+use Rattle.workload_gen.specs.Files.{drawn}
 use Rattle.workload_gen.specs.Words.{generator_after}
 use Rattle.workload_gen.proofs.track.draw.Given as goal
 

@@ -1,11 +1,8 @@
-use Rattle.std.proofs.Common.{rules, ◌≡◌, ◌∙◌, ◌+◌, ◌++◌, ℕ, suc, List, [], ◌∷◌, map, ap, append_assoc, arith, refl, sym, add-one}
+use Rattle.std.proofs.Common.{◌∙◌, ◌++◌, suc, ap, sym}
 use Rattle.liq_base.specs.declared.memory.Kind.TheVariants.{Mono}
 use Rattle.wav_io.specs.Header.{header_of}
-use Rattle.rand_pcg.specs.Lcg.{Lcg}
-use Rattle.frame_core.specs.Bytes.{sample_bytes}
-use Rattle.workload_gen.specs.Files.{begin_of, drawn, file_of, length_at, sample_of, track, track_bytes, tracks, workload}
-use Rattle.workload_gen.specs.Words.{generator_after, word}
-use Rattle.workload_gen.proofs.Drawing.{after_track, drawn_more, drew, first_begin, first_generator, further, next_begin, next_generator, track_is}
+use Rattle.workload_gen.specs.Words.{generator_after}
+use Rattle.workload_gen.proofs.Drawing.{after_track, drew, track_is}
 use Rattle.workload_gen.proofs.track.track.Goals as goal
 
 pub returns-clause-words : goal.returns-clause-words

@@ -1,9 +1,7 @@
-use Rattle.std.proofs.Common.{rules, ◌≡◌, ◌∙◌, ◌+◌, ◌-◌, ◌++◌, ℕ, suc, List, [], ◌∷◌, map, ap, append_assoc, arith, refl, sym, add-one}
-use Rattle.rand_pcg.specs.Lcg.{Lcg}
-use Rattle.frame_core.specs.Bytes.{sample_bytes}
-use Rattle.workload_gen.specs.Files.{begin_of, drawn, file_of, length_at, sample_of, track, track_bytes, tracks, workload}
-use Rattle.workload_gen.specs.Words.{generator_after, word}
-use Rattle.workload_gen.proofs.Drawing.{drawn_more, drew, first_begin, first_generator, further, next_begin, next_generator}
+use Rattle.std.proofs.Common.{◌≡◌, ◌∙◌, ◌+◌, ◌-◌, suc, map, ap, arith, sym}
+use Rattle.workload_gen.specs.Files.{begin_of, file_of}
+use Rattle.workload_gen.specs.Words.{generator_after}
+use Rattle.workload_gen.proofs.Drawing.{first_begin, first_generator}
 use Rattle.workload_gen.proofs.Listing.{all_files, track_more}
 use Rattle.workload_gen.proofs.workload.make.Goals as goal
 
