@@ -113,7 +113,7 @@ def builtins_that_differ(program):
         found.append("the examples are not those of the builtins")
     for call, script, report, samples in examples:
         lines = re.findall(r"`([^`]*)`", script)
-        wrong = example_differs(program, call.strip("`"), "\n".join(lines) + "\n", report.strip("`"), [int(part) for part in samples.split()])
+        wrong = example_differs(program, call.strip("`"), "\n".join(lines) + "\n", "\n".join(re.findall(r"`([^`]*)`", report)), [int(part) for part in samples.split()])
         found += [f"the example of {call} {wrong}"] if wrong else []
     return found
 
