@@ -1,6 +1,5 @@
 -- A station that is accepted has a meaning.
-use Rattle.std.proofs.Common.{◌≡◌, ℕ, ◌<◌, List, refl}
-use Rattle.std.specs.Prelude.{Ok}
+use Rattle.std.proofs.Common.{◌<◌, refl}
 use Rattle.liq_base.specs.Files.{Files}
 use Rattle.plan_core.specs.Plans.{IsWellFormed}
 use Rattle.stations.specs.Findings.{IsAccepted, rules_of}
