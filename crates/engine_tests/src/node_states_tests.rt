@@ -8,10 +8,23 @@ use fixed_text::WeekSecond;
 use frame_core::{Cell, Library};
 use liq_base::{Kind, Memory};
 use node_states::{Desk, NodeState};
-use plan_core::{Items, Node, Op};
+use plan_core::{Items, Node, Op, Plan};
 use std::alloc::{AllocError, Global};
 use std::process::Abort;
 use std::test::Fail;
+
+// A plan at 8000 samples a second.
+fn at_8000(alloc: Global) -> Plan
+    ensures { result.rate ≡ 8000 }
+{
+    Plan {
+        rate: 8000,
+        frame: 320,
+        nodes: Items::new(alloc),
+        sinks: Items::new(alloc),
+        buffers: Items::new(alloc),
+    }
+}
 
 // A leaf that is used offers this slot, and goes on.
 fn check(
@@ -69,7 +82,8 @@ fn a_blank_of_two_samples(rt: HostRuntime) -> Result<(), Fail> {
         kind: Kind::Mono,
         children: Items::new(alloc),
     };
-    let mut state = NodeState::new(alloc, &node, 0, 8000)?;
+    let plan = at_8000(alloc);
+    let mut state = NodeState::new(alloc, &plan, &node, 0)?;
     check_blank(&rt, alloc, &library, &node, &mut state)?;
     Ok(())
 }
@@ -137,7 +151,8 @@ fn a_crossfade_over_one_sample(rt: HostRuntime) -> Result<(), Fail> {
         kind: Kind::Mono,
         children: Items::from_vec(Vec::from_slice(alloc, &[0])?),
     };
-    let mut state = NodeState::new(alloc, &node, 1, 8000)?;
+    let plan = at_8000(alloc);
+    let mut state = NodeState::new(alloc, &plan, &node, 1)?;
     check_crossfade(&rt, alloc, &library, &node, &mut state)?;
     Ok(())
 }
