@@ -8,12 +8,15 @@ use Rattle.frame_core.specs.Library.{Sounds}
 use Rattle.plan_core.specs.declared.plan.Plan.{Plan}
 use Rattle.clock_infer.specs.declared.clock_map.ClockMap.{ClockMap}
 use Rattle.fallible_infer.specs.Infallible.{IsMarking}
-use Rattle.stations.specs.Outputs.{HoldsSome, with_outputs}
-use Rattle.stations.specs.Stations.{Station, no_buffers}
-use Rattle.stations.specs.Streams.{HasNoGaps, outputs_of}
+use Rattle.run_records.specs.Records.{Run}
+use Rattle.stations.specs.Renderings.{WrotePart}
+use Rattle.stations.specs.Stations.{Station}
+use Rattle.stations.specs.Streams.{HasNoGaps, outputs_with}
 use Rattle.stations.specs.Reports.{check_report_of, report_of}
 use Rattle.station_render.specs.declared.fault.RenderFault.{RenderFault}
 use Rattle.station_render.specs.declared.fault.RenderFault.TheVariants.{Write as render_write, Memory as render_memory}
+use Rattle.station_render.specs.Runs.{IsRendered, IsTold}
+use Rattle.station_render.specs.declared.rendered.Rendered.{Rendered as Shown}
 use Rattle.liq_cli.specs.declared.halt.Halt.{Halt}
 use Rattle.liq_cli.specs.declared.halt.Halt.TheVariants.{Memory as no_memory}
 use Rattle.liq_cli.specs.Words.{Asked, Check, Render, file_of, ticks_of}
@@ -21,7 +24,8 @@ use Rattle.liq_cli.specs.Answer.{Answer, Usage, Refused, Checked, Accepted, IsAn
 use Rattle.liq_cli.specs.Call.{Broken, Rendered, Starved}
 use Rattle.liq_cli.specs.Prepared.{EndsFor, ForOne, Found, IsOneOutcome, Lost, Stops, halt_of_render, station_for}
 use Rattle.liq_cli.proofs.Outcomes.{for_each, for_one}
-use Rattle.liq_cli.proofs.Parts.{none_created, some_later, whole_created}
+use Rattle.liq_cli.proofs.Parts.{none_created, some_later}
+use Rattle.liq_cli.proofs.Uncalled.{uncalled, uncalled_begun}
 
 -- where nothing was created, each answer has what it may
 kept_starved : (asked : Asked) (files : Files) (answer : Answer) (cause : Type 0) (before after : Option Files) → IsAnswerTo asked files answer
@@ -30,7 +34,11 @@ kept_starved asked files Usage cause before after is told same = absurd is
 kept_starved asked files (Refused fault) cause before after is told same = same ∙ told
 kept_starved asked files (Checked station) cause before after is told same = same ∙ told
 kept_starved asked files (Accepted station) cause before after is told same =
-    record { run = no_buffers; begun = refl; parts = none_created cause (outputs_of station no_buffers) before after same files told }
+    record {
+      run = uncalled station;
+      begun = uncalled_begun station;
+      parts = λ rest. none_created cause (outputs_with station (uncalled station) rest) before after same files told;
+    }
 
 -- a job ends as the steps before the rendering do
 pub stopped_early : {T U : Type 0} (asked : Asked) (told left : Option Files) (reads_before reads_after writes_before writes_after : ℕ) (e : Halt)
@@ -88,20 +96,28 @@ of_report (Err e) s P Q is holds on = tt
 -- the report of a check
 pub checked : (file : List ℕ) (told left : Option Files) (plan : Plan) (library : Sounds) (clocks : ClockMap) (report : List ℕ)
     → ForSome told (λ files. IsOneOutcome files file 0 (Found plan library clocks)) → left ≡ told
-    → (mark : ℕ → Bool) × IsMarking plan.nodes mark × (report ≡ check_report_of plan clocks mark)
+    → (mark : ℕ → Bool) × IsMarking plan.nodes mark × ((station : Station) → station.plan ≡ plan → station.clocks ≡ clocks → report ≡ check_report_of station mark)
     → ForSome told (λ files. ForOne (Check file) files (λ a. Rendered a files left report))
 checked file told left plan library clocks report one same tells files t =
     for_one (Check file) files (Found plan library clocks) (λ a. Rendered a files left report) (one files t)
-    (record { kept = same ∙ t; mark = tells.0; marking = tells.1; report_is = tells.2 })
+    (record { kept = same ∙ t; mark = tells.0; marking = tells.1; report_is = tells.2 (station_for (Check file) plan library clocks) refl refl })
 
 module _ (file : List ℕ) (start ticks : ℕ) (told left : Option Files) (plan : Plan) (library : Sounds) (clocks : ClockMap)
     (one : ForSome told (λ files. IsOneOutcome files file ticks (Found plan library clocks))) where
   abbrev station : Station
   station = station_for (Render file start ticks) plan library clocks
 
+  -- a part that was written may be told of a wider cause
+  wrote_later : (writes_before writes_between writes_after : ℕ) → writes_before ≤ writes_between → (files : Files) → WrotePart station (Rose writes_between writes_after) files left → WrotePart station (Rose writes_before writes_after) files left
+  wrote_later writes_before writes_between writes_after le files wrote = record {
+    run = wrote.run;
+    begun = wrote.begun;
+    parts = λ rest. some_later (Rose writes_between writes_after) (Rose writes_before writes_after) (λ rose. omega arith) files (outputs_with station wrote.run rest) left (wrote.parts rest);
+  }
+
   -- a rendering broke off
   pub broke_off : {U : Type 0} (reads_before reads_after writes_before writes_between writes_after : ℕ) (e : RenderFault) → writes_before ≤ writes_between
-      → ForSome told (λ files. IsSomeAnd left (HoldsSome (Rose writes_between writes_after) files (outputs_of station no_buffers)))
+      → ForSome told (λ files. WrotePart station (Rose writes_between writes_after) files left)
       → (e ≡ render_write → Rose writes_between writes_after)
       → Stops {T = U} (Render file start ticks) told left reads_before reads_after writes_before writes_after (Err (halt_of_render e))
   broke_off reads_before reads_after writes_before writes_between writes_after render_write le parts cause = record {
@@ -111,7 +127,7 @@ module _ (file : List ℕ) (start ticks : ℕ) (told left : Option Files) (plan 
     read_kept = λ at. absurd (cc);
     write = λ at. let rose = cause refl in omega arith;
     broken = λ at files t. for_one (Render file start ticks) files (Found plan library clocks) (λ a. Broken a (Rose writes_before writes_after) files left) (one files t)
-        (record { run = no_buffers; begun = refl; parts = some_later (Rose writes_between writes_after) (Rose writes_before writes_after) (λ rose. omega arith) files (outputs_of station no_buffers) left (parts files t) });
+        (wrote_later writes_before writes_between writes_after le files (parts files t));
     memory = λ at. absurd (cc);
   }
   broke_off reads_before reads_after writes_before writes_between writes_after render_memory le parts cause = record {
@@ -122,37 +138,23 @@ module _ (file : List ℕ) (start ticks : ℕ) (told left : Option Files) (plan 
     write = λ at. absurd (cc);
     broken = λ at. absurd (cc);
     memory = λ at files t. for_each (Render file start ticks) files (Found plan library clocks) (λ a. Starved a (Rose writes_before writes_after) files left) (one files t)
-        (record { run = no_buffers; begun = refl; parts = some_later (Rose writes_between writes_after) (Rose writes_before writes_after) (λ rose. omega arith) files (outputs_of station no_buffers) left (parts files t) });
+        (wrote_later writes_before writes_between writes_after le files (parts files t));
   }
 
-  -- memory was refused for the report
-  unreported : {U : Type 0} (reads_before reads_after writes_before writes_after : ℕ)
-      → ForSome told (λ files. left ≡ Some (with_outputs files (outputs_of station no_buffers)))
-      → Stops {T = U} (Render file start ticks) told left reads_before reads_after writes_before writes_after (Err no_memory)
-  unreported reads_before reads_after writes_before writes_after written = record {
-    fault = λ fault at. absurd (cc);
-    fault_kept = λ fault at. absurd (cc);
-    read = λ at. absurd (cc);
-    read_kept = λ at. absurd (cc);
-    write = λ at. absurd (cc);
-    broken = λ at. absurd (cc);
-    memory = λ at files t. for_each (Render file start ticks) files (Found plan library clocks) (λ a. Starved a (Rose writes_before writes_after) files left) (one files t)
-        (record { run = no_buffers; begun = refl; parts = whole_created (Rose writes_before writes_after) left files (outputs_of station no_buffers) (written files t) });
-  }
-
-  -- a rendering whose last step is its report
-  pub ended_written : {U : Type 0} (r : Result U Halt) (reads_before reads_after writes_before writes_after : ℕ) → IfErr r (λ e. e ≡ no_memory)
-      → ForSome told (λ files. left ≡ Some (with_outputs files (outputs_of station no_buffers)))
+  -- a rendering whose last step is its report: memory may be refused for that
+  pub ended_written : {U : Type 0} (r : Result U Halt) (reads_before reads_after writes_before writes_between writes_after : ℕ) → IfErr r (λ e. e ≡ no_memory) → writes_before ≤ writes_between
+      → ForSome told (λ files. WrotePart station (Rose writes_between writes_after) files left)
       → Stops {T = U} (Render file start ticks) told left reads_before reads_after writes_before writes_after r
-  ended_written {U} (Ok v) reads_before reads_after writes_before writes_after starved written = went_on (Render file start ticks) told left reads_before reads_after writes_before writes_after v
-  ended_written {U} (Err e) reads_before reads_after writes_before writes_after starved written =
+  ended_written {U} (Ok v) reads_before reads_after writes_before writes_between writes_after starved le parts = went_on (Render file start ticks) told left reads_before reads_after writes_before writes_after v
+  ended_written {U} (Err e) reads_before reads_after writes_before writes_between writes_after starved le parts =
       subst (λ x. Stops {T = U} (Render file start ticks) told left reads_before reads_after writes_before writes_after (Err x)) (sym starved)
-      (unreported reads_before reads_after writes_before writes_after written)
+      (broke_off reads_before reads_after writes_before writes_between writes_after render_memory le parts (λ at. absurd (cc)))
 
   -- the report of a rendering
-  pub rendered : (report : List ℕ) → ForSome told (λ files. left ≡ Some (with_outputs files (outputs_of station no_buffers)))
-      → report ≡ report_of station no_buffers → ((files : Files) → IsOneOutcome files file ticks (Found plan library clocks) → HasNoGaps station no_buffers)
+  pub rendered : (before : Option Files) (report : List ℕ) (value : Shown) → before ≡ told → IsRendered station before left value
+      → ((run : Run) → IsTold station run value → report ≡ report_of station run)
+      → ((files : Files) (run : Run) → IsOneOutcome files file ticks (Found plan library clocks) → HasNoGaps station run)
       → ForSome told (λ files. ForOne (Render file start ticks) files (λ a. Rendered a files left report))
-  rendered report written report_is gapless files t =
+  rendered before report value kept is report_is gapless files t =
       for_one (Render file start ticks) files (Found plan library clocks) (λ a. Rendered a files left report) (one files t)
-      (record { run = no_buffers; lawful = refl; written = written files t; report_is = report_is; no_gaps = gapless files (one files t) })
+      (record { run = is.run; lawful = is.lawful; written = is.all_written files (kept ∙ t); report_is = report_is is.run is.told; no_gaps = gapless files is.run (one files t) })

@@ -3,6 +3,7 @@ mod Outcomes
 mod Found
 mod Endings
 mod Parts
+mod Uncalled
 mod Leavings
 mod Ended
 mod Complete

@@ -1,26 +1,10 @@
 -- What is left of outputs.
-use Rattle.std.proofs.Common.{◌∙◌, ◌≡◌, ℕ, List, [], ◌∷◌, sym, append-nil, refl, subst, inr}
+use Rattle.std.proofs.Common.{◌∙◌, ◌≡◌, ℕ, List, [], ◌∷◌, sym, refl, subst}
 use Rattle.std.specs.Prelude.{Option, Some, None, IsSomeAnd}
 use Rattle.std.specs.Option.{ForSome}
-use Rattle.liq_base.specs.Pieces.{IsPrefix}
-use Rattle.liq_base.specs.Files.{Files, with_file}
+use Rattle.liq_base.specs.Files.{Files}
 use Rattle.liq_base.specs.Kept.{later_cause}
-use Rattle.stations.specs.Outputs.{OutputFile, HoldsParts, HoldsSome, with_outputs}
-
-whole_prefix : (bytes : List ℕ) → IsPrefix bytes bytes
-whole_prefix bytes = record { rest = []; whole_is = sym (append-nil bytes) }
-
--- whole files are parts
-whole_parts : (cause : Type 0) (files : Files) (outputs : List OutputFile) → HoldsParts cause files outputs (with_outputs files outputs)
-whole_parts cause files [] = refl
-whole_parts cause files (output ∷ outputs) =
-    let midway = with_file files output.name output.bytes in
-    (midway, inr (output.bytes, whole_prefix output.bytes, refl), whole_parts cause midway outputs)
-
-pub whole_created : (cause : Type 0) (after : Option Files) (files : Files) (outputs : List OutputFile) → after ≡ Some (with_outputs files outputs) → IsSomeAnd after (HoldsSome cause files outputs)
-whole_created cause after files outputs is =
-    subst (λ a. IsSomeAnd a (HoldsSome cause files outputs)) (sym is)
-    (record { created = outputs; others = []; outputs_are = sym (append-nil outputs); parts = whole_parts cause files outputs })
+use Rattle.stations.specs.Outputs.{OutputFile, HoldsParts, HoldsSome}
 
 -- nothing was created
 pub none_created : (cause : Type 0) (outputs : List OutputFile) (before after : Option Files) → after ≡ before → ForSome before (λ files. IsSomeAnd after (HoldsSome cause files outputs))

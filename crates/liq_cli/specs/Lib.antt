@@ -1,3 +1,4 @@
+pub mod Read
 pub mod Words
 pub mod Answer
 pub mod Call

@@ -57,8 +57,8 @@ fn render_job<S: Shelf>(
 {
     let work = prepare(alloc, file, ticks, shelf)?;
     infallible_outputs_have_no_gaps();
-    let gaps = render(alloc, &work.plan, &work.ready, start, ticks, shelf)?;
-    report_or_halt(report(alloc, &work.plan, ticks, &gaps))
+    let rendered = render(alloc, &work.plan, &work.ready, start, ticks, shelf)?;
+    report_or_halt(report(alloc, &work.plan, ticks, &rendered))
 }
 
 // The report, or that memory was refused for it. Where a plan is alive, a `?` would be one more place at which it ends.

@@ -1,7 +1,8 @@
 // The words of a call.
-ghost use Rattle.std.specs.Prelude.{◌≡◌, ◌^◌, ◌≤◌, ℕ, decimal, option_map, IfSome, IsSomeAnd, Some};
+ghost use Rattle.std.specs.Prelude.{◌≡◌, ◌^◌, ◌≤◌, ℕ, true, None, Some, decimal, is_some, option_map, if◌then◌else◌, IfSome, IsSomeAnd};
 ghost use Rattle.liq_cli.specs.Prepared.{asked_of, ticks_in};
-ghost use Rattle.liq_cli.specs.Words.{Asked, AreOptions, IsAsked, IsCheck, IsRender, IsStart, texts};
+ghost use Rattle.liq_cli.specs.Read.{options_of};
+ghost use Rattle.liq_cli.specs.Words.{Asked, AreOptions, IsAsked, IsCheck, IsOption, IsRender, IsStart, Options as AllOptions, no_options, start_in, texts};
 
 use fixed_text::{WeekSecond, read_start, read_u64};
 
@@ -14,7 +15,7 @@ pub enum Task {
     /// `check FILE`
     Check,
 
-    /// `render FILE N`, and perhaps where the week begins
+    /// `render FILE N` and options
     Render {
         /// The second of the week of the first sample.
         start: WeekSecond,
@@ -30,6 +31,14 @@ pub struct Form<'a> {
     /// The name of the script.
     pub file: &'a str,
     pub task: Task,
+}
+
+// The options of a rendering: whether it runs on one thread, as every rendering does today; and where the week begins, if
+// that is said.
+#[derive(Clone, Copy)]
+struct Options {
+    one_thread: bool,
+    start: Option<WeekSecond>,
 }
 
 /// The form of the words, or nothing where they have none.
@@ -73,10 +82,13 @@ fn read_render(words: &[String]) -> Option<Form<'_>>
         return None;
     };
     let ticks = read_ticks(number.as_bytes())?;
-    let start = read_options(options)?;
+    let options = read_options(options)?;
     Some(Form {
         file: file.as_str(),
-        task: Task::Render { start, ticks },
+        task: Task::Render {
+            start: start_of(options),
+            ticks,
+        },
     })
 }
 
@@ -93,15 +105,67 @@ fn read_ticks(word: &[u8]) -> Option<u64>
     Some(ticks)
 }
 
-// The start that options give.
-fn read_options(words: &[String]) -> Option<WeekSecond>
-    ensures found { IfSome result (λ start. AreOptions (texts words.now) start.second) }
-    ensures only { (start : ℕ) → AreOptions (texts words.now) start → IsSomeAnd result (λ found. found.second ≡ start) }
+// The options that words are, in any order and each at most once.
+fn read_options(words: &[String]) -> Option<Options>
+    ensures found { IfSome result (λ options. AreOptions no_options (texts words.now) (options_of options)) }
+    ensures only { (all : AllOptions) → AreOptions no_options (texts words.now) all → option_map options_of result ≡ Some all }
 {
-    match words {
-        [] => Some(WeekSecond { second: 0 }),
-        [word] => read_start_option(word.as_str()),
-        _ => None,
+    let mut options = Options {
+        one_thread: false,
+        start: None,
+    };
+    for word in words {
+        options = read_option(word.as_str(), options)?;
+    }
+    Some(options)
+}
+
+// The options with the one that a word is; nothing where it is none, or was there before.
+fn read_option(word: &str, before: Options) -> Option<Options>
+    ensures found { IfSome result (λ after. IsOption word.now (options_of before) (options_of after)) }
+    ensures only { (after : AllOptions) → IsOption word.now (options_of before) after → option_map options_of result ≡ Some after }
+{
+    if word == "--one-thread" {
+        with_one_thread(before)
+    } else {
+        let start = read_start_option(word)?;
+        with_start(start, before)
+    }
+}
+
+// The options with `--one-thread`, where it was not there before.
+fn with_one_thread(before: Options) -> Option<Options>
+    ensures { result ≡ (if before.one_thread then None else Some (record before { one_thread = true })) }
+{
+    if before.one_thread {
+        return None;
+    }
+    Some(Options {
+        one_thread: true,
+        ..before
+    })
+}
+
+// The options with a start, where none was there before.
+fn with_start(start: WeekSecond, before: Options) -> Option<Options>
+    ensures { result ≡ (if is_some before.start then None else Some (record before { start = Some start })) }
+{
+    if before.start.is_some() {
+        return None;
+    }
+    Some(Options {
+        start: Some(start),
+        ..before
+    })
+}
+
+// The start that options give.
+fn start_of(options: Options) -> WeekSecond
+    ensures { result.second ≡ start_in (options_of options) }
+{
+    match options.start {
+        Some(start) => start,
+        None => WeekSecond { second: 0 },
     }
 }
 

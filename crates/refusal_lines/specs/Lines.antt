@@ -21,7 +21,7 @@ use Rattle.clock_infer.specs.declared.clock_map.ClockFault.TheVariants.{TwoClock
 use Rattle.script_plan.specs.declared.fault.ScriptFault.{ScriptFault}
 use Rattle.script_plan.specs.declared.fault.ScriptFault.TheVariants.{Lex, Parse, «Type» as Typing, Eval, Memory as script_memory}
 use Rattle.stations.specs.declared.fault.StationFault.{StationFault}
-use Rattle.stations.specs.declared.fault.StationFault.TheVariants.{OtherForm, Files, FallibleOutput, Clocks, OutputTooLong}
+use Rattle.stations.specs.declared.fault.StationFault.TheVariants.{Files, FallibleOutput, Clocks, OutputTooLong}
 use Rattle.refusal_lines.specs.declared.fault.Fault.{Fault}
 use Rattle.refusal_lines.specs.declared.fault.Fault.TheVariants.{NoScript, Script, Station}
 use Rattle.refusal_lines.specs.Forms.{at_place, at_statement, at_token, of_audio, of_clocks, of_name}
@@ -112,7 +112,6 @@ script_line script_memory = []
 
 -- a plan that is not rendered
 abbrev pub station_line : StationFault → List ℕ
-station_line OtherForm = codes "E00 other form\n"
 station_line (Files fault) = file_line fault
 station_line (FallibleOutput name) = of_name (codes "E25 fallible output") name
 station_line (Clocks fault) = clock_line fault

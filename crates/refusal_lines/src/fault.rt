@@ -58,7 +58,6 @@ fn station_line(alloc: Global, fault: &StationFault) -> Result<String, Memory>
     ensures { IfOk result (λ line. string_bytes line ≡ station_line fault.now) }
 {
     match fault {
-        StationFault::OtherForm => plain(alloc, "E00 other form"),
         StationFault::Files(fault) => file_line(alloc, fault),
         StationFault::FallibleOutput(name) => of_name(alloc, "E25 fallible output", name.as_str()),
         StationFault::Clocks(fault) => clock_line(alloc, fault),

@@ -3,6 +3,7 @@ use Rattle.std.proofs.Common.{◌≡◌, ◌<◌, ◌≤◌, ◌+◌, ◌-◌, �
 use Rattle.std.proofs.lemmas.List.{length-map}
 use Rattle.std.proofs.lemmas.Bool.{le-ltb, lt-ltb}
 use Rattle.std.proofs.lemmas.Option.{slice_get_within}
+use native.Mathlib.Nat.{min-eq_right, min-le_right}
 use Rattle.std.proofs.Math.ListN.{length-set}
 use Rattle.std.proofs.Math.Nat.{suc-mul}
 use Rattle.liq_base.specs.Kinds.{channels_of}
@@ -12,7 +13,7 @@ use Rattle.stream_meaning.specs.Sinks.{tick_bytes, ticks_bytes}
 use Rattle.clock_infer.specs.declared.clock_map.NodeClock.TheVariants.{Main}
 use Rattle.op_leaf.specs.Readers.{Answer}
 use Rattle.stream_meaning.specs.Instants.{Setting}
-use Rattle.stream_meaning.specs.Calls.{IsUnread, after_calls, answers_in, calls_of_tick}
+use Rattle.stream_meaning.specs.Calls.{IsBegin, IsUnread, after_calls, answers_in, calls_of_tick}
 use Rattle.stream_meaning.proofs.Unread.{no_tick_takes}
 use Rattle.clock_outputs.proofs.Gives.{adds_more, adds_nothing}
 use Rattle.node_states.specs.Ticks.{IsOutput, with_rest}
@@ -25,9 +26,9 @@ use Rattle.clock_engine.specs.Engines.{AreWorks, output_of, outputs_of, setting_
 use Rattle.clock_engine.specs.Ticks.{HasFailed, HasMade, HaveTickRoom, HaveTicksRoom, IsWriteFault}
 use Rattle.clock_engine.proofs.Made.{behind_calls, world_is}
 use Rattle.buffer_ends.specs.declared.run_end.End.{End}
-use Rattle.buffer_ends.specs.declared.run_end.End.TheVariants.{Write}
-use Rattle.rounds_run.specs.Rounds.{AreEngines, AreGoing, HasRun, HasRunPart, IsWriteEnd, MayRun, RoundsMade, RoundsStopped, held_of, made_by, nothing, world}
-use Rattle.rounds_run.proofs.Worlds.{meets, meets_is, none_begun, own_other, own_this, turned_more}
+use Rattle.buffer_ends.specs.declared.run_end.End.TheVariants.{Write, Memory as NoMemory}
+use Rattle.rounds_run.specs.Rounds.{AreEngines, AreGoing, HasRun, HasRunPart, IsWriteEnd, MayRun, RoundsMade, RoundsStopped, held_of, made_by, nothing, ticks_by, world}
+use Rattle.rounds_run.proofs.Worlds.{meets, meets_is, none_begun, own_other, own_this, turned_more, turned_part}
 use Rattle.rounds_run.proofs.Apart.{unread_or}
 use Rattle.rounds_run.proofs.Fronts.{at_mapped, fell_not, fell_then, front_of, grown_nothing, grown_twice, kept_not, kept_then, next_front, read, rose_since, ticks_front}
 
@@ -49,7 +50,7 @@ pub record DidTick {S T : Type 0} (held name : S → Option (List ℕ)) (room : 
   pub rooms : (ticks : ℕ) → HaveTicksRoom room old.works old.outs.items (ticks + 1) → HaveTicksRoom room new.works new.outs.items ticks
 
 module _ {S : Type 0} (held name : S → Option (List ℕ)) (room : S → Option ℕ) (faults : S → ℕ) where
-  run_none : (total : ℕ) (engine : ClockEngine S) → MayRun room total engine → HasRun held name faults [] 0 engine engine
+  pub run_none : (total : ℕ) (engine : ClockEngine S) → MayRun room total engine → HasRun held name faults [] 0 engine engine
   run_none total engine may = record {
     works = may.works;
     sinks = may.sinks;
@@ -121,16 +122,17 @@ module _ {S : Type 0} (held name : S → Option (List ℕ)) (room : S → Option
           kept = kept_then name faults first.outs.items old.outs.items new.outs.items run.outs run.kept did.kept;
         }
 
-    -- a run of so many ticks is a part of a longer one
-    pub run_part : (total : ℕ) → t ≤ total → HasRunPart held name faults calls total first old
-    run_part total low = record {
+    -- a run of so many ticks is one of at least and at most so many
+    pub run_part : (least most : ℕ) → least ≤ t → t ≤ most → HasRunPart held name faults (world (setting_of first.works) calls) least most first old
+    run_part least most low high = record {
       works = run.works;
       setting = run.setting;
       clock = run.clock;
       part = λ rest sink node output.
           let W = world (setting_of first.works) calls rest in (
             ticks_bytes W node t,
-            ticks_front W node t total low,
+            ticks_front W node least t low,
+            ticks_front W node t most high,
             run.grew.each (meets (setting_of first.works) (Main first.works.clock) calls run.answers run.own rest) sink node output
                 ∙ ap (λ V. grown (ticks_bytes V node t) (held_of held first sink)) (meets_is (setting_of first.works) (Main first.works.clock) calls run.answers run.own rest none_read),
           );
@@ -140,11 +142,12 @@ module _ {S : Type 0} (held name : S → Option (List ℕ)) (room : S → Option
     }
 
     -- so are those ticks and a part of the next one
-    pub run_failed : {T : Type 0} (taps_stand : T → List Call → Type 0) (taps_old taps_new : T) (total : ℕ) → t < total
+    pub run_failed : {T : Type 0} (taps_stand : T → List Call → Type 0) (taps_old taps_new : T) (least most : ℕ) → least ≤ t → t < most
         → (failed : HasFailed held taps_stand old.works new.works old.outs.items new.outs.items taps_old taps_new) → NoneFell faults old.outs.items new.outs.items
         → length new.outs.items ≡ length old.outs.items → AreKept name faults old.outs.items new.outs.items
-        → AreWorks new.works → setting_of new.works ≡ setting_of old.works → new.works.clock ≡ old.works.clock → HasRunPart held name faults (calls ++ failed.made) total first new
-    run_failed taps_stand taps_old taps_new total low failed fell many kept works setting clock =
+        → AreWorks new.works → setting_of new.works ≡ setting_of old.works → new.works.clock ≡ old.works.clock
+        → HasRunPart held name faults (world (setting_of first.works) (calls ++ failed.made)) least most first new
+    run_failed taps_stand taps_old taps_new least most low high failed fell many kept works setting clock =
         let stopped = failed.engine t run.answers run.stands in
         let F = setting_of first.works in
         let M = Main first.works.clock in
@@ -174,8 +177,10 @@ module _ {S : Type 0} (held name : S → Option (List ℕ)) (room : S → Option
               run.grew.each (behind_calls failed.made behind) sink node output
               ∙ ap (λ V. grown (ticks_bytes V node t) (held_of held first sink)) (world_is F run.answers failed.made behind ∙ same) in (
                 ticks_bytes W node t ++ part.0,
-                front_of (ticks_bytes W node t ++ part.0) (ticks_bytes W node (suc t)) (ticks_bytes W node total)
-                    (next_front W node t part.0 inside) (ticks_front W node (suc t) total (omega (arith, low))),
+                front_of (ticks_bytes W node least) (ticks_bytes W node t) (ticks_bytes W node t ++ part.0)
+                    (ticks_front W node least t low) (record { rest = part.0; whole_is = refl }),
+                front_of (ticks_bytes W node t ++ part.0) (ticks_bytes W node (suc t)) (ticks_bytes W node most)
+                    (next_front W node t part.0 inside) (ticks_front W node (suc t) most (omega (arith, high))),
                 part.2 ∙ ap (grown part.0) before ∙ grown_twice part.0 (ticks_bytes W node t) (held_of held first sink),
               );
           none_fell = fell_then faults first.outs.items old.outs.items new.outs.items run.none_fell fell;
@@ -276,6 +281,23 @@ module _ {S : Type 0} (held name : S → Option (List ℕ)) (room : S → Option
                     (subst (λ c. IsUnread (setting_of before.works) (Main c) buffer) (sym (may.in_order k engine at)) unread))
               ]
 
+        -- the answers of the engine whose turn it is, and of more calls
+        module _ (may : AreEngines room total setting first) (before : ClockEngine S) (at_first : slice_get first m ≡ Some before) (more : List Call) where
+          own_here : (buffer : ℕ) → (after_calls (run_here before at_first).answers more buffer ≡ answers_in buffer (going.calls ++ more)) ⊎ IsUnread setting (Main m) buffer
+          own_here buffer =
+              let run_m = run_here before at_first in
+              subst (λ s. (after_calls run_m.answers more buffer ≡ answers_in buffer (going.calls ++ more)) ⊎ IsUnread s (Main m) buffer) (may.over m before at_first)
+              (subst (λ q. (after_calls run_m.answers more buffer ≡ answers_in buffer (going.calls ++ more)) ⊎ IsUnread (setting_of before.works) (Main q) buffer) (may.in_order m before at_first)
+              (own_this (setting_of before.works) (Main before.works.clock) going.calls more buffer (run_m.answers buffer) (run_m.own buffer)))
+
+          none_here : ((buffer : ℕ) → IsUnread setting (Main m) buffer → answers_in buffer more ≡ []) → (buffer : ℕ) → IsUnread setting (Main m) buffer
+              → after_calls (run_here before at_first).answers more buffer ≡ []
+          none_here quiet buffer unread =
+              let run_m = run_here before at_first in
+              ap (λ (xs : List Answer). xs ++ answers_in buffer more)
+              (none_read r going.calls before old new run_m buffer (subst (λ s. IsUnread s (Main before.works.clock) buffer) (sym (may.over m before at_first)) (subst (λ q. IsUnread setting (Main q) buffer) (sym (may.in_order m before at_first)) unread)))
+              ∙ quiet buffer unread
+
         pub tick_more : (may : AreEngines room total setting first) (before : ClockEngine S) → slice_get first m ≡ Some before → (c : T) → turns % length first ≡ m → turns / length first ≡ r
             → DidTick held name room faults stands old new b c
             → AreGoing held name room faults stands setting total (made_by r (m + 1)) (suc turns) first (set now m new) a c
@@ -290,21 +312,14 @@ module _ {S : Type 0} (held name : S → Option (List ℕ)) (room : S → Option
             let W = with_rest (setting_of old.works) (after_calls run_m.answers made.more) nothing in
             let un : IsUnread (setting_of old.works) (Main old.works.clock) buffer = subst (λ s. IsUnread s (Main old.works.clock) buffer) (sym setting_is) (subst (λ q. IsUnread setting (Main q) buffer) (sym clock_is) unread) in
             ap (answers_in buffer) (ticked.are nothing) ∙ no_tick_takes W ticked.accepted old.works.clock r buffer (record { none = un.none }) in
-            let next = run_more r going.calls before old new run_m stands b c did in
             record {
               calls = going.calls ++ made.more;
               taps = adds_more stands a b c going.calls made.more going.taps made.taps;
-              turned = turned_more setting (length first) turns going.calls made.more (Main m) (after_calls run_m.answers made.more)
-                  (λ buffer. subst (λ s. (after_calls run_m.answers made.more buffer ≡ answers_in buffer (going.calls ++ made.more)) ⊎ IsUnread s (Main m) buffer) (may.over m before at_first)
-                  (subst (λ q. (after_calls run_m.answers made.more buffer ≡ answers_in buffer (going.calls ++ made.more)) ⊎ IsUnread (setting_of before.works) (Main q) buffer) (may.in_order m before at_first) (next.own buffer)))
-                  (λ buffer unread. ap (λ (xs : List Answer). xs ++ answers_in buffer made.more)
-                  (none_read r going.calls before old new run_m buffer (subst (λ s. IsUnread s (Main before.works.clock) buffer) (sym (may.over m before at_first)) (subst (λ q. IsUnread setting (Main q) buffer) (sym (may.in_order m before at_first)) unread)))
-                  ∙ quiet buffer unread)
-                  ticked.accepted
+              turned = turned_more setting (length first) turns going.calls made.more ticked.accepted going.turned (Main m) (after_calls run_m.answers made.more)
+                  (own_here may before at_first made.more) (none_here may before at_first made.more quiet)
                   (λ rest. subst (λ s. made.more ≡ calls_of_tick (with_rest s (after_calls run_m.answers made.more) rest) ticked.accepted (turns % length first) (turns / length first)) setting_is
                   (subst (λ q. made.more ≡ calls_of_tick (with_rest (setting_of old.works) (after_calls run_m.answers made.more) rest) ticked.accepted q (turns / length first)) (clock_is ∙ sym this_clock)
-                  (subst (λ n. made.more ≡ calls_of_tick (with_rest (setting_of old.works) (after_calls run_m.answers made.more) rest) ticked.accepted old.works.clock n) (sym this_round) (ticked.are rest))))
-                  going.turned;
+                  (subst (λ n. made.more ≡ calls_of_tick (with_rest (setting_of old.works) (after_calls run_m.answers made.more) rest) ticked.accepted old.works.clock n) (sym this_round) (ticked.are rest))));
               run = record {
                 size = many;
                 each = λ k engine after at is. elim (same_or_other m k) [
@@ -323,12 +338,16 @@ module _ {S : Type 0} (held name : S → Option (List ℕ)) (room : S → Option
               ];
             }
 
-        -- a fault of a tick leaves each engine with a part of all ticks
+        -- a fault of a tick leaves each engine where it was, and this one with at most a part of its tick
         pub tick_failed : (may : AreEngines room total setting first) (before : ClockEngine S) → slice_get first m ≡ Some before → (c : T) → r < total
+            → turns % length first ≡ m → turns / length first ≡ r → (all : ℕ) → turns < all
             → HasFailed held stands old.works new.works old.outs.items new.outs.items b c → NoneFell faults old.outs.items new.outs.items
             → length new.outs.items ≡ length old.outs.items → AreKept name faults old.outs.items new.outs.items
-            → AreWorks new.works → setting_of new.works ≡ setting_of old.works → new.works.clock ≡ old.works.clock → RoundsStopped held name faults stands total first (set now m new) a c
-        tick_failed may before at_first c low failed fell same_outs kept works setting' clock =
+            → AreWorks new.works → setting_of new.works ≡ setting_of old.works → new.works.clock ≡ old.works.clock
+            → (end : End) → (end ≡ NoMemory) ⊎ IsWriteEnd faults m first (set now m new) end
+            → RoundsStopped held name faults stands setting total all first (set now m new) a c end
+        unfolding run_here
+        tick_failed may before at_first c low this_clock this_round all turn_low failed fell same_outs kept works setting' clock end cause =
             let run_m = run_here before at_first in
             let stopped = failed.engine r run_m.answers run_m.stands in
             let setting_is : setting_of old.works ≡ setting = run_m.setting ∙ may.over m before at_first in
@@ -341,27 +360,58 @@ module _ {S : Type 0} (held name : S → Option (List ℕ)) (room : S → Option
             record {
               calls = going.calls ++ failed.made;
               taps = adds_more stands a b c going.calls failed.made going.taps failed.taps;
+              begun = turned_part setting (length first) turns going.calls failed.made stopped.accepted going.turned (Main m) (after_calls run_m.answers failed.made)
+                  (own_here may before at_first failed.made) (none_here may before at_first failed.made quiet) all turn_low
+                  (λ rest. subst (λ s. IsBegin failed.made (calls_of_tick (with_rest s (after_calls run_m.answers failed.made) rest) stopped.accepted (turns % length first) (turns / length first))) setting_is
+                  (subst (λ q. IsBegin failed.made (calls_of_tick (with_rest (setting_of old.works) (after_calls run_m.answers failed.made) rest) stopped.accepted q (turns / length first))) (clock_is ∙ sym this_clock)
+                  (subst (λ n. IsBegin failed.made (calls_of_tick (with_rest (setting_of old.works) (after_calls run_m.answers failed.made) rest) stopped.accepted old.works.clock n)) (sym this_round) (stopped.begun rest))));
+              round = r;
+              clock = m;
               part = record {
                 size = many;
-                each = λ k engine after at is. elim (same_or_other m k) [
-                  | inl same ↦ subst (λ e. HasRunPart held name faults (going.calls ++ failed.made) total engine e) (this_at k after same is)
-                      (run_failed r going.calls engine old new (run_here engine (ap (slice_get first) same ∙ at)) stands b c total low failed fell same_outs kept works setting' clock)
-                  | inr other ↦ run_part (made_by r m k) (going.calls ++ failed.made) engine after after
-                      (run_idle going.calls failed.made (made_by r m k) engine after (apart_here may before at_first failed.made quiet k engine other at) (going.run.each k engine after at (other_at k after other is))) total (few k)
-                ];
+                each = λ k engine after at is.
+                    let over : setting_of engine.works ≡ setting = may.over k engine at in
+                    subst (λ s. HasRunPart held name faults (world s (going.calls ++ failed.made)) (ticks_by total r m k) (ticks_by total r (m + 1) k) engine after) over
+                    (elim (same_or_other m k) [
+                      | inl same ↦ subst (λ e. HasRunPart held name faults (world (setting_of engine.works) (going.calls ++ failed.made)) (ticks_by total r m k) (ticks_by total r (m + 1) k) engine e) (this_at k after same is)
+                          (run_failed r going.calls engine old new (run_here engine (ap (slice_get first) same ∙ at)) stands b c (ticks_by total r m k) (ticks_by total r (m + 1) k) (least_here k same) (most_here k same) failed fell same_outs kept works setting' clock)
+                      | inr other ↦ run_part (made_by r m k) (going.calls ++ failed.made) engine after after
+                          (run_idle going.calls failed.made (made_by r m k) engine after (apart_here may before at_first failed.made quiet k engine other at) (going.run.each k engine after at (other_at k after other is)))
+                          (ticks_by total r m k) (ticks_by total r (m + 1) k) (min-le_right total (made_by r m k)) (most_other k other)
+                    ]);
               };
+              cause = cause;
             }
           where
+            least_here : (k : ℕ) → m ≡ k → ticks_by total r m k ≤ r
+            least_here k same =
+                let is : made_by r m k ≡ r = ap (made_by r m) (sym same) ∙ made_here in
+                let low = min-le_right total (made_by r m k) in
+                omega (arith, is, low)
+
+            most_here : (k : ℕ) → m ≡ k → r < ticks_by total r (m + 1) k
+            most_here k same =
+                let is : made_by r (m + 1) k ≡ suc r = ap (made_by r (m + 1)) (sym same) ∙ made_next in
+                let all = min-eq_right {n = made_by r (m + 1) k} {m = total} (omega (arith, low, is)) in
+                omega (arith, is, all)
+
             few : (k : ℕ) → made_by r m k ≤ total
             few k = elim (low_or_high k m) [
               | inl below_it ↦ (let is : made_by r m k ≡ suc r = rw (below k m below_it) refl in omega (arith, low, is))
               | inr high ↦ (let is : made_by r m k ≡ r = rw (not_below k m high) refl in omega (arith, low, is))
             ]
 
+            most_other : (k : ℕ) → (m ≡ k → ⊥) → made_by r m k ≤ ticks_by total r (m + 1) k
+            most_other k other =
+                let is = made_more k other in
+                let less = few k in
+                let all = min-eq_right {n = made_by r (m + 1) k} {m = total} (omega (arith, less, is)) in
+                omega (arith, is, all)
+
         -- the end names the sink of the fault
         pub write_end : (may : AreEngines room total setting first) (before : ClockEngine S) → slice_get first m ≡ Some before → (fault : TickFault) (end : End)
             → IsWriteFault faults old.works old.outs.items new.outs.items fault → ((sink : ℕ) → fault ≡ TickWrite sink → end ≡ Write new.works.clock sink)
-            → new.works.clock ≡ old.works.clock → IsWriteEnd faults first (set now m new) end
+            → new.works.clock ≡ old.works.clock → IsWriteEnd faults m first (set now m new) end
         write_end may before at fault end cause tells clock =
             let run = run_here before at in
             let order : before.works.clock ≡ m = may.in_order m before at in
@@ -369,7 +419,6 @@ module _ {S : Type 0} (held name : S → Option (List ℕ)) (room : S → Option
             run.works.outputs ∙ ap (λ s. outputs_of s old.works.clock) run.setting ∙ ap (outputs_of (setting_of before.works)) (run.clock ∙ order) in
             let ready = may.each m before at in
             record {
-              clock = m;
               before = before;
               after = new;
               was = at;

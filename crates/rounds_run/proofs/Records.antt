@@ -1,13 +1,22 @@
--- The answers of a run, for its record.
-use Rattle.std.proofs.Common.{◌≡◌, ◌∙◌, ◌/◌, ◌%◌, ℕ, Bool, true, false, cond, List, [], ◌∷◌, nat_eq, ◌==◌, arith, ap, refl, sym}
+-- The record of calls, by buffers.
+use Rattle.std.proofs.Common.{◌≡◌, ◌<◌, ◌≤◌, ◌∙◌, ◌+◌, ◌*◌, ◌++◌, ◌/◌, ◌%◌, ℕ, zero, suc, Bool, true, false, cond, Some, List, [], ◌∷◌, length, map, nat_eq, slice_get, slice_index_or, flat_map, ◌==◌, append-nil, inl, inr, arith, ap, refl, sym, subst}
+use mathlib.Core.Path.{fun_ext}
+use Rattle.std.proofs.lemmas.Bool.{cases_lt}
 use Rattle.std.proofs.lemmas.Bool.Decides.{nat_tests}
-use Rattle.clock_infer.specs.declared.clock_map.NodeClock.TheVariants.{Main}
+use Rattle.plan_core.specs.Plans.{IsWellFormed}
+use Rattle.frame_core.specs.declared.cell.Cell.{Cell}
 use Rattle.frame_core.specs.Calls.{Call, Took, Given, takes_of}
 use Rattle.op_leaf.specs.Readers.{Answer}
-use Rattle.stream_meaning.specs.Instants.{Setting}
-use Rattle.stream_meaning.specs.Calls.{IsUnread, answers_in, calls_of_tick}
+use Rattle.stream_meaning.specs.Instants.{Setting, answered}
+use Rattle.stream_meaning.specs.Calls.{IsBegin, answers_in, calls_of_tick}
+use Rattle.stream_meaning.proofs.Answering.{begin_all}
 use Rattle.stream_meaning.proofs.Unread.{no_tick_takes, none_in_joined}
-use Rattle.rounds_run.specs.Rounds.{AreTurns, nothing, world}
+use Rattle.engine_instants.proofs.Reading.{op_of_reads}
+use Rattle.run_records.specs.Records.{AreRoundsBegun, Follows, IsRounds, Run, Window, answers_of, capacity_of, on, rounds_of, setting_in, setting_then, windows_of}
+use Rattle.run_records.proofs.Turning.{turns_are_rounds}
+use Rattle.rounds_run.specs.Rounds.{AreTurns, AreTurnsBegun, calls_of_turns, nothing, world}
+use Rattle.rounds_run.proofs.Lawful.{window_of}
+use Rattle.rounds_run.proofs.Worlds.{none_begun}
 
 flip : (a b : ℕ) → (b == a) ≡ nat_eq a b
 flip a b = by (nat_eq a b) (nat_eq b a) refl refl
@@ -24,9 +33,101 @@ takes_are buffer [] = refl
 takes_are buffer (Took of answer ∷ calls) = ap (λ (t : Bool). cond t (answer ∷ takes_of buffer calls) (takes_of buffer calls)) (flip of buffer) ∙ ap (λ (rest : List Answer). cond (nat_eq of buffer) (answer ∷ rest) rest) (takes_are buffer calls)
 takes_are buffer (Given to chunk accepted ∷ calls) = takes_are buffer calls
 
--- a buffer that no main clock reads has no answer in a run
-pub none_unread : (setting : Setting) (clocks turns : ℕ) (calls : List Call) (buffer : ℕ) → AreTurns setting clocks turns calls → ((m : ℕ) → IsUnread setting (Main m) buffer) → answers_in buffer calls ≡ []
-none_unread setting clocks turns calls buffer turned unread =
-    ap (answers_in buffer) (turned.are nothing)
-    ∙ none_in_joined buffer (λ j. calls_of_tick (world setting calls nothing) (turned.accepted j) (j % clocks) (j / clocks))
-    (λ j. no_tick_takes (world setting calls nothing) (turned.accepted j) (j % clocks) (j / clocks) buffer (record { none = (unread (j % clocks)).none })) turns
+-- the windows of so many buffers from this one on, one each
+abbrev pub windows_from : List Call → (b n : ℕ) → List (List Window)
+windows_from calls b zero = []
+windows_from calls b (suc n) = (window_of b calls ∷ []) ∷ windows_from calls (suc b) n
+
+abbrev pub run_of : (buffers : ℕ) → List Call → Run
+run_of buffers calls = record { buffers = windows_from calls 0 buffers }
+
+pub windows_many : (calls : List Call) (b n : ℕ) → length (windows_from calls b n) ≡ n
+windows_many calls b zero = refl
+windows_many calls b (suc n) = ap suc (windows_many calls (suc b) n)
+
+windows_at : (calls : List Call) (b n k : ℕ) → k < n → slice_index_or (windows_from calls b n) k [] ≡ window_of (b + k) calls ∷ []
+windows_at calls b zero k low = absurd (omega (arith, low))
+windows_at calls b (suc n) zero low = let same : b ≡ b + 0 = omega arith in ap (λ (m : ℕ). window_of m calls ∷ []) same
+windows_at calls b (suc n) (suc k) low = let same : suc b + k ≡ b + suc k = omega arith in windows_at calls (suc b) n k (omega (arith, low)) ∙ ap (λ (m : ℕ). window_of m calls ∷ []) same
+
+windows_past : (calls : List Call) (b n k : ℕ) → n ≤ k → slice_index_or (windows_from calls b n) k [] ≡ []
+windows_past calls b zero k high = refl
+windows_past calls b (suc n) zero high = absurd (omega (arith, high))
+windows_past calls b (suc n) (suc k) high = windows_past calls (suc b) n k (omega (arith, high))
+
+pub window_at : (n : ℕ) (calls : List Call) (b : ℕ) → b < n → windows_of (run_of n calls) b ≡ window_of b calls ∷ []
+window_at n calls b low = let same : 0 + b ≡ b = omega arith in windows_at calls 0 n b low ∙ ap (λ (m : ℕ). window_of m calls ∷ []) same
+
+-- what is told of each window of a list of buffers
+pub windows_mapped : {A B : Type 0} (f : A → B) (g : List Window → B) (calls : List Call) (b : ℕ) (xs : List A) → ((k : ℕ) (x : A) → slice_get xs k ≡ Some x → f x ≡ g (window_of (b + k) calls ∷ []))
+    → map f xs ≡ map g (windows_from calls b (length xs))
+windows_mapped f g calls b [] each = refl
+windows_mapped {A} {B} f g calls b (x ∷ xs) each =
+    let here : b + 0 ≡ b = omega arith in
+    let first : f x ≡ g (window_of b calls ∷ []) = each 0 x refl ∙ ap (λ (m : ℕ). g (window_of m calls ∷ [])) here in
+    let others = windows_mapped f g calls (suc b) xs (λ k y at. let next : b + suc k ≡ suc b + k = omega arith in each (suc k) y at ∙ ap (λ (m : ℕ). g (window_of m calls ∷ [])) next) in
+    λ i. first i ∷ others i
+
+-- the record of calls that begin those of turns
+module _ (setting : Setting) (well : IsWellFormed setting.plan) (clocks turns : ℕ) (calls : List Call) (begun : AreTurnsBegun setting clocks turns calls) where
+  -- a buffer that the plan has not got has no answer
+  none_past : (buffer : ℕ) → length setting.plan.buffers ≤ buffer → answers_in buffer calls ≡ []
+  none_past buffer high =
+      let start = begun.begun nothing in
+      none_begun buffer calls start.rest (ap (answers_in buffer) (sym start.are)
+      ∙ none_in_joined buffer (λ j. calls_of_tick (world setting calls nothing) (begun.accepted j) (j % clocks) (j / clocks))
+      (λ j. no_tick_takes (world setting calls nothing) (begun.accepted j) (j % clocks) (j / clocks) buffer
+      (record { none = λ rank i node found work below. let low = well.read buffer i (node, found, op_of_reads setting i buffer node work) in omega (arith, low, high) })) turns)
+
+  abbrev run : Run
+  run = run_of (length setting.plan.buffers) calls
+
+  answers_are : (buffer : ℕ) → answers_of run buffer ≡ answers_in buffer calls
+  answers_are buffer = elim (cases_lt buffer (length setting.plan.buffers)) [
+    | inl low ↦ ap (λ (ws : List Window). flat_map (λ (window : Window). window.1) ws) (window_at (length setting.plan.buffers) calls buffer low) ∙ append-nil (takes_of buffer calls) ∙ takes_are buffer calls
+    | inr high ↦ ap (λ (ws : List Window). flat_map (λ (window : Window). window.1) ws) (windows_past calls 0 (length setting.plan.buffers) buffer high) ∙ sym (none_past buffer high)
+  ]
+
+  pub then_is : (rest : ℕ → List Answer) → setting_then setting run rest ≡ world setting calls rest
+  then_is rest = ap (answered setting) (fun_ext (λ buffer. ap (λ (xs : List Answer). xs ++ rest buffer) (answers_are buffer)))
+
+  pub in_is : setting_in setting run ≡ world setting calls nothing
+  in_is = ap (answered setting) (fun_ext (λ buffer. answers_are buffer ∙ sym (append-nil (answers_in buffer calls))))
+
+  -- each buffer follows the calls on it
+  module _ (N : ℕ) (all : turns ≡ N * clocks) (in_order : (buffer : ℕ) → buffer < length setting.plan.buffers → (rest : List (List Cell)) × Follows (capacity_of setting buffer) [] (on buffer calls) rest) where
+    pub rounds_begun : AreRoundsBegun setting clocks N run
+    rounds_begun = record {
+      buffers = windows_many calls 0 (length setting.plan.buffers);
+      calls = calls;
+      begun = λ rest. (
+        (λ m t. begun.accepted (t * clocks + m)),
+        subst (IsBegin calls) (turns_are_rounds (setting_then setting run rest) begun.accepted clocks N)
+            (subst (λ (V : Setting). IsBegin calls (calls_of_turns V begun.accepted clocks (N * clocks))) (sym (then_is rest))
+            (subst (λ (n : ℕ). IsBegin calls (calls_of_turns (world setting calls rest) begun.accepted clocks n)) all (begun.begun rest))),
+      );
+      are = window_at (length setting.plan.buffers) calls;
+      in_order = in_order;
+    }
+
+    pub rounds_made : AreTurns setting clocks turns calls → IsRounds setting clocks N run
+    rounds_made turned =
+        let is : calls ≡ rounds_of (setting_in setting run) (λ m t. turned.accepted (t * clocks + m)) clocks N =
+        turned.are nothing ∙ ap (λ (n : ℕ). calls_of_turns (world setting calls nothing) turned.accepted clocks n) all
+        ∙ ap (λ (V : Setting). calls_of_turns V turned.accepted clocks (N * clocks)) (sym in_is) ∙ turns_are_rounds (setting_in setting run) turned.accepted clocks N in
+        record {
+          buffers = windows_many calls 0 (length setting.plan.buffers);
+          accepted = λ m t. turned.accepted (t * clocks + m);
+          are = λ buffer low. window_at (length setting.plan.buffers) calls buffer low ∙ ap (λ (cs : List Call). window_of buffer cs ∷ []) is;
+          in_order = λ buffer low. (
+            (in_order buffer low).0,
+            subst (λ (cs : List Call). Follows (capacity_of setting buffer) [] (on buffer cs) (in_order buffer low).0) is (in_order buffer low).1,
+          );
+        }
+
+-- all turns are a beginning of them
+pub turned_begun : (setting : Setting) (clocks turns : ℕ) (calls : List Call) → AreTurns setting clocks turns calls → AreTurnsBegun setting clocks turns calls
+turned_begun setting clocks turns calls turned = record {
+  accepted = turned.accepted;
+  begun = λ rest. subst (IsBegin calls) (turned.are rest) (begin_all calls);
+}

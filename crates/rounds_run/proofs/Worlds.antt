@@ -1,15 +1,15 @@
 -- The answers of one engine, and those of all.
-use Rattle.std.proofs.Common.{◌≡◌, ◌∙◌, ◌++◌, ◌/◌, ◌%◌, ℕ, suc, Bool, true, false, cond, List, [], ◌∷◌, nat_eq, append-nil, append_assoc, arith, refl, ap, sym, ◌⊎◌, inl, inr}
+use Rattle.std.proofs.Common.{◌≡◌, ◌<◌, ◌∙◌, ◌++◌, ◌/◌, ◌%◌, ℕ, suc, Bool, true, false, cond, List, [], ◌∷◌, nat_eq, append-nil, append_assoc, arith, refl, ap, sym, subst, ◌⊎◌, inl, inr}
 use mathlib.Core.Path.{fun_ext}
 use Rattle.std.proofs.lemmas.Bool.Decides.{nat_tests}
 use Rattle.clock_infer.specs.declared.clock_map.NodeClock.{NodeClock}
 use Rattle.frame_core.specs.Calls.{Call}
 use Rattle.op_leaf.specs.Readers.{Answer}
 use Rattle.stream_meaning.specs.Instants.{Setting}
-use Rattle.stream_meaning.specs.Calls.{IsUnread, answers_in, calls_of_tick}
-use Rattle.stream_meaning.proofs.Answering.{answers_in-append, joined_same}
+use Rattle.stream_meaning.specs.Calls.{IsBegin, IsUnread, answers_in, calls_of_tick, joined_upto}
+use Rattle.stream_meaning.proofs.Answering.{answers_in-append, begin_joined, joined_same}
 use Rattle.node_states.specs.Ticks.{with_rest}
-use Rattle.rounds_run.specs.Rounds.{AreTurns, calls_of_turns, world}
+use Rattle.rounds_run.specs.Rounds.{AreTurns, AreTurnsBegun, calls_of_turns, world}
 
 -- an engine has its own answers, or does not read the buffer
 abbrev pub Owns : Setting → NodeClock → List Call → (ℕ → List Answer) → Type 0
@@ -62,24 +62,45 @@ world_more setting calls more rest =
 abbrev with_turn : (ℕ → ℕ → Bool) → ℕ → (ℕ → Bool) → ℕ → ℕ → Bool
 with_turn accepted turns new j buffer = cond (nat_eq j turns) (new buffer) (accepted j buffer)
 
-pub turned_more : (setting : Setting) (clocks turns : ℕ) (calls more : List Call) (clock : NodeClock) (answers : ℕ → List Answer) → Owns setting clock (calls ++ more) answers
-    → ((buffer : ℕ) → IsUnread setting clock buffer → answers buffer ≡ []) → (accepted : ℕ → Bool)
-    → ((rest : ℕ → List Answer) → more ≡ calls_of_tick (with_rest setting answers rest) accepted (turns % clocks) (turns / clocks))
-    → AreTurns setting clocks turns calls → AreTurns setting clocks (suc turns) (calls ++ more)
-turned_more setting clocks turns calls more clock answers own none accepted is before = record {
-  accepted = with_turn before.accepted turns accepted;
-  are = λ rest.
+-- the turns before, with the answers of what comes behind them
+module _ (setting : Setting) (clocks turns : ℕ) (calls more : List Call) (accepted : ℕ → Bool) (before : AreTurns setting clocks turns calls) where
+  turns_before : (rest : ℕ → List Answer) → calls ≡ calls_of_turns (world setting (calls ++ more) rest) (with_turn before.accepted turns accepted) clocks turns
+  turns_before rest =
       let W = world setting (calls ++ more) rest in
-      let old : calls ≡ calls_of_turns W before.accepted clocks turns =
-      before.are (λ buffer. answers_in buffer more ++ rest buffer) ∙ ap (λ V. calls_of_turns V before.accepted clocks turns) (world_more setting calls more rest) in
-      let same : calls_of_turns W before.accepted clocks turns ≡ calls_of_turns W (with_turn before.accepted turns accepted) clocks turns =
-      joined_same (λ j. calls_of_tick W (before.accepted j) (j % clocks) (j / clocks)) (λ j. calls_of_tick W (with_turn before.accepted turns accepted j) (j % clocks) (j / clocks)) turns
+      before.are (λ buffer. answers_in buffer more ++ rest buffer) ∙ ap (λ V. calls_of_turns V before.accepted clocks turns) (world_more setting calls more rest)
+      ∙ joined_same (λ j. calls_of_tick W (before.accepted j) (j % clocks) (j / clocks)) (λ j. calls_of_tick W (with_turn before.accepted turns accepted j) (j % clocks) (j / clocks)) turns
       (λ j low. ap (λ f. calls_of_tick W f (j % clocks) (j / clocks)) (fun_ext (λ buffer.
-      let differs : nat_eq j turns ≡ false = grind (arith, nat_tests) in sym (ap (λ (b : Bool). cond b (accepted buffer) (before.accepted j buffer)) differs)))) in
-      let new : more ≡ calls_of_tick W (with_turn before.accepted turns accepted turns) (turns % clocks) (turns / clocks) =
-      is (meets setting clock (calls ++ more) answers own rest)
-      ∙ ap (λ V. calls_of_tick V accepted (turns % clocks) (turns / clocks)) (meets_is setting clock (calls ++ more) answers own rest none)
-      ∙ ap (λ f. calls_of_tick W f (turns % clocks) (turns / clocks)) (fun_ext (λ buffer.
-      let one : nat_eq turns turns ≡ true = grind (arith, nat_tests) in sym (ap (λ (b : Bool). cond b (accepted buffer) (before.accepted turns buffer)) one))) in
-      ap (λ (cs : List Call). cs ++ more) (old ∙ same) ∙ ap (λ (cs : List Call). calls_of_turns W (with_turn before.accepted turns accepted) clocks turns ++ cs) new;
-}
+      let differs : nat_eq j turns ≡ false = grind (arith, nat_tests) in sym (ap (λ (b : Bool). cond b (accepted buffer) (before.accepted j buffer)) differs))))
+
+  -- what the next turn's puts are answered
+  turn_here : accepted ≡ with_turn before.accepted turns accepted turns
+  turn_here = fun_ext (λ buffer. let one : nat_eq turns turns ≡ true = grind (arith, nat_tests) in sym (ap (λ (b : Bool). cond b (accepted buffer) (before.accepted turns buffer)) one))
+
+  module _ (clock : NodeClock) (answers : ℕ → List Answer) (own : Owns setting clock (calls ++ more) answers) (none : (buffer : ℕ) → IsUnread setting clock buffer → answers buffer ≡ []) where
+    turn_is : (rest : ℕ → List Answer) → calls_of_tick (with_rest setting answers (meets setting clock (calls ++ more) answers own rest)) accepted (turns % clocks) (turns / clocks)
+        ≡ calls_of_tick (world setting (calls ++ more) rest) (with_turn before.accepted turns accepted turns) (turns % clocks) (turns / clocks)
+    turn_is rest =
+        ap (λ V. calls_of_tick V accepted (turns % clocks) (turns / clocks)) (meets_is setting clock (calls ++ more) answers own rest none)
+        ∙ ap (λ f. calls_of_tick (world setting (calls ++ more) rest) f (turns % clocks) (turns / clocks)) turn_here
+
+    pub turned_more : ((rest : ℕ → List Answer) → more ≡ calls_of_tick (with_rest setting answers rest) accepted (turns % clocks) (turns / clocks))
+        → AreTurns setting clocks (suc turns) (calls ++ more)
+    turned_more is = record {
+      accepted = with_turn before.accepted turns accepted;
+      are = λ rest.
+          let W = world setting (calls ++ more) rest in
+          ap (λ (cs : List Call). cs ++ more) (turns_before rest)
+          ∙ ap (λ (cs : List Call). calls_of_turns W (with_turn before.accepted turns accepted) clocks turns ++ cs) (is (meets setting clock (calls ++ more) answers own rest) ∙ turn_is rest);
+    }
+
+    -- the beginning of one turn more
+    pub turned_part : (all : ℕ) → turns < all → ((rest : ℕ → List Answer) → IsBegin more (calls_of_tick (with_rest setting answers rest) accepted (turns % clocks) (turns / clocks)))
+        → AreTurnsBegun setting clocks all (calls ++ more)
+    turned_part all low is = record {
+      accepted = with_turn before.accepted turns accepted;
+      begun = λ rest.
+          let W = world setting (calls ++ more) rest in
+          let turn : ℕ → List Call = λ j. calls_of_tick W (with_turn before.accepted turns accepted j) (j % clocks) (j / clocks) in
+          subst (λ (cs : List Call). IsBegin (cs ++ more) (joined_upto turn all)) (sym (turns_before rest))
+          (begin_joined turn turns all more low (subst (IsBegin more) (turn_is rest) (is (meets setting clock (calls ++ more) answers own rest))));
+    }

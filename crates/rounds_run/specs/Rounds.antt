@@ -1,11 +1,11 @@
 -- Runs of the engines of all clocks, in rounds: each clock makes a tick, then each makes the next.
-use Rattle.std.specs.Prelude.{◌≡◌, ◌+◌, ◌*◌, ◌/◌, ◌%◌, ℕ, suc, Bool, Option, Some, List, [], length, nat_lt, slice_get, if◌then◌else◌, ◌⊎◌}
+use Rattle.std.specs.Prelude.{◌≡◌, ◌+◌, ◌/◌, ◌%◌, ℕ, suc, min, Bool, Option, Some, List, [], length, nat_lt, slice_get, if◌then◌else◌, ◌⊎◌}
 use Rattle.liq_base.specs.Pieces.{IsPrefix, grown}
 use Rattle.clock_infer.specs.declared.clock_map.NodeClock.TheVariants.{Main}
 use Rattle.frame_core.specs.Calls.{Adds, Call}
 use Rattle.op_leaf.specs.Readers.{Answer}
 use Rattle.stream_meaning.specs.Instants.{Setting}
-use Rattle.stream_meaning.specs.Calls.{IsUnread, answers_in, calls_of_tick, joined_upto}
+use Rattle.stream_meaning.specs.Calls.{IsBegin, IsUnread, answers_in, calls_of_tick, joined_upto}
 use Rattle.stream_meaning.specs.Sinks.{ticks_bytes}
 use Rattle.node_states.specs.Ticks.{HoldTicks, IsOutput, with_rest}
 use Rattle.clock_outputs.specs.Appends.{AreKept, NoneFell, RoseAt}
@@ -13,15 +13,11 @@ use Rattle.clock_engine.specs.declared.engine.ClockEngine.{ClockEngine}
 use Rattle.clock_engine.specs.Engines.{AreWorks, EngineStands, held_in, outputs_of, setting_of}
 use Rattle.clock_engine.specs.Ticks.{HaveTicksRoom}
 use Rattle.buffer_ends.specs.declared.run_end.End.{End}
-use Rattle.buffer_ends.specs.declared.run_end.End.TheVariants.{Write}
-
--- the answers of these calls, for each buffer
-abbrev pub answers_of : List Call → ℕ → List Answer
-answers_of calls buffer = answers_in buffer calls
+use Rattle.buffer_ends.specs.declared.run_end.End.TheVariants.{Write, Memory as NoMemory}
 
 -- a setting in which these calls gave the answers, and any others come behind them
 abbrev pub world : Setting → List Call → (rest : ℕ → List Answer) → Setting
-world setting calls rest = with_rest setting (answers_of calls) rest
+world setting calls rest = with_rest setting (λ buffer. answers_in buffer calls) rest
 
 -- the calls of so many turns of so many clocks: turn j is tick j / clocks of clock j % clocks. `accepted j b` is what buffer b answers
 -- to the give of turn j
@@ -32,6 +28,11 @@ calls_of_turns setting accepted clocks turns = joined_upto (λ j. calls_of_tick 
 pub record AreTurns (setting : Setting) (clocks turns : ℕ) (calls : List Call) : Type 0 where
   pub accepted : ℕ → ℕ → Bool
   pub are : (rest : ℕ → List Answer) → calls ≡ calls_of_turns (world setting calls rest) accepted clocks turns
+
+-- these calls begin those of so many turns, given the answers that they got, whatever answers follow
+pub record AreTurnsBegun (setting : Setting) (clocks turns : ℕ) (calls : List Call) : Type 0 where
+  pub accepted : ℕ → ℕ → Bool
+  pub begun : (rest : ℕ → List Answer) → IsBegin calls (calls_of_turns (world setting calls rest) accepted clocks turns)
 
 -- what the outputs of an engine hold, by their numbers
 abbrev pub held_of : {S : Type 0} → (S → Option (List ℕ)) → ClockEngine S → ℕ → Option (List ℕ)
@@ -74,14 +75,15 @@ pub record HasRun {S : Type 0} (held name : S → Option (List ℕ)) (faults : S
   pub outs : length new.outs.items ≡ length old.outs.items
   pub kept : AreKept name faults old.outs.items new.outs.items
 
--- each output of an engine holds a front of its bytes of so many ticks more, given the answers of these calls, whatever answers follow;
--- no count of faults fell, and its sinks are those that they were, by their names
-pub record HasRunPart {S : Type 0} (held name : S → Option (List ℕ)) (faults : S → ℕ) (calls : List Call) (ticks : ℕ) (old new : ClockEngine S) : Type 0 where
+-- an engine has gone from `old` to `new` by at least and at most so many ticks: each output holds its bytes of the first more, and
+-- then a front of those of the others, whatever answers follow those that were got; no count of faults fell, and its sinks are those
+-- that they were, by their names
+pub record HasRunPart {S : Type 0} (held name : S → Option (List ℕ)) (faults : S → ℕ) (world : (ℕ → List Answer) → Setting) (least most : ℕ) (old new : ClockEngine S) : Type 0 where
   pub works : AreWorks new.works
   pub setting : setting_of new.works ≡ setting_of old.works
   pub clock : new.works.clock ≡ old.works.clock
   pub part : (rest : ℕ → List Answer) (sink node : ℕ) → IsOutput (setting_of old.works) old.works.clock sink node
-      → (bytes : List ℕ) × IsPrefix bytes (ticks_bytes (world (setting_of old.works) calls rest) node ticks) × (held_of held new sink ≡ grown bytes (held_of held old sink))
+      → (bytes : List ℕ) × IsPrefix (ticks_bytes (world rest) node least) bytes × IsPrefix bytes (ticks_bytes (world rest) node most) × (held_of held new sink ≡ grown bytes (held_of held old sink))
   pub none_fell : NoneFell faults old.outs.items new.outs.items
   pub outs : length new.outs.items ≡ length old.outs.items
   pub kept : AreKept name faults old.outs.items new.outs.items
@@ -91,14 +93,17 @@ pub record HaveRun {S : Type 0} (held name : S → Option (List ℕ)) (faults : 
   pub size : length new ≡ length old
   pub each : (k : ℕ) (before after : ClockEngine S) → slice_get old k ≡ Some before → slice_get new k ≡ Some after → HasRun held name faults calls (ticks k) before after
 
--- each engine has run a part of so many ticks
-pub record HaveRunPart {S : Type 0} (held name : S → Option (List ℕ)) (faults : S → ℕ) (calls : List Call) (ticks : ℕ) (old new : List (ClockEngine S)) : Type 0 where
+-- clock k has made at least and at most so many ticks
+pub record HaveRunPart {S : Type 0} (held name : S → Option (List ℕ)) (faults : S → ℕ) (world : (ℕ → List Answer) → Setting) (least most : ℕ → ℕ) (old new : List (ClockEngine S)) : Type 0 where
   pub size : length new ≡ length old
-  pub each : (k : ℕ) (before after : ClockEngine S) → slice_get old k ≡ Some before → slice_get new k ≡ Some after → HasRunPart held name faults calls ticks before after
+  pub each : (k : ℕ) (before after : ClockEngine S) → slice_get old k ≡ Some before → slice_get new k ≡ Some after → HasRunPart held name faults world (least k) (most k) before after
 
--- the end names an output of a clock, whose sink's count of faults rose
-pub record IsWriteEnd {S : Type 0} (faults : S → ℕ) (old new : List (ClockEngine S)) (end : End) : Type 0 where
-  pub clock : ℕ
+-- how many ticks clock k has made, where the turn is that of `clock` in round `round`, and no clock makes more than `total`
+abbrev pub ticks_by : (total round clock k : ℕ) → ℕ
+ticks_by total round clock k = min total (made_by round clock k)
+
+-- the end names an output of this clock, whose sink's count of faults rose
+pub record IsWriteEnd {S : Type 0} (faults : S → ℕ) (clock : ℕ) (old new : List (ClockEngine S)) (end : End) : Type 0 where
   pub before : ClockEngine S
   pub after : ClockEngine S
   pub was : slice_get old clock ≡ Some before
@@ -127,32 +132,18 @@ pub record RoundsMade {S T : Type 0} (held name : S → Option (List ℕ)) (faul
   pub turned : AreTurns setting (length first) turns calls
   pub run : HaveRun held name faults calls (λ clock. ticks) first now
 
--- a fault ended the rounds, after these calls
-pub record RoundsStopped {S T : Type 0} (held name : S → Option (List ℕ)) (faults : S → ℕ) (stands : T → List Call → Type 0)
-    (ticks : ℕ) (first now : List (ClockEngine S)) (taps_first taps_now : T) : Type 0 where
+-- A fault ended the rounds, after these calls, in the turn of clock `clock` in round `round`: the clocks below it have made their tick
+-- of this round, those above it have not, and it has made at most a part of it.
+pub record RoundsStopped {S T : Type 0} (held name : S → Option (List ℕ)) (faults : S → ℕ) (stands : T → List Call → Type 0) (setting : Setting)
+    (ticks turns : ℕ) (first now : List (ClockEngine S)) (taps_first taps_now : T) (end : End) : Type 0 where
   pub calls : List Call
   pub taps : Adds stands taps_first taps_now calls
-  pub part : HaveRunPart held name faults calls ticks first now
-
--- the engines of a run are over one setting
-pub record AreAlike {S : Type 0} (room : S → Option ℕ) (ticks : ℕ) (engines : List (ClockEngine S)) : Type 0 where
-  pub setting : Setting
-  pub are : AreEngines room ticks setting engines
+  pub begun : AreTurnsBegun setting (length first) turns calls
+  pub round : ℕ
+  pub clock : ℕ
+  pub part : HaveRunPart held name faults (world setting calls) (ticks_by ticks round clock) (ticks_by ticks round (clock + 1)) first now
+  pub cause : (end ≡ NoMemory) ⊎ IsWriteEnd faults clock first now end
 
 -- there are as many buffers as each engine's plan has
 pub record HaveBuffers {S : Type 0} (buffers : ℕ) (engines : List (ClockEngine S)) : Type 0 where
   pub each : (k : ℕ) (engine : ClockEngine S) → slice_get engines k ≡ Some engine → buffers ≡ length engine.works.shape.plan.now.buffers
-
--- so many rounds were made
-pub record HaveMade {S T : Type 0} (held name : S → Option (List ℕ)) (room : S → Option ℕ) (faults : S → ℕ) (stands : T → List Call → Type 0)
-    (ticks : ℕ) (first now : List (ClockEngine S)) (taps_first taps_now : T) : Type 0 where
-  pub setting : Setting
-  pub are : AreEngines room ticks setting first
-  pub made : RoundsMade held name faults stands setting ticks (ticks * length first) first now taps_first taps_now
-
--- a run between two turns
-pub record Goes {S T : Type 0} (held name : S → Option (List ℕ)) (room : S → Option ℕ) (faults : S → ℕ) (stands : T → List Call → Type 0)
-    (total : ℕ) (made : ℕ → ℕ) (turns : ℕ) (first now : List (ClockEngine S)) (taps_first taps_now : T) : Type 0 where
-  pub setting : Setting
-  pub are : AreEngines room total setting first
-  pub going : AreGoing held name room faults stands setting total made turns first now taps_first taps_now

@@ -1,52 +1,89 @@
--- Whole runs over buffers that are lists, and their lawful records.
-use Rattle.std.specs.Prelude.{◌≡◌, ◌*◌, ℕ, Option, Some, List, [], ◌∷◌, length, map, slice_get}
-use Rattle.frame_core.specs.Calls.{Call, puts_to, takes_of}
-use Rattle.frame_core.specs.Legal.{Legal}
+-- Whole runs over buffers that are lists, and their records.
+use Rattle.std.specs.Prelude.{◌≡◌, ◌+◌, ℕ, count_by, is_none, is_some, Option, Some, List, length, map, slice_get}
+use Rattle.std.specs.List.{flat_map}
+use Rattle.liq_base.specs.Pieces.{grown}
 use Rattle.plan_core.specs.declared.plan.Plan.{Plan}
-use Rattle.plan_core.specs.declared.sink.BufferPlan.{BufferPlan}
+use Rattle.plan_core.specs.Plans.{IsWellFormed}
+use Rattle.op_leaf.specs.Readers.{Answer}
 use Rattle.stream_meaning.specs.Instants.{Setting}
+use Rattle.stream_meaning.specs.Sinks.{ticks_bytes}
+use Rattle.run_records.specs.Records.{AreRoundsBegun, IsRounds, Run, Window, setting_in, setting_then}
+use Rattle.node_states.specs.Ticks.{IsOutput, with_rest}
+use Rattle.clock_outputs.specs.Appends.{AreKept, NoneFell}
 use Rattle.clock_engine.specs.declared.engine.ClockEngine.{ClockEngine}
-use Rattle.buffer_queue.specs.Window.{is_chunk}
-use Rattle.buffer_ends.specs.Local.{Answers, Held, Leads, counts_of, empty_list, on}
+use Rattle.clock_engine.specs.Engines.{AreWorks, EngineStands, setting_of}
+use Rattle.buffer_ends.specs.Local.{Answers}
 use Rattle.buffer_ends.specs.declared.counts.Counts.{Counts}
-use Rattle.rounds_run.specs.Rounds.{AreEngines, AreTurns, HaveRun, HaveRunPart}
+use Rattle.buffer_ends.specs.declared.run_end.End.{End}
+use Rattle.buffer_ends.specs.declared.run_end.End.TheVariants.{Write}
+use Rattle.rounds_run.specs.Rounds.{AreEngines, HaveRunPart, IsWriteEnd, held_of, ticks_by}
 
--- the engines are over this plan
-pub record AreOver {S : Type 0} (plan : Plan) (engines : List (ClockEngine S)) : Type 0 where
-  pub each : (k : ℕ) (engine : ClockEngine S) → slice_get engines k ≡ Some engine → engine.works.shape.plan.now ≡ plan
+-- the engines of a run, one per clock, in clock order, over this plan with its files, clocks and start
+pub record AreOver {S : Type 0} (room : S → Option ℕ) (plan : Plan) (ticks : ℕ) (setting : Setting) (engines : List (ClockEngine S)) : Type 0 where
+  pub plan_is : setting.plan ≡ plan
+  pub well : IsWellFormed plan
+  pub are : AreEngines room ticks setting engines
 
--- the answers of these calls on a buffer: of the puts, true for an accepted chunk, of the takes, true for a chunk that was got
-abbrev pub answers_on : ℕ → List Call → Answers
-answers_on buffer calls = record { puts = map is_chunk (puts_to buffer calls); takes = map is_chunk (takes_of buffer calls) }
+-- an engine has gone from `old` to `new` by so many ticks, none of them with a fault, in this setting: it has taken the answers of the
+-- buffers that it reads; each output holds its bytes of these ticks more, no count of faults fell, and its sinks are those that they
+-- were, by their names
+pub record HasRunTicks {S : Type 0} (held name : S → Option (List ℕ)) (faults : S → ℕ) (setting : Setting) (ticks : ℕ) (old new : ClockEngine S) : Type 0 where
+  pub works : AreWorks new.works
+  pub sinks : length new.outs.items ≡ length new.works.ports.items
+  pub over : setting_of new.works ≡ setting_of old.works
+  pub clock : new.works.clock ≡ old.works.clock
+  pub answers : ℕ → List Answer
+  pub rest : ℕ → List Answer
+  pub given : with_rest (setting_of old.works) answers rest ≡ setting
+  pub stands : EngineStands new.works ticks answers
+  pub grew : (sink node : ℕ) → IsOutput (setting_of old.works) old.works.clock sink node → held_of held new sink ≡ grown (ticks_bytes setting node ticks) (held_of held old sink)
+  pub none_fell : NoneFell faults old.outs.items new.outs.items
+  pub outs : length new.outs.items ≡ length old.outs.items
+  pub kept : AreKept name faults old.outs.items new.outs.items
 
--- these calls on a buffer are one window of a bounded queue that begins empty, and in their order each has the answer that the buffer's
--- list then gives; the log and the counts are their answers
-pub record IsLogged (capacity buffer : ℕ) (calls : List Call) (counts : Counts) (log : List Answers) : Type 0 where
-  pub left : Held
-  pub in_order : Leads (empty_list capacity) (on buffer calls) left
-  pub legal : Legal capacity left.chunks [] (puts_to buffer calls) (takes_of buffer calls)
-  pub log_is : log ≡ answers_on buffer calls ∷ []
-  pub counts_are : counts ≡ counts_of (answers_on buffer calls)
+-- each engine has run so many ticks in this setting
+pub record HaveRunTicks {S : Type 0} (held name : S → Option (List ℕ)) (faults : S → ℕ) (setting : Setting) (ticks : ℕ) (old new : List (ClockEngine S)) : Type 0 where
+  pub size : length new ≡ length old
+  pub each : (k : ℕ) (before after : ClockEngine S) → slice_get old k ≡ Some before → slice_get new k ≡ Some after → HasRunTicks held name faults setting ticks before after
 
--- the logs of a run are those of a lawful record of its calls
-pub record AreLogged (plan : Plan) (calls : List Call) (counts : List Counts) (logs : List (List Answers)) : Type 0 where
-  pub counted : length counts ≡ length plan.buffers
-  pub many : length logs ≡ length plan.buffers
-  pub each : (b : ℕ) (buffer : BufferPlan) (count : Counts) (log : List Answers) → slice_get plan.buffers b ≡ Some buffer → slice_get counts b ≡ Some count → slice_get logs b ≡ Some log
-      → IsLogged buffer.capacity b calls count log
+-- how many puts of these windows were accepted and how many found the buffer full, and how many takes got a chunk and how many found
+-- it empty
+abbrev pub counts_of_windows : List Window → Counts
+counts_of_windows windows = record {
+  accepted = count_by is_some (flat_map (λ (window : Window). window.0) windows);
+  full = count_by is_none (flat_map (λ (window : Window). window.0) windows);
+  got = count_by is_some (flat_map (λ (window : Window). window.1) windows);
+  empty = count_by is_none (flat_map (λ (window : Window). window.1) windows);
+}
 
--- all rounds were made: their calls are those that the ticks make given the answers that they got, each engine has run its ticks, and
--- the counts and logs are the answers of these calls
-pub record HasRunAll {S : Type 0} (held name : S → Option (List ℕ)) (room : S → Option ℕ) (faults : S → ℕ) (plan : Plan) (ticks : ℕ)
+-- the log of a window: of its puts, true for an accepted chunk, and of its takes, true for a chunk that was got
+abbrev pub log_of_window : Window → Answers
+log_of_window window = record { puts = map is_some window.0; takes = map is_some window.1 }
+
+-- the counts of each buffer in a run, and its logs
+abbrev pub counts_of_run : Run → List Counts
+counts_of_run run = map counts_of_windows run.buffers
+
+abbrev pub logs_of_run : Run → List (List Answers)
+logs_of_run run = map (λ windows. map log_of_window windows) run.buffers
+
+-- All rounds were made, and this is their record: each engine has run all its ticks, given what the record's takes got, and the counts
+-- and logs are the record's.
+pub record HasRunAll {S : Type 0} (held name : S → Option (List ℕ)) (faults : S → ℕ) (setting : Setting) (ticks : ℕ)
     (first now : List (ClockEngine S)) (counts : List Counts) (logs : List (List Answers)) : Type 0 where
-  pub setting : Setting
-  pub are : AreEngines room ticks setting first
-  pub calls : List Call
-  pub turned : AreTurns setting (length first) (ticks * length first) calls
-  pub run : HaveRun held name faults calls (λ clock. ticks) first now
-  pub logged : AreLogged plan calls counts logs
+  pub run : Run
+  pub rounds : IsRounds setting (length first) ticks run
+  pub engines : HaveRunTicks held name faults (setting_in setting run) ticks first now
+  pub counts_are : counts ≡ counts_of_run run
+  pub logs_are : logs ≡ logs_of_run run
 
--- a fault ended the rounds, after these calls
-pub record HasRunSome {S : Type 0} (held name : S → Option (List ℕ)) (faults : S → ℕ) (ticks : ℕ) (first now : List (ClockEngine S)) : Type 0 where
-  pub calls : List Call
-  pub part : HaveRunPart held name faults calls ticks first now
+-- The rounds came so far, and this is their record: in the turn of clock `clock` in round `round`, where the clocks below it have made
+-- their tick of this round, those above it have not, and it has made at most a part of it. A write that ended the run is one of this
+-- clock.
+pub record HasRunSome {S : Type 0} (held name : S → Option (List ℕ)) (faults : S → ℕ) (setting : Setting) (ticks : ℕ) (first now : List (ClockEngine S)) (end : End) : Type 0 where
+  pub run : Run
+  pub begun : AreRoundsBegun setting (length first) ticks run
+  pub round : ℕ
+  pub clock : ℕ
+  pub part : HaveRunPart held name faults (setting_then setting run) (ticks_by ticks round clock) (ticks_by ticks round (clock + 1)) first now
+  pub write : (failed sink : ℕ) → end ≡ Write failed sink → IsWriteEnd faults clock first now end

@@ -3,7 +3,7 @@ ghost use Rattle.std.specs.Prelude.{◌≡◌, ◌<◌, ◌≤◌, ◌*◌, ℕ,
 ghost use Rattle.stream_meaning.specs.Instants.{Setting};
 ghost use Rattle.clock_engine.specs.declared.fault.TickFault.TheVariants.{Memory as OutOfMemory, Write as TickWrite};
 ghost use Rattle.buffer_ends.specs.declared.run_end.End.TheVariants.{Write, Memory as NoMemory};
-ghost use Rattle.rounds_run.specs.Rounds.{AreAlike, HaveBuffers, HaveMade, IsWriteEnd, RoundsStopped};
+ghost use Rattle.rounds_run.specs.Rounds.{AreEngines, HaveBuffers, RoundsMade, RoundsStopped};
 
 use buffer_ends::End;
 use clock_engine::{ClockEngine, TickFault};
@@ -30,12 +30,13 @@ pub fn make_rounds<O: Sink, T: Taps>(
     taps: &mut T,
     ticks: u64,
 ) -> Result<(), End>
-    requires engines { AreAlike O.room ticks engines.old }
+    requires engines { (setting : Setting) × AreEngines O.room ticks setting engines.old }
     requires few { ticks ≤ 1000000000 }
     requires buffers { HaveBuffers (T.buffers taps.old) engines.old }
-    ensures done { OnOk result (HaveMade O.held O.name O.room O.faults T.stands ticks engines.old engines.new taps.old taps.new) }
-    ensures stopped { OnErr result (RoundsStopped O.held O.name O.faults T.stands ticks engines.old engines.new taps.old taps.new) }
-    ensures write { IfErr result (λ end. (end ≡ NoMemory → ⊥) → IsWriteEnd O.faults engines.old engines.new end) }
+    ensures done { OnOk result ((setting : Setting) → AreEngines O.room ticks setting engines.old
+        → RoundsMade O.held O.name O.faults T.stands setting ticks (ticks * length engines.old) engines.old engines.new taps.old taps.new) }
+    ensures stopped { IfErr result (λ end. (setting : Setting) → AreEngines O.room ticks setting engines.old
+        → RoundsStopped O.held O.name O.faults T.stands setting ticks (ticks * length engines.old) engines.old engines.new taps.old taps.new end) }
     ensures memory { IfErr result (λ end. end ≡ NoMemory → 0 < T.buffers taps.old) }
     ensures buffers { T.buffers taps.new ≡ T.buffers taps.old }
     ensures same { T.same taps.old taps.new }

@@ -1,8 +1,8 @@
 // A run over buffers that are lists.
 ghost use Rattle.std.specs.Prelude.{◌≡◌, ◌<◌, ◌≤◌, map, length, IfOk, OnErr};
+ghost use Rattle.stream_meaning.specs.Instants.{Setting};
 ghost use Rattle.buffer_ends.specs.Local.{all_answers, closed, closed_windows, counts_of};
 ghost use Rattle.buffer_ends.specs.declared.run_end.End.TheVariants.{Done, Memory as NoMemory};
-ghost use Rattle.rounds_run.specs.Rounds.{AreAlike, IsWriteEnd};
 ghost use Rattle.rounds_run.specs.Runs.{AreOver, HasRunAll, HasRunSome};
 
 use crate::rounds::make_rounds;
@@ -14,20 +14,20 @@ use std::alloc::Global;
 
 /// Renders so many ticks, at most 1000000000, of each clock, on one thread: tick r of clock 0, of clock 1 and so on, then
 /// tick r + 1. The engines stand in clock order, made no tick, and are over this plan. Buffers are lists. The first fault
-/// ends the run.
+/// ends the run: no engine goes on after it.
 pub fn run_rounds<O: Sink>(
     alloc: Global,
     plan: &Plan,
     engines: &mut [ClockEngine<'_, O>],
     ticks: u64,
 ) -> RunEnd
-    requires engines { AreAlike O.room ticks engines.old }
-    requires plan { AreOver plan.now engines.old }
+    requires engines { (setting : Setting) × AreOver O.room plan.now ticks setting engines.old }
     requires few { ticks ≤ 1000000000 }
-    ensures done { result.end ≡ Done → HasRunAll O.held O.name O.room O.faults plan.now ticks engines.old engines.new result.counts.items result.logs.items }
-    ensures stopped { (result.end ≡ Done → ⊥) → HasRunSome O.held O.name O.faults ticks engines.old engines.new }
+    ensures done { result.end ≡ Done → (setting : Setting) → AreOver O.room plan.now ticks setting engines.old
+        → HasRunAll O.held O.name O.faults setting ticks engines.old engines.new result.counts.items result.logs.items }
+    ensures part { (setting : Setting) → AreOver O.room plan.now ticks setting engines.old
+        → HasRunSome O.held O.name O.faults setting ticks engines.old engines.new result.end }
     ensures memory { result.end ≡ NoMemory → 0 < length plan.now.buffers }
-    ensures write { (result.end ≡ Done → ⊥) → (result.end ≡ NoMemory → ⊥) → IsWriteEnd O.faults engines.old engines.new result.end }
 {
     let Ok(mut taps) = LocalTaps::new(alloc, plan) else {
         return ended(alloc, End::Memory);

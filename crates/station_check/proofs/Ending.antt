@@ -12,8 +12,7 @@ use Rattle.clock_infer.specs.Answers.{IsCause, IsClockMap}
 use Rattle.track_library.specs.Walk.{Ends, load_of}
 use Rattle.track_library.specs.declared.fault.LoadFault.{LoadFault}
 use Rattle.track_library.specs.declared.fault.LoadFault.TheVariants.{Missing, BadAudio, OtherRate, FileTooLarge, AllTooLarge, ReadFault, Memory as load_memory}
-use Rattle.stations.specs.Stations.{HasNoReader}
-use Rattle.stations.specs.Findings.{Fails, IsFound, IsLoaded, IsUnloaded, rules_of}
+use Rattle.stations.specs.Findings.{Fails, IsFound, IsLoaded, rules_of}
 use Rattle.station_check.specs.Halts.{HaltsFor, ClockHalts, GapHalts, LengthHalts, RestHalts, load_halt, clock_halt}
 use Rattle.station_check.specs.Steps.{IsUngapped, OnlyCause, OnlyClocks}
 use Rattle.station_check.specs.declared.halt.Halt.{Halt}
@@ -21,21 +20,16 @@ use Rattle.station_check.specs.declared.halt.Halt.TheVariants.{Refused, Read, Me
 use Rattle.station_check.proofs.Findings.{found_cause, found_file, found_gap, found_long}
 
 -- the loading of the files
-pub loading : (told : Option Files) (before after : ℕ) (reads : Files → List ℕ → Type 0) (plan : Plan) (fault : LoadFault) → HasNoReader plan
+pub loading : (told : Option Files) (before after : ℕ) (reads : Files → List ℕ → Type 0) (plan : Plan) (fault : LoadFault)
     → Ends told before after reads (λ files. load_of (rules_of plan) files plan.nodes) fault
     → HaltsFor told before after (λ files f. (ticks : ℕ) → IsFound files plan ticks (Fails f)) (load_halt fault)
-loading told before after reads plan (Missing name) none ends = λ files t ticks.
-    let fails : IsUnloaded files plan (Missing name) = record { readers = none; fails = ends files t } in found_file files plan ticks (Missing name) fails fails
-loading told before after reads plan (BadAudio name fault) none ends = λ files t ticks.
-    let fails : IsUnloaded files plan (BadAudio name fault) = record { readers = none; fails = ends files t } in found_file files plan ticks (BadAudio name fault) fails fails
-loading told before after reads plan (OtherRate name) none ends = λ files t ticks.
-    let fails : IsUnloaded files plan (OtherRate name) = record { readers = none; fails = ends files t } in found_file files plan ticks (OtherRate name) fails fails
-loading told before after reads plan (FileTooLarge name) none ends = λ files t ticks.
-    let fails : IsUnloaded files plan (FileTooLarge name) = record { readers = none; fails = ends files t } in found_file files plan ticks (FileTooLarge name) fails fails
-loading told before after reads plan AllTooLarge none ends = λ files t ticks.
-    let fails : IsUnloaded files plan AllTooLarge = record { readers = none; fails = ends files t } in found_file files plan ticks AllTooLarge fails fails
-loading told before after reads plan (ReadFault name) none ends = ends.0
-loading told before after reads plan load_memory none ends = tt
+loading told before after reads plan (Missing name) ends = λ files t ticks. found_file files plan ticks (Missing name) (ends files t) (ends files t)
+loading told before after reads plan (BadAudio name fault) ends = λ files t ticks. found_file files plan ticks (BadAudio name fault) (ends files t) (ends files t)
+loading told before after reads plan (OtherRate name) ends = λ files t ticks. found_file files plan ticks (OtherRate name) (ends files t) (ends files t)
+loading told before after reads plan (FileTooLarge name) ends = λ files t ticks. found_file files plan ticks (FileTooLarge name) (ends files t) (ends files t)
+loading told before after reads plan AllTooLarge ends = λ files t ticks. found_file files plan ticks AllTooLarge (ends files t) (ends files t)
+loading told before after reads plan (ReadFault name) ends = ends.0
+loading told before after reads plan load_memory ends = tt
 
 -- the clocks that are answered are the only ones
 pub clocks_found : (plan : Plan) (result : Result ClockMap ClockFault) (clocks : ClockMap) → result ≡ Ok clocks → IsClockMap plan clocks

@@ -1,5 +1,5 @@
 -- What is found of a plan is one.
-use Rattle.std.proofs.Common.{◌≡◌, ◌∙◌, ℕ, List, Some, None, refl, sym, ap}
+use Rattle.std.proofs.Common.{◌≡◌, ◌∙◌, ℕ, List, Some, None, sym, ap}
 use Rattle.std.specs.Prelude.{Ok, Err, Result}
 use Rattle.liq_base.specs.Files.{Files}
 use Rattle.frame_core.specs.Library.{Sounds, IsLibrary}
@@ -9,15 +9,10 @@ use Rattle.clock_infer.specs.declared.clock_map.ClockMap.{ClockMap}
 use Rattle.clock_infer.specs.declared.clock_map.ClockFault.{ClockFault}
 use Rattle.track_library.specs.declared.fault.LoadFault.{LoadFault}
 use Rattle.track_library.specs.declared.fault.LoadFault.TheVariants.{Missing, BadAudio, OtherRate, FileTooLarge, AllTooLarge, ReadFault, Memory}
-use Rattle.stations.specs.Stations.{HasNoReader}
-use Rattle.stations.specs.declared.fault.StationFault.TheVariants.{OtherForm, Files as Unloaded, FallibleOutput, Clocks, OutputTooLong}
-use Rattle.stations.specs.Findings.{Finding, Fits, Fails, HasReader, IsFileFault, IsFinding, IsFound, IsLoaded, IsSafe, IsUnloaded, IsUnsafe, first_name, is_too_long}
+use Rattle.stations.specs.declared.fault.StationFault.TheVariants.{Files as Unloaded, FallibleOutput, Clocks, OutputTooLong}
+use Rattle.stations.specs.Findings.{Finding, Fits, Fails, IsFileFault, IsFinding, IsFound, IsLoaded, IsSafe, IsUnloaded, IsUnsafe, first_name, is_too_long}
 use Rattle.station_check.specs.Steps.{IsUngapped, OnlyCause, OnlyClocks}
 use Rattle.station_check.proofs.Firsts.{one_refused}
-
--- a plan reads a buffer or does not
-reads_none : (plan : Plan) → HasReader plan → HasNoReader plan → ⊥
-reads_none plan reader none = none reader.number reader.node reader.there reader.buffer reader.reads
 
 -- loading gives a library or a fault
 loads_both : {X Y : Type 0} (r : Result X Y) (x : X) (y : Y) → r ≡ Ok x → r ≡ Err y → ⊥
@@ -45,26 +40,16 @@ module _ (files : Files) (plan : Plan) (ticks : ℕ) where
       let e : Some name ≡ None = sym unsafe.first ∙ one_refused plan unsafe.mark safe.mark well unsafe.marking safe.marking ∙ safe.none in
       cc
 
-  only_form : HasReader plan → (other : Finding) → IsFinding files plan ticks other → other ≡ Fails OtherForm
-  only_form reader (Fits library clocks) h = absurd (reads_none plan reader h.clocked.safe.loaded.readers)
-  only_form reader (Fails OtherForm) h = refl
-  only_form reader (Fails (Unloaded fault)) h = absurd (reads_none plan reader (unloaded fault h).readers)
-  only_form reader (Fails (FallibleOutput name)) h = absurd (reads_none plan reader h.loaded.readers)
-  only_form reader (Fails (Clocks fault)) h = absurd (reads_none plan reader h.safe.loaded.readers)
-  only_form reader (Fails (OutputTooLong name)) h = absurd (reads_none plan reader h.clocked.safe.loaded.readers)
-
   only_file : (fault : LoadFault) → IsUnloaded files plan fault → (other : Finding) → IsFinding files plan ticks other → other ≡ Fails (Unloaded fault)
-  only_file fault fails (Fits library clocks) h = absurd (loads_both _ _ _ h.clocked.safe.loaded.loaded fails.fails)
-  only_file fault fails (Fails OtherForm) h = absurd (reads_none plan h fails.readers)
-  only_file fault fails (Fails (Unloaded other)) h = ap (λ f. Fails (Unloaded f)) (same_err _ _ _ fails.fails (unloaded other h).fails)
-  only_file fault fails (Fails (FallibleOutput name)) h = absurd (loads_both _ _ _ h.loaded.loaded fails.fails)
-  only_file fault fails (Fails (Clocks other)) h = absurd (loads_both _ _ _ h.safe.loaded.loaded fails.fails)
-  only_file fault fails (Fails (OutputTooLong name)) h = absurd (loads_both _ _ _ h.clocked.safe.loaded.loaded fails.fails)
+  only_file fault fails (Fits library clocks) h = absurd (loads_both _ _ _ h.clocked.safe.loaded fails)
+  only_file fault fails (Fails (Unloaded other)) h = ap (λ f. Fails (Unloaded f)) (same_err _ _ _ fails (unloaded other h))
+  only_file fault fails (Fails (FallibleOutput name)) h = absurd (loads_both _ _ _ h.loaded fails)
+  only_file fault fails (Fails (Clocks other)) h = absurd (loads_both _ _ _ h.safe.loaded fails)
+  only_file fault fails (Fails (OutputTooLong name)) h = absurd (loads_both _ _ _ h.clocked.safe.loaded fails)
 
   only_unsafe : IsWellFormed plan → (name : List ℕ) → IsUnsafe files plan name → (other : Finding) → IsFinding files plan ticks other → other ≡ Fails (FallibleOutput name)
   only_unsafe well name unsafe (Fits library clocks) h = absurd (refused_none well name library unsafe h.clocked.safe)
-  only_unsafe well name unsafe (Fails OtherForm) h = absurd (reads_none plan h unsafe.loaded.readers)
-  only_unsafe well name unsafe (Fails (Unloaded other)) h = absurd (loads_both _ _ _ unsafe.loaded.loaded (unloaded other h).fails)
+  only_unsafe well name unsafe (Fails (Unloaded other)) h = absurd (loads_both _ _ _ unsafe.loaded (unloaded other h))
   only_unsafe well name unsafe (Fails (FallibleOutput other)) h =
       let e : Some other ≡ Some name = sym h.first ∙ one_refused plan h.mark unsafe.mark well h.marking unsafe.marking ∙ unsafe.first in
       let same : other ≡ name = cc in
@@ -75,8 +60,7 @@ module _ (files : Files) (plan : Plan) (ticks : ℕ) where
   only_unclocked : IsWellFormed plan → (fault : ClockFault) (library : Sounds) → IsSafe files plan library → OnlyCause plan fault
       → (other : Finding) → IsFinding files plan ticks other → other ≡ Fails (Clocks fault)
   only_unclocked well fault library safe one (Fits other clocks) h = absurd (one.apart clocks h.clocked.map)
-  only_unclocked well fault library safe one (Fails OtherForm) h = absurd (reads_none plan h safe.loaded.readers)
-  only_unclocked well fault library safe one (Fails (Unloaded other)) h = absurd (loads_both _ _ _ safe.loaded.loaded (unloaded other h).fails)
+  only_unclocked well fault library safe one (Fails (Unloaded other)) h = absurd (loads_both _ _ _ safe.loaded (unloaded other h))
   only_unclocked well fault library safe one (Fails (FallibleOutput name)) h = absurd (refused_none well name library h safe)
   only_unclocked well fault library safe one (Fails (Clocks other)) h = ap (λ f. Fails (Clocks f)) (one.only other h.of_plan h.cause)
   only_unclocked well fault library safe one (Fails (OutputTooLong name)) h = absurd (one.apart h.clocks h.clocked.map)
@@ -86,8 +70,7 @@ module _ (files : Files) (plan : Plan) (ticks : ℕ) where
   only_long well name library clocks safe one first (Fits other more) h =
       let e : Some name ≡ None = sym first ∙ h.none in
       absurd cc
-  only_long well name library clocks safe one first (Fails OtherForm) h = absurd (reads_none plan h safe.loaded.readers)
-  only_long well name library clocks safe one first (Fails (Unloaded other)) h = absurd (loads_both _ _ _ safe.loaded.loaded (unloaded other h).fails)
+  only_long well name library clocks safe one first (Fails (Unloaded other)) h = absurd (loads_both _ _ _ safe.loaded (unloaded other h))
   only_long well name library clocks safe one first (Fails (FallibleOutput other)) h = absurd (refused_none well other library h safe)
   only_long well name library clocks safe one first (Fails (Clocks other)) h = absurd (one.apart other h.of_plan h.cause)
   only_long well name library clocks safe one first (Fails (OutputTooLong other)) h =
@@ -98,9 +81,8 @@ module _ (files : Files) (plan : Plan) (ticks : ℕ) where
   only_fits : IsWellFormed plan → (library : Sounds) (clocks : ClockMap) → IsSafe files plan library → OnlyClocks plan clocks
       → first_name (is_too_long plan ticks) plan.sinks ≡ None → (other : Finding) → IsFinding files plan ticks other → other ≡ Fits library clocks
   only_fits well library clocks safe one none (Fits other more) h =
-      ap (λ l. Fits l more) (same_ok _ _ _ safe.loaded.loaded h.clocked.safe.loaded.loaded) ∙ ap (λ m. Fits library m) (one.only more h.clocked.map)
-  only_fits well library clocks safe one none (Fails OtherForm) h = absurd (reads_none plan h safe.loaded.readers)
-  only_fits well library clocks safe one none (Fails (Unloaded other)) h = absurd (loads_both _ _ _ safe.loaded.loaded (unloaded other h).fails)
+      ap (λ l. Fits l more) (same_ok _ _ _ safe.loaded h.clocked.safe.loaded) ∙ ap (λ m. Fits library m) (one.only more h.clocked.map)
+  only_fits well library clocks safe one none (Fails (Unloaded other)) h = absurd (loads_both _ _ _ safe.loaded (unloaded other h))
   only_fits well library clocks safe one none (Fails (FallibleOutput other)) h = absurd (refused_none well other library h safe)
   only_fits well library clocks safe one none (Fails (Clocks other)) h = absurd (one.apart other h.of_plan h.cause)
   only_fits well library clocks safe one none (Fails (OutputTooLong other)) h =
@@ -108,9 +90,6 @@ module _ (files : Files) (plan : Plan) (ticks : ℕ) where
       absurd cc
 
 -- what each step of a check finds
-pub found_form : (files : Files) (plan : Plan) (ticks : ℕ) → HasReader plan → IsFound files plan ticks (Fails OtherForm)
-found_form files plan ticks reader = record { holds = reader; only = only_form files plan ticks reader }
-
 pub found_file : (files : Files) (plan : Plan) (ticks : ℕ) (fault : LoadFault) → IsUnloaded files plan fault → IsFileFault files plan fault
     → IsFound files plan ticks (Fails (Unloaded fault))
 found_file files plan ticks fault fails holds = record { holds = holds; only = only_file files plan ticks fault fails }

@@ -1,8 +1,6 @@
 -- What the steps of a check find.
-use Rattle.std.specs.Prelude.{◌≡◌, ◌≢◌, ℕ, Bool, true, false, List, [], None}
+use Rattle.std.specs.Prelude.{◌≡◌, ◌≢◌, ℕ, Bool, List, [], None}
 use Rattle.plan_core.specs.declared.plan.Plan.{Plan}
-use Rattle.plan_core.specs.declared.node.Op.{Op}
-use Rattle.plan_core.specs.declared.node.Op.TheVariants.{Single, Playlist, Blank, Square, Fail, Fallback, Switch, Sequence, Add, Amplify, Mean, Stereo, Crossfade, Buffer, Clock}
 use Rattle.plan_core.specs.declared.sink.SinkPlan.{SinkPlan}
 use Rattle.plan_core.specs.declared.sink.SinkPlan.TheVariants.{Output, Feed}
 use Rattle.clock_infer.specs.declared.clock_map.ClockMap.{ClockMap}
@@ -12,24 +10,6 @@ use Rattle.clock_infer.specs.Answers.{IsClockMap, IsCause}
 use Rattle.fallible_infer.specs.Infallible.{IsMarking, refuses}
 use Rattle.stations.specs.Findings.{first_name}
 use Rattle.stations.specs.Reports.{checked_line}
-
--- whether a node of this operator reads a buffer
-abbrev pub is_reader : Op → Bool
-is_reader (Single file) = false
-is_reader (Playlist file again) = false
-is_reader (Blank track) = false
-is_reader (Square pitch) = false
-is_reader Fail = false
-is_reader (Fallback sensitive) = false
-is_reader (Switch sensitive preds) = false
-is_reader Sequence = false
-is_reader (Add normalize) = false
-is_reader (Amplify factor) = false
-is_reader Mean = false
-is_reader Stereo = false
-is_reader (Crossfade overlap) = false
-is_reader (Buffer number) = true
-is_reader (Clock id) = false
 
 -- each output has an infallible node, or is written with `fallible=true`
 pub record IsUngapped (plan : Plan) : Type 0 where

@@ -13,11 +13,10 @@ use crate::clocks::find_clocks;
 use crate::files::load_files;
 use crate::gaps::check_gaps;
 use crate::lengths::check_lengths;
-use crate::readers::reads_buffer;
 use clock_infer::ClockMap;
 use liq_base::Shelf;
 use plan_core::Plan;
-use stations::{Ready, StationFault};
+use stations::Ready;
 use std::alloc::Global;
 
 /// The audio files and the clocks of a plan that is to be rendered for so many ticks, at most 1000000000; or the first
@@ -41,9 +40,6 @@ pub fn check_plan<S: Shelf>(
     ensures reads { S.read_count shelf.old ≤ S.read_count shelf.new }
     ensures writes { S.write_count shelf.old ≤ S.write_count shelf.new }
 {
-    if reads_buffer(plan) {
-        return Err(Halt::Refused(StationFault::OtherForm));
-    }
     let library = load_files(alloc, plan, shelf)?;
     let clocks = check_rest(alloc, plan, ticks)?;
     Ok(Ready { library, clocks })

@@ -1,13 +1,14 @@
 //! Whether a plan is rendered: its audio files and its clocks, or its first fault. `docs/faults.md` has the order.
 #![tactic(auto)]
 
+mod buffers;
 mod check;
 mod clocks;
+mod ends;
 mod files;
 mod gaps;
 mod halt;
 mod lengths;
-mod readers;
 mod report;
 
 pub use check::check_plan;

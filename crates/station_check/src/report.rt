@@ -3,8 +3,10 @@ ghost use Rattle.std.specs.Prelude.{◌≡◌, ◌++◌, ℕ, Bool, codes, IfOk,
 ghost use Rattle.plan_core.specs.Plans.{IsWellFormed};
 ghost use Rattle.fallible_infer.specs.Infallible.{IsMarking, mark_at};
 ghost use Rattle.stations.specs.Reports.{check_report_of, clock_name, fallible_word, main_name};
+ghost use Rattle.stations.specs.Stations.{Station};
 ghost use Rattle.station_check.specs.Steps.{sink_line};
 
+use crate::buffers::push_buffers;
 use clock_infer::{ClockMap, NodeClock};
 use fallible_infer::infallible;
 use liq_base::Memory;
@@ -12,16 +14,20 @@ use plan_core::{Plan, SinkPlan};
 use stations::Ready;
 use std::alloc::Global;
 
-/// The report of a check: a line for each output, with its clock and whether its source is infallible.
+/// The report of a check: a line for each output, with its clock and whether its source is infallible; and then a line for
+/// each buffer, with the main clocks in which its feed and its reader lie, the samples that it gathers before it plays, and
+/// the chunks that it may hold.
 pub fn check_report(alloc: Global, plan: &Plan, ready: &Ready) -> Result<String, Memory>
     requires { IsWellFormed plan.now }
-    ensures { IfOk result (λ text. (mark : ℕ → Bool) × IsMarking plan.now.nodes mark × (string_bytes text ≡ check_report_of plan.now ready.now.clocks mark)) }
+    ensures { IfOk result (λ text. (mark : ℕ → Bool) × IsMarking plan.now.nodes mark
+        × ((station : Station) → station.plan ≡ plan.now → station.clocks ≡ ready.now.clocks → string_bytes text ≡ check_report_of station mark)) }
 {
     let marks = infallible(alloc, plan)?;
     let mut text = String::new(alloc);
     for sink in plan.sinks.as_slice() {
         push_sink(alloc, &mut text, &ready.clocks, &marks, sink)?;
     }
+    push_buffers(alloc, &mut text, plan, &ready.clocks)?;
     Ok(text)
 }
 
@@ -67,8 +73,8 @@ fn clock_name(clocks: &ClockMap, node: u32) -> &str
     main_name(clocks, clock.unwrap_or(NodeClock::Main(0)))
 }
 
-// The name of a main clock; a sub-clock has none.
-fn main_name(clocks: &ClockMap, clock: NodeClock) -> &str
+/// The name of a main clock; a sub-clock has none.
+pub fn main_name(clocks: &ClockMap, clock: NodeClock) -> &str
     ensures { result.now ≡ main_name clocks.now.names clock }
 {
     match clock {

@@ -1,16 +1,17 @@
 -- How many bytes an output has.
-use Rattle.std.proofs.Common.{◌≡◌, ℕ, zero, suc, ◌+◌, ◌*◌, List, [], ◌∷◌, ◌++◌, length, length-append, ap, refl, sym, ◌∙◌, map, arith}
+use Rattle.std.proofs.Common.{◌≡◌, ℕ, zero, suc, ◌+◌, ◌*◌, List, [], ◌∷◌, length, length-append, ap, refl, ◌∙◌, arith}
 use Rattle.std.proofs.Math.Nat.{suc-mul}
 use Rattle.std.proofs.lemmas.List.{length-map}
 use Rattle.std.proofs.lemmas.List.FromFn.{length-range_with_len}
-use Rattle.std.specs.Prelude.{pos, Some, None}
+use Rattle.std.specs.Prelude.{Some, None}
 use Rattle.std.specs.List.{flat_map, range_with_len}
 use Rattle.liq_base.specs.declared.memory.Kind.{Kind}
 use Rattle.liq_base.specs.declared.memory.Kind.TheVariants.{Mono, Stereo}
 use Rattle.frame_core.specs.Slots.{Slot}
-use Rattle.wav_io.specs.Header.{block_size, header_bytes}
+use Rattle.wav_io.specs.Header.{block_size}
 use Rattle.wav_io.proofs.Headers.{length_header}
-use Rattle.stations.specs.Stations.{Run, Station, setting_of}
+use Rattle.run_records.specs.Records.{Run}
+use Rattle.stations.specs.Stations.{Station, setting_of}
 use Rattle.stations.specs.Streams.{bytes_of, header_for}
 use Rattle.stream_meaning.specs.Instants.{Setting, stream_of}
 use Rattle.stream_meaning.specs.Sinks.{kind_of, slot_block, tick_bytes, tick_slots, ticks_bytes}

@@ -1,6 +1,6 @@
 -- What the walk over the nodes of a plan gives each of them.
 use Rattle.std.proofs.Common.{◌≡◌, ℕ, zero, suc, List, [], ◌∷◌, ◌++◌, length, refl, sym, ap, ◌∙◌, append_assoc, append-nil, subst}
-use Rattle.std.specs.Prelude.{⊤, Option, Some, None, Result, Ok, Err, slice_get, slice_index_or}
+use Rattle.std.specs.Prelude.{⊤, Some, Result, Ok, Err, slice_get, slice_index_or}
 use Rattle.liq_base.specs.Files.{Files}
 use Rattle.frame_core.specs.Library.{Sounds, tracks_of}
 use Rattle.plan_core.specs.declared.node.Node.{Node}
@@ -9,7 +9,7 @@ use Rattle.plan_core.specs.declared.node.Op.TheVariants.{Single}
 use Rattle.track_library.specs.declared.fault.LoadFault.{LoadFault}
 use Rattle.track_library.specs.declared.fault.Unusable.{Unusable}
 use Rattle.track_library.specs.declared.rules.Rules.{Rules}
-use Rattle.track_library.specs.Walk.{Heard, Walked, load_of, leaf_of, leaf_added, node_next, nodes_walked, single_leaf, sounds_of, with_lists, use_audio, nothing_met}
+use Rattle.track_library.specs.Walk.{Heard, Walked, load_of, leaf_of, leaf_added, nodes_walked, single_leaf, sounds_of, with_lists, use_audio, nothing_met}
 
 -- the leaf of a `single` has one file
 abbrev pub HasOne : Op → List ℕ → Type 0

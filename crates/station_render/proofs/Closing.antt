@@ -1,14 +1,14 @@
 -- Sinks that are closed one after another.
-use Rattle.std.proofs.Common.{◌≡◌, ◌<◌, ◌≤◌, ◌+◌, ◌∙◌, ◌++◌, ◌⊎◌, ℕ, zero, suc, true, false, List, [], ◌∷◌, length, set, slice_get, nat_eq, arith, refl, ap, sym, subst, inl, inr, if◌then◌else◌}
-use Rattle.std.specs.Prelude.{Option, Some, None, Result, Ok, Err, OnOk, OnErr, IsSomeAnd}
+use Rattle.std.proofs.Common.{◌≡◌, ◌<◌, ◌≤◌, ◌∙◌, ◌⊎◌, ℕ, zero, suc, List, [], ◌∷◌, length, slice_get, nat_eq, arith, refl, ap, sym, subst, inl, inr, if◌then◌else◌}
+use Rattle.std.specs.Prelude.{Option, Some, None, Result, OnOk, OnErr, IsSomeAnd}
 use Rattle.std.specs.Option.{ForSome}
 use Rattle.std.proofs.lemmas.Bool.{cases_Bool, eqb-true, eqb-false, eq-eqb}
 use Rattle.liq_base.specs.Counts.{Rose}
 use Rattle.liq_base.specs.Files.{Files, with_file, Closed, ClosedPart}
 use Rattle.liq_base.specs.Kept.{HoldsPartOr, closed_part_or, later_cause, rose_within}
 use Rattle.stations.specs.Outputs.{OutputFile, with_outputs, HoldsParts}
-use Rattle.station_render.specs.Sinks.{AreCreated, AreAllEmpty, HasFailed, HaveSizes, HoldsWhole, HoldsPart, WasTaken, of_clock, count_of}
-use Rattle.station_render.proofs.Lists.{got, within, no_items, set_here, set_many, set_other}
+use Rattle.station_render.specs.Sinks.{AreCreated, AreAllEmpty, HasFailed, HaveSizes, HoldsWhole, HoldsPart, WasTaken, count_of}
+use Rattle.station_render.proofs.Lists.{within, no_items, set_here, set_many, set_other}
 use Rattle.station_render.proofs.Dealing.{first_so, others_so}
 
 -- nothing was created

@@ -1,24 +1,24 @@
 -- Outputs that are created one after another.
-use Rattle.std.proofs.Common.{◌≡◌, ◌<◌, ◌≤◌, ◌+◌, ◌-◌, ◌*◌, ◌∙◌, ◌++◌, ◌⊎◌, ℕ, zero, suc, Bool, List, [], ◌∷◌, length, map, take, drop, slice_get, get_or, arith, refl, ap, sym, subst, inl, inr, true, false, nat_eq, append_assoc, add-one, if◌then◌else◌}
+use Rattle.std.proofs.Common.{◌≡◌, ◌<◌, ◌≤◌, ◌+◌, ◌-◌, ◌∙◌, ◌++◌, ◌⊎◌, ℕ, zero, suc, Bool, List, [], ◌∷◌, length, map, take, drop, slice_get, arith, refl, ap, sym, subst, inl, inr, true, false, nat_eq, append_assoc, add-one, if◌then◌else◌}
 use Rattle.std.specs.Prelude.{Option, Some, None, IsSome, is_some}
 use Rattle.std.specs.Option.{ForSome}
 use Rattle.std.specs.List.{AllZip}
-use Rattle.std.proofs.lemmas.List.{map-append, append-nil, length-append}
+use Rattle.std.proofs.lemmas.List.{map-append, append-nil}
 use Rattle.liq_base.specs.Created.{is_told}
 use Rattle.liq_base.specs.Counts.{Rose}
 use Rattle.liq_base.specs.Files.{Files}
-use Rattle.liq_base.specs.Pieces.{HasRoom, IsPrefix, Took, TookPart, grown, narrowed}
-use Rattle.plan_core.specs.declared.plan.Plan.{Plan}
+use Rattle.liq_base.specs.Pieces.{HasRoom, TookPart, grown, narrowed}
 use Rattle.plan_core.specs.declared.sink.SinkPlan.{SinkPlan}
 use Rattle.plan_core.specs.declared.sink.SinkPlan.TheVariants.{Output, Feed}
 use Rattle.clock_infer.specs.declared.clock_map.NodeClock.TheVariants.{Main}
-use Rattle.stream_meaning.specs.Instants.{Setting, clock_of}
+use Rattle.op_leaf.specs.Readers.{Answer}
+use Rattle.stream_meaning.specs.Instants.{Setting, answered, clock_of}
 use Rattle.stream_meaning.specs.Sinks.{ticks_bytes}
-use Rattle.stations.specs.Outputs.{OutputFile}
+use Rattle.run_records.specs.Records.{Run, answers_of, setting_then}
 use Rattle.stations.specs.Streams.{header_for, output_bytes, outputs_in}
 use Rattle.station_render.specs.Sinks.{AreCreated, HasFailed, HoldsPart, HoldsWhole, WasAdded, of_clock}
 use Rattle.station_render.specs.Renders.{AreBegun, IsPart, IsReady, IsWhole, NoneCreated, WasBroken, WasCreated, Written, body_size, file_of, main_of, order_of, written}
-use Rattle.station_render.proofs.Lists.{within, got_is, set_here, set_many, many_mapped}
+use Rattle.station_render.proofs.Lists.{got_is, set_here, set_many, many_mapped}
 use Rattle.station_render.proofs.Dealing.{one_added}
 
 pub take_more : {A : Type 0} (xs : List A) (k : ℕ) (x : A) → slice_get xs k ≡ Some x → take (suc k) xs ≡ take k xs ++ x ∷ []
@@ -127,13 +127,13 @@ module _ {S : Type 0} (name held : S → Option (List ℕ)) (left : S → Option
   rose_above before after rose = omega (arith, rose)
 
   module _ (setting : Setting) (ticks : ℕ) where
-    -- the header is a first part of an output
-    pub part_of_ready : (output : Written) (sink : S) → IsReady name held left files setting ticks output sink → IsPart name held files setting ticks output sink
-    part_of_ready output sink ready all at = record {
+    -- the header is a first part of an output, whatever buffers answer
+    pub part_of_ready : (answers : ℕ → List Answer) (output : Written) (sink : S) → IsReady name held left files setting ticks output sink → IsPart name held files (answered setting answers) ticks output sink
+    part_of_ready answers output sink ready all at = record {
       named = (ready.told all at).named;
       part = header_for setting ticks output.node;
       holds = (ready.told all at).holds;
-      front = record { rest = ticks_bytes setting output.node ticks; whole_is = refl };
+      front = record { rest = ticks_bytes (answered setting answers) output.node ticks; whole_is = refl };
     }
 
     pub part_of_whole : (output : Written) (sink : S) → IsWhole name held files setting ticks output sink → IsPart name held files setting ticks output sink
@@ -157,61 +157,62 @@ module _ {S : Type 0} (name held : S → Option (List ℕ)) (left : S → Option
         subst (λ o. AreCreated (IsReady name held left files setting ticks) (ys ++ output ∷ []) o new) (sym was.order_is)
         (one_added (IsReady name held left files setting ticks) ys order old new output clock was.sink low are ready was.added)
 
-    pub part_more : (ys : List Written) (output : Written) (clock : ℕ) (header : List ℕ) (order order_new : List ℕ) (old new : List (List S)) → clock < length old
+    pub part_more : (answers : ℕ → List Answer) (ys : List Written) (output : Written) (clock : ℕ) (header : List ℕ) (order order_new : List ℕ) (old new : List (List S)) → clock < length old
         → header ≡ header_for setting ticks output.node
         → AreCreated (IsReady name held left files setting ticks) ys order old
         → WasBroken name held faults files clock output.name header order order_new old new
-        → AreCreated (IsPart name held files setting ticks) (ys ++ output ∷ []) order_new new
-    part_more ys output clock header order order_new old new low header_is are was =
-        let part : IsPart name held files setting ticks output was.sink = λ all at.
+        → AreCreated (IsPart name held files (answered setting answers) ticks) (ys ++ output ∷ []) order_new new
+    part_more answers ys output clock header order order_new old new low header_is are was =
+        let world : Setting = answered setting answers in
+        let part : IsPart name held files world ticks output was.sink = λ all at.
         let told = was.told all at in
-        let whole : output_bytes setting ticks output.node ≡ header ++ ticks_bytes setting output.node ticks = ap (λ h. h ++ ticks_bytes setting output.node ticks) (sym header_is) in
+        let whole : output_bytes world ticks output.node ≡ header ++ ticks_bytes world output.node ticks = ap (λ h. h ++ ticks_bytes world output.node ticks) (sym header_is) in
         record {
           named = told.named;
           part = told.part;
           holds = told.holds;
           front = record {
-            rest = told.front.rest ++ ticks_bytes setting output.node ticks;
-            whole_is = whole ∙ ap (λ h. h ++ ticks_bytes setting output.node ticks) told.front.whole_is ∙ append_assoc told.part told.front.rest (ticks_bytes setting output.node ticks);
+            rest = told.front.rest ++ ticks_bytes world output.node ticks;
+            whole_is = whole ∙ ap (λ h. h ++ ticks_bytes world output.node ticks) told.front.whole_is ∙ append_assoc told.part told.front.rest (ticks_bytes world output.node ticks);
           };
         } in
-        subst (λ o. AreCreated (IsPart name held files setting ticks) (ys ++ output ∷ []) o new) (sym was.order_is)
-        (one_added (IsPart name held files setting ticks) ys order old new output clock was.sink low (parts ys order old are) part was.added)
-      where
-        parts : (ys : List Written) (order : List ℕ) (groups : List (List S)) → AreCreated (IsReady name held left files setting ticks) ys order groups → AreCreated (IsPart name held files setting ticks) ys order groups
-        parts ys order groups are = created_as (IsReady name held left files setting ticks) (IsPart name held files setting ticks) part_of_ready ys order groups are
+        subst (λ o. AreCreated (IsPart name held files world ticks) (ys ++ output ∷ []) o new) (sym was.order_is)
+        (one_added (IsPart name held files world ticks) ys order old new output clock was.sink low
+        (created_as (IsReady name held left files setting ticks) (IsPart name held files world ticks) (part_of_ready answers) ys order old are) part was.added)
 
     -- what is begun, where the first sinks were gone through
-    pub begun_here : (k : ℕ) (order : List ℕ) (groups : List (List S)) → AreCreated (IsReady name held left files setting ticks) (written (take k setting.plan.sinks)) order groups
-        → AreBegun name held files setting ticks order groups
-    begun_here k order groups are = record {
-      created = written (take k setting.plan.sinks);
-      others = written (drop k setting.plan.sinks);
-      all = ap written (taken_and_left setting.plan.sinks k) ∙ written_both (take k setting.plan.sinks) (drop k setting.plan.sinks);
-      parts = created_as (IsReady name held left files setting ticks) (IsPart name held files setting ticks) part_of_ready (written (take k setting.plan.sinks)) order groups are;
-    }
+    module _ (run : Run) where
+      pub begun_here : (k : ℕ) (order : List ℕ) (groups : List (List S)) → AreCreated (IsReady name held left files setting ticks) (written (take k setting.plan.sinks)) order groups
+          → AreBegun name held files setting run ticks order groups
+      begun_here k order groups are = record {
+        created = written (take k setting.plan.sinks);
+        others = written (drop k setting.plan.sinks);
+        all = ap written (taken_and_left setting.plan.sinks k) ∙ written_both (take k setting.plan.sinks) (drop k setting.plan.sinks);
+        parts = λ rest. created_as (IsReady name held left files setting ticks) (IsPart name held files (setting_then setting run rest) ticks) (part_of_ready (λ buffer. answers_of run buffer ++ rest buffer))
+            (written (take k setting.plan.sinks)) order groups are;
+      }
 
-    pub begun_next : (k : ℕ) (title : List ℕ) (node : ℕ) (fallible : Bool) (order : List ℕ) (groups : List (List S)) → slice_get setting.plan.sinks k ≡ Some (Output title node fallible)
-        → AreCreated (IsPart name held files setting ticks) (written (take k setting.plan.sinks) ++ (record { name = title; node = node }) ∷ []) order groups
-        → AreBegun name held files setting ticks order groups
-    begun_next k title node fallible order groups at are = record {
-      created = written (take (suc k) setting.plan.sinks);
-      others = written (drop (suc k) setting.plan.sinks);
-      all = ap written (taken_and_left setting.plan.sinks (suc k)) ∙ written_both (take (suc k) setting.plan.sinks) (drop (suc k) setting.plan.sinks);
-      parts = subst (λ ys. AreCreated (IsPart name held files setting ticks) ys order groups) (sym (written_more setting.plan.sinks k title node fallible at)) are;
-    }
+      pub begun_next : (k : ℕ) (title : List ℕ) (node : ℕ) (fallible : Bool) (order : List ℕ) (groups : List (List S)) → slice_get setting.plan.sinks k ≡ Some (Output title node fallible)
+          → ((rest : ℕ → List Answer) → AreCreated (IsPart name held files (setting_then setting run rest) ticks) (written (take k setting.plan.sinks) ++ (record { name = title; node = node }) ∷ []) order groups)
+          → AreBegun name held files setting run ticks order groups
+      begun_next k title node fallible order groups at are = record {
+        created = written (take (suc k) setting.plan.sinks);
+        others = written (drop (suc k) setting.plan.sinks);
+        all = ap written (taken_and_left setting.plan.sinks (suc k)) ∙ written_both (take (suc k) setting.plan.sinks) (drop (suc k) setting.plan.sinks);
+        parts = λ rest. subst (λ ys. AreCreated (IsPart name held files (setting_then setting run rest) ticks) ys order groups) (sym (written_more setting.plan.sinks k title node fallible at)) (are rest);
+      }
 
-    -- after a creation that broke off
-    pub begun_broken : (k : ℕ) (title : List ℕ) (node : ℕ) (fallible : Bool) (clock : ℕ) (header : List ℕ) (order order_new : List ℕ) (old new : List (List S)) → clock < length old
-        → slice_get setting.plan.sinks k ≡ Some (Output title node fallible) → header ≡ header_for setting ticks node
-        → AreCreated (IsReady name held left files setting ticks) (written (take k setting.plan.sinks)) order old
-        → NoneCreated order order_new old new ⊎ WasBroken name held faults files clock title header order order_new old new
-        → AreBegun name held files setting ticks order_new new
-    begun_broken k title node fallible clock header order order_new old new low at header_is are (inl none) =
-        subst (λ o. AreBegun name held files setting ticks o new) (sym none.order_is) (subst (λ gs. AreBegun name held files setting ticks order gs) (sym none.same) (begun_here k order old are))
-    begun_broken k title node fallible clock header order order_new old new low at header_is are (inr broken) =
-        begun_next k title node fallible order_new new at
-        (part_more (written (take k setting.plan.sinks)) (record { name = title; node = node }) clock header order order_new old new low header_is are broken)
+      -- after a creation that broke off
+      pub begun_broken : (k : ℕ) (title : List ℕ) (node : ℕ) (fallible : Bool) (clock : ℕ) (header : List ℕ) (order order_new : List ℕ) (old new : List (List S)) → clock < length old
+          → slice_get setting.plan.sinks k ≡ Some (Output title node fallible) → header ≡ header_for setting ticks node
+          → AreCreated (IsReady name held left files setting ticks) (written (take k setting.plan.sinks)) order old
+          → NoneCreated order order_new old new ⊎ WasBroken name held faults files clock title header order order_new old new
+          → AreBegun name held files setting run ticks order_new new
+      begun_broken k title node fallible clock header order order_new old new low at header_is are (inl none) =
+          subst (λ o. AreBegun name held files setting run ticks o new) (sym none.order_is) (subst (λ gs. AreBegun name held files setting run ticks order gs) (sym none.same) (begun_here k order old are))
+      begun_broken k title node fallible clock header order order_new old new low at header_is are (inr broken) =
+          begun_next k title node fallible order_new new at
+          (λ rest. part_more (λ buffer. answers_of run buffer ++ rest buffer) (written (take k setting.plan.sinks)) (record { name = title; node = node }) clock header order order_new old new low header_is are broken)
 
 pub written_next : (sinks : List SinkPlan) (k : ℕ) (name : List ℕ) (node : ℕ) (fallible : Bool) → slice_get sinks k ≡ Some (Output name node fallible)
     → written (take (k + 1) sinks) ≡ written (take k sinks) ++ (record { name = name; node = node }) ∷ []
@@ -236,9 +237,9 @@ module _ {S : Type 0} (name held : S → Option (List ℕ)) (left : S → Option
       (subst (λ f. WasCreated name held left f clock title header body order order_new old new) same (subst (λ t. WasCreated name held left before clock t header body order order_new old new) said_is was)))
 
   -- after one that broke off
-  pub broken_off : NoneCreated order order_new old new ⊎ WasBroken name held faults before clock said header order order_new old new → AreBegun name held files setting ticks order_new new
-  broken_off was =
-      begun_broken name held left faults files setting ticks k title node fallible clock header order order_new old new low at header_is are
+  pub broken_off : (run : Run) → NoneCreated order order_new old new ⊎ WasBroken name held faults before clock said header order order_new old new → AreBegun name held files setting run ticks order_new new
+  broken_off run was =
+      begun_broken name held left faults files setting ticks run k title node fallible clock header order order_new old new low at header_is are
       (subst (λ f. NoneCreated order order_new old new ⊎ WasBroken name held faults f clock title header order order_new old new) same
       (subst (λ t. NoneCreated order order_new old new ⊎ WasBroken name held faults before clock t header order order_new old new) said_is was))
 

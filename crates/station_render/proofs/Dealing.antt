@@ -1,10 +1,10 @@
 -- Sinks that are dealt to clocks.
-use Rattle.std.proofs.Common.{◌≡◌, ◌<◌, ◌≤◌, ◌+◌, ◌∙◌, ◌++◌, ◌⊎◌, ℕ, zero, suc, Bool, true, false, Some, Option, List, [], ◌∷◌, length, map, get_or, set, slice_get, nat_eq, arith, refl, ap, sym, subst, inl, inr, if◌then◌else◌}
+use Rattle.std.proofs.Common.{◌≡◌, ◌<◌, ◌+◌, ◌∙◌, ◌++◌, ℕ, zero, suc, Bool, true, false, Some, List, [], ◌∷◌, length, slice_get, nat_eq, arith, refl, ap, sym, subst, inl, inr, if◌then◌else◌}
 use Rattle.std.proofs.lemmas.Bool.{cases_Bool, eqb-true, eqb-false, eq-eqb}
 use Rattle.std.specs.List.{AllZip}
 use Rattle.std.proofs.lemmas.List.{length-append}
-use Rattle.station_render.specs.Sinks.{AreCreated, AreEmpty, HaveSizes, WasAdded, WasTaken, HasFailed, AreAllEmpty, AreBelow, of_clock, count_of}
-use Rattle.station_render.proofs.Lists.{got, within, got_is, set_other, set_here, set_many}
+use Rattle.station_render.specs.Sinks.{AreCreated, AreEmpty, HaveSizes, WasAdded, WasTaken, AreBelow, of_clock, count_of}
+use Rattle.station_render.proofs.Lists.{within, set_other, set_here, set_many}
 
 -- what is dealt to a clock, with one more item at the end
 pub dealt_more_here : {Y : Type 0} (m c : ℕ) (order : List ℕ) (ys : List Y) (y : Y) → length ys ≡ length order → nat_eq c m ≡ true → of_clock m (order ++ c ∷ []) (ys ++ y ∷ []) ≡ of_clock m order ys ++ y ∷ []

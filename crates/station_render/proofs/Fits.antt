@@ -1,20 +1,18 @@
 -- What a plan that fits is known to have.
-use Rattle.std.proofs.Common.{◌≡◌, ◌<◌, ◌≤◌, ◌+◌, ◌*◌, ◌∙◌, ◌++◌, ℕ, zero, suc, Bool, true, false, List, [], ◌∷◌, length, map, take, slice_get, get_or, arith, refl, ap, sym, subst, if◌then◌else◌}
-use Rattle.std.specs.Prelude.{Option, Some, None, is_none, Contains, All}
-use Rattle.liq_base.specs.Kinds.{channels_of}
+use Rattle.std.proofs.Common.{◌≡◌, ◌<◌, ◌*◌, ◌∙◌, ℕ, zero, suc, Bool, true, false, List, [], ◌∷◌, length, slice_get, arith, refl, ap, sym, subst, if◌then◌else◌}
+use Rattle.std.specs.Prelude.{Some, None, is_none, Contains}
 use Rattle.plan_core.specs.declared.plan.Plan.{Plan}
 use Rattle.plan_core.specs.declared.sink.SinkPlan.{SinkPlan}
-use Rattle.plan_core.specs.declared.sink.SinkPlan.TheVariants.{Output, Feed}
-use Rattle.plan_core.specs.Plans.{sink_node, IsWellFormed}
+use Rattle.plan_core.specs.declared.sink.SinkPlan.TheVariants.{Output}
+use Rattle.plan_core.specs.Plans.{sink_node}
 use Rattle.clock_infer.specs.declared.clock_map.ClockMap.{ClockMap}
 use Rattle.clock_infer.specs.declared.clock_map.NodeClock.TheVariants.{Main}
 use Rattle.clock_infer.proofs.MapLaws as map_law
 use Rattle.frame_core.specs.Library.{Sounds}
 use Rattle.wav_io.specs.Header.{header_of}
-use Rattle.stations.specs.Stations.{HasNoReader}
 use Rattle.stations.specs.Findings.{IsFit, first_name, is_too_long, kind_at, name_of}
 use Rattle.station_render.specs.Renders.{AreMain}
-use Rattle.station_render.proofs.Lists.{within, got_is, no_items}
+use Rattle.station_render.proofs.Lists.{within, got_is}
 
 pub contains : {A : Type 0} (xs : List A) (k : ℕ) (x : A) → slice_get xs k ≡ Some x → Contains xs x
 contains xs k x at = (k, within xs k x at, got_is xs k x x at)
@@ -43,16 +41,6 @@ module _ (plan : Plan) (library : Sounds) (clocks : ClockMap) (ticks : ℕ) (fit
   pub header_fits : (k : ℕ) (name : List ℕ) (node : ℕ) (fallible : Bool) → slice_get plan.sinks k ≡ Some (Output name node fallible)
       → is_none (header_of (kind_at plan node) plan.rate (ticks * plan.frame)) ≡ false
   header_fits k name node fallible at = none_such (is_too_long plan ticks) plan.sinks k (Output name node fallible) fit.none at
-
-  -- a buffer has a reader, so there is none
-  pub no_buffers : plan.buffers ≡ []
-  no_buffers = by_size (length plan.buffers) refl
-    where
-      by_size : (n : ℕ) → length plan.buffers ≡ n → plan.buffers ≡ []
-      by_size zero size = no_items plan.buffers size
-      by_size (suc n) size =
-          (let reader = fit.plan_is.one_reader 0 (omega (arith, size)) in
-          absurd (fit.readers reader.0 reader.1.0 reader.1.1 0 reader.1.2))
 
   -- the clock of an output is one of those that run
   pub clock_below : (k : ℕ) (name : List ℕ) (node : ℕ) (fallible : Bool) → slice_get plan.sinks k ≡ Some (Output name node fallible)

@@ -8,4 +8,4 @@ pub mod Pools
 pub mod Pooling
 pub mod Running
 pub mod Ending
-pub mod Rendered
+pub mod Returning

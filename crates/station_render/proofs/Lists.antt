@@ -1,5 +1,5 @@
 -- Places of lists, and lists of sinks.
-use Rattle.std.proofs.Common.{◌≡◌, ◌<◌, ◌≤◌, ◌+◌, ◌∙◌, ◌++◌, ◌⊎◌, ℕ, zero, suc, Some, Option, List, [], ◌∷◌, length, map, get_or, set, slice_get, arith, refl, ap, sym, subst, inl, inr, vec_len}
+use Rattle.std.proofs.Common.{◌≡◌, ◌<◌, ◌≤◌, ◌+◌, ◌∙◌, ◌++◌, ℕ, zero, suc, Some, List, [], ◌∷◌, length, map, get_or, set, slice_get, arith, refl, ap, sym, subst, vec_len}
 use Rattle.std.specs.Prelude.{Vec}
 use Rattle.std.specs.declared.alloc.Global.{Global}
 use Rattle.std.specs.Prelude.{OnOk, Result, Ok, Err, vec_capacity, drop}

@@ -1,5 +1,5 @@
 -- Engines that take sinks and give them back.
-use Rattle.std.proofs.Common.{◌≡◌, ◌<◌, ◌≤◌, ◌+◌, ◌∙◌, ◌++◌, ℕ, zero, suc, Some, List, [], ◌∷◌, length, map, get_or, set, slice_get, arith, refl, ap, sym, subst, vec_len, add-one}
+use Rattle.std.proofs.Common.{◌≡◌, ◌<◌, ◌≤◌, ◌+◌, ◌∙◌, ◌++◌, ℕ, zero, suc, Some, List, [], ◌∷◌, length, get_or, set, slice_get, arith, ap, sym, subst, vec_len, add-one}
 use Rattle.std.specs.Prelude.{Vec}
 use Rattle.std.specs.declared.alloc.Global.{Global}
 use Rattle.std.proofs.lemmas.List.{map-append, length-append}
@@ -7,8 +7,7 @@ use Rattle.clock_engine.specs.declared.engine.ClockEngine.{ClockEngine}
 use Rattle.stream_meaning.specs.Instants.{Setting}
 use Rattle.station_render.specs.Sinks.{lists_of}
 use Rattle.station_render.specs.Engines.{AreAt, AreEmptyBelow, IsAt, outs_of, pooled}
-use Rattle.station_render.proofs.Lists.{got, got_is, here_is, list_set, many_mapped, mapped, same_set, set_here, set_many, set_other, within}
-use Rattle.station_render.proofs.Closing.{in_list}
+use Rattle.station_render.proofs.Lists.{here_is, many_mapped, set_many, set_other, within}
 use Rattle.station_render.proofs.Pools.{empty_below_fewer, empty_below_more, pool_back, pool_more}
 
 module _ {S : Type 0} where
@@ -39,24 +38,24 @@ module _ {S : Type 0} where
       ap (λ es. pooled (outs_of es) lists) is ∙ ap (λ os. pooled os lists) (outs_more front engine) ∙ pool_back (outs_of front) lists engine.outs.items low
       ∙ ap (λ n. pooled (outs_of front) (set lists n engine.outs.items)) (outs_many front) ∙ ap (λ o. pooled (outs_of front) (set lists (length front) o)) (sym same)
 
-  at_place : (setting : Setting) (es : List (ClockEngine S)) (last : ClockEngine S) (m : ℕ) (other : ClockEngine S) (from : ℕ) → ((k : ℕ) (e : ClockEngine S) → slice_get es k ≡ Some e → IsAt setting 0 (from + k) e)
-      → IsAt setting 0 (from + length es) last → slice_get (es ++ last ∷ []) m ≡ Some other → IsAt setting 0 (from + m) other
-  at_place setting [] last zero other from each is there = (let same : last ≡ other = (cc) in subst (λ e. IsAt setting 0 (from + 0) e) same is)
+  at_place : (setting : Setting) (es : List (ClockEngine S)) (last : ClockEngine S) (m : ℕ) (other : ClockEngine S) (from : ℕ) → ((k : ℕ) (e : ClockEngine S) → slice_get es k ≡ Some e → IsAt setting (from + k) e)
+      → IsAt setting (from + length es) last → slice_get (es ++ last ∷ []) m ≡ Some other → IsAt setting (from + m) other
+  at_place setting [] last zero other from each is there = (let same : last ≡ other = (cc) in subst (λ e. IsAt setting (from + 0) e) same is)
   at_place setting [] last (suc m) other from each is there = absurd (cc)
   at_place setting (e ∷ es) last zero other from each is there = each 0 other there
   at_place setting (e ∷ es) last (suc m) other from each is there =
       let step : suc from + m ≡ from + suc m = omega arith in
       let last_step : from + suc (length es) ≡ suc from + length es = omega arith in
-      subst (λ n. IsAt setting 0 n other) step
-      (at_place setting es last m other (suc from) (λ k f found. let next : from + suc k ≡ suc from + k = omega arith in subst (λ n. IsAt setting 0 n f) next (each (suc k) f found))
-      (subst (λ n. IsAt setting 0 n last) last_step is) there)
+      subst (λ n. IsAt setting n other) step
+      (at_place setting es last m other (suc from) (λ k f found. let next : from + suc k ≡ suc from + k = omega arith in subst (λ n. IsAt setting n f) next (each (suc k) f found))
+      (subst (λ n. IsAt setting n last) last_step is) there)
 
-  pub at_more : (setting : Setting) (engines : List (ClockEngine S)) (engine : ClockEngine S) → AreAt setting 0 engines → IsAt setting 0 (length engines) engine → AreAt setting 0 (engines ++ engine ∷ [])
+  pub at_more : (setting : Setting) (engines : List (ClockEngine S)) (engine : ClockEngine S) → AreAt setting engines → IsAt setting (length engines) engine → AreAt setting (engines ++ engine ∷ [])
   at_more setting engines engine at is = record {
     each = λ m other there.
         let from_0 : (n : ℕ) → 0 + n ≡ n = λ n. omega arith in
-        subst (λ n. IsAt setting 0 n other) (from_0 m)
-        (at_place setting engines engine m other 0 (λ k e found. subst (λ n. IsAt setting 0 n e) (sym (from_0 k)) (at.each k e found)) (subst (λ n. IsAt setting 0 n engine) (sym (from_0 (length engines))) is) there);
+        subst (λ n. IsAt setting n other) (from_0 m)
+        (at_place setting engines engine m other 0 (λ k e found. subst (λ n. IsAt setting n e) (sym (from_0 k)) (at.each k e found)) (subst (λ n. IsAt setting n engine) (sym (from_0 (length engines))) is) there);
   }
 
   -- the last engine gives its sinks back
@@ -103,6 +102,6 @@ module _ {S : Type 0} where
     pub taking_left : (m : ℕ) (group : List S) → clock + 1 ≤ m → slice_get lists_new m ≡ Some group → slice_get lists m ≡ Some group
     taking_left m group above at = sym (set_other lists clock m [] (λ e. omega (arith, above, e))) ∙ ap (λ ls. slice_get ls m) (sym taken) ∙ at
 
-    pub taking_at : (setting : Setting) → AreAt setting 0 engines → IsAt setting 0 clock engine → AreAt setting 0 engines_new
+    pub taking_at : (setting : Setting) → AreAt setting engines → IsAt setting clock engine → AreAt setting engines_new
     taking_at setting at here =
-        subst (λ es. AreAt setting 0 es) (sym is) (at_more setting engines engine at (subst (λ n. IsAt setting 0 n engine) (sym count) here))
+        subst (λ es. AreAt setting es) (sym is) (at_more setting engines engine at (subst (λ n. IsAt setting n engine) (sym count) here))

@@ -1,5 +1,5 @@
 -- Lists of sinks that engines took, and give back.
-use Rattle.std.proofs.Common.{◌≡◌, ◌<◌, ◌≤◌, ◌+◌, ◌∙◌, ◌++◌, ◌⊎◌, ℕ, zero, suc, Some, List, [], ◌∷◌, length, set, slice_get, arith, refl, ap, sym, subst, inl, inr, nat_eq}
+use Rattle.std.proofs.Common.{◌≡◌, ◌<◌, ◌∙◌, ◌++◌, ℕ, zero, suc, Some, List, [], ◌∷◌, length, set, slice_get, arith, refl, ap, sym, inl, inr, nat_eq}
 use Rattle.std.proofs.lemmas.Bool.{cases_Bool, eqb-true, eqb-false}
 use Rattle.station_render.specs.Engines.{AreEmptyBelow, pooled}
 use Rattle.station_render.proofs.Lists.{set_here, set_other}

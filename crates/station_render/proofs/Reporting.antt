@@ -1,17 +1,21 @@
 -- The lines of a report, output by output.
-use Rattle.std.proofs.Common.{◌≡◌, ◌<◌, ◌≤◌, ◌+◌, ◌*◌, ◌∙◌, ◌++◌, ℕ, zero, suc, Bool, List, [], ◌∷◌, length, take, drop, slice_get, get_or, arith, refl, ap, sym, subst, append_assoc, add-one}
-use Rattle.std.specs.Prelude.{Some}
+use Rattle.std.proofs.Common.{◌≡◌, ◌<◌, ◌+◌, ◌*◌, ◌∙◌, ◌++◌, ℕ, zero, suc, Bool, List, [], ◌∷◌, length, take, slice_get, get_or, arith, refl, ap, sym, append_assoc, add-one}
+use Rattle.std.specs.Prelude.{Some, codes, decimal}
 use Rattle.std.proofs.lemmas.List.{append-nil, length-append}
 use Rattle.plan_core.specs.declared.sink.SinkPlan.{SinkPlan}
 use Rattle.plan_core.specs.declared.sink.SinkPlan.TheVariants.{Output, Feed}
 use Rattle.stream_meaning.specs.Instants.{Setting}
 use Rattle.stream_meaning.specs.Sinks.{gaps}
 use Rattle.plan_core.specs.declared.plan.Plan.{Plan}
-use Rattle.stations.specs.Stations.{Run, Station, setting_of}
-use Rattle.stations.specs.Streams.{counts_in, counts_of, gaps_of}
-use Rattle.stations.specs.Reports.{rendered_line, rendered_lines}
+use Rattle.plan_core.specs.declared.sink.BufferPlan.{BufferPlan}
+use Rattle.run_records.specs.Records.{Run}
+use Rattle.buffer_ends.specs.declared.counts.Counts.{Counts}
+use Rattle.stations.specs.Stations.{Station, setting_of}
+use Rattle.stations.specs.Streams.{counts_in, gaps_in_order, gaps_of}
+use Rattle.stations.specs.Reports.{answered_line, answered_lines, answers_line, rendered_line, rendered_lines}
 use Rattle.station_render.specs.Renders.{written}
-use Rattle.station_render.proofs.Lists.{got_is, within}
+use Rattle.station_render.specs.Runs.{counted_lines, counts_from}
+use Rattle.station_render.proofs.Lists.{got_is}
 use Rattle.station_render.proofs.Creating.{take_more, written_next}
 
 pub count_at : (setting : Setting) (ticks : ℕ) (sinks : List SinkPlan) (k : ℕ) (name : List ℕ) (node : ℕ) (fallible : Bool) → slice_get sinks k ≡ Some (Output name node fallible)
@@ -78,14 +82,14 @@ counts_still setting ticks sinks k buffer node at =
 -- the text after one more line
 pub line_more : (station : Station) (run : Run) (plan : Plan) (ticks : ℕ) (counts : List ℕ) (k : ℕ) (name : List ℕ) (node : ℕ) (fallible : Bool) (place : ℕ)
     → slice_get plan.sinks k ≡ Some (Output name node fallible) → place ≡ length (written (take k plan.sinks))
-    → station.plan ≡ plan → station.ticks ≡ ticks → counts ≡ counts_of station run
+    → station.plan ≡ plan → station.ticks ≡ ticks → counts ≡ gaps_in_order station run
     → (old new said : List ℕ) (samples : ℕ) → said ≡ name → samples ≡ ticks * plan.frame → new ≡ old ++ rendered_line said samples (get_or counts place 0)
     → old ≡ rendered_lines station run (take k plan.sinks) → new ≡ rendered_lines station run (take (k + 1) plan.sinks)
 line_more station run plan ticks counts k name node fallible place at place_is plan_is ticks_is counts_are old new said samples said_is samples_are grew before =
     let at_station : slice_get station.plan.sinks k ≡ Some (Output name node fallible) = ap (λ (p : Plan). slice_get p.sinks k) plan_is ∙ at in
     let place_station : place ≡ length (written (take k station.plan.sinks)) = place_is ∙ ap (λ (p : Plan). length (written (take k p.sinks))) (sym plan_is) in
     let count : slice_get counts place ≡ Some (gaps_of station run node) =
-    ap (λ cs. slice_get cs place) counts_are ∙ ap (slice_get (counts_of station run)) place_station ∙ count_at (setting_of station run) station.ticks station.plan.sinks k name node fallible at_station in
+    ap (λ cs. slice_get cs place) counts_are ∙ ap (slice_get (gaps_in_order station run)) place_station ∙ count_at (setting_of station run) station.ticks station.plan.sinks k name node fallible at_station in
     let all_samples : samples ≡ station.ticks * station.plan.frame = samples_are ∙ ap (λ n. n * plan.frame) (sym ticks_is) ∙ ap (λ (p : Plan). station.ticks * p.frame) (sym plan_is) in
     grew ∙ ap (λ text. text ++ rendered_line said samples (get_or counts place 0)) before
     ∙ ap (λ line. rendered_lines station run (take k plan.sinks) ++ line)
@@ -96,3 +100,44 @@ line_more station run plan ticks counts k name node fallible place at place_is p
 pub one_place : (sinks : List SinkPlan) (k : ℕ) (name : List ℕ) (node : ℕ) (fallible : Bool) → slice_get sinks k ≡ Some (Output name node fallible)
     → length (written (take (k + 1) sinks)) ≡ length (written (take k sinks)) + 1
 one_place sinks k name node fallible at = ap length (written_next sinks k name node fallible at) ∙ length-append (written (take k sinks)) ((record { name = name; node = node }) ∷ [])
+
+-- the lines of a run's counts
+pub counted_are : (run : Run) (buffer : ℕ) (plans : List BufferPlan) → counted_lines buffer (counts_from run buffer plans) ≡ answered_lines run buffer plans
+counted_are run buffer [] = refl
+counted_are run buffer (plan ∷ plans) =
+    ap (λ rest. answered_line run buffer ++ rest) (counted_are run (suc buffer) plans)
+
+counted_step : (buffer k : ℕ) (counts : List Counts) (one : Counts) → slice_get counts k ≡ Some one
+    → counted_lines buffer (take (suc k) counts) ≡ counted_lines buffer (take k counts) ++ answers_line (buffer + k) one.accepted one.full one.got one.empty
+counted_step buffer k [] one at = absurd (cc)
+counted_step buffer zero (x ∷ counts) one at =
+    let same : x ≡ one = cc in
+    let here : buffer ≡ buffer + 0 = omega arith in
+    append-nil (answers_line buffer x.accepted x.full x.got x.empty) ∙ ap (λ (c : Counts). answers_line buffer c.accepted c.full c.got c.empty) same ∙ ap (λ (b : ℕ). answers_line b one.accepted one.full one.got one.empty) here
+counted_step buffer (suc k) (x ∷ counts) one at =
+    let here : suc buffer + k ≡ buffer + suc k = omega arith in
+    let line = answers_line buffer x.accepted x.full x.got x.empty in
+    ap (λ rest. line ++ rest) (counted_step (suc buffer) k counts one at ∙ ap (λ (b : ℕ). counted_lines (suc buffer) (take k counts) ++ answers_line b one.accepted one.full one.got one.empty) here)
+    ∙ sym (append_assoc line (counted_lines (suc buffer) (take k counts)) (answers_line (buffer + suc k) one.accepted one.full one.got one.empty))
+
+-- both parts of a line
+line_joined : (p a b c d e : List ℕ) → p ++ (a ++ b ++ c ++ d ++ e) ≡ p ++ a ++ b ++ c ++ d ++ e
+line_joined p a b c d e =
+    sym (append_assoc p (a ++ b ++ c ++ d) e)
+    ∙ ap (λ x. x ++ e) (sym (append_assoc p (a ++ b ++ c) d) ∙ ap (λ x. x ++ d) (sym (append_assoc p (a ++ b) c) ∙ ap (λ x. x ++ c) (sym (append_assoc p a b))))
+
+-- the text after one more line of a buffer
+pub buffer_more : (counts : List Counts) (k : ℕ) (one : Counts) → slice_get counts k ≡ Some one → (first old mid new : List ℕ)
+    → old ≡ first ++ counted_lines 0 (take k counts)
+    → mid ≡ old ++ (codes "buffer " ++ decimal k ++ codes " accepted " ++ decimal one.accepted ++ codes " full " ++ decimal one.full)
+    → new ≡ mid ++ (codes " got " ++ decimal one.got ++ codes " empty " ++ decimal one.empty ++ codes "\n")
+    → new ≡ first ++ counted_lines 0 (take (k + 1) counts)
+buffer_more counts k one at first old mid new before grew grown =
+    let front : List ℕ = codes "buffer " ++ decimal k ++ codes " accepted " ++ decimal one.accepted ++ codes " full " ++ decimal one.full in
+    let back : List ℕ = codes " got " ++ decimal one.got ++ codes " empty " ++ decimal one.empty ++ codes "\n" in
+    let place : 0 + k ≡ k = omega arith in
+    let lines = counted_lines 0 (take k counts) in
+    grown ∙ ap (λ x. x ++ back) (grew ∙ ap (λ x. x ++ front) before)
+    ∙ append_assoc (first ++ lines) front back ∙ ap (λ x. (first ++ lines) ++ x) (line_joined front (codes " got ") (decimal one.got) (codes " empty ") (decimal one.empty) (codes "\n"))
+    ∙ append_assoc first lines (answers_line k one.accepted one.full one.got one.empty)
+    ∙ ap (λ x. first ++ x) (sym (ap (λ n. counted_lines 0 (take n counts)) (add-one k) ∙ counted_step 0 k counts one at ∙ ap (λ (b : ℕ). lines ++ answers_line b one.accepted one.full one.got one.empty) place))

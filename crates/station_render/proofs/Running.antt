@@ -1,7 +1,6 @@
 -- What a run leaves in the sinks of a clock, place by place.
-use Rattle.std.proofs.Common.{◌≡◌, ◌<◌, ◌≤◌, ◌+◌, ◌*◌, ◌∙◌, ◌++◌, ℕ, zero, suc, Bool, true, false, List, [], ◌∷◌, length, map, slice_get, get_or, nat_eq, cond, arith, refl, ap, sym, subst, append_assoc, if◌then◌else◌}
-use Rattle.std.specs.Prelude.{Option, Some, None, All}
-use Rattle.std.specs.Option.{ForSome}
+use Rattle.std.proofs.Common.{◌≡◌, ◌<◌, ◌≤◌, ◌*◌, ◌∙◌, ◌++◌, ℕ, zero, suc, Bool, true, false, List, [], ◌∷◌, length, map, slice_get, get_or, nat_eq, arith, refl, ap, sym, subst, append_assoc, if◌then◌else◌}
+use Rattle.std.specs.Prelude.{Option, Some, None}
 use Rattle.std.specs.List.{AllZip}
 use Rattle.std.proofs.lemmas.Bool.{eq-eqb, false_from_ne_true, eqb-true}
 use Rattle.liq_base.specs.Counts.{Rose}
@@ -11,9 +10,8 @@ use Rattle.liq_base.specs.Pieces.{HasRoom, IsPrefix, grown}
 use Rattle.plan_core.specs.declared.plan.Plan.{Plan}
 use Rattle.plan_core.specs.declared.sink.SinkPlan.{SinkPlan}
 use Rattle.plan_core.specs.declared.sink.SinkPlan.TheVariants.{Output, Feed}
-use Rattle.clock_infer.specs.declared.clock_map.NodeClock.{NodeClock}
 use Rattle.clock_infer.specs.declared.clock_map.NodeClock.TheVariants.{Main}
-use Rattle.stream_meaning.specs.Instants.{Setting, clock_of, lies_in, same_clock}
+use Rattle.stream_meaning.specs.Instants.{Setting, answered, clock_of, lies_in, same_clock}
 use Rattle.stream_meaning.specs.Sinks.{gaps, kind_of, ticks_bytes}
 use Rattle.op_leaf.specs.Readers.{Answer}
 use Rattle.clock_infer.specs.declared.clock_map.ClockMap.{ClockMap}
@@ -25,13 +23,15 @@ use Rattle.clock_engine.specs.Engines.{AreWorks, EngineStands, held_in, output_o
 use Rattle.clock_engine.specs.Ticks.{HaveTicksRoom}
 use Rattle.clock_engine.proofs.Numbered.{are_there, from_mapped}
 use Rattle.buffer_ends.specs.declared.run_end.End.{End}
-use Rattle.rounds_run.specs.Rounds.{HasRun, HasRunPart, HaveRun, HaveRunPart, IsWriteEnd, MayRun, AreEngines, held_of, nothing}
-use Rattle.stations.specs.Outputs.{OutputFile}
-use Rattle.stations.specs.Streams.{header_for, output_bytes}
-use Rattle.station_render.specs.Sinks.{AreCreated, HasFailed, HoldsPart, HoldsWhole, of_clock}
-use Rattle.station_render.specs.Engines.{AreAt, IsAt, outs_of}
-use Rattle.station_render.specs.Renders.{IsPart, IsReady, IsWhole, Written, body_size, file_of, main_of, order_of, written}
-use Rattle.station_render.proofs.Lists.{got, got_is, mapped, many_mapped, unmapped, within}
+use Rattle.rounds_run.specs.Rounds.{AreEngines, HasRunPart, HaveRunPart, IsWriteEnd, held_of}
+use Rattle.rounds_run.specs.Runs.{HasRunTicks, HaveRunTicks}
+use Rattle.rounds_run.proofs.Fronts.{front_of, ticks_front}
+use Rattle.run_records.specs.Records.{Run, setting_then}
+use Rattle.stations.specs.Streams.{header_for}
+use Rattle.station_render.specs.Sinks.{AreCreated, HasFailed, of_clock}
+use Rattle.station_render.specs.Engines.{AreAt, ArePast, IsAt, IsPast, outs_of}
+use Rattle.station_render.specs.Renders.{IsPart, IsReady, IsWhole, Written, body_size, main_of, order_of, written}
+use Rattle.station_render.proofs.Lists.{got_is, mapped, many_mapped, unmapped, within}
 use Rattle.station_render.proofs.Dealing.{zip_at, zip_from, zip_size}
 use Rattle.station_render.proofs.Closing.{in_list}
 
@@ -160,21 +160,28 @@ module _ {S : Type 0} (held name : S → Option (List ℕ)) (faults : S → ℕ)
       )
 
   -- after all ticks
-  pub whole_at : HasRun held name faults ticks old new → (j : ℕ) (output : Written) (before after : S)
+  pub whole_at : (world : Setting) → HasRunTicks held name faults world ticks old new → (j : ℕ) (output : Written) (before after : S)
       → slice_get mine j ≡ Some output → slice_get old.outs.items j ≡ Some before → slice_get new.outs.items j ≡ Some after
-      → (name after ≡ name before) × (held after ≡ grown (ticks_bytes here output.node ticks) (held before))
-  whole_at run j output before after at was is =
-      let both = held_both run.works run.setting run.clock j output before after at was is in
-      ((run.kept.each j before after was is).0, sym both.3 ∙ run.grew.each nothing both.0 output.node both.1 ∙ ap (grown (ticks_bytes here output.node ticks)) both.2)
+      → (name after ≡ name before) × (held after ≡ grown (ticks_bytes world output.node ticks) (held before))
+  whole_at world run j output before after at was is =
+      let both = held_both run.works run.over run.clock j output before after at was is in
+      ((run.kept.each j before after was is).0, sym both.3 ∙ run.grew both.0 output.node both.1 ∙ ap (grown (ticks_bytes world output.node ticks)) both.2)
 
-  -- after a fault
-  pub part_at : HasRunPart held name faults ticks old new → (j : ℕ) (output : Written) (before after : S)
+  -- after a part of them
+  pub part_at : (worlds : (ℕ → List Answer) → Setting) (least most : ℕ) → most ≤ ticks → HasRunPart held name faults worlds least most old new → (rest : ℕ → List Answer) (j : ℕ) (output : Written) (before after : S)
       → slice_get mine j ≡ Some output → slice_get old.outs.items j ≡ Some before → slice_get new.outs.items j ≡ Some after
-      → (name after ≡ name before) × ((bytes : List ℕ) × IsPrefix bytes (ticks_bytes here output.node ticks) × (held after ≡ grown bytes (held before)))
-  part_at run j output before after at was is =
+      → (name after ≡ name before) × ((bytes : List ℕ) × IsPrefix bytes (ticks_bytes (worlds rest) output.node ticks) × (held after ≡ grown bytes (held before)))
+  part_at worlds least most low run rest j output before after at was is =
       let both = held_both run.works run.setting run.clock j output before after at was is in
-      let part = run.part nothing both.0 output.node both.1 in
-      ((run.kept.each j before after was is).0, (part.0, part.1, sym both.3 ∙ part.2 ∙ ap (grown part.0) both.2))
+      let part = run.part rest both.0 output.node both.1 in
+      let W = worlds rest in (
+        (run.kept.each j before after was is).0,
+        (
+          part.0,
+          front_of part.0 (ticks_bytes W output.node most) (ticks_bytes W output.node ticks) part.2 (ticks_front W output.node most ticks low),
+          sym both.3 ∙ part.3 ∙ ap (grown part.0) both.2,
+        ),
+      )
 
   -- the room of each sink is that of its port
   pub rooms_at : (left : S → Option ℕ) → ((j : ℕ) (output : Written) (out : S) → slice_get mine j ≡ Some output → slice_get old.outs.items j ≡ Some out → HasRoom (left out) (body_size here ticks output.node))
@@ -191,6 +198,10 @@ module _ {S : Type 0} (held name : S → Option (List ℕ)) (faults : S → ℕ)
         subst (λ kind. HasRoom (left out) (ticks * (here.plan.frame * (2 * channels_of kind)))) (sym (kind_is ∙ ap (kind_of here) node_is)) (each k found.0 out found.1 there);
   }
 
+-- a front stays one behind a header
+headed : (header part rest whole : List ℕ) → whole ≡ part ++ rest → header ++ whole ≡ header ++ part ++ rest
+headed header part rest whole is = ap (λ b. header ++ b) is ∙ sym (append_assoc header part rest)
+
 -- the sinks of all clocks
 module _ {S : Type 0} (setting : Setting) (ticks : ℕ) (main : LieInMain setting setting.plan.sinks) where
   main_here : (engine : ClockEngine S) → setting_of engine.works ≡ setting → LieInMain (setting_of engine.works) (setting_of engine.works).plan.sinks
@@ -203,13 +214,13 @@ module _ {S : Type 0} (setting : Setting) (ticks : ℕ) (main : LieInMain settin
       zip_size So (of_clock m (order_of setting (written setting.plan.sinks)) (written setting.plan.sinks)) group (are.each m group at)
       ∙ sym (zip_size same_node (of_clock m (order_of setting (written setting.plan.sinks)) (written setting.plan.sinks)) (outputs_of setting m) (same_places setting m 0 setting.plan.sinks main))
 
-  mine_is : (engine : ClockEngine S) (m : ℕ) → IsAt setting 0 m engine → of_clock engine.works.clock (order_of (setting_of engine.works) (written (setting_of engine.works).plan.sinks)) (written (setting_of engine.works).plan.sinks)
+  mine_is : (engine : ClockEngine S) (m : ℕ) → IsAt setting m engine → of_clock engine.works.clock (order_of (setting_of engine.works) (written (setting_of engine.works).plan.sinks)) (written (setting_of engine.works).plan.sinks)
       ≡ of_clock m (order_of setting (written setting.plan.sinks)) (written setting.plan.sinks)
   mine_is engine m is = ap (λ s. of_clock engine.works.clock (order_of s (written s.plan.sinks)) (written s.plan.sinks)) is.over ∙ ap (λ c. of_clock c (order_of setting (written setting.plan.sinks)) (written setting.plan.sinks)) is.clock_is
 
   -- the engines may run
-  pub may_run : (left : S → Option ℕ) (engines : List (ClockEngine S)) → AreAt setting 0 engines
-      → AreCreated (λ output sink. HasRoom (left sink) (body_size setting ticks output.node)) (written setting.plan.sinks) (order_of setting (written setting.plan.sinks)) (outs_of engines) → AreEngines left ticks engines
+  pub may_run : (left : S → Option ℕ) (engines : List (ClockEngine S)) → AreAt setting engines
+      → AreCreated (λ output sink. HasRoom (left sink) (body_size setting ticks output.node)) (written setting.plan.sinks) (order_of setting (written setting.plan.sinks)) (outs_of engines) → AreEngines left ticks setting engines
   may_run left engines at rooms = record {
     each = λ m engine there.
         let is = at.each m engine there in
@@ -226,6 +237,7 @@ module _ {S : Type 0} (setting : Setting) (ticks : ℕ) (main : LieInMain settin
               (zip_size (λ output sink. HasRoom (left sink) (body_size setting ticks output.node)) (of_clock m (order_of setting (written setting.plan.sinks)) (written setting.plan.sinks)) engine.outs.items zip ∙ sym (ap length (mine_is engine m is)));
         };
     in_order = λ m engine there. (at.each m engine there).clock_is;
+    over = λ m engine there. (at.each m engine there).over;
   }
 
   -- an engine before a run, at the place of one after it
@@ -237,13 +249,13 @@ module _ {S : Type 0} (setting : Setting) (ticks : ℕ) (main : LieInMain settin
       let before = in_list old m (omega (arith, low, size)) in
       (before.0, after.0, before.1, after.1, after.2)
 
-  module _ (name held : S → Option (List ℕ)) (left : S → Option ℕ) (faults : S → ℕ) (files : Option Files) (old new : List (ClockEngine S)) (at : AreAt setting 0 old)
+  module _ (name held : S → Option (List ℕ)) (left : S → Option ℕ) (faults : S → ℕ) (files : Option Files) (old new : List (ClockEngine S)) (at : AreAt setting old)
       (ready : AreCreated (IsReady name held left files setting ticks) (written setting.plan.sinks) (order_of setting (written setting.plan.sinks)) (outs_of old)) where
     same_many : length new ≡ length old → length (outs_of new) ≡ length (outs_of old)
     same_many size = many_mapped (λ (e : ClockEngine S). e.outs.items) new ∙ size ∙ sym (many_mapped (λ (e : ClockEngine S). e.outs.items) old)
 
-    pub all_whole : HaveRun held name faults (λ clock. ticks) old new → AreCreated (IsWhole name held files setting ticks) (written setting.plan.sinks) (order_of setting (written setting.plan.sinks)) (outs_of new)
-    all_whole run = record {
+    pub all_whole : (answers : ℕ → List Answer) → HaveRunTicks held name faults (answered setting answers) ticks old new → AreCreated (IsWhole name held files (answered setting answers) ticks) (written setting.plan.sinks) (order_of setting (written setting.plan.sinks)) (outs_of new)
+    all_whole answers run = record {
       size = ready.size;
       below = λ k clock there. subst (λ n. clock < n) (sym (same_many run.size)) (ready.below k clock there);
       each = λ m group there.
@@ -251,83 +263,92 @@ module _ {S : Type 0} (setting : Setting) (ticks : ℕ) (main : LieInMain settin
           let is = at.each m found.0 found.2 in
           let ran = run.each m found.0 found.1 found.2 found.3 in
           let zip = ready.each m found.0.outs.items (mapped (λ (e : ClockEngine S). e.outs.items) old m found.0 found.2) in
-          subst (λ g. AllZip (IsWhole name held files setting ticks) (of_clock m (order_of setting (written setting.plan.sinks)) (written setting.plan.sinks)) g) found.4
-          (zip_from (IsWhole name held files setting ticks) (of_clock m (order_of setting (written setting.plan.sinks)) (written setting.plan.sinks)) found.1.outs.items
+          subst (λ g. AllZip (IsWhole name held files (answered setting answers) ticks) (of_clock m (order_of setting (written setting.plan.sinks)) (written setting.plan.sinks)) g) found.4
+          (zip_from (IsWhole name held files (answered setting answers) ticks) (of_clock m (order_of setting (written setting.plan.sinks)) (written setting.plan.sinks)) found.1.outs.items
           (ran.outs ∙ zip_size (IsReady name held left files setting ticks) (of_clock m (order_of setting (written setting.plan.sinks)) (written setting.plan.sinks)) found.0.outs.items zip)
           (λ j output after mine_at after_at.
           let low = within found.1.outs.items j after after_at in
           let size = ran.outs in
           let before = in_list found.0.outs.items j (omega (arith, low, size)) in
           let told = zip_at (IsReady name held left files setting ticks) (of_clock m (order_of setting (written setting.plan.sinks)) (written setting.plan.sinks)) found.0.outs.items j output before.0 zip mine_at before.1 in
-          let did = whole_at held name faults ticks found.0 found.1 is.works (main_here found.0 is.over) ran j output before.0 after
+          let did = whole_at held name faults ticks found.0 found.1 is.works (main_here found.0 is.over) (answered setting answers) ran j output before.0 after
           (ap (λ ws. slice_get ws j) (mine_is found.0 m is) ∙ mine_at) before.1 after_at in
-          let bytes : held after ≡ grown (ticks_bytes setting output.node ticks) (held before.0) = subst (λ s. held after ≡ grown (ticks_bytes s output.node ticks) (held before.0)) is.over did.1 in
           λ all here. record {
             named = did.0 ∙ (told.told all here).named;
-            holds = bytes ∙ ap (grown (ticks_bytes setting output.node ticks)) (told.told all here).holds;
+            holds = did.1 ∙ ap (grown (ticks_bytes (answered setting answers) output.node ticks)) (told.told all here).holds;
           }));
     }
 
-    pub all_part : HaveRunPart held name faults ticks old new → AreCreated (IsPart name held files setting ticks) (written setting.plan.sinks) (order_of setting (written setting.plan.sinks)) (outs_of new)
-    all_part run = record {
+    pub all_part : (run : Run) (least most : ℕ → ℕ) → ((k : ℕ) → most k ≤ ticks) → HaveRunPart held name faults (setting_then setting run) least most old new → (rest : ℕ → List Answer)
+        → AreCreated (IsPart name held files (setting_then setting run rest) ticks) (written setting.plan.sinks) (order_of setting (written setting.plan.sinks)) (outs_of new)
+    all_part record_of least most few run rest = record {
       size = ready.size;
       below = λ k clock there. subst (λ n. clock < n) (sym (same_many run.size)) (ready.below k clock there);
       each = λ m group there.
+          let world : Setting = setting_then setting record_of rest in
           let found = before_at old new run.size m group there in
           let is = at.each m found.0 found.2 in
           let ran = run.each m found.0 found.1 found.2 found.3 in
           let zip = ready.each m found.0.outs.items (mapped (λ (e : ClockEngine S). e.outs.items) old m found.0 found.2) in
-          subst (λ g. AllZip (IsPart name held files setting ticks) (of_clock m (order_of setting (written setting.plan.sinks)) (written setting.plan.sinks)) g) found.4
-          (zip_from (IsPart name held files setting ticks) (of_clock m (order_of setting (written setting.plan.sinks)) (written setting.plan.sinks)) found.1.outs.items
+          subst (λ g. AllZip (IsPart name held files world ticks) (of_clock m (order_of setting (written setting.plan.sinks)) (written setting.plan.sinks)) g) found.4
+          (zip_from (IsPart name held files world ticks) (of_clock m (order_of setting (written setting.plan.sinks)) (written setting.plan.sinks)) found.1.outs.items
           (ran.outs ∙ zip_size (IsReady name held left files setting ticks) (of_clock m (order_of setting (written setting.plan.sinks)) (written setting.plan.sinks)) found.0.outs.items zip)
           (λ j output after mine_at after_at.
           let low = within found.1.outs.items j after after_at in
           let size = ran.outs in
           let before = in_list found.0.outs.items j (omega (arith, low, size)) in
           let told = zip_at (IsReady name held left files setting ticks) (of_clock m (order_of setting (written setting.plan.sinks)) (written setting.plan.sinks)) found.0.outs.items j output before.0 zip mine_at before.1 in
-          let did = part_at held name faults ticks found.0 found.1 is.works (main_here found.0 is.over) ran j output before.0 after
+          let did = part_at held name faults ticks found.0 found.1 is.works (main_here found.0 is.over) (setting_then setting record_of) (least m) (most m) (few m) ran rest j output before.0 after
           (ap (λ ws. slice_get ws j) (mine_is found.0 m is) ∙ mine_at) before.1 after_at in
-          let front : IsPrefix did.1.0 (ticks_bytes setting output.node ticks) = subst (λ s. IsPrefix did.1.0 (ticks_bytes s output.node ticks)) is.over did.1.1 in
+          let front = did.1.1 in
           λ all here. record {
             named = did.0 ∙ (told.told all here).named;
             part = header_for setting ticks output.node ++ did.1.0;
             holds = did.1.2 ∙ ap (grown did.1.0) (told.told all here).holds;
             front = record {
               rest = front.rest;
-              whole_is = ap (λ b. header_for setting ticks output.node ++ b) front.whole_is ∙ sym (append_assoc (header_for setting ticks output.node) did.1.0 front.rest);
+              whole_is = headed (header_for setting ticks output.node) did.1.0 front.rest (ticks_bytes world output.node ticks) front.whole_is;
             };
           }));
     }
 
 -- after a run the engines stand for its ticks
-pub stand_after : {S : Type 0} (held name : S → Option (List ℕ)) (faults : S → ℕ) (setting : Setting) (ticks : ℕ) (old new : List (ClockEngine S)) → AreAt setting 0 old
-    → HaveRun held name faults (λ clock. ticks) old new → AreAt setting ticks new
-stand_after held name faults setting ticks old new at run = record {
+pub stand_after : {S : Type 0} (held name : S → Option (List ℕ)) (faults : S → ℕ) (setting world : Setting) (ticks : ℕ) (old new : List (ClockEngine S)) → AreAt setting old
+    → HaveRunTicks held name faults world ticks old new → ArePast setting world ticks new
+stand_after held name faults setting world ticks old new at run = record {
   each = λ m after there.
       let low = within new m after there in
       let size = run.size in
       let before = in_list old m (omega (arith, low, size)) in
       let is = at.each m before.0 before.1 in
       let ran = run.each m before.0 after before.1 there in
-      record { works = ran.works; sinks = ran.sinks; over = ran.setting ∙ is.over; clock_is = ran.clock ∙ is.clock_is; stands = ran.stands };
+      record {
+        works = ran.works;
+        over = ran.over ∙ is.over;
+        clock_is = ran.clock ∙ is.clock_is;
+        answers = ran.answers;
+        rest = ran.rest;
+        given = ap (λ s. with_rest s ran.answers ran.rest) (sym is.over) ∙ ran.given;
+        stands = ran.stands;
+      };
 }
 
 -- the sink of a run that broke off has failed
-pub sink_failed : {S : Type 0} (faults : S → ℕ) (old new : List (ClockEngine S)) (end : End) → IsWriteEnd faults old new end → HasFailed faults (outs_of new)
-sink_failed faults old new end is = record {
-  clock = is.clock;
+pub sink_failed : {S : Type 0} (faults : S → ℕ) (clock : ℕ) (old new : List (ClockEngine S)) (end : End) → IsWriteEnd faults clock old new end → HasFailed faults (outs_of new)
+sink_failed faults clock old new end is = record {
+  clock = clock;
   place = is.place;
   group = is.after.outs.items;
   sink = is.rose.after;
-  there = mapped (λ engine. engine.outs.items) new is.clock is.after is.is;
+  there = mapped (λ engine. engine.outs.items) new clock is.after is.is;
   stands = is.rose.is;
   failed = (let rose : Rose (faults is.rose.before) (faults is.rose.after) = is.rose.rose in omega (arith, rose));
 }
 
 -- the engine of an output
-module _ {S : Type 0} (plan : Plan) (clocks : ClockMap) (setting : Setting) (ticks : ℕ) (plan_is : setting.plan ≡ plan) (clocks_is : setting.clocks ≡ clocks.of)
+module _ {S : Type 0} (plan : Plan) (clocks : ClockMap) (setting world : Setting) (ticks : ℕ) (plan_is : setting.plan ≡ plan) (clocks_is : setting.clocks ≡ clocks.of)
     (k : ℕ) (name : List ℕ) (node : ℕ) (fallible : Bool) (at : slice_get plan.sinks k ≡ Some (Output name node fallible)) (clock : ℕ) (lies : slice_get clocks.of node ≡ Some (Main clock))
-    (engine : ClockEngine S) (is : IsAt setting ticks clock engine) where
+    (engine : ClockEngine S) (is : IsPast setting world ticks clock engine) where
   pub output_here : IsOutput (setting_of engine.works) engine.works.clock k node
   output_here =
       subst (λ s. IsOutput s engine.works.clock k node) (sym is.over)
@@ -340,5 +361,6 @@ module _ {S : Type 0} (plan : Plan) (clocks : ClockMap) (setting : Setting) (tic
       }))
 
   pub gaps_here : (count : ℕ) → ((t : ℕ) (answers rest : ℕ → List Answer) (other : ℕ) → EngineStands engine.works t answers
-      → IsOutput (setting_of engine.works) engine.works.clock k other → count ≡ gaps (with_rest (setting_of engine.works) answers rest) other t) → count ≡ gaps setting node ticks
-  gaps_here count told = told ticks nothing nothing node is.stands output_here ∙ ap (λ s. gaps s node ticks) is.over
+      → IsOutput (setting_of engine.works) engine.works.clock k other → count ≡ gaps (with_rest (setting_of engine.works) answers rest) other t) → count ≡ gaps world node ticks
+  gaps_here count told =
+      told ticks is.answers is.rest node is.stands output_here ∙ ap (λ s. gaps (with_rest s is.answers is.rest) node ticks) is.over ∙ ap (λ w. gaps w node ticks) is.given

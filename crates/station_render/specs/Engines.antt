@@ -1,14 +1,11 @@
 -- The engines of all clocks, which hold the sinks of the outputs.
 use Rattle.std.specs.Prelude.{◌≡◌, ◌<◌, ℕ, List, [], ◌∷◌, Some, length, map, slice_get}
-use Rattle.plan_core.specs.declared.plan.Plan.{Plan}
-use Rattle.plan_core.specs.declared.sink.SinkPlan.TheVariants.{Output}
-use Rattle.clock_infer.specs.declared.clock_map.ClockMap.{ClockMap}
-use Rattle.clock_infer.specs.declared.clock_map.NodeClock.TheVariants.{Main}
 use Rattle.stream_meaning.specs.Instants.{Setting}
 use Rattle.clock_engine.specs.declared.engine.ClockEngine.{ClockEngine}
 use Rattle.clock_engine.specs.Engines.{AreWorks, EngineStands, setting_of}
+use Rattle.op_leaf.specs.Readers.{Answer}
+use Rattle.node_states.specs.Ticks.{with_rest}
 use Rattle.rounds_run.specs.Rounds.{nothing}
-use Rattle.station_render.specs.Sinks.{AreAllEmpty}
 
 -- the sinks of each engine
 abbrev pub outs_of : {S : Type 0} → List (ClockEngine S) → List (List S)
@@ -24,14 +21,28 @@ pooled (first ∷ others) (list ∷ lists) = first ∷ pooled others lists
 abbrev pub AreEmptyBelow : {S : Type 0} → (n : ℕ) → List (List S) → Type 0
 AreEmptyBelow n lists = (m : ℕ) (list : List _) → m < n → slice_get lists m ≡ Some list → list ≡ []
 
--- an engine of main clock m stands for so many ticks
-pub record IsAt {S : Type 0} (setting : Setting) (ticks m : ℕ) (engine : ClockEngine S) : Type 0 where
+-- an engine of main clock m, before any tick
+pub record IsAt {S : Type 0} (setting : Setting) (m : ℕ) (engine : ClockEngine S) : Type 0 where
   pub works : AreWorks engine.works
   pub sinks : length engine.outs.items ≡ length engine.works.ports.items
   pub over : setting_of engine.works ≡ setting
   pub clock_is : engine.works.clock ≡ m
-  pub stands : EngineStands engine.works ticks nothing
+  pub stands : EngineStands engine.works 0 nothing
 
--- the engines of all clocks, in clock order, stand for so many ticks
-pub record AreAt {S : Type 0} (setting : Setting) (ticks : ℕ) (engines : List (ClockEngine S)) : Type 0 where
-  pub each : (m : ℕ) (engine : ClockEngine S) → slice_get engines m ≡ Some engine → IsAt setting ticks m engine
+-- the engines of all clocks, in clock order, before any tick
+pub record AreAt {S : Type 0} (setting : Setting) (engines : List (ClockEngine S)) : Type 0 where
+  pub each : (m : ℕ) (engine : ClockEngine S) → slice_get engines m ≡ Some engine → IsAt setting m engine
+
+-- an engine of main clock m has made so many ticks, with answers of buffers that are those of `world`
+pub record IsPast {S : Type 0} (setting world : Setting) (ticks m : ℕ) (engine : ClockEngine S) : Type 0 where
+  pub works : AreWorks engine.works
+  pub over : setting_of engine.works ≡ setting
+  pub clock_is : engine.works.clock ≡ m
+  pub answers : ℕ → List Answer
+  pub rest : ℕ → List Answer
+  pub given : with_rest setting answers rest ≡ world
+  pub stands : EngineStands engine.works ticks answers
+
+-- the engines of all clocks, in clock order, have made so many ticks
+pub record ArePast {S : Type 0} (setting world : Setting) (ticks : ℕ) (engines : List (ClockEngine S)) : Type 0 where
+  pub each : (m : ℕ) (engine : ClockEngine S) → slice_get engines m ≡ Some engine → IsPast setting world ticks m engine

@@ -2,3 +2,4 @@ pub mod Faults
 pub mod Sinks
 pub mod Renders
 pub mod Engines
+pub mod Runs

@@ -1,9 +1,9 @@
 -- What stands behind the outputs of a plan while they are rendered.
-use Rattle.std.specs.Prelude.{◌≡◌, ◌<◌, ℕ, Bool, ◌*◌, List, [], ◌∷◌, ◌++◌, Option, Some, map, length, slice_get}
+use Rattle.std.specs.Prelude.{◌≡◌, ◌<◌, ℕ, Bool, ◌*◌, List, [], ◌∷◌, ◌++◌, Option, Some, map, slice_get}
 use Rattle.std.specs.Option.{ForSome}
 use Rattle.liq_base.specs.Files.{Files}
 use Rattle.liq_base.specs.Kinds.{channels_of}
-use Rattle.liq_base.specs.Pieces.{HasRoom, IsPrefix}
+use Rattle.liq_base.specs.Pieces.{HasRoom}
 use Rattle.plan_core.specs.declared.plan.Plan.{Plan}
 use Rattle.plan_core.specs.declared.sink.SinkPlan.{SinkPlan}
 use Rattle.plan_core.specs.declared.sink.SinkPlan.TheVariants.{Output, Feed}
@@ -11,8 +11,10 @@ use Rattle.clock_infer.specs.declared.clock_map.ClockMap.{ClockMap}
 use Rattle.clock_infer.specs.declared.clock_map.NodeClock.{NodeClock}
 use Rattle.clock_infer.specs.declared.clock_map.NodeClock.TheVariants.{Main, Sub}
 use Rattle.frame_core.specs.Library.{Sounds}
+use Rattle.op_leaf.specs.Readers.{Answer}
 use Rattle.stream_meaning.specs.Instants.{Setting, clock_of}
 use Rattle.stream_meaning.specs.Sinks.{kind_of}
+use Rattle.run_records.specs.Records.{Run, setting_then}
 use Rattle.stations.specs.Outputs.{OutputFile}
 use Rattle.stations.specs.Streams.{header_for, output_bytes}
 use Rattle.station_render.specs.Sinks.{AreCreated, HoldsPart, HoldsWhole, WasAdded}
@@ -41,7 +43,7 @@ order_of setting outputs = map (λ output. main_of (clock_of setting output.node
 abbrev pub file_of : Setting → (ticks : ℕ) → Written → OutputFile
 file_of setting ticks output = record { name = output.name; bytes = output_bytes setting ticks output.node }
 
--- a plan with its files, its clocks and its start second, and no buffers
+-- a plan with its files, its clocks and its start second, before its buffers have answered
 abbrev pub setting_for : Plan → Sounds → ClockMap → (start : ℕ) → Setting
 setting_for plan library clocks start = record { plan = plan; library = library; clocks = clocks.of; start = start; answers = λ buffer. [] }
 
@@ -61,12 +63,12 @@ IsWhole name held files setting ticks output sink = ForSome files (λ all. Holds
 abbrev pub IsPart : {S : Type 0} → (S → Option (List ℕ)) → (S → Option (List ℕ)) → Option Files → Setting → (ticks : ℕ) → Written → S → Type 0
 IsPart name held files setting ticks output sink = ForSome files (λ all. HoldsPart name held (file_of setting ticks output) sink)
 
--- the first outputs of a plan were created, and each sink holds a first part of its bytes
-pub record AreBegun {S : Type 0} (name held : S → Option (List ℕ)) (files : Option Files) (setting : Setting) (ticks : ℕ) (order : List ℕ) (groups : List (List S)) : Type 0 where
+-- the first outputs of a plan were created, and each sink holds a first part of its bytes in a run, whatever answers follow
+pub record AreBegun {S : Type 0} (name held : S → Option (List ℕ)) (files : Option Files) (setting : Setting) (run : Run) (ticks : ℕ) (order : List ℕ) (groups : List (List S)) : Type 0 where
   pub created : List Written
   pub others : List Written
   pub all : written setting.plan.sinks ≡ created ++ others
-  pub parts : AreCreated (IsPart name held files setting ticks) created order groups
+  pub parts : (rest : ℕ → List Answer) → AreCreated (IsPart name held files (setting_then setting run rest) ticks) created order groups
 
 -- a sink of this clock was created, and holds these bytes; it has room for so many more
 pub record WasCreated {S : Type 0} (name held : S → Option (List ℕ)) (left : S → Option ℕ) (files : Option Files) (clock : ℕ) (title bytes : List ℕ) (body : ℕ)

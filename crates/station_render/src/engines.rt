@@ -3,18 +3,20 @@ ghost use Rattle.std.specs.Prelude.{◌≡◌, ◌<◌, ◌≤◌, ◌^◌, [], 
 ghost use Rattle.std.specs.List.{slice_set};
 ghost use Rattle.liq_base.specs.Files.{Files};
 ghost use Rattle.liq_base.specs.Pieces.{HasRoom};
-ghost use Rattle.buffer_ends.specs.declared.run_end.End.TheVariants.{Done};
+ghost use Rattle.buffer_ends.specs.declared.run_end.End.TheVariants.{Done, Write as WriteEnd};
 ghost use Rattle.clock_engine.specs.Engines.{outputs_of};
 ghost use Rattle.stream_meaning.specs.Instants.{Setting};
 ghost use Rattle.stations.specs.Findings.{IsFit};
+ghost use Rattle.stations.specs.Stations.{station_of};
 ghost use Rattle.stations.specs.Streams.{counts_in};
 ghost use Rattle.station_render.specs.Sinks.{AreCreated, HasFailed, lists_of};
-ghost use Rattle.station_render.specs.Engines.{AreAt, AreEmptyBelow, IsAt, outs_of, pooled};
-ghost use Rattle.station_render.specs.Renders.{AreMain, IsPart, IsReady, IsWhole, body_size, order_of, setting_for, written};
+ghost use Rattle.station_render.specs.Engines.{AreAt, AreEmptyBelow, ArePast, IsAt, outs_of, pooled};
+ghost use Rattle.station_render.specs.Renders.{AreMain, IsReady, body_size, order_of, setting_for, written};
+ghost use Rattle.station_render.specs.Runs.{RanPart, RanWhole};
 
-use crate::RenderFault;
 use crate::headers::clock_of;
-use buffer_ends::End;
+use crate::{RenderFault, Rendered};
+use buffer_ends::{End, RunEnd};
 use clock_engine::ClockEngine;
 use clock_infer::ClockMap;
 use fixed_text::WeekSecond;
@@ -25,7 +27,8 @@ use stations::Ready;
 use std::alloc::{AllocError, Global};
 use std::mem;
 
-/// Renders so many ticks into the sinks of all clocks, and answers the gaps of the outputs, in sink order.
+/// Renders so many ticks into the sinks of all clocks, and answers the gaps of the outputs, in sink order, and the counts of
+/// the buffers.
 pub(crate) fn run_all<O: Sink>(
     alloc: Global,
     plan: &Plan,
@@ -33,25 +36,24 @@ pub(crate) fn run_all<O: Sink>(
     start: WeekSecond,
     ticks: u64,
     groups: &mut Vec<Vec<O>>,
-) -> Result<Vec<u64>, RenderFault>
+) -> Result<Rendered, RenderFault>
     requires fit { IsFit plan.now ready.now.library ready.now.clocks ticks }
     requires size { length (lists_of groups.old.items) ≡ ready.now.clocks.running }
     requires rooms { AreCreated (λ output sink. HasRoom (O.room sink) (body_size (setting_for plan.now ready.now.library ready.now.clocks start.second) ticks output.node))
         (written plan.now.sinks) (order_of (setting_for plan.now ready.now.library ready.now.clocks start.second) (written plan.now.sinks)) (lists_of groups.old.items) }
-    ensures whole { OnOk result ((files : Option Files) → AreCreated (IsReady O.name O.held O.room files (setting_for plan.now ready.now.library ready.now.clocks start.second) ticks)
+    ensures done { IfOk result (λ rendered. (files : Option Files) → AreCreated (IsReady O.name O.held O.room files (setting_for plan.now ready.now.library ready.now.clocks start.second) ticks)
         (written plan.now.sinks) (order_of (setting_for plan.now ready.now.library ready.now.clocks start.second) (written plan.now.sinks)) (lists_of groups.old.items)
-        → AreCreated (IsWhole O.name O.held files (setting_for plan.now ready.now.library ready.now.clocks start.second) ticks)
-        (written plan.now.sinks) (order_of (setting_for plan.now ready.now.library ready.now.clocks start.second) (written plan.now.sinks)) (lists_of groups.new.items)) }
-    ensures gaps { IfOk result (λ gaps. gaps.items ≡ counts_in (setting_for plan.now ready.now.library ready.now.clocks start.second) ticks plan.now.sinks) }
-    ensures part { OnErr result ((files : Option Files) → AreCreated (IsReady O.name O.held O.room files (setting_for plan.now ready.now.library ready.now.clocks start.second) ticks)
+        → RanWhole O.name O.held files (station_of plan.now ready.now start.second ticks)
+        (order_of (setting_for plan.now ready.now.library ready.now.clocks start.second) (written plan.now.sinks)) (lists_of groups.new.items) rendered) }
+    ensures part { (files : Option Files) → AreCreated (IsReady O.name O.held O.room files (setting_for plan.now ready.now.library ready.now.clocks start.second) ticks)
         (written plan.now.sinks) (order_of (setting_for plan.now ready.now.library ready.now.clocks start.second) (written plan.now.sinks)) (lists_of groups.old.items)
-        → AreCreated (IsPart O.name O.held files (setting_for plan.now ready.now.library ready.now.clocks start.second) ticks)
-        (written plan.now.sinks) (order_of (setting_for plan.now ready.now.library ready.now.clocks start.second) (written plan.now.sinks)) (lists_of groups.new.items)) }
+        → RanPart O.name O.held files (station_of plan.now ready.now start.second ticks)
+        (order_of (setting_for plan.now ready.now.library ready.now.clocks start.second) (written plan.now.sinks)) (lists_of groups.new.items) }
     ensures cause { IsErrOf result RenderFault.Write → HasFailed O.faults (lists_of groups.new.items) }
 {
     let mut engines = make_engines(alloc, plan, ready, start, groups)?;
-    let end = run_rounds(alloc, plan, &mut engines, ticks).end;
-    let told = tell(alloc, plan, &ready.clocks, &engines, end);
+    let run = run_rounds(alloc, plan, &mut engines, ticks);
+    let told = tell(alloc, plan, &ready.clocks, &engines, run);
     give_back(engines, groups);
     told
 }
@@ -87,7 +89,7 @@ fn make_engine<'a, O: Sink>(
     requires few { clock < 2 ^ 32 }
     requires sinks { (group : List O) → slice_get (lists_of groups.old.items) clock ≡ Some group
         → length group ≡ length (outputs_of (setting_for plan.now ready.now.library ready.now.clocks start.second) clock) }
-    ensures made { IfOk result (IsAt (setting_for plan.now ready.now.library ready.now.clocks start.second) 0 clock) }
+    ensures made { IfOk result (IsAt (setting_for plan.now ready.now.library ready.now.clocks start.second) clock) }
     ensures outs { IfOk result (λ engine. slice_get (lists_of groups.old.items) clock ≡ Some engine.outs.items) }
     ensures taken { OnOk result (lists_of groups.new.items ≡ slice_set (lists_of groups.old.items) clock []) }
     ensures back { OnErr result (lists_of groups.new.items ≡ lists_of groups.old.items) }
@@ -135,7 +137,7 @@ fn make_engines<'a, O: Sink>(
     requires few { length (lists_of groups.old.items) < 2 ^ 32 }
     requires sinks { (clock : ℕ) (group : List O) → slice_get (lists_of groups.old.items) clock ≡ Some group
         → length group ≡ length (outputs_of (setting_for plan.now ready.now.library ready.now.clocks start.second) clock) }
-    ensures made { IfOk result (λ engines. AreAt (setting_for plan.now ready.now.library ready.now.clocks start.second) 0 engines.items) }
+    ensures made { IfOk result (λ engines. AreAt (setting_for plan.now ready.now.library ready.now.clocks start.second) engines.items) }
     ensures outs { IfOk result (λ engines. outs_of engines.items ≡ lists_of groups.old.items) }
     ensures taken { IfOk result (λ engines. AreEmptyBelow (length engines.items) (lists_of groups.new.items)) }
     ensures size { OnOk result (length (lists_of groups.new.items) ≡ length (lists_of groups.old.items)) }
@@ -164,9 +166,9 @@ fn gaps_of<O: Sink>(
     requires main { AreMain plan.now clocks.now }
     requires size { length engines.now ≡ clocks.now.running }
     requires few { length plan.now.sinks < 2 ^ 32 }
-    requires stand { (setting : Setting) × (ticks : ℕ) × (setting.plan ≡ plan.now) × (setting.clocks ≡ clocks.now.of) × AreAt setting ticks engines.now }
-    ensures { IfOk result (λ gaps. (setting : Setting) (ticks : ℕ) → setting.plan ≡ plan.now → setting.clocks ≡ clocks.now.of → AreAt setting ticks engines.now
-        → gaps.items ≡ counts_in setting ticks plan.now.sinks) }
+    requires stand { (setting : Setting) × (world : Setting) × (ticks : ℕ) × (setting.plan ≡ plan.now) × (setting.clocks ≡ clocks.now.of) × ArePast setting world ticks engines.now }
+    ensures { IfOk result (λ gaps. (setting world : Setting) (ticks : ℕ) → setting.plan ≡ plan.now → setting.clocks ≡ clocks.now.of → ArePast setting world ticks engines.now
+        → gaps.items ≡ counts_in world ticks plan.now.sinks) }
 {
     let sinks = plan.sinks.as_slice();
     let mut gaps = Vec::with_capacity(alloc, sinks.len())?;
@@ -180,25 +182,31 @@ fn gaps_of<O: Sink>(
     Ok(gaps)
 }
 
-// What a run that ended so answers: the gaps of the outputs, in sink order.
+// What is told of a run that ended so.
 fn tell<O: Sink>(
     alloc: Global,
     plan: &Plan,
     clocks: &ClockMap,
     engines: &[ClockEngine<'_, O>],
-    end: End,
-) -> Result<Vec<u64>, RenderFault>
+    run: RunEnd,
+) -> Result<Rendered, RenderFault>
     requires main { AreMain plan.now clocks.now }
     requires size { length engines.now ≡ clocks.now.running }
     requires few { length plan.now.sinks < 2 ^ 32 }
-    requires stand { end ≡ Done → (setting : Setting) × (ticks : ℕ) × (setting.plan ≡ plan.now) × (setting.clocks ≡ clocks.now.of) × AreAt setting ticks engines.now }
-    ensures done { OnOk result (end ≡ Done) }
-    ensures gaps { IfOk result (λ gaps. (setting : Setting) (ticks : ℕ) → setting.plan ≡ plan.now → setting.clocks ≡ clocks.now.of → AreAt setting ticks engines.now
-        → gaps.items ≡ counts_in setting ticks plan.now.sinks) }
-    ensures write { IsErrOf result RenderFault.Write → end ≡ Done → ⊥ }
+    requires stand { run.end ≡ Done → (setting : Setting) × (world : Setting) × (ticks : ℕ) × (setting.plan ≡ plan.now) × (setting.clocks ≡ clocks.now.of) × ArePast setting world ticks engines.now }
+    ensures done { OnOk result (run.end ≡ Done) }
+    ensures gaps { IfOk result (λ rendered. (setting world : Setting) (ticks : ℕ) → setting.plan ≡ plan.now → setting.clocks ≡ clocks.now.of → ArePast setting world ticks engines.now
+        → rendered.gaps.items ≡ counts_in world ticks plan.now.sinks) }
+    ensures counts { IfOk result (λ rendered. rendered.counts.items ≡ run.counts.items) }
+    ensures write { IsErrOf result RenderFault.Write → (clock : ℕ) × (sink : ℕ) × (run.end ≡ WriteEnd clock sink) }
 {
+    let RunEnd { counts, logs, end } = run;
+    drop(logs);
     match end {
-        End::Done => Ok(gaps_of(alloc, plan, clocks, engines)?),
+        End::Done => {
+            let gaps = gaps_of(alloc, plan, clocks, engines)?;
+            Ok(Rendered { gaps, counts })
+        }
         End::Write { .. } => Err(RenderFault::Write),
         End::Memory => Err(RenderFault::Memory),
     }

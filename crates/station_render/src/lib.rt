@@ -7,10 +7,12 @@ mod create;
 mod engines;
 mod fault;
 mod headers;
+mod rendered;
 mod rendering;
 mod reports;
 mod sinks;
 
 pub use fault::RenderFault;
+pub use rendered::Rendered;
 pub use rendering::render;
 pub use reports::report;

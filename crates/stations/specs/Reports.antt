@@ -68,12 +68,14 @@ checked_lines clocks mark (Feed buffer node ∷ sinks) = checked_lines clocks ma
 
 -- the line of a buffer that was checked: the main clocks in which its feed and its reader lie, through sub-clocks, the samples that
 -- it gathers before it plays, and the chunks that it may hold
+abbrev pub joining_line : (buffer : ℕ) (from to : List ℕ) → BufferPlan → List ℕ
+joining_line buffer from to plan =
+    codes "buffer " ++ decimal buffer ++ codes " from " ++ from ++ codes " to " ++ to
+    ++ codes " pre " ++ decimal plan.pre ++ codes " capacity " ++ decimal plan.capacity ++ codes "\n"
+
 abbrev pub buffer_line : Station → (buffer : ℕ) → BufferPlan → List ℕ
 buffer_line station buffer plan =
-    codes "buffer " ++ decimal buffer
-    ++ codes " from " ++ slice_index_or station.clocks.names (feeder (bare station) buffer) []
-    ++ codes " to " ++ slice_index_or station.clocks.names (reader (bare station) buffer) []
-    ++ codes " pre " ++ decimal plan.pre ++ codes " capacity " ++ decimal plan.capacity ++ codes "\n"
+    joining_line buffer (slice_index_or station.clocks.names (feeder (bare station) buffer) []) (slice_index_or station.clocks.names (reader (bare station) buffer) []) plan
 
 abbrev pub buffer_lines : Station → (buffer : ℕ) → List BufferPlan → List ℕ
 buffer_lines station buffer [] = []

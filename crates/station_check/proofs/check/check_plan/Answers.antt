@@ -1,10 +1,6 @@
 use Rattle.std.proofs.lemmas.Result.{err_from_is_err_and}
 use Rattle.station_check.proofs.Ending.{load_ends, rest_ends}
-use Rattle.station_check.proofs.Findings.{found_form}
 use Rattle.station_check.proofs.check.check_plan.Goals as goal
-
-pub returns-then-reads_buffer-clause-fault : goal.returns-then-reads_buffer-clause-fault
-returns-then-reads_buffer-clause-fault g c = λ files told. found_form files c.args.plan.now c.args.ticks (c.reads_buffer.ensures.some c.if-reads_buffer.true)
 
 pub returns-in_err-library-clause-fault : goal.returns-in_err-library-clause-fault
 returns-in_err-library-clause-fault g c =
@@ -23,7 +19,6 @@ returns-clause-found g c = λ files told.
 pub returns-clause-fit : goal.returns-clause-fit
 returns-clause-fit g c = record {
   plan_is = c.requires.plan;
-  readers = c.reads_buffer.ensures.none c.if-reads_buffer.false;
   sounds = c.in_ok-library.ensures.library;
   leaves = c.in_ok-library.ensures.leaves;
   map = c.in_ok-clocks.ensures.map;

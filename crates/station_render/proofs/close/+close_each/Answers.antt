@@ -1,10 +1,8 @@
-use Rattle.std.proofs.Common.{rules, arith, ◌≡◌, ◌∷◌, [], ◌+◌, ◌∙◌, length, ap, sym, subst, refl, inl, inr}
-use Rattle.std.specs.Prelude.{Some}
+use Rattle.std.proofs.Common.{rules, arith, ◌≡◌, ◌∷◌, length, inl, inr}
 use Rattle.liq_base.specs.Kept.{rose_within}
-use Rattle.stations.specs.Outputs.{with_outputs, HoldsParts}
-use Rattle.station_render.specs.Sinks.{HoldsWhole, HoldsPart, lists_of}
-use Rattle.station_render.proofs.Lists.{no_items, on_ok}
-use Rattle.station_render.proofs.Closing.{all_empty, failed_left, has_first, no_outputs, none_failed, part_then, sizes_left, whole_then}
+use Rattle.station_render.specs.Sinks.{lists_of}
+use Rattle.station_render.proofs.Lists.{on_ok}
+use Rattle.station_render.proofs.Closing.{all_empty, failed_left, has_first, none_failed, part_then, sizes_left, whole_then}
 use Rattle.station_render.proofs.close.+close_each.Goals as goal
 
 pub end_all-requires : goal.end_all-requires

@@ -1,4 +1,4 @@
-use Rattle.std.proofs.Common.{◌≡◌, ◌∙◌, length, ap, subst}
+use Rattle.std.proofs.Common.{◌∙◌, length, ap, subst}
 use Rattle.station_render.specs.Sinks.{AreAllEmpty, lists_of}
 use Rattle.station_render.proofs.Lists.{last_empty, front_empty, popped}
 use Rattle.station_render.proofs.close.end_all.Goals as goal

@@ -4,9 +4,6 @@ use Rattle.station_render.proofs.Lists.{set_here}
 use Rattle.station_render.proofs.Pooling.{put_again}
 use Rattle.station_render.proofs.engines.make_engine.Goals as goal
 
-pub new-requires-clause-readers : goal.new-requires-clause-readers
-new-requires-clause-readers g c = record { readers = c.requires.fit.1.readers }
-
 pub put_back-requires : goal.put_back-requires
 put_back-requires g c =
     ap (λ gs. slice_get gs c.args.clock) c.take_out-outs.ensures.left ∙ set_here (lists_of c.args.groups.now.items) c.args.clock [] c.requires.below

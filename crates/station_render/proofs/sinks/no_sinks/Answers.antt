@@ -1,4 +1,4 @@
-use Rattle.std.proofs.Common.{rules, ◌≡◌, ◌∷◌, ◌++◌, [], ◌+◌, ◌∙◌, vec_len, ◌≤◌, vec_capacity, arith}
+use Rattle.std.proofs.Common.{rules, ◌≡◌, ◌∷◌, ◌++◌, [], ◌+◌, vec_len, arith}
 use Rattle.station_render.proofs.Lists.{one_more}
 use Rattle.station_render.proofs.sinks.no_sinks.Goals as goal
 

@@ -1,4 +1,4 @@
-use Rattle.std.proofs.Common.{◌≡◌, ◌≤◌, ◌-◌, ◌+◌, vec_len, vec_capacity}
+use Rattle.std.proofs.Common.{◌≡◌, ◌≤◌, vec_len, vec_capacity}
 use Rattle.station_render.specs.Sinks.{AreEmpty, lists_of}
 use Rattle.station_render.proofs.sinks.no_sinks.Given as goal
 

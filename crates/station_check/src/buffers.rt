@@ -1,0 +1,79 @@
+// The lines of buffers in the report of a check.
+ghost use Rattle.std.specs.Prelude.{◌≡◌, ◌++◌, [], length, OnOk, slice_index_or, string_bytes};
+ghost use Rattle.plan_core.specs.Plans.{IsWellFormed};
+ghost use Rattle.run_records.specs.Buffers.{main_of};
+ghost use Rattle.stations.specs.Reports.{buffer_lines, joining_line};
+ghost use Rattle.stations.specs.Stations.{Station, bare};
+ghost use Rattle.station_check.specs.Ends.{AreFeeders, AreReaders, IsOf};
+
+use crate::ends::{feeders, main_of, readers};
+use crate::report::main_name;
+use clock_infer::{ClockMap, NodeClock};
+use liq_base::Memory;
+use plan_core::{BufferPlan, Plan};
+use std::alloc::Global;
+use std::fmt::Write;
+
+/// Adds the lines of a plan's buffers, in order.
+pub fn push_buffers(
+    alloc: Global,
+    text: &mut String,
+    plan: &Plan,
+    clocks: &ClockMap,
+) -> Result<(), Memory>
+    requires { IsWellFormed plan.now }
+    ensures { OnOk result ((station : Station) → IsOf plan.now clocks.now station
+        → string_bytes text.new ≡ string_bytes text.old ++ buffer_lines station 0 plan.now.buffers) }
+{
+    let fed = feeders(alloc, plan)?;
+    let read = readers(alloc, plan)?;
+    push_lines(text, plan, clocks, &fed, &read)
+}
+
+// Adds the lines, where these nodes feed the buffers and those read them.
+fn push_lines(
+    text: &mut String,
+    plan: &Plan,
+    clocks: &ClockMap,
+    fed: &[u32],
+    read: &[u32],
+) -> Result<(), Memory>
+    requires many_fed { length fed.now ≡ length plan.now.buffers }
+    requires many_read { length read.now ≡ length plan.now.buffers }
+    requires fed { AreFeeders plan.now.sinks fed.now }
+    requires read { AreReaders plan.now 0 plan.now.nodes read.now }
+    ensures { OnOk result ((station : Station) → IsOf plan.now clocks.now station
+        → string_bytes text.new ≡ string_bytes text.old ++ buffer_lines station 0 plan.now.buffers) }
+{
+    let buffers = plan.buffers.as_slice();
+    let mut number = 0;
+    while number < buffers.len() {
+        let from = clock_name(plan, clocks, fed[number]);
+        let to = clock_name(plan, clocks, read[number]);
+        push_line(text, number, from, to, &buffers[number])?;
+        number += 1;
+    }
+    Ok(())
+}
+
+// The name of the main clock in which a node lies, through its sub-clocks.
+fn clock_name<'a>(plan: &Plan, clocks: &'a ClockMap, node: u32) -> &'a str
+    ensures { (station : Station) → IsOf plan.now clocks.now station → result.now ≡ slice_index_or clocks.now.names (main_of (bare station) node) [] }
+{
+    main_name(clocks, NodeClock::Main(main_of(plan, clocks, node)))
+}
+
+// Adds the line of a buffer, with the main clocks of its ends.
+fn push_line(
+    text: &mut String,
+    number: usize,
+    from: &str,
+    to: &str,
+    plan: &BufferPlan,
+) -> Result<(), Memory>
+    ensures { OnOk result (string_bytes text.new ≡ string_bytes text.old ++ joining_line number from.now to.now plan.now) }
+{
+    write!(text, "buffer {number} from {from} to {to}")?;
+    write!(text, " pre {} capacity {}\n", plan.pre, plan.capacity)?;
+    Ok(())
+}
