@@ -1,5 +1,5 @@
 -- Taps with new ends stand for what their lists stand for.
-use Rattle.std.proofs.Common.{◌≡◌, ℕ, ◌<◌, ◌==◌, Bool, true, false, List, [], ◌∷◌, ◌++◌, length, map, sym, refl, ap, ◌∙◌, subst, arith, slice_index_or, ◌⊎◌, ⊎_elim, inl, inr, eqb, Option, Some, None, if◌then◌else◌, append-nil}
+use Rattle.std.proofs.Common.{◌≡◌, ℕ, ◌<◌, ◌==◌, Bool, true, false, List, [], ◌∷◌, ◌++◌, length, map, sym, refl, ap, ◌∙◌, subst, arith, slice_index_or, ⊎_elim, inr, eqb, Option, Some, None, if◌then◌else◌, append-nil}
 use Rattle.std.proofs.lemmas.List.{append_assoc}
 use Rattle.std.proofs.lemmas.Bool.Decides.{eqb_tells}
 use Rattle.buffer_ends.proofs.Steps.{if_true, some_side}
@@ -9,7 +9,7 @@ use Rattle.frame_core.specs.Calls.Call.{Took, Given}
 use Rattle.buffer_queue.specs.Window.{is_chunk}
 use Rattle.buffer_ends.specs.Local.{LocalBuffer, Held, held, all_answers, no_answers, on, Step, Leads, Answers}
 use Rattle.buffer_ends.specs.Sides.{Side}
-use Rattle.buffer_ends.specs.Ends.{AreNew, EndsStand, LocalStands, Has, Reach, ListsKept}
+use Rattle.buffer_ends.specs.Ends.{AreNew, EndsStand, LocalStands, Has, Reach}
 
 -- the answers of a list behind these calls on it
 pub record Answered (b : ℕ) (calls : List Call) (q r : Held) : Type 0 where

@@ -1,15 +1,14 @@
 -- Behind a border between two windows the taps stand for the calls that reached the lists.
-use Rattle.std.proofs.Common.{◌≡◌, ℕ, ◌<◌, ◌==◌, List, [], ◌∷◌, length, sym, subst, ap, ◌∙◌, slice_index_or, ⊎_elim, Option}
+use Rattle.std.proofs.Common.{◌≡◌, ℕ, ◌<◌, ◌==◌, List, [], ◌∷◌, length, sym, subst, ap, ◌∙◌, slice_index_or, ⊎_elim}
 use Rattle.std.proofs.lemmas.Bool.Decides.{eqb_tells}
 use Rattle.std.proofs.lemmas.List.{get_or_default}
-use Rattle.frame_core.specs.declared.cell.Cell.{Cell}
 use Rattle.frame_core.specs.Calls.{Call, takes_of, puts_to, put_of}
 use Rattle.frame_core.specs.Calls.Call.{Took, Given}
 use Rattle.buffer_ends.specs.Local.{LocalBuffer}
 use Rattle.buffer_ends.specs.Sides.{Side}
 use Rattle.buffer_ends.specs.Ends.{EndsStand, Has, HaveNoAnswers, Reach}
 use Rattle.buffer_ends.proofs.Beginnings.{all_reach}
-use Rattle.buffer_ends.proofs.Steps.{if_false, some_side}
+use Rattle.buffer_ends.proofs.Steps.{if_false}
 
 reach_puts : (P T : ℕ → Type 0) (calls kept : List Call) → Reach P T calls kept → (b : ℕ) → P b → puts_to b kept ≡ []
 reach_puts P T [] kept r b h = ap (puts_to b) r

@@ -1,5 +1,5 @@
 -- A call on an end comes at the end of each list for which the taps stood.
-use Rattle.std.proofs.Common.{◌≡◌, ◌≢◌, ◌⊎◌, ℕ, ◌<◌, ◌==◌, eqb, Bool, true, false, List, [], ◌∷◌, ◌++◌, length, get_or, set, sym, refl, ap, ◌∙◌, subst, arith, slice_index_or, Option, Some, None, ⊎_elim, inl, inr, if◌then◌else◌, Result, Ok, Err, IfErr, OnErr, get_or-set_same, get_or-set_other, length-set, append-nil}
+use Rattle.std.proofs.Common.{◌≡◌, ◌≢◌, ℕ, ◌<◌, ◌==◌, eqb, Bool, true, false, List, [], ◌∷◌, ◌++◌, length, get_or, set, sym, refl, ap, ◌∙◌, subst, arith, slice_index_or, Option, Some, None, ⊎_elim, inl, inr, if◌then◌else◌, Result, Ok, Err, IfErr, OnErr, get_or-set_same, get_or-set_other, length-set, append-nil}
 use Rattle.std.proofs.lemmas.Bool.Decides.{eqb_tells}
 use Rattle.std.proofs.lemmas.List.{get_or_default}
 use Rattle.frame_core.specs.Calls.{Call, takes_of, puts_to, put_of, IsGive}
@@ -9,7 +9,7 @@ use Rattle.frame_core.specs.declared.chunk.Gave.TheVariants.{Accepted, Full}
 use Rattle.frame_core.specs.declared.cell.Cell.{Cell}
 use Rattle.buffer_ends.specs.Local.{LocalBuffer}
 use Rattle.buffer_ends.specs.Sides.{Side, Apart, PutsSide, TakesSide, SameSide, SameSides}
-use Rattle.buffer_ends.specs.Ends.{ListsStand, LocalStands, ListsKept, Reach, PutsStand, TakesStand, EndsStand, Has}
+use Rattle.buffer_ends.specs.Ends.{ListsKept, Reach, PutsStand, TakesStand, EndsStand, Has}
 use Rattle.buffer_ends.proofs.Steps.{if_true, if_false, list_took, list_gave, some_side, TakesOf, GivesTo}
 
 puts_to-append : (b : ℕ) (cs ds : List Call) → puts_to b (cs ++ ds) ≡ puts_to b cs ++ puts_to b ds

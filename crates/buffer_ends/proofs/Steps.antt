@@ -64,10 +64,6 @@ lists_step E lists calls k l c is room step stand b d h away =
     (rw (on_else b calls c (λ e. t.1 (e ∙ is))) (stand b d (omega (arith, length-set lists k l)) away)))
     (eqb_tells b k)
 
--- a call elsewhere
-pub lists_other : (E : ℕ → Type 0) (lists : List LocalBuffer) (calls : List Call) (c : Call) → E (buffer_of c) → ListsStand E lists calls → ListsStand E lists (calls ++ c ∷ [])
-lists_other E lists calls c away stand b d h n = rw (on_else b calls c (λ e. n (subst E (sym e) away))) (stand b d h n)
-
 pub ok_map : {T E : Type 0} {P Q : T → Type 0} (r : Result T E) → ((x : T) → P x → Q x) → IfOk r P → IfOk r Q
 ok_map (Ok x) f p = f x p
 ok_map (Err e) f p = p

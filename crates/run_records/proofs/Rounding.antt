@@ -8,7 +8,7 @@ use Rattle.op_leaf.specs.Readers.{Answer}
 use Rattle.stream_meaning.specs.Instants.{Setting, answered}
 use Rattle.stream_meaning.specs.Calls.{joined_upto}
 use Rattle.stream_meaning.specs.Settings.{IsSetting}
-use Rattle.run_records.specs.Records.{Window, Run, windows_of, setting_in, capacity_of, on, Follows, ticks_of, rounds_of, IsRounds, answers_of}
+use Rattle.run_records.specs.Records.{Run, setting_in, capacity_of, on, Follows, ticks_of, rounds_of, IsRounds, answers_of}
 use Rattle.stream_laws.specs.Parting.{Differ, ArePart, Goes}
 use Rattle.stream_laws.specs.Alike.{IsTickAlike}
 use Rattle.stream_laws.proofs.Parting.{goes_equal, goes_each}

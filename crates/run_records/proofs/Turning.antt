@@ -1,5 +1,5 @@
 -- Rounds told by turns: turn j is tick j / M of clock j % M.
-use Rattle.std.proofs.Common.{◌≡◌, ◌<◌, ◌∙◌, ◌+◌, ◌*◌, ◌/◌, ◌%◌, ◌++◌, ℕ, zero, suc, Bool, List, [], ap, sym, arith, suc-mul, mod-eq_of_lt, append_assoc, append-nil}
+use Rattle.std.proofs.Common.{◌≡◌, ◌<◌, ◌∙◌, ◌+◌, ◌*◌, ◌/◌, ◌%◌, ◌++◌, ℕ, zero, suc, Bool, List, ap, sym, arith, suc-mul, mod-eq_of_lt, append_assoc, append-nil}
 use native.Mathlib.Nat.{add-mul-mod_self_right, add-mul-div_right, div-eq_of_lt, add_comm}
 use Rattle.frame_core.specs.Calls.{Call}
 use Rattle.stream_meaning.specs.Instants.{Setting}
