@@ -1,0 +1,5 @@
+pub mod Quotients
+pub mod Moves
+pub mod Laws
+pub mod Rounds
+pub mod Rows

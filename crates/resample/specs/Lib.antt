@@ -1,0 +1,2 @@
+pub mod Resampled
+pub mod Places

@@ -1,0 +1,48 @@
+// A file at another rate.
+ghost use Rattle.std.specs.Prelude.{◌≡◌, ◌<◌, ◌≤◌, ◌*◌, ℕ, length};
+ghost use Rattle.liq_base.specs.Kinds.{channels_of};
+ghost use Rattle.resample.specs.Resampled.{AreRates, IsFile, LiesBetween, blocks_of, length_at, resampled, sample_before, sample_behind, side_at};
+
+use crate::midway::between;
+use crate::place::{Place, moved, step_of};
+use liq_base::Kind;
+
+/// How many samples each channel of a file has at another rate: at least 1. The file has `count`, from 1 to 134217728.
+/// Rates are in samples a second, and `to` is from 8000 to 192000.
+pub fn length(count: u64, from: u32, to: u32) -> u64
+    requires some { 1 ≤ count }
+    requires most { count ≤ 134217728 }
+    requires rates { AreRates from to }
+    ensures length { result ≡ length_at count from to }
+    ensures some { 1 ≤ result }
+    ensures unchanged { from ≡ to → result ≡ count }
+{
+    let length = count * u64::from(to) / u64::from(from);
+    length.max(1)
+}
+
+/// Writes a file at another rate. The file has whole blocks, from 1 to 134217728 of them, with the left sample before
+/// the right one where it is stereo; so has what is written, which has room for as many blocks as `length` says.
+pub fn fill(from: u32, to: u32, kind: Kind, samples: &[i16], into: &mut [i16])
+    requires rates { AreRates from to }
+    requires file { IsFile kind samples.now }
+    requires room { length into.old ≡ length_at (blocks_of kind samples.now) from to * channels_of kind }
+    ensures filled { into.new ≡ resampled from to kind samples.now }
+    ensures between { (j side : ℕ) → j < length_at (blocks_of kind samples.now) from to → side < channels_of kind →
+        LiesBetween (sample_before from to kind samples.now j side) (sample_behind from to kind samples.now j side) (side_at kind into.new j side) }
+    ensures unchanged { from ≡ to → into.new ≡ samples.now }
+{
+    let channels = usize::from(kind.channels());
+    let last = samples.len() / channels - 1;
+    let step = step_of(from, to);
+    let mut place = Place { block: 0, part: 0 };
+    for block in 0..into.len() / channels {
+        let next = last.min(place.block + 1);
+        for side in 0..channels {
+            let before = samples[place.block * channels + side];
+            let behind = samples[next * channels + side];
+            into[block * channels + side] = between(before, behind, place.part, to);
+        }
+        place = moved(place, step, to);
+    }
+}
