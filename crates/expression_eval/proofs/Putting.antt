@@ -141,10 +141,11 @@ pub kept_on : {X : Type 0} (made : Value → X) (old now : Place) (before after 
 kept_on made (Ok v) now before after m first is keeps = ap (λ (o : Outcome). (o >>= λ x. Ok (made x.0, x.1)) >>= with_last before) is ∙ ap (λ (l : List _). Ok (l, m)) (sym keeps)
 kept_on made (Err e) now before after m first fault nothing = absurd nothing
 
-pub kept_off : {X B : Type 0} (made : Value → X) (old now : Place) (before after : List X) (m : Machine) (first : Outcome) (f : Value × Machine → Result B Fault) → Gives (λ v. (view_value v, m)) old first → Keeps made old false before after now
-    → Failed now (first >>= f)
-kept_off made (Ok v) now before after m first f is keeps = subst (λ (p : Place). Failed p (first >>= f)) (sym keeps) tt
-kept_off made (Err e) now before after m first f fault keeps = subst (λ (p : Place). Failed p (first >>= f)) (sym keeps) (fails_on e first f fault)
+pub kept_off : {X : Type 0} (made : Value → X) (old now : Place) (before after : List X) (m : Machine) (first : Outcome) → Gives (λ v. (view_value v, m)) old first → Keeps made old false before after now
+    → Failed now ((first >>= λ x. Ok (made x.0, x.1)) >>= with_last before)
+kept_off made (Ok v) now before after m first is keeps = subst (λ (p : Place). Failed p ((first >>= λ x. Ok (made x.0, x.1)) >>= with_last before)) (sym keeps) tt
+kept_off made (Err e) now before after m first fault keeps =
+    subst (λ (p : Place). Failed p ((first >>= λ x. Ok (made x.0, x.1)) >>= with_last before)) (sym keeps) (fails_on e (first >>= λ x. Ok (made x.0, x.1)) (with_last before) (fails_on e first (λ x. Ok (made x.0, x.1)) fault))
 
 pub plain_last : (r : Outcome) (before : List Value) → (r >>= with_last before) ≡ ((r >>= λ x. Ok (x.0, x.1)) >>= with_last before)
 plain_last (Ok x) before = refl

@@ -559,7 +559,10 @@ fn applied(
 {
     match scope.uses.find(at) {
         None => put(out, Err(Fault::Stuck)),
-        Some(found) => put(out, applied_to(alloc, scope, left, machine, found, at, given)),
+        Some(found) => put(
+            out,
+            applied_to(alloc, scope, left, machine, found, at, given),
+        ),
     }
 }
 

@@ -31,7 +31,7 @@ use Rattle.script_values.specs.Views.{view_given, view_slot}
 use Rattle.expression_eval.specs.declared.steps.Operator.TheVariants as operator
 use Rattle.expression_eval.proofs.Joins.{plus_means, times_means}
 use Rattle.expression_eval.proofs.Loops.{turn, stops, ends, fails_on}
-use Rattle.expression_eval.proofs.Productions.{expr_means, conj_means, sum_means, product_means, call_means, ors_steps, ands_steps, addeds_steps, multiplieds_steps, fulls_steps, arguments_steps, inners_steps, parameters_steps, with_last, with_slot, from_both, went, slot_went, ors_none, ands_none, addeds_none, multiplieds_none, fulls_none, arguments_none, inners_none, parameters_none, first_fails, pair_means, as_list, not_means, plain_means, alone_means, compared_means, argued_means, call_counted, choice_counted, paren_counted, tuple_counted, list_counted, calls_end, calls_turn}
+use Rattle.expression_eval.proofs.Productions.{expr_means, conj_means, sum_means, product_means, call_means, ors_steps, ands_steps, addeds_steps, multiplieds_steps, fulls_steps, arguments_steps, inners_steps, parameters_steps, with_last, with_slot, from_both, went, slot_went, ors_none, ands_none, addeds_none, multiplieds_none, fulls_none, arguments_none, inners_none, parameters_none, first_fails, pair_means, as_list, as_tuple, not_means, plain_means, alone_means, compared_means, argued_means, call_counted, choice_counted, paren_counted, tuple_counted, list_counted, calls_end, calls_turn}
 use Rattle.expression_eval.proofs.Putting.{behind_gives, choice_fails, choice_goes, compare_stops, failed_gives, failed_means, failed_on, failed_same, failed_stops, full_same, gives_same, goes_means, goes_same, joins_goes, kept_off, kept_on, left_ends, left_starts, left_stops, left_turns, made_gives, plain_last}
 use Rattle.expression_eval.proofs.Singles.{full_lone}
 use Rattle.expression_eval.proofs.descent.+value.Goals as goal
@@ -113,11 +113,11 @@ pub times-returns : goal.times-returns
 times-returns t c =
     goes_same c.args.out.now c.operate.new.out c.operate.new.machine _ _ (λ v. times_means (scope_of c.args.scope.now) c.args.part.now v c.args.machine.now) (joins_goes (operator.Product c.args.part.now.divide c.args.part.now.at) c.args.out.now c.operate.new.out c.prim.new.out c.prim.new.machine c.operate.new.machine (meaning.prim (scope_of c.args.scope.now) (view_prim c.args.part.now.prim) c.args.machine.now) c.prim.ensures c.operate.ensures)
 
-pub nega-returns-then-node-negated : goal.nega-returns-then-node-negated
-nega-returns-then-node-negated t c = goes_means c.compare.new.out c.negate.new.out c.compare.new.machine c.negate.new.machine _ (meaning.compare (scope_of c.args.scope.now) (view_compare (not_.out-Not c.args.node.now).inner) c.args.machine.now) (λ x. after_count (opposite x.0) x.1) (not_means (scope_of c.args.scope.now) c.args.node.now c.args.machine.now c.if-node-negated.true) c.compare.ensures c.negate.ensures
+pub nega-returns-then-node : goal.nega-returns-then-node
+nega-returns-then-node t c = goes_means c.compare.new.out c.negate.new.out c.compare.new.machine c.negate.new.machine _ (meaning.compare (scope_of c.args.scope.now) (view_compare (not_.out-Not c.args.node.now).inner) c.args.machine.now) (λ x. after_count (opposite x.0) x.1) (not_means (scope_of c.args.scope.now) c.args.node.now c.args.machine.now c.if-node.true) c.compare.ensures c.negate.ensures
 
-pub nega-returns-else-node-negated : goal.nega-returns-else-node-negated
-nega-returns-else-node-negated t c = gives_same c.compare.new.out c.compare.new.machine _ _ (plain_means (scope_of c.args.scope.now) c.args.node.now c.args.machine.now c.if-node-negated.false) c.compare.ensures
+pub nega-returns-else-node : goal.nega-returns-else-node
+nega-returns-else-node t c = gives_same c.compare.new.out c.compare.new.machine _ _ (plain_means (scope_of c.args.scope.now) c.args.node.now c.args.machine.now c.if-node.false) c.compare.ensures
 
 pub compare-returns-in-None : goal.compare-returns-in-None
 compare-returns-in-None t c = gives_same c.sum.new.out c.sum.new.machine _ _ (alone_means (scope_of c.args.scope.now) c.args.node.now c.args.machine.now c.in-None.is) c.sum.ensures
@@ -128,47 +128,47 @@ compare-returns-in-Some t c = goes_means c.sum.new.out c.compare_with.new.out c.
 pub compare-returns-then-is_err : goal.compare-returns-then-is_err
 compare-returns-then-is_err t c = compare_stops (scope_of c.args.scope.now) c.args.node.now c.args.machine.now c.sum.new.out c.sum.new.machine c.sum.ensures (sym c.if-is_err.ensures.value)
 
-pub prim-returns-in-Call-then-step : goal.prim-returns-in-Call-then-step
-prim-returns-in-Call-then-step t c = behind_gives c.put_call.new.out c.put_call.new.machine _ (count 1 c.args.machine.now) (meaning.call (scope_of c.args.scope.now) (view_call c.in-Call.inside)) c.step.new.machine (call_counted (scope_of c.args.scope.now) c.args.node.now c.in-Call.inside c.args.machine.now c.in-Call.is) c.if-step.ensures c.put_call.ensures
+pub prim-returns-then-step : goal.prim-returns-then-step
+prim-returns-then-step t c = behind_gives c.put_call.new.out c.put_call.new.machine _ (count 1 c.args.machine.now) (meaning.call (scope_of c.args.scope.now) (view_call c.in-Call.inside)) c.step.new.machine (call_counted (scope_of c.args.scope.now) c.args.node.now c.in-Call.inside c.args.machine.now c.in-Call.is) c.if-step.ensures c.put_call.ensures
 
-pub prim-returns-in-Call-else-step : goal.prim-returns-in-Call-else-step
-prim-returns-in-Call-else-step t c = failed_means c.step.new.out c.step.new.machine _ (count 1 c.args.machine.now) (meaning.call (scope_of c.args.scope.now) (view_call c.in-Call.inside)) (call_counted (scope_of c.args.scope.now) c.args.node.now c.in-Call.inside c.args.machine.now c.in-Call.is) c.if-step.ensures
+pub prim-returns-else-step : goal.prim-returns-else-step
+prim-returns-else-step t c = failed_means c.step.new.out c.step.new.machine _ (count 1 c.args.machine.now) (meaning.call (scope_of c.args.scope.now) (view_call c.in-Call.inside)) (call_counted (scope_of c.args.scope.now) c.args.node.now c.in-Call.inside c.args.machine.now c.in-Call.is) c.if-step.ensures
 
-pub prim-returns-in-If-then-step : goal.prim-returns-in-If-then-step
-prim-returns-in-If-then-step t c = behind_gives c.put_choice.new.out c.put_choice.new.machine _ (count 1 c.args.machine.now) (meaning.choice (scope_of c.args.scope.now) (view_if c.in-If.inside)) c.step-in-If.new.machine (choice_counted (scope_of c.args.scope.now) c.args.node.now c.in-If.inside c.args.machine.now c.in-If.is) c.if-step-in-If.ensures c.put_choice.ensures
+pub prim-returns-then-step-2 : goal.prim-returns-then-step-2
+prim-returns-then-step-2 t c = behind_gives c.put_choice.new.out c.put_choice.new.machine _ (count 1 c.args.machine.now) (meaning.choice (scope_of c.args.scope.now) (view_if c.in-If.inside)) c.step-in-If.new.machine (choice_counted (scope_of c.args.scope.now) c.args.node.now c.in-If.inside c.args.machine.now c.in-If.is) c.if-step-2.ensures c.put_choice.ensures
 
-pub prim-returns-in-If-else-step : goal.prim-returns-in-If-else-step
-prim-returns-in-If-else-step t c = failed_means c.step-in-If.new.out c.step-in-If.new.machine _ (count 1 c.args.machine.now) (meaning.choice (scope_of c.args.scope.now) (view_if c.in-If.inside)) (choice_counted (scope_of c.args.scope.now) c.args.node.now c.in-If.inside c.args.machine.now c.in-If.is) c.if-step-in-If.ensures
+pub prim-returns-else-step-2 : goal.prim-returns-else-step-2
+prim-returns-else-step-2 t c = failed_means c.step-in-If.new.out c.step-in-If.new.machine _ (count 1 c.args.machine.now) (meaning.choice (scope_of c.args.scope.now) (view_if c.in-If.inside)) (choice_counted (scope_of c.args.scope.now) c.args.node.now c.in-If.inside c.args.machine.now c.in-If.is) c.if-step-2.ensures
 
-pub prim-returns-in-Paren-then-step : goal.prim-returns-in-Paren-then-step
-prim-returns-in-Paren-then-step t c = behind_gives c.put_full.new.out c.put_full.new.machine _ (count 1 c.args.machine.now) (meaning.full (scope_of c.args.scope.now) (view_full c.in-Paren.inside.value)) c.step-in-Paren.new.machine (paren_counted (scope_of c.args.scope.now) c.args.node.now c.in-Paren.inside c.args.machine.now c.in-Paren.is) c.if-step-in-Paren.ensures (full_same (scope_of c.args.scope.now) c.deref.result.now c.in-Paren.inside.value c.put_full.new.out c.step-in-Paren.new.machine c.put_full.new.machine c.deref.ensures c.put_full.ensures)
+pub prim-returns-then-step-3 : goal.prim-returns-then-step-3
+prim-returns-then-step-3 t c = behind_gives c.put_full.new.out c.put_full.new.machine _ (count 1 c.args.machine.now) (meaning.full (scope_of c.args.scope.now) (view_full c.in-Paren.inside.value)) c.step-in-Paren.new.machine (paren_counted (scope_of c.args.scope.now) c.args.node.now c.in-Paren.inside c.args.machine.now c.in-Paren.is) c.if-step-3.ensures (full_same (scope_of c.args.scope.now) c.deref.result.now c.in-Paren.inside.value c.put_full.new.out c.step-in-Paren.new.machine c.put_full.new.machine c.deref.ensures c.put_full.ensures)
 
-pub prim-returns-in-Paren-else-step : goal.prim-returns-in-Paren-else-step
-prim-returns-in-Paren-else-step t c = failed_means c.step-in-Paren.new.out c.step-in-Paren.new.machine _ (count 1 c.args.machine.now) (meaning.full (scope_of c.args.scope.now) (view_full c.in-Paren.inside.value)) (paren_counted (scope_of c.args.scope.now) c.args.node.now c.in-Paren.inside c.args.machine.now c.in-Paren.is) c.if-step-in-Paren.ensures
+pub prim-returns-else-step-3 : goal.prim-returns-else-step-3
+prim-returns-else-step-3 t c = failed_means c.step-in-Paren.new.out c.step-in-Paren.new.machine _ (count 1 c.args.machine.now) (meaning.full (scope_of c.args.scope.now) (view_full c.in-Paren.inside.value)) (paren_counted (scope_of c.args.scope.now) c.args.node.now c.in-Paren.inside c.args.machine.now c.in-Paren.is) c.if-step-3.ensures
 
-pub prim-returns-in-Tuple-then-step : goal.prim-returns-in-Tuple-then-step
-prim-returns-in-Tuple-then-step t c = behind_gives c.grouped.new.out c.grouped.new.machine _ (count 1 c.args.machine.now) (meaning.grouped (scope_of c.args.scope.now) (listed (map view_full c.deref-in-Tuple.result.now))) c.step-in-Tuple.new.machine (tuple_counted (scope_of c.args.scope.now) c.args.node.now c.in-Tuple.at c.in-Tuple.parts c.deref-in-Tuple.result.now c.args.machine.now c.in-Tuple.is c.deref-in-Tuple.ensures.value) c.if-step-in-Tuple.ensures c.grouped.ensures
+pub prim-returns-then-step-4 : goal.prim-returns-then-step-4
+prim-returns-then-step-4 t c = behind_gives c.grouped.new.out c.grouped.new.machine _ (count 1 c.args.machine.now) (meaning.grouped (scope_of c.args.scope.now) (listed (map view_full c.deref-then-step-4.result.now))) c.step-in-Tuple.new.machine (tuple_counted (scope_of c.args.scope.now) c.args.node.now c.in-Tuple.at c.in-Tuple.parts c.deref-then-step-4.result.now c.args.machine.now c.in-Tuple.is c.deref-then-step-4.ensures.value) c.if-step-4.ensures c.grouped.ensures
 
-pub prim-returns-in-Tuple-else-step : goal.prim-returns-in-Tuple-else-step
-prim-returns-in-Tuple-else-step t c = failed_means c.step-in-Tuple.new.out c.step-in-Tuple.new.machine _ (count 1 c.args.machine.now) (meaning.grouped (scope_of c.args.scope.now) (listed (map view_full c.deref-in-Tuple.result.now))) (tuple_counted (scope_of c.args.scope.now) c.args.node.now c.in-Tuple.at c.in-Tuple.parts c.deref-in-Tuple.result.now c.args.machine.now c.in-Tuple.is c.deref-in-Tuple.ensures.value) c.if-step-in-Tuple.ensures
+pub prim-returns-else-step-4 : goal.prim-returns-else-step-4
+prim-returns-else-step-4 t c = failed_means c.step-in-Tuple.new.out c.step-in-Tuple.new.machine _ (count 1 c.args.machine.now) (meaning.grouped (scope_of c.args.scope.now) (listed (map view_full c.in-Tuple.parts.items))) (tuple_counted (scope_of c.args.scope.now) c.args.node.now c.in-Tuple.at c.in-Tuple.parts c.in-Tuple.parts.items c.args.machine.now c.in-Tuple.is refl) c.if-step-4.ensures
 
-pub prim-returns-in-List-then-step : goal.prim-returns-in-List-then-step
-prim-returns-in-List-then-step t c = behind_gives c.list.new.out c.list.new.machine _ (count 1 c.args.machine.now) (meaning.all_of (scope_of c.args.scope.now) (listed (map view_full c.deref-in-List.result.now))) c.step-in-List.new.machine (list_counted (scope_of c.args.scope.now) c.args.node.now c.in-List.at c.in-List.parts c.deref-in-List.result.now c.args.machine.now c.in-List.is c.deref-in-List.ensures.value) c.if-step-in-List.ensures c.list.ensures
+pub prim-returns-then-step-5 : goal.prim-returns-then-step-5
+prim-returns-then-step-5 t c = behind_gives c.list.new.out c.list.new.machine _ (count 1 c.args.machine.now) (meaning.all_of (scope_of c.args.scope.now) (listed (map view_full c.deref-then-step-5.result.now))) c.step-in-List.new.machine (list_counted (scope_of c.args.scope.now) c.args.node.now c.in-List.at c.in-List.parts c.deref-then-step-5.result.now c.args.machine.now c.in-List.is c.deref-then-step-5.ensures.value) c.if-step-5.ensures c.list.ensures
 
-pub prim-returns-in-List-else-step : goal.prim-returns-in-List-else-step
-prim-returns-in-List-else-step t c = failed_means c.step-in-List.new.out c.step-in-List.new.machine _ (count 1 c.args.machine.now) (meaning.all_of (scope_of c.args.scope.now) (listed (map view_full c.deref-in-List.result.now))) (list_counted (scope_of c.args.scope.now) c.args.node.now c.in-List.at c.in-List.parts c.deref-in-List.result.now c.args.machine.now c.in-List.is c.deref-in-List.ensures.value) c.if-step-in-List.ensures
+pub prim-returns-else-step-5 : goal.prim-returns-else-step-5
+prim-returns-else-step-5 t c = failed_means c.step-in-List.new.out c.step-in-List.new.machine _ (count 1 c.args.machine.now) (meaning.all_of (scope_of c.args.scope.now) (listed (map view_full c.in-List.parts.items))) (list_counted (scope_of c.args.scope.now) c.args.node.now c.in-List.at c.in-List.parts c.in-List.parts.items c.args.machine.now c.in-List.is refl) c.if-step-5.ensures
 
 pub put_choice-returns-in-None : goal.put_choice-returns-in-None
 put_choice-returns-in-None t c = choice_fails (scope_of c.args.scope.now) c.args.node.now c.deref.result.now c.put_full.new.out c.truth.new.out c.args.machine.now c.put_full.new.machine c.deref.ensures c.put_full.ensures c.in-None.ensures
 
 pub put_choice-returns-in-Some-true : goal.put_choice-returns-in-Some-true
 put_choice-returns-in-Some-true t c =
-    choice_goes (scope_of c.args.scope.now) c.args.node.now true c.deref.result.now c.put_full.new.out c.truth.new.out c.put_full-in-Some-true.new.out c.args.machine.now c.put_full.new.machine c.put_full-in-Some-true.new.machine c.deref.ensures c.put_full.ensures (rw c.in-Some-true.field-0-is at c.in-Some-true.ensures)
+    choice_goes (scope_of c.args.scope.now) c.args.node.now true c.deref.result.now c.put_full.new.out c.truth.new.out c.put_full-in-Some-true.new.out c.args.machine.now c.put_full.new.machine c.put_full-in-Some-true.new.machine c.deref.ensures c.put_full.ensures (rw c.in-Some-true.field-0-test at c.in-Some-true.ensures)
     (full_same (scope_of c.args.scope.now) c.deref-in-Some-true.result.now c.args.node.now.then_part.value c.put_full-in-Some-true.new.out c.put_full.new.machine c.put_full-in-Some-true.new.machine c.deref-in-Some-true.ensures c.put_full-in-Some-true.ensures)
 
 pub put_choice-returns-in-Some-false : goal.put_choice-returns-in-Some-false
 put_choice-returns-in-Some-false t c =
-    choice_goes (scope_of c.args.scope.now) c.args.node.now false c.deref.result.now c.put_full.new.out c.truth.new.out c.put_full-in-Some-false.new.out c.args.machine.now c.put_full.new.machine c.put_full-in-Some-false.new.machine c.deref.ensures c.put_full.ensures (rw c.in-Some-false.field-0-is at c.in-Some-false.ensures)
+    choice_goes (scope_of c.args.scope.now) c.args.node.now false c.deref.result.now c.put_full.new.out c.truth.new.out c.put_full-in-Some-false.new.out c.args.machine.now c.put_full.new.machine c.put_full-in-Some-false.new.machine c.deref.ensures c.put_full.ensures (rw c.in-Some-false.field-0-test at c.in-Some-false.ensures)
     (full_same (scope_of c.args.scope.now) c.deref-in-Some-false.result.now c.args.node.now.else_part.value c.put_full-in-Some-false.new.out c.put_full.new.machine c.put_full-in-Some-false.new.machine c.deref-in-Some-false.ensures c.put_full-in-Some-false.ensures)
 
 pub put_call-returns-in-None : goal.put_call-returns-in-None
@@ -193,7 +193,7 @@ pub fulls-turns-preserved : goal.fulls-turns-preserved
 fulls-turns-preserved t c = turn view_full (fulls_steps (scope_of c.args.scope.now)) c.args.parts.now c.turns.part-index c.part-item.result (map view_value c.turns.values.items) (map view_value c.kept_value.new.values.items) c.turns.machine c.put_full.new.machine (meaning.fulls (scope_of c.args.scope.now) (listed (map view_full c.args.parts.now)) [] c.args.machine.now) c.turns.invariant c.turns-test.true c.part-item.is (plain_last (meaning.full (scope_of c.args.scope.now) (view_full c.part-item.result) c.turns.machine) (map view_value c.turns.values.items) ∙ kept_on (λ v. v) c.put_full.new.out c.kept_value.new.out (map view_value c.turns.values.items) (map view_value c.kept_value.new.values.items) c.put_full.new.machine (meaning.full (scope_of c.args.scope.now) (view_full c.part-item.result) c.turns.machine) c.put_full.ensures (rw c.if-not-kept_value.false at c.kept_value.ensures))
 
 pub fulls-returns-then-not-kept_value : goal.fulls-returns-then-not-kept_value
-fulls-returns-then-not-kept_value t c = failed_stops view_full (fulls_steps (scope_of c.args.scope.now)) c.args.parts.now c.turns.part-index c.part-item.result (map view_value c.turns.values.items) c.turns.machine (meaning.fulls (scope_of c.args.scope.now) (listed (map view_full c.args.parts.now)) [] c.args.machine.now) c.kept_value.new.out c.turns.invariant c.turns-test.true c.part-item.is (failed_same c.kept_value.new.out _ _ (sym (plain_last (meaning.full (scope_of c.args.scope.now) (view_full c.part-item.result) c.turns.machine) (map view_value c.turns.values.items))) (failed_on c.kept_value.new.out _ (with_last (map view_value c.turns.values.items)) (kept_off (λ v. v) c.put_full.new.out c.kept_value.new.out (map view_value c.turns.values.items) (map view_value c.kept_value.new.values.items) c.put_full.new.machine (meaning.full (scope_of c.args.scope.now) (view_full c.part-item.result) c.turns.machine) (λ x. Ok ((λ v. v) x.0, x.1)) c.put_full.ensures (rw c.if-not-kept_value.true at c.kept_value.ensures))))
+fulls-returns-then-not-kept_value t c = failed_stops view_full (fulls_steps (scope_of c.args.scope.now)) c.args.parts.now c.turns.part-index c.part-item.result (map view_value c.turns.values.items) c.turns.machine (meaning.fulls (scope_of c.args.scope.now) (listed (map view_full c.args.parts.now)) [] c.args.machine.now) c.kept_value.new.out c.turns.invariant c.turns-test.true c.part-item.is (failed_same c.kept_value.new.out _ _ (sym (plain_last (meaning.full (scope_of c.args.scope.now) (view_full c.part-item.result) c.turns.machine) (map view_value c.turns.values.items))) (kept_off (λ v. v) c.put_full.new.out c.kept_value.new.out (map view_value c.turns.values.items) (map view_value c.kept_value.new.values.items) c.put_full.new.machine (meaning.full (scope_of c.args.scope.now) (view_full c.part-item.result) c.turns.machine) c.put_full.ensures (rw c.if-not-kept_value.true at c.kept_value.ensures)))
 
 pub fulls-returns : goal.fulls-returns
 fulls-returns t c = ends view_full (meaning.fulls (scope_of c.args.scope.now)) c.args.parts.now c.turns.part-index (map view_value c.turns.values.items) c.turns.machine (meaning.fulls (scope_of c.args.scope.now) (listed (map view_full c.args.parts.now)) [] c.args.machine.now) c.turns.invariant c.turns-test.false ∙ fulls_none (scope_of c.args.scope.now) (map view_value c.turns.values.items) c.turns.machine
@@ -202,7 +202,7 @@ pub arguments-turns-preserved : goal.arguments-turns-preserved
 arguments-turns-preserved t c = turn view_arg (arguments_steps (scope_of c.args.scope.now)) c.args.args.now c.turns.arg-index c.arg-item.result (map view_given c.turns.given.items) (map view_given c.kept_argument.new.given.items) c.turns.machine c.put_full.new.machine (meaning.arguments (scope_of c.args.scope.now) (listed (map view_arg c.args.args.now)) [] c.args.machine.now) c.turns.invariant c.turns-test.true c.arg-item.is (ap (λ (o : Result (Given × Machine) Fault). o >>= with_last (map view_given c.turns.given.items)) (argued_means (scope_of c.args.scope.now) c.arg-item.result c.turns.machine) ∙ kept_on (λ v. (c.arg-item.result.label, v)) c.put_full.new.out c.kept_argument.new.out (map view_given c.turns.given.items) (map view_given c.kept_argument.new.given.items) c.put_full.new.machine (meaning.full (scope_of c.args.scope.now) (view_full c.arg-item.result.value) c.turns.machine) c.put_full.ensures (rw c.if-not-kept_argument.false at c.kept_argument.ensures))
 
 pub arguments-returns-then-not-kept_argument : goal.arguments-returns-then-not-kept_argument
-arguments-returns-then-not-kept_argument t c = failed_stops view_arg (arguments_steps (scope_of c.args.scope.now)) c.args.args.now c.turns.arg-index c.arg-item.result (map view_given c.turns.given.items) c.turns.machine (meaning.arguments (scope_of c.args.scope.now) (listed (map view_arg c.args.args.now)) [] c.args.machine.now) c.kept_argument.new.out c.turns.invariant c.turns-test.true c.arg-item.is (failed_same c.kept_argument.new.out _ _ (sym (ap (λ (o : Result (Given × Machine) Fault). o >>= with_last (map view_given c.turns.given.items)) (argued_means (scope_of c.args.scope.now) c.arg-item.result c.turns.machine))) (failed_on c.kept_argument.new.out _ (with_last (map view_given c.turns.given.items)) (kept_off (λ v. (c.arg-item.result.label, v)) c.put_full.new.out c.kept_argument.new.out (map view_given c.turns.given.items) (map view_given c.kept_argument.new.given.items) c.put_full.new.machine (meaning.full (scope_of c.args.scope.now) (view_full c.arg-item.result.value) c.turns.machine) (λ x. Ok ((λ v. (c.arg-item.result.label, v)) x.0, x.1)) c.put_full.ensures (rw c.if-not-kept_argument.true at c.kept_argument.ensures))))
+arguments-returns-then-not-kept_argument t c = failed_stops view_arg (arguments_steps (scope_of c.args.scope.now)) c.args.args.now c.turns.arg-index c.arg-item.result (map view_given c.turns.given.items) c.turns.machine (meaning.arguments (scope_of c.args.scope.now) (listed (map view_arg c.args.args.now)) [] c.args.machine.now) c.kept_argument.new.out c.turns.invariant c.turns-test.true c.arg-item.is (failed_same c.kept_argument.new.out _ _ (sym (ap (λ (o : Result (Given × Machine) Fault). o >>= with_last (map view_given c.turns.given.items)) (argued_means (scope_of c.args.scope.now) c.arg-item.result c.turns.machine))) (kept_off (λ v. (c.arg-item.result.label, v)) c.put_full.new.out c.kept_argument.new.out (map view_given c.turns.given.items) (map view_given c.kept_argument.new.given.items) c.put_full.new.machine (meaning.full (scope_of c.args.scope.now) (view_full c.arg-item.result.value) c.turns.machine) c.put_full.ensures (rw c.if-not-kept_argument.true at c.kept_argument.ensures)))
 
 pub arguments-returns : goal.arguments-returns
 arguments-returns t c = ends view_arg (meaning.arguments (scope_of c.args.scope.now)) c.args.args.now c.turns.arg-index (map view_given c.turns.given.items) c.turns.machine (meaning.arguments (scope_of c.args.scope.now) (listed (map view_arg c.args.args.now)) [] c.args.machine.now) c.turns.invariant c.turns-test.false ∙ arguments_none (scope_of c.args.scope.now) (map view_given c.turns.given.items) c.turns.machine
