@@ -1,11 +1,11 @@
 -- What each production of the program's tree means.
-use Rattle.std.proofs.Common.{◌≡◌, ℕ, zero, suc, ◌+◌, ◌≤◌, arith, length, List, [], ◌∷◌, ◌++◌, Result, Ok, Err, refl, sym, ap, ◌∙◌}
+use Rattle.std.proofs.Common.{◌≡◌, Bool, true, false, Option, Some, None, ℕ, zero, suc, ◌+◌, ◌≤◌, arith, length, List, [], ◌∷◌, ◌++◌, Result, Ok, Err, refl, sym, ap, ◌∙◌}
 use Rattle.std.proofs.lemmas.List.{map_push}
 use Rattle.std.specs.Prelude.{map}
 use Rattle.liq_base.specs.declared.memory.Kind.{Kind}
-use Rattle.std.specs.Global.{Vec}
-use Rattle.script_grammar.specs.Tree.{Tree, Many, none, more, AFull, AnExpr, AnAnd, ASum, AProduct, ACall, AParam}
-use Rattle.script_grammar.specs.View.{listed, tuple_of, view_expr, view_and, view_not, view_sum, view_added, view_product, view_multiplied, view_prim, view_full, view_call, view_arg}
+use Rattle.std.specs.Global.{Box, Vec}
+use Rattle.script_grammar.specs.Tree.{Tree, Many, none, more, AFull, AnExpr, AnAnd, ANot, ACompare, ASum, AProduct, APrim, ACall, AParam, Listed, Not}
+use Rattle.script_grammar.specs.View.{listed, tuple_of, view_expr, view_and, view_not, view_sum, view_added, view_product, view_multiplied, view_prim, view_full, view_call, view_arg, view_compare, view_if}
 use Rattle.script_grammar.specs.declared.tree.Full.{Full}
 use Rattle.script_grammar.specs.declared.tree.Expr as expr
 use Rattle.script_grammar.specs.declared.tree.And as and_
@@ -15,9 +15,12 @@ use Rattle.script_grammar.specs.declared.tree.Product as product
 use Rattle.script_grammar.specs.declared.tree.Operand as prim
 use Rattle.script_grammar.specs.declared.tree.Call as call
 use Rattle.script_grammar.specs.declared.tree.Arg as arg
+use Rattle.script_grammar.specs.declared.tree.Compare as compare
+use Rattle.script_grammar.specs.declared.tree.Compared as compared
+use Rattle.script_grammar.specs.declared.tree.If.{If}
 use Rattle.script_grammar.specs.declared.tree.Added as added
 use Rattle.script_grammar.specs.declared.tree.Multiplied as multiplied
-use Rattle.script_grammar.proofs.Rows.{expr_seen, and_seen, sum_seen, product_seen, call_seen, fulls_listed}
+use Rattle.script_grammar.proofs.Rows.{expr_seen, and_seen, sum_seen, product_seen, call_seen, fulls_listed, compare_alone, compare_seen, list_made, not_seen}
 use Rattle.typing_rules.specs.Defs.{def_at}
 use Rattle.typing_rules.specs.Uses.{use_at}
 use Rattle.script_values.specs.Outcomes.{◌>>=◌, Outcome}
@@ -30,11 +33,12 @@ use Rattle.script_values.specs.declared.slots.Slot as program
 use Rattle.script_values.specs.Values as value
 use Rattle.script_values.specs.Values.{Value, many}
 use Rattle.script_values.specs.Views.{view_slot}
-use Rattle.script_values.specs.Numbers.{either, both}
+use Rattle.script_values.specs.Numbers.{either, both, compared as numbers_compared, opposite, truth_of}
 use Rattle.script_values.specs.Machines.{count}
 use Rattle.script_values.specs.Slots.{Given, Slot}
 use Rattle.eval_meaning.specs.Meaning as meaning
 use Rattle.eval_meaning.specs.Meaning.{Scope, full, conj, nega, joined}
+use Rattle.expression_eval.specs.Steps.{after_count}
 use Rattle.expression_eval.proofs.Loops.{Steps, fails_on, fails_same}
 
 pub expr_means : (s : Scope) (e : expr.Expr) (l : List and_.And) (m : Machine) → l ≡ (expr.out-Expr e).rest.items → meaning.expr s (view_expr e) m ≡ (meaning.conj s (view_and (expr.out-Expr e).first) m >>= λ x. meaning.ors s (listed (map view_and l)) x.0 x.1)
@@ -178,6 +182,9 @@ two_then (Err e) b k f = refl
 abbrev pub as_tuple : List Value × Machine → Outcome
 as_tuple z = Ok (value.Tuple (many z.0), z.1)
 
+abbrev pub as_list : List Value × Machine → Outcome
+as_list z = Ok (value.Listed (many z.0), z.1)
+
 -- a bracket of the program, whatever it holds
 pub grouped_means : (s : Scope) (at : ℕ) (ts : Tree (Many AFull)) (m : Machine) → meaning.prim s (tuple_of at ts) m ≡ (count 1 m >>= meaning.grouped s ts)
 unfolding meaning.prim meaning.fulls
@@ -194,6 +201,72 @@ pair_means s (f ∷ g ∷ rest) m two = refl
 
 pub tuple_view : (at : ℕ) (v : Vec Full) → view_prim (prim.Tuple at v) ≡ tuple_of at (listed (map view_full v.items))
 tuple_view at v = ap (tuple_of at) (fulls_listed v)
+
+-- ---- productions of one part
+
+pub not_means : (s : Scope) (e : not_.Not) (m : Machine) → (not_.out-Not e).negated ≡ true → meaning.nega s (view_not e) m ≡ (meaning.compare s (view_compare (not_.out-Not e).inner) m >>= λ x. after_count (opposite x.0) x.1)
+unfolding meaning.nega
+not_means s e m is = ap (λ (t : Tree ANot). meaning.nega s t m) (not_seen e) ∙ ap (λ (b : Bool). meaning.nega s (Not b (view_compare (not_.out-Not e).inner)) m) is
+
+pub plain_means : (s : Scope) (e : not_.Not) (m : Machine) → (not_.out-Not e).negated ≡ false → meaning.nega s (view_not e) m ≡ meaning.compare s (view_compare (not_.out-Not e).inner) m
+unfolding meaning.nega
+plain_means s e m is = ap (λ (t : Tree ANot). meaning.nega s t m) (not_seen e) ∙ ap (λ (b : Bool). meaning.nega s (Not b (view_compare (not_.out-Not e).inner)) m) is
+
+pub alone_means : (s : Scope) (e : compare.Compare) (m : Machine) → (compare.out-Compare e).right ≡ None → meaning.compare s (view_compare e) m ≡ meaning.sum s (view_sum (compare.out-Compare e).left) m
+unfolding meaning.compare
+alone_means s e m is = ap (λ (t : Tree ACompare). meaning.compare s t m) (compare_alone e is)
+
+pub compared_means : (s : Scope) (e : compare.Compare) (r : compared.Compared) (m : Machine) → (compare.out-Compare e).right ≡ Some r
+    → meaning.compare s (view_compare e) m ≡ (meaning.sum s (view_sum (compare.out-Compare e).left) m >>= λ x. joined (numbers_compared (compared.out-Compared r).op) x.0 (meaning.sum s (view_sum (compared.out-Compared r).sum) x.1))
+unfolding meaning.compare
+compared_means s e r m is = ap (λ (t : Tree ACompare). meaning.compare s t m) (compare_seen e r is)
+
+-- what a choice is behind its condition
+abbrev pub chosen : Scope → If → Bool → Machine → Outcome
+chosen s i true n = meaning.full s (view_full i.then_part.value) n
+chosen s i false n = meaning.full s (view_full i.else_part.value) n
+
+branch : (s : Scope) (i : If) (n : Machine) (b : Bool) → ◌≡◌ {A = Outcome} (elim b [ true ↦ meaning.full s (view_full i.then_part.value) n | false ↦ meaning.full s (view_full i.else_part.value) n ]) (chosen s i b n)
+branch s i n true = refl
+branch s i n false = refl
+
+pub choice_means : (s : Scope) (i : If) (m : Machine) → meaning.choice s (view_if i) m ≡ (meaning.full s (view_full i.condition.value) m >>= λ x. truth_of x.0 >>= λ b. chosen s i b x.1)
+unfolding meaning.choice
+choice_means s i m =
+    same_after (meaning.full s (view_full i.condition.value) m) (λ x. truth_of x.0 >>= λ b. elim b [ true ↦ meaning.full s (view_full i.then_part.value) x.1 | false ↦ meaning.full s (view_full i.else_part.value) x.1 ]) (λ x. truth_of x.0 >>= λ b. chosen s i b x.1)
+    (λ x. same_after (truth_of x.0) (λ b. elim b [ true ↦ meaning.full s (view_full i.then_part.value) x.1 | false ↦ meaning.full s (view_full i.else_part.value) x.1 ]) (λ b. chosen s i b x.1) (branch s i x.1))
+
+pub argued_means : (s : Scope) (a : arg.Arg) (m : Machine) → meaning.argued s (view_arg a) m ≡ (meaning.full s (view_full a.value) m >>= λ x. Ok ((a.label, x.0), x.1))
+unfolding meaning.argued
+argued_means s a m = refl
+
+-- ---- operands with parts
+
+pub call_counted : (s : Scope) (n : prim.Operand) (k : call.Call) (m : Machine) → n ≡ prim.Call k → meaning.prim s (view_prim n) m ≡ (count 1 m >>= λ c. meaning.call s (view_call k) c)
+unfolding meaning.prim
+call_counted s n k m is = ap (λ (x : prim.Operand). meaning.prim s (view_prim x) m) is
+
+pub choice_counted : (s : Scope) (n : prim.Operand) (i : If) (m : Machine) → n ≡ prim.If i → meaning.prim s (view_prim n) m ≡ (count 1 m >>= λ c. meaning.choice s (view_if i) c)
+unfolding meaning.prim
+choice_counted s n i m is = ap (λ (x : prim.Operand). meaning.prim s (view_prim x) m) is
+
+pub paren_counted : (s : Scope) (n : prim.Operand) (b : Box Full) (m : Machine) → n ≡ prim.Paren b → meaning.prim s (view_prim n) m ≡ (count 1 m >>= λ c. meaning.full s (view_full b.value) c)
+unfolding meaning.prim
+paren_counted s n b m is = ap (λ (x : prim.Operand). meaning.prim s (view_prim x) m) is
+
+pub tuple_counted : (s : Scope) (n : prim.Operand) (at : ℕ) (v : Vec Full) (l : List Full) (m : Machine) → n ≡ prim.Tuple at v → l ≡ v.items → meaning.prim s (view_prim n) m ≡ (count 1 m >>= meaning.grouped s (listed (map view_full l)))
+tuple_counted s n at v l m is same =
+    ap (λ (x : prim.Operand). meaning.prim s (view_prim x) m) is ∙ ap (λ (t : Tree APrim). meaning.prim s t m) (tuple_view at v) ∙ ap (λ (k : List Full). meaning.prim s (tuple_of at (listed (map view_full k))) m) (sym same)
+    ∙ grouped_means s at (listed (map view_full l)) m
+
+list_means : (s : Scope) (at : ℕ) (ts : Tree (Many AFull)) (m : Machine) → meaning.prim s (Listed at ts) m ≡ (count 1 m >>= meaning.all_of s ts)
+unfolding meaning.prim
+list_means s at ts m = refl
+
+pub list_counted : (s : Scope) (n : prim.Operand) (at : ℕ) (v : Vec Full) (l : List Full) (m : Machine) → n ≡ prim.List at v → l ≡ v.items → meaning.prim s (view_prim n) m ≡ (count 1 m >>= meaning.all_of s (listed (map view_full l)))
+list_counted s n at v l m is same =
+    ap (λ (x : prim.Operand). meaning.prim s (view_prim x) m) is ∙ ap (λ (t : Tree APrim). meaning.prim s t m) (list_made at v) ∙ ap (λ (k : List Full). meaning.prim s (Listed at (listed (map view_full k))) m) (sym same)
+    ∙ list_means s at (listed (map view_full l)) m
 
 -- ---- calls of defs
 

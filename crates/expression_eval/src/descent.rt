@@ -1,38 +1,35 @@
 // Expressions, each nonterminal by a function of its own. `left` bounds how deep evaluation may nest: past it
-// memory counts as wanting.
+// memory counts as wanting. A function writes its result into the place `out`, so that a frame of the descent holds no
+// result but the right operand of an operator.
 ghost use Rattle.std.specs.Prelude.{◌≡◌, ◌≤◌, ◌∷◌, [], length, List, Option, Some, None, map, option_map};
 ghost use Rattle.typing_rules.specs.Kinds.{kinds_of};
 ghost use Rattle.typing_rules.specs.Uses.{use_at};
-ghost use Rattle.script_grammar.specs.View.{listed, view_full, view_expr, view_and, view_not, view_compare, view_sum, view_added, view_product, view_multiplied, view_prim, view_call, view_arg, view_if, view_def, view_param, view_inner, tuple_of};
-ghost use Rattle.script_grammar.specs.Tree.{Called as a_call, Chosen as a_choice, Listed as a_list, Paren as a_paren};
+ghost use Rattle.script_grammar.specs.View.{listed, view_full, view_expr, view_and, view_not, view_compare, view_sum, view_added, view_product, view_multiplied, view_prim, view_call, view_arg, view_if, view_def, view_param, view_inner};
 ghost use Rattle.script_values.specs.Gives.{Gives};
-ghost use Rattle.eval_meaning.specs.Meaning.{full, expr, ors, joined, conj, ands, nega, compare, sum, addeds, plus, product, multiplieds, times, prim, grouped, all_of, fulls, choice, call, arguments, argued, applied, applied_to, parameters, parameter, inners, inner, body};
+ghost use Rattle.eval_meaning.specs.Meaning.{full, expr, ors, joined, conj, ands, nega, compare, sum, addeds, plus, product, multiplieds, times, prim, grouped, all_of, fulls, choice, call, arguments, applied, applied_to, parameters, parameter, inners, inner, body};
+ghost use Rattle.expression_eval.specs.Places.{Goes, Makes};
 ghost use Rattle.script_values.specs.Numbers.{both, compared, either};
 ghost use Rattle.eval_scope.specs.Scopes.{scope_of, base_of, called};
 ghost use Rattle.script_values.specs.Views.{view_given, view_slot};
 ghost use Rattle.script_values.specs.View.{view_value};
 
-use crate::preds::counted_pred;
+use crate::atoms::atom;
 use crate::steps::{
-    Operator, counted_format, counted_negative, counted_text, counted_value, negate, operate,
-    taken, truth,
+    Operator, counted_negative, kept_argument, kept_value, negate, operate, put, step, taken, truth,
 };
 use builtin_calls::builtin;
-use eval_scope::{Scope, kinds_of, named};
+use eval_scope::{Scope, kinds_of};
 use liq_base::Kind;
 use script_grammar::lone_operand;
 use script_grammar::tree::{
     self, Added, And, Arg, Call, Compare, CompareOp, Def, Expr, Full, If, Inner, Multiplied, Not,
     Param, ParamForm, Product, Sum,
 };
-use script_values::{
-    Fault, Given, Limit, Machine, Slot, Value, argument, copy_label, count, listed, literal, tuple,
-};
+use script_values::{Fault, Given, Limit, Machine, Slot, Value, argument, listed, tuple};
 use std::alloc::Global;
 use typing_rules::{Target, Use};
 
 #[cycle(value)]
-#[tactic(auto, unfolding(eval_meaning::specs::Meaning::full))]
 pub fn full(
     alloc: Global,
     scope: &Scope<'_>,
@@ -42,34 +39,11 @@ pub fn full(
 ) -> Result<Value, Fault>
     ensures { Gives (λ v. (view_value v, machine.new)) result (full (scope_of scope.now) (view_full node.now) machine.old) }
 {
-    if left == 0 {
-        return Err(Fault::Memory);
-    }
-    match node {
-        Full::Minus { at, number } => counted_negative(machine, *at, *number),
-        Full::Plain(inside) => match lone_operand(inside) {
-            Some(operand) => prim(alloc, scope, left - 1, machine, operand),
-            None => expr(alloc, scope, left - 1, machine, inside),
-        },
-    }
+    let mut out = Err(Fault::Memory);
+    put_full(alloc, scope, left, machine, node, &mut out);
+    out
 }
 
-#[cycle(value)]
-pub fn expr(
-    alloc: Global,
-    scope: &Scope<'_>,
-    left: usize,
-    machine: &mut Machine,
-    node: &Expr,
-) -> Result<Value, Fault>
-    ensures { Gives (λ v. (view_value v, machine.new)) result (expr (scope_of scope.now) (view_expr node.now) machine.old) }
-{
-    let first = conj(alloc, scope, left, machine, &node.first)?;
-    ors(alloc, scope, left, machine, first, &node.rest)
-}
-
-#[cycle(value)]
-#[tactic(auto, unfolding(eval_meaning::specs::Meaning::choice))]
 pub fn choice(
     alloc: Global,
     scope: &Scope<'_>,
@@ -79,15 +53,11 @@ pub fn choice(
 ) -> Result<Value, Fault>
     ensures { Gives (λ v. (view_value v, machine.new)) result (choice (scope_of scope.now) (view_if node.now) machine.old) }
 {
-    let condition = full(alloc, scope, left, machine, &node.condition)?;
-    if truth(condition)? {
-        full(alloc, scope, left, machine, &node.then_part)
-    } else {
-        full(alloc, scope, left, machine, &node.else_part)
-    }
+    let mut out = Err(Fault::Memory);
+    put_choice(alloc, scope, left, machine, node, &mut out);
+    out
 }
 
-#[cycle(value)]
 pub fn call(
     alloc: Global,
     scope: &Scope<'_>,
@@ -97,8 +67,87 @@ pub fn call(
 ) -> Result<Value, Fault>
     ensures { Gives (λ v. (view_value v, machine.new)) result (call (scope_of scope.now) (view_call node.now) machine.old) }
 {
-    let given = arguments(alloc, scope, left, machine, &node.args)?;
-    applied(alloc, scope, left, machine, node.at, given)
+    let mut out = Err(Fault::Memory);
+    put_call(alloc, scope, left, machine, node, &mut out);
+    out
+}
+
+#[cycle(value)]
+#[tactic(auto, unfolding(eval_meaning::specs::Meaning::full))]
+fn put_full(
+    alloc: Global,
+    scope: &Scope<'_>,
+    left: usize,
+    machine: &mut Machine,
+    node: &Full,
+    out: &mut Result<Value, Fault>,
+)
+    ensures { Gives (λ v. (view_value v, machine.new)) out.new (full (scope_of scope.now) (view_full node.now) machine.old) }
+{
+    if left == 0 {
+        put(out, Err(Fault::Memory));
+        return;
+    }
+    match node {
+        Full::Minus { at, number } => put(out, counted_negative(machine, *at, *number)),
+        Full::Plain(inside) => match lone_operand(inside) {
+            Some(operand) => prim(alloc, scope, left - 1, machine, operand, out),
+            None => expr(alloc, scope, left - 1, machine, inside, out),
+        },
+    }
+}
+
+#[cycle(value)]
+#[inline(never)]
+fn put_choice(
+    alloc: Global,
+    scope: &Scope<'_>,
+    left: usize,
+    machine: &mut Machine,
+    node: &If,
+    out: &mut Result<Value, Fault>,
+)
+    ensures { Gives (λ v. (view_value v, machine.new)) out.new (choice (scope_of scope.now) (view_if node.now) machine.old) }
+{
+    put_full(alloc, scope, left, machine, &node.condition, out);
+    match truth(out) {
+        None => {}
+        Some(true) => put_full(alloc, scope, left, machine, &node.then_part, out),
+        Some(false) => put_full(alloc, scope, left, machine, &node.else_part, out),
+    }
+}
+
+#[cycle(value)]
+#[inline(never)]
+fn put_call(
+    alloc: Global,
+    scope: &Scope<'_>,
+    left: usize,
+    machine: &mut Machine,
+    node: &Call,
+    out: &mut Result<Value, Fault>,
+)
+    ensures { Gives (λ v. (view_value v, machine.new)) out.new (call (scope_of scope.now) (view_call node.now) machine.old) }
+{
+    match arguments(alloc, scope, left, machine, &node.args, out) {
+        None => {}
+        Some(given) => applied(alloc, scope, left, machine, node.at, given, out),
+    }
+}
+
+#[cycle(value)]
+fn expr(
+    alloc: Global,
+    scope: &Scope<'_>,
+    left: usize,
+    machine: &mut Machine,
+    node: &Expr,
+    out: &mut Result<Value, Fault>,
+)
+    ensures { Gives (λ v. (view_value v, machine.new)) out.new (expr (scope_of scope.now) (view_expr node.now) machine.old) }
+{
+    conj(alloc, scope, left, machine, &node.first, out);
+    ors(alloc, scope, left, machine, &node.rest, out);
 }
 
 #[cycle(value)]
@@ -107,31 +156,34 @@ fn ors(
     scope: &Scope<'_>,
     left: usize,
     machine: &mut Machine,
-    first: Value,
     parts: &[And],
-) -> Result<Value, Fault>
-    ensures { Gives (λ v. (view_value v, machine.new)) result (ors (scope_of scope.now) (listed (map view_and parts.now)) (view_value first) machine.old) }
+    out: &mut Result<Value, Fault>,
+)
+    ensures { Goes (λ v. ors (scope_of scope.now) (listed (map view_and parts.now)) v machine.old) out.old out.new machine.new }
 {
-    let mut value = first;
     'turns: for part in parts {
-        value = or_one(alloc, scope, left, machine, value, part)?;
+        if out.is_err() {
+            return;
+        }
+        or_one(alloc, scope, left, machine, part, out);
     }
-    Ok(value)
 }
 
 #[cycle(value)]
+#[inline(never)]
 fn or_one(
     alloc: Global,
     scope: &Scope<'_>,
     left: usize,
     machine: &mut Machine,
-    value: Value,
     part: &And,
-) -> Result<Value, Fault>
-    ensures { Gives (λ v. (view_value v, machine.new)) result (joined either (view_value value) (conj (scope_of scope.now) (view_and part.now) machine.old)) }
+    out: &mut Result<Value, Fault>,
+)
+    ensures { Goes (λ v. joined either v (conj (scope_of scope.now) (view_and part.now) machine.old)) out.old out.new machine.new }
 {
-    let other = conj(alloc, scope, left, machine, part)?;
-    operate(machine, Operator::Or, value, other)
+    let mut other = Err(Fault::Memory);
+    conj(alloc, scope, left, machine, part, &mut other);
+    operate(machine, Operator::Or, out, other);
 }
 
 #[cycle(value)]
@@ -141,11 +193,12 @@ fn conj(
     left: usize,
     machine: &mut Machine,
     node: &And,
-) -> Result<Value, Fault>
-    ensures { Gives (λ v. (view_value v, machine.new)) result (conj (scope_of scope.now) (view_and node.now) machine.old) }
+    out: &mut Result<Value, Fault>,
+)
+    ensures { Gives (λ v. (view_value v, machine.new)) out.new (conj (scope_of scope.now) (view_and node.now) machine.old) }
 {
-    let first = nega(alloc, scope, left, machine, &node.first)?;
-    ands(alloc, scope, left, machine, first, &node.rest)
+    nega(alloc, scope, left, machine, &node.first, out);
+    ands(alloc, scope, left, machine, &node.rest, out);
 }
 
 #[cycle(value)]
@@ -154,85 +207,91 @@ fn ands(
     scope: &Scope<'_>,
     left: usize,
     machine: &mut Machine,
-    first: Value,
     parts: &[Not],
-) -> Result<Value, Fault>
-    ensures { Gives (λ v. (view_value v, machine.new)) result (ands (scope_of scope.now) (listed (map view_not parts.now)) (view_value first) machine.old) }
+    out: &mut Result<Value, Fault>,
+)
+    ensures { Goes (λ v. ands (scope_of scope.now) (listed (map view_not parts.now)) v machine.old) out.old out.new machine.new }
 {
-    let mut value = first;
     'turns: for part in parts {
-        value = and_one(alloc, scope, left, machine, value, part)?;
+        if out.is_err() {
+            return;
+        }
+        and_one(alloc, scope, left, machine, part, out);
     }
-    Ok(value)
 }
 
 #[cycle(value)]
+#[inline(never)]
 fn and_one(
     alloc: Global,
     scope: &Scope<'_>,
     left: usize,
     machine: &mut Machine,
-    value: Value,
     part: &Not,
-) -> Result<Value, Fault>
-    ensures { Gives (λ v. (view_value v, machine.new)) result (joined both (view_value value) (nega (scope_of scope.now) (view_not part.now) machine.old)) }
+    out: &mut Result<Value, Fault>,
+)
+    ensures { Goes (λ v. joined both v (nega (scope_of scope.now) (view_not part.now) machine.old)) out.old out.new machine.new }
 {
-    let other = nega(alloc, scope, left, machine, part)?;
-    operate(machine, Operator::And, value, other)
+    let mut other = Err(Fault::Memory);
+    nega(alloc, scope, left, machine, part, &mut other);
+    operate(machine, Operator::And, out, other);
 }
 
 #[cycle(value)]
-#[tactic(auto, unfolding(eval_meaning::specs::Meaning::nega))]
 fn nega(
     alloc: Global,
     scope: &Scope<'_>,
     left: usize,
     machine: &mut Machine,
     node: &Not,
-) -> Result<Value, Fault>
-    ensures { Gives (λ v. (view_value v, machine.new)) result (nega (scope_of scope.now) (view_not node.now) machine.old) }
+    out: &mut Result<Value, Fault>,
+)
+    ensures { Gives (λ v. (view_value v, machine.new)) out.new (nega (scope_of scope.now) (view_not node.now) machine.old) }
 {
-    let inside = compare(alloc, scope, left, machine, &node.inner)?;
+    compare(alloc, scope, left, machine, &node.inner, out);
     if node.negated {
-        negate(machine, inside)
-    } else {
-        Ok(inside)
+        negate(machine, out);
     }
 }
 
 #[cycle(value)]
-#[tactic(auto, unfolding(eval_meaning::specs::Meaning::compare))]
 fn compare(
     alloc: Global,
     scope: &Scope<'_>,
     left: usize,
     machine: &mut Machine,
     node: &Compare,
-) -> Result<Value, Fault>
-    ensures { Gives (λ v. (view_value v, machine.new)) result (compare (scope_of scope.now) (view_compare node.now) machine.old) }
+    out: &mut Result<Value, Fault>,
+)
+    ensures { Gives (λ v. (view_value v, machine.new)) out.new (compare (scope_of scope.now) (view_compare node.now) machine.old) }
 {
-    let value = sum(alloc, scope, left, machine, &node.left)?;
+    sum(alloc, scope, left, machine, &node.left, out);
+    if out.is_err() {
+        return;
+    }
     match &node.right {
-        None => Ok(value),
-        Some(right) => compare_with(alloc, scope, left, machine, value, right.op, &right.sum),
+        None => {}
+        Some(right) => compare_with(alloc, scope, left, machine, right.op, &right.sum, out),
     }
 }
 
-// The comparison of a value with what stands to its right.
+// The comparison of the value in the place with what stands to its right.
 #[cycle(value)]
+#[inline(never)]
 fn compare_with(
     alloc: Global,
     scope: &Scope<'_>,
     left: usize,
     machine: &mut Machine,
-    value: Value,
     op: CompareOp,
     right: &Sum,
-) -> Result<Value, Fault>
-    ensures { Gives (λ v. (view_value v, machine.new)) result (joined (compared op) (view_value value) (sum (scope_of scope.now) (view_sum right.now) machine.old)) }
+    out: &mut Result<Value, Fault>,
+)
+    ensures { Goes (λ v. joined (compared op) v (sum (scope_of scope.now) (view_sum right.now) machine.old)) out.old out.new machine.new }
 {
-    let other = sum(alloc, scope, left, machine, right)?;
-    operate(machine, Operator::Comparison(op), value, other)
+    let mut other = Err(Fault::Memory);
+    sum(alloc, scope, left, machine, right, &mut other);
+    operate(machine, Operator::Comparison(op), out, other);
 }
 
 #[cycle(value)]
@@ -242,11 +301,12 @@ fn sum(
     left: usize,
     machine: &mut Machine,
     node: &Sum,
-) -> Result<Value, Fault>
-    ensures { Gives (λ v. (view_value v, machine.new)) result (sum (scope_of scope.now) (view_sum node.now) machine.old) }
+    out: &mut Result<Value, Fault>,
+)
+    ensures { Gives (λ v. (view_value v, machine.new)) out.new (sum (scope_of scope.now) (view_sum node.now) machine.old) }
 {
-    let first = product(alloc, scope, left, machine, &node.first)?;
-    addeds(alloc, scope, left, machine, first, &node.rest)
+    product(alloc, scope, left, machine, &node.first, out);
+    addeds(alloc, scope, left, machine, &node.rest, out);
 }
 
 #[cycle(value)]
@@ -255,36 +315,38 @@ fn addeds(
     scope: &Scope<'_>,
     left: usize,
     machine: &mut Machine,
-    first: Value,
     parts: &[Added],
-) -> Result<Value, Fault>
-    ensures { Gives (λ v. (view_value v, machine.new)) result (addeds (scope_of scope.now) (listed (map view_added parts.now)) (view_value first) machine.old) }
+    out: &mut Result<Value, Fault>,
+)
+    ensures { Goes (λ v. addeds (scope_of scope.now) (listed (map view_added parts.now)) v machine.old) out.old out.new machine.new }
 {
-    let mut value = first;
     'turns: for part in parts {
-        value = plus(alloc, scope, left, machine, value, part)?;
+        if out.is_err() {
+            return;
+        }
+        plus(alloc, scope, left, machine, part, out);
     }
-    Ok(value)
 }
 
 #[cycle(value)]
-#[tactic(auto, unfolding(eval_meaning::specs::Meaning::plus))]
+#[inline(never)]
 fn plus(
     alloc: Global,
     scope: &Scope<'_>,
     left: usize,
     machine: &mut Machine,
-    value: Value,
     part: &Added,
-) -> Result<Value, Fault>
-    ensures { Gives (λ v. (view_value v, machine.new)) result (plus (scope_of scope.now) (view_added part.now) (view_value value) machine.old) }
+    out: &mut Result<Value, Fault>,
+)
+    ensures { Goes (λ v. plus (scope_of scope.now) (view_added part.now) v machine.old) out.old out.new machine.new }
 {
-    let other = product(alloc, scope, left, machine, &part.product)?;
+    let mut other = Err(Fault::Memory);
+    product(alloc, scope, left, machine, &part.product, &mut other);
     let operator = Operator::Sum {
         minus: part.minus,
         at: part.at,
     };
-    operate(machine, operator, value, other)
+    operate(machine, operator, out, other);
 }
 
 #[cycle(value)]
@@ -294,11 +356,12 @@ fn product(
     left: usize,
     machine: &mut Machine,
     node: &Product,
-) -> Result<Value, Fault>
-    ensures { Gives (λ v. (view_value v, machine.new)) result (product (scope_of scope.now) (view_product node.now) machine.old) }
+    out: &mut Result<Value, Fault>,
+)
+    ensures { Gives (λ v. (view_value v, machine.new)) out.new (product (scope_of scope.now) (view_product node.now) machine.old) }
 {
-    let first = prim(alloc, scope, left, machine, &node.first)?;
-    multiplieds(alloc, scope, left, machine, first, &node.rest)
+    prim(alloc, scope, left, machine, &node.first, out);
+    multiplieds(alloc, scope, left, machine, &node.rest, out);
 }
 
 #[cycle(value)]
@@ -307,157 +370,98 @@ fn multiplieds(
     scope: &Scope<'_>,
     left: usize,
     machine: &mut Machine,
-    first: Value,
     parts: &[Multiplied],
-) -> Result<Value, Fault>
-    ensures { Gives (λ v. (view_value v, machine.new)) result (multiplieds (scope_of scope.now) (listed (map view_multiplied parts.now)) (view_value first) machine.old) }
+    out: &mut Result<Value, Fault>,
+)
+    ensures { Goes (λ v. multiplieds (scope_of scope.now) (listed (map view_multiplied parts.now)) v machine.old) out.old out.new machine.new }
 {
-    let mut value = first;
     'turns: for part in parts {
-        value = times(alloc, scope, left, machine, value, part)?;
+        if out.is_err() {
+            return;
+        }
+        times(alloc, scope, left, machine, part, out);
     }
-    Ok(value)
 }
 
 #[cycle(value)]
-#[tactic(auto, unfolding(eval_meaning::specs::Meaning::times))]
+#[inline(never)]
 fn times(
     alloc: Global,
     scope: &Scope<'_>,
     left: usize,
     machine: &mut Machine,
-    value: Value,
     part: &Multiplied,
-) -> Result<Value, Fault>
-    ensures { Gives (λ v. (view_value v, machine.new)) result (times (scope_of scope.now) (view_multiplied part.now) (view_value value) machine.old) }
+    out: &mut Result<Value, Fault>,
+)
+    ensures { Goes (λ v. times (scope_of scope.now) (view_multiplied part.now) v machine.old) out.old out.new machine.new }
 {
-    let other = prim(alloc, scope, left, machine, &part.prim)?;
+    let mut other = Err(Fault::Memory);
+    prim(alloc, scope, left, machine, &part.prim, &mut other);
     let operator = Operator::Product {
         divide: part.divide,
         at: part.at,
     };
-    operate(machine, operator, value, other)
+    operate(machine, operator, out, other);
 }
 
+// Each arm that goes down ends in its call, so that nothing of this function is on the stack behind it.
 #[cycle(value)]
-#[tactic(auto, unfolding(eval_meaning::specs::Meaning::prim))]
 fn prim(
     alloc: Global,
     scope: &Scope<'_>,
     left: usize,
     machine: &mut Machine,
     node: &tree::Operand,
-) -> Result<Value, Fault>
-    ensures { Gives (λ v. (view_value v, machine.new)) result (prim (scope_of scope.now) (view_prim node.now) machine.old) }
+    out: &mut Result<Value, Fault>,
+)
+    ensures { Gives (λ v. (view_value v, machine.new)) out.new (prim (scope_of scope.now) (view_prim node.now) machine.old) }
 {
     match node {
-        tree::Operand::Name { at, name: _ } => named(alloc, scope, machine, *at),
-        tree::Operand::Braces { at: _, pred } => counted_pred(alloc, machine, pred),
-        tree::Operand::Literal { at: _, value } => counted_value(machine, literal(*value)),
-        tree::Operand::Str { at: _, text } => counted_text(alloc, machine, text),
-        tree::Operand::Bool { at: _, value } => counted_value(machine, Value::Truth(*value)),
-        tree::Operand::Call(inside) => counted_call(alloc, scope, left, machine, inside),
-        tree::Operand::If(inside) => counted_choice(alloc, scope, left, machine, inside),
-        tree::Operand::Unit { at: _ } => counted_value(machine, Value::Nothing),
-        tree::Operand::Paren(inside) => counted_full(alloc, scope, left, machine, inside),
-        tree::Operand::Tuple { at, parts } => counted_tuple(
-            alloc, scope, left, machine, *at, parts,
-        ),
-        tree::Operand::List { at, parts } => counted_list(alloc, scope, left, machine, *at, parts),
-        tree::Operand::Wav { at, size } => counted_format(machine, *at, *size),
+        tree::Operand::Call(inside) => {
+            if step(machine, out) {
+                put_call(alloc, scope, left, machine, inside, out);
+            }
+        }
+        tree::Operand::If(inside) => {
+            if step(machine, out) {
+                put_choice(alloc, scope, left, machine, inside, out);
+            }
+        }
+        tree::Operand::Paren(inside) => {
+            if step(machine, out) {
+                put_full(alloc, scope, left, machine, inside, out);
+            }
+        }
+        tree::Operand::Tuple { at: _, parts } => {
+            if step(machine, out) {
+                grouped(alloc, scope, left, machine, parts, out);
+            }
+        }
+        tree::Operand::List { at: _, parts } => {
+            if step(machine, out) {
+                list(alloc, scope, left, machine, parts, out);
+            }
+        }
+        _ => put(out, atom(alloc, scope, machine, node)),
     }
 }
 
 #[cycle(value)]
-#[tactic(auto, unfolding(eval_meaning::specs::Meaning::prim))]
-fn counted_call(
-    alloc: Global,
-    scope: &Scope<'_>,
-    left: usize,
-    machine: &mut Machine,
-    node: &Call,
-) -> Result<Value, Fault>
-    ensures { Gives (λ v. (view_value v, machine.new)) result (prim (scope_of scope.now) (a_call (view_call node.now)) machine.old) }
-{
-    count(machine, 1)?;
-    call(alloc, scope, left, machine, node)
-}
-
-#[cycle(value)]
-#[tactic(auto, unfolding(eval_meaning::specs::Meaning::prim))]
-fn counted_full(
-    alloc: Global,
-    scope: &Scope<'_>,
-    left: usize,
-    machine: &mut Machine,
-    node: &Full,
-) -> Result<Value, Fault>
-    ensures { Gives (λ v. (view_value v, machine.new)) result (prim (scope_of scope.now) (a_paren (view_full node.now)) machine.old) }
-{
-    count(machine, 1)?;
-    full(alloc, scope, left, machine, node)
-}
-
-#[cycle(value)]
-#[tactic(auto, unfolding(eval_meaning::specs::Meaning::prim))]
-fn counted_choice(
-    alloc: Global,
-    scope: &Scope<'_>,
-    left: usize,
-    machine: &mut Machine,
-    node: &If,
-) -> Result<Value, Fault>
-    ensures { Gives (λ v. (view_value v, machine.new)) result (prim (scope_of scope.now) (a_choice (view_if node.now)) machine.old) }
-{
-    count(machine, 1)?;
-    choice(alloc, scope, left, machine, node)
-}
-
-#[cycle(value)]
-fn counted_tuple(
-    alloc: Global,
-    scope: &Scope<'_>,
-    left: usize,
-    machine: &mut Machine,
-    at: u32,
-    parts: &[Full],
-) -> Result<Value, Fault>
-    ensures { Gives (λ v. (view_value v, machine.new)) result (prim (scope_of scope.now) (tuple_of at (listed (map view_full parts.now))) machine.old) }
-{
-    count(machine, 1)?;
-    grouped(alloc, scope, left, machine, parts)
-}
-
-#[cycle(value)]
-#[tactic(auto, unfolding(eval_meaning::specs::Meaning::prim))]
-fn counted_list(
-    alloc: Global,
-    scope: &Scope<'_>,
-    left: usize,
-    machine: &mut Machine,
-    at: u32,
-    parts: &[Full],
-) -> Result<Value, Fault>
-    ensures { Gives (λ v. (view_value v, machine.new)) result (prim (scope_of scope.now) (a_list at (listed (map view_full parts.now))) machine.old) }
-{
-    count(machine, 1)?;
-    list(alloc, scope, left, machine, parts)
-}
-
-#[cycle(value)]
+#[inline(never)]
 fn grouped(
     alloc: Global,
     scope: &Scope<'_>,
     left: usize,
     machine: &mut Machine,
     parts: &[Full],
-) -> Result<Value, Fault>
-    ensures { Gives (λ v. (view_value v, machine.new)) result (grouped (scope_of scope.now) (listed (map view_full parts.now)) machine.old) }
+    out: &mut Result<Value, Fault>,
+)
+    ensures { Gives (λ v. (view_value v, machine.new)) out.new (grouped (scope_of scope.now) (listed (map view_full parts.now)) machine.old) }
 {
     match parts {
-        [] => Ok(Value::Nothing),
-        [part] => full(alloc, scope, left, machine, part),
-        [_, _, ..] => pair(alloc, scope, left, machine, parts),
+        [] => put(out, Ok(Value::Nothing)),
+        [part] => put_full(alloc, scope, left, machine, part, out),
+        [_, _, ..] => pair(alloc, scope, left, machine, parts, out),
     }
 }
 
@@ -468,26 +472,33 @@ fn pair(
     left: usize,
     machine: &mut Machine,
     parts: &[Full],
-) -> Result<Value, Fault>
+    out: &mut Result<Value, Fault>,
+)
     requires { 2 ≤ length parts.now }
-    ensures { Gives (λ v. (view_value v, machine.new)) result (grouped (scope_of scope.now) (listed (map view_full parts.now)) machine.old) }
+    ensures { Gives (λ v. (view_value v, machine.new)) out.new (grouped (scope_of scope.now) (listed (map view_full parts.now)) machine.old) }
 {
-    let values = fulls(alloc, scope, left, machine, parts)?;
-    Ok(tuple(values))
+    match fulls(alloc, scope, left, machine, parts, out) {
+        None => {}
+        Some(values) => put(out, Ok(tuple(values))),
+    }
 }
 
 #[cycle(value)]
+#[inline(never)]
 fn list(
     alloc: Global,
     scope: &Scope<'_>,
     left: usize,
     machine: &mut Machine,
     parts: &[Full],
-) -> Result<Value, Fault>
-    ensures { Gives (λ v. (view_value v, machine.new)) result (all_of (scope_of scope.now) (listed (map view_full parts.now)) machine.old) }
+    out: &mut Result<Value, Fault>,
+)
+    ensures { Gives (λ v. (view_value v, machine.new)) out.new (all_of (scope_of scope.now) (listed (map view_full parts.now)) machine.old) }
 {
-    let values = fulls(alloc, scope, left, machine, parts)?;
-    Ok(listed(values))
+    match fulls(alloc, scope, left, machine, parts, out) {
+        None => {}
+        Some(values) => put(out, Ok(listed(values))),
+    }
 }
 
 #[cycle(value)]
@@ -497,15 +508,18 @@ fn fulls(
     left: usize,
     machine: &mut Machine,
     parts: &[Full],
-) -> Result<Vec<Value>, Fault>
-    ensures { Gives (λ v. (map view_value v.items, machine.new)) result (fulls (scope_of scope.now) (listed (map view_full parts.now)) [] machine.old) }
+    out: &mut Result<Value, Fault>,
+) -> Option<Vec<Value>>
+    ensures { Makes (λ v. (map view_value v.items, machine.new)) result out.new (fulls (scope_of scope.now) (listed (map view_full parts.now)) [] machine.old) }
 {
     let mut values = Vec::new(alloc);
     'turns: for part in parts {
-        let value = full(alloc, scope, left, machine, part)?;
-        values.push(value)?;
+        put_full(alloc, scope, left, machine, part, out);
+        if !kept_value(&mut values, out) {
+            return None;
+        }
     }
-    Ok(values)
+    Some(values)
 }
 
 #[cycle(value)]
@@ -515,34 +529,22 @@ fn arguments(
     left: usize,
     machine: &mut Machine,
     args: &[Arg],
-) -> Result<Vec<Given>, Fault>
-    ensures { Gives (λ v. (map view_given v.items, machine.new)) result (arguments (scope_of scope.now) (listed (map view_arg args.now)) [] machine.old) }
+    out: &mut Result<Value, Fault>,
+) -> Option<Vec<Given>>
+    ensures { Makes (λ v. (map view_given v.items, machine.new)) result out.new (arguments (scope_of scope.now) (listed (map view_arg args.now)) [] machine.old) }
 {
     let mut given = Vec::new(alloc);
     'turns: for arg in args {
-        let one = argued(alloc, scope, left, machine, arg)?;
-        given.push(one)?;
+        put_full(alloc, scope, left, machine, &arg.value, out);
+        if !kept_argument(alloc, &arg.label, &mut given, out) {
+            return None;
+        }
     }
-    Ok(given)
+    Some(given)
 }
 
 #[cycle(value)]
-#[tactic(auto, unfolding(eval_meaning::specs::Meaning::argued))]
-fn argued(
-    alloc: Global,
-    scope: &Scope<'_>,
-    left: usize,
-    machine: &mut Machine,
-    arg: &Arg,
-) -> Result<Given, Fault>
-    ensures { Gives (λ v. (view_given v, machine.new)) result (argued (scope_of scope.now) (view_arg arg.now) machine.old) }
-{
-    let label = copy_label(alloc, &arg.label)?;
-    let value = full(alloc, scope, left, machine, &arg.value)?;
-    Ok(Given { label, value })
-}
-
-#[cycle(value)]
+#[inline(never)]
 #[tactic(auto, unfolding(eval_meaning::specs::Meaning::applied))]
 fn applied(
     alloc: Global,
@@ -551,12 +553,16 @@ fn applied(
     machine: &mut Machine,
     at: u32,
     given: Vec<Given>,
-) -> Result<Value, Fault>
-    ensures { Gives (λ v. (view_value v, machine.new)) result (applied (scope_of scope.now) (use_at at scope.now.uses.now.all.now) at (map view_given given.items) machine.old) }
+    out: &mut Result<Value, Fault>,
+)
+    ensures { Gives (λ v. (view_value v, machine.new)) out.new (applied (scope_of scope.now) (use_at at scope.now.uses.now.all.now) at (map view_given given.items) machine.old) }
 {
     match scope.uses.find(at) {
-        None => Err(Fault::Stuck),
-        Some(found) => applied_to(alloc, scope, left, machine, found, at, given),
+        None => put(out, Err(Fault::Stuck)),
+        Some(found) => put(
+            out,
+            applied_to(alloc, scope, left, machine, found, at, given),
+        ),
     }
 }
 
@@ -636,7 +642,9 @@ fn body(
         kinds: scope.kinds,
         calls: scope.calls,
     };
-    expr(alloc, &inside, left - 1, machine, &def.result)
+    let mut out = Err(Fault::Memory);
+    expr(alloc, &inside, left - 1, machine, &def.result, &mut out);
+    out
 }
 
 #[cycle(value)]

@@ -1,10 +1,12 @@
 // Steps that evaluate no expression: what is counted, and what a parameter takes of the arguments. Values that are no
 // longer needed end here, and not in the descent.
-ghost use Rattle.std.specs.Prelude.{◌≡◌, Ok, map, option_map};
+ghost use Rattle.std.specs.Prelude.{◌≡◌, [], ◌∷◌, ◌++◌, IfOk, Ok, map, option_map};
 ghost use Rattle.eval_meaning.specs.Meaning.{format, taken};
+ghost use Rattle.expression_eval.specs.Places.{Goes, GoesOn, Joins, Keeps, Tells};
 ghost use Rattle.expression_eval.specs.Steps.{after_count, operation};
 ghost use Rattle.script_values.specs.Gives.{Gives};
-ghost use Rattle.script_values.specs.Numbers.{negative, opposite, truth_of};
+ghost use Rattle.script_values.specs.Machines.{count};
+ghost use Rattle.script_values.specs.Numbers.{negative, opposite};
 ghost use Rattle.script_values.specs.Values.{Text as a_text};
 ghost use Rattle.script_values.specs.View.{view_value};
 ghost use Rattle.script_values.specs.Views.{view_given, view_slot};
@@ -12,13 +14,14 @@ ghost use Rattle.script_values.specs.declared.machine.Machine.{Machine};
 ghost use Rattle.typing_rules.specs.Arguments.{argument};
 
 use eval_scope::format;
-use liq_base::Text;
+use liq_base::{Memory, Text};
 use script_grammar::tree::{CompareOp, Literal};
 use script_values::{
-    Fault, Given, Machine, Slot, Value, added, argument, both, compared, count, either, multiplied,
-    negative, opposite, truth_of,
+    Fault, Given, Machine, Slot, Value, added, argument, both, compared, copy_label, count, either,
+    multiplied, negative, opposite, truth_of,
 };
 use std::alloc::Global;
+use std::mem;
 
 /// An operator on two values, with what it needs beside them.
 #[derive(Clone, Copy)]
@@ -39,30 +42,132 @@ pub enum Operator {
     Comparison(CompareOp),
 }
 
-/// What an operator makes of two values, behind its count.
+/// Writes a result into its place. What was there ends.
+pub fn put(out: &mut Result<Value, Fault>, made: Result<Value, Fault>)
+    ensures { out.new ≡ made }
+{
+    *out = made;
+}
+
+/// What an operator makes of the value in the place and of its right operand, behind its count. A fault that is there
+/// stays.
+#[inline(never)]
 pub fn operate(
     machine: &mut Machine,
     operator: Operator,
-    left: Value,
-    right: Value,
+    out: &mut Result<Value, Fault>,
+    right: Result<Value, Fault>,
+)
+    ensures { Joins operator right machine.old out.old out.new machine.new }
+{
+    match out {
+        Err(_) => {}
+        Ok(left) => *out = operated(machine, operator, left, right),
+    }
+}
+
+fn operated(
+    machine: &mut Machine,
+    operator: Operator,
+    left: &Value,
+    right: Result<Value, Fault>,
 ) -> Result<Value, Fault>
-    ensures { Gives (λ v. (view_value v, machine.new)) result (after_count (operation operator (view_value left) (view_value right)) machine.old) }
+    ensures { Joins operator right machine.old (Ok left.now) result machine.new }
 {
-    counted_operation(machine, operator, &left, &right)
+    match right {
+        Err(fault) => Err(fault),
+        Ok(right) => counted_operation(machine, operator, left, &right),
+    }
 }
 
-/// `not` of a value, behind its count.
-pub fn negate(machine: &mut Machine, value: Value) -> Result<Value, Fault>
-    ensures { Gives (λ v. (view_value v, machine.new)) result (after_count (opposite (view_value value)) machine.old) }
+/// `not` of the value in the place, behind its count. A fault that is there stays.
+#[inline(never)]
+pub fn negate(machine: &mut Machine, out: &mut Result<Value, Fault>)
+    ensures { Goes (λ v. after_count (opposite v) machine.old) out.old out.new machine.new }
 {
-    counted_opposite(machine, &value)
+    match out {
+        Err(_) => {}
+        Ok(value) => *out = counted_opposite(machine, value),
+    }
 }
 
-/// The truth of a condition.
-pub fn truth(value: Value) -> Result<bool, Fault>
-    ensures { Gives (λ b. b) result (truth_of (view_value value)) }
+/// The truth of the value in the place. `None` where there is none, and then the fault is in the place.
+#[inline(never)]
+pub fn truth(out: &mut Result<Value, Fault>) -> Option<bool>
+    ensures { Tells out.old result out.new }
 {
-    truth_of(&value)
+    let told = match out {
+        Err(_) => return None,
+        Ok(value) => truth_of(value),
+    };
+    match told {
+        Ok(truth) => Some(truth),
+        Err(fault) => {
+            *out = Err(fault);
+            None
+        }
+    }
+}
+
+/// Counts 1. `false` where that is too much, and then the fault is in the place.
+#[inline(never)]
+pub fn step(machine: &mut Machine, out: &mut Result<Value, Fault>) -> bool
+    ensures { GoesOn result machine.new out.new (count 1 machine.old) }
+{
+    match count(machine, 1) {
+        Ok(_) => true,
+        Err(fault) => {
+            *out = Err(fault);
+            false
+        }
+    }
+}
+
+/// Moves the value in the place behind the others. `false` where there is none, and then a fault is in the place.
+#[inline(never)]
+pub fn kept_value(values: &mut Vec<Value>, out: &mut Result<Value, Fault>) -> bool
+    ensures { Keeps (λ v. v) out.old result (map view_value values.old.items) (map view_value values.new.items) out.new }
+{
+    match mem::replace(out, Err(Fault::Memory)) {
+        Err(fault) => {
+            *out = Err(fault);
+            false
+        }
+        Ok(value) => values.push(value).is_ok(),
+    }
+}
+
+/// Moves the value in the place behind the arguments, with its label. `false` where there is none, and then a fault is
+/// in the place.
+#[inline(never)]
+pub fn kept_argument(
+    alloc: Global,
+    label: &Option<Text>,
+    given: &mut Vec<Given>,
+    out: &mut Result<Value, Fault>,
+) -> bool
+    ensures { Keeps (λ v. (label.now, v)) out.old result (map view_given given.old.items) (map view_given given.new.items) out.new }
+{
+    match mem::replace(out, Err(Fault::Memory)) {
+        Err(fault) => {
+            *out = Err(fault);
+            false
+        }
+        Ok(value) => labelled(alloc, label, value, given).is_ok(),
+    }
+}
+
+fn labelled(
+    alloc: Global,
+    label: &Option<Text>,
+    value: Value,
+    given: &mut Vec<Given>,
+) -> Result<(), Memory>
+    ensures { IfOk result (λ _. map view_given given.new.items ≡ map view_given given.old.items ++ (label.now, view_value value) ∷ []) }
+{
+    let label = copy_label(alloc, label)?;
+    given.push(Given { label, value })?;
+    Ok(())
 }
 
 /// The number below zero, behind its count.

@@ -1,100 +1,215 @@
-use Rattle.std.proofs.Common.{◌≡◌, ◌-◌, List, [], Result, Ok, refl, sym, ap, subst, ◌∙◌, arith}
+use Rattle.std.proofs.Common.{◌≡◌, ◌-◌, List, [], Option, Result, Ok, true, false, refl, sym, ap, subst, ◌∙◌, arith, drop}
 use Rattle.std.proofs.lemmas.Result.{err_from_is_err_and}
-use Rattle.std.specs.Prelude.{map, Option}
-use Rattle.typing_rules.specs.Uses.{use_at}
-use Rattle.script_grammar.specs.Tree.{Tree, ADef, APrim, Listed}
-use Rattle.script_grammar.specs.declared.tree.Full.{Full}
-use Rattle.script_grammar.proofs.Rows.{list_made}
-use Rattle.script_grammar.specs.View.{listed, tuple_of, view_full, view_expr, view_and, view_not, view_sum, view_added, view_product, view_multiplied, view_prim, view_call, view_arg, view_param, view_inner}
+use Rattle.std.specs.Prelude.{map}
+use Rattle.script_grammar.specs.Tree.{Tree, ADef}
+use Rattle.script_grammar.specs.View.{listed, view_full, view_and, view_not, view_call, view_compare, view_if, view_sum, view_added, view_product, view_multiplied, view_prim, view_arg, view_param, view_inner}
 use Rattle.script_grammar.specs.declared.tree.Added as added
-use Rattle.script_grammar.specs.declared.tree.Expr as expr
 use Rattle.script_grammar.specs.declared.tree.And as and_
-use Rattle.script_grammar.specs.declared.tree.Sum as sum
-use Rattle.script_grammar.specs.declared.tree.Product as product
 use Rattle.script_grammar.specs.declared.tree.Call as call
+use Rattle.script_grammar.specs.declared.tree.Compare as compare
+use Rattle.script_grammar.specs.declared.tree.Compared as compared_
+use Rattle.script_grammar.specs.declared.tree.Expr as expr
+use Rattle.script_grammar.specs.declared.tree.Not as not_
+use Rattle.script_grammar.specs.declared.tree.Product as product
+use Rattle.script_grammar.specs.declared.tree.Sum as sum
 use Rattle.script_values.specs.Outcomes.{◌>>=◌, Outcome}
 use Rattle.script_values.specs.declared.slots.Slot.{Slot}
 use Rattle.script_values.specs.declared.fault.Fault.{Fault}
+use Rattle.script_values.specs.declared.machine.Machine.{Machine}
 use Rattle.script_values.specs.Gives.{Gives}
 use Rattle.script_values.specs.Machines.{count}
-use Rattle.script_values.specs.Numbers as numbers
+use Rattle.script_values.specs.Numbers.{compared, opposite}
+use Rattle.script_values.specs.Slots.{Given}
+use Rattle.typing_rules.specs.Uses.{use_at}
 use Rattle.expression_eval.specs.Steps.{after_count}
-use Rattle.expression_eval.proofs.Joins.{goes_on, plus_means, times_means}
 use Rattle.eval_meaning.specs.Meaning as meaning
+use Rattle.eval_meaning.specs.Meaning.{joined}
 use Rattle.eval_scope.specs.Scopes.{scope_of, base_of, world_of}
 use Rattle.script_values.specs.Values.{Value}
 use Rattle.script_values.specs.View.{view_value}
 use Rattle.script_values.specs.Views.{view_given, view_slot}
-use Rattle.expression_eval.proofs.Loops.{turn, stops, ends, fails_on, fails_same}
+use Rattle.expression_eval.specs.declared.steps.Operator.TheVariants as operator
+use Rattle.expression_eval.proofs.Joins.{plus_means, times_means}
+use Rattle.expression_eval.proofs.Loops.{turn, stops, ends, fails_on}
+use Rattle.expression_eval.proofs.Productions.{expr_means, conj_means, sum_means, product_means, call_means, ors_steps, ands_steps, addeds_steps, multiplieds_steps, fulls_steps, arguments_steps, inners_steps, parameters_steps, with_last, with_slot, from_both, went, slot_went, ors_none, ands_none, addeds_none, multiplieds_none, fulls_none, arguments_none, inners_none, parameters_none, first_fails, pair_means, as_list, as_tuple, not_means, plain_means, alone_means, compared_means, argued_means, call_counted, choice_counted, paren_counted, tuple_counted, list_counted, calls_end, calls_turn}
+use Rattle.expression_eval.proofs.Putting.{behind_gives, choice_fails, choice_goes, compare_stops, failed_gives, failed_means, failed_on, failed_same, failed_stops, full_same, gives_same, goes_means, goes_same, joins_goes, kept_off, kept_on, left_ends, left_starts, left_stops, left_turns, made_gives, plain_last}
 use Rattle.expression_eval.proofs.Singles.{full_lone}
-use Rattle.expression_eval.proofs.Productions.{expr_means, conj_means, sum_means, product_means, call_means, ors_steps, ands_steps, addeds_steps, multiplieds_steps, fulls_steps, arguments_steps, inners_steps, parameters_steps, with_last, with_slot, from_both, went, slot_went, ors_none, ands_none, addeds_none, multiplieds_none, fulls_none, arguments_none, inners_none, parameters_none, first_fails, then_first, as_tuple, grouped_means, pair_means, tuple_view, calls_end, calls_turn}
 use Rattle.expression_eval.proofs.descent.+value.Goals as goal
 
-pub ors-returns-in_err-value : goal.ors-returns-in_err-value
-ors-returns-in_err-value t c =
-    let p = err_from_is_err_and c.from_residual.result c.from_residual.ensures.1 in
-    rw (p.1, p.2) (stops view_and (ors_steps (scope_of c.args.scope.now)) c.args.parts.now c.turns.part-index c.part-item.result (view_value c.turns.value) c.turns.machine (meaning.ors (scope_of c.args.scope.now) (listed (map view_and c.args.parts.now)) (view_value c.args.first) c.args.machine.now) c.in_err-value.field-0.0 c.turns.invariant c.turns-test.true c.part-item.is c.in_err-value.ensures)
+pub ors-turns-init : goal.ors-turns-init
+ors-turns-init t c = left_starts (λ v. meaning.ors (scope_of c.args.scope.now) (listed (map view_and c.args.parts.now)) v c.args.machine.now) (meaning.ors (scope_of c.args.scope.now) (listed (map view_and c.args.parts.now))) c.args.out.now c.args.machine.now (λ v. refl)
 
 pub ors-turns-preserved : goal.ors-turns-preserved
-ors-turns-preserved t c = turn view_and (ors_steps (scope_of c.args.scope.now)) c.args.parts.now c.turns.part-index c.part-item.result (view_value c.turns.value) (view_value c.in_ok-value.value) c.turns.machine c.or_one.new.machine (meaning.ors (scope_of c.args.scope.now) (listed (map view_and c.args.parts.now)) (view_value c.args.first) c.args.machine.now) c.turns.invariant c.turns-test.true c.part-item.is c.in_ok-value.ensures
+ors-turns-preserved t c = left_turns view_and (ors_steps (scope_of c.args.scope.now)) c.args.parts.now c.turns.part-index c.part-item.result c.args.out.now c.turns.out c.or_one.new.out c.turns.machine c.or_one.new.machine (λ v. meaning.ors (scope_of c.args.scope.now) (listed (map view_and c.args.parts.now)) v c.args.machine.now) c.turns.invariant c.turns-test.true c.part-item.is c.or_one.ensures
+
+pub ors-returns-then-is_err : goal.ors-returns-then-is_err
+ors-returns-then-is_err t c = left_stops (λ v. meaning.ors (scope_of c.args.scope.now) (listed (map view_and c.args.parts.now)) v c.args.machine.now) (meaning.ors (scope_of c.args.scope.now) (listed (map view_and (drop c.turns.part-index c.args.parts.now)))) c.args.out.now c.turns.out c.turns.machine c.turns.invariant (sym c.if-is_err.ensures.value)
 
 pub ors-returns : goal.ors-returns
-ors-returns t c = ends view_and (meaning.ors (scope_of c.args.scope.now)) c.args.parts.now c.turns.part-index (view_value c.turns.value) c.turns.machine (meaning.ors (scope_of c.args.scope.now) (listed (map view_and c.args.parts.now)) (view_value c.args.first) c.args.machine.now) c.turns.invariant c.turns-test.false ∙ ors_none (scope_of c.args.scope.now) (view_value c.turns.value) c.turns.machine
+ors-returns t c = left_ends view_and (meaning.ors (scope_of c.args.scope.now)) c.args.parts.now c.turns.part-index c.args.out.now c.turns.out c.turns.machine (λ v. meaning.ors (scope_of c.args.scope.now) (listed (map view_and c.args.parts.now)) v c.args.machine.now) c.turns.invariant c.turns-test.false (λ v. ors_none (scope_of c.args.scope.now) v c.turns.machine)
 
-pub ands-returns-in_err-value : goal.ands-returns-in_err-value
-ands-returns-in_err-value t c =
-    let p = err_from_is_err_and c.from_residual.result c.from_residual.ensures.1 in
-    rw (p.1, p.2) (stops view_not (ands_steps (scope_of c.args.scope.now)) c.args.parts.now c.turns.part-index c.part-item.result (view_value c.turns.value) c.turns.machine (meaning.ands (scope_of c.args.scope.now) (listed (map view_not c.args.parts.now)) (view_value c.args.first) c.args.machine.now) c.in_err-value.field-0.0 c.turns.invariant c.turns-test.true c.part-item.is c.in_err-value.ensures)
+pub ands-turns-init : goal.ands-turns-init
+ands-turns-init t c = left_starts (λ v. meaning.ands (scope_of c.args.scope.now) (listed (map view_not c.args.parts.now)) v c.args.machine.now) (meaning.ands (scope_of c.args.scope.now) (listed (map view_not c.args.parts.now))) c.args.out.now c.args.machine.now (λ v. refl)
 
 pub ands-turns-preserved : goal.ands-turns-preserved
-ands-turns-preserved t c = turn view_not (ands_steps (scope_of c.args.scope.now)) c.args.parts.now c.turns.part-index c.part-item.result (view_value c.turns.value) (view_value c.in_ok-value.value) c.turns.machine c.and_one.new.machine (meaning.ands (scope_of c.args.scope.now) (listed (map view_not c.args.parts.now)) (view_value c.args.first) c.args.machine.now) c.turns.invariant c.turns-test.true c.part-item.is c.in_ok-value.ensures
+ands-turns-preserved t c = left_turns view_not (ands_steps (scope_of c.args.scope.now)) c.args.parts.now c.turns.part-index c.part-item.result c.args.out.now c.turns.out c.and_one.new.out c.turns.machine c.and_one.new.machine (λ v. meaning.ands (scope_of c.args.scope.now) (listed (map view_not c.args.parts.now)) v c.args.machine.now) c.turns.invariant c.turns-test.true c.part-item.is c.and_one.ensures
+
+pub ands-returns-then-is_err : goal.ands-returns-then-is_err
+ands-returns-then-is_err t c = left_stops (λ v. meaning.ands (scope_of c.args.scope.now) (listed (map view_not c.args.parts.now)) v c.args.machine.now) (meaning.ands (scope_of c.args.scope.now) (listed (map view_not (drop c.turns.part-index c.args.parts.now)))) c.args.out.now c.turns.out c.turns.machine c.turns.invariant (sym c.if-is_err.ensures.value)
 
 pub ands-returns : goal.ands-returns
-ands-returns t c = ends view_not (meaning.ands (scope_of c.args.scope.now)) c.args.parts.now c.turns.part-index (view_value c.turns.value) c.turns.machine (meaning.ands (scope_of c.args.scope.now) (listed (map view_not c.args.parts.now)) (view_value c.args.first) c.args.machine.now) c.turns.invariant c.turns-test.false ∙ ands_none (scope_of c.args.scope.now) (view_value c.turns.value) c.turns.machine
+ands-returns t c = left_ends view_not (meaning.ands (scope_of c.args.scope.now)) c.args.parts.now c.turns.part-index c.args.out.now c.turns.out c.turns.machine (λ v. meaning.ands (scope_of c.args.scope.now) (listed (map view_not c.args.parts.now)) v c.args.machine.now) c.turns.invariant c.turns-test.false (λ v. ands_none (scope_of c.args.scope.now) v c.turns.machine)
 
-pub addeds-returns-in_err-value : goal.addeds-returns-in_err-value
-addeds-returns-in_err-value t c =
-    let p = err_from_is_err_and c.from_residual.result c.from_residual.ensures.1 in
-    rw (p.1, p.2) (stops view_added (addeds_steps (scope_of c.args.scope.now)) c.args.parts.now c.turns.part-index c.part-item.result (view_value c.turns.value) c.turns.machine (meaning.addeds (scope_of c.args.scope.now) (listed (map view_added c.args.parts.now)) (view_value c.args.first) c.args.machine.now) c.in_err-value.field-0.0 c.turns.invariant c.turns-test.true c.part-item.is c.in_err-value.ensures)
+pub addeds-turns-init : goal.addeds-turns-init
+addeds-turns-init t c = left_starts (λ v. meaning.addeds (scope_of c.args.scope.now) (listed (map view_added c.args.parts.now)) v c.args.machine.now) (meaning.addeds (scope_of c.args.scope.now) (listed (map view_added c.args.parts.now))) c.args.out.now c.args.machine.now (λ v. refl)
 
 pub addeds-turns-preserved : goal.addeds-turns-preserved
-addeds-turns-preserved t c = turn view_added (addeds_steps (scope_of c.args.scope.now)) c.args.parts.now c.turns.part-index c.part-item.result (view_value c.turns.value) (view_value c.in_ok-value.value) c.turns.machine c.plus.new.machine (meaning.addeds (scope_of c.args.scope.now) (listed (map view_added c.args.parts.now)) (view_value c.args.first) c.args.machine.now) c.turns.invariant c.turns-test.true c.part-item.is c.in_ok-value.ensures
+addeds-turns-preserved t c = left_turns view_added (addeds_steps (scope_of c.args.scope.now)) c.args.parts.now c.turns.part-index c.part-item.result c.args.out.now c.turns.out c.plus.new.out c.turns.machine c.plus.new.machine (λ v. meaning.addeds (scope_of c.args.scope.now) (listed (map view_added c.args.parts.now)) v c.args.machine.now) c.turns.invariant c.turns-test.true c.part-item.is c.plus.ensures
+
+pub addeds-returns-then-is_err : goal.addeds-returns-then-is_err
+addeds-returns-then-is_err t c = left_stops (λ v. meaning.addeds (scope_of c.args.scope.now) (listed (map view_added c.args.parts.now)) v c.args.machine.now) (meaning.addeds (scope_of c.args.scope.now) (listed (map view_added (drop c.turns.part-index c.args.parts.now)))) c.args.out.now c.turns.out c.turns.machine c.turns.invariant (sym c.if-is_err.ensures.value)
 
 pub addeds-returns : goal.addeds-returns
-addeds-returns t c = ends view_added (meaning.addeds (scope_of c.args.scope.now)) c.args.parts.now c.turns.part-index (view_value c.turns.value) c.turns.machine (meaning.addeds (scope_of c.args.scope.now) (listed (map view_added c.args.parts.now)) (view_value c.args.first) c.args.machine.now) c.turns.invariant c.turns-test.false ∙ addeds_none (scope_of c.args.scope.now) (view_value c.turns.value) c.turns.machine
+addeds-returns t c = left_ends view_added (meaning.addeds (scope_of c.args.scope.now)) c.args.parts.now c.turns.part-index c.args.out.now c.turns.out c.turns.machine (λ v. meaning.addeds (scope_of c.args.scope.now) (listed (map view_added c.args.parts.now)) v c.args.machine.now) c.turns.invariant c.turns-test.false (λ v. addeds_none (scope_of c.args.scope.now) v c.turns.machine)
 
-pub multiplieds-returns-in_err-value : goal.multiplieds-returns-in_err-value
-multiplieds-returns-in_err-value t c =
-    let p = err_from_is_err_and c.from_residual.result c.from_residual.ensures.1 in
-    rw (p.1, p.2) (stops view_multiplied (multiplieds_steps (scope_of c.args.scope.now)) c.args.parts.now c.turns.part-index c.part-item.result (view_value c.turns.value) c.turns.machine (meaning.multiplieds (scope_of c.args.scope.now) (listed (map view_multiplied c.args.parts.now)) (view_value c.args.first) c.args.machine.now) c.in_err-value.field-0.0 c.turns.invariant c.turns-test.true c.part-item.is c.in_err-value.ensures)
+pub multiplieds-turns-init : goal.multiplieds-turns-init
+multiplieds-turns-init t c = left_starts (λ v. meaning.multiplieds (scope_of c.args.scope.now) (listed (map view_multiplied c.args.parts.now)) v c.args.machine.now) (meaning.multiplieds (scope_of c.args.scope.now) (listed (map view_multiplied c.args.parts.now))) c.args.out.now c.args.machine.now (λ v. refl)
 
 pub multiplieds-turns-preserved : goal.multiplieds-turns-preserved
-multiplieds-turns-preserved t c = turn view_multiplied (multiplieds_steps (scope_of c.args.scope.now)) c.args.parts.now c.turns.part-index c.part-item.result (view_value c.turns.value) (view_value c.in_ok-value.value) c.turns.machine c.times.new.machine (meaning.multiplieds (scope_of c.args.scope.now) (listed (map view_multiplied c.args.parts.now)) (view_value c.args.first) c.args.machine.now) c.turns.invariant c.turns-test.true c.part-item.is c.in_ok-value.ensures
+multiplieds-turns-preserved t c = left_turns view_multiplied (multiplieds_steps (scope_of c.args.scope.now)) c.args.parts.now c.turns.part-index c.part-item.result c.args.out.now c.turns.out c.times.new.out c.turns.machine c.times.new.machine (λ v. meaning.multiplieds (scope_of c.args.scope.now) (listed (map view_multiplied c.args.parts.now)) v c.args.machine.now) c.turns.invariant c.turns-test.true c.part-item.is c.times.ensures
+
+pub multiplieds-returns-then-is_err : goal.multiplieds-returns-then-is_err
+multiplieds-returns-then-is_err t c = left_stops (λ v. meaning.multiplieds (scope_of c.args.scope.now) (listed (map view_multiplied c.args.parts.now)) v c.args.machine.now) (meaning.multiplieds (scope_of c.args.scope.now) (listed (map view_multiplied (drop c.turns.part-index c.args.parts.now)))) c.args.out.now c.turns.out c.turns.machine c.turns.invariant (sym c.if-is_err.ensures.value)
 
 pub multiplieds-returns : goal.multiplieds-returns
-multiplieds-returns t c = ends view_multiplied (meaning.multiplieds (scope_of c.args.scope.now)) c.args.parts.now c.turns.part-index (view_value c.turns.value) c.turns.machine (meaning.multiplieds (scope_of c.args.scope.now) (listed (map view_multiplied c.args.parts.now)) (view_value c.args.first) c.args.machine.now) c.turns.invariant c.turns-test.false ∙ multiplieds_none (scope_of c.args.scope.now) (view_value c.turns.value) c.turns.machine
+multiplieds-returns t c = left_ends view_multiplied (meaning.multiplieds (scope_of c.args.scope.now)) c.args.parts.now c.turns.part-index c.args.out.now c.turns.out c.turns.machine (λ v. meaning.multiplieds (scope_of c.args.scope.now) (listed (map view_multiplied c.args.parts.now)) v c.args.machine.now) c.turns.invariant c.turns-test.false (λ v. multiplieds_none (scope_of c.args.scope.now) v c.turns.machine)
 
-pub fulls-returns-in_err-value : goal.fulls-returns-in_err-value
-fulls-returns-in_err-value t c =
-    let p = err_from_is_err_and c.from_residual.result c.from_residual.ensures.1 in
-    rw (p.1, p.2) (stops view_full (fulls_steps (scope_of c.args.scope.now)) c.args.parts.now c.turns.part-index c.part-item.result (map view_value c.turns.values.items) c.turns.machine (meaning.fulls (scope_of c.args.scope.now) (listed (map view_full c.args.parts.now)) [] c.args.machine.now) c.in_err-value.field-0.0 c.turns.invariant c.turns-test.true c.part-item.is (fails_on c.in_err-value.field-0.0 (meaning.full (scope_of c.args.scope.now) (view_full c.part-item.result) c.turns.machine) (with_last (map view_value c.turns.values.items)) c.in_err-value.ensures))
+pub expr-returns : goal.expr-returns
+expr-returns t c = goes_means c.conj.new.out c.ors.new.out c.conj.new.machine c.ors.new.machine _ (meaning.conj (scope_of c.args.scope.now) (view_and (expr.out-Expr c.args.node.now).first) c.args.machine.now) (λ x. meaning.ors (scope_of c.args.scope.now) (listed (map view_and c.deref.result.now)) x.0 x.1) (expr_means (scope_of c.args.scope.now) c.args.node.now c.deref.result.now c.args.machine.now c.deref.ensures.value) c.conj.ensures c.ors.ensures
+
+pub conj-returns : goal.conj-returns
+conj-returns t c = goes_means c.nega.new.out c.ands.new.out c.nega.new.machine c.ands.new.machine _ (meaning.nega (scope_of c.args.scope.now) (view_not (and_.out-And c.args.node.now).first) c.args.machine.now) (λ x. meaning.ands (scope_of c.args.scope.now) (listed (map view_not c.deref.result.now)) x.0 x.1) (conj_means (scope_of c.args.scope.now) c.args.node.now c.deref.result.now c.args.machine.now c.deref.ensures.value) c.nega.ensures c.ands.ensures
+
+pub sum-returns : goal.sum-returns
+sum-returns t c = goes_means c.product.new.out c.addeds.new.out c.product.new.machine c.addeds.new.machine _ (meaning.product (scope_of c.args.scope.now) (view_product (sum.out-Sum c.args.node.now).first) c.args.machine.now) (λ x. meaning.addeds (scope_of c.args.scope.now) (listed (map view_added c.deref.result.now)) x.0 x.1) (sum_means (scope_of c.args.scope.now) c.args.node.now c.deref.result.now c.args.machine.now c.deref.ensures.value) c.product.ensures c.addeds.ensures
+
+pub product-returns : goal.product-returns
+product-returns t c = goes_means c.prim.new.out c.multiplieds.new.out c.prim.new.machine c.multiplieds.new.machine _ (meaning.prim (scope_of c.args.scope.now) (view_prim (product.out-Product c.args.node.now).first) c.args.machine.now) (λ x. meaning.multiplieds (scope_of c.args.scope.now) (listed (map view_multiplied c.deref.result.now)) x.0 x.1) (product_means (scope_of c.args.scope.now) c.args.node.now c.deref.result.now c.args.machine.now c.deref.ensures.value) c.prim.ensures c.multiplieds.ensures
+
+pub or_one-returns : goal.or_one-returns
+or_one-returns t c = joins_goes operator.Or c.args.out.now c.operate.new.out c.conj.new.out c.conj.new.machine c.operate.new.machine (meaning.conj (scope_of c.args.scope.now) (view_and c.args.part.now) c.args.machine.now) c.conj.ensures c.operate.ensures
+
+pub and_one-returns : goal.and_one-returns
+and_one-returns t c = joins_goes operator.And c.args.out.now c.operate.new.out c.nega.new.out c.nega.new.machine c.operate.new.machine (meaning.nega (scope_of c.args.scope.now) (view_not c.args.part.now) c.args.machine.now) c.nega.ensures c.operate.ensures
+
+pub compare_with-returns : goal.compare_with-returns
+compare_with-returns t c = joins_goes (operator.Comparison c.args.op) c.args.out.now c.operate.new.out c.sum.new.out c.sum.new.machine c.operate.new.machine (meaning.sum (scope_of c.args.scope.now) (view_sum c.args.right.now) c.args.machine.now) c.sum.ensures c.operate.ensures
+
+pub plus-returns : goal.plus-returns
+plus-returns t c =
+    goes_same c.args.out.now c.operate.new.out c.operate.new.machine _ _ (λ v. plus_means (scope_of c.args.scope.now) c.args.part.now v c.args.machine.now) (joins_goes (operator.Sum (added.out-Added c.args.part.now).minus (added.out-Added c.args.part.now).at) c.args.out.now c.operate.new.out c.product.new.out c.product.new.machine c.operate.new.machine (meaning.product (scope_of c.args.scope.now) (view_product (added.out-Added c.args.part.now).product) c.args.machine.now) c.product.ensures c.operate.ensures)
+
+pub times-returns : goal.times-returns
+times-returns t c =
+    goes_same c.args.out.now c.operate.new.out c.operate.new.machine _ _ (λ v. times_means (scope_of c.args.scope.now) c.args.part.now v c.args.machine.now) (joins_goes (operator.Product c.args.part.now.divide c.args.part.now.at) c.args.out.now c.operate.new.out c.prim.new.out c.prim.new.machine c.operate.new.machine (meaning.prim (scope_of c.args.scope.now) (view_prim c.args.part.now.prim) c.args.machine.now) c.prim.ensures c.operate.ensures)
+
+pub nega-returns-then-node : goal.nega-returns-then-node
+nega-returns-then-node t c = goes_means c.compare.new.out c.negate.new.out c.compare.new.machine c.negate.new.machine _ (meaning.compare (scope_of c.args.scope.now) (view_compare (not_.out-Not c.args.node.now).inner) c.args.machine.now) (λ x. after_count (opposite x.0) x.1) (not_means (scope_of c.args.scope.now) c.args.node.now c.args.machine.now c.if-node.true) c.compare.ensures c.negate.ensures
+
+pub nega-returns-else-node : goal.nega-returns-else-node
+nega-returns-else-node t c = gives_same c.compare.new.out c.compare.new.machine _ _ (plain_means (scope_of c.args.scope.now) c.args.node.now c.args.machine.now c.if-node.false) c.compare.ensures
+
+pub compare-returns-in-None : goal.compare-returns-in-None
+compare-returns-in-None t c = gives_same c.sum.new.out c.sum.new.machine _ _ (alone_means (scope_of c.args.scope.now) c.args.node.now c.args.machine.now c.in-None.is) c.sum.ensures
+
+pub compare-returns-in-Some : goal.compare-returns-in-Some
+compare-returns-in-Some t c = goes_means c.sum.new.out c.compare_with.new.out c.sum.new.machine c.compare_with.new.machine _ (meaning.sum (scope_of c.args.scope.now) (view_sum (compare.out-Compare c.args.node.now).left) c.args.machine.now) (λ x. joined (compared (compared_.out-Compared c.in-Some.right).op) x.0 (meaning.sum (scope_of c.args.scope.now) (view_sum (compared_.out-Compared c.in-Some.right).sum) x.1)) (compared_means (scope_of c.args.scope.now) c.args.node.now c.in-Some.right c.args.machine.now c.in-Some.is) c.sum.ensures c.compare_with.ensures
+
+pub compare-returns-then-is_err : goal.compare-returns-then-is_err
+compare-returns-then-is_err t c = compare_stops (scope_of c.args.scope.now) c.args.node.now c.args.machine.now c.sum.new.out c.sum.new.machine c.sum.ensures (sym c.if-is_err.ensures.value)
+
+pub prim-returns-then-step : goal.prim-returns-then-step
+prim-returns-then-step t c = behind_gives c.put_call.new.out c.put_call.new.machine _ (count 1 c.args.machine.now) (meaning.call (scope_of c.args.scope.now) (view_call c.in-Call.inside)) c.step.new.machine (call_counted (scope_of c.args.scope.now) c.args.node.now c.in-Call.inside c.args.machine.now c.in-Call.is) c.if-step.ensures c.put_call.ensures
+
+pub prim-returns-else-step : goal.prim-returns-else-step
+prim-returns-else-step t c = failed_means c.step.new.out c.step.new.machine _ (count 1 c.args.machine.now) (meaning.call (scope_of c.args.scope.now) (view_call c.in-Call.inside)) (call_counted (scope_of c.args.scope.now) c.args.node.now c.in-Call.inside c.args.machine.now c.in-Call.is) c.if-step.ensures
+
+pub prim-returns-then-step-2 : goal.prim-returns-then-step-2
+prim-returns-then-step-2 t c = behind_gives c.put_choice.new.out c.put_choice.new.machine _ (count 1 c.args.machine.now) (meaning.choice (scope_of c.args.scope.now) (view_if c.in-If.inside)) c.step-in-If.new.machine (choice_counted (scope_of c.args.scope.now) c.args.node.now c.in-If.inside c.args.machine.now c.in-If.is) c.if-step-2.ensures c.put_choice.ensures
+
+pub prim-returns-else-step-2 : goal.prim-returns-else-step-2
+prim-returns-else-step-2 t c = failed_means c.step-in-If.new.out c.step-in-If.new.machine _ (count 1 c.args.machine.now) (meaning.choice (scope_of c.args.scope.now) (view_if c.in-If.inside)) (choice_counted (scope_of c.args.scope.now) c.args.node.now c.in-If.inside c.args.machine.now c.in-If.is) c.if-step-2.ensures
+
+pub prim-returns-then-step-3 : goal.prim-returns-then-step-3
+prim-returns-then-step-3 t c = behind_gives c.put_full.new.out c.put_full.new.machine _ (count 1 c.args.machine.now) (meaning.full (scope_of c.args.scope.now) (view_full c.in-Paren.inside.value)) c.step-in-Paren.new.machine (paren_counted (scope_of c.args.scope.now) c.args.node.now c.in-Paren.inside c.args.machine.now c.in-Paren.is) c.if-step-3.ensures (full_same (scope_of c.args.scope.now) c.deref.result.now c.in-Paren.inside.value c.put_full.new.out c.step-in-Paren.new.machine c.put_full.new.machine c.deref.ensures c.put_full.ensures)
+
+pub prim-returns-else-step-3 : goal.prim-returns-else-step-3
+prim-returns-else-step-3 t c = failed_means c.step-in-Paren.new.out c.step-in-Paren.new.machine _ (count 1 c.args.machine.now) (meaning.full (scope_of c.args.scope.now) (view_full c.in-Paren.inside.value)) (paren_counted (scope_of c.args.scope.now) c.args.node.now c.in-Paren.inside c.args.machine.now c.in-Paren.is) c.if-step-3.ensures
+
+pub prim-returns-then-step-4 : goal.prim-returns-then-step-4
+prim-returns-then-step-4 t c = behind_gives c.grouped.new.out c.grouped.new.machine _ (count 1 c.args.machine.now) (meaning.grouped (scope_of c.args.scope.now) (listed (map view_full c.deref-then-step-4.result.now))) c.step-in-Tuple.new.machine (tuple_counted (scope_of c.args.scope.now) c.args.node.now c.in-Tuple.at c.in-Tuple.parts c.deref-then-step-4.result.now c.args.machine.now c.in-Tuple.is c.deref-then-step-4.ensures.value) c.if-step-4.ensures c.grouped.ensures
+
+pub prim-returns-else-step-4 : goal.prim-returns-else-step-4
+prim-returns-else-step-4 t c = failed_means c.step-in-Tuple.new.out c.step-in-Tuple.new.machine _ (count 1 c.args.machine.now) (meaning.grouped (scope_of c.args.scope.now) (listed (map view_full c.in-Tuple.parts.items))) (tuple_counted (scope_of c.args.scope.now) c.args.node.now c.in-Tuple.at c.in-Tuple.parts c.in-Tuple.parts.items c.args.machine.now c.in-Tuple.is refl) c.if-step-4.ensures
+
+pub prim-returns-then-step-5 : goal.prim-returns-then-step-5
+prim-returns-then-step-5 t c = behind_gives c.list.new.out c.list.new.machine _ (count 1 c.args.machine.now) (meaning.all_of (scope_of c.args.scope.now) (listed (map view_full c.deref-then-step-5.result.now))) c.step-in-List.new.machine (list_counted (scope_of c.args.scope.now) c.args.node.now c.in-List.at c.in-List.parts c.deref-then-step-5.result.now c.args.machine.now c.in-List.is c.deref-then-step-5.ensures.value) c.if-step-5.ensures c.list.ensures
+
+pub prim-returns-else-step-5 : goal.prim-returns-else-step-5
+prim-returns-else-step-5 t c = failed_means c.step-in-List.new.out c.step-in-List.new.machine _ (count 1 c.args.machine.now) (meaning.all_of (scope_of c.args.scope.now) (listed (map view_full c.in-List.parts.items))) (list_counted (scope_of c.args.scope.now) c.args.node.now c.in-List.at c.in-List.parts c.in-List.parts.items c.args.machine.now c.in-List.is refl) c.if-step-5.ensures
+
+pub put_choice-returns-in-None : goal.put_choice-returns-in-None
+put_choice-returns-in-None t c = choice_fails (scope_of c.args.scope.now) c.args.node.now c.deref.result.now c.put_full.new.out c.truth.new.out c.args.machine.now c.put_full.new.machine c.deref.ensures c.put_full.ensures c.in-None.ensures
+
+pub put_choice-returns-in-Some-true : goal.put_choice-returns-in-Some-true
+put_choice-returns-in-Some-true t c =
+    choice_goes (scope_of c.args.scope.now) c.args.node.now true c.deref.result.now c.put_full.new.out c.truth.new.out c.put_full-in-Some-true.new.out c.args.machine.now c.put_full.new.machine c.put_full-in-Some-true.new.machine c.deref.ensures c.put_full.ensures (rw c.in-Some-true.field-0-test at c.in-Some-true.ensures)
+    (full_same (scope_of c.args.scope.now) c.deref-in-Some-true.result.now c.args.node.now.then_part.value c.put_full-in-Some-true.new.out c.put_full.new.machine c.put_full-in-Some-true.new.machine c.deref-in-Some-true.ensures c.put_full-in-Some-true.ensures)
+
+pub put_choice-returns-in-Some-false : goal.put_choice-returns-in-Some-false
+put_choice-returns-in-Some-false t c =
+    choice_goes (scope_of c.args.scope.now) c.args.node.now false c.deref.result.now c.put_full.new.out c.truth.new.out c.put_full-in-Some-false.new.out c.args.machine.now c.put_full.new.machine c.put_full-in-Some-false.new.machine c.deref.ensures c.put_full.ensures (rw c.in-Some-false.field-0-test at c.in-Some-false.ensures)
+    (full_same (scope_of c.args.scope.now) c.deref-in-Some-false.result.now c.args.node.now.else_part.value c.put_full-in-Some-false.new.out c.put_full.new.machine c.put_full-in-Some-false.new.machine c.deref-in-Some-false.ensures c.put_full-in-Some-false.ensures)
+
+pub put_call-returns-in-None : goal.put_call-returns-in-None
+put_call-returns-in-None t c = failed_means c.arguments.new.out c.arguments.new.machine _ (meaning.arguments (scope_of c.args.scope.now) (listed (map view_arg c.deref.result.now)) [] c.args.machine.now) (λ x. meaning.applied (scope_of c.args.scope.now) (use_at (call.out-Call c.args.node.now).at (scope_of c.args.scope.now).uses) (call.out-Call c.args.node.now).at x.0 x.1) (call_means (scope_of c.args.scope.now) c.args.node.now c.deref.result.now c.args.machine.now c.deref.ensures.value) c.in-None.ensures
+
+pub put_call-returns-in-Some : goal.put_call-returns-in-Some
+put_call-returns-in-Some t c = behind_gives c.applied.new.out c.applied.new.machine _ (meaning.arguments (scope_of c.args.scope.now) (listed (map view_arg c.deref.result.now)) [] c.args.machine.now) (λ x. meaning.applied (scope_of c.args.scope.now) (use_at (call.out-Call c.args.node.now).at (scope_of c.args.scope.now).uses) (call.out-Call c.args.node.now).at x.0 x.1) (map view_given c.in-Some.given.items, c.arguments.new.machine) (call_means (scope_of c.args.scope.now) c.args.node.now c.deref.result.now c.args.machine.now c.deref.ensures.value) c.in-Some.ensures c.applied.ensures
+
+pub pair-returns-in-None : goal.pair-returns-in-None
+pair-returns-in-None t c = failed_means c.fulls.new.out c.fulls.new.machine _ (meaning.fulls (scope_of c.args.scope.now) (listed (map view_full c.args.parts.now)) [] c.args.machine.now) as_tuple (pair_means (scope_of c.args.scope.now) c.args.parts.now c.args.machine.now (omega arith)) c.in-None.ensures
+
+pub pair-returns-in-Some : goal.pair-returns-in-Some
+pair-returns-in-Some t c = made_gives c.put.new.out c.fulls.new.machine _ (meaning.fulls (scope_of c.args.scope.now) (listed (map view_full c.args.parts.now)) [] c.args.machine.now) as_tuple (map view_value c.in-Some.values.items, c.fulls.new.machine) c.tuple.result (pair_means (scope_of c.args.scope.now) c.args.parts.now c.args.machine.now (omega arith)) c.in-Some.ensures (ap (λ (v : Value). Ok (v, c.fulls.new.machine)) (sym c.tuple.ensures)) c.put.ensures
+
+pub list-returns-in-Some : goal.list-returns-in-Some
+list-returns-in-Some t c = made_gives c.put.new.out c.fulls.new.machine _ (meaning.fulls (scope_of c.args.scope.now) (listed (map view_full c.args.parts.now)) [] c.args.machine.now) as_list (map view_value c.in-Some.values.items, c.fulls.new.machine) c.listed.result refl c.in-Some.ensures (ap (λ (v : Value). Ok (v, c.fulls.new.machine)) (sym c.listed.ensures)) c.put.ensures
+
+pub list-returns-in-None : goal.list-returns-in-None
+list-returns-in-None t c = failed_gives (λ v. (view_value v, c.fulls.new.machine)) c.fulls.new.out (meaning.fulls (scope_of c.args.scope.now) (listed (map view_full c.args.parts.now)) [] c.args.machine.now) as_list c.in-None.ensures
 
 pub fulls-turns-preserved : goal.fulls-turns-preserved
-fulls-turns-preserved t c = turn view_full (fulls_steps (scope_of c.args.scope.now)) c.args.parts.now c.turns.part-index c.part-item.result (map view_value c.turns.values.items) (map view_value c.push.new.self.items) c.turns.machine c.full.new.machine (meaning.fulls (scope_of c.args.scope.now) (listed (map view_full c.args.parts.now)) [] c.args.machine.now) c.turns.invariant c.turns-test.true c.part-item.is (went view_value (meaning.full (scope_of c.args.scope.now) (view_full c.part-item.result) c.turns.machine) c.turns.values.items c.push.new.self.items c.in_ok-value.value c.full.new.machine c.in_ok-value.ensures c.in_ok-push.ensures.items)
+fulls-turns-preserved t c = turn view_full (fulls_steps (scope_of c.args.scope.now)) c.args.parts.now c.turns.part-index c.part-item.result (map view_value c.turns.values.items) (map view_value c.kept_value.new.values.items) c.turns.machine c.put_full.new.machine (meaning.fulls (scope_of c.args.scope.now) (listed (map view_full c.args.parts.now)) [] c.args.machine.now) c.turns.invariant c.turns-test.true c.part-item.is (plain_last (meaning.full (scope_of c.args.scope.now) (view_full c.part-item.result) c.turns.machine) (map view_value c.turns.values.items) ∙ kept_on (λ v. v) c.put_full.new.out c.kept_value.new.out (map view_value c.turns.values.items) (map view_value c.kept_value.new.values.items) c.put_full.new.machine (meaning.full (scope_of c.args.scope.now) (view_full c.part-item.result) c.turns.machine) c.put_full.ensures (rw c.if-not-kept_value.false at c.kept_value.ensures))
+
+pub fulls-returns-then-not-kept_value : goal.fulls-returns-then-not-kept_value
+fulls-returns-then-not-kept_value t c = failed_stops view_full (fulls_steps (scope_of c.args.scope.now)) c.args.parts.now c.turns.part-index c.part-item.result (map view_value c.turns.values.items) c.turns.machine (meaning.fulls (scope_of c.args.scope.now) (listed (map view_full c.args.parts.now)) [] c.args.machine.now) c.kept_value.new.out c.turns.invariant c.turns-test.true c.part-item.is (failed_same c.kept_value.new.out _ _ (sym (plain_last (meaning.full (scope_of c.args.scope.now) (view_full c.part-item.result) c.turns.machine) (map view_value c.turns.values.items))) (kept_off (λ v. v) c.put_full.new.out c.kept_value.new.out (map view_value c.turns.values.items) (map view_value c.kept_value.new.values.items) c.put_full.new.machine (meaning.full (scope_of c.args.scope.now) (view_full c.part-item.result) c.turns.machine) c.put_full.ensures (rw c.if-not-kept_value.true at c.kept_value.ensures)))
 
 pub fulls-returns : goal.fulls-returns
 fulls-returns t c = ends view_full (meaning.fulls (scope_of c.args.scope.now)) c.args.parts.now c.turns.part-index (map view_value c.turns.values.items) c.turns.machine (meaning.fulls (scope_of c.args.scope.now) (listed (map view_full c.args.parts.now)) [] c.args.machine.now) c.turns.invariant c.turns-test.false ∙ fulls_none (scope_of c.args.scope.now) (map view_value c.turns.values.items) c.turns.machine
 
-pub arguments-returns-in_err-one : goal.arguments-returns-in_err-one
-arguments-returns-in_err-one t c =
-    let p = err_from_is_err_and c.from_residual.result c.from_residual.ensures.1 in
-    rw (p.1, p.2) (stops view_arg (arguments_steps (scope_of c.args.scope.now)) c.args.args.now c.turns.arg-index c.arg-item.result (map view_given c.turns.given.items) c.turns.machine (meaning.arguments (scope_of c.args.scope.now) (listed (map view_arg c.args.args.now)) [] c.args.machine.now) c.in_err-one.field-0.0 c.turns.invariant c.turns-test.true c.arg-item.is (fails_on c.in_err-one.field-0.0 (meaning.argued (scope_of c.args.scope.now) (view_arg c.arg-item.result) c.turns.machine) (with_last (map view_given c.turns.given.items)) c.in_err-one.ensures))
-
 pub arguments-turns-preserved : goal.arguments-turns-preserved
-arguments-turns-preserved t c = turn view_arg (arguments_steps (scope_of c.args.scope.now)) c.args.args.now c.turns.arg-index c.arg-item.result (map view_given c.turns.given.items) (map view_given c.push.new.self.items) c.turns.machine c.argued.new.machine (meaning.arguments (scope_of c.args.scope.now) (listed (map view_arg c.args.args.now)) [] c.args.machine.now) c.turns.invariant c.turns-test.true c.arg-item.is (went view_given (meaning.argued (scope_of c.args.scope.now) (view_arg c.arg-item.result) c.turns.machine) c.turns.given.items c.push.new.self.items c.in_ok-one.one c.argued.new.machine c.in_ok-one.ensures c.in_ok-push.ensures.items)
+arguments-turns-preserved t c = turn view_arg (arguments_steps (scope_of c.args.scope.now)) c.args.args.now c.turns.arg-index c.arg-item.result (map view_given c.turns.given.items) (map view_given c.kept_argument.new.given.items) c.turns.machine c.put_full.new.machine (meaning.arguments (scope_of c.args.scope.now) (listed (map view_arg c.args.args.now)) [] c.args.machine.now) c.turns.invariant c.turns-test.true c.arg-item.is (ap (λ (o : Result (Given × Machine) Fault). o >>= with_last (map view_given c.turns.given.items)) (argued_means (scope_of c.args.scope.now) c.arg-item.result c.turns.machine) ∙ kept_on (λ v. (c.arg-item.result.label, v)) c.put_full.new.out c.kept_argument.new.out (map view_given c.turns.given.items) (map view_given c.kept_argument.new.given.items) c.put_full.new.machine (meaning.full (scope_of c.args.scope.now) (view_full c.arg-item.result.value) c.turns.machine) c.put_full.ensures (rw c.if-not-kept_argument.false at c.kept_argument.ensures))
+
+pub arguments-returns-then-not-kept_argument : goal.arguments-returns-then-not-kept_argument
+arguments-returns-then-not-kept_argument t c = failed_stops view_arg (arguments_steps (scope_of c.args.scope.now)) c.args.args.now c.turns.arg-index c.arg-item.result (map view_given c.turns.given.items) c.turns.machine (meaning.arguments (scope_of c.args.scope.now) (listed (map view_arg c.args.args.now)) [] c.args.machine.now) c.kept_argument.new.out c.turns.invariant c.turns-test.true c.arg-item.is (failed_same c.kept_argument.new.out _ _ (sym (ap (λ (o : Result (Given × Machine) Fault). o >>= with_last (map view_given c.turns.given.items)) (argued_means (scope_of c.args.scope.now) c.arg-item.result c.turns.machine))) (kept_off (λ v. (c.arg-item.result.label, v)) c.put_full.new.out c.kept_argument.new.out (map view_given c.turns.given.items) (map view_given c.kept_argument.new.given.items) c.put_full.new.machine (meaning.full (scope_of c.args.scope.now) (view_full c.arg-item.result.value) c.turns.machine) c.put_full.ensures (rw c.if-not-kept_argument.true at c.kept_argument.ensures)))
 
 pub arguments-returns : goal.arguments-returns
 arguments-returns t c = ends view_arg (meaning.arguments (scope_of c.args.scope.now)) c.args.args.now c.turns.arg-index (map view_given c.turns.given.items) c.turns.machine (meaning.arguments (scope_of c.args.scope.now) (listed (map view_arg c.args.args.now)) [] c.args.machine.now) c.turns.invariant c.turns-test.false ∙ arguments_none (scope_of c.args.scope.now) (map view_given c.turns.given.items) c.turns.machine
+
+pub put_full-returns-in-Some : goal.put_full-returns-in-Some
+put_full-returns-in-Some t c =
+    gives_same c.prim.new.out c.prim.new.machine _ _ (full_lone (scope_of c.args.scope.now) c.args.node.now c.in-Plain.inside (view_prim c.in-Some.operand.now) c.args.machine.now c.in-Plain.is c.in-Some.ensures.seen) c.prim.ensures
 
 pub inners-returns-in_err-slot : goal.inners-returns-in_err-slot
 inners-returns-in_err-slot t c =
@@ -118,62 +233,6 @@ parameters-turns-preserved t c = turn view_param (parameters_steps (base_of c.ar
 pub parameters-returns : goal.parameters-returns
 parameters-returns t c = ends view_param (from_both (base_of c.args.scope.now)) c.args.params.now c.turns.param-index (map view_given c.turns.rest.items, map view_slot c.turns.slots.items) c.turns.machine (meaning.parameters (base_of c.args.scope.now) (listed (map view_param c.args.params.now)) (map view_given c.args.given.items) [] c.args.machine.now) c.turns.invariant c.turns-test.false ∙ parameters_none (base_of c.args.scope.now) (map view_given c.turns.rest.items) (map view_slot c.turns.slots.items) c.turns.machine
 
-pub expr-returns-in_err-first : goal.expr-returns-in_err-first
-expr-returns-in_err-first t c =
-    let p = err_from_is_err_and c.from_residual.result c.from_residual.ensures.1 in
-    rw (p.1, p.2) (first_fails c.in_err-first.field-0.0 (meaning.conj (scope_of c.args.scope.now) (view_and (expr.out-Expr c.args.node.now).first) c.args.machine.now) (meaning.expr (scope_of c.args.scope.now) (view_expr c.args.node.now) c.args.machine.now) (λ x. meaning.ors (scope_of c.args.scope.now) (listed (map view_and (expr.out-Expr c.args.node.now).rest.items)) x.0 x.1) (expr_means (scope_of c.args.scope.now) c.args.node.now (expr.out-Expr c.args.node.now).rest.items c.args.machine.now refl) c.in_err-first.ensures)
-
-pub expr-returns : goal.expr-returns
-expr-returns t c = subst (λ (r : Outcome). Gives (λ v. (view_value v, c.ors.new.machine)) c.ors.result r) (sym (then_first (meaning.conj (scope_of c.args.scope.now) (view_and (expr.out-Expr c.args.node.now).first) c.args.machine.now) (meaning.expr (scope_of c.args.scope.now) (view_expr c.args.node.now) c.args.machine.now) (λ x. meaning.ors (scope_of c.args.scope.now) (listed (map view_and c.deref.result.now)) x.0 x.1) (view_value c.in_ok-first.first, c.conj.new.machine) (expr_means (scope_of c.args.scope.now) c.args.node.now c.deref.result.now c.args.machine.now c.deref.ensures.value) c.in_ok-first.ensures)) c.ors.ensures
-
-pub conj-returns-in_err-first : goal.conj-returns-in_err-first
-conj-returns-in_err-first t c =
-    let p = err_from_is_err_and c.from_residual.result c.from_residual.ensures.1 in
-    rw (p.1, p.2) (first_fails c.in_err-first.field-0.0 (meaning.nega (scope_of c.args.scope.now) (view_not (and_.out-And c.args.node.now).first) c.args.machine.now) (meaning.conj (scope_of c.args.scope.now) (view_and c.args.node.now) c.args.machine.now) (λ x. meaning.ands (scope_of c.args.scope.now) (listed (map view_not (and_.out-And c.args.node.now).rest.items)) x.0 x.1) (conj_means (scope_of c.args.scope.now) c.args.node.now (and_.out-And c.args.node.now).rest.items c.args.machine.now refl) c.in_err-first.ensures)
-
-pub conj-returns : goal.conj-returns
-conj-returns t c = subst (λ (r : Outcome). Gives (λ v. (view_value v, c.ands.new.machine)) c.ands.result r) (sym (then_first (meaning.nega (scope_of c.args.scope.now) (view_not (and_.out-And c.args.node.now).first) c.args.machine.now) (meaning.conj (scope_of c.args.scope.now) (view_and c.args.node.now) c.args.machine.now) (λ x. meaning.ands (scope_of c.args.scope.now) (listed (map view_not c.deref.result.now)) x.0 x.1) (view_value c.in_ok-first.first, c.nega.new.machine) (conj_means (scope_of c.args.scope.now) c.args.node.now c.deref.result.now c.args.machine.now c.deref.ensures.value) c.in_ok-first.ensures)) c.ands.ensures
-
-pub sum-returns-in_err-first : goal.sum-returns-in_err-first
-sum-returns-in_err-first t c =
-    let p = err_from_is_err_and c.from_residual.result c.from_residual.ensures.1 in
-    rw (p.1, p.2) (first_fails c.in_err-first.field-0.0 (meaning.product (scope_of c.args.scope.now) (view_product (sum.out-Sum c.args.node.now).first) c.args.machine.now) (meaning.sum (scope_of c.args.scope.now) (view_sum c.args.node.now) c.args.machine.now) (λ x. meaning.addeds (scope_of c.args.scope.now) (listed (map view_added (sum.out-Sum c.args.node.now).rest.items)) x.0 x.1) (sum_means (scope_of c.args.scope.now) c.args.node.now (sum.out-Sum c.args.node.now).rest.items c.args.machine.now refl) c.in_err-first.ensures)
-
-pub sum-returns : goal.sum-returns
-sum-returns t c = subst (λ (r : Outcome). Gives (λ v. (view_value v, c.addeds.new.machine)) c.addeds.result r) (sym (then_first (meaning.product (scope_of c.args.scope.now) (view_product (sum.out-Sum c.args.node.now).first) c.args.machine.now) (meaning.sum (scope_of c.args.scope.now) (view_sum c.args.node.now) c.args.machine.now) (λ x. meaning.addeds (scope_of c.args.scope.now) (listed (map view_added c.deref.result.now)) x.0 x.1) (view_value c.in_ok-first.first, c.product.new.machine) (sum_means (scope_of c.args.scope.now) c.args.node.now c.deref.result.now c.args.machine.now c.deref.ensures.value) c.in_ok-first.ensures)) c.addeds.ensures
-
-pub product-returns-in_err-first : goal.product-returns-in_err-first
-product-returns-in_err-first t c =
-    let p = err_from_is_err_and c.from_residual.result c.from_residual.ensures.1 in
-    rw (p.1, p.2) (first_fails c.in_err-first.field-0.0 (meaning.prim (scope_of c.args.scope.now) (view_prim (product.out-Product c.args.node.now).first) c.args.machine.now) (meaning.product (scope_of c.args.scope.now) (view_product c.args.node.now) c.args.machine.now) (λ x. meaning.multiplieds (scope_of c.args.scope.now) (listed (map view_multiplied (product.out-Product c.args.node.now).rest.items)) x.0 x.1) (product_means (scope_of c.args.scope.now) c.args.node.now (product.out-Product c.args.node.now).rest.items c.args.machine.now refl) c.in_err-first.ensures)
-
-pub product-returns : goal.product-returns
-product-returns t c = subst (λ (r : Outcome). Gives (λ v. (view_value v, c.multiplieds.new.machine)) c.multiplieds.result r) (sym (then_first (meaning.prim (scope_of c.args.scope.now) (view_prim (product.out-Product c.args.node.now).first) c.args.machine.now) (meaning.product (scope_of c.args.scope.now) (view_product c.args.node.now) c.args.machine.now) (λ x. meaning.multiplieds (scope_of c.args.scope.now) (listed (map view_multiplied c.deref.result.now)) x.0 x.1) (view_value c.in_ok-first.first, c.prim.new.machine) (product_means (scope_of c.args.scope.now) c.args.node.now c.deref.result.now c.args.machine.now c.deref.ensures.value) c.in_ok-first.ensures)) c.multiplieds.ensures
-
-pub call-returns-in_err-given : goal.call-returns-in_err-given
-call-returns-in_err-given t c =
-    let p = err_from_is_err_and c.from_residual.result c.from_residual.ensures.1 in
-    rw (p.1, p.2) (first_fails c.in_err-given.field-0.0 (meaning.arguments (scope_of c.args.scope.now) (listed (map view_arg c.deref.result.now)) [] c.args.machine.now) (meaning.call (scope_of c.args.scope.now) (view_call c.args.node.now) c.args.machine.now) (λ x. meaning.applied (scope_of c.args.scope.now) (use_at (call.out-Call c.args.node.now).at (scope_of c.args.scope.now).uses) (call.out-Call c.args.node.now).at x.0 x.1) (call_means (scope_of c.args.scope.now) c.args.node.now c.deref.result.now c.args.machine.now c.deref.ensures.value) c.in_err-given.ensures)
-
-pub call-returns : goal.call-returns
-call-returns t c = subst (λ (r : Outcome). Gives (λ v. (view_value v, c.applied.new.machine)) c.applied.result r) (sym (then_first (meaning.arguments (scope_of c.args.scope.now) (listed (map view_arg c.deref.result.now)) [] c.args.machine.now) (meaning.call (scope_of c.args.scope.now) (view_call c.args.node.now) c.args.machine.now) (λ x. meaning.applied (scope_of c.args.scope.now) (use_at (call.out-Call c.args.node.now).at (scope_of c.args.scope.now).uses) (call.out-Call c.args.node.now).at x.0 x.1) (map view_given c.in_ok-given.given.items, c.arguments.new.machine) (call_means (scope_of c.args.scope.now) c.args.node.now c.deref.result.now c.args.machine.now c.deref.ensures.value) c.in_ok-given.ensures)) c.applied.ensures
-
-pub pair-returns-in_err-values : goal.pair-returns-in_err-values
-pair-returns-in_err-values t c =
-    let p = err_from_is_err_and c.from_residual.result c.from_residual.ensures.1 in
-    rw (p.1, p.2) (first_fails c.in_err-values.field-0.0 (meaning.fulls (scope_of c.args.scope.now) (listed (map view_full c.args.parts.now)) [] c.args.machine.now) (meaning.grouped (scope_of c.args.scope.now) (listed (map view_full c.args.parts.now)) c.args.machine.now) as_tuple (pair_means (scope_of c.args.scope.now) c.args.parts.now c.args.machine.now (omega arith)) c.in_err-values.ensures)
-
-pub pair-returns : goal.pair-returns
-pair-returns t c = then_first (meaning.fulls (scope_of c.args.scope.now) (listed (map view_full c.args.parts.now)) [] c.args.machine.now) (meaning.grouped (scope_of c.args.scope.now) (listed (map view_full c.args.parts.now)) c.args.machine.now) as_tuple (map view_value c.in_ok-values.values.items, c.fulls.new.machine) (pair_means (scope_of c.args.scope.now) c.args.parts.now c.args.machine.now (omega arith)) c.in_ok-values.ensures ∙ ap (λ (v : Value). Ok (v, c.fulls.new.machine)) (sym c.tuple.ensures)
-
-pub counted_tuple-returns-in_err-count : goal.counted_tuple-returns-in_err-count
-counted_tuple-returns-in_err-count t c =
-    let p = err_from_is_err_and c.from_residual.result c.from_residual.ensures.1 in
-    rw (p.1, p.2) (first_fails c.in_err-count.field-0.0 (count 1 c.args.machine.now) (meaning.prim (scope_of c.args.scope.now) (tuple_of c.args.at (listed (map view_full c.args.parts.now))) c.args.machine.now) (meaning.grouped (scope_of c.args.scope.now) (listed (map view_full c.args.parts.now))) (grouped_means (scope_of c.args.scope.now) c.args.at (listed (map view_full c.args.parts.now)) c.args.machine.now) c.in_err-count.ensures)
-
-pub counted_tuple-returns : goal.counted_tuple-returns
-counted_tuple-returns t c = subst (λ (r : Outcome). Gives (λ v. (view_value v, c.grouped.new.machine)) c.grouped.result r) (sym (then_first (count 1 c.args.machine.now) (meaning.prim (scope_of c.args.scope.now) (tuple_of c.args.at (listed (map view_full c.args.parts.now))) c.args.machine.now) (meaning.grouped (scope_of c.args.scope.now) (listed (map view_full c.args.parts.now))) c.count.new.machine (grouped_means (scope_of c.args.scope.now) c.args.at (listed (map view_full c.args.parts.now)) c.args.machine.now) c.in_ok-count.ensures)) c.grouped.ensures
-
 pub call_def-returns-then-scope-eq0 : goal.call_def-returns-then-scope-eq0
 call_def-returns-then-scope-eq0 t c = calls_end (world_of c.args.scope.now) c.args.scope.now.calls c.args.at c.args.kinds.now (map view_given c.args.given.items) c.args.machine.now (omega arith)
 
@@ -188,61 +247,3 @@ call_def-returns-in-Some t c =
     calls_turn (world_of c.args.scope.now) c.args.scope.now.calls (c.args.scope.now.calls - 1) c.args.at c.args.kinds.now (map view_given c.args.given.items) c.args.machine.now (omega arith)
     ∙ ap (λ (o : Option (Tree ADef)). meaning.run (record { uses = c.args.scope.now.uses.now.all.now; slots = map view_slot c.args.scope.now.globals.now.all.items; kinds = c.args.kinds.now; call = meaning.call_by (world_of c.args.scope.now) (c.args.scope.now.calls - 1) }) o (map view_given c.args.given.items) c.args.machine.now) (sym c.in-Some.ensures) in
     subst (λ (r : Outcome). Gives (λ v. (view_value v, c.body.new.machine)) c.body.result r) (sym turned) c.body.ensures
-
-pub prim-returns-in-Tuple : goal.prim-returns-in-Tuple
-prim-returns-in-Tuple t c =
-    let seen : view_prim c.args.node.now ≡ tuple_of c.in-Tuple.at (listed (map view_full c.deref-in-Tuple.result.now)) =
-    ap view_prim c.in-Tuple.is ∙ tuple_view c.in-Tuple.at c.in-Tuple.parts ∙ ap (λ (l : List Full). tuple_of c.in-Tuple.at (listed (map view_full l))) (sym c.deref-in-Tuple.ensures.value) in
-    subst (λ (x : Tree APrim). Gives (λ v. (view_value v, c.counted_tuple.new.machine)) c.counted_tuple.result (meaning.prim (scope_of c.args.scope.now) x c.args.machine.now)) (sym seen) c.counted_tuple.ensures
-
-pub prim-returns-in-List : goal.prim-returns-in-List
-prim-returns-in-List t c =
-    let seen : view_prim c.args.node.now ≡ Listed c.in-List.at (listed (map view_full c.deref-in-List.result.now)) =
-    ap view_prim c.in-List.is ∙ list_made c.in-List.at c.in-List.parts ∙ ap (λ (l : List Full). Listed c.in-List.at (listed (map view_full l))) (sym c.deref-in-List.ensures.value) in
-    subst (λ (x : Tree APrim). Gives (λ v. (view_value v, c.counted_list.new.machine)) c.counted_list.result (meaning.prim (scope_of c.args.scope.now) x c.args.machine.now)) (sym seen) c.counted_list.ensures
-
-pub full-returns-in-Some : goal.full-returns-in-Some
-full-returns-in-Some t c =
-    let seen : meaning.full (scope_of c.args.scope.now) (view_full c.args.node.now) c.args.machine.now ≡ meaning.prim (scope_of c.args.scope.now) (view_prim c.in-Some.operand.now) c.args.machine.now =
-    full_lone (scope_of c.args.scope.now) c.args.node.now c.in-Plain.inside (view_prim c.in-Some.operand.now) c.args.machine.now c.in-Plain.is c.in-Some.ensures.seen in
-    subst (λ (r : Outcome). Gives (λ v. (view_value v, c.prim.new.machine)) c.prim.result r) (sym seen) c.prim.ensures
-
-pub or_one-returns-in_err-other : goal.or_one-returns-in_err-other
-or_one-returns-in_err-other t c =
-    let p = err_from_is_err_and c.from_residual.result c.from_residual.ensures.1 in
-    rw (p.1, p.2) (fails_on c.in_err-other.field-0.0 (meaning.conj (scope_of c.args.scope.now) (view_and c.args.part.now) c.args.machine.now) (λ x. after_count (numbers.either (view_value c.args.value) x.0) x.1) c.in_err-other.ensures)
-
-pub or_one-returns : goal.or_one-returns
-or_one-returns t c = goes_on (λ v. (view_value v, c.operate.new.machine)) c.operate.result (meaning.conj (scope_of c.args.scope.now) (view_and c.args.part.now) c.args.machine.now) (view_value c.in_ok-other.other, c.conj.new.machine) (λ x. after_count (numbers.either (view_value c.args.value) x.0) x.1) c.in_ok-other.ensures c.operate.ensures
-
-pub and_one-returns-in_err-other : goal.and_one-returns-in_err-other
-and_one-returns-in_err-other t c =
-    let p = err_from_is_err_and c.from_residual.result c.from_residual.ensures.1 in
-    rw (p.1, p.2) (fails_on c.in_err-other.field-0.0 (meaning.nega (scope_of c.args.scope.now) (view_not c.args.part.now) c.args.machine.now) (λ x. after_count (numbers.both (view_value c.args.value) x.0) x.1) c.in_err-other.ensures)
-
-pub and_one-returns : goal.and_one-returns
-and_one-returns t c = goes_on (λ v. (view_value v, c.operate.new.machine)) c.operate.result (meaning.nega (scope_of c.args.scope.now) (view_not c.args.part.now) c.args.machine.now) (view_value c.in_ok-other.other, c.nega.new.machine) (λ x. after_count (numbers.both (view_value c.args.value) x.0) x.1) c.in_ok-other.ensures c.operate.ensures
-
-pub plus-returns-in_err-other : goal.plus-returns-in_err-other
-plus-returns-in_err-other t c =
-    let p = err_from_is_err_and c.from_residual.result c.from_residual.ensures.1 in
-    rw (p.1, p.2) (fails_same c.in_err-other.field-0.0 ((meaning.product (scope_of c.args.scope.now) (view_product (added.out-Added c.args.part.now).product) c.args.machine.now) >>= (λ x. after_count (numbers.added (added.out-Added c.args.part.now).minus (added.out-Added c.args.part.now).at (view_value c.args.value) x.0) x.1)) (meaning.plus (scope_of c.args.scope.now) (view_added c.args.part.now) (view_value c.args.value) c.args.machine.now) (sym (plus_means (scope_of c.args.scope.now) c.args.part.now (view_value c.args.value) c.args.machine.now)) (fails_on c.in_err-other.field-0.0 (meaning.product (scope_of c.args.scope.now) (view_product (added.out-Added c.args.part.now).product) c.args.machine.now) (λ x. after_count (numbers.added (added.out-Added c.args.part.now).minus (added.out-Added c.args.part.now).at (view_value c.args.value) x.0) x.1) c.in_err-other.ensures))
-
-pub plus-returns : goal.plus-returns
-plus-returns t c = subst (λ (o : Outcome). Gives (λ v. (view_value v, c.operate.new.machine)) c.operate.result o) (sym (plus_means (scope_of c.args.scope.now) c.args.part.now (view_value c.args.value) c.args.machine.now)) (goes_on (λ v. (view_value v, c.operate.new.machine)) c.operate.result (meaning.product (scope_of c.args.scope.now) (view_product (added.out-Added c.args.part.now).product) c.args.machine.now) (view_value c.in_ok-other.other, c.product.new.machine) (λ x. after_count (numbers.added (added.out-Added c.args.part.now).minus (added.out-Added c.args.part.now).at (view_value c.args.value) x.0) x.1) c.in_ok-other.ensures c.operate.ensures)
-
-pub times-returns-in_err-other : goal.times-returns-in_err-other
-times-returns-in_err-other t c =
-    let p = err_from_is_err_and c.from_residual.result c.from_residual.ensures.1 in
-    rw (p.1, p.2) (fails_same c.in_err-other.field-0.0 ((meaning.prim (scope_of c.args.scope.now) (view_prim c.args.part.now.prim) c.args.machine.now) >>= (λ x. after_count (numbers.multiplied c.args.part.now.divide c.args.part.now.at (view_value c.args.value) x.0) x.1)) (meaning.times (scope_of c.args.scope.now) (view_multiplied c.args.part.now) (view_value c.args.value) c.args.machine.now) (sym (times_means (scope_of c.args.scope.now) c.args.part.now (view_value c.args.value) c.args.machine.now)) (fails_on c.in_err-other.field-0.0 (meaning.prim (scope_of c.args.scope.now) (view_prim c.args.part.now.prim) c.args.machine.now) (λ x. after_count (numbers.multiplied c.args.part.now.divide c.args.part.now.at (view_value c.args.value) x.0) x.1) c.in_err-other.ensures))
-
-pub times-returns : goal.times-returns
-times-returns t c = subst (λ (o : Outcome). Gives (λ v. (view_value v, c.operate.new.machine)) c.operate.result o) (sym (times_means (scope_of c.args.scope.now) c.args.part.now (view_value c.args.value) c.args.machine.now)) (goes_on (λ v. (view_value v, c.operate.new.machine)) c.operate.result (meaning.prim (scope_of c.args.scope.now) (view_prim c.args.part.now.prim) c.args.machine.now) (view_value c.in_ok-other.other, c.prim.new.machine) (λ x. after_count (numbers.multiplied c.args.part.now.divide c.args.part.now.at (view_value c.args.value) x.0) x.1) c.in_ok-other.ensures c.operate.ensures)
-
-pub compare_with-returns-in_err-other : goal.compare_with-returns-in_err-other
-compare_with-returns-in_err-other t c =
-    let p = err_from_is_err_and c.from_residual.result c.from_residual.ensures.1 in
-    rw (p.1, p.2) (fails_on c.in_err-other.field-0.0 (meaning.sum (scope_of c.args.scope.now) (view_sum c.args.right.now) c.args.machine.now) (λ x. after_count (numbers.compared c.args.op (view_value c.args.value) x.0) x.1) c.in_err-other.ensures)
-
-pub compare_with-returns : goal.compare_with-returns
-compare_with-returns t c = goes_on (λ v. (view_value v, c.operate.new.machine)) c.operate.result (meaning.sum (scope_of c.args.scope.now) (view_sum c.args.right.now) c.args.machine.now) (view_value c.in_ok-other.other, c.sum.new.machine) (λ x. after_count (numbers.compared c.args.op (view_value c.args.value) x.0) x.1) c.in_ok-other.ensures c.operate.ensures

@@ -5,19 +5,23 @@ use Rattle.eval_meaning.specs.Meaning.{ors, ands, addeds, multiplieds, fulls, ar
 use Rattle.eval_scope.specs.Scopes.{scope_of, base_of}
 use Rattle.script_values.specs.Views.{view_given, view_slot}
 use Rattle.script_values.specs.View.{view_value}
+use Rattle.expression_eval.proofs.Putting.{Left}
 use Rattle.expression_eval.proofs.descent.+value.Given as goal
 
+abbrev pub decreases-put_full : goal.decreases-put_full
+decreases-put_full l = 30 * l.left + 0
+
 abbrev pub decreases-full : goal.decreases-full
-decreases-full l = 30 * l.left + 0
-
-abbrev pub decreases-argued : goal.decreases-argued
-decreases-argued l = 30 * l.left + 1
-
-abbrev pub decreases-arguments : goal.decreases-arguments
-decreases-arguments l = 30 * l.left + 2
+decreases-full l = 30 * l.left + 1
 
 abbrev pub decreases-fulls : goal.decreases-fulls
 decreases-fulls l = 30 * l.left + 1
+
+abbrev pub decreases-arguments : goal.decreases-arguments
+decreases-arguments l = 30 * l.left + 1
+
+abbrev pub decreases-put_choice : goal.decreases-put_choice
+decreases-put_choice l = 30 * l.left + 1
 
 abbrev pub decreases-list : goal.decreases-list
 decreases-list l = 30 * l.left + 2
@@ -27,18 +31,6 @@ decreases-pair l = 30 * l.left + 2
 
 abbrev pub decreases-grouped : goal.decreases-grouped
 decreases-grouped l = 30 * l.left + 3
-
-abbrev pub decreases-counted_choice : goal.decreases-counted_choice
-decreases-counted_choice l = 30 * l.left + 4
-
-abbrev pub decreases-counted_tuple : goal.decreases-counted_tuple
-decreases-counted_tuple l = 30 * l.left + 4
-
-abbrev pub decreases-counted_list : goal.decreases-counted_list
-decreases-counted_list l = 30 * l.left + 4
-
-abbrev pub decreases-choice : goal.decreases-choice
-decreases-choice l = 30 * l.left + 2
 
 abbrev pub decreases-parameter : goal.decreases-parameter
 decreases-parameter l = 30 * l.left + 2
@@ -64,14 +56,8 @@ decreases-applied_to l = 30 * l.left + 6
 abbrev pub decreases-applied : goal.decreases-applied
 decreases-applied l = 30 * l.left + 7
 
-abbrev pub decreases-call : goal.decreases-call
-decreases-call l = 30 * l.left + 8
-
-abbrev pub decreases-counted_call : goal.decreases-counted_call
-decreases-counted_call l = 30 * l.left + 9
-
-abbrev pub decreases-counted_full : goal.decreases-counted_full
-decreases-counted_full l = 30 * l.left + 1
+abbrev pub decreases-put_call : goal.decreases-put_call
+decreases-put_call l = 30 * l.left + 8
 
 abbrev pub decreases-prim : goal.decreases-prim
 decreases-prim l = 30 * l.left + 10
@@ -122,16 +108,16 @@ abbrev pub decreases-expr : goal.decreases-expr
 decreases-expr l = 30 * l.left + 25
 
 abbrev pub invariant-ors-turns : goal.invariant-ors-turns
-invariant-ors-turns l = ors (scope_of l.scope) (listed (map view_and (drop l.part-index l.parts))) (view_value l.value) l.machine ≡ ors (scope_of l.scope) (listed (map view_and l.parts)) (view_value l.fn.first) l.fn.machine
+invariant-ors-turns l = Left (λ v. ors (scope_of l.scope) (listed (map view_and l.parts)) v l.fn.machine) (ors (scope_of l.scope) (listed (map view_and (drop l.part-index l.parts)))) l.fn.out l.out l.machine
 
 abbrev pub invariant-ands-turns : goal.invariant-ands-turns
-invariant-ands-turns l = ands (scope_of l.scope) (listed (map view_not (drop l.part-index l.parts))) (view_value l.value) l.machine ≡ ands (scope_of l.scope) (listed (map view_not l.parts)) (view_value l.fn.first) l.fn.machine
+invariant-ands-turns l = Left (λ v. ands (scope_of l.scope) (listed (map view_not l.parts)) v l.fn.machine) (ands (scope_of l.scope) (listed (map view_not (drop l.part-index l.parts)))) l.fn.out l.out l.machine
 
 abbrev pub invariant-addeds-turns : goal.invariant-addeds-turns
-invariant-addeds-turns l = addeds (scope_of l.scope) (listed (map view_added (drop l.part-index l.parts))) (view_value l.value) l.machine ≡ addeds (scope_of l.scope) (listed (map view_added l.parts)) (view_value l.fn.first) l.fn.machine
+invariant-addeds-turns l = Left (λ v. addeds (scope_of l.scope) (listed (map view_added l.parts)) v l.fn.machine) (addeds (scope_of l.scope) (listed (map view_added (drop l.part-index l.parts)))) l.fn.out l.out l.machine
 
 abbrev pub invariant-multiplieds-turns : goal.invariant-multiplieds-turns
-invariant-multiplieds-turns l = multiplieds (scope_of l.scope) (listed (map view_multiplied (drop l.part-index l.parts))) (view_value l.value) l.machine ≡ multiplieds (scope_of l.scope) (listed (map view_multiplied l.parts)) (view_value l.fn.first) l.fn.machine
+invariant-multiplieds-turns l = Left (λ v. multiplieds (scope_of l.scope) (listed (map view_multiplied l.parts)) v l.fn.machine) (multiplieds (scope_of l.scope) (listed (map view_multiplied (drop l.part-index l.parts)))) l.fn.out l.out l.machine
 
 abbrev pub invariant-fulls-turns : goal.invariant-fulls-turns
 invariant-fulls-turns l = fulls (scope_of l.scope) (listed (map view_full (drop l.part-index l.parts))) (map view_value l.values.items) l.machine ≡ fulls (scope_of l.scope) (listed (map view_full l.parts)) [] l.fn.machine

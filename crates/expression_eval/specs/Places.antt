@@ -1,0 +1,55 @@
+-- The place that a function of the evaluator writes its result into: a value, or the fault that ended evaluation.
+use Rattle.std.specs.Prelude.{◌≡◌, Bool, true, false, List, [], ◌∷◌, ◌++◌, Option, Some, None, Result, Ok, Err}
+use Rattle.expression_eval.specs.Steps.{after_count, operation}
+use Rattle.expression_eval.specs.declared.steps.Operator.{Operator}
+use Rattle.script_values.specs.Gives.{Fails, Gives}
+use Rattle.script_values.specs.Numbers.{truth_of}
+use Rattle.script_values.specs.Outcomes.{Outcome}
+use Rattle.script_values.specs.Values.{Value}
+use Rattle.script_values.specs.View.{view_value}
+use Rattle.script_values.specs.declared.fault.Fault.{Fault}
+use Rattle.script_values.specs.declared.fault.Fault.TheVariants as fault
+use Rattle.script_values.specs.declared.machine.Machine.{Machine}
+use Rattle.script_values.specs.declared.value.Value as program
+
+abbrev pub Place : Type 0
+Place = Result program.Value Fault
+
+-- the place holds the fault of what is meant
+abbrev pub Failed : {Y : Type 0} → Place → Result Y Fault → Type 0
+Failed (Ok v) meant = ⊥
+Failed (Err e) meant = Fails e meant
+
+-- Where a value was in the place, what is there now is what the step gives of it. A fault stays.
+abbrev pub Goes : (Value → Outcome) → Place → Place → Machine → Type 0
+Goes step (Ok v) now m = Gives (λ w. (view_value w, m)) now (step (view_value v))
+Goes step (Err e) now m = now ≡ Err e
+
+-- whether to go on: if so this is what is meant, else its fault is in the place
+abbrev pub GoesOn : {Y : Type 0} → Bool → Y → Place → Result Y Fault → Type 0
+GoesOn true y now meant = meant ≡ Ok y
+GoesOn false y now meant = Failed now meant
+
+-- what was made is what is meant; without it the fault of what is meant is in the place
+abbrev pub Makes : {X Y : Type 0} → (X → Y) → Option X → Place → Result Y Fault → Type 0
+Makes view (Some x) now meant = meant ≡ Ok (view x)
+Makes view None now meant = Failed now meant
+
+-- an operator on the value in the place and on what its right operand gave
+abbrev pub Joins : Operator → Place → Machine → Place → Place → Machine → Type 0
+Joins operator right m (Err e) now n = now ≡ Err e
+Joins operator (Err e) m (Ok v) now n = now ≡ Err e
+Joins operator (Ok w) m (Ok v) now n = Gives (λ u. (view_value u, n)) now (after_count (operation operator (view_value v) (view_value w)) m)
+
+-- the truth of the value in the place
+abbrev pub Tells : Place → Option Bool → Place → Type 0
+Tells (Ok v) truth now = Makes (λ b. b) truth now (truth_of (view_value v))
+Tells (Err e) (Some b) now = ⊥
+Tells (Err e) None now = now ≡ Err e
+
+-- whether what is made of the value in the place went behind the others
+abbrev pub Keeps : {X : Type 0} → (Value → X) → Place → Bool → List X → List X → Place → Type 0
+Keeps made (Ok v) true before after now = after ≡ before ++ made (view_value v) ∷ []
+Keeps made (Ok v) false before after now = now ≡ Err fault.Memory
+Keeps made (Err e) true before after now = ⊥
+Keeps made (Err e) false before after now = now ≡ Err e
