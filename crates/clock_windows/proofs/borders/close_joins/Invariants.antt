@@ -1,0 +1,5 @@
+use Rattle.clock_windows.proofs.Closing.{Closing}
+use Rattle.clock_windows.proofs.borders.close_joins.Given as goal
+
+abbrev pub invariant-loop-b : goal.invariant-loop-b
+invariant-loop-b g l = Closing l.wires l.b l.fn.tasks l.tasks
