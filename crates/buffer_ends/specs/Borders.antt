@@ -1,6 +1,5 @@
 -- The border between two windows: a buffer's ends at two clocks are closed together.
 use Rattle.std.specs.Prelude.{◌≡◌, ℕ, ◌<◌, List, map, length, slice_index_or, slice_set}
-use Rattle.atomic_table.specs.Seated.{TableId}
 use Rattle.buffer_queue.specs.Window.{Window, Closes, is_chunk}
 use Rattle.buffer_ends.specs.Sides.{Side}
 use Rattle.buffer_ends.specs.Local.{Answers}

@@ -18,6 +18,11 @@ pub map_long : {A B : Type 0} (f : A → B) (xs : List A) → length (map f xs) 
 map_long f [] = refl
 map_long f (x ∷ xs) = ap suc (map_long f xs)
 
+pub map_get : {A B : Type 0} (f : A → B) (xs : List A) (k : ℕ) (d : A) (e : B) → k < length xs → slice_index_or (map f xs) k e ≡ f (slice_index_or xs k d)
+map_get f [] k d e h = absurd (omega (arith, h))
+map_get f (x ∷ xs) zero d e h = refl
+map_get f (x ∷ xs) (suc k) d e h = map_get f xs k d e (omega (arith, h))
+
 pub locals_more : (plan : Plan) (n : ℕ) (locals after : List (List LocalBuffer)) (x : List LocalBuffer) → after ≡ locals ++ x ∷ [] → x ≡ map planned plan.buffers → AreLocals plan n locals → AreLocals plan (n + 1) after
 locals_more plan n locals after x is new are = record {
   are_many = (let m = are.are_many in ap length is ∙ length-append locals (x ∷ []) ∙ ap (λ k. k + 1) m);
@@ -28,7 +33,7 @@ locals_more plan n locals after x is new are = record {
   ]);
 }
 
-first_gone : {A : Type 0} (xs ys : List A) (x : A) → 0 < length xs → x ≡ slice_index_or xs 0 x → ys ≡ take 0 xs ++ drop (0 + 1) xs → xs ≡ x ∷ ys
+pub first_gone : {A : Type 0} (xs ys : List A) (x : A) → 0 < length xs → x ≡ slice_index_or xs 0 x → ys ≡ take 0 xs ++ drop (0 + 1) xs → xs ≡ x ∷ ys
 first_gone [] ys x h e r = absurd (omega (arith, h))
 first_gone (z ∷ xs) ys x h e r = (λ i. sym e i ∷ sym r i)
 

@@ -5,7 +5,7 @@ use Rattle.liq_base.specs.Pieces.{grown}
 use Rattle.frame_core.specs.Calls.{Call}
 use Rattle.plan_core.specs.declared.plan.Plan.{Plan}
 use Rattle.plan_core.specs.declared.sink.BufferPlan.{BufferPlan}
-use Rattle.buffer_ends.specs.Local.{LocalBuffer, planned}
+use Rattle.buffer_ends.specs.Local.{Answers, LocalBuffer, planned}
 use Rattle.buffer_ends.specs.Ends.{Has, ListsStand, EndsStand}
 use Rattle.buffer_ends.specs.Sides.{Side}
 use Rattle.buffer_ends.proofs.Windows.{stand_planned}
@@ -27,19 +27,15 @@ use Rattle.clock_windows.specs.Ends.{puts_of as put_ends, takes_of as take_ends,
 use Rattle.clock_windows.specs.Records.{start, windows_upto, IsWired, ClockGoing, JoinGoing, Going, SameEngines}
 use Rattle.clock_windows.specs.Runs.{IsReady, DoneAt, RunDone, PartAt, RunPart}
 use Rattle.clock_windows.specs.Lawful.{answers_of, meant}
-use Rattle.clock_windows.proofs.Ending.{start_zero, with_one}
+use Rattle.clock_windows.proofs.Ending.{start_zero, start_up, with_one}
 use Rattle.clock_windows.proofs.Lawfully.{windows}
 use Rattle.clock_windows.proofs.Owning.{calls_own}
 use Rattle.clock_windows.proofs.Finishing.{done_lawful, done_bytes}
+use Rattle.clock_threads.specs.Logs.{AreNoLogs}
 use Rattle.clock_threads.specs.Starts.{AreJoined, AreBare}
 use Rattle.clock_threads.specs.Tasks.{engine_of, AreTasks, IsBare}
-use Rattle.clock_threads.specs.Threads.{AreLaid, IsFresh, AreFresh, HasRun, HasRunPart}
-use Rattle.clock_threads.proofs.Making.{map_long}
-
-map_get : {A B : Type 0} (f : A → B) (xs : List A) (k : ℕ) (d : A) (e : B) → k < length xs → slice_index_or (map f xs) k e ≡ f (slice_index_or xs k d)
-map_get f [] k d e h = absurd (omega (arith, h))
-map_get f (x ∷ xs) zero d e h = refl
-map_get f (x ∷ xs) (suc k) d e h = map_get f xs k d e (omega (arith, h))
+use Rattle.clock_threads.specs.Threads.{AreLaid, IsFresh, AreFresh, HasRun, HasRunTasks, HasRunPart}
+use Rattle.clock_threads.proofs.Making.{map_get, map_long}
 
 nothing : History
 nothing = record { calls = λ t. []; accepted = λ t b. true }
@@ -100,6 +96,18 @@ module _ {S R : Type 0} (held name : S → Option (List ℕ)) (room : S → Opti
   local_is : (k : ℕ) (d : Task S (ThreadTaps R)) → k < length bare → (slice_index_or joined k d).taps.local ≡ map planned plan.buffers
   local_is k d h = (j.same k d h).local ∙ (tasks.each k d h).local
 
+  no_plan : BufferPlan
+  no_plan = record { pre = 0; capacity = 0 }
+
+  places_joined : (b : ℕ) → b < length wires → (wire_at wires b).from < length joined × ((wire_at wires b).to < length joined)
+  places_joined b low = (let p = are.places b low in let m = j.many in (omega (arith, p.0, m), omega (arith, p.1, m)))
+
+  -- each list is empty
+  list_is : (d : Task S (ThreadTaps R)) (k b : ℕ) (e : LocalBuffer) → k < length joined → b < length wires → slice_index_or (slice_index_or joined k d).taps.local b e ≡ planned (slice_index_or plan.buffers b no_plan)
+  list_is d k b e h low =
+      let in_plan : b < length plan.buffers = (let n = are.many in omega (arith, low, n)) in
+      ap (λ (bs : List LocalBuffer). slice_index_or bs b e) (local_is k d (in_bare k h)) ∙ map_get planned plan.buffers b no_plan e in_plan
+
   clock_ready : (d : Task S (ThreadTaps R)) (k : ℕ) → k < length joined → ClockGoing held name room faults wires N (start W N 0) k nothing (slice_index_or joined k d) (slice_index_or joined k d)
   clock_ready d k h =
       let x = slice_index_or joined k d in let f = fresh_at k d (in_bare k h) in let zero_is = start_zero W N in let l = local_is k d (in_bare k h) in
@@ -120,18 +128,14 @@ module _ {S R : Type 0} (held name : S → Option (List ℕ)) (room : S → Opti
           subst (λ bs. ListsStand (λ b. Has (put_ends x) b ⊎ Has (take_ends x) b) bs []) (sym l) (λ b e low away. stand_planned plan.buffers b e low (λ n. n)),
         );
         lists = ap length l ∙ map_long planned plan.buffers ∙ sym are.many;
-        capacities = λ b e low. (let in_plan : b < length plan.buffers = (let n = are.many in omega (arith, low, n)) in
-            ap (λ (bs : List LocalBuffer). (slice_index_or bs b e).capacity) l ∙ ap (λ (z : LocalBuffer). z.capacity) (map_get planned plan.buffers b no_plan e in_plan) ∙ are.capacities b no_plan low);
+        capacities = λ b e low. ap (λ (z : LocalBuffer). z.capacity) (list_is d k b e h low) ∙ are.capacities b no_plan low;
       }
-    where
-      no_plan : BufferPlan
-      no_plan = record { pre = 0; capacity = 0 }
 
-  pub ready : IsReady held name room faults wires W N joined
-  ready = record {
+  pub ready : (logs : List (List Answers)) → AreNoLogs (length wires) logs → IsReady held name room faults wires W N joined logs
+  ready logs none = record {
     some = (let m = j.many in omega (arith, some, m));
     few = are.few;
-    places = λ b low. (let p = are.places b low in let m = j.many in (omega (arith, p.0, m), omega (arith, p.1, m)));
+    places = places_joined;
     buffers = λ k d h. (let f = fresh_at k d (in_bare k h) in
         ap (λ (s : Setting). length s.plan.buffers) f.setting_is ∙ ap (λ (p : Plan). length p.buffers) fresh.plan_is ∙ sym are.many);
     begun = λ d. record {
@@ -139,29 +143,50 @@ module _ {S R : Type 0} (held name : S → Option (List ℕ)) (room : S → Opti
       many = refl;
       clocks = clock_ready d;
       joins = λ b low apart. record { chunks = []; run = refl; opens = j.opens b (omega arith) low apart };
+      logged = record {
+        many = none.are_many;
+        joined = λ b e low apart. none.each b e (let n = none.are_many in omega (arith, low, n));
+        local = λ b e low is. (let l = list_is d (wire_at wires b).from b e (places_joined b low).0 low in
+            record { closed_are = ap (λ (z : LocalBuffer). z.closed) l; opens = ap (λ (z : LocalBuffer). z.current) l });
+      };
     };
   }
 
-  pub has_run : (now : List (Task S (ThreadTaps R))) → RunDone held name room faults wires W N joined now → HasRun held wires W N (map engine_of bare) (map engine_of now)
-  has_run now done = with_one joined (let m = j.many in omega (arith, some, m)) (λ d.
+  pub has_run : (now : List (Task S (ThreadTaps R))) (logs : List (List Answers)) → RunDone held name room faults wires W N joined now logs → HasRunTasks held wires W N (map engine_of bare) now logs
+  has_run now logs done = with_one joined (let m = j.many in omega (arith, some, m)) (λ d.
       let done' = done d in
       let own = calls_own fresh.setting wires fresh.wires_are in
       let shared : (k : ℕ) → k < length joined → (setting_of (slice_index_or joined k d).engine.works ≡ fresh.setting) × ((slice_index_or joined k d).engine.works.clock ≡ k) =
       λ k h. (let f = fresh_at k d (in_bare k h) in (f.setting_is, f.clock)) in
-      let places : (b : ℕ) → b < length wires → (wire_at wires b).from < length joined × ((wire_at wires b).to < length joined) =
-      λ b low. (let p = are.places b low in let m = j.many in (omega (arith, p.0, m), omega (arith, p.1, m))) in
+      let places = places_joined in
       record {
+       run = record {
         many = map_long engine_of now ∙ done'.going.many ∙ j.many ∙ sym (map_long engine_of bare);
         setting = fresh.setting;
         settings = λ k e h. (fresh.each k e h).setting_is;
         count = done'.windows;
         windows = windows (meant fresh.setting) wires own W N done'.windows done'.all done'.going.histories;
-        lawful = done_lawful held name room faults wires W N joined now d done' fresh.setting fresh.wires_are shared places;
+        lawful = done_lawful held name room faults wires W N joined now logs d done' fresh.setting fresh.wires_are shared places;
         bytes = λ k e h sink node out. (let low : k < length bare = (let n = map_long (engine_of {S = S} {R = R}) bare in omega (arith, h, n)) in let m = j.many in let n = done'.going.many in
             ap (λ (x : ClockEngine S). held_of held x sink) (map_get engine_of now k d e (omega (arith, low, m, n)))
-            ∙ done_bytes held name room faults wires W N joined now d done' fresh.setting fresh.wires_are shared places k (omega (arith, low, m)) sink node out
+            ∙ done_bytes held name room faults wires W N joined now logs d done' fresh.setting fresh.wires_are shared places k (omega (arith, low, m)) sink node out
             ∙ ap (λ (x : ClockEngine S). grown (ticks_bytes (answered fresh.setting (answers_of (windows (meant fresh.setting) wires own W N done'.windows done'.all done'.going.histories))) node N) (held_of held x sink)) (engine_is k d low ∙ sym (map_get engine_of bare k d e low)));
+       };
+       one = d;
+       logged = done'.going.logged;
+       places = λ b low. (let p = (places_joined b low).0 in let n = done'.going.many in omega (arith, p, n));
+       lists = λ k h. (done'.going.clocks k (let n = done'.going.many in omega (arith, h, n))).lists;
       })
+
+  -- a run to the end, as far as any run
+  pub part_of_done : (now : List (Task S (ThreadTaps R))) (logs : List (List Answers)) → RunDone held name room faults wires W N joined now logs → RunPart held wires W N joined now
+  part_of_done now logs done d = let at = done d in record {
+    closed = at.windows;
+    histories = at.going.histories;
+    many = at.going.many;
+    clocks = λ k h. (start W N at.windows, omega arith, start_up W N at.windows, inl (at.going.clocks k h).gone);
+    joins = λ b low apart. (let g = at.going.joins b low apart in (g.chunks, g.run));
+  }
 
   pub has_run_part : (now : List (Task S (ThreadTaps R))) → RunPart held wires W N joined now → HasRunPart held wires W N (map engine_of bare) (map engine_of now)
   has_run_part now part = with_one joined (let m = j.many in omega (arith, some, m)) (λ d.

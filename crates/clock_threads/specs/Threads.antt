@@ -1,5 +1,5 @@
 -- A run of all clocks by threads.
-use Rattle.std.specs.Prelude.{◌≡◌, ◌≢◌, ◌⊎◌, ◌<◌, ◌≤◌, ℕ, suc, Option, None, List, [], length, slice_index_or}
+use Rattle.std.specs.Prelude.{◌≡◌, ◌≢◌, ◌⊎◌, ◌<◌, ◌≤◌, ℕ, suc, Option, None, List, [], length, map, slice_index_or}
 use Rattle.liq_base.specs.Pieces.{grown}
 use Rattle.frame_core.specs.declared.cell.Cell.{Cell}
 use Rattle.frame_core.specs.Legal.{IsRun}
@@ -11,12 +11,18 @@ use Rattle.node_states.specs.Ticks.{IsOutput}
 use Rattle.clock_engine.specs.Engines.{EngineStands, setting_of}
 use Rattle.clock_engine.specs.Ticks.{HaveTicksRoom}
 use Rattle.clock_engine.specs.declared.engine.ClockEngine.{ClockEngine}
+use Rattle.buffer_ends.specs.Local.{Answers}
+use Rattle.buffer_ends.specs.declared.counts.Counts.{Counts}
+use Rattle.buffer_ends.specs.declared.thread_taps.ThreadTaps.{ThreadTaps}
+use Rattle.clock_tasks.specs.declared.task.Task.{Task}
 use Rattle.clock_tasks.specs.Histories.{History}
 use Rattle.clock_tasks.specs.Tasks.{EngineGone, EngineGonePart, IsWhole, held_of}
 use Rattle.clock_windows.specs.declared.wires.Wire.{Wire}
-use Rattle.clock_windows.specs.Wires.{wire_at}
-use Rattle.clock_windows.specs.Records.{Window, start, windows_upto}
+use Rattle.clock_windows.specs.Wires.{wire_at, told}
+use Rattle.clock_windows.specs.Records.{Window, LogsGoing, start, windows_upto}
 use Rattle.clock_windows.specs.Lawful.{AreWires, IsLawful, IsRounds, answers_of, meant}
+use Rattle.clock_threads.specs.Logs.{counts_in}
+use Rattle.clock_threads.specs.Tasks.{engine_of}
 
 -- the wires are those of a plan's buffers, between so many clocks
 pub record AreLaid (plan : Plan) (clocks : ℕ) (wires : List Wire) : Type 0 where
@@ -52,6 +58,24 @@ pub record HasRun {S : Type 0} (held : S → Option (List ℕ)) (wires : List Wi
   pub lawful : IsLawful (meant setting) wires W N count windows
   pub bytes : (k : ℕ) (d : ClockEngine S) → k < length old → (sink node : ℕ) → IsOutput setting k sink node
       → held_of held (slice_index_or new k d) sink ≡ grown (ticks_bytes (answered setting (answers_of windows)) node N) (held_of held (slice_index_or old k d) sink)
+
+-- the same, with the tasks and the logs, before the lists' logs are put to the others
+pub record HasRunTasks {S R : Type 0} (held : S → Option (List ℕ)) (wires : List Wire) (W N : ℕ) (old : List (ClockEngine S)) (tasks : List (Task S (ThreadTaps R))) (logs : List (List Answers)) : Type 0 where
+  pub run : HasRun held wires W N old (map engine_of tasks)
+  pub one : Task S (ThreadTaps R)
+  pub logged : LogsGoing wires run.windows tasks logs one
+  pub places : (b : ℕ) → b < length wires → (wire_at wires b).from < length tasks
+  pub lists : (k : ℕ) → k < length tasks → length (slice_index_or tasks k one).taps.local ≡ length wires
+
+-- each buffer's log has the answers of its windows, and its counts are the numbers of the log
+pub record AreTold (buffers : ℕ) (windows : ℕ → List Window) (counts : List Counts) (logs : List (List Answers)) : Type 0 where
+  pub many : length logs ≡ buffers
+  pub each : (b : ℕ) (d : List Answers) → b < buffers → slice_index_or logs b d ≡ map told (windows b)
+  pub counts_are : counts ≡ map counts_in logs
+
+pub record HasRunTold {S : Type 0} (held : S → Option (List ℕ)) (wires : List Wire) (W N : ℕ) (old new : List (ClockEngine S)) (counts : List Counts) (logs : List (List Answers)) : Type 0 where
+  pub run : HasRun held wires W N old new
+  pub tells : AreTold (length wires) run.windows counts logs
 
 -- the run broke off: no clock is past the window in which the first one stopped, and the windows closed until then are legal
 pub record HasRunPart {S : Type 0} (held : S → Option (List ℕ)) (wires : List Wire) (W N : ℕ) (old new : List (ClockEngine S)) : Type 0 where

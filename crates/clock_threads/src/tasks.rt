@@ -1,14 +1,17 @@
 // Engines into tasks, and out of them.
 ghost use Rattle.std.specs.Prelude.{◌≡◌, ◌≤◌, ◌+◌, ◌++◌, ℕ, [], length, map, vec_capacity, OnOk, IfOk, OnErr};
 ghost use Rattle.plan_core.specs.declared.plan.Plan.{Plan as ThePlan};
+ghost use Rattle.clock_threads.specs.Logs.{AreCollected};
 ghost use Rattle.clock_threads.specs.Tasks.{AreLocals, AreTasks, engine_of};
 
-use buffer_ends::{LocalTaps, ThreadTaps};
+use crate::logs::take_logs;
+use buffer_ends::{BufferLog, LocalTaps, ThreadTaps};
+use clock_engine::ClockEngine;
+use clock_tasks::Task;
+use clock_windows::Wire;
 use liq_base::Memory;
 use plan_core::Plan;
 use std::alloc::Global;
-use clock_tasks::Task;
-use clock_engine::ClockEngine;
 
 // The lists of each clock.
 fn locals_of(alloc: Global, plan: &Plan, count: usize) -> Result<Vec<LocalTaps>, Memory>
@@ -46,20 +49,26 @@ pub(crate) fn tasks_of<'a, 'q, O, R>(
     Ok(tasks)
 }
 
-// The engines come back, in the same order.
+// The engines come back, in the same order, and the logs of the clocks' own buffers with them.
 pub(crate) fn engines_of<'a, O, R>(
+    wires: &[Wire],
     tasks: Vec<Task<'a, O, ThreadTaps<'_, R>>>,
+    logs: &mut [BufferLog],
     engines: &mut Vec<ClockEngine<'a, O>>,
 )
     requires none { engines.old.items ≡ [] }
     requires room { length tasks.items ≤ vec_capacity engines.old }
-    ensures { engines.new.items ≡ map engine_of tasks.entry.items }
+    ensures engines { engines.new.items ≡ map engine_of tasks.entry.items }
+    ensures logs { AreCollected wires.now tasks.entry.items logs.old logs.new }
 {
     let mut tasks = tasks;
     let count = tasks.len();
-    for _ in 0..count {
+    for k in 0..count {
         let Task { engine, taps } = tasks.remove(0);
-        drop(taps);
+        let (local, puts, takes) = taps.into_parts();
+        drop(puts);
+        drop(takes);
+        take_logs(wires, k, local.into_logs(), logs);
         engines.push_reserved(engine);
     }
     tasks.destroy_empty();

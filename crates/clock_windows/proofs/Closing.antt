@@ -1,17 +1,17 @@
 -- The windows of the buffers between clocks are closed one after another.
-use Rattle.std.proofs.Common.{◌≡◌, ◌≢◌, ◌⊎◌, ℕ, zero, suc, ◌<◌, ◌≤◌, ◌+◌, List, [], ◌∷◌, ◌++◌, length, get_or, set, slice_index_or, slice_set, sym, refl, ap, ◌∙◌, subst, arith, inl, inr, ⊎_elim, get_or-set_same, get_or-set_other, length-set}
+use Rattle.std.proofs.Common.{◌≡◌, ◌≢◌, ◌⊎◌, ℕ, zero, suc, ◌<◌, ◌≤◌, ◌+◌, List, [], ◌∷◌, ◌++◌, length, map, get_or, set, slice_index_or, slice_set, sym, refl, ap, ◌∙◌, subst, arith, inl, inr, ⊎_elim, get_or-set_same, get_or-set_other, length-set}
 use Rattle.std.proofs.lemmas.List.{get_or_default}
 use Rattle.frame_core.specs.declared.cell.Cell.{Cell}
 use Rattle.frame_core.specs.Legal.{Legal}
-use Rattle.buffer_queue.specs.Window.{Window, opened, capacity_of}
+use Rattle.buffer_queue.specs.Window.{Window, opened, capacity_of, is_chunk}
 use Rattle.buffer_ends.specs.Local.{Answers}
 use Rattle.buffer_ends.specs.Sides.{Side, Apart}
 use Rattle.buffer_ends.specs.Borders.{HasAt, HasEnd, Turned, WasClosed, HaveEnds}
 use Rattle.buffer_ends.specs.declared.thread_taps.ThreadTaps.{ThreadTaps}
 use Rattle.clock_tasks.specs.declared.task.Task.{Task}
 use Rattle.clock_windows.specs.declared.wires.Wire.{Wire}
-use Rattle.clock_windows.specs.Wires.{wire_at}
-use Rattle.clock_windows.specs.Ends.{puts_of, takes_of, SameButEnds, TasksClosed, WasLent, WasPutBack, GiverClosed, JoinClosed, JoinOpen, JoinRan, JoinTurned, MayClose, SameTasks, AllClosed}
+use Rattle.clock_windows.specs.Wires.{wire_at, told}
+use Rattle.clock_windows.specs.Ends.{puts_of, takes_of, SameButEnds, TasksClosed, WasLent, WasPutBack, GiverClosed, JoinClosed, JoinOpen, JoinRan, JoinTurned, SameTasks}
 use Rattle.clock_windows.proofs.Sets.{same_or_other, side, turned_here, turned_other, turned_many, turned_buffers, one_window, set_twice, swapped}
 
 module _ {S R : Type 0} where
@@ -108,6 +108,18 @@ module _ {S R : Type 0} where
           };
         }
 
+    -- the answers of the window are those of its two ends
+    pub log_is : (wire : Wire) (put take : Window) → wire.from ≡ from → wire.to ≡ to → JoinRan wire b put take old → log ≡ told (put.answers, take.answers)
+    log_is wire put take f t ran =
+        let w = c.tasks.closed in
+        let p : put ≡ w.put = one_window (puts_of c.giver) b w.puts_turned.place put w.put c.giver.taps.apart.0
+            (subst (λ x. HasEnd (puts_of x) b put) (ap (λ n. slice_index_or old n c.giver) f ∙ c.gives c.giver) (ran.put_end c.giver)) w.puts_turned.at in
+        let q : take ≡ w.take = one_window (takes_of c.taker) b w.takes_turned.place take w.take c.taker.taps.apart.1
+            (subst (λ x. HasEnd (takes_of x) b take) (ap (λ n. slice_index_or old n c.taker) t ∙ c.takes c.taker) (ran.take_end c.taker)) w.takes_turned.at in
+        let a : log.puts ≡ map is_chunk put.answers = w.log_puts ∙ ap (λ (v : Window). map is_chunk v.answers) (sym p) in
+        let e : log.takes ≡ map is_chunk take.answers = w.log_takes ∙ ap (λ (v : Window). map is_chunk v.answers) (sym q) in
+        (λ i. record { puts = a i; takes = e i })
+
     pub ran_else : (wire : Wire) (x : ℕ) (put take : Window) → x ≢ b → JoinRan wire x put take old → JoinRan wire x put take new
     ran_else wire x put take n ran = record {
       capacity = ran.capacity;
@@ -162,9 +174,6 @@ module _ {S R : Type 0} where
   pub ends_there : (wire : Wire) (b : ℕ) (put take : Window) (tasks : List (Task S (ThreadTaps R))) → JoinRan wire b put take tasks → (d e : Task S (ThreadTaps R))
       → HaveEnds (puts_of (slice_index_or tasks wire.from d)) (takes_of (slice_index_or tasks wire.to e)) b
   ends_there wire b put take tasks ran d e = record { put = put; take = take; puts_there = ran.put_end d; takes_there = ran.take_end e; queue = sym ran.queue }
-
-  pub closing_all : (wires : List Wire) (below : ℕ) (first now : List (Task S (ThreadTaps R))) → length wires ≤ below → Closing wires below first now → AllClosed wires first now
-  closing_all wires below first now h c = record { tasks = c.tasks; each = λ b put take less n ran. c.done b put take (omega (arith, less, h)) n ran }
 
   pub join_closed : (tasks after : List (Task S (ThreadTaps R))) (from to b : ℕ) (log : Answers) (lender giver back : Task S (ThreadTaps R)) (takes takes' : List Side) → from < length tasks → to < length tasks → from ≢ to
       → after ≡ set (set (set tasks to lender) from giver) to back

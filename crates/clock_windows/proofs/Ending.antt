@@ -2,10 +2,12 @@
 use Rattle.std.proofs.Common.{◌≡◌, ◌≢◌, ◌⊎◌, ℕ, zero, suc, ◌<◌, ◌≤◌, ◌+◌, ◌-◌, ◌*◌, ◌^◌, All, List, [], ◌∷◌, ◌++◌, length, get_or, set, slice_index_or, min, sym, refl, ap, ◌∙◌, subst, arith, inl, inr, ⊎_elim, Option, Some, None, add-one, length-set, get_or-set_same, get_or-set_other}
 use Rattle.std.proofs.Math.Nat.{min-eq_left, min-eq_right, suc-mul}
 use Rattle.std.proofs.lemmas.List.{get_or_default}
+use Rattle.clock_engine.specs.declared.engine.ClockEngine.{ClockEngine}
 use Rattle.clock_engine.specs.Ticks.{HaveTicksRoom}
 use Rattle.clock_engine.specs.Engines.{setting_of}
 use Rattle.frame_core.specs.declared.cell.Cell.{Cell}
 use Rattle.frame_core.specs.Legal.{IsRun}
+use Rattle.buffer_ends.specs.Local.{Answers}
 use Rattle.buffer_ends.specs.declared.thread_taps.ThreadTaps.{ThreadTaps}
 use Rattle.clock_engine.specs.declared.fault.TickFault.{TickFault}
 use Rattle.clock_tasks.specs.declared.task.Task.{Task}
@@ -111,26 +113,26 @@ module _ {S R : Type 0} where
   ended_same below first now u = record { many = u.many; each = u.engines }
 
   module _ (held name : S → Option (List ℕ)) (room : S → Option ℕ) (faults : S → ℕ) (wires : List Wire) (W N : ℕ) where
-    pub record LoopAt (made : ℕ) (first now : List (Task S (ThreadTaps R))) (d : Task S (ThreadTaps R)) : Type 0 where
+    pub record LoopAt (made : ℕ) (first now : List (Task S (ThreadTaps R))) (logs : List (List Answers)) (d : Task S (ThreadTaps R)) : Type 0 where
       pub windows : ℕ
       pub is : made ≡ start W N windows
       pub tight : (i : ℕ) → i < windows → start W N i < N
-      pub going : Going held name room faults wires W N windows first now d
+      pub going : Going held name room faults wires W N windows first now logs d
 
-    pub record Loop (made : ℕ) (first now : List (Task S (ThreadTaps R))) : Type 0 where
+    pub record Loop (made : ℕ) (first now : List (Task S (ThreadTaps R))) (logs : List (List Answers)) : Type 0 where
       pub many : length now ≡ length first
-      pub at : (d : Task S (ThreadTaps R)) → LoopAt made first now d
+      pub at : (d : Task S (ThreadTaps R)) → LoopAt made first now logs d
 
-    pub loop_none : (first : List (Task S (ThreadTaps R))) → IsReady held name room faults wires W N first → Loop 0 first first
-    loop_none first ready = record { many = refl; at = λ d. record { windows = 0; is = sym (start_zero W N); tight = λ i low. absurd (omega (arith, low)); going = ready.begun d } }
+    pub loop_none : (first : List (Task S (ThreadTaps R))) (logs : List (List Answers)) → IsReady held name room faults wires W N first logs → Loop 0 first first logs
+    loop_none first logs ready = record { many = refl; at = λ d. record { windows = 0; is = sym (start_zero W N); tight = λ i low. absurd (omega (arith, low)); going = ready.begun d } }
 
-    pub loop_all : (made : ℕ) (first now : List (Task S (ThreadTaps R))) → N ≤ made → Loop made first now → RunDone held name room faults wires W N first now
-    loop_all made first now high loop d = let l = loop.at d in
+    pub loop_all : (made : ℕ) (first now : List (Task S (ThreadTaps R))) (logs : List (List Answers)) → N ≤ made → Loop made first now logs → RunDone held name room faults wires W N first now logs
+    loop_all made first now logs high loop d = let l = loop.at d in
         record { windows = l.windows; all = (let m = start_most W N l.windows in let i = l.is in omega (arith, m, i, high)); tight = l.tight; going = l.going }
 
     -- each clock may make the ticks of the next window
-    pub loop_can : (made count : ℕ) (first now : List (Task S (ThreadTaps R))) → IsReady held name room faults wires W N first → N ≤ 1000000000 → made < N → count ≡ min W (N - made) → Loop made first now → All (CanRun room TapsBuffers count) now
-    loop_can made count first now ready few less is loop = all_by (CanRun room TapsBuffers count) now (λ d k within.
+    pub loop_can : (made count : ℕ) (first now : List (Task S (ThreadTaps R))) (start_logs logs : List (List Answers)) → IsReady held name room faults wires W N first start_logs → N ≤ 1000000000 → made < N → count ≡ min W (N - made) → Loop made first now logs → All (CanRun room TapsBuffers count) now
+    loop_can made count first now start_logs logs ready few less is loop = all_by (CanRun room TapsBuffers count) now (λ d k within.
         let l = loop.at d in let here : k < length first = (let m = loop.many in omega (arith, within, m)) in
         let c = l.going.clocks k here in let r = ready.buffers k d here in
         let next = start_next W N l.windows made count l.is less is in let most = start_most W N (suc l.windows) in let at = l.is in
@@ -143,18 +145,21 @@ module _ {S R : Type 0} where
           rooms = rooms_fewer room (slice_index_or now k d).engine.works (slice_index_or now k d).engine.outs.items count (N - made) (omega (arith, most_left)) (c.rooms (N - made) (omega (arith, at, less)));
         })
 
-    module _ (made count : ℕ) (first now mid : List (Task S (ThreadTaps R))) (ready : IsReady held name room faults wires W N first) (less : made < N) (count_is : count ≡ min W (N - made)) (loop : Loop made first now)
+    module _ (made count : ℕ) (first now mid : List (Task S (ThreadTaps R))) (start_logs logs : List (List Answers)) (ready : IsReady held name room faults wires W N first start_logs) (less : made < N) (count_is : count ≡ min W (N - made)) (loop : Loop made first now logs)
         (ran : (k : ℕ) (d : Task S (ThreadTaps R)) → k < length now → WasRun held name room faults TapsStand TapsBuffers SameTaps count (slice_index_or now k d) (slice_index_or mid k d)) (mid_many : length mid ≡ length now) where
       next_at : (d : Task S (ThreadTaps R)) → start W N (suc (loop.at d).windows) ≡ start W N (loop.at d).windows + count
       next_at d = start_next W N (loop.at d).windows made count (loop.at d).is less count_is
 
       pub loop_close : ((k : ℕ) (d : Task S (ThreadTaps R)) → k < length mid → (slice_index_or mid k d).engine.works.stopped ≡ None) → MayClose wires mid
       loop_close all_run = with_one mid (let s = ready.some in let m = loop.many in omega (arith, s, m, mid_many)) (λ d.
-          may_close held name room faults wires W N (loop.at d).windows d count first now mid (next_at d) ready.places (λ i h. start_up W N i) (loop.at d).going (λ k h. ran k d h) mid_many (λ k h. all_run k d h) ready.few)
+          may_close held name room faults wires W N (loop.at d).windows d count first now mid logs (next_at d) ready.places (λ i h. start_up W N i) (loop.at d).going (λ k h. ran k d h) mid_many (λ k h. all_run k d h) ready.few)
+
+      pub loop_logs : length logs ≡ length wires
+      loop_logs = with_one mid (let s = ready.some in let m = loop.many in omega (arith, s, m, mid_many)) (λ d. (loop.at d).going.logged.many)
 
       pub loop_more : (all_run : (k : ℕ) (d : Task S (ThreadTaps R)) → k < length mid → (slice_index_or mid k d).engine.works.stopped ≡ None)
-          (shut last : List (Task S (ThreadTaps R))) → AllClosed wires mid shut → AllEndedTasks shut last → Loop (made + count) first last
-      loop_more all_run shut last closed ends = record {
+          (shut last : List (Task S (ThreadTaps R))) (after : List (List Answers)) → AllClosed wires mid shut logs after → AllEndedTasks shut last → Loop (made + count) first last after
+      loop_more all_run shut last after closed ends = record {
         many = (let a = ends.many in let b = closed.tasks.many in let c = loop.many in omega (arith, a, b, c, mid_many));
         at = λ d. record {
           windows = suc (loop.at d).windows;
@@ -163,14 +168,14 @@ module _ {S R : Type 0} where
             | inl is ↦ subst (λ n. start W N n < N) (sym is) (subst (λ n. n < N) (loop.at d).is less)
             | inr off ↦ (loop.at d).tight i (omega (arith, low, off))
           ]);
-          going = going_more held name room faults wires W N (loop.at d).windows d count first now mid (next_at d) ready.places (λ i h. start_up W N i) (loop.at d).going (λ k h. ran k d h) mid_many (λ k h. all_run k d h) shut closed last ends;
+          going = going_more held name room faults wires W N (loop.at d).windows d count first now mid logs (next_at d) ready.places (λ i h. start_up W N i) (loop.at d).going (λ k h. ran k d h) mid_many (λ k h. all_run k d h) shut after closed last ends;
         };
       }
 
       pub loop_shut : (all_run : (k : ℕ) (d : Task S (ThreadTaps R)) → k < length mid → (slice_index_or mid k d).engine.works.stopped ≡ None)
-          (shut last : List (Task S (ThreadTaps R))) → AllClosed wires mid shut → SameEngines shut last → RunPart held wires W N first last
-      loop_shut all_run shut last closed same d =
-          part_shut held name room faults wires W N (loop.at d).windows d count first now mid (next_at d) ready.places (λ i h. start_up W N i) (loop.at d).going (λ k h. ran k d h) mid_many (λ k h. all_run k d h) shut closed last same (start_up W N (suc (loop.at d).windows))
+          (shut last : List (Task S (ThreadTaps R))) (after : List (List Answers)) → AllClosed wires mid shut logs after → SameEngines shut last → RunPart held wires W N first last
+      loop_shut all_run shut last after closed same d =
+          part_shut held name room faults wires W N (loop.at d).windows d count first now mid logs (next_at d) ready.places (λ i h. start_up W N i) (loop.at d).going (λ k h. ran k d h) mid_many (λ k h. all_run k d h) shut after closed last same (start_up W N (suc (loop.at d).windows))
 
       -- how far a clock came
       record At (d : Task S (ThreadTaps R)) (k : ℕ) (g : History) : Type 0 where
@@ -206,4 +211,18 @@ module _ {S R : Type 0} where
             joins = λ b low apart. (let g = l.going.joins b low apart in
                 (g.chunks, subst (λ w. IsRun (wire_at wires b).capacity [] w g.chunks)
                 (sym (windows_alike (wire_at wires b) l.going.histories (λ k. (chosen d k).0) b W N j t (λ k. (chosen d k).1.agree) (λ i low'. start_climbs W N (suc i) (j - suc i) j (omega (arith, low'))) (λ i low'. start_up W N i))) g.run));
+          }
+
+      -- the log of a buffer could not take a window
+      pub loop_broke : (last : List (Task S (ThreadTaps R))) → SameEngines mid last → RunPart held wires W N first last
+      loop_broke last same d =
+          let p = loop_stopped d in
+          record {
+            closed = p.closed;
+            histories = p.histories;
+            many = same.many ∙ p.many;
+            clocks = λ k h. (let c = p.clocks k h in
+                let is : (slice_index_or last k d).engine ≡ (slice_index_or mid k d).engine = same.each k d (let m = p.many in omega (arith, h, m)) in
+                (c.0, c.1, c.2, subst (λ (e : ClockEngine S). EngineGone held c.0 (p.histories k) (held_of held (slice_index_or first k d).engine) e ⊎ EngineGonePart held c.0 (p.histories k) (held_of held (slice_index_or first k d).engine) e) (sym is) c.3));
+            joins = p.joins;
           }

@@ -5,7 +5,7 @@ use mathlib.Core.Path.{fun_ext}
 use Rattle.liq_base.specs.Pieces.{grown}
 use Rattle.frame_core.specs.declared.cell.Cell.{Cell}
 use Rattle.frame_core.specs.Calls.{Call}
-use Rattle.buffer_ends.specs.Local.{LocalBuffer, on, Leads, empty_list, empty_buffer, held as held_by}
+use Rattle.buffer_ends.specs.Local.{Answers as Told, LocalBuffer, on, Leads, empty_list, empty_buffer, held as held_by}
 use Rattle.buffer_ends.specs.Sides.{Side}
 use Rattle.buffer_ends.specs.Ends.{Has}
 use Rattle.buffer_ends.specs.declared.thread_taps.ThreadTaps.{ThreadTaps}
@@ -38,8 +38,8 @@ with_side (x ∷ xs) p h f = f x
 got_same : (h : History) (t : ℕ) → answers_by h t ≡ got_by h t
 got_same h t = fun_ext (λ b. in_takes b (joined_upto h.calls t))
 
-module _ {S R : Type 0} (held name : S → Option (List ℕ)) (room : S → Option ℕ) (faults : S → ℕ) (wires : List Wire) (W N : ℕ) (first now : List (Task S (ThreadTaps R))) (d : Task S (ThreadTaps R))
-    (done : DoneAt held name room faults wires W N first now d) (setting : Setting) (are : AreWires setting wires)
+module _ {S R : Type 0} (held name : S → Option (List ℕ)) (room : S → Option ℕ) (faults : S → ℕ) (wires : List Wire) (W N : ℕ) (first now : List (Task S (ThreadTaps R))) (logs : List (List Told)) (d : Task S (ThreadTaps R))
+    (done : DoneAt held name room faults wires W N first now logs d) (setting : Setting) (are : AreWires setting wires)
     (shared : (k : ℕ) → k < length first → (setting_of (slice_index_or first k d).engine.works ≡ setting) × ((slice_index_or first k d).engine.works.clock ≡ k))
     (places : (b : ℕ) → b < length wires → (wire_at wires b).from < length first × ((wire_at wires b).to < length first)) where
   abbrev hs : ℕ → History

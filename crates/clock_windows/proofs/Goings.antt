@@ -6,7 +6,7 @@ use Rattle.frame_core.specs.Legal.{Legal, IsRun}
 use Rattle.frame_core.specs.Calls.{Call, takes_of, puts_to}
 use Rattle.frame_core.proofs.Laws.{run_more}
 use Rattle.buffer_queue.specs.Window.{Window as QueueWindow, opened, capacity_of}
-use Rattle.buffer_ends.specs.Local.{LocalBuffer, closed as closed_list, on, Leads, empty_list, held as held_by}
+use Rattle.buffer_ends.specs.Local.{Answers, LocalBuffer, closed as closed_list, on, Leads, empty_list, held as held_by}
 use Rattle.buffer_ends.specs.Sides.{Side, Apart, SameSides}
 use Rattle.buffer_ends.specs.Same.{SameBuffers}
 use Rattle.buffer_ends.specs.Ends.{EndsStand, ListsStand, PutsStand, TakesStand, Has}
@@ -22,12 +22,13 @@ use Rattle.clock_tasks.proofs.Walking.{joined_alike, agree_none}
 use Rattle.clock_windows.proofs.Keeping.{takes-append}
 use Rattle.clock_tasks.proofs.Running.{same_then}
 use Rattle.clock_windows.specs.declared.wires.Wire.{Wire}
-use Rattle.clock_windows.specs.Wires.{wire_at, ends_at, ended, kept}
+use Rattle.clock_windows.specs.Wires.{wire_at, ends_at, ended, kept, told}
 use Rattle.clock_windows.specs.Ends.{puts_of as put_ends, takes_of as take_ends, JoinOpen, JoinRan, JoinTurned, MayClose, SameTasks, AllClosed}
-use Rattle.clock_windows.specs.Records.{start, Window, window_of, windows_upto, IsWired, ClockGoing, JoinGoing, Going, EndedTask, AllEndedTasks, SameEngines}
+use Rattle.clock_windows.specs.Records.{start, Window, window_of, windows_upto, IsWired, IsLogged, LogsGoing, ClockGoing, JoinGoing, Going, EndedTask, AllEndedTasks, SameEngines}
 use Rattle.clock_windows.specs.Runs.{PartAt, DoneAt}
 use Rattle.clock_windows.proofs.Sets.{same_or_other, side, one_window}
 use Rattle.clock_windows.proofs.Keeping.{kept-append, puts_kept, takes_kept, on_kept, puts-append, on-append}
+use Rattle.clock_windows.proofs.Logging.{map_joined, current_is, has_back, not_ended}
 use Rattle.clock_windows.proofs.Meeting.{joined_split, windows_alike, ends_from, ends_to, ends_tell, true_or_false, low_or_high, has_moved, has_end}
 
 mapped_length : (xs : List LocalBuffer) → length (map closed_list xs) ≡ length xs
@@ -82,10 +83,10 @@ module _ (sides after : List Side) (b : ℕ) (w : QueueWindow) (same : SameSides
   later_takes old more s none = s e.place (side b w) within_after ∙ ap (λ n. takes_of n (old ++ more)) buffer_after ∙ takes-append b old more ∙ ap (λ l. l ++ takes_of b more) none
 
 module _ {S R : Type 0} (held name : S → Option (List ℕ)) (room : S → Option ℕ) (faults : S → ℕ) (wires : List Wire) (W N j : ℕ) (d : Task S (ThreadTaps R)) where
-  module _ (count : ℕ) (first now mid : List (Task S (ThreadTaps R))) (next : start W N (suc j) ≡ start W N j + count)
+  module _ (count : ℕ) (first now mid : List (Task S (ThreadTaps R))) (logs : List (List Answers)) (next : start W N (suc j) ≡ start W N j + count)
       (places : (b : ℕ) → b < length wires → (wire_at wires b).from < length first × ((wire_at wires b).to < length first))
       (up : (i : ℕ) → i ≤ j → start W N i ≤ start W N (suc i))
-      (going : Going held name room faults wires W N j first now d)
+      (going : Going held name room faults wires W N j first now logs d)
       (ran : (k : ℕ) → k < length now → WasRun held name room faults TapsStand TapsBuffers SameTaps count (slice_index_or now k d) (slice_index_or mid k d))
       (mid_many : length mid ≡ length now)
       (all_run : (k : ℕ) → k < length mid → (slice_index_or mid k d).engine.works.stopped ≡ None) where
@@ -160,7 +161,7 @@ module _ {S R : Type 0} (held name : S → Option (List ℕ)) (room : S → Opti
       ran = λ b less apart. (let r = join_ran b less apart in (r.0, r.1, r.2));
     }
 
-    module _ (shut : List (Task S (ThreadTaps R))) (closed : AllClosed wires mid shut) where
+    module _ (shut : List (Task S (ThreadTaps R))) (after_logs : List (List Answers)) (closed : AllClosed wires mid shut logs after_logs) where
       climbs : (i n : ℕ) → i + n ≡ j → start W N i ≤ start W N j
       climbs i zero e = let same : i ≡ j = omega (arith, e) in subst (λ k. start W N i ≤ start W N k) same (omega arith)
       climbs i (suc n) e = let a = up i (omega (arith, e)) in let b' = climbs (suc i) n (omega (arith, e)) in omega (arith, a, b')
@@ -312,10 +313,58 @@ module _ {S R : Type 0} (held name : S → Option (List ℕ)) (room : S → Opti
                  ∙ (r.taps.2.each b f (let n = r.many in omega (arith, mid_in, n))).capacity ∙ c.capacities b f low;
            }
 
-       pub going_more : Going held name room faults wires W N (suc j) first last d
+       window_more : ℕ → Window
+       window_more b = window_of (wire_at wires b) after b (start W N j) (start W N (suc j) - start W N j)
+
+       -- the answers of the windows before this one, and of this one
+       told_more : (b : ℕ) (x y : List Answers) (z : Answers) → y ≡ x ++ z ∷ [] → x ≡ map told (windows_upto (wire_at wires b) going.histories b W N j) → z ≡ told (window_more b)
+           → y ≡ map told (windows_upto (wire_at wires b) after b W N (suc j))
+       told_more b x y z is before here =
+           let same : windows_upto (wire_at wires b) after b W N j ≡ windows_upto (wire_at wires b) going.histories b W N j =
+           windows_alike (wire_at wires b) going.histories after b W N j (start W N j) agrees (λ i low. reaches i low) (λ i low. up i (omega (arith, low))) in
+           is ∙ (λ i. (before ∙ ap (map told) (sym same)) i ++ here i ∷ []) ∙ sym (map_joined told (windows_upto (wire_at wires b) after b W N j) (window_more b ∷ []))
+
+       joined_on : (b : ℕ) (e : List Answers) → b < length wires → (wire_at wires b).from ≢ (wire_at wires b).to → slice_index_or after_logs b e ≡ map told (windows_upto (wire_at wires b) after b W N (suc j))
+       joined_on b e less apart =
+           let wire = wire_at wires b in let r = join_ran b less apart in
+           let more : count ≡ start W N (suc j) - start W N j = omega (arith, next) in
+           told_more b (slice_index_or logs b e) (slice_index_or after_logs b e) (told (r.0.answers, r.1.answers)) (closed.logged b r.0 r.1 e less apart r.2) (going.logged.joined b e less apart)
+           ((λ i. told (r.5 i, r.6 i)) ∙ (λ i. told (window_of wire after b (start W N j) (more i))))
+
+       local_on : (b : ℕ) (f : LocalBuffer) → b < length wires → (wire_at wires b).from ≡ (wire_at wires b).to
+           → IsLogged (windows_upto (wire_at wires b) after b W N (suc j)) (slice_index_or (slice_index_or last (wire_at wires b).from d).taps.local b f)
+       local_on b f less is =
+           let wire = wire_at wires b in let k = wire.from in let h = (places b less).0 in
+           let c = going.clocks k h in let r = ran k (within k h) in let s = closed.tasks.same k d (in_mid k h) in let e = ends.each k d (in_shut k h) in
+           let x = slice_index_or now k d in let y = slice_index_or mid k d in let z = slice_index_or shut k d in let u = slice_index_or last k d in
+           let l = slice_index_or x.taps.local b f in let m = slice_index_or y.taps.local b f in
+           let in_x : b < length x.taps.local = (let n = c.lists in omega (arith, less, n)) in
+           let in_y : b < length y.taps.local = (let n = r.many in omega (arith, in_x, n)) in
+           let in_z : b < length z.taps.local = (let n = ap length s.local in omega (arith, in_y, n)) in
+           let was = going.logged.local b f less is in let same = r.taps.2.each b f in_x in
+           let old = kept wires k (joined_upto (going.histories k).calls (start W N j)) in let more = joined_from (after k).calls (start W N j) count in
+           let away : Has (put_ends x) b ⊎ Has (take_ends x) b → ⊥ = not_ended wires k b x c.wired is in
+           let away_after : Has (put_ends y) b ⊎ Has (take_ends y) b → ⊥ =
+           λ has. ⊎_elim (λ (p : Has (put_ends y) b). away (inl (has_back (put_ends x) (put_ends y) b r.taps.0 p))) (λ (p : Has (take_ends y) b). away (inr (has_back (take_ends x) (take_ends y) b r.taps.1 p))) has in
+           let now_is : m.current ≡ told (puts_to b more, takes_of b more) = current_is b old more l m same.closed was.opens (c.stand.2 b f in_x away) ((goes k h).1.2 b f in_y away_after) in
+           let list_is : slice_index_or u.taps.local b f ≡ closed_list m =
+           ap (λ (ls : List LocalBuffer). slice_index_or ls b f) e.local ∙ mapped z.taps.local b f in_z ∙ ap (λ (ls : List LocalBuffer). closed_list (slice_index_or ls b f)) s.local in
+           let long : count ≡ start W N (suc j) - start W N j = omega (arith, next) in
+           record {
+             closed_are = told_more b l.closed (slice_index_or u.taps.local b f).closed m.current (ap (λ (q : LocalBuffer). q.closed) list_is ∙ ap (λ q. q ++ m.current ∷ []) same.closed) was.closed_are
+                 (now_is ∙ (λ i. told (puts_to b (joined_from (after k).calls (start W N j) (long i)), takes_of b (joined_from (after (is i)).calls (start W N j) (long i)))));
+             opens = ap (λ (q : LocalBuffer). q.current) list_is;
+           }
+
+       pub going_more : Going held name room faults wires W N (suc j) first last after_logs d
        going_more = record {
          histories = after;
          many = (let m = ends.many in let n = closed.tasks.many in let o = going.many in omega (arith, m, n, o, mid_many));
          clocks = λ k h. clock_on k h;
          joins = λ b less apart. join_on b less apart;
+         logged = record {
+           many = closed.logs_many ∙ going.logged.many;
+           joined = joined_on;
+           local = local_on;
+         };
        }

@@ -1,16 +1,16 @@
 -- The ends of the buffers that join clocks, in all tasks.
-use Rattle.std.specs.Prelude.{◌≡◌, ◌≢◌, ◌<◌, ◌≤◌, ◌^◌, ℕ, List, length, map, slice_index_or, slice_set}
+use Rattle.std.specs.Prelude.{◌≡◌, ◌≢◌, ◌<◌, ◌^◌, ◌++◌, ◌∷◌, [], ℕ, List, length, slice_index_or, slice_set}
 use Rattle.frame_core.specs.declared.cell.Cell.{Cell}
 use Rattle.frame_core.specs.Legal.{Legal}
 use Rattle.atomic_table.specs.Seated.{TableId}
-use Rattle.buffer_queue.specs.Window.{Window, opened, capacity_of, is_chunk}
+use Rattle.buffer_queue.specs.Window.{Window, opened, capacity_of}
 use Rattle.buffer_ends.specs.Local.{Answers}
 use Rattle.buffer_ends.specs.Sides.{Side, Apart}
 use Rattle.buffer_ends.specs.Borders.{HasEnd, WasClosed}
 use Rattle.buffer_ends.specs.declared.thread_taps.ThreadTaps.{ThreadTaps}
 use Rattle.clock_tasks.specs.declared.task.Task.{Task}
 use Rattle.clock_windows.specs.declared.wires.Wire.{Wire}
-use Rattle.clock_windows.specs.Wires.{wire_at}
+use Rattle.clock_windows.specs.Wires.{wire_at, told}
 
 abbrev pub puts_of : {S R : Type 0} → Task S (ThreadTaps R) → List Side
 puts_of task = task.taps.puts.items
@@ -97,8 +97,11 @@ pub record JoinTurned {S R : Type 0} (wire : Wire) (b : ℕ) (put take : Window)
   pub legal : Legal wire.capacity rest put.opening put.answers take.answers
   pub opens : JoinOpen wire b rest tasks
 
--- the windows of all buffers that join two clocks were closed
-pub record AllClosed {S R : Type 0} (wires : List Wire) (old new : List (Task S (ThreadTaps R))) : Type 0 where
+-- the windows of all buffers that join two clocks were closed, and the log of each has the answers
+pub record AllClosed {S R : Type 0} (wires : List Wire) (old new : List (Task S (ThreadTaps R))) (logs after : List (List Answers)) : Type 0 where
   pub tasks : SameTasks old new
   pub each : (b : ℕ) (put take : Window) → b < length wires → (wire_at wires b).from ≢ (wire_at wires b).to → JoinRan (wire_at wires b) b put take old
       → JoinTurned (wire_at wires b) b put take new
+  pub logs_many : length after ≡ length logs
+  pub logged : (b : ℕ) (put take : Window) (d : List Answers) → b < length wires → (wire_at wires b).from ≢ (wire_at wires b).to → JoinRan (wire_at wires b) b put take old
+      → slice_index_or after b d ≡ slice_index_or logs b d ++ told (put.answers, take.answers) ∷ []

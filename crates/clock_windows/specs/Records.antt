@@ -1,10 +1,10 @@
 -- What the clocks have done, window by window.
-use Rattle.std.specs.Prelude.{◌≡◌, ◌≢◌, ◌⊎◌, ◌<◌, ◌≤◌, ◌+◌, ◌-◌, ◌*◌, ℕ, zero, suc, min, Option, None, List, [], ◌∷◌, ◌++◌, length, map, slice_index_or}
+use Rattle.std.specs.Prelude.{◌≡◌, ◌≢◌, ◌⊎◌, ◌<◌, ◌+◌, ◌-◌, ◌*◌, ℕ, zero, suc, min, Option, None, List, [], ◌∷◌, ◌++◌, length, map, slice_index_or}
 use Rattle.frame_core.specs.declared.cell.Cell.{Cell}
 use Rattle.frame_core.specs.Legal.{IsRun}
 use Rattle.frame_core.specs.Calls.{Call, takes_of, puts_to}
 use Rattle.buffer_ends.specs.Sides.{Side}
-use Rattle.buffer_ends.specs.Local.{LocalBuffer, closed}
+use Rattle.buffer_ends.specs.Local.{Answers, LocalBuffer, closed, no_answers}
 use Rattle.buffer_ends.specs.Ends.{EndsStand, ListsStand, Has}
 use Rattle.buffer_ends.specs.declared.thread_taps.ThreadTaps.{ThreadTaps}
 use Rattle.clock_engine.specs.Ticks.{HaveTicksRoom}
@@ -13,7 +13,7 @@ use Rattle.clock_tasks.specs.Histories.{History, joined_from}
 use Rattle.stream_meaning.specs.Calls.{joined_upto}
 use Rattle.clock_tasks.specs.Tasks.{EngineGone, IsWhole, IsSameClock, held_of}
 use Rattle.clock_windows.specs.declared.wires.Wire.{Wire}
-use Rattle.clock_windows.specs.Wires.{wire_at, kept}
+use Rattle.clock_windows.specs.Wires.{wire_at, kept, told}
 use Rattle.clock_windows.specs.Ends.{puts_of as put_ends, takes_of as take_ends, JoinOpen}
 
 -- the tick with which window j begins, where windows have W ticks and the last one ends with the run
@@ -61,14 +61,26 @@ pub record JoinGoing {S R : Type 0} (wire : Wire) (b : ℕ) (windows : List Wind
   pub run : IsRun wire.capacity [] windows chunks
   pub opens : JoinOpen wire b chunks tasks
 
+-- a list with the answers of these windows, each closed
+pub record IsLogged (windows : List Window) (list : LocalBuffer) : Type 0 where
+  pub closed_are : list.closed ≡ map told windows
+  pub opens : list.current ≡ no_answers
+
+-- The logs so far: that of a buffer between clocks stands here, and that of a buffer with both ends in one clock in the clock's list.
+pub record LogsGoing {S R : Type 0} (wires : List Wire) (windows : ℕ → List Window) (now : List (Task S (ThreadTaps R))) (logs : List (List Answers)) (d : Task S (ThreadTaps R)) : Type 0 where
+  pub many : length logs ≡ length wires
+  pub joined : (b : ℕ) (e : List Answers) → b < length wires → (wire_at wires b).from ≢ (wire_at wires b).to → slice_index_or logs b e ≡ map told (windows b)
+  pub local : (b : ℕ) (e : LocalBuffer) → b < length wires → (wire_at wires b).from ≡ (wire_at wires b).to → IsLogged (windows b) (slice_index_or (slice_index_or now (wire_at wires b).from d).taps.local b e)
+
 -- so many windows were made and closed
 pub record Going {S R : Type 0} (held name : S → Option (List ℕ)) (room : S → Option ℕ) (faults : S → ℕ) (wires : List Wire) (W N j : ℕ)
-    (first now : List (Task S (ThreadTaps R))) (d : Task S (ThreadTaps R)) : Type 0 where
+    (first now : List (Task S (ThreadTaps R))) (logs : List (List Answers)) (d : Task S (ThreadTaps R)) : Type 0 where
   pub histories : ℕ → History
   pub many : length now ≡ length first
   pub clocks : (k : ℕ) → k < length first → ClockGoing held name room faults wires N (start W N j) k (histories k) (slice_index_or first k d) (slice_index_or now k d)
   pub joins : (b : ℕ) → b < length wires → (wire_at wires b).from ≢ (wire_at wires b).to
       → JoinGoing (wire_at wires b) b (windows_upto (wire_at wires b) histories b W N j) now
+  pub logged : LogsGoing wires (λ b. windows_upto (wire_at wires b) histories b W N j) now logs d
 
 -- a task whose lists' windows were closed
 pub record EndedTask {S R : Type 0} (old new : Task S (ThreadTaps R)) : Type 0 where

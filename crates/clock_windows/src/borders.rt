@@ -1,17 +1,15 @@
 // Between two windows.
-ghost use Rattle.std.specs.Prelude.{◌≡◌, ◌≢◌, ◌<◌, ℕ, List, length, slice_index_or, OnOk, OnErr, IsNone, IfSome, IfNone};
+ghost use Rattle.std.specs.Prelude.{◌≡◌, ◌≢◌, ◌<◌, ◌++◌, ◌∷◌, [], length, slice_index_or, OnOk};
 ghost use Rattle.buffer_ends.specs.Borders.{HaveEnds};
 ghost use Rattle.buffer_ends.specs.Sides.{Apart};
-
-
-
-ghost use Rattle.clock_windows.specs.Ends.{WasLent, WasPutBack, GiverClosed, JoinClosed, MayClose, AllClosed};
+ghost use Rattle.clock_windows.specs.Ends.{AllClosed, GiverClosed, JoinClosed, MayClose, WasLent, WasPutBack};
+ghost use Rattle.clock_windows.specs.Records.{SameEngines};
 
 use crate::wires::Wire;
-use buffer_ends::{TakeEnd, ThreadTaps, WindowLog};
+use buffer_ends::{BufferLog, TakeEnd, ThreadTaps, WindowLog};
+use clock_tasks::Task;
 use liq_base::Memory;
 use std::alloc::Global;
-use clock_tasks::Task;
 
 // Takes the ends out that take.
 fn lent<'a, O, R>(
@@ -63,26 +61,39 @@ fn close_join<O, R>(
     log
 }
 
-// Closes the window of each buffer between two clocks.
+// Adds the answers of a window to a buffer's log.
+fn add_window(log: &mut BufferLog, window: WindowLog) -> Result<(), Memory>
+    ensures { OnOk result (log.new ≡ log.old ++ window ∷ []) }
+{
+    log.windows.push(window)?;
+    Ok(())
+}
+
+// Closes the window of each buffer between two clocks, and adds its answers to the buffer's log.
 pub(crate) fn close_joins<O, R>(
     alloc: Global,
     tasks: &mut [Task<'_, O, ThreadTaps<'_, R>>],
     wires: &[Wire],
-)
+    logs: &mut [BufferLog],
+) -> Result<(), Memory>
     requires may { MayClose wires.now tasks.old }
-    ensures closed { AllClosed wires.now tasks.old tasks.new }
+    requires logs { length logs.old ≡ length wires.now }
+    ensures closed { OnOk result (AllClosed wires.now tasks.old tasks.new logs.old logs.new) }
+    ensures engines { SameEngines tasks.old tasks.new }
 {
     for b in 0..wires.len() {
         let wire = wires[b];
         if wire.from == wire.to {
             continue;
         }
-        let _ = close_join(
+        let window = close_join(
             alloc,
             tasks,
             wire.from as usize,
             wire.to as usize,
             b as u32,
         );
+        add_window(&mut logs[b], window)?;
     }
+    Ok(())
 }

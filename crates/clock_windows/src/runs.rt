@@ -7,13 +7,13 @@ ghost use Rattle.clock_windows.specs.Runs.{IsReady, RunDone, RunPart};
 
 use crate::borders::close_joins;
 use crate::wires::Wire;
-use buffer_ends::{End, ThreadTaps};
+use buffer_ends::{BufferLog, End, ThreadTaps};
+use clock_engine::TickFault;
+use clock_tasks::{Task, run_window};
 use liq_base::{Gate, Memory, Sink};
 use std::alloc::Global;
 use std::sync::Wait;
 use std::thread::Threads;
-use clock_tasks::{Task, run_window};
-use clock_engine::TickFault;
 
 fn end_of(clock: u32, fault: TickFault) -> End
     ensures { result ≡ Done → ⊥ }
@@ -64,14 +64,15 @@ pub fn run_windows<O: Sink + Send, G: Gate + Sync, R: Threads + Wait + Sync>(
     alloc: Global,
     wires: &[Wire],
     tasks: &mut [Task<'_, O, ThreadTaps<'_, R>>],
+    logs: &mut [BufferLog],
     ticks: u64,
     window: u64,
     gate: &G,
 ) -> End
-    requires ready { IsReady O.held O.name O.room O.faults wires.now window ticks tasks.old }
+    requires ready { IsReady O.held O.name O.room O.faults wires.now window ticks tasks.old logs.old }
     requires few { ticks ≤ 1000000000 }
     requires window { 0 < window }
-    ensures done { result ≡ Done → RunDone O.held O.name O.room O.faults wires.now window ticks tasks.old tasks.new }
+    ensures done { result ≡ Done → RunDone O.held O.name O.room O.faults wires.now window ticks tasks.old tasks.new logs.new }
     ensures part { (result ≡ Done → ⊥) → RunPart O.held wires.now window ticks tasks.old tasks.new }
 {
     let mut made = 0;
@@ -81,7 +82,9 @@ pub fn run_windows<O: Sink + Send, G: Gate + Sync, R: Threads + Wait + Sync>(
         if let Some(end) = stopped_in(tasks) {
             return end;
         }
-        close_joins(alloc, tasks, wires);
+        if let Err(Memory) = close_joins(alloc, tasks, wires, logs) {
+            return End::Memory;
+        }
         if let Err(Memory) = end_windows(alloc, tasks) {
             return End::Memory;
         }
