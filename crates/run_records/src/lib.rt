@@ -1,3 +1,10 @@
 //! What the buffers of a plan answer in a run: lawful records of clocks in windows, and rounds on one thread. The
 //! definitions stand in `specs/`; no code runs here.
 #![tactic(auto)]
+
+mod laws;
+
+pub use laws::{
+    as_on_one_thread, feeders_run, lawful_records_are_rounds, rounds_are_one, text_is_whole,
+    ticks_call_their_own,
+};

@@ -1,0 +1,160 @@
+-- Records by hand: of a buffer whose reader's clock does not run, and one whose ticks can be ordered; and calls that part.
+use Rattle.std.proofs.Common.{◌≡◌, ◌<◌, ◌≤◌, ℕ, zero, suc, Some, None, List, [], ◌∷◌, Bool, true, false, refl, ap, sym, subst, ◌++◌, length, length-append, arith, map, int_eq, true≢false}
+use Rattle.std.specs.Prelude.{pos}
+use Rattle.frame_core.specs.declared.cell.Cell.{Cell}
+use Rattle.frame_core.specs.Legal.{Legal, IsRun}
+use Rattle.frame_core.specs.Calls.{Took}
+use Rattle.plan_core.specs.declared.node.Op.TheVariants.{Single, Buffer}
+use Rattle.plan_core.specs.declared.sink.SinkPlan.TheVariants.{Feed}
+use Rattle.clock_infer.specs.declared.clock_map.NodeClock.TheVariants.{Main}
+use Rattle.op_leaf.specs.Readers.{Answer}
+use Rattle.stream_meaning.specs.Arithmetic.{cells_of}
+use Rattle.stream_meaning.specs.Instants.{Setting, answered}
+use Rattle.stream_meaning.specs.Calls.{joined_upto, calls_of_tick}
+use Rattle.run_records.proofs.Plans.{new, more, file, node, out, setting}
+use Rattle.run_records.specs.Buffers.{feeder, reader}
+use Rattle.run_records.specs.Records.{Run, IsLawful, Window, Follows, windows_of, setting_in, capacity_of, on, start, calls_in, windows_in}
+use Rattle.stream_laws.specs.Parting.{ArePart}
+use Rattle.run_records.specs.Ordered.{HasSameText, told, made, got_by, kept_by, IsOrdered}
+
+one_alone : (P : ℕ → Type 0) → P 0 → (b : ℕ) → b < 1 → P b
+one_alone P p zero less = p
+one_alone P p (suc b) less = absurd (omega (arith, less))
+
+zero_one : {A : Type 0} → zero ≡ suc zero → A
+zero_one e = absurd (omega (arith, e))
+
+abbrev one : List Cell
+one = cells_of (new 1 ∷ more 2 ∷ more 3 ∷ new 1 ∷ more 2 ∷ more 3 ∷ new 1 ∷ more 2 ∷ [])
+
+-- a source in clock 0, which an output writes, feeds a buffer of one chunk; its reader alone lies in clock 1, which has no sink
+abbrev unread : Setting
+unread = setting (node (Single []) [] ∷ node (Buffer 0) [] ∷ []) (Feed 0 0 ∷ out 0 ∷ []) (record { pre = 0; capacity = 1 } ∷ []) (file (1 ∷ 2 ∷ 3 ∷ []) ∷ []) ((0 ∷ []) ∷ [] ∷ []) (Main 0 ∷ Main 1 ∷ [])
+
+-- two ticks of clock 0: the first put is accepted, the second one finds it full, and nobody takes
+abbrev filled : Run
+filled = record { buffers = ((Some one ∷ None ∷ [], []) ∷ []) ∷ [] }
+
+abbrev first_only : (m t buffer : ℕ) → Bool
+first_only m zero buffer = true
+first_only m (suc t) buffer = false
+
+filled_is_lawful : IsLawful unread 1 2 2 filled
+filled_is_lawful = record {
+  buffers = refl;
+  accepted = first_only;
+  count = 1;
+  whole = refl;
+  tight = one_alone (λ j. start 2 2 j < 2) (omega arith);
+  are = one_alone (λ b. windows_of filled b ≡ windows_in (setting_in unread filled) 1 first_only b 2 2 1) refl;
+  legal = one_alone (λ b. (rest : List (List Cell)) × IsRun (capacity_of unread b) [] (windows_of filled b) rest) (one ∷ [], (one ∷ [], Legal.accepted (omega arith) (Legal.full refl Legal.ended), refl));
+  in_order = one_alone (λ b. feeder unread b ≡ reader unread b → (rest : List (List Cell)) × Follows (capacity_of unread b) [] (on b (joined_upto (calls_in (setting_in unread filled) 1 first_only (feeder unread b)) 2)) rest)
+      (λ e. zero_one e);
+}
+
+-- the same buffer read in clock 1, which runs: one tick of each, in which its chunk was got
+abbrev joined : Setting
+joined = setting (node (Single []) [] ∷ node (Buffer 0) [] ∷ []) (Feed 0 0 ∷ out 1 ∷ []) (record { pre = 0; capacity = 1 } ∷ []) (file (1 ∷ 2 ∷ 3 ∷ []) ∷ []) ((0 ∷ []) ∷ [] ∷ []) (Main 0 ∷ Main 1 ∷ [])
+
+abbrev prompt : Run
+prompt = record { buffers = ((Some one ∷ [], Some one ∷ []) ∷ []) ∷ [] }
+
+abbrev order : List (ℕ × ℕ)
+order = (0, 0) ∷ (1, 0) ∷ []
+
+two_ticks : (P : List (ℕ × ℕ) → ℕ → ℕ → Type 0) → P [] 0 0 → P ((0, 0) ∷ []) 1 0 → (before behind : List (ℕ × ℕ)) (m t : ℕ) → order ≡ before ++ (m, t) ∷ behind → P before m t
+two_ticks P p q [] behind m t e = subst (λ (x : ℕ × ℕ). P [] x.0 x.1) (head (0, 0) (m, t) ((1, 0) ∷ []) behind e) p
+  where
+    head : (x y : ℕ × ℕ) (xs ys : List (ℕ × ℕ)) → x ∷ xs ≡ y ∷ ys → x ≡ y
+    head x y xs ys e = cc
+two_ticks P p q (x ∷ []) behind m t e =
+    subst (λ (l : ℕ × ℕ). P (l ∷ []) m t) (head (0, 0) x ((1, 0) ∷ []) ((m, t) ∷ behind) e)
+    (subst (λ (y : ℕ × ℕ). P ((0, 0) ∷ []) y.0 y.1) (head (1, 0) (m, t) [] behind (tail (0, 0) x ((1, 0) ∷ []) ((m, t) ∷ behind) e)) q)
+  where
+    head : (x y : ℕ × ℕ) (xs ys : List (ℕ × ℕ)) → x ∷ xs ≡ y ∷ ys → x ≡ y
+    head x y xs ys e = cc
+
+    tail : (x y : ℕ × ℕ) (xs ys : List (ℕ × ℕ)) → x ∷ xs ≡ y ∷ ys → xs ≡ ys
+    tail x y xs ys e = cc
+two_ticks P p q (x ∷ y ∷ before) behind m t e =
+    let size : length order ≡ length (x ∷ y ∷ before ++ (m, t) ∷ behind) = ap (λ (l : List (ℕ × ℕ)). length l) e in
+    let sum = length-append before ((m, t) ∷ behind) in absurd (omega (arith, size, sum))
+
+prompt_is_ordered : IsOrdered (setting_in joined prompt) 2 first_only 1
+prompt_is_ordered = record {
+  order = order;
+  all = λ m less. all m less;
+  each = two_ticks (λ before m t. (m < 2) × (t ≡ made m before)) (omega arith, refl) (omega arith, refl);
+  earlier = λ before behind m t b e less read. two_ticks (λ before m t. (b : ℕ) → b < 1 → reader joined b ≡ m → got_by (setting_in joined prompt) 2 first_only b (suc t) ≤ kept_by (setting_in joined prompt) 2 first_only b (made (feeder joined b) before))
+      (one_alone (λ b. reader joined b ≡ 0 → got_by (setting_in joined prompt) 2 first_only b 1 ≤ kept_by (setting_in joined prompt) 2 first_only b (made (feeder joined b) [])) (λ read. zero_one (sym read)))
+      (one_alone (λ b. reader joined b ≡ 1 → got_by (setting_in joined prompt) 2 first_only b 1 ≤ kept_by (setting_in joined prompt) 2 first_only b (made (feeder joined b) ((0, 0) ∷ []))) (λ read. omega arith))
+      before behind m t e b less read;
+}
+  where
+    all : (m : ℕ) → m < 2 → made m order ≡ 1
+    all zero less = refl
+    all (suc zero) less = refl
+    all (suc (suc m)) less = absurd (omega (arith, less))
+
+-- a chunk or none: the calls part at the first take
+parted : ArePart 1 (calls_of_tick (answered joined (λ b. Some one ∷ [])) (λ b. true) 1 0) (calls_of_tick (answered joined (λ b. [])) (λ b. true) 1 0)
+parted = record {
+  front = [];
+  one = Took 0 (Some one);
+  other = Took 0 None;
+  behind = [];
+  others = [];
+  first = refl;
+  second = refl;
+  differ = (omega arith, refl, λ (e : ◌≡◌ {A = Answer} (Some one) None). absurd cc);
+}
+
+-- Two clocks that feed each other: each tick gets what the other one gives. Both records are lawful, they have the same text, and they are
+-- not the same; no order of their ticks is there.
+abbrev ring : Setting
+ring = setting (node (Buffer 1) [] ∷ node (Buffer 0) [] ∷ []) (Feed 0 0 ∷ Feed 1 1 ∷ []) (record { pre = 0; capacity = 1 } ∷ record { pre = 0; capacity = 1 } ∷ []) [] ([] ∷ [] ∷ []) (Main 0 ∷ Main 1 ∷ [])
+
+abbrev other : List Cell
+other = cells_of (new 5 ∷ more 5 ∷ more 5 ∷ more 5 ∷ more 5 ∷ more 5 ∷ more 5 ∷ more 5 ∷ [])
+
+abbrev turning : List Cell → Run
+turning chunk = record { buffers = ((Some chunk ∷ [], Some chunk ∷ []) ∷ []) ∷ ((Some chunk ∷ [], Some chunk ∷ []) ∷ []) ∷ [] }
+
+two_alone : (P : ℕ → Type 0) → P 0 → P 1 → (b : ℕ) → b < 2 → P b
+two_alone P p q zero less = p
+two_alone P p q (suc zero) less = q
+two_alone P p q (suc (suc b)) less = absurd (omega (arith, less))
+
+once : (chunk : List Cell) → (b : ℕ) → b < 2 → (rest : List (List Cell)) × IsRun (capacity_of ring b) [] (windows_of (turning chunk) b) rest
+once chunk = two_alone (λ b. (rest : List (List Cell)) × IsRun (capacity_of ring b) [] (windows_of (turning chunk) b) rest)
+    ([], ([], Legal.accepted (omega arith) (Legal.got Legal.ended), refl)) ([], ([], Legal.accepted (omega arith) (Legal.got Legal.ended), refl))
+
+turns : (chunk : List Cell) → ((b : ℕ) → b < 2 → windows_of (turning chunk) b ≡ windows_in (setting_in ring (turning chunk)) 2 first_only b 1 1 1) → IsLawful ring 2 1 1 (turning chunk)
+turns chunk are = record {
+  buffers = refl;
+  accepted = first_only;
+  count = 1;
+  whole = refl;
+  tight = one_alone (λ j. start 1 1 j < 1) (omega arith);
+  are = are;
+  legal = once chunk;
+  in_order = two_alone (λ b. feeder ring b ≡ reader ring b → (rest : List (List Cell)) × Follows (capacity_of ring b) [] (on b (joined_upto (calls_in (setting_in ring (turning chunk)) 2 first_only (feeder ring b)) 1)) rest)
+      (λ e. zero_one e) (λ e. zero_one (sym e));
+}
+
+turns_one : IsLawful ring 2 1 1 (turning one)
+turns_one = turns one (two_alone (λ b. windows_of (turning one) b ≡ windows_in (setting_in ring (turning one)) 2 first_only b 1 1 1) refl refl)
+
+turns_other : IsLawful ring 2 1 1 (turning other)
+turns_other = turns other (two_alone (λ b. windows_of (turning other) b ≡ windows_in (setting_in ring (turning other)) 2 first_only b 1 1 1) refl refl)
+
+same_text : HasSameText ring (turning one) (turning other)
+same_text = two_alone (λ b. map told (windows_of (turning one) b) ≡ map told (windows_of (turning other) b)) refl refl
+
+-- whether the first chunk begins with a sample of 1
+abbrev begins_one : List (List Window) → Bool
+begins_one (((Some (cell ∷ cells) ∷ puts, takes) ∷ ws) ∷ buffers) = int_eq cell.left (pos 1)
+begins_one _ = false
+
+not_the_same : turning one ≡ turning other → ⊥
+not_the_same e = true≢false (ap (λ (run : Run). begins_one run.buffers) e)

@@ -1,0 +1,25 @@
+-- Records of a plan in which no buffer joins two clocks, beside that of rounds on one thread.
+use Rattle.std.specs.Prelude.{◌≡◌, ◌<◌, ℕ, List, [], ◌∷◌, length, map}
+use Rattle.std.specs.List.{flat_map}
+use Rattle.stream_meaning.specs.Instants.{Setting}
+use Rattle.stream_meaning.specs.Sinks.{ticks_bytes, gaps}
+use Rattle.run_records.specs.Buffers.{feeder, reader}
+use Rattle.run_records.specs.Records.{Window, Run, setting_in}
+
+-- all windows of a buffer as one
+abbrev pub as_one : List Window → List Window
+as_one windows = (flat_map (λ (window : Window). window.0) windows, flat_map (λ (window : Window). window.1) windows) ∷ []
+
+abbrev pub merged : Run → Run
+merged run = record { buffers = map as_one run.buffers }
+
+-- no buffer joins two clocks: both its ends lie in one
+abbrev pub HasNoJoin : Setting → Type 0
+HasNoJoin setting = (buffer : ℕ) → buffer < length setting.plan.buffers → feeder setting buffer ≡ reader setting buffer
+
+-- A run is that of one thread: its answers, in one window a buffer, are that record, and the bytes and the gaps of each node are
+-- the same.
+pub record IsAsOnOneThread (setting : Setting) (run one_thread : Run) : Type 0 where
+  pub same_record : merged run ≡ one_thread
+  pub same_bytes : (i t : ℕ) → ticks_bytes (setting_in setting run) i t ≡ ticks_bytes (setting_in setting one_thread) i t
+  pub same_gaps : (i t : ℕ) → gaps (setting_in setting run) i t ≡ gaps (setting_in setting one_thread) i t

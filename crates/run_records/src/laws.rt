@@ -1,0 +1,49 @@
+// Laws of records. Each is a contract of a function that does nothing.
+ghost use Rattle.std.specs.Prelude.{◌≡◌, ◌<◌, ℕ, All, Bool, List, length};
+ghost use Rattle.clock_infer.specs.declared.clock_map.ClockMap.{ClockMap as Map};
+ghost use Rattle.op_leaf.specs.Readers.{Answer};
+ghost use Rattle.stream_meaning.specs.Calls.{calls_of_tick};
+ghost use Rattle.stream_meaning.specs.Instants.{Setting, answered};
+ghost use Rattle.stream_meaning.specs.Settings.{IsSetting};
+ghost use Rattle.run_records.specs.Buffers.{feeder};
+ghost use Rattle.run_records.specs.Ordered.{HasSameText, IsOrdered};
+ghost use Rattle.run_records.specs.Owning.{IsOwn};
+ghost use Rattle.run_records.specs.Records.{IsLawful, IsRounds, Run, setting_in};
+ghost use Rattle.run_records.specs.Rounds.{HasNoJoin, IsAsOnOneThread, merged};
+
+/// A tick of a clock takes only of buffers that this clock reads, and gives only to those that it feeds.
+pub fn ticks_call_their_own()
+    ensures { (setting : Setting) (clocks : Map) → IsSetting setting clocks → (answers : ℕ → List Answer) (accepted : ℕ → Bool) (m t : ℕ)
+        → All (IsOwn setting m) (calls_of_tick (answered setting answers) accepted m t) }
+{}
+
+/// The clock that feeds a buffer runs. The one that reads it may not.
+pub fn feeders_run()
+    ensures { (setting : Setting) (clocks : Map) → IsSetting setting clocks → (buffer : ℕ) → buffer < length setting.plan.buffers
+        → feeder setting buffer < clocks.running }
+{}
+
+/// Rounds on one thread have one record.
+pub fn rounds_are_one()
+    ensures { (setting : Setting) (clocks : Map) → IsSetting setting clocks → (running N : ℕ) (run other : Run)
+        → IsRounds setting running N run → IsRounds setting running N other → run ≡ other }
+{}
+
+/// Where no buffer joins two clocks, a lawful record is that of rounds, whatever the length of its windows.
+pub fn lawful_records_are_rounds()
+    ensures { (setting : Setting) (clocks : Map) → IsSetting setting clocks → (W N : ℕ) (run : Run) → HasNoJoin setting
+        → IsLawful setting clocks.running W N run → IsRounds setting clocks.running N (merged run) }
+{}
+
+/// Where no buffer joins two clocks, threads answer, write and miss what rounds on one thread do.
+pub fn as_on_one_thread()
+    ensures { (setting : Setting) (clocks : Map) → IsSetting setting clocks → (W N : ℕ) (run other : Run) → HasNoJoin setting
+        → IsLawful setting clocks.running W N run → IsRounds setting clocks.running N other → IsAsOnOneThread setting run other }
+{}
+
+/// A text tells a whole record: two lawful records with the same text, of which one can be ordered, are the same.
+pub fn text_is_whole()
+    ensures { (setting : Setting) (clocks : Map) → IsSetting setting clocks → (W N : ℕ) (run other : Run)
+        → (one : IsLawful setting clocks.running W N run) → IsLawful setting clocks.running W N other → HasSameText setting run other
+        → IsOrdered (setting_in setting run) clocks.running one.accepted N → run ≡ other }
+{}

@@ -1,0 +1,16 @@
+-- What a main clock does in its first ticks.
+use Rattle.std.specs.Prelude.{◌≡◌, ℕ, Bool, List}
+use Rattle.clock_infer.specs.declared.clock_map.NodeClock.TheVariants.{Main}
+use Rattle.frame_core.specs.Calls.{Call}
+use Rattle.stream_meaning.specs.Instants.{Setting, clock_of}
+use Rattle.stream_meaning.specs.Sinks.{ticks_bytes, gaps}
+use Rattle.stream_meaning.specs.Calls.{joined_upto, calls_of_tick}
+
+-- the calls of the first ticks of clock m; `accepted t` are the answers of the puts of tick t
+abbrev pub first_calls : Setting → (accepted : ℕ → ℕ → Bool) → (m ticks : ℕ) → List Call
+first_calls setting accepted m ticks = joined_upto (λ t. calls_of_tick setting (accepted t) m t) ticks
+
+-- two settings of one plan have the same bytes and the same gaps at each node of clock m
+pub record HasSameOutputs (one other : Setting) (m ticks : ℕ) : Type 0 where
+  pub same_bytes : (i : ℕ) → clock_of one i ≡ Main m → ticks_bytes one i ticks ≡ ticks_bytes other i ticks
+  pub same_gaps : (i : ℕ) → clock_of one i ≡ Main m → gaps one i ticks ≡ gaps other i ticks
