@@ -24,17 +24,22 @@ use Rattle.clock_tasks.specs.Tasks.{EngineGone, EngineGonePart, IsSameClock, hel
 use Rattle.clock_windows.specs.declared.wires.Wire.{Wire}
 use Rattle.clock_windows.specs.Wires.{wire_at, kept}
 use Rattle.clock_windows.specs.Ends.{puts_of as put_ends, takes_of as take_ends, SameButEnds}
-use Rattle.clock_windows.specs.Records.{start, windows_upto, IsWired, ClockGoing, JoinGoing, Going, SameEngines}
+use Rattle.run_records.specs.Records.{Run, Window, start, answers_of as answers_in_run}
+use Rattle.clock_infer.specs.declared.clock_map.ClockMap.{ClockMap}
+use Rattle.frame_core.specs.declared.cell.Cell.{Cell}
+use Rattle.clock_windows.specs.Records.{windows_upto, IsWired, ClockGoing, JoinGoing, Going, SameEngines}
 use Rattle.clock_windows.specs.Runs.{IsReady, DoneAt, RunDone, PartAt, RunPart}
-use Rattle.clock_windows.specs.Lawful.{answers_of, meant}
-use Rattle.clock_windows.proofs.Ending.{start_zero, start_up, with_one}
-use Rattle.clock_windows.proofs.Lawfully.{windows}
-use Rattle.clock_windows.proofs.Owning.{calls_own}
-use Rattle.clock_windows.proofs.Finishing.{done_lawful, done_bytes}
+use Rattle.clock_windows.specs.Lawful.{IsWiredRun, answers_of, meant}
+use Rattle.clock_windows.proofs.Starts.{start_zero, start_up}
+use Rattle.clock_windows.proofs.Ending.{with_one}
+use Rattle.clock_windows.proofs.Lists.{going_runs}
+use Rattle.clock_windows.proofs.Finishing.{done_windows, done_wired, done_bytes, done_stands}
+use Rattle.clock_windows.proofs.Recording.{run_of, run_answers, run_is_lawful}
 use Rattle.clock_threads.specs.Logs.{AreNoLogs}
 use Rattle.clock_threads.specs.Starts.{AreJoined, AreBare}
 use Rattle.clock_threads.specs.Tasks.{engine_of, AreTasks, IsBare}
-use Rattle.clock_threads.specs.Threads.{AreLaid, IsFresh, AreFresh, HasRun, HasRunTasks, HasRunPart}
+use Rattle.clock_threads.specs.Runs.{IsFresh, HasMadeAll, HasRunPart}
+use Rattle.clock_threads.specs.Threads.{AreLaid, AreFresh, AreSomeFresh, HasRunTasks}
 use Rattle.clock_threads.proofs.Making.{map_get, map_long}
 
 nothing : History
@@ -62,13 +67,13 @@ gone_none : {S : Type 0} (held : S → Option (List ℕ)) (e : ClockEngine S) �
 gone_none held e st = record { stand = st; ticks = λ i less rest. absurd (omega (arith, less)); holds = λ rest sink node out. grown_none (held_of held e sink) }
 
 -- no tick was made
-pub part_none : {S : Type 0} (held : S → Option (List ℕ)) (room : S → Option ℕ) (plan : Plan) (wires : List Wire) (W N : ℕ) (engines : List (ClockEngine S)) → AreFresh room plan wires N engines → HasRunPart held wires W N engines engines
+pub part_none : {S : Type 0} (held : S → Option (List ℕ)) (room : S → Option ℕ) (plan : Plan) (wires : List Wire) (W N : ℕ) (engines : List (ClockEngine S)) → AreSomeFresh room plan wires N engines → HasRunPart held wires W N engines engines
 part_none held room plan wires W N engines fresh = record {
   many = refl;
   closed = 0;
   histories = λ k. nothing;
-  clocks = λ k d h. (0, (let z = start_zero W N in omega (arith, z)), omega arith, inl (gone_none held (slice_index_or engines k d) (fresh.each k d h).stands));
-  joins = λ b low apart. ([], refl);
+  clocks = λ k d h. (0, (let z = start_zero W N in omega (arith, z)), omega arith, inl (gone_none held (slice_index_or engines k d) (fresh.are.engines_are.each k d h).stands));
+  runs = λ b low. ([], refl);
 }
 
 map_same : {S R : Type 0} (old new : List (Task S (ThreadTaps R))) → length new ≡ length old → ((k : ℕ) (d : Task S (ThreadTaps R)) → k < length old → (slice_index_or new k d).engine ≡ (slice_index_or old k d).engine)
@@ -83,15 +88,15 @@ pub engines_same : {S R : Type 0} (old new : List (Task S (ThreadTaps R))) → S
 engines_same old new same = map_same old new same.many same.each
 
 module _ {S R : Type 0} (held name : S → Option (List ℕ)) (room : S → Option ℕ) (faults : S → ℕ) (plan : Plan) (wires : List Wire) (W N : ℕ) (bare joined : List (Task S (ThreadTaps R)))
-    (some : 0 < length bare) (are : AreLaid plan (length bare) wires) (tasks : AreTasks plan (map engine_of bare) bare) (fresh : AreFresh room plan wires N (map engine_of bare)) (j : AreJoined wires 0 bare joined) where
+    (some : 0 < length bare) (are : AreLaid plan (length bare) wires) (tasks : AreTasks plan (map engine_of bare) bare) (setting : Setting) (map_of : ClockMap) (fresh : AreFresh room plan wires N setting map_of (map engine_of bare)) (j : AreJoined wires 0 bare joined) where
   in_bare : (k : ℕ) → k < length joined → k < length bare
   in_bare k h = let m = j.many in omega (arith, h, m)
 
   engine_is : (k : ℕ) (d : Task S (ThreadTaps R)) → k < length bare → (slice_index_or joined k d).engine ≡ (slice_index_or bare k d).engine
   engine_is k d h = (j.same k d h).engine
 
-  fresh_at : (k : ℕ) (d : Task S (ThreadTaps R)) → k < length bare → IsFresh room fresh.setting N k (slice_index_or joined k d).engine
-  fresh_at k d h = subst (IsFresh room fresh.setting N k) (map_get engine_of bare k d d.engine h ∙ sym (engine_is k d h)) (fresh.each k d.engine (let n = map_long (engine_of {S = S} {R = R}) bare in omega (arith, h, n)))
+  fresh_at : (k : ℕ) (d : Task S (ThreadTaps R)) → k < length bare → IsFresh room setting N k (slice_index_or joined k d).engine
+  fresh_at k d h = subst (IsFresh room setting N k) (map_get engine_of bare k d d.engine h ∙ sym (engine_is k d h)) (fresh.engines_are.each k d.engine (let n = map_long (engine_of {S = S} {R = R}) bare in omega (arith, h, n)))
 
   local_is : (k : ℕ) (d : Task S (ThreadTaps R)) → k < length bare → (slice_index_or joined k d).taps.local ≡ map planned plan.buffers
   local_is k d h = (j.same k d h).local ∙ (tasks.each k d h).local
@@ -115,7 +120,7 @@ module _ {S R : Type 0} (held name : S → Option (List ℕ)) (room : S → Opti
         gone = subst (λ t. EngineGone held t nothing (held_of held x.engine) x.engine) (sym zero_is) (gone_none held x.engine f.stands);
         whole = f.whole;
         same = same_not name faults x.engine;
-        runs = f.runs;
+        runs = f.stands.runs;
         ticks = f.stands.made ∙ sym zero_is;
         rooms = λ n is. subst (λ m. HaveTicksRoom room x.engine.works x.engine.outs.items m) (let e : N ≡ n = omega (arith, is, zero_is) in e) f.rooms;
         wired = record {
@@ -137,7 +142,7 @@ module _ {S R : Type 0} (held name : S → Option (List ℕ)) (room : S → Opti
     few = are.few;
     places = places_joined;
     buffers = λ k d h. (let f = fresh_at k d (in_bare k h) in
-        ap (λ (s : Setting). length s.plan.buffers) f.setting_is ∙ ap (λ (p : Plan). length p.buffers) fresh.plan_is ∙ sym are.many);
+        ap (λ (s : Setting). length s.plan.buffers) f.over ∙ ap (λ (p : Plan). length p.buffers) fresh.engines_are.plan_is ∙ sym are.many);
     begun = λ d. record {
       histories = λ k. nothing;
       many = refl;
@@ -152,31 +157,59 @@ module _ {S R : Type 0} (held name : S → Option (List ℕ)) (room : S → Opti
     };
   }
 
-  pub has_run : (now : List (Task S (ThreadTaps R))) (logs : List (List Answers)) → RunDone held name room faults wires W N joined now logs → HasRunTasks held wires W N (map engine_of bare) now logs
-  has_run now logs done = with_one joined (let m = j.many in omega (arith, some, m)) (λ d.
-      let done' = done d in
-      let own = calls_own fresh.setting wires fresh.wires_are in
-      let shared : (k : ℕ) → k < length joined → (setting_of (slice_index_or joined k d).engine.works ≡ fresh.setting) × ((slice_index_or joined k d).engine.works.clock ≡ k) =
-      λ k h. (let f = fresh_at k d (in_bare k h) in (f.setting_is, f.clock)) in
-      let places = places_joined in
-      record {
-       run = record {
-        many = map_long engine_of now ∙ done'.going.many ∙ j.many ∙ sym (map_long engine_of bare);
-        setting = fresh.setting;
-        settings = λ k e h. (fresh.each k e h).setting_is;
-        count = done'.windows;
-        windows = windows (meant fresh.setting) wires own W N done'.windows done'.all done'.going.histories;
-        lawful = done_lawful held name room faults wires W N joined now logs d done' fresh.setting fresh.wires_are shared places;
-        bytes = λ k e h sink node out. (let low : k < length bare = (let n = map_long (engine_of {S = S} {R = R}) bare in omega (arith, h, n)) in let m = j.many in let n = done'.going.many in
-            ap (λ (x : ClockEngine S). held_of held x sink) (map_get engine_of now k d e (omega (arith, low, m, n)))
-            ∙ done_bytes held name room faults wires W N joined now logs d done' fresh.setting fresh.wires_are shared places k (omega (arith, low, m)) sink node out
-            ∙ ap (λ (x : ClockEngine S). grown (ticks_bytes (answered fresh.setting (answers_of (windows (meant fresh.setting) wires own W N done'.windows done'.all done'.going.histories))) node N) (held_of held x sink)) (engine_is k d low ∙ sym (map_get engine_of bare k d e low)));
-       };
-       one = d;
-       logged = done'.going.logged;
-       places = λ b low. (let p = (places_joined b low).0 in let n = done'.going.many in omega (arith, p, n));
-       lists = λ k h. (done'.going.clocks k (let n = done'.going.many in omega (arith, h, n))).lists;
-      })
+  long : length joined ≡ map_of.running
+  long = j.many ∙ sym (map_long (engine_of {S = S} {R = R}) bare) ∙ fresh.engines_are.all
+
+  shared : (d : Task S (ThreadTaps R)) (k : ℕ) → k < length joined → (setting_of (slice_index_or joined k d).engine.works ≡ setting) × ((slice_index_or joined k d).engine.works.clock ≡ k)
+  shared d k h = (let f = fresh_at k d (in_bare k h) in (f.over, f.clock))
+
+  module _ (now : List (Task S (ThreadTaps R))) (logs : List (List Answers)) (d : Task S (ThreadTaps R)) (done : DoneAt held name room faults wires W N joined now logs d) (inside : 0 < length joined) where
+    abbrev wins : ℕ → List Window
+    wins = done_windows held name room faults wires W N joined now logs d done setting map_of fresh.engines_are.is fresh.wires_are long inside (shared d) places_joined
+
+    abbrev wired : IsWiredRun (meant setting) wires W N done.windows wins
+    wired = done_wired held name room faults wires W N joined now logs d done setting map_of fresh.engines_are.is fresh.wires_are long inside (shared d) places_joined
+
+    abbrev the_run : Run
+    the_run = run_of setting map_of fresh.engines_are.is wires fresh.wires_are W N done.windows wins wired
+
+    answers_are : answers_in_run the_run ≡ answers_of wins
+    answers_are = run_answers setting map_of fresh.engines_are.is wires fresh.wires_are W N done.windows wins wired
+
+    made_all : (k : ℕ) → k < length joined → HasMadeAll held name faults setting the_run N k (slice_index_or joined k d).engine (slice_index_or now k d).engine
+    made_all k h =
+        let c = done.going.clocks k h in
+        let st = done_stands held name room faults wires W N joined now logs d done setting map_of fresh.engines_are.is fresh.wires_are long inside (shared d) places_joined k h in
+        record {
+          whole = c.whole;
+          same = c.same;
+          answers = st.0;
+          rest = st.1;
+          stands = st.2;
+          are = ap (answered setting) (st.3 ∙ sym answers_are);
+          bytes = λ sink node out.
+              done_bytes held name room faults wires W N joined now logs d done setting map_of fresh.engines_are.is fresh.wires_are long inside (shared d) places_joined k h sink node out
+              ∙ ap (λ (A : ℕ → List (Option (List Cell))). grown (ticks_bytes (answered setting A) node N) (held_of held (slice_index_or joined k d).engine sink)) (sym answers_are);
+        }
+
+    tasks_run : HasRunTasks held name faults wires setting map_of W N (map engine_of bare) now logs
+    tasks_run = record {
+      windows = wins;
+      run = record {
+        many = map_long engine_of now ∙ done.going.many ∙ j.many ∙ sym (map_long engine_of bare);
+        lawful = run_is_lawful setting map_of fresh.engines_are.is wires fresh.wires_are W N done.windows wins wired;
+        engines = λ k e h. (let low : k < length bare = (let n = map_long (engine_of {S = S} {R = R}) bare in omega (arith, h, n)) in let m = j.many in let n = done.going.many in
+            subst (λ (z : ClockEngine S × ClockEngine S). HasMadeAll held name faults setting the_run N k z.0 z.1)
+            (λ i. ((engine_is k d low ∙ sym (map_get engine_of bare k d e low)) i, sym (map_get engine_of now k d e (omega (arith, low, m, n))) i)) (made_all k (omega (arith, low, m))));
+      };
+      one = d;
+      logged = done.going.logged;
+      places = λ b low. (let p = (places_joined b low).0 in let n = done.going.many in omega (arith, p, n));
+      lists = λ k h. (done.going.clocks k (let n = done.going.many in omega (arith, h, n))).lists;
+    }
+
+  pub has_run : (now : List (Task S (ThreadTaps R))) (logs : List (List Answers)) → RunDone held name room faults wires W N joined now logs → HasRunTasks held name faults wires setting map_of W N (map engine_of bare) now logs
+  has_run now logs done = let inside : 0 < length joined = (let m = j.many in omega (arith, some, m)) in with_one joined inside (λ d. tasks_run now logs d (done d) inside)
 
   -- a run to the end, as far as any run
   pub part_of_done : (now : List (Task S (ThreadTaps R))) (logs : List (List Answers)) → RunDone held name room faults wires W N joined now logs → RunPart held wires W N joined now
@@ -185,7 +218,7 @@ module _ {S R : Type 0} (held name : S → Option (List ℕ)) (room : S → Opti
     histories = at.going.histories;
     many = at.going.many;
     clocks = λ k h. (start W N at.windows, omega arith, start_up W N at.windows, inl (at.going.clocks k h).gone);
-    joins = λ b low apart. (let g = at.going.joins b low apart in (g.chunks, g.run));
+    runs = λ b low. going_runs held name room faults wires W N at.windows joined now logs d at.going places_joined b low;
   }
 
   pub has_run_part : (now : List (Task S (ThreadTaps R))) → RunPart held wires W N joined now → HasRunPart held wires W N (map engine_of bare) (map engine_of now)
@@ -200,7 +233,7 @@ module _ {S R : Type 0} (held name : S → Option (List ℕ)) (room : S → Opti
             let was : (slice_index_or joined k d).engine ≡ slice_index_or (map engine_of bare) k e = engine_is k d low ∙ sym (map_get engine_of bare k d e low) in
             let is : (slice_index_or now k d).engine ≡ slice_index_or (map engine_of now) k e = sym (map_get engine_of now k d e (omega (arith, low, m, n))) in
             (c.0, c.1, c.2, subst (λ (z : ClockEngine S × ClockEngine S). EngineGone held c.0 (p.histories k) (held_of held z.0) z.1 ⊎ EngineGonePart held c.0 (p.histories k) (held_of held z.0) z.1) (λ i. (was i, is i)) c.3));
-        joins = p.joins;
+        runs = p.runs;
       })
 
   pub bare_is : AreBare bare

@@ -2,10 +2,13 @@
 #![tactic(auto)]
 
 mod counts;
+mod ends;
 mod joins;
 mod logs;
 mod queues;
+mod run;
 mod tasks;
 mod threads;
+mod wires;
 
-pub use threads::run_threads;
+pub use run::run_threads;

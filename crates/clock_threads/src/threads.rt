@@ -1,10 +1,13 @@
-// The run.
+// The run over wires.
 ghost use Rattle.std.specs.Prelude.{◌≡◌, ◌⊎◌, ◌<◌, ◌≤◌, ℕ, length, map};
 ghost use Rattle.buffer_ends.specs.declared.run_end.End.TheVariants.{Done};
 ghost use Rattle.clock_threads.specs.Logs.{AreNoLogs, counts_in};
 ghost use Rattle.clock_threads.specs.Starts.{AreQueues};
 ghost use Rattle.clock_threads.specs.Tasks.{AreTasks, engine_of};
-ghost use Rattle.clock_threads.specs.Threads.{AreFresh, AreLaid, HasRunPart, HasRunTasks, HasRunTold};
+ghost use Rattle.clock_infer.specs.declared.clock_map.ClockMap.{ClockMap as Map};
+ghost use Rattle.stream_meaning.specs.Instants.{Setting};
+ghost use Rattle.clock_threads.specs.Runs.{HasRunAll, HasRunPart};
+ghost use Rattle.clock_threads.specs.Threads.{AreFresh, AreLaid, AreSomeFresh, HasRunTasks};
 
 use crate::counts::count_logs;
 use crate::joins::join_all;
@@ -40,12 +43,13 @@ fn run_tasks<'q, O: Sink + Send, G: Gate + Sync, R: Threads + Wait + Sync>(
     requires queues { AreQueues wires.now (length wires.now) queues.now.items passes.items }
     requires wires { AreLaid plan.now (length tasks.old) wires.now }
     requires tasks { AreTasks plan.now (map engine_of tasks.old) tasks.old }
-    requires fresh { AreFresh O.room plan.now wires.now ticks (map engine_of tasks.old) }
+    requires fresh { AreSomeFresh O.room plan.now wires.now ticks (map engine_of tasks.old) }
     requires logs { AreNoLogs (length wires.now) logs.old }
     requires few { ticks ≤ 1000000000 }
     requires window { 0 < window }
     ensures many { length tasks.new ≡ length tasks.old }
-    ensures done { result ≡ Done → HasRunTasks O.held wires.now window ticks (map engine_of tasks.old) tasks.new logs.new }
+    ensures done { result ≡ Done → (setting : Setting) (clocks : Map) → AreFresh O.room plan.now wires.now ticks setting clocks (map engine_of tasks.old)
+        → HasRunTasks O.held O.name O.faults wires.now setting clocks window ticks (map engine_of tasks.old) tasks.new logs.new }
     ensures all { result ≡ Done → HasRunPart O.held wires.now window ticks (map engine_of tasks.old) (map engine_of tasks.new) }
     ensures part { (result ≡ Done → ⊥) → HasRunPart O.held wires.now window ticks (map engine_of tasks.old) (map engine_of tasks.new) }
 {
@@ -56,7 +60,7 @@ fn run_tasks<'q, O: Sink + Send, G: Gate + Sync, R: Threads + Wait + Sync>(
 }
 
 // The answer of a run that did not come to its end.
-fn ended(alloc: Global, end: End) -> RunEnd
+pub(crate) fn ended(alloc: Global, end: End) -> RunEnd
     ensures { result.end ≡ end }
 {
     RunEnd {
@@ -80,8 +84,8 @@ fn told(alloc: Global, logs: Vec<BufferLog>, end: End) -> RunEnd
     }
 }
 
-/// All clocks make so many ticks, in windows of so many. The engines come back, whatever the end is.
-pub fn run_threads<'a, O: Sink + Send, G: Gate + Sync, R: Threads + Wait + Sync>(
+// All clocks make so many ticks over these wires, in windows of so many. The engines come back, whatever the end is.
+pub(crate) fn run_wired<'a, O: Sink + Send, G: Gate + Sync, R: Threads + Wait + Sync>(
     rt: &R,
     alloc: Global,
     plan: &Plan,
@@ -93,11 +97,12 @@ pub fn run_threads<'a, O: Sink + Send, G: Gate + Sync, R: Threads + Wait + Sync>
 ) -> RunEnd
     requires some { 0 < length engines.old.items }
     requires wires { AreLaid plan.now (length engines.old.items) wires.now }
-    requires fresh { AreFresh O.room plan.now wires.now ticks engines.old.items }
+    requires fresh { AreSomeFresh O.room plan.now wires.now ticks engines.old.items }
     requires few { ticks ≤ 1000000000 }
     requires window { 0 < window }
     ensures many { length engines.new.items ≡ length engines.old.items }
-    ensures done { result.end ≡ Done → HasRunTold O.held wires.now window ticks engines.old.items engines.new.items result.counts.items result.logs.items }
+    ensures done { result.end ≡ Done → (setting : Setting) (clocks : Map) → AreFresh O.room plan.now wires.now ticks setting clocks engines.old.items
+        → HasRunAll O.held O.name O.faults setting clocks window ticks engines.old.items engines.new.items result.counts.items result.logs.items }
     ensures part { (result.end ≡ Done → ⊥) → HasRunPart O.held wires.now window ticks engines.old.items engines.new.items }
 {
     let Ok(mut logs) = no_logs(alloc, wires.len()) else {

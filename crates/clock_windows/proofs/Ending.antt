@@ -1,6 +1,5 @@
 -- The whole run.
 use Rattle.std.proofs.Common.{◌≡◌, ◌≢◌, ◌⊎◌, ℕ, zero, suc, ◌<◌, ◌≤◌, ◌+◌, ◌-◌, ◌*◌, ◌^◌, All, List, [], ◌∷◌, ◌++◌, length, get_or, set, slice_index_or, min, sym, refl, ap, ◌∙◌, subst, arith, inl, inr, ⊎_elim, Option, Some, None, add-one, length-set, get_or-set_same, get_or-set_other}
-use Rattle.std.proofs.Math.Nat.{min-eq_left, min-eq_right, suc-mul}
 use Rattle.std.proofs.lemmas.List.{get_or_default}
 use Rattle.clock_engine.specs.declared.engine.ClockEngine.{ClockEngine}
 use Rattle.clock_engine.specs.Ticks.{HaveTicksRoom}
@@ -18,48 +17,14 @@ use Rattle.clock_tasks.proofs.Running.{rooms_fewer}
 use Rattle.clock_windows.specs.declared.wires.Wire.{Wire}
 use Rattle.clock_windows.specs.Wires.{wire_at}
 use Rattle.clock_windows.specs.Ends.{MayClose, AllClosed}
-use Rattle.clock_windows.specs.Records.{start, windows_upto, Going, EndedTask, AllEndedTasks, SameEngines}
+use Rattle.run_records.specs.Records.{start}
+use Rattle.clock_windows.specs.Records.{windows_upto, Going, EndedTask, AllEndedTasks, SameEngines}
 use Rattle.clock_windows.specs.Runs.{IsReady, DoneAt, PartAt, RunDone, RunPart}
 use Rattle.clock_windows.proofs.Sets.{same_or_other}
+use Rattle.clock_windows.proofs.Starts.{start_zero, start_most, start_up, start_next, start_climbs}
+use Rattle.clock_windows.proofs.Lists.{going_runs}
 use Rattle.clock_windows.proofs.Meeting.{low_or_high, windows_alike}
-use Rattle.clock_windows.proofs.Goings.{TapsStand, TapsBuffers, SameTaps, may_close, going_more, part_shut}
-
--- the beginning of windows
-pub start_zero : (W N : ℕ) → start W N 0 ≡ 0
-start_zero W N = let z : 0 * W ≡ 0 = grind arith in ap (min N) z ∙ min-eq_right (omega arith)
-
-pub start_most : (W N j : ℕ) → start W N j ≤ N
-start_most W N j = elim (low_or_high N (j * W)) [
-  | inl low ↦ (let e = min-eq_left {n = N} {m = j * W} (omega (arith, low)) in omega (arith, e))
-  | inr high ↦ (let e = min-eq_right {n = j * W} {m = N} high in omega (arith, e, high))
-]
-
-pub start_up : (W N j : ℕ) → start W N j ≤ start W N (suc j)
-start_up W N j =
-    let m = suc-mul j W in
-    elim (low_or_high N (j * W)) [
-      | inl low ↦ (let e = min-eq_left {n = N} {m = j * W} (omega (arith, low)) in let f = min-eq_left {n = N} {m = suc j * W} (omega (arith, low, m)) in omega (arith, e, f))
-      | inr high ↦ (let e = min-eq_right {n = j * W} {m = N} high in elim (low_or_high N (suc j * W)) [
-          | inl low ↦ (let f = min-eq_left {n = N} {m = suc j * W} (omega (arith, low)) in omega (arith, e, f, high))
-          | inr high' ↦ (let f = min-eq_right {n = suc j * W} {m = N} high' in omega (arith, e, f, m))
-        ])
-    ]
-
-pub start_next : (W N j t count : ℕ) → t ≡ start W N j → t < N → count ≡ min W (N - t) → start W N (suc j) ≡ start W N j + count
-start_next W N j t count is less c =
-    let m = suc-mul j W in
-    elim (low_or_high N (j * W)) [
-      | inl low ↦ (let e = min-eq_left {n = N} {m = j * W} (omega (arith, low)) in absurd (omega (arith, e, is, less)))
-      | inr high ↦ (let e = min-eq_right {n = j * W} {m = N} high in elim (low_or_high N (suc j * W)) [
-          | inl low ↦ (let f = min-eq_left {n = N} {m = suc j * W} (omega (arith, low)) in
-              let g = min-eq_right {n = N - t} {m = W} (omega (arith, low, m, e, is)) in omega (arith, e, f, g, is, c, less))
-          | inr high' ↦ (let f = min-eq_right {n = suc j * W} {m = N} high' in let g = min-eq_left {n = W} {m = N - t} (omega (arith, high', m, e, is)) in omega (arith, e, f, g, c, m))
-        ])
-    ]
-
-pub start_climbs : (W N i n j : ℕ) → i + n ≡ j → start W N i ≤ start W N j
-start_climbs W N i zero j e = let same : i ≡ j = omega (arith, e) in subst (λ k. start W N i ≤ start W N k) same (omega arith)
-start_climbs W N i (suc n) j e = let a = start_up W N i in let b = start_climbs W N (suc i) n j (omega (arith, e)) in omega (arith, a, b)
+use Rattle.clock_windows.proofs.Goings.{TapsStand, TapsBuffers, SameTaps, may_close, going_more}
 
 some_none : {A : Type 0} {x : A} → Some x ≡ None → ⊥
 some_none e = cc
@@ -172,11 +137,6 @@ module _ {S R : Type 0} where
         };
       }
 
-      pub loop_shut : (all_run : (k : ℕ) (d : Task S (ThreadTaps R)) → k < length mid → (slice_index_or mid k d).engine.works.stopped ≡ None)
-          (shut last : List (Task S (ThreadTaps R))) (after : List (List Answers)) → AllClosed wires mid shut logs after → SameEngines shut last → RunPart held wires W N first last
-      loop_shut all_run shut last after closed same d =
-          part_shut held name room faults wires W N (loop.at d).windows d count first now mid logs (next_at d) ready.places (λ i h. start_up W N i) (loop.at d).going (λ k h. ran k d h) mid_many (λ k h. all_run k d h) shut after closed last same (start_up W N (suc (loop.at d).windows))
-
       -- how far a clock came
       record At (d : Task S (ThreadTaps R)) (k : ℕ) (g : History) : Type 0 where
         agree : Agree (start W N (loop.at d).windows) ((loop.at d).going.histories k) g
@@ -208,9 +168,9 @@ module _ {S R : Type 0} where
             histories = λ k. (chosen d k).0;
             many = (let m = loop.many in omega (arith, m, mid_many));
             clocks = λ k h. (let r = (chosen d k).1.reached h in let n = next_at d in (r.0, r.1, (let x = r.2 in omega (arith, x, n)), r.3));
-            joins = λ b low apart. (let g = l.going.joins b low apart in
-                (g.chunks, subst (λ w. IsRun (wire_at wires b).capacity [] w g.chunks)
-                (sym (windows_alike (wire_at wires b) l.going.histories (λ k. (chosen d k).0) b W N j t (λ k. (chosen d k).1.agree) (λ i low'. start_climbs W N (suc i) (j - suc i) j (omega (arith, low'))) (λ i low'. start_up W N i))) g.run));
+            runs = λ b low. (let g = going_runs held name room faults wires W N j first now logs d l.going ready.places b low in
+                (g.0, subst (λ w. IsRun (wire_at wires b).capacity [] w g.0)
+                (sym (windows_alike (wire_at wires b) l.going.histories (λ k. (chosen d k).0) b W N j t (λ k. (chosen d k).1.agree) (λ i low'. start_climbs W N (suc i) (j - suc i) j (omega (arith, low'))) (λ i low'. start_up W N i))) g.1));
           }
 
       -- the log of a buffer could not take a window
@@ -224,5 +184,5 @@ module _ {S R : Type 0} where
             clocks = λ k h. (let c = p.clocks k h in
                 let is : (slice_index_or last k d).engine ≡ (slice_index_or mid k d).engine = same.each k d (let m = p.many in omega (arith, h, m)) in
                 (c.0, c.1, c.2, subst (λ (e : ClockEngine S). EngineGone held c.0 (p.histories k) (held_of held (slice_index_or first k d).engine) e ⊎ EngineGonePart held c.0 (p.histories k) (held_of held (slice_index_or first k d).engine) e) (sym is) c.3));
-            joins = p.joins;
+            runs = p.runs;
           }

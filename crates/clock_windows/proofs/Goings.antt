@@ -24,8 +24,8 @@ use Rattle.clock_tasks.proofs.Running.{same_then}
 use Rattle.clock_windows.specs.declared.wires.Wire.{Wire}
 use Rattle.clock_windows.specs.Wires.{wire_at, ends_at, ended, kept, told}
 use Rattle.clock_windows.specs.Ends.{puts_of as put_ends, takes_of as take_ends, JoinOpen, JoinRan, JoinTurned, MayClose, SameTasks, AllClosed}
-use Rattle.clock_windows.specs.Records.{start, Window, window_of, windows_upto, IsWired, IsLogged, LogsGoing, ClockGoing, JoinGoing, Going, EndedTask, AllEndedTasks, SameEngines}
-use Rattle.clock_windows.specs.Runs.{PartAt, DoneAt}
+use Rattle.run_records.specs.Records.{start, Window}
+use Rattle.clock_windows.specs.Records.{window_of, windows_upto, IsWired, IsLogged, LogsGoing, ClockGoing, JoinGoing, Going, EndedTask, AllEndedTasks, SameEngines}
 use Rattle.clock_windows.proofs.Sets.{same_or_other, side, one_window}
 use Rattle.clock_windows.proofs.Keeping.{kept-append, puts_kept, takes_kept, on_kept, puts-append, on-append}
 use Rattle.clock_windows.proofs.Logging.{map_joined, current_is, has_back, not_ended}
@@ -184,23 +184,6 @@ module _ {S R : Type 0} (held name : S → Option (List ℕ)) (room : S → Opti
             subst (λ (l : List Window). IsRun wire.capacity [] l t.rest) (λ i. sym same i ++ window_of wire after b (start W N j) (more i) ∷ []) run,
             t.opens,
           )
-
-      -- where the lists' windows could not all be closed
-      pub part_shut : (last : List (Task S (ThreadTaps R))) → SameEngines shut last → start W N (suc j) ≤ start W N (suc (suc j)) → PartAt held wires W N first last d
-      part_shut last same more = record {
-        closed = suc j;
-        histories = after;
-        many = (let a = same.many in let b = closed.tasks.many in let c = going.many in omega (arith, a, b, c, mid_many));
-        clocks = λ k h.
-            let m = within k h in let in_mid : k < length mid = omega (arith, m, mid_many) in let n = closed.tasks.many in
-            let engine : (slice_index_or last k d).engine ≡ (slice_index_or mid k d).engine = same.each k d (omega (arith, in_mid, n)) ∙ (closed.tasks.same k d in_mid).engine in (
-              start W N (suc j),
-              omega arith,
-              more,
-              inl (subst (λ (q : ℕ × _). EngineGone held q.0 (after k) (held_of held (slice_index_or first k d).engine) q.1) (λ i. (sym next i, sym engine i)) (goes k h).0),
-            );
-        joins = λ b less apart. (let r = join_shut b less apart in (r.0, r.1));
-      }
 
       module _ (last : List (Task S (ThreadTaps R))) (ends : AllEndedTasks shut last) where
        in_mid : (k : ℕ) → k < length first → k < length mid

@@ -1,4 +1,4 @@
--- A run that ends well has a lawful record; where each buffer lies in one clock, it is that of rounds.
+-- A run that ends well has a lawful record by its wires.
 use Rattle.std.proofs.Common.{◌≡◌, ◌≢◌, ◌⊎◌, ℕ, zero, suc, ◌<◌, ◌≤◌, ◌+◌, ◌-◌, ◌==◌, eqb, Bool, true, false, List, [], ◌∷◌, ◌++◌, length, slice_index_or, sym, refl, ap, ◌∙◌, subst, arith, inl, inr, ⊎_elim, append_assoc, append-nil, Option, Some, None, if◌then◌else◌}
 use Rattle.std.proofs.lemmas.Bool.Decides.{eqb_tells}
 use Rattle.std.specs.List.{flat_map}
@@ -14,13 +14,16 @@ use Rattle.stream_meaning.specs.Calls.{joined_upto}
 use Rattle.clock_tasks.specs.Histories.{History, joined_from}
 use Rattle.clock_tasks.proofs.Walking.{joined_alike}
 use Rattle.clock_windows.specs.declared.wires.Wire.{Wire}
-use Rattle.clock_windows.specs.Wires.{wire_at}
-use Rattle.clock_windows.specs.Records.{Window, start, window_of, windows_upto}
-use Rattle.clock_windows.specs.Lawful.{Answers, Meaning, and_rest, got_by, Follows, answers_of, histories_of, IsLawful, rounds_of, IsRounds, CallsOwn, merged}
+use Rattle.clock_windows.specs.Wires.{wire_at, no_wire}
+use Rattle.run_records.specs.Records.{Window, start}
+use Rattle.clock_windows.specs.Records.{window_of, windows_upto}
+use Rattle.clock_windows.specs.Lawful.{Answers, Meaning, and_rest, got_by, answers_of, histories_of, IsWiredRun, TakeOwn}
+use Rattle.run_records.specs.Records.{Follows}
+use Rattle.run_records.proofs.Rounding.{follows_split}
 use Rattle.clock_windows.proofs.Sets.{same_or_other}
 use Rattle.clock_windows.proofs.Keeping.{puts-append, takes-append, on-append}
 use Rattle.clock_windows.proofs.Meeting.{joined_split}
-use Rattle.clock_windows.proofs.Ending.{start_zero, start_most, start_up, start_climbs}
+use Rattle.clock_windows.proofs.Starts.{start_zero, start_most, start_up, start_climbs}
 
 pub leads_follows : (q : Held) (cs : List Call) (r : Held) → Leads q cs r → Follows q.capacity q.chunks cs r.chunks
 leads_follows q [] r e = ap (λ (h : Held). h.chunks) e
@@ -28,13 +31,6 @@ leads_follows q (Took b None ∷ cs) r l = (l.1.0, subst (λ (h : Held). Follows
 leads_follows q (Took b (Some chunk) ∷ cs) r l = (l.1.0, l.1.1, subst (λ (h : Held). Follows h.capacity h.chunks cs r.chunks) l.1.2 (leads_follows l.0 cs r l.2))
 leads_follows q (Given b chunk true ∷ cs) r l = (l.1.0, subst (λ (h : Held). Follows h.capacity h.chunks cs r.chunks) l.1.1 (leads_follows l.0 cs r l.2))
 leads_follows q (Given b chunk false ∷ cs) r l = (l.1.0, subst (λ (h : Held). Follows h.capacity h.chunks cs r.chunks) l.1.1 (leads_follows l.0 cs r l.2))
-
-pub follows_split : (C : ℕ) (xs ys : List Call) (q r : List (List Cell)) → Follows C q (xs ++ ys) r → (m : List (List Cell)) × Follows C q xs m × Follows C m ys r
-follows_split C [] ys q r f = (q, refl, f)
-follows_split C (Took b None ∷ xs) ys q r f = let t = follows_split C xs ys q r f.1 in (t.0, (f.0, t.1), t.2)
-follows_split C (Took b (Some chunk) ∷ xs) ys q r f = let t = follows_split C xs ys f.0 r f.2 in (t.0, (f.0, f.1, t.1), t.2)
-follows_split C (Given b chunk true ∷ xs) ys q r f = let t = follows_split C xs ys (q ++ chunk ∷ []) r f.1 in (t.0, (f.0, t.1), t.2)
-follows_split C (Given b chunk false ∷ xs) ys q r f = let t = follows_split C xs ys q r f.1 in (t.0, (f.0, t.1), t.2)
 
 -- a history in a given order is a legal window
 pub follows_legal : (C b : ℕ) (cs : List Call) (q r : List (List Cell)) → Follows C q (on b cs) r → Legal C r q (puts_to b cs) (takes_of b cs)
@@ -106,14 +102,23 @@ takes_none : (f : ℕ → List Call) (b n : ℕ) → ((i : ℕ) → i < n → ta
 takes_none f b zero h = refl
 takes_none f b (suc n) h = takes-append b (joined_upto f n) (f n) ∙ (λ i. takes_none f b n (λ k less. h k (omega (arith, less))) i ++ h n (omega arith) i)
 
+beyond : (wires : List Wire) (b : ℕ) → length wires ≤ b → wire_at wires b ≡ no_wire
+beyond [] b h = refl
+beyond (w ∷ wires) zero h = absurd (omega (arith, h))
+beyond (w ∷ wires) (suc b) h = beyond wires b (omega (arith, h))
+
 -- The record of clocks that made all their ticks: their windows are lawful.
-module _ (meant : Meaning) (wires : List Wire) (own : CallsOwn meant wires) (W N j : ℕ) (whole : start W N j ≡ N) (hs : ℕ → History) where
+module _ (meant : Meaning) (wires : List Wire) (clocks : ℕ) (own : TakeOwn meant wires clocks) (W N j : ℕ) (whole : start W N j ≡ N) (hs : ℕ → History) where
   abbrev pub windows : ℕ → List Window
   windows b = windows_upto (wire_at wires b) hs b W N j
 
-  module _ (m : ℕ) (ticks : (i : ℕ) → i < N → (rest : Answers) → (hs m).calls i ≡ meant (and_rest (got_by (hs m) (suc i)) rest) ((hs m).accepted i) m i) where
+  module _ (m : ℕ) (runs : m < clocks) (ticks : (i : ℕ) → i < N → (rest : Answers) → (hs m).calls i ≡ meant (and_rest (got_by (hs m) (suc i)) rest) ((hs m).accepted i) m i) where
     no_takes : (b : ℕ) → (wire_at wires b).to ≢ m → (n : ℕ) → n ≤ N → got_by (hs m) n b ≡ []
-    no_takes b other n most = takes_none (hs m).calls b n (λ i less. ap (takes_of b) (ticks i (omega (arith, less, most)) (λ x. [])) ∙ own.takes (and_rest (got_by (hs m) (suc i)) (λ x. [])) ((hs m).accepted i) m i b other)
+    no_takes b other n most = takes_none (hs m).calls b n (λ i less. ap (takes_of b) (ticks i (omega (arith, less, most)) (λ x. [])) ∙ own.takes (and_rest (got_by (hs m) (suc i)) (λ x. [])) ((hs m).accepted i) m i b runs other)
+
+    -- of no buffer without a wire
+    pub no_others : (b : ℕ) → length wires ≤ b → (n : ℕ) → n ≤ N → got_by (hs m) n b ≡ []
+    no_others b past n most = takes_none (hs m).calls b n (λ i less. ap (takes_of b) (ticks i (omega (arith, less, most)) (λ x. [])) ∙ own.none (and_rest (got_by (hs m) (suc i)) (λ x. [])) ((hs m).accepted i) m i b past)
 
     -- what follows the answers of the first n ticks
     pub rests : (n : ℕ) → n ≤ N → (b : ℕ) → (rest : List (Option (List Cell))) × (answers_of windows b ≡ got_by (hs m) n b ++ rest)
@@ -132,114 +137,25 @@ module _ (meant : Meaning) (wires : List Wire) (own : CallsOwn meant wires) (W N
     calls_are i less = let most : suc i ≤ N = omega (arith, less) in
         ticks i less (λ b. (rests (suc i) most b).0) ∙ ap (λ (A : Answers). meant A ((hs m).accepted i) m i) (answers_whole (suc i) most)
 
-  pub is_lawful : (tight : (i : ℕ) → i < j → start W N i < N) (clocks : ℕ)
+  pub is_lawful : (tight : (i : ℕ) → i < j → start W N i < N) → 0 < clocks
       → ((b : ℕ) → b < length wires → (wire_at wires b).from < clocks × ((wire_at wires b).to < clocks))
       → ((m : ℕ) → m < clocks → (i : ℕ) → i < N → (rest : Answers) → (hs m).calls i ≡ meant (and_rest (got_by (hs m) (suc i)) rest) ((hs m).accepted i) m i)
       → ((b : ℕ) → b < length wires → (wire_at wires b).from ≢ (wire_at wires b).to → (rest : List (List Cell)) × IsRun (wire_at wires b).capacity [] (windows b) rest)
       → ((b : ℕ) → b < length wires → (wire_at wires b).from ≡ (wire_at wires b).to → (rest : List (List Cell)) × Follows (wire_at wires b).capacity [] (on b (joined_upto (hs (wire_at wires b).from).calls N)) rest)
-      → IsLawful meant wires W N j windows
-  is_lawful tight clocks places ticks joined local = record {
+      → IsWiredRun meant wires W N j windows
+  is_lawful tight some places ticks joined local = record {
     accepted = λ m t. (hs m).accepted t;
     whole = whole;
     tight = tight;
     are = λ b less. sym (windows_same W N (wire_at wires b) hs (histories_of meant windows (λ m t. (hs m).accepted t)) b j
-        (λ i low. sym (calls_are (wire_at wires b).from (ticks (wire_at wires b).from (places b less).0) i low)) (λ i low. sym (calls_are (wire_at wires b).to (ticks (wire_at wires b).to (places b less).1) i low)));
+        (λ i low. sym (calls_are (wire_at wires b).from (places b less).0 (ticks (wire_at wires b).from (places b less).0) i low)) (λ i low. sym (calls_are (wire_at wires b).to (places b less).1 (ticks (wire_at wires b).to (places b less).1) i low)));
     legal = λ b less. (elim (same_or_other (wire_at wires b).from (wire_at wires b).to) [
       | inl e ↦ (let l = local b less e in (l.0, local_run W N (wire_at wires b) hs b j l.0 e (subst (λ n. Follows (wire_at wires b).capacity [] (on b (joined_upto (hs (wire_at wires b).from).calls n)) l.0) (sym whole) l.1)))
       | inr n ↦ joined b less n
     ]);
     in_order = λ b less e. (let l = local b less e in
         (l.0, subst (λ c. Follows (wire_at wires b).capacity [] (on b c) l.0) (joined_alike (hs (wire_at wires b).from).calls (histories_of meant windows (λ m t. (hs m).accepted t) (wire_at wires b).from).calls N
-        (λ i low. calls_are (wire_at wires b).from (ticks (wire_at wires b).from (places b less).0) i low)) l.1));
+        (λ i low. calls_are (wire_at wires b).from (places b less).0 (ticks (wire_at wires b).from (places b less).0) i low)) l.1));
+    others = λ b past. (let n : N ≤ N = omega arith in let off = beyond wires b past in
+        all_takes W N (wire_at wires b) hs b j ∙ (λ i. takes_of b (joined_upto (hs (ap (λ (w : Wire). w.to) off i)).calls (whole i))) ∙ no_others 0 some (ticks 0 some) b past N n);
   }
-
-on_none : (b : ℕ) (cs : List Call) → puts_to b cs ≡ [] → takes_of b cs ≡ [] → on b cs ≡ []
-on_none b [] p t = refl
-on_none b (Took x o ∷ cs) p t = go (b == x) (λ q. on_none b cs p q) t
-  where
-    go : (s : Bool) → (takes_of b cs ≡ [] → on b cs ≡ []) → (if s then o ∷ takes_of b cs else takes_of b cs) ≡ [] → (if s then Took x o ∷ on b cs else on b cs) ≡ []
-    go true rec q = absurd (cons_nil q)
-      where
-        cons_nil : {A : Type 0} {y : A} {ys : List A} → y ∷ ys ≡ [] → ⊥
-        cons_nil e = cc
-    go false rec q = rec q
-on_none b (Given x c a ∷ cs) p t = go (b == x) (λ q. on_none b cs q t) p
-  where
-    go : (s : Bool) → (puts_to b cs ≡ [] → on b cs ≡ []) → (if s then put_of c a ∷ puts_to b cs else puts_to b cs) ≡ [] → (if s then Given x c a ∷ on b cs else on b cs) ≡ []
-    go true rec q = absurd (cons_nil q)
-      where
-        cons_nil : {A : Type 0} {y : A} {ys : List A} → y ∷ ys ≡ [] → ⊥
-        cons_nil e = cc
-    go false rec q = rec q
-
-puts_on : (b : ℕ) (cs : List Call) → puts_to b (on b cs) ≡ puts_to b cs
-puts_on b [] = refl
-puts_on b (Took x o ∷ cs) = go (b == x) (puts_on b cs)
-  where
-    go : (s : Bool) → puts_to b (on b cs) ≡ puts_to b cs → puts_to b (if s then Took x o ∷ on b cs else on b cs) ≡ puts_to b cs
-    go true e = e
-    go false e = e
-puts_on b (Given x c a ∷ cs) = go (b == x) refl (puts_on b cs)
-  where
-    go : (s : Bool) → (b == x) ≡ s → puts_to b (on b cs) ≡ puts_to b cs → puts_to b (if s then Given x c a ∷ on b cs else on b cs) ≡ (if s then put_of c a ∷ puts_to b cs else puts_to b cs)
-    go true is e = ap (λ z. if z then put_of c a ∷ puts_to b (on b cs) else puts_to b (on b cs)) is ∙ ap (λ l. put_of c a ∷ l) e
-    go false is e = e
-
-takes_on : (b : ℕ) (cs : List Call) → takes_of b (on b cs) ≡ takes_of b cs
-takes_on b [] = refl
-takes_on b (Given x c a ∷ cs) = go (b == x) (takes_on b cs)
-  where
-    go : (s : Bool) → takes_of b (on b cs) ≡ takes_of b cs → takes_of b (if s then Given x c a ∷ on b cs else on b cs) ≡ takes_of b cs
-    go true e = e
-    go false e = e
-takes_on b (Took x o ∷ cs) = go (b == x) refl (takes_on b cs)
-  where
-    go : (s : Bool) → (b == x) ≡ s → takes_of b (on b cs) ≡ takes_of b cs → takes_of b (if s then Took x o ∷ on b cs else on b cs) ≡ (if s then o ∷ takes_of b cs else takes_of b cs)
-    go true is e = ap (λ z. if z then o ∷ takes_of b (on b cs) else takes_of b (on b cs)) is ∙ ap (λ l. o ∷ l) e
-    go false is e = e
-
--- one clock's calls among those of a round, and of all rounds
-round_on : (b f : ℕ) (calls : ℕ → List Call) (n : ℕ) → ((m : ℕ) → m ≢ f → on b (calls m) ≡ []) → (n ≤ f → on b (joined_upto calls n) ≡ []) × (f < n → on b (joined_upto calls n) ≡ on b (calls f))
-round_on b f calls zero none = ((λ h. refl), (λ h. absurd (omega (arith, h))))
-round_on b f calls (suc n) none =
-    let r = round_on b f calls n none in let cut = on-append b (joined_upto calls n) (calls n) in (
-      (λ h. cut ∙ (λ i. r.0 (omega (arith, h)) i ++ none n (λ e. omega (arith, e, h)) i)),
-      (λ h. elim (same_or_other n f) [
-        | inl e ↦ cut ∙ (λ i. r.0 (omega (arith, e)) i ++ on b (calls (e i)))
-        | inr off ↦ cut ∙ (λ i. r.1 (omega (arith, h, off)) i ++ none n off i) ∙ append-nil (on b (calls f))
-      ]),
-    )
-
-rounds_on : (b f : ℕ) (hs : ℕ → History) (clocks : ℕ) (N : ℕ) → f < clocks → ((m t : ℕ) → m ≢ f → on b ((hs m).calls t) ≡ []) → on b (rounds_of hs clocks N) ≡ on b (joined_upto (hs f).calls N)
-rounds_on b f hs clocks zero low none = refl
-rounds_on b f hs clocks (suc n) low none =
-    on-append b (rounds_of hs clocks n) (joined_upto (λ m. (hs m).calls n) clocks)
-    ∙ (λ i. rounds_on b f hs clocks n low none i ++ (round_on b f (λ m. (hs m).calls n) clocks (λ m off. none m n off)).1 low i)
-    ∙ sym (on-append b (joined_upto (hs f).calls n) ((hs f).calls n))
-
--- Where both ends of each buffer lie in one clock, a lawful record is that of rounds, for every window length.
-pub lawful_rounds : (meant : Meaning) (wires : List Wire) (own : CallsOwn meant wires) (W N count clocks : ℕ) (windows : ℕ → List Window)
-    → ((b : ℕ) → b < length wires → (wire_at wires b).from ≡ (wire_at wires b).to × ((wire_at wires b).from < clocks))
-    → IsLawful meant wires W N count windows → IsRounds meant wires clocks N (merged windows)
-lawful_rounds meant wires own W N count clocks windows local lawful =
-    let same : answers_of (merged windows) ≡ answers_of windows = fun_ext (λ b. append-nil (answers_of windows b)) in
-    let hs = histories_of meant windows lawful.accepted in
-    let hs_same : histories_of meant (merged windows) lawful.accepted ≡ hs = (λ i m. record { calls = λ t. meant (same i) (lawful.accepted m t) m t; accepted = lawful.accepted m }) in
-    let calls_on : (b : ℕ) (less : b < length wires) → on b (rounds_of hs clocks N) ≡ on b (joined_upto (hs (wire_at wires b).from).calls N) =
-    λ b less. rounds_on b (wire_at wires b).from hs clocks N (local b less).1 (λ m t off. on_none b ((hs m).calls t)
-        (own.puts (answers_of windows) (lawful.accepted m t) m t b (λ e. off (sym e))) (own.takes (answers_of windows) (lawful.accepted m t) m t b (λ e. off (sym ((local b less).0 ∙ e))))) in
-    record {
-      accepted = lawful.accepted;
-      are = λ b less.
-          let wire = wire_at wires b in
-          let p : flat_map (λ (w : Window). w.0) (windows b) ≡ puts_to b (rounds_of hs clocks N) =
-          ap (flat_map (λ (w : Window). w.0)) (lawful.are b less) ∙ all_puts W N wire hs b count ∙ ap (λ n. puts_to b (joined_upto (hs wire.from).calls n)) lawful.whole
-          ∙ sym (puts_on b (joined_upto (hs wire.from).calls N)) ∙ ap (puts_to b) (sym (calls_on b less)) ∙ puts_on b (rounds_of hs clocks N) in
-          let t : flat_map (λ (w : Window). w.1) (windows b) ≡ takes_of b (rounds_of hs clocks N) =
-          ap (flat_map (λ (w : Window). w.1)) (lawful.are b less) ∙ all_takes W N wire hs b count ∙ (λ i. takes_of b (joined_upto (hs (sym (local b less).0 i)).calls (lawful.whole i)))
-          ∙ sym (takes_on b (joined_upto (hs wire.from).calls N)) ∙ ap (takes_of b) (sym (calls_on b less)) ∙ takes_on b (rounds_of hs clocks N) in
-          (λ i. (p i, t i) ∷ []) ∙ ap (λ (g : ℕ → History). (puts_to b (rounds_of g clocks N), takes_of b (rounds_of g clocks N)) ∷ []) (sym hs_same);
-      in_order = λ b less.
-          let f = lawful.in_order b less (local b less).0 in
-          (f.0, subst (λ (g : ℕ → History). Follows (wire_at wires b).capacity [] (on b (rounds_of g clocks N)) f.0) (sym hs_same) (subst (λ l. Follows (wire_at wires b).capacity [] l f.0) (sym (calls_on b less)) f.1));
-    }

@@ -122,3 +122,6 @@ module _ {S R : Type 0} where
 
   pub closing_engines : (wires : List Wire) (below : ℕ) (first now : List (Task S (ThreadTaps R))) → Closing wires below first now → SameEngines first now
   closing_engines wires below first now c = record { many = c.tasks.many; each = λ k d h. (c.tasks.same k d h).engine }
+
+  pub engines_then : (xs ys zs : List (Task S (ThreadTaps R))) → SameEngines xs ys → SameEngines ys zs → SameEngines xs zs
+  engines_then xs ys zs a b = record { many = b.many ∙ a.many; each = λ k d h. b.each k d (let m = a.many in omega (arith, h, m)) ∙ a.each k d h }

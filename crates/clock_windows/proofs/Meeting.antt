@@ -21,7 +21,8 @@ use Rattle.clock_tasks.proofs.Walking.{joined_alike}
 use Rattle.clock_windows.specs.declared.wires.Wire.{Wire}
 use Rattle.clock_windows.specs.Wires.{wire_at, ends_at, ended, kept}
 use Rattle.clock_windows.specs.Ends.{puts_of as put_ends, takes_of as take_ends, JoinOpen, JoinRan, JoinTurned, MayClose, SameTasks, AllClosed}
-use Rattle.clock_windows.specs.Records.{start, Window, window_of, windows_upto, IsWired, ClockGoing, JoinGoing, Going, EndedTask, AllEndedTasks}
+use Rattle.run_records.specs.Records.{start, Window}
+use Rattle.clock_windows.specs.Records.{window_of, windows_upto, IsWired, ClockGoing, JoinGoing, Going, EndedTask, AllEndedTasks}
 use Rattle.clock_windows.proofs.Sets.{same_or_other, side, one_window}
 use Rattle.clock_windows.proofs.Keeping.{kept-append, puts_kept, takes_kept, on_kept, puts-append, on-append}
 

@@ -1,5 +1,5 @@
 -- What the clocks have done, window by window.
-use Rattle.std.specs.Prelude.{◌≡◌, ◌≢◌, ◌⊎◌, ◌<◌, ◌+◌, ◌-◌, ◌*◌, ℕ, zero, suc, min, Option, None, List, [], ◌∷◌, ◌++◌, length, map, slice_index_or}
+use Rattle.std.specs.Prelude.{◌≡◌, ◌≢◌, ◌⊎◌, ◌<◌, ◌+◌, ◌-◌, ℕ, zero, suc, Option, None, List, [], ◌∷◌, ◌++◌, length, map, slice_index_or}
 use Rattle.frame_core.specs.declared.cell.Cell.{Cell}
 use Rattle.frame_core.specs.Legal.{IsRun}
 use Rattle.frame_core.specs.Calls.{Call, takes_of, puts_to}
@@ -8,6 +8,7 @@ use Rattle.buffer_ends.specs.Local.{Answers, LocalBuffer, closed, no_answers}
 use Rattle.buffer_ends.specs.Ends.{EndsStand, ListsStand, Has}
 use Rattle.buffer_ends.specs.declared.thread_taps.ThreadTaps.{ThreadTaps}
 use Rattle.clock_engine.specs.Ticks.{HaveTicksRoom}
+use Rattle.run_records.specs.Records.{Window, start}
 use Rattle.clock_tasks.specs.declared.task.Task.{Task}
 use Rattle.clock_tasks.specs.Histories.{History, joined_from}
 use Rattle.stream_meaning.specs.Calls.{joined_upto}
@@ -15,13 +16,6 @@ use Rattle.clock_tasks.specs.Tasks.{EngineGone, IsWhole, IsSameClock, held_of}
 use Rattle.clock_windows.specs.declared.wires.Wire.{Wire}
 use Rattle.clock_windows.specs.Wires.{wire_at, kept, told}
 use Rattle.clock_windows.specs.Ends.{puts_of as put_ends, takes_of as take_ends, JoinOpen}
-
--- the tick with which window j begins, where windows have W ticks and the last one ends with the run
-abbrev pub start : (W N j : ℕ) → ℕ
-start W N j = min N (j * W)
-
-abbrev pub Window : Type 0
-Window = List (Option (List Cell)) × List (Option (List Cell))
 
 -- the puts and the takes of a buffer in so many ticks from one on
 abbrev pub window_of : Wire → (ℕ → History) → (b from count : ℕ) → Window

@@ -9,7 +9,8 @@ use Rattle.clock_tasks.specs.Histories.{History}
 use Rattle.clock_tasks.specs.Tasks.{EngineGone, EngineGonePart, held_of}
 use Rattle.clock_windows.specs.declared.wires.Wire.{Wire}
 use Rattle.clock_windows.specs.Wires.{wire_at}
-use Rattle.clock_windows.specs.Records.{start, windows_upto, Going}
+use Rattle.run_records.specs.Records.{start}
+use Rattle.clock_windows.specs.Records.{windows_upto, Going}
 
 -- the tasks of all clocks before the first tick
 pub record IsReady {S R : Type 0} (held name : S → Option (List ℕ)) (room : S → Option ℕ) (faults : S → ℕ) (wires : List Wire) (W N : ℕ) (tasks : List (Task S (ThreadTaps R))) (logs : List (List Answers)) : Type 0 where
@@ -37,8 +38,7 @@ pub record PartAt {S R : Type 0} (held : S → Option (List ℕ)) (wires : List 
   pub clocks : (k : ℕ) → k < length first → (t : ℕ) × (start W N closed ≤ t) × (t ≤ start W N (suc closed))
       × (EngineGone held t (histories k) (held_of held (slice_index_or first k d).engine) (slice_index_or now k d).engine
       ⊎ EngineGonePart held t (histories k) (held_of held (slice_index_or first k d).engine) (slice_index_or now k d).engine)
-  pub joins : (b : ℕ) → b < length wires → (wire_at wires b).from ≢ (wire_at wires b).to
-      → (chunks : List (List Cell)) × IsRun (wire_at wires b).capacity [] (windows_upto (wire_at wires b) histories b W N closed) chunks
+  pub runs : (b : ℕ) → b < length wires → (chunks : List (List Cell)) × IsRun (wire_at wires b).capacity [] (windows_upto (wire_at wires b) histories b W N closed) chunks
 
 abbrev pub RunPart : {S R : Type 0} → (S → Option (List ℕ)) → List Wire → (W N : ℕ) → (first now : List (Task S (ThreadTaps R))) → Type 0
 RunPart {S} {R} held wires W N first now = (d : Task S (ThreadTaps R)) → PartAt held wires W N first now d

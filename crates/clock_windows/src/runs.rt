@@ -2,7 +2,8 @@
 ghost use Rattle.std.specs.Prelude.{◌≡◌, ◌<◌, ◌≤◌, ◌^◌, ℕ, None, length, slice_index_or, OnOk, OnErr, IfNone, IfSome};
 ghost use Rattle.buffer_ends.specs.declared.run_end.End.TheVariants.{Done};
 ghost use Rattle.clock_windows.specs.Wires.{wire_at};
-ghost use Rattle.clock_windows.specs.Records.{start, Going, EndedTask, AllEndedTasks, SameEngines};
+ghost use Rattle.run_records.specs.Records.{start};
+ghost use Rattle.clock_windows.specs.Records.{Going, EndedTask, AllEndedTasks, SameEngines};
 ghost use Rattle.clock_windows.specs.Runs.{IsReady, RunDone, RunPart};
 
 use crate::borders::close_joins;

@@ -1,5 +1,6 @@
 use Rattle.std.proofs.Common.{◌≡◌, ◌<◌, ◌≤◌, rules, sym, subst, length, slice_index_or, ap, arith}
-use Rattle.clock_windows.proofs.Ending.{Loop, loop_none, loop_can, loop_close, loop_logs, loop_more, loop_shut, loop_stopped, loop_broke, loop_all}
+use Rattle.clock_windows.proofs.Ending.{Loop, loop_none, loop_can, loop_close, loop_logs, loop_more, loop_stopped, loop_broke, loop_all}
+use Rattle.clock_windows.proofs.Logging.{engines_then}
 use Rattle.clock_windows.proofs.runs.run_windows.Goals as goal
 
 pub loop-made-init : goal.loop-made-init
@@ -32,9 +33,9 @@ returns-in-Err-clause-part g c = λ no.
 
 pub returns-in-Err-end_windows-clause-part : goal.returns-in-Err-end_windows-clause-part
 returns-in-Err-end_windows-clause-part g c = λ no.
-    loop_shut g.O.Sink.held g.O.Sink.name g.O.Sink.room g.O.Sink.faults c.args.wires.now c.args.window c.args.ticks c.loop-made.made c.min-count.result c.args.tasks.now c.loop-made.tasks c.run_window.new.tasks c.args.logs.now c.loop-made.logs c.requires.ready
-    c.loop-made-test.true c.min-count.ensures c.loop-made.invariant c.run_window.ensures.ran c.run_window.auto.tasks c.in_default.ensures.none c.close_joins.new.tasks c.end_windows.new.tasks c.close_joins.new.logs
-    c.in_default-close_joins.ensures.closed c.end_windows.ensures.engines
+    loop_broke g.O.Sink.held g.O.Sink.name g.O.Sink.room g.O.Sink.faults c.args.wires.now c.args.window c.args.ticks c.loop-made.made c.min-count.result c.args.tasks.now c.loop-made.tasks c.run_window.new.tasks c.args.logs.now c.loop-made.logs c.requires.ready
+    c.loop-made-test.true c.min-count.ensures c.loop-made.invariant c.run_window.ensures.ran c.run_window.auto.tasks c.end_windows.new.tasks
+    (engines_then c.run_window.new.tasks c.close_joins.new.tasks c.end_windows.new.tasks c.close_joins.ensures.engines c.end_windows.ensures.engines)
 
 pub loop-made-preserved : goal.loop-made-preserved
 loop-made-preserved g c =

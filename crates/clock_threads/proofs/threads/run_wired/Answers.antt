@@ -1,8 +1,8 @@
 use Rattle.std.proofs.Common.{map, sym, subst, ◌∙◌, ◌⊎◌, inl, inr}
-use Rattle.clock_threads.specs.Threads.{HasRunPart}
+use Rattle.clock_threads.specs.Runs.{HasRunPart}
 use Rattle.clock_threads.proofs.Readying.{part_none}
 use Rattle.clock_threads.proofs.Telling.{run_told}
-use Rattle.clock_threads.proofs.threads.run_threads.Goals as goal
+use Rattle.clock_threads.proofs.threads.run_wired.Goals as goal
 
 pub returns-in_default-clause-part : goal.returns-in_default-clause-part
 returns-in_default-clause-part g c = λ e.
