@@ -25,7 +25,7 @@ no_logs_more n logs after log is none are = record {
 pub record TookUpto (wires : List Wire) (clock below : ℕ) (first lists logs after : List (List Answers)) : Type 0 where
   pub many : length after ≡ length logs
   pub lists_many : length lists ≡ length first
-  pub here : (b : ℕ) (d : List Answers) → b < below → (wire_at wires b).from ≡ (wire_at wires b).to → (wire_at wires b).from ≡ clock → slice_index_or after b d ≡ slice_index_or first b d
+  pub here : (b : ℕ) (d : List Answers) → b < below → b < length first → b < length logs → (wire_at wires b).from ≡ (wire_at wires b).to → (wire_at wires b).from ≡ clock → slice_index_or after b d ≡ slice_index_or first b d
   pub joined : (b : ℕ) (d : List Answers) → (wire_at wires b).from ≢ (wire_at wires b).to → slice_index_or after b d ≡ slice_index_or logs b d
   pub others : (b : ℕ) (d : List Answers) → (wire_at wires b).from ≢ clock → slice_index_or after b d ≡ slice_index_or logs b d
   pub todo : (b : ℕ) (d : List Answers) → below ≤ b → slice_index_or lists b d ≡ slice_index_or first b d
@@ -34,13 +34,13 @@ pub took_none : (wires : List Wire) (clock : ℕ) (lists logs : List (List Answe
 took_none wires clock lists logs = record { many = refl; lists_many = refl; here = λ b d low. absurd (omega (arith, low)); joined = λ b d apart. refl; others = λ b d other. refl; todo = λ b d high. refl }
 
 module _ (wires : List Wire) (clock below : ℕ) (first lists logs after : List (List Answers)) (t : TookUpto wires clock below first lists logs after) where
-  pub took_skip : ((wire_at wires below).from ≡ (wire_at wires below).to → (wire_at wires below).from ≡ clock → ⊥) → TookUpto wires clock (below + 1) first lists logs after
+  pub took_skip : (below < length first → below < length logs → (wire_at wires below).from ≡ (wire_at wires below).to → (wire_at wires below).from ≡ clock → ⊥) → TookUpto wires clock (below + 1) first lists logs after
   took_skip none = record {
     many = t.many;
     lists_many = t.lists_many;
-    here = λ b d low local is. (elim (same_or_other b below) [
-      | inl e ↦ absurd (none (subst (λ n. (wire_at wires n).from ≡ (wire_at wires n).to) e local) (subst (λ n. (wire_at wires n).from ≡ clock) e is))
-      | inr off ↦ t.here b d (omega (arith, low, off)) local is
+    here = λ b d low in_first in_logs local is. (elim (same_or_other b below) [
+      | inl e ↦ absurd (none (omega (arith, e, in_first)) (omega (arith, e, in_logs)) (subst (λ n. (wire_at wires n).from ≡ (wire_at wires n).to) e local) (subst (λ n. (wire_at wires n).from ≡ clock) e is))
+      | inr off ↦ t.here b d (omega (arith, low, off)) in_first in_logs local is
     ]);
     joined = t.joined;
     others = t.others;
@@ -52,9 +52,9 @@ module _ (wires : List Wire) (clock below : ℕ) (first lists logs after : List 
   took_more log list within local is moved = record {
     many = length-set after below log ∙ t.many;
     lists_many = length-set lists below list ∙ t.lists_many;
-    here = λ b d low local' is'. (elim (same_or_other b below) [
+    here = λ b d low in_first in_logs local' is'. (elim (same_or_other b below) [
       | inl e ↦ subst (λ n. slice_index_or (set after below log) n d ≡ slice_index_or first n d) (sym e) (get_or-set_same after below log d within ∙ moved d ∙ t.todo below d (omega arith))
-      | inr off ↦ get_or-set_other after below b log d off ∙ t.here b d (omega (arith, low, off)) local' is'
+      | inr off ↦ get_or-set_other after below b log d off ∙ t.here b d (omega (arith, low, off)) in_first in_logs local' is'
     ]);
     joined = λ b d apart. (let off : b ≢ below = λ e. apart (subst (λ n. (wire_at wires n).from ≡ (wire_at wires n).to) (sym e) local) in get_or-set_other after below b log d off ∙ t.joined b d apart);
     others = λ b d other. (let off : b ≢ below = λ e. other (subst (λ n. (wire_at wires n).from ≡ clock) (sym e) is) in get_or-set_other after below b log d off ∙ t.others b d other);
@@ -64,7 +64,7 @@ module _ (wires : List Wire) (clock below : ℕ) (first lists logs after : List 
   pub took_all : length wires ≤ below → TookLogs wires clock first logs after
   took_all high = record {
     many = t.many;
-    here = λ b d low in_lists in_logs local is. t.here b d (omega (arith, low, high)) local is;
+    here = λ b d low in_lists in_logs local is. t.here b d (omega (arith, low, high)) in_lists in_logs local is;
     joined = t.joined;
     others = t.others;
   }

@@ -1,5 +1,5 @@
 // The logs of the buffers.
-ghost use Rattle.std.specs.Prelude.{ℕ, length, slice_index_or, IfOk};
+ghost use Rattle.std.specs.Prelude.{◌≡◌, IfOk};
 ghost use Rattle.clock_threads.specs.Logs.{AreNoLogs, TookLogs};
 
 use buffer_ends::BufferLog;
@@ -31,8 +31,7 @@ pub(crate) fn take_logs(
     ensures { TookLogs wires.now clock lists.items logs.old logs.new }
 {
     let mut lists = lists;
-    let count = wires.len().min(lists.len()).min(logs.len());
-    for b in 0..count {
+    for b in 0..wires.len() {
         let wire = wires[b];
         if wire.from != wire.to {
             continue;
@@ -40,6 +39,19 @@ pub(crate) fn take_logs(
         if wire.from as usize != clock {
             continue;
         }
-        mem::swap(&mut logs[b], &mut lists[b]);
+        if b >= lists.len() {
+            continue;
+        }
+        if b >= logs.len() {
+            continue;
+        }
+        exchange(&mut logs[b], &mut lists[b]);
     }
+}
+
+// Exchanges a buffer's log for another.
+fn exchange(log: &mut BufferLog, other: &mut BufferLog)
+    ensures { log.new ≡ other.old }
+{
+    mem::swap(log, other);
 }

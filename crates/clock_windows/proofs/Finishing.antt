@@ -38,7 +38,7 @@ module _ {S R : Type 0} (held name : S → Option (List ℕ)) (room : S → Opti
     (done : DoneAt held name room faults wires W N first now logs d) (setting : Setting) (map : ClockMap) (is : IsSetting setting map) (are : AreWires setting map.running wires) (all_run : length first ≡ map.running) (some : 0 < length first)
     (shared : (k : ℕ) → k < length first → (setting_of (slice_index_or first k d).engine.works ≡ setting) × ((slice_index_or first k d).engine.works.clock ≡ k))
     (places : (b : ℕ) → b < length wires → (wire_at wires b).from < length first × ((wire_at wires b).to < length first)) where
-  abbrev hs : ℕ → History
+  abbrev pub hs : ℕ → History
   hs = done.going.histories
 
   abbrev engine_of : ℕ → ClockEngine S
@@ -60,7 +60,7 @@ module _ {S R : Type 0} (held name : S → Option (List ℕ)) (room : S → Opti
   local b less e = let f = going_local held name room faults wires W N done.windows first now logs d done.going places b less e in
       (f.0, subst (λ n. Follows (wire_at wires b).capacity [] (on b (joined_upto (hs (wire_at wires b).from).calls n)) f.0) done.all f.1)
 
-  abbrev own : TakeOwn (meant setting) wires (length first)
+  abbrev pub own : TakeOwn (meant setting) wires (length first)
   own = subst (TakeOwn (meant setting) wires) (sym all_run) (take_own setting map is wires are)
 
   abbrev pub done_windows : ℕ → List Window
