@@ -260,7 +260,6 @@ impl<'a, O: Sink> ClockEngine<'a, O> {
         ensures memory { IfErr result (λ fault. fault ≡ OutOfMemory → HasEnds self.old.works) }
         ensures fault { IfErr result (λ fault. self.new.works.stopped ≡ Some fault) }
         ensures runs { OnOk result (self.new.works.stopped ≡ None) }
-        ensures count { OnOk result (self.new.works.ticks ≡ self.old.works.ticks + 1) }
     {
         run_or_stop(&mut self.works, taps)?;
         if let Err(place) = append_all(&mut self.outs, &self.works.ports) {

@@ -3,7 +3,7 @@ use Rattle.std.proofs.Common.{◌≡◌, ◌⊎◌, ℕ, zero, suc, ◌<◌, ◌
 use Rattle.frame_core.specs.Calls.{Call}
 use Rattle.op_leaf.specs.Readers.{Answer}
 use Rattle.stream_meaning.specs.Instants.{Setting}
-use Rattle.stream_meaning.specs.Calls.{joined_upto}
+use Rattle.stream_meaning.specs.Calls.{joined_upto, after_calls}
 use Rattle.clock_outputs.specs.Appends.{AreKept, NoneFell}
 use Rattle.clock_engine.specs.declared.engine.ClockEngine.{ClockEngine}
 use Rattle.clock_engine.specs.Engines.{AreWorks, EngineStands, setting_of}
@@ -74,7 +74,7 @@ pub record Running {S T : Type 0} (held name : S → Option (List ℕ)) (room : 
   pub many : buffers new.taps ≡ buffers old.taps
   pub on : (t : ℕ) (history : History) (first : ℕ → Option (List ℕ)) → EngineGone held t history first old.engine → WentOn held stands count t history first old new
   pub rooms : (n : ℕ) → HaveTicksRoom room old.engine.works old.engine.outs.items (n + count) → HaveTicksRoom room new.engine.works new.engine.outs.items n
-  pub ticks : new.engine.works.ticks ≡ old.engine.works.ticks + count
+  pub engine : (t : ℕ) (answers : ℕ → List Answer) → EngineStands old.engine.works t answers → (more : ℕ → List Answer) × EngineStands new.engine.works (t + count) more
   pub runs : new.engine.works.stopped ≡ None
 
 module _ {S T : Type 0} (held name : S → Option (List ℕ)) (room : S → Option ℕ) (faults : S → ℕ) (stands : T → List Call → Type 0) (buffers : T → ℕ) (same : T → T → Type 0) where
@@ -91,16 +91,16 @@ module _ {S T : Type 0} (held name : S → Option (List ℕ)) (room : S → Opti
       taps = λ calls st. subst (λ l. stands x.taps l) (sym (append-nil calls)) st;
     };
     rooms = λ n r. subst (λ k. HaveTicksRoom room x.engine.works x.engine.outs.items k) (add-zero n) r;
-    ticks = sym (add-zero x.engine.works.ticks);
+    engine = λ t answers st. (answers, subst (λ n. EngineStands x.engine.works n answers) (sym (add-zero t)) st);
     runs = runs;
   }
 
   module _ (count : ℕ) (x y : Task S T) (e : ClockEngine S) (s : T) (running : Running held name room faults stands buffers same count x y) (same_clock : IsSameClock name faults y.engine e) (whole_e : IsWhole e) where
     pub running_more : same x.taps s → buffers s ≡ buffers y.taps
         → HasMade held stands y.engine.works e.works y.engine.outs.items e.outs.items y.taps s
-        → ((n : ℕ) → HaveTicksRoom room y.engine.works y.engine.outs.items (n + 1) → HaveTicksRoom room e.works e.outs.items n) → e.works.ticks ≡ y.engine.works.ticks + 1 → e.works.stopped ≡ None
+        → ((n : ℕ) → HaveTicksRoom room y.engine.works y.engine.outs.items (n + 1) → HaveTicksRoom room e.works e.outs.items n) → e.works.stopped ≡ None
         → Running held name room faults stands buffers same (suc count) x (record { engine = e; taps = s })
-    running_more taps many made rooms ticks runs = record {
+    running_more taps many made rooms runs = record {
       whole = whole_e;
       clock = same_then name faults x.engine y.engine e running.clock same_clock;
       taps = taps;
@@ -123,7 +123,8 @@ module _ {S T : Type 0} (held name : S → Option (List ℕ)) (room : S → Opti
                 subst (λ l. stands s l) (append_assoc calls (joined_from w.after.calls t count) made.more ∙ (λ i. calls ++ (sym old i ++ sym at i))) (made.taps (calls ++ joined_from w.after.calls t count) (w.taps calls st));
           };
       rooms = λ n r. rooms n (running.rooms (n + 1) (subst (λ k. HaveTicksRoom room x.engine.works x.engine.outs.items k) (grind arith) r));
-      ticks = (let n = running.ticks in omega (arith, ticks, n));
+      engine = λ t answers st. (let m = running.engine t answers st in let ticked = made.engine (t + count) m.0 m.1 in
+          (after_calls m.0 made.more, subst (λ n. EngineStands e.works n (after_calls m.0 made.more)) (sym (add-suc t count)) ticked.stand));
       runs = runs;
     }
 
@@ -151,7 +152,6 @@ module _ {S T : Type 0} (held name : S → Option (List ℕ)) (room : S → Opti
             };
       };
       rooms = λ n runs. absurd (stopped runs);
-      ticks = λ runs. absurd (stopped runs);
     }
 
   pub running_all : (count whole : ℕ) (x y : Task S T) → count ≡ whole → Running held name room faults stands buffers same count x y → WasRun held name room faults stands buffers same whole x y
@@ -162,7 +162,6 @@ module _ {S T : Type 0} (held name : S → Option (List ℕ)) (room : S → Opti
     many = running.many;
     ran = record { on = λ t h first gone runs. running.on t h first gone; halted = λ t h first gone no. absurd (no running.runs) };
     rooms = λ n runs. running.rooms n;
-    ticks = λ runs. running.ticks;
   })
 
 module _ {S : Type 0} (room : S → Option ℕ) (works : Works) (outs : List S) where

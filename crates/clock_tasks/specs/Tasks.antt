@@ -28,11 +28,17 @@ pub record IsSameClock {S : Type 0} (name : S → Option (List ℕ)) (faults : S
   pub kept : AreKept name faults old.outs.items new.outs.items
   pub none_fell : NoneFell faults old.outs.items new.outs.items
 
+-- the engine stands for some ticks and answers
+pub record DoesStand {S : Type 0} (e : ClockEngine S) : Type 0 where
+  pub ticks : ℕ
+  pub answers : ℕ → List Answer
+  pub stand : EngineStands e.works ticks answers
+
 -- it may make so many ticks
 pub record CanRun {S T : Type 0} (room : S → Option ℕ) (buffers : T → ℕ) (count : ℕ) (x : Task S T) : Type 0 where
   pub whole : IsWhole x.engine
   pub many : buffers x.taps ≡ length x.engine.works.shape.plan.now.buffers
-  pub runs : x.engine.works.stopped ≡ None
+  pub stands : DoesStand x.engine
   pub few : x.engine.works.ticks + count ≤ 1000000000
   pub rooms : HaveTicksRoom room x.engine.works x.engine.outs.items count
 
@@ -72,4 +78,3 @@ pub record WasRun {S T : Type 0} (held name : S → Option (List ℕ)) (room : S
   pub many : buffers new.taps ≡ buffers old.taps
   pub ran : RanTask held stands count old new
   pub rooms : (n : ℕ) → new.engine.works.stopped ≡ None → HaveTicksRoom room old.engine.works old.engine.outs.items (n + count) → HaveTicksRoom room new.engine.works new.engine.outs.items n
-  pub ticks : new.engine.works.stopped ≡ None → new.engine.works.ticks ≡ old.engine.works.ticks + count

@@ -120,8 +120,6 @@ module _ {S R : Type 0} (held name : S → Option (List ℕ)) (room : S → Opti
         gone = subst (λ t. EngineGone held t nothing (held_of held x.engine) x.engine) (sym zero_is) (gone_none held x.engine f.stands);
         whole = f.whole;
         same = same_not name faults x.engine;
-        runs = f.stands.runs;
-        ticks = f.stands.made ∙ sym zero_is;
         rooms = λ n is. subst (λ m. HaveTicksRoom room x.engine.works x.engine.outs.items m) (let e : N ≡ n = omega (arith, is, zero_is) in e) f.rooms;
         wired = record {
           puts = λ p e low. (let g = j.puts k p d e (in_bare k h) low in (g.1, g.2, g.3));

@@ -42,13 +42,14 @@ fn with_window(counts: Counts, window: &WindowLog) -> Result<Counts, Memory>
     })
 }
 
-// The counts of a buffer.
-fn count_log(log: &BufferLog) -> Result<Counts, Memory>
-    ensures { IfOk result (λ counts. counts ≡ counts_in log.now) }
+// The counts of these windows.
+fn count_windows(windows: &[WindowLog]) -> Result<Counts, Memory>
+    ensures { IfOk result (λ counts. counts ≡ counts_in windows.now) }
 {
     let mut counts = Counts::none();
-    for j in 0..log.windows.len() {
-        counts = with_window(counts, &log.windows[j])?;
+    for j in 0..windows.len() {
+        let next = with_window(counts, &windows[j])?;
+        counts = next;
     }
     Ok(counts)
 }
@@ -59,7 +60,8 @@ pub(crate) fn count_logs(alloc: Global, logs: &[BufferLog]) -> Result<Vec<Counts
 {
     let mut counts = Vec::with_capacity(alloc, logs.len())?;
     for b in 0..logs.len() {
-        counts.push(count_log(&logs[b])?)?;
+        let one = count_windows(logs[b].windows.as_slice())?;
+        counts.push(one)?;
     }
     Ok(counts)
 }

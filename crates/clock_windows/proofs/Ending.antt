@@ -10,7 +10,7 @@ use Rattle.buffer_ends.specs.Local.{Answers}
 use Rattle.buffer_ends.specs.declared.thread_taps.ThreadTaps.{ThreadTaps}
 use Rattle.clock_engine.specs.declared.fault.TickFault.{TickFault}
 use Rattle.clock_tasks.specs.declared.task.Task.{Task}
-use Rattle.clock_tasks.specs.Histories.{History, Agree}
+use Rattle.clock_tasks.specs.Histories.{History, Agree, answers_by}
 use Rattle.clock_tasks.specs.Tasks.{CanRun, WasRun, EngineGone, EngineGonePart, held_of}
 use Rattle.clock_tasks.proofs.Walking.{agree_none}
 use Rattle.clock_tasks.proofs.Running.{rooms_fewer}
@@ -105,8 +105,8 @@ module _ {S R : Type 0} where
         record {
           whole = c.whole;
           many = c.lists ∙ sym r ∙ ap (λ set. length set.plan.buffers) (sym c.same.setting);
-          runs = c.runs;
-          few = (let t = c.ticks in omega (arith, t, at, most_left, few));
+          stands = record { ticks = start W N l.windows; answers = answers_by (l.going.histories k) (start W N l.windows); stand = c.gone.stand };
+          few = (let t = c.gone.stand.made in omega (arith, t, at, most_left, few));
           rooms = rooms_fewer room (slice_index_or now k d).engine.works (slice_index_or now k d).engine.outs.items count (N - made) (omega (arith, most_left)) (c.rooms (N - made) (omega (arith, at, less)));
         })
 

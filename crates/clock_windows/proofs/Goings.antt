@@ -269,8 +269,6 @@ module _ {S R : Type 0} (held name : S → Option (List ℕ)) (room : S → Opti
              gone = subst (λ (q : ℕ × _). EngineGone held q.0 (after k) (held_of held (slice_index_or first k d).engine) q.1) (λ i. (sym next i, sym engine i)) g.0;
              whole = subst IsWhole (sym engine) r.whole;
              same = same_then name faults (slice_index_or first k d).engine x.engine u.engine c.same (subst (λ f. IsSameClock name faults x.engine f) (sym engine) r.clock);
-             runs = ap (λ f. f.works.stopped) engine ∙ running;
-             ticks = ap (λ f. f.works.ticks) engine ∙ r.ticks running ∙ ap (λ n. n + count) c.ticks ∙ sym next;
              rooms = λ n is. subst (λ f. HaveTicksRoom room f.works f.outs.items n) (sym engine) (r.rooms n running (c.rooms (n + count) (omega (arith, is, next))));
              wired = wired;
              stand = (

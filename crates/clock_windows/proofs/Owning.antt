@@ -39,7 +39,7 @@ no_took setting b m read (Took c answer ∷ calls) each = by (eqb b c) refl (no_
   where
     by : (t : Bool) → eqb b c ≡ t → takes_of b calls ≡ [] → takes_of b (Took c answer ∷ calls) ≡ []
     by true e rest = (let same : b ≡ c = grind (arith, nat_tests) in absurd (read (ap (reader setting) same ∙ (All-head (IsOwn setting m) (Took c answer) calls each))))
-    by false e rest = rw e rest
+    by false e rest = ap (λ (z : Bool). cond z (answer ∷ takes_of b calls) (takes_of b calls)) e ∙ rest
 
 module _ (setting : Setting) (map : ClockMap) (is : IsSetting setting map) (wires : List Wire) (are : AreWires setting map.running wires) where
   -- no node reads a buffer that the plan does not have

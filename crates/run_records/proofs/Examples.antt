@@ -3,7 +3,7 @@ use Rattle.std.proofs.Common.{◌≡◌, ◌<◌, ◌≤◌, ℕ, zero, suc, Som
 use Rattle.std.specs.Prelude.{pos}
 use Rattle.frame_core.specs.declared.cell.Cell.{Cell}
 use Rattle.frame_core.specs.Legal.{Legal, IsRun}
-use Rattle.frame_core.specs.Calls.{Took}
+use Rattle.frame_core.specs.Calls.{Took, takes_of, puts_to}
 use Rattle.plan_core.specs.declared.node.Op.TheVariants.{Single, Buffer}
 use Rattle.plan_core.specs.declared.sink.SinkPlan.TheVariants.{Feed}
 use Rattle.clock_infer.specs.declared.clock_map.NodeClock.TheVariants.{Main}
@@ -13,13 +13,18 @@ use Rattle.stream_meaning.specs.Instants.{Setting, answered}
 use Rattle.stream_meaning.specs.Calls.{joined_upto, calls_of_tick}
 use Rattle.run_records.proofs.Plans.{new, more, file, node, out, setting}
 use Rattle.run_records.specs.Buffers.{feeder, reader}
-use Rattle.run_records.specs.Records.{Run, IsLawful, Window, Follows, windows_of, setting_in, capacity_of, on, start, calls_in, windows_in}
+use Rattle.run_records.specs.Records.{Run, IsLawful, IsRounds, rounds_of, Window, Follows, windows_of, setting_in, capacity_of, on, start, calls_in, windows_in}
 use Rattle.stream_laws.specs.Parting.{ArePart}
 use Rattle.run_records.specs.Ordered.{HasSameText, told, made, got_by, kept_by, IsOrdered}
 
 one_alone : (P : ℕ → Type 0) → P 0 → (b : ℕ) → b < 1 → P b
 one_alone P p zero less = p
 one_alone P p (suc b) less = absurd (omega (arith, less))
+
+two_alone : (P : ℕ → Type 0) → P 0 → P 1 → (b : ℕ) → b < 2 → P b
+two_alone P p q zero less = p
+two_alone P p q (suc zero) less = q
+two_alone P p q (suc (suc b)) less = absurd (omega (arith, less))
 
 zero_one : {A : Type 0} → zero ≡ suc zero → A
 zero_one e = absurd (omega (arith, e))
@@ -52,10 +57,68 @@ filled_is_lawful = record {
       (λ e. zero_one e);
 }
 
--- the same buffer read in clock 1, which runs: one tick of each, in which its chunk was got
+-- the same buffer read in clock 1, which runs
 abbrev joined : Setting
 joined = setting (node (Single []) [] ∷ node (Buffer 0) [] ∷ []) (Feed 0 0 ∷ out 1 ∷ []) (record { pre = 0; capacity = 1 } ∷ []) (file (1 ∷ 2 ∷ 3 ∷ []) ∷ []) ((0 ∷ []) ∷ [] ∷ []) (Main 0 ∷ Main 1 ∷ [])
 
+-- one window of two ticks of each: the first take is empty, the second put is full
+abbrev late : Run
+late = record { buffers = ((Some one ∷ None ∷ [], None ∷ Some one ∷ []) ∷ []) ∷ [] }
+
+late_is_lawful : IsLawful joined 2 2 2 late
+late_is_lawful = record {
+  buffers = refl;
+  accepted = first_only;
+  count = 1;
+  whole = refl;
+  tight = one_alone (λ j. start 2 2 j < 2) (omega arith);
+  are = one_alone (λ b. windows_of late b ≡ windows_in (setting_in joined late) 2 first_only b 2 2 1) refl;
+  legal = one_alone (λ b. (rest : List (List Cell)) × IsRun (capacity_of joined b) [] (windows_of late b) rest)
+      ([], ([], Legal.empty (Legal.accepted (omega arith) (Legal.full refl (Legal.got Legal.ended))), refl));
+  in_order = one_alone (λ b. feeder joined b ≡ reader joined b → (rest : List (List Cell)) × Follows (capacity_of joined b) [] (on b (joined_upto (calls_in (setting_in joined late) 2 first_only (feeder joined b)) 2)) rest)
+      (λ e. zero_one e);
+}
+
+-- the same source with both ends in one clock: a record of two windows of a tick, and that of rounds
+abbrev alone : Setting
+alone = setting (node (Single []) [] ∷ node (Buffer 0) [] ∷ []) (Feed 0 0 ∷ out 1 ∷ []) (record { pre = 0; capacity = 1 } ∷ []) (file (1 ∷ 2 ∷ 3 ∷ []) ∷ []) ((0 ∷ []) ∷ [] ∷ []) (Main 0 ∷ Main 0 ∷ [])
+
+abbrev two : List Cell
+two = cells_of (more 3 ∷ new 1 ∷ more 2 ∷ more 3 ∷ new 1 ∷ more 2 ∷ more 3 ∷ new 1 ∷ [])
+
+abbrev windows : Run
+windows = record { buffers = ((Some one ∷ [], None ∷ []) ∷ (Some two ∷ [], Some one ∷ []) ∷ []) ∷ [] }
+
+abbrev rounds : Run
+rounds = record { buffers = ((Some one ∷ Some two ∷ [], None ∷ Some one ∷ []) ∷ []) ∷ [] }
+
+abbrev all : (m t buffer : ℕ) → Bool
+all m t buffer = true
+
+rounds_are : IsRounds alone 1 2 rounds
+rounds_are = record {
+  buffers = refl;
+  accepted = all;
+  are = one_alone (λ b. windows_of rounds b ≡ (puts_to b (rounds_of (setting_in alone rounds) all 1 2), takes_of b (rounds_of (setting_in alone rounds) all 1 2)) ∷ []) refl;
+  in_order = one_alone (λ b. (rest : List (List Cell)) × Follows (capacity_of alone b) [] (on b (rounds_of (setting_in alone rounds) all 1 2)) rest)
+      (two ∷ [], (refl, (omega arith, ([], refl, (omega arith, refl)))));
+}
+
+windows_are : IsLawful alone 1 1 2 windows
+windows_are = record {
+  buffers = refl;
+  accepted = all;
+  count = 2;
+  whole = refl;
+  tight = two_alone (λ j. start 1 2 j < 2) (omega arith) (omega arith);
+  are = one_alone (λ b. windows_of windows b ≡ windows_in (setting_in alone windows) 1 all b 1 2 2) refl;
+  legal = one_alone (λ b. (rest : List (List Cell)) × IsRun (capacity_of alone b) [] (windows_of windows b) rest)
+      (two ∷ [], (one ∷ [], Legal.empty (Legal.accepted (omega arith) Legal.ended), (two ∷ [], Legal.got (Legal.accepted (omega arith) Legal.ended), refl)));
+  in_order = one_alone (λ b. feeder alone b ≡ reader alone b → (rest : List (List Cell)) × Follows (capacity_of alone b) [] (on b (joined_upto (calls_in (setting_in alone windows) 1 all (feeder alone b)) 2)) rest)
+      (λ e. (two ∷ [], (refl, (omega arith, ([], refl, (omega arith, refl))))));
+}
+
+-- one tick of each, in which the chunk was got
 abbrev prompt : Run
 prompt = record { buffers = ((Some one ∷ [], Some one ∷ []) ∷ []) ∷ [] }
 
@@ -119,11 +182,6 @@ other = cells_of (new 5 ∷ more 5 ∷ more 5 ∷ more 5 ∷ more 5 ∷ more 5 �
 
 abbrev turning : List Cell → Run
 turning chunk = record { buffers = ((Some chunk ∷ [], Some chunk ∷ []) ∷ []) ∷ ((Some chunk ∷ [], Some chunk ∷ []) ∷ []) ∷ [] }
-
-two_alone : (P : ℕ → Type 0) → P 0 → P 1 → (b : ℕ) → b < 2 → P b
-two_alone P p q zero less = p
-two_alone P p q (suc zero) less = q
-two_alone P p q (suc (suc b)) less = absurd (omega (arith, less))
 
 once : (chunk : List Cell) → (b : ℕ) → b < 2 → (rest : List (List Cell)) × IsRun (capacity_of ring b) [] (windows_of (turning chunk) b) rest
 once chunk = two_alone (λ b. (rest : List (List Cell)) × IsRun (capacity_of ring b) [] (windows_of (turning chunk) b) rest)

@@ -9,8 +9,8 @@ use Rattle.clock_windows.proofs.borders.close_joins.Goals as goal
 pub loop-b-init : goal.loop-b-init
 loop-b-init g c = record { tasks = closing_none c.args.wires.now c.args.tasks.now; logs = logging_none c.args.wires.now c.args.tasks.now c.args.logs.now }
 
-pub close_join-requires-clause-ends : goal.close_join-requires-clause-ends
-close_join-requires-clause-ends g c =
+pub close_join-window-requires-clause-ends : goal.close_join-window-requires-clause-ends
+close_join-window-requires-clause-ends g c =
     let less : c.loop-b.b < length c.args.wires.now = search rules in
     let r = c.requires.may.ran c.loop-b.b less (search rules) in
     ends_there (wire_at c.args.wires.now c.loop-b.b) c.loop-b.b r.0 r.1 c.loop-b.tasks (c.loop-b.invariant.tasks.todo c.loop-b.b r.0 r.1 (omega arith) r.2)

@@ -16,15 +16,15 @@ returns-in-Some-clause-part g c = λ no.
     loop_stopped g.O.Sink.held g.O.Sink.name g.O.Sink.room g.O.Sink.faults c.args.wires.now c.args.window c.args.ticks c.loop-made.made c.min-count.result c.args.tasks.now c.loop-made.tasks c.run_window.new.tasks c.args.logs.now c.loop-made.logs c.requires.ready
     c.loop-made-test.true c.min-count.ensures c.loop-made.invariant c.run_window.ensures.ran c.run_window.auto.tasks
 
-pub close_joins-requires : goal.close_joins-requires
-close_joins-requires g c = record {
-  may =
-      loop_close g.O.Sink.held g.O.Sink.name g.O.Sink.room g.O.Sink.faults c.args.wires.now c.args.window c.args.ticks c.loop-made.made c.min-count.result c.args.tasks.now c.loop-made.tasks c.run_window.new.tasks c.args.logs.now c.loop-made.logs c.requires.ready
-      c.loop-made-test.true c.min-count.ensures c.loop-made.invariant c.run_window.ensures.ran c.run_window.auto.tasks c.in_default.ensures.none;
-  logs =
-      loop_logs g.O.Sink.held g.O.Sink.name g.O.Sink.room g.O.Sink.faults c.args.wires.now c.args.window c.args.ticks c.loop-made.made c.min-count.result c.args.tasks.now c.loop-made.tasks c.run_window.new.tasks c.args.logs.now c.loop-made.logs c.requires.ready
-      c.loop-made-test.true c.min-count.ensures c.loop-made.invariant c.run_window.ensures.ran c.run_window.auto.tasks;
-}
+pub close_joins-requires-clause-may : goal.close_joins-requires-clause-may
+close_joins-requires-clause-may g c =
+    loop_close g.O.Sink.held g.O.Sink.name g.O.Sink.room g.O.Sink.faults c.args.wires.now c.args.window c.args.ticks c.loop-made.made c.min-count.result c.args.tasks.now c.loop-made.tasks c.run_window.new.tasks c.args.logs.now c.loop-made.logs c.requires.ready
+    c.loop-made-test.true c.min-count.ensures c.loop-made.invariant c.run_window.ensures.ran c.run_window.auto.tasks c.in_default.ensures.none
+
+pub close_joins-requires-clause-logs : goal.close_joins-requires-clause-logs
+close_joins-requires-clause-logs g c =
+    loop_logs g.O.Sink.held g.O.Sink.name g.O.Sink.room g.O.Sink.faults c.args.wires.now c.args.window c.args.ticks c.loop-made.made c.min-count.result c.args.tasks.now c.loop-made.tasks c.run_window.new.tasks c.args.logs.now c.loop-made.logs c.requires.ready
+    c.loop-made-test.true c.min-count.ensures c.loop-made.invariant c.run_window.ensures.ran c.run_window.auto.tasks
 
 pub returns-in-Err-clause-part : goal.returns-in-Err-clause-part
 returns-in-Err-clause-part g c = λ no.
