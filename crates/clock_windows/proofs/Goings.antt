@@ -294,16 +294,16 @@ module _ {S R : Type 0} (held name : S → Option (List ℕ)) (room : S → Opti
                  ∙ (r.taps.2.each b f (let n = r.many in omega (arith, mid_in, n))).capacity ∙ c.capacities b f low;
            }
 
-       window_more : ℕ → Window
+       abbrev window_more : ℕ → Window
        window_more b = window_of (wire_at wires b) after b (start W N j) (start W N (suc j) - start W N j)
 
        -- the answers of the windows before this one, and of this one
        told_more : (b : ℕ) (x y : List Answers) (z : Answers) → y ≡ x ++ z ∷ [] → x ≡ map told (windows_upto (wire_at wires b) going.histories b W N j) → z ≡ told (window_more b)
            → y ≡ map told (windows_upto (wire_at wires b) after b W N (suc j))
-       told_more b x y z is before here =
+       told_more b x y z is before last_is =
            let same : windows_upto (wire_at wires b) after b W N j ≡ windows_upto (wire_at wires b) going.histories b W N j =
            windows_alike (wire_at wires b) going.histories after b W N j (start W N j) agrees (λ i low. reaches i low) (λ i low. up i (omega (arith, low))) in
-           is ∙ (λ i. (before ∙ ap (map told) (sym same)) i ++ here i ∷ []) ∙ sym (map_joined told (windows_upto (wire_at wires b) after b W N j) (window_more b ∷ []))
+           is ∙ (λ i. (before ∙ ap (map told) (sym same)) i ++ last_is i ∷ []) ∙ sym (map_joined told (windows_upto (wire_at wires b) after b W N j) (window_more b ∷ []))
 
        joined_on : (b : ℕ) (e : List Answers) → b < length wires → (wire_at wires b).from ≢ (wire_at wires b).to → slice_index_or after_logs b e ≡ map told (windows_upto (wire_at wires b) after b W N (suc j))
        joined_on b e less apart =

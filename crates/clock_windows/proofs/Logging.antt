@@ -21,7 +21,7 @@ pub map_joined : {A B : Type 0} (f : A → B) (xs ys : List A) → map f (xs ++ 
 map_joined f [] ys = refl
 map_joined f (x ∷ xs) ys = ap (λ l. f x ∷ l) (map_joined f xs ys)
 
-behind : {A : Type 0} → List A → List A
+abbrev behind : {A : Type 0} → List A → List A
 behind [] = []
 behind (x ∷ xs) = xs
 

@@ -45,7 +45,7 @@ module _ (setting : Setting) (map : ClockMap) (is : IsSetting setting map) (wire
   -- no node reads a buffer that the plan does not have
   unread : (answers : Answers) (m b : ℕ) → length wires ≤ b → IsUnread (answered setting answers) (Main m) b
   unread answers m b past = record { none = λ rank i node found work below. (
-      let known : b < length setting.plan.buffers = is.plan.read b i (node, (found, reads_op setting.plan.rate i node.kind node.op b work)) in
+      let known : b < length setting.plan.buffers = is.plan.read b i (node, found, reads_op setting.plan.rate i node.kind node.op b work) in
       let n = are.many in omega (arith, known, n, past)) }
 
   none_taken : (answers : Answers) (accepted : ℕ → Bool) (m t b : ℕ) → length wires ≤ b → takes_of b (meant setting answers accepted m t) ≡ []
