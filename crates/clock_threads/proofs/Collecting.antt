@@ -81,8 +81,8 @@ module _ {S R : Type 0} (wires : List Wire) where
 
   pub collecting_none : (tasks : List (Task S (ThreadTaps R))) (logs : List (List Answers)) → Collecting 0 tasks tasks logs logs
   collecting_none tasks logs = record {
-    rest = λ i e low. refl;
-    all = refl;
+    rest = λ i e low. (let same : i ≡ 0 + i = omega arith in ap (λ n. slice_index_or tasks n e) same);
+    all = omega arith;
     many = refl;
     local = λ b d e f low in_logs is less. absurd (omega (arith, less));
     joined = λ b d apart. refl;

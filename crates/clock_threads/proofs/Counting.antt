@@ -1,5 +1,6 @@
 -- The counts of a log, window by window.
-use Rattle.std.proofs.Common.{◌≡◌, ℕ, zero, suc, ◌<◌, ◌+◌, if◌then◌else◌, Bool, true, false, List, [], ◌∷◌, ◌++◌, length, map, not, count_by, slice_index_or, sym, refl, ap, ◌∙◌, arith, take, flat_map, append_assoc, append-nil}
+use Rattle.std.proofs.Common.{◌≡◌, ℕ, zero, suc, ◌<◌, ◌+◌, cond, Bool, true, false, List, [], ◌∷◌, ◌++◌, length, map, not, count_by, slice_index_or, sym, refl, ap, ◌∙◌, arith, take, flat_map, append_assoc, append-nil}
+use Rattle.std.proofs.lemmas.List.Sums.{sum_by-append}
 use Rattle.buffer_ends.specs.Local.{Answers, counts_of, puts_of, takes_of_window, yes}
 use Rattle.buffer_ends.specs.declared.counts.Counts.{Counts}
 use Rattle.clock_threads.specs.Logs.{more_counts, answers_of_log, counts_in}
@@ -21,13 +22,7 @@ flat_more f [] y = append-nil (f y)
 flat_more f (x ∷ xs) y = ap (λ l. f x ++ l) (flat_more f xs y) ∙ sym (append_assoc (f x) (flat_map f xs) (f y))
 
 count_both : (test : Bool → Bool) (xs ys : List Bool) → count_by test (xs ++ ys) ≡ count_by test xs + count_by test ys
-count_both test [] ys = refl
-count_both test (x ∷ xs) ys = go (test x) (count_both test xs ys)
-  where
-    go : (t : Bool) → count_by test (xs ++ ys) ≡ count_by test xs + count_by test ys
-        → (if t then suc (count_by test (xs ++ ys)) else count_by test (xs ++ ys)) ≡ (if t then suc (count_by test xs) else count_by test xs) + count_by test ys
-    go true e = (let s : suc (count_by test xs) + count_by test ys ≡ suc (count_by test xs + count_by test ys) = omega arith in ap suc e ∙ sym s)
-    go false e = e
+count_both test xs ys = sum_by-append (λ x. cond (test x) 1 0) xs ys
 
 pub counts_more : (log : List Answers) (window : Answers) → counts_in (log ++ window ∷ []) ≡ more_counts (counts_in log) (counts_of window)
 counts_more log window =

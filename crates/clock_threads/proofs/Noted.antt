@@ -1,7 +1,8 @@
 -- The ends of buffers, one sink or one node more.
-use Rattle.std.proofs.Common.{◌≡◌, ◌<◌, ◌∙◌, ℕ, suc, true, false, cond, Option, Some, None, List, ◌∷◌, length, set, get_or, nat_eq, arith, ap, sym}
+use Rattle.std.proofs.Common.{inl, inr, ◌≡◌, ◌<◌, ◌∙◌, ℕ, suc, true, false, cond, Option, Some, None, List, ◌∷◌, length, set, get_or, nat_eq, arith, ap, sym}
 use Rattle.std.specs.Option.{option_map_or}
 use Rattle.std.proofs.lemmas.Bool.{cases_eq}
+use Rattle.std.proofs.lemmas.Bool.Decides.{nat_tests}
 use Rattle.std.proofs.lemmas.List.{get_or-set_same, get_or-set_other, length-set}
 use Rattle.liq_base.specs.declared.memory.Kind.{Kind}
 use Rattle.plan_core.specs.declared.node.Node.{Node}

@@ -71,7 +71,7 @@ module _ (plan : Plan) (clocks : ClockMap) (setting : Setting) (is : IsSetting s
   }
 
   -- the buffers of a setting have wires
-  pub some_wires : List Wire
+  abbrev pub some_wires : List Wire
   some_wires = listed (length setting.plan.buffers) (λ b. record { from = feeder setting b; to = taker setting clocks.running b; capacity = capacity_of setting b })
 
   pub some_are : AreWires setting clocks.running some_wires
@@ -103,7 +103,7 @@ module _ (plan : Plan) (clocks : ClockMap) (setting : Setting) (is : IsSetting s
       }
     where
       some_room : (b : BufferPlan) → IsBuffer b → 0 < b.capacity
-      some_room b good = let c = good.1.0 in omega (arith, c)
+      some_room b good = let c = good.1 in omega (arith, c)
 
       to_runs : (b : ℕ) (wire : Wire) → IsWireOf setting clocks.running b wire → feeder setting b < clocks.running → wire.to < clocks.running
       to_runs b wire w runs = elim (cases_lt (reader setting b) clocks.running) [

@@ -54,14 +54,20 @@ fn count_windows(windows: &[WindowLog]) -> Result<Counts, Memory>
     Ok(counts)
 }
 
+// The counts of a buffer.
+fn count_log(log: &BufferLog) -> Result<Counts, Memory>
+    ensures { IfOk result (λ counts. counts ≡ counts_in log.now) }
+{
+    count_windows(log.windows.as_slice())
+}
+
 // The counts of each buffer.
 pub(crate) fn count_logs(alloc: Global, logs: &[BufferLog]) -> Result<Vec<Counts>, Memory>
     ensures { IfOk result (λ counts. counts.items ≡ map counts_in logs.now) }
 {
     let mut counts = Vec::with_capacity(alloc, logs.len())?;
     for b in 0..logs.len() {
-        let one = count_windows(logs[b].windows.as_slice())?;
-        counts.push(one)?;
+        counts.push(count_log(&logs[b])?)?;
     }
     Ok(counts)
 }

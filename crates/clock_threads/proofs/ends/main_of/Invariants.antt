@@ -4,8 +4,8 @@ use Rattle.stream_meaning.specs.Instants.{Setting}
 use Rattle.clock_threads.specs.Plans.{over}
 use Rattle.clock_threads.proofs.ends.main_of.Given as goal
 
-abbrev pub invariant-loop-clock : goal.invariant-loop-clock
-invariant-loop-clock l = (other : Setting) → main_within (over l.plan l.clocks.of other) l.depth l.clock ≡ main_of (over l.plan l.clocks.of other) l.node
+abbrev pub invariant-loop-depth : goal.invariant-loop-depth
+invariant-loop-depth l = (other : Setting) → main_within (over l.plan l.clocks.of other) l.depth l.clock ≡ main_of (over l.plan l.clocks.of other) l.node
 
-abbrev pub decreases-loop-clock : goal.decreases-loop-clock
-decreases-loop-clock l = l.depth
+abbrev pub decreases-loop-depth : goal.decreases-loop-depth
+decreases-loop-depth l = l.depth
