@@ -1,15 +1,13 @@
 -- Taps with new ends stand for what their lists stand for.
-use Rattle.std.proofs.Common.{◌≡◌, ℕ, ◌<◌, ◌==◌, Bool, true, false, List, [], ◌∷◌, ◌++◌, length, map, sym, refl, ap, ◌∙◌, subst, arith, slice_index_or, ⊎_elim, inr, eqb, Option, Some, None, if◌then◌else◌, append-nil}
+use Rattle.std.proofs.Common.{◌≡◌, ℕ, ◌<◌, ◌==◌, Bool, true, false, List, [], ◌∷◌, ◌++◌, length, map, sym, refl, ap, ◌∙◌, arith, slice_index_or, Option, Some, None, if◌then◌else◌, append-nil}
 use Rattle.std.proofs.lemmas.List.{append_assoc}
-use Rattle.std.proofs.lemmas.Bool.Decides.{eqb_tells}
-use Rattle.buffer_ends.proofs.Steps.{if_true, some_side}
 use Rattle.frame_core.specs.declared.cell.Cell.{Cell}
 use Rattle.frame_core.specs.Calls.{Call, takes_of, puts_to, put_of}
 use Rattle.frame_core.specs.Calls.Call.{Took, Given}
 use Rattle.buffer_queue.specs.Window.{is_chunk}
 use Rattle.buffer_ends.specs.Local.{LocalBuffer, Held, held, all_answers, no_answers, on, Step, Leads, Answers}
 use Rattle.buffer_ends.specs.Sides.{Side}
-use Rattle.buffer_ends.specs.Ends.{AreNew, EndsStand, LocalStands, Has, Reach}
+use Rattle.buffer_ends.specs.Ends.{AreNew, EndsStand, LocalStands}
 
 -- the answers of a list behind these calls on it
 pub record Answered (b : ℕ) (calls : List Call) (q r : Held) : Type 0 where
@@ -72,33 +70,11 @@ takes_nothing lists calls b d room s e =
     let led = answers_led b calls _ (held (slice_index_or lists b d)) (s b d room (λ x. x)) in
     none_mapped (takes_of b calls) (sym (ap (λ (a : Answers). a.takes) e) ∙ led.takes)
 
-nothing_behind : {X : Type 0} (t : Bool) (x : X) (xs : List X) → (if t then x ∷ xs else xs) ≡ [] → xs ≡ []
-nothing_behind true x xs e = absurd (omega (arith, ap length e))
-nothing_behind false x xs e = e
-
-not_here : {X : Type 0} (b k : ℕ) (x : X) (xs : List X) → b ≡ k → (if b == k then x ∷ xs else xs) ≡ [] → ⊥
-not_here b k x xs is e =
-    ⊎_elim (λ (t : (eqb b k ≡ true) × (b ≡ k)). omega (arith, ap length (sym (if_true (b == k) (x ∷ xs) xs t.0) ∙ e))) (λ t. t.1 is) (eqb_tells b k)
-
--- where no call is on a buffer with an end of its kind, each call reaches the lists
-pub all_reach : (P T : ℕ → Type 0) (calls : List Call) → ((b : ℕ) → P b → puts_to b calls ≡ []) → ((b : ℕ) → T b → takes_of b calls ≡ []) → Reach P T calls calls
-all_reach P T [] p t = refl
-all_reach P T (Took k o ∷ calls) p t =
-    inr (λ h. not_here k k o (takes_of k calls) refl (t k h), calls, refl, all_reach P T calls p (λ b h. nothing_behind (b == k) o (takes_of b calls) (t b h)))
-all_reach P T (Given k c a ∷ calls) p t =
-    inr (λ h. not_here k k (put_of c a) (puts_to k calls) refl (p k h), calls, refl, all_reach P T calls (λ b h. nothing_behind (b == k) (put_of c a) (puts_to b calls) (p b h)) t)
-
 pub new_stand : (puts takes : List Side) (lists : List LocalBuffer) → AreNew puts lists → AreNew takes lists → (calls : List Call) → LocalStands lists calls → EndsStand puts takes lists calls
 new_stand puts takes lists p t calls s = (
   (λ k d h. let n = p k d h in n.0 ∙ sym (puts_nothing lists calls (slice_index_or puts k d).buffer (empty_one) n.1 s (n.2 empty_one))),
   (λ k d h. let n = t k d h in n.0 ∙ sym (takes_nothing lists calls (slice_index_or takes k d).buffer (empty_one) n.1 s (n.2 empty_one))),
-  record {
-    kept = calls;
-    reach = all_reach (Has puts) (Has takes) calls
-        (λ b h. let n = p h.0 (some_side h.0 puts h.1) h.1 in subst (λ (x : ℕ). puts_to x calls ≡ []) (h.2 (some_side h.0 puts h.1)) (puts_nothing lists calls (slice_index_or puts h.0 (some_side h.0 puts h.1)).buffer empty_one n.1 s (n.2 empty_one)))
-        (λ b h. let n = t h.0 (some_side h.0 takes h.1) h.1 in subst (λ (x : ℕ). takes_of x calls ≡ []) (h.2 (some_side h.0 takes h.1)) (takes_nothing lists calls (slice_index_or takes h.0 (some_side h.0 takes h.1)).buffer empty_one n.1 s (n.2 empty_one)));
-    stand = s;
-  },
+  λ b d h away. s b d h (λ x. x),
 )
   where
     empty_one : LocalBuffer

@@ -1,5 +1,5 @@
 -- A call on an end comes at the end of each list for which the taps stood.
-use Rattle.std.proofs.Common.{◌≡◌, ◌≢◌, ℕ, ◌<◌, ◌==◌, eqb, Bool, true, false, List, [], ◌∷◌, ◌++◌, length, get_or, set, sym, refl, ap, ◌∙◌, subst, arith, slice_index_or, Option, Some, None, ⊎_elim, inl, inr, if◌then◌else◌, Result, Ok, Err, IfErr, OnErr, get_or-set_same, get_or-set_other, length-set, append-nil}
+use Rattle.std.proofs.Common.{◌≡◌, ◌≢◌, ◌⊎◌, ℕ, ◌<◌, ◌==◌, eqb, Bool, true, false, List, [], ◌∷◌, ◌++◌, length, get_or, set, sym, refl, ap, ◌∙◌, subst, arith, slice_index_or, Option, Some, None, ⊎_elim, inl, inr, if◌then◌else◌, Result, Ok, Err, IfErr, OnErr, get_or-set_same, get_or-set_other, length-set, append-nil}
 use Rattle.std.proofs.lemmas.Bool.Decides.{eqb_tells}
 use Rattle.std.proofs.lemmas.List.{get_or_default}
 use Rattle.frame_core.specs.Calls.{Call, takes_of, puts_to, put_of, IsGive}
@@ -9,8 +9,8 @@ use Rattle.frame_core.specs.declared.chunk.Gave.TheVariants.{Accepted, Full}
 use Rattle.frame_core.specs.declared.cell.Cell.{Cell}
 use Rattle.buffer_ends.specs.Local.{LocalBuffer}
 use Rattle.buffer_ends.specs.Sides.{Side, Apart, PutsSide, TakesSide, SameSide, SameSides}
-use Rattle.buffer_ends.specs.Ends.{ListsKept, Reach, PutsStand, TakesStand, EndsStand, Has}
-use Rattle.buffer_ends.proofs.Steps.{if_true, if_false, list_took, list_gave, some_side, TakesOf, GivesTo}
+use Rattle.buffer_ends.specs.Ends.{ListsStand, PutsStand, TakesStand, EndsStand, Has}
+use Rattle.buffer_ends.proofs.Steps.{if_true, if_false, lists_other, list_took, list_gave, TakesOf, GivesTo}
 
 puts_to-append : (b : ℕ) (cs ds : List Call) → puts_to b (cs ++ ds) ≡ puts_to b cs ++ puts_to b ds
 puts_to-append b [] ds = refl
@@ -84,33 +84,8 @@ gives_answers : (e : Side) (c : List Cell) (f : Side) (g : Gave) → PutsSide e 
 gives_answers e c f Accepted g = (true, refl, g.0, g.1.answers)
 gives_answers e c f (Full d) g = (false, (g.1.0, refl), g.0, g.1.2.answers)
 
--- a call that an end takes does not reach the lists
-drop_give : (P T : ℕ → Type 0) (calls kept : List Call) (b : ℕ) (c : List Cell) (a : Bool) → P b → Reach P T calls kept → Reach P T (calls ++ Given b c a ∷ []) kept
-drop_give P T [] kept b c a h r = inl (h, r)
-drop_give P T (Took k o ∷ calls) kept b c a h r = ⊎_elim (λ l. inl (l.0, drop_give P T calls kept b c a h l.1)) (λ l. inr (l.0, l.1, l.2, drop_give P T calls l.1 b c a h l.3)) r
-drop_give P T (Given k d e ∷ calls) kept b c a h r = ⊎_elim (λ l. inl (l.0, drop_give P T calls kept b c a h l.1)) (λ l. inr (l.0, l.1, l.2, drop_give P T calls l.1 b c a h l.3)) r
-
-drop_take : (P T : ℕ → Type 0) (calls kept : List Call) (b : ℕ) (x : Option (List Cell)) → T b → Reach P T calls kept → Reach P T (calls ++ Took b x ∷ []) kept
-drop_take P T [] kept b x h r = inl (h, r)
-drop_take P T (Took k o ∷ calls) kept b x h r = ⊎_elim (λ l. inl (l.0, drop_take P T calls kept b x h l.1)) (λ l. inr (l.0, l.1, l.2, drop_take P T calls l.1 b x h l.3)) r
-drop_take P T (Given k d e ∷ calls) kept b x h r = ⊎_elim (λ l. inl (l.0, drop_take P T calls kept b x h l.1)) (λ l. inr (l.0, l.1, l.2, drop_take P T calls l.1 b x h l.3)) r
-
--- every other call does
-keep_give : (P T : ℕ → Type 0) (calls kept : List Call) (b : ℕ) (c : List Cell) (a : Bool) → (P b → ⊥) → Reach P T calls kept → Reach P T (calls ++ Given b c a ∷ []) (kept ++ Given b c a ∷ [])
-keep_give P T [] kept b c a n r = inr (n, [], ap (λ l. l ++ Given b c a ∷ []) r, refl)
-keep_give P T (Took k o ∷ calls) kept b c a n r = ⊎_elim (λ l. inl (l.0, keep_give P T calls kept b c a n l.1)) (λ l. inr (l.0, l.1 ++ Given b c a ∷ [], ap (λ x. x ++ Given b c a ∷ []) l.2, keep_give P T calls l.1 b c a n l.3)) r
-keep_give P T (Given k d e ∷ calls) kept b c a n r = ⊎_elim (λ l. inl (l.0, keep_give P T calls kept b c a n l.1)) (λ l. inr (l.0, l.1 ++ Given b c a ∷ [], ap (λ x. x ++ Given b c a ∷ []) l.2, keep_give P T calls l.1 b c a n l.3)) r
-
-keep_take : (P T : ℕ → Type 0) (calls kept : List Call) (b : ℕ) (x : Option (List Cell)) → (T b → ⊥) → Reach P T calls kept → Reach P T (calls ++ Took b x ∷ []) (kept ++ Took b x ∷ [])
-keep_take P T [] kept b x n r = inr (n, [], ap (λ l. l ++ Took b x ∷ []) r, refl)
-keep_take P T (Took k o ∷ calls) kept b x n r = ⊎_elim (λ l. inl (l.0, keep_take P T calls kept b x n l.1)) (λ l. inr (l.0, l.1 ++ Took b x ∷ [], ap (λ y. y ++ Took b x ∷ []) l.2, keep_take P T calls l.1 b x n l.3)) r
-keep_take P T (Given k d e ∷ calls) kept b x n r = ⊎_elim (λ l. inl (l.0, keep_take P T calls kept b x n l.1)) (λ l. inr (l.0, l.1 ++ Took b x ∷ [], ap (λ y. y ++ Took b x ∷ []) l.2, keep_take P T calls l.1 b x n l.3)) r
-
--- the same calls reach the lists where the same buffers have ends
-reach_same : (P T Q U : ℕ → Type 0) → ((b : ℕ) → P b → Q b) → ((b : ℕ) → Q b → P b) → ((b : ℕ) → T b → U b) → ((b : ℕ) → U b → T b) → (calls kept : List Call) → Reach P T calls kept → Reach Q U calls kept
-reach_same P T Q U f g h i [] kept r = r
-reach_same P T Q U f g h i (Took k o ∷ calls) kept r = ⊎_elim (λ l. inl (h k l.0, reach_same P T Q U f g h i calls kept l.1)) (λ l. inr (λ u. l.0 (i k u), l.1, l.2, reach_same P T Q U f g h i calls l.1 l.3)) r
-reach_same P T Q U f g h i (Given k d e ∷ calls) kept r = ⊎_elim (λ l. inl (f k l.0, reach_same P T Q U f g h i calls kept l.1)) (λ l. inr (λ u. l.0 (g k u), l.1, l.2, reach_same P T Q U f g h i calls l.1 l.3)) r
+lists_wider : (E F : ℕ → Type 0) (lists : List LocalBuffer) (calls : List Call) → ((b : ℕ) → E b → F b) → ListsStand E lists calls → ListsStand F lists calls
+lists_wider E F lists calls f s b d h n = s b d h (λ e. n (f b e))
 
 abbrev pub GivesAt : List Side → ℕ → List Cell → List Side → Gave → Type 0
 GivesAt ends k c after g = (e : Side) × (after ≡ set ends k e) × ((d : Side) → PutsSide (slice_index_or ends k d) c e g)
@@ -135,16 +110,12 @@ end_gave puts takes lists k b c g after apart room at t =
           let mine : F e = ga.3 ∙ ap (λ l. l ++ put_of c ga.0 ∷ []) (s.0 k e room) ∙ (λ i. puts_to (at e i) calls ++ put_of c ga.0 ∷ []) ∙ sym (puts_here b calls c ga.0) ∙ (λ i. puts_to (sym (ga.2 ∙ at e) i) (calls ++ call ∷ [])) in
           let others : (j : ℕ) (d : Side) → j ≢ k → j < length puts → F (slice_index_or puts j d) =
           λ j d n h. s.0 j d h ∙ sym (puts_else (slice_index_or puts j d).buffer b calls c ga.0 (λ q. n (apart j k d h room (q ∙ sym (at d))))) in
-          let P : List Side → Type 0 = λ l. PutsStand l (calls ++ call ∷ []) × ListsKept (Has l) (Has takes) lists (calls ++ call ∷ []) in
+          let P : List Side → Type 0 = λ l. PutsStand l (calls ++ call ∷ []) × ListsStand (λ x. Has l x ⊎ Has takes x) lists (calls ++ call ∷ []) in
           let put_there : PutsStand (set puts k e) (calls ++ call ∷ []) = λ j d h. each_set F puts k e room mine others j d h in
-          let reached : Reach (Has (set puts k e)) (Has takes) calls s.2.kept =
-          reach_same (Has puts) (Has takes) (Has (set puts k e)) (Has takes) (has_set puts k e room same) (has_unset puts k e room same) (λ x h. h) (λ x h. h) calls s.2.kept s.2.reach in
-          let there : ListsKept (Has (set puts k e)) (Has takes) lists (calls ++ call ∷ []) = record {
-            kept = s.2.kept;
-            reach = drop_give (Has (set puts k e)) (Has takes) calls s.2.kept b c ga.0 (has_set puts k e room same b (k, room, at)) reached;
-            stand = s.2.stand;
-          } in
-          let r : P after = subst P (sym t.1) (put_there, there) in
+          let wide : ListsStand (λ x. Has (set puts k e) x ⊎ Has takes x) lists calls =
+          lists_wider (λ x. Has puts x ⊎ Has takes x) (λ x. Has (set puts k e) x ⊎ Has takes x) lists calls (λ x h. ⊎_elim (λ y. inl (has_set puts k e room same x y)) (λ y. inr y) h) s.2 in
+          let has : Has (set puts k e) b = has_set puts k e room same b (k, room, at) in
+          let r : P after = subst P (sym t.1) (put_there, lists_other (λ x. Has (set puts k e) x ⊎ Has takes x) lists calls call (inl has) wide) in
           (r.0, takes_gave takes calls b c ga.0 s.1, r.1),
     )
 
@@ -163,33 +134,25 @@ end_took puts takes lists k b o after apart room at t calls s =
     let mine : F e = ta.1 ∙ ap (λ l. l ++ o ∷ []) (s.1 k e room) ∙ (λ i. takes_of (at e i) calls ++ o ∷ []) ∙ sym (takes_here b calls o) ∙ (λ i. takes_of (sym (ta.0 ∙ at e) i) (calls ++ call ∷ [])) in
     let others : (j : ℕ) (d : Side) → j ≢ k → j < length takes → F (slice_index_or takes j d) =
     λ j d n h. s.1 j d h ∙ sym (takes_else (slice_index_or takes j d).buffer b calls o (λ q. n (apart j k d h room (q ∙ sym (at d))))) in
-    let P : List Side → Type 0 = λ l. TakesStand l (calls ++ call ∷ []) × ListsKept (Has puts) (Has l) lists (calls ++ call ∷ []) in
+    let P : List Side → Type 0 = λ l. TakesStand l (calls ++ call ∷ []) × ListsStand (λ x. Has puts x ⊎ Has l x) lists (calls ++ call ∷ []) in
     let take_there : TakesStand (set takes k e) (calls ++ call ∷ []) = λ j d h. each_set F takes k e room mine others j d h in
-    let reached : Reach (Has puts) (Has (set takes k e)) calls s.2.kept =
-    reach_same (Has puts) (Has takes) (Has puts) (Has (set takes k e)) (λ x h. h) (λ x h. h) (has_set takes k e room same) (has_unset takes k e room same) calls s.2.kept s.2.reach in
-    let there : ListsKept (Has puts) (Has (set takes k e)) lists (calls ++ call ∷ []) = record {
-      kept = s.2.kept;
-      reach = drop_take (Has puts) (Has (set takes k e)) calls s.2.kept b o (has_set takes k e room same b (k, room, at)) reached;
-      stand = s.2.stand;
-    } in
-    let r : P after = subst P (sym t.1) (take_there, there) in
+    let wide : ListsStand (λ x. Has puts x ⊎ Has (set takes k e) x) lists calls =
+    lists_wider (λ x. Has puts x ⊎ Has takes x) (λ x. Has puts x ⊎ Has (set takes k e) x) lists calls (λ x h. ⊎_elim (λ y. inl y) (λ y. inr (has_set takes k e room same x y)) h) s.2 in
+    let has : Has (set takes k e) b = has_set takes k e room same b (k, room, at) in
+    let r : P after = subst P (sym t.1) (take_there, lists_other (λ x. Has puts x ⊎ Has (set takes k e) x) lists calls call (inr has) wide) in
     (puts_took puts calls b o s.0, r.0, r.1)
 
 gave_is : (b : ℕ) (c : List Cell) (g : Gave) (call : Call) → IsGive b c g call → (a : Bool) × (call ≡ Given b c a)
 gave_is b c Accepted call e = (true, e)
 gave_is b c (Full d) call e = (false, e.1)
 
--- on a list where no end of this kind is there
+-- on a list where no end of this kind is there. Where an end of the other kind is there, the list is not asked
 pub list_took_beside : (puts takes : List Side) (lists after : List LocalBuffer) (b : ℕ) (o : Option (List Cell)) → b < length lists → ((k : ℕ) (d : Side) → k < length takes → (slice_index_or takes k d).buffer ≢ b)
     → TakesOf lists b o after → Answers puts takes lists puts takes after (Took b o ∷ [])
 list_took_beside puts takes lists after b o room none t calls s = (
   puts_took puts calls b o s.0,
   (λ k d h. s.1 k d h ∙ sym (takes_else (slice_index_or takes k d).buffer b calls o (none k d h))),
-  record {
-    kept = s.2.kept ++ Took b o ∷ [];
-    reach = keep_take (Has puts) (Has takes) calls s.2.kept b o (λ h. none h.0 (some_side h.0 takes h.1) h.1 (h.2 (some_side h.0 takes h.1))) s.2.reach;
-    stand = list_took (λ x. ⊥) lists after b o room t s.2.kept s.2.stand;
-  },
+  list_took (λ x. Has puts x ⊎ Has takes x) lists after b o room t calls s.2,
 )
 
 pub list_gave_beside : (puts takes : List Side) (lists after : List LocalBuffer) (b : ℕ) (c : List Cell) (g : Gave) → b < length lists → ((k : ℕ) (d : Side) → k < length puts → (slice_index_or puts k d).buffer ≢ b)
@@ -201,11 +164,7 @@ list_gave_beside puts takes lists after b c g room none t =
       λ calls s. (
         subst (λ (x : Call). PutsStand puts (calls ++ x ∷ [])) (sym ga.1) (λ k d h. s.0 k d h ∙ sym (puts_else (slice_index_or puts k d).buffer b calls c ga.0 (none k d h))),
         subst (λ (x : Call). TakesStand takes (calls ++ x ∷ [])) (sym ga.1) (takes_gave takes calls b c ga.0 s.1),
-        record {
-          kept = s.2.kept ++ t.2 ∷ [];
-          reach = subst (λ (x : Call). Reach (Has puts) (Has takes) (calls ++ x ∷ []) (s.2.kept ++ x ∷ [])) (sym ga.1) (keep_give (Has puts) (Has takes) calls s.2.kept b c ga.0 (λ h. none h.0 (some_side h.0 puts h.1) h.1 (h.2 (some_side h.0 puts h.1))) s.2.reach);
-          stand = list_gave (λ x. ⊥) lists after b c g room t s.2.kept s.2.stand;
-        },
+        list_gave (λ x. Has puts x ⊎ Has takes x) lists after b c g room t calls s.2,
       ),
     )
 

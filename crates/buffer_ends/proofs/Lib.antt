@@ -3,4 +3,4 @@ pub mod EndSteps
 pub mod Windows
 pub mod Beginnings
 pub mod Counting
-pub mod Borders
+pub mod Bordering

@@ -10,7 +10,6 @@ use Rattle.frame_core.specs.declared.chunk.Gave.{Gave}
 use Rattle.frame_core.specs.declared.chunk.Gave.TheVariants.{Accepted, Full}
 use Rattle.buffer_ends.specs.Local.{LocalBuffer, Held, held, buffer_of, on, Step, Leads, empty_list}
 use Rattle.buffer_ends.specs.Same.{SameBuffer, SameBuffers}
-use Rattle.buffer_ends.specs.Sides.{Side}
 use Rattle.buffer_ends.specs.Ends.{ListsStand}
 
 pub if_true : {A : Type 0} (t : Bool) (x y : A) → t ≡ true → (if t then x else y) ≡ x
@@ -64,6 +63,10 @@ lists_step E lists calls k l c is room step stand b d h away =
     (rw (on_else b calls c (λ e. t.1 (e ∙ is))) (stand b d (omega (arith, length-set lists k l)) away)))
     (eqb_tells b k)
 
+-- a call elsewhere
+pub lists_other : (E : ℕ → Type 0) (lists : List LocalBuffer) (calls : List Call) (c : Call) → E (buffer_of c) → ListsStand E lists calls → ListsStand E lists (calls ++ c ∷ [])
+lists_other E lists calls c away stand b d h n = rw (on_else b calls c (λ e. n (subst E (sym e) away))) (stand b d h n)
+
 pub ok_map : {T E : Type 0} {P Q : T → Type 0} (r : Result T E) → ((x : T) → P x → Q x) → IfOk r P → IfOk r Q
 ok_map (Ok x) f p = f x p
 ok_map (Err e) f p = p
@@ -101,8 +104,3 @@ buffers_set lists after k x l is old room same = subst (λ (ls : List LocalBuffe
       (λ i. ((old ∙ get_or_default lists k x d room ∙ ap (λ n. get_or lists n d) (sym t.1)) i, sym (ap (λ n. get_or (set lists k l) n d) t.1 ∙ get_or-set_same lists k l d room) i)) same)
       (λ t. subst (λ (y : LocalBuffer). SameBuffer (get_or lists j d) y) (sym (get_or-set_other lists k j l d t.1)) (record { capacity = refl; closed = refl })) (eqb_tells j k);
 })
-
--- ends that have a place have an end
-pub some_side : (k : ℕ) (ends : List Side) → k < length ends → Side
-some_side k [] h = absurd (omega (arith, h))
-some_side k (e ∷ ends) h = e

@@ -78,3 +78,7 @@ closed_more n lists bs x new e h old is =
 pub not_err : {T E P : Type 0} (r : Result T E) → is_err r ≡ false → OnOk r P → P
 not_err (Ok x) e p = p
 not_err (Err x) e p = cc
+
+pub ended_stand : {T E : Type 0} (away : ℕ → Type 0) (bs after : List LocalBuffer) (r : Result T E) → OnOk r (after ≡ map closed bs) → OnOk r ((calls : List Call) → ListsStand away bs calls → ListsStand away after calls)
+ended_stand away bs after (Ok x) is = λ calls s. subst (λ l. ListsStand away l calls) (sym is) (stand_closed away bs calls s)
+ended_stand away bs after (Err x) is = tt

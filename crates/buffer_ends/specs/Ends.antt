@@ -1,7 +1,6 @@
 -- What the taps of a clock stand for.
-use Rattle.std.specs.Prelude.{◌≡◌, ℕ, ◌<◌, not, List, [], ◌∷◌, length, map, count_by, slice_index_or, ◌⊎◌}
+use Rattle.std.specs.Prelude.{◌≡◌, ℕ, ◌<◌, not, List, [], length, map, count_by, slice_index_or, ◌⊎◌}
 use Rattle.frame_core.specs.Calls.{Call, takes_of, puts_to}
-use Rattle.frame_core.specs.Calls.Call.{Took, Given}
 use Rattle.buffer_ends.specs.Sides.{Side}
 use Rattle.buffer_ends.specs.Local.{LocalBuffer, held, on, Leads, empty_list, no_answers, all_answers, yes}
 use Rattle.buffer_queue.specs.Window.{is_chunk}
@@ -28,29 +27,9 @@ TakesStand sides calls = (k : ℕ) (d : Side) → k < length sides → (slice_in
 abbrev pub LocalStands : List LocalBuffer → List Call → Type 0
 LocalStands lists calls = ListsStand (λ b. ⊥) lists calls
 
--- of these calls those that reach the lists: gives to buffers without a put end here, and takes of buffers without a take end
-abbrev pub Reach : (puts takes : ℕ → Type 0) → List Call → List Call → Type 0
-Reach puts takes [] kept = kept ≡ []
-Reach puts takes (Took b answer ∷ calls) kept =
-    (takes b × Reach puts takes calls kept)
-    ⊎ ((takes b → ⊥) × (rest : List Call) × (kept ≡ Took b answer ∷ rest) × Reach puts takes calls rest)
-Reach puts takes (Given b chunk accepted ∷ calls) kept =
-    (puts b × Reach puts takes calls kept)
-    ⊎ ((puts b → ⊥) × (rest : List Call) × (kept ≡ Given b chunk accepted ∷ rest) × Reach puts takes calls rest)
-
--- the lists stand for the calls that reach them
-pub record ListsKept (puts takes : ℕ → Type 0) (lists : List LocalBuffer) (calls : List Call) : Type 0 where
-  pub kept : List Call
-  pub reach : Reach puts takes calls kept
-  pub stand : LocalStands lists kept
-
--- the ends, and the lists for what no end takes
+-- the ends, and the lists of the buffers that have no end here
 abbrev pub EndsStand : List Side → List Side → List LocalBuffer → List Call → Type 0
-EndsStand puts takes lists calls = PutsStand puts calls × TakesStand takes calls × ListsKept (Has puts) (Has takes) lists calls
-
--- no answer is recorded in the windows of these ends
-abbrev pub HaveNoAnswers : List Side → Type 0
-HaveNoAnswers sides = (k : ℕ) (d : Side) → k < length sides → (slice_index_or sides k d).window.answers ≡ []
+EndsStand puts takes lists calls = PutsStand puts calls × TakesStand takes calls × ListsStand (λ b. Has puts b ⊎ Has takes b) lists calls
 
 -- ends of buffers of which nothing was asked: their records are empty, and so are the answers of these buffers' lists
 abbrev pub AreNew : List Side → List LocalBuffer → Type 0

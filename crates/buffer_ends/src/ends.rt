@@ -1,14 +1,17 @@
 // A clock's ends of the buffers that join it to other clocks.
 ghost use Rattle.std.specs.Prelude.{◌≡◌, ◌≢◌, ◌<◌, ℕ, map, length, count_by, not, IfSome, IfNone, IfOk, IfErr, OnErr, slice_index_or, slice_set};
-ghost use Rattle.buffer_queue.specs.Window.{Puts, Takes, is_chunk};
+ghost use Rattle.buffer_queue.specs.Window.{Puts, Takes, Closes, is_chunk};
 ghost use Rattle.buffer_ends.specs.Local.{LocalBuffer, all_answers, counts_of, yes};
 ghost use Rattle.buffer_ends.specs.Ends.{PutsCounted, TakesCounted};
+ghost use Rattle.buffer_ends.specs.Borders.{ClosesSides};
 ghost use Rattle.buffer_ends.specs.Sides.{Side, PutsSide, TakesSide, Apart, SameSide, SameSides};
 
 use crate::counts::Counts;
+use crate::logs::WindowLog;
 use buffer_queue::{BufferQueue, PutPass, TakePass};
 use frame_core::{Chunk, Gave};
 use liq_base::Memory;
+use std::alloc::Global;
 use std::marker::Model;
 use std::sync::Wait;
 
@@ -87,6 +90,22 @@ impl<'a> PutEnd<'a> {
         ensures no { result.1 ≡ count_by not (map is_chunk self.now.window.answers) }
     {
         counted(self.pass.answers())
+    }
+
+    // Closes the window at both ends of the queue, and opens the next one.
+    fn close(&mut self, alloc: Global, take: &mut TakeEnd<'_>) -> WindowLog
+        requires { self.old.window.queue ≡ take.old.window.queue }
+        ensures closes { Closes self.old.window take.old.window self.old.window.queue self.new.window take.new.window }
+        ensures buffers { (self.new.buffer ≡ self.old.buffer) × (take.new.buffer ≡ take.old.buffer) }
+        ensures log { (result.puts ≡ map is_chunk self.old.window.answers) × (result.takes ≡ map is_chunk take.old.window.answers) }
+    {
+        let Ok((puts, takes)) = self
+            .queue
+            .close_window(alloc, &mut self.pass, &mut take.pass)
+        else {
+            unreachable!();
+        };
+        WindowLog { puts, takes }
     }
 
     fn give<R: Wait>(&mut self, rt: &R, chunk: Chunk) -> Result<Gave, (Chunk, Memory)>
@@ -245,4 +264,20 @@ fn counted(answers: &[bool]) -> (u64, u64)
     let yes = answers.iter().filter(|answer| **answer).count() as u64;
     let no = answers.iter().filter(|answer| !**answer).count() as u64;
     (yes, no)
+}
+
+// Closes the window of a buffer at both ends.
+pub(crate) fn close_at(
+    alloc: Global,
+    puts: &mut Vec<PutEnd<'_>>,
+    place: usize,
+    takes: &mut Vec<TakeEnd<'_>>,
+    other: usize,
+) -> WindowLog
+    requires within { (place < length puts.old.items) × (other < length takes.old.items) }
+    requires queue { (d e : Side) → (slice_index_or puts.old.items place d).window.queue ≡ (slice_index_or takes.old.items other e).window.queue }
+    ensures closed { (s t : Side) × (puts.new.items ≡ slice_set puts.old.items place s) × (takes.new.items ≡ slice_set takes.old.items other t)
+        × ((d e : Side) → ClosesSides (slice_index_or puts.old.items place d) (slice_index_or takes.old.items other e) s t result) }
+{
+    puts[place].close(alloc, &mut takes[other])
 }

@@ -1,17 +1,21 @@
 // The buffers of one clock beside other clocks.
-ghost use Rattle.std.specs.Prelude.{◌≡◌, ◌<◌, ℕ, List, length, slice_index_or};
+ghost use Rattle.std.specs.Prelude.{◌≡◌, ◌≢◌, ◌++◌, ◌∷◌, [], ◌<◌, ◌⊎◌, ℕ, List, length, map, slice_index_or, OnOk, OnErr};
+ghost use Rattle.buffer_ends.specs.Borders.{HaveEnds, WasClosed};
 ghost use Rattle.frame_core.specs.Calls.{Call};
-ghost use Rattle.buffer_ends.specs.Local.{LocalBuffer};
-ghost use Rattle.buffer_ends.specs.Ends.{AreNew, EndsStand, LocalStands, PutsCounted, TakesCounted};
+ghost use Rattle.buffer_ends.specs.Local.{LocalBuffer, closed};
+ghost use Rattle.buffer_ends.specs.Ends.{AreNew, EndsStand, Has, ListsStand, LocalStands, PutsCounted, TakesCounted};
 ghost use Rattle.buffer_ends.specs.Sides.{Apart};
 
 use crate::counts::Counts;
 use crate::ends::{
-    PutEnd, TakeEnd, give_at, put_place, take_at, take_place, with_puts, with_takes,
+    PutEnd, TakeEnd, close_at, give_at, put_place, take_at, take_place, with_puts, with_takes,
 };
 use crate::local_taps::LocalTaps;
+use crate::logs::WindowLog;
 use frame_core::{Chunk, Gave, Taps};
 use liq_base::Memory;
+use std::alloc::Global;
+use std::mem;
 use std::sync::Wait;
 
 /// One clock's ends of its buffers to other clocks, and its own lists.
@@ -46,6 +50,28 @@ impl<'a, R> ThreadTaps<'a, R> {
         }
     }
 
+    /// Adds the end of a buffer to which the clock gives, and of which it has no such end. Where memory is refused the end
+    /// is lost.
+    pub fn add_put(&mut self, end: PutEnd<'a>) -> Result<(), Memory>
+        requires { (k : ℕ) (d : _) → k < length self.old.puts.items → (slice_index_or self.old.puts.items k d).buffer ≢ end.buffer }
+        ensures added { OnOk result (self.new.puts.items ≡ self.old.puts.items ++ end.entry ∷ []) }
+        ensures others { (self.new.takes ≡ self.old.takes) × (self.new.local ≡ self.old.local) }
+    {
+        self.puts.push(end)?;
+        Ok(())
+    }
+
+    /// Adds the end of a buffer from which the clock takes, and of which it has no such end. Where memory is refused the end
+    /// is lost.
+    pub fn add_take(&mut self, end: TakeEnd<'a>) -> Result<(), Memory>
+        requires { (k : ℕ) (d : _) → k < length self.old.takes.items → (slice_index_or self.old.takes.items k d).buffer ≢ end.buffer }
+        ensures added { OnOk result (self.new.takes.items ≡ self.old.takes.items ++ end.entry ∷ []) }
+        ensures others { (self.new.puts ≡ self.old.puts) × (self.new.local ≡ self.old.local) }
+    {
+        self.takes.push(end)?;
+        Ok(())
+    }
+
     /// The lists and the ends, with the answers of the calls.
     pub fn into_parts(self) -> (LocalTaps, Vec<PutEnd<'a>>, Vec<TakeEnd<'a>>)
         ensures { (result.0 ≡ self.entry.local) × (result.1 ≡ self.entry.puts) × (result.2 ≡ self.entry.takes) }
@@ -57,6 +83,58 @@ impl<'a, R> ThreadTaps<'a, R> {
             takes,
         } = self;
         (local, puts, takes)
+    }
+
+    /// Closes the window of a buffer to which these taps give, with the ends of the clock that takes from it, and opens the
+    /// next one. It answers the window's answers, and takes no memory.
+    pub fn close_with(
+        &mut self,
+        alloc: Global,
+        takes: &mut Vec<TakeEnd<'_>>,
+        buffer: u32,
+    ) -> WindowLog
+        requires ends { HaveEnds self.old.puts.items takes.old.items buffer }
+        requires apart { Apart takes.old.items }
+        ensures closed { WasClosed buffer self.old.puts.items self.new.puts.items takes.old.items takes.new.items result }
+        ensures mine { (self.new.takes ≡ self.old.takes) × (self.new.local ≡ self.old.local) }
+        ensures apart { Apart takes.new.items }
+    {
+        let Some(place) = put_place(&self.puts, buffer) else {
+            unreachable!();
+        };
+        let Some(at) = take_place(takes, buffer) else {
+            unreachable!();
+        };
+        close_at(alloc, &mut self.puts, place, takes, at)
+    }
+
+    /// Takes the ends out that take, so that their windows can be closed.
+    pub fn lend_takes(&mut self, alloc: Global) -> Vec<TakeEnd<'a>>
+        ensures lent { result.items ≡ self.old.takes.items }
+        ensures apart { Apart result.items }
+        ensures others { (self.new.puts ≡ self.old.puts) × (self.new.local ≡ self.old.local) }
+    {
+        mem::replace(&mut self.takes, Vec::new(alloc))
+    }
+
+    /// Puts them back.
+    pub fn put_back(&mut self, takes: Vec<TakeEnd<'a>>)
+        requires { Apart takes.items }
+        ensures back { self.new.takes ≡ takes.entry }
+        ensures others { (self.new.puts ≡ self.old.puts) × (self.new.local ≡ self.old.local) }
+    {
+        self.takes = takes;
+    }
+
+    /// Closes the window of each list and opens the next one. Where memory is refused all is as before.
+    pub fn end_window(&mut self, alloc: Global) -> Result<(), Memory>
+        ensures closed { OnOk result (self.new.local ≡ map closed self.old.local) }
+        ensures memory { OnErr result (self.new.local ≡ self.old.local) }
+        ensures ends { (self.new.puts ≡ self.old.puts) × (self.new.takes ≡ self.old.takes) }
+        ensures stands { OnOk result ((calls : List Call) → ListsStand (λ b. Has self.old.puts.items b ⊎ Has self.old.takes.items b) self.old.local calls
+            → ListsStand (λ b. Has self.old.puts.items b ⊎ Has self.old.takes.items b) self.new.local calls) }
+    {
+        self.local.end_window(alloc)
     }
 
     /// How often the calls on a buffer had which answer, by the answers that are held: those of its end's window, or those

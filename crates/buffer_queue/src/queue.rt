@@ -211,14 +211,14 @@ impl BufferQueue {
     /// Ends the window, hands out its two lists of answers, true for accepted and got, and opens the next one with what
     /// the queue holds. Neither waits nor takes memory.
     pub fn close_window(
-        &mut self,
+        &self,
         alloc: Global,
         put: &mut PutPass,
         take: &mut TakePass,
     ) -> Result<(Vec<bool>, Vec<bool>), Memory>
-        requires put { put.old.queue ≡ self.old }
-        requires take { take.old.queue ≡ self.old }
-        ensures closes { Closes put.old take.old self.new put.new take.new }
+        requires put { put.old.queue ≡ self.now }
+        requires take { take.old.queue ≡ self.now }
+        ensures closes { Closes put.old take.old self.now put.new take.new }
         ensures puts { IfOk result (λ r. r.0.items ≡ map is_chunk put.old.answers) }
         ensures takes { IfOk result (λ r. r.1.items ≡ map is_chunk take.old.answers) }
         ensures done { IsOk result }

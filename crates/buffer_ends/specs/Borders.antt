@@ -1,0 +1,49 @@
+-- The border between two windows: a buffer's ends at two clocks are closed together.
+use Rattle.std.specs.Prelude.{◌≡◌, ℕ, ◌<◌, List, map, length, slice_index_or, slice_set}
+use Rattle.buffer_queue.specs.Window.{Window, Closes, is_chunk}
+use Rattle.buffer_ends.specs.Sides.{Side}
+use Rattle.buffer_ends.specs.Local.{Answers}
+
+-- at this place stands this end
+pub record HasAt (sides : List Side) (place : ℕ) (side : Side) : Type 0 where
+  pub within : place < length sides
+  pub is : (d : Side) → slice_index_or sides place d ≡ side
+
+-- the end of a buffer, with this window
+pub record HasEnd (sides : List Side) (buffer : ℕ) (window : Window) : Type 0 where
+  pub place : ℕ
+  pub at : HasAt sides place (record { buffer = buffer; window = window })
+
+-- a window was closed at one end, at this place, which has the next one open
+pub record Turned (sides after : List Side) (buffer : ℕ) (old new : Window) : Type 0 where
+  pub place : ℕ
+  pub at : HasAt sides place (record { buffer = buffer; window = old })
+  pub are : after ≡ slice_set sides place (record { buffer = buffer; window = new })
+
+-- the ends of a buffer were closed together, and these are the answers of the window
+pub record WasClosed (buffer : ℕ) (puts puts_after takes takes_after : List Side) (log : Answers) : Type 0 where
+  pub put : Window
+  pub take : Window
+  pub next_put : Window
+  pub next_take : Window
+  pub puts_turned : Turned puts puts_after buffer put next_put
+  pub takes_turned : Turned takes takes_after buffer take next_take
+  pub closes : Closes put take put.queue next_put next_take
+  pub log_puts : log.puts ≡ map is_chunk put.answers
+  pub log_takes : log.takes ≡ map is_chunk take.answers
+
+-- the two ends of one queue
+pub record HaveEnds (puts takes : List Side) (buffer : ℕ) : Type 0 where
+  pub put : Window
+  pub take : Window
+  pub puts_there : HasEnd puts buffer put
+  pub takes_there : HasEnd takes buffer take
+  pub queue : put.queue ≡ take.queue
+
+-- two ends before and after
+pub record ClosesSides (put take next_put next_take : Side) (log : Answers) : Type 0 where
+  pub closes : Closes put.window take.window put.window.queue next_put.window next_take.window
+  pub put_buffer : next_put.buffer ≡ put.buffer
+  pub take_buffer : next_take.buffer ≡ take.buffer
+  pub log_puts : log.puts ≡ map is_chunk put.window.answers
+  pub log_takes : log.takes ≡ map is_chunk take.window.answers

@@ -1,0 +1,41 @@
+use Rattle.std.proofs.Common.{◌≡◌, ◌<◌, ◌≤◌, ◌+◌, suc, sym, subst, ◌∙◌, add-one, arith, rules, ap, None}
+use Rattle.clock_tasks.proofs.Running.{Running, running_none, running_more, running_broke, running_all, rooms_fewer, room_one}
+use Rattle.clock_tasks.proofs.task.Task.run.Goals as goal
+
+pub loop-init : goal.loop-init
+loop-init g c =
+    running_none g.O.Sink.held g.O.Sink.name g.O.Sink.room g.O.Sink.faults g.T.Taps.stands g.T.Taps.buffers g.T.Taps.same c.args.self.now c.requires.whole (g.met.T.Taps.same_refl c.args.self.now.taps) c.requires.stands.stand.runs
+
+pub returns-in-Err : goal.returns-in-Err
+returns-in-Err g c =
+    let n = c.tick.ensures in
+    running_broke g.O.Sink.held g.O.Sink.name g.O.Sink.room g.O.Sink.faults g.T.Taps.stands g.T.Taps.buffers g.T.Taps.same c.loop.counter c.args.self.now c.loop.self c.tick.new.self c.tick.new.taps
+    c.loop.invariant (record { setting = n.setting; clock = n.clock; outs = n.outs; kept = n.kept; none_fell = n.faults }) (record { works = n.works; sinks = n.sinks }) c.args.count c.loop-test.true
+    (g.met.T.Taps.same_trans c.args.self.now.taps c.loop.self.taps c.tick.new.taps c.loop.invariant.taps n.taps) n.buffers c.in-Err.ensures.stopped
+    (λ e. let f = c.in-Err.ensures.fault in cc)
+
+pub loop-preserved : goal.loop-preserved
+loop-preserved g c =
+    let n = c.tick.ensures in
+    subst (λ k. Running g.O.Sink.held g.O.Sink.name g.O.Sink.room g.O.Sink.faults g.T.Taps.stands g.T.Taps.buffers g.T.Taps.same k c.args.self.now (record { engine = c.tick.new.self; taps = c.tick.new.taps })) (sym (add-one c.loop.counter))
+    (running_more g.O.Sink.held g.O.Sink.name g.O.Sink.room g.O.Sink.faults g.T.Taps.stands g.T.Taps.buffers g.T.Taps.same c.loop.counter c.args.self.now c.loop.self c.tick.new.self c.tick.new.taps
+    c.loop.invariant (record { setting = n.setting; clock = n.clock; outs = n.outs; kept = n.kept; none_fell = n.faults }) (record { works = n.works; sinks = n.sinks })
+    (g.met.T.Taps.same_trans c.args.self.now.taps c.loop.self.taps c.tick.new.taps c.loop.invariant.taps n.taps) n.buffers c.in_default.ensures.ticked
+    c.in_default.ensures.room c.in_default.ensures.runs)
+
+pub returns : goal.returns
+returns g c =
+    let is : c.loop.counter ≡ c.args.count = search rules in
+    running_all g.O.Sink.held g.O.Sink.name g.O.Sink.room g.O.Sink.faults g.T.Taps.stands g.T.Taps.buffers g.T.Taps.same c.loop.counter c.args.count c.args.self.now c.loop.self is c.loop.invariant
+
+pub tick-requires-clause-room : goal.tick-requires-clause-room
+tick-requires-clause-room g c =
+    let less = c.loop-test.true in
+    room_one g.O.Sink.room c.loop.self.engine.works c.loop.self.engine.outs.items
+    (c.loop.invariant.rooms 1 (rooms_fewer g.O.Sink.room c.args.self.now.engine.works c.args.self.now.engine.outs.items (1 + c.loop.counter) c.args.count (omega (arith, less)) c.requires.rooms))
+
+pub tick-requires-clause-few : goal.tick-requires-clause-few
+tick-requires-clause-few g c =
+    let s = c.requires.stands in let m = c.loop.invariant.engine s.ticks s.answers s.stand in
+    let now = m.1.made in let was = s.stand.made in let few = c.requires.few in let less = c.loop-test.true in
+    omega (arith, now, was, few, less)

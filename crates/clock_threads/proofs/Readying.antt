@@ -1,0 +1,238 @@
+-- Tasks that are ready, and what a run of them tells of their engines.
+use Rattle.std.proofs.Common.{◌≡◌, ◌≢◌, ◌⊎◌, ℕ, zero, suc, ◌<◌, ◌≤◌, ◌+◌, Bool, true, None, Some, List, [], ◌∷◌, ◌++◌, length, map, get_or, slice_index_or, sym, refl, ap, ◌∙◌, subst, arith, inl, inr, ⊎_elim, Option, append-nil}
+use Rattle.std.proofs.lemmas.List.{get_or_default}
+use Rattle.liq_base.specs.Pieces.{grown}
+use Rattle.frame_core.specs.Calls.{Call}
+use Rattle.plan_core.specs.declared.plan.Plan.{Plan}
+use Rattle.plan_core.specs.declared.sink.BufferPlan.{BufferPlan}
+use Rattle.buffer_ends.specs.Local.{Answers, LocalBuffer, planned}
+use Rattle.buffer_ends.specs.Ends.{Has, ListsStand, EndsStand}
+use Rattle.buffer_ends.specs.Sides.{Side}
+use Rattle.buffer_ends.proofs.Windows.{stand_planned}
+use Rattle.buffer_ends.specs.declared.thread_taps.ThreadTaps.{ThreadTaps}
+use Rattle.stream_meaning.specs.Instants.{Setting, answered}
+use Rattle.stream_meaning.specs.Sinks.{ticks_bytes}
+use Rattle.stream_meaning.specs.Calls.{joined_upto}
+use Rattle.node_states.specs.Ticks.{IsOutput}
+use Rattle.clock_outputs.specs.Appends.{AreKept, NoneFell}
+use Rattle.clock_engine.specs.Engines.{EngineStands, setting_of}
+use Rattle.clock_engine.specs.Ticks.{HaveTicksRoom}
+use Rattle.clock_engine.specs.declared.engine.ClockEngine.{ClockEngine}
+use Rattle.clock_tasks.specs.declared.task.Task.{Task}
+use Rattle.clock_tasks.specs.Histories.{History}
+use Rattle.clock_tasks.specs.Tasks.{EngineGone, EngineGonePart, IsSameClock, held_of}
+use Rattle.clock_windows.specs.declared.wires.Wire.{Wire}
+use Rattle.clock_windows.specs.Wires.{wire_at, kept}
+use Rattle.clock_windows.specs.Ends.{puts_of as put_ends, takes_of as take_ends, SameButEnds}
+use Rattle.run_records.specs.Records.{Run, Window, start, answers_of as answers_in_run}
+use Rattle.clock_infer.specs.declared.clock_map.ClockMap.{ClockMap}
+use Rattle.frame_core.specs.declared.cell.Cell.{Cell}
+use Rattle.clock_windows.specs.Records.{windows_upto, IsWired, ClockGoing, JoinGoing, Going, SameEngines}
+use Rattle.clock_windows.specs.Runs.{IsReady, DoneAt, RunDone, PartAt, RunPart}
+use Rattle.clock_windows.specs.Lawful.{IsWiredRun, answers_of, meant}
+use Rattle.clock_windows.proofs.Starts.{start_zero, start_up}
+use Rattle.clock_windows.proofs.Ending.{with_one}
+use Rattle.clock_windows.proofs.Lists.{going_runs}
+use Rattle.clock_windows.proofs.Finishing.{done_windows, done_wired, done_bytes, done_stands}
+use Rattle.clock_windows.proofs.Recording.{run_of, run_answers, run_is_lawful}
+use Rattle.clock_threads.specs.Logs.{AreNoLogs}
+use Rattle.clock_threads.specs.Starts.{AreJoined, AreBare}
+use Rattle.clock_threads.specs.Tasks.{engine_of, AreTasks, IsBare}
+use Rattle.clock_threads.specs.Runs.{IsFresh, HasMadeAll, HasRunPart}
+use Rattle.clock_threads.specs.Threads.{AreLaid, AreFresh, AreSomeFresh, HasRunTasks}
+use Rattle.clock_threads.proofs.Making.{map_get, map_long}
+
+nothing : History
+nothing = record { calls = λ t. []; accepted = λ t b. true }
+
+grown_none : (held : Option (List ℕ)) → held ≡ grown [] held
+grown_none None = refl
+grown_none (Some bytes) = ap Some (sym (append-nil bytes))
+
+-- an engine is as it was
+same_not : {S : Type 0} (name : S → Option (List ℕ)) (faults : S → ℕ) (e : ClockEngine S) → IsSameClock name faults e e
+same_not name faults e = record {
+  setting = refl;
+  clock = refl;
+  outs = refl;
+  kept = record { each = λ k before after was is. (let e' = some_one was is in (ap name e', (let n = ap faults e' in omega (arith, n)))) };
+  none_fell = record { each = λ k d. omega arith };
+}
+  where
+    some_one : {A : Type 0} {o : Option A} {x y : A} → o ≡ Some x → o ≡ Some y → y ≡ x
+    some_one p q = cc
+
+-- an engine that has made no tick
+gone_none : {S : Type 0} (held : S → Option (List ℕ)) (e : ClockEngine S) → EngineStands e.works 0 (λ b. []) → EngineGone held 0 nothing (held_of held e) e
+gone_none held e st = record { stand = st; ticks = λ i less rest. absurd (omega (arith, less)); holds = λ rest sink node out. grown_none (held_of held e sink) }
+
+-- no tick was made
+pub part_none : {S : Type 0} (held : S → Option (List ℕ)) (room : S → Option ℕ) (plan : Plan) (wires : List Wire) (W N : ℕ) (engines : List (ClockEngine S)) → AreSomeFresh room plan wires N engines → HasRunPart held wires W N engines engines
+part_none held room plan wires W N engines fresh = record {
+  many = refl;
+  closed = 0;
+  histories = λ k. nothing;
+  clocks = λ k d h. (0, (let z = start_zero W N in omega (arith, z)), omega arith, inl (gone_none held (slice_index_or engines k d) (fresh.are.engines_are.each k d h).stands));
+  runs = λ b low. ([], refl);
+}
+
+map_same : {S R : Type 0} (old new : List (Task S (ThreadTaps R))) → length new ≡ length old → ((k : ℕ) (d : Task S (ThreadTaps R)) → k < length old → (slice_index_or new k d).engine ≡ (slice_index_or old k d).engine)
+    → map (engine_of {S = S} {R = R}) new ≡ map engine_of old
+map_same [] [] many each = refl
+map_same [] (y ∷ new) many each = absurd (omega (arith, many))
+map_same (x ∷ old) [] many each = absurd (omega (arith, many))
+map_same (x ∷ old) (y ∷ new) many each =
+    (λ i. each 0 x (omega arith) i ∷ map_same old new (omega (arith, many)) (λ k d h. each (suc k) d (omega (arith, h))) i)
+
+pub engines_same : {S R : Type 0} (old new : List (Task S (ThreadTaps R))) → SameEngines old new → map (engine_of {S = S} {R = R}) new ≡ map engine_of old
+engines_same old new same = map_same old new same.many same.each
+
+module _ {S R : Type 0} (held name : S → Option (List ℕ)) (room : S → Option ℕ) (faults : S → ℕ) (plan : Plan) (wires : List Wire) (W N : ℕ) (bare joined : List (Task S (ThreadTaps R)))
+    (some : 0 < length bare) (are : AreLaid plan (length bare) wires) (tasks : AreTasks plan (map engine_of bare) bare) (setting : Setting) (map_of : ClockMap) (fresh : AreFresh room plan wires N setting map_of (map engine_of bare)) (j : AreJoined wires 0 bare joined) where
+  in_bare : (k : ℕ) → k < length joined → k < length bare
+  in_bare k h = let m = j.many in omega (arith, h, m)
+
+  engine_is : (k : ℕ) (d : Task S (ThreadTaps R)) → k < length bare → (slice_index_or joined k d).engine ≡ (slice_index_or bare k d).engine
+  engine_is k d h = (j.same k d h).engine
+
+  fresh_at : (k : ℕ) (d : Task S (ThreadTaps R)) → k < length bare → IsFresh room setting N k (slice_index_or joined k d).engine
+  fresh_at k d h = subst (IsFresh room setting N k) (map_get engine_of bare k d d.engine h ∙ sym (engine_is k d h)) (fresh.engines_are.each k d.engine (let n = map_long (engine_of {S = S} {R = R}) bare in omega (arith, h, n)))
+
+  local_is : (k : ℕ) (d : Task S (ThreadTaps R)) → k < length bare → (slice_index_or joined k d).taps.local ≡ map planned plan.buffers
+  local_is k d h = (j.same k d h).local ∙ (tasks.each k d h).local
+
+  no_plan : BufferPlan
+  no_plan = record { pre = 0; capacity = 0 }
+
+  places_joined : (b : ℕ) → b < length wires → (wire_at wires b).from < length joined × ((wire_at wires b).to < length joined)
+  places_joined b low = (let p = are.places b low in let m = j.many in (omega (arith, p.0, m), omega (arith, p.1, m)))
+
+  -- each list is empty
+  list_is : (d : Task S (ThreadTaps R)) (k b : ℕ) (e : LocalBuffer) → k < length joined → b < length wires → slice_index_or (slice_index_or joined k d).taps.local b e ≡ planned (slice_index_or plan.buffers b no_plan)
+  list_is d k b e h low =
+      let in_plan : b < length plan.buffers = (let n = are.many in omega (arith, low, n)) in
+      ap (λ (bs : List LocalBuffer). slice_index_or bs b e) (local_is k d (in_bare k h)) ∙ map_get planned plan.buffers b no_plan e in_plan
+
+  clock_ready : (d : Task S (ThreadTaps R)) (k : ℕ) → k < length joined → ClockGoing held name room faults wires N (start W N 0) k nothing (slice_index_or joined k d) (slice_index_or joined k d)
+  clock_ready d k h =
+      let x = slice_index_or joined k d in let f = fresh_at k d (in_bare k h) in let zero_is = start_zero W N in let l = local_is k d (in_bare k h) in
+      record {
+        gone = subst (λ t. EngineGone held t nothing (held_of held x.engine) x.engine) (sym zero_is) (gone_none held x.engine f.stands);
+        whole = f.whole;
+        same = same_not name faults x.engine;
+        rooms = λ n is. subst (λ m. HaveTicksRoom room x.engine.works x.engine.outs.items m) (let e : N ≡ n = omega (arith, is, zero_is) in e) f.rooms;
+        wired = record {
+          puts = λ p e low. (let g = j.puts k p d e (in_bare k h) low in (g.1, g.2, g.3));
+          takes = λ p e low. (let g = j.takes k p d e (in_bare k h) low in (g.1, g.2, g.3));
+        };
+        stand = subst (λ t. EndsStand (put_ends x) (take_ends x) x.taps.local (kept wires k (joined_upto nothing.calls t))) (sym zero_is) (
+          (λ p e low. (j.puts k p d e (in_bare k h) low).4),
+          (λ p e low. (j.takes k p d e (in_bare k h) low).4),
+          subst (λ bs. ListsStand (λ b. Has (put_ends x) b ⊎ Has (take_ends x) b) bs []) (sym l) (λ b e low away. stand_planned plan.buffers b e low (λ n. n)),
+        );
+        lists = ap length l ∙ map_long planned plan.buffers ∙ sym are.many;
+        capacities = λ b e low. ap (λ (z : LocalBuffer). z.capacity) (list_is d k b e h low) ∙ are.capacities b no_plan low;
+      }
+
+  pub ready : (logs : List (List Answers)) → AreNoLogs (length wires) logs → IsReady held name room faults wires W N joined logs
+  ready logs none = record {
+    some = (let m = j.many in omega (arith, some, m));
+    few = are.few;
+    places = places_joined;
+    buffers = λ k d h. (let f = fresh_at k d (in_bare k h) in
+        ap (λ (s : Setting). length s.plan.buffers) f.over ∙ ap (λ (p : Plan). length p.buffers) fresh.engines_are.plan_is ∙ sym are.many);
+    begun = λ d. record {
+      histories = λ k. nothing;
+      many = refl;
+      clocks = clock_ready d;
+      joins = λ b low apart. record { chunks = []; run = refl; opens = j.opens b (omega arith) low apart };
+      logged = record {
+        many = none.are_many;
+        joined = λ b e low apart. none.each b e (let n = none.are_many in omega (arith, low, n));
+        local = λ b e low is. (let l = list_is d (wire_at wires b).from b e (places_joined b low).0 low in
+            record { closed_are = ap (λ (z : LocalBuffer). z.closed) l; opens = ap (λ (z : LocalBuffer). z.current) l });
+      };
+    };
+  }
+
+  long : length joined ≡ map_of.running
+  long = j.many ∙ sym (map_long (engine_of {S = S} {R = R}) bare) ∙ fresh.engines_are.all
+
+  shared : (d : Task S (ThreadTaps R)) (k : ℕ) → k < length joined → (setting_of (slice_index_or joined k d).engine.works ≡ setting) × ((slice_index_or joined k d).engine.works.clock ≡ k)
+  shared d k h = (let f = fresh_at k d (in_bare k h) in (f.over, f.clock))
+
+  module _ (now : List (Task S (ThreadTaps R))) (logs : List (List Answers)) (d : Task S (ThreadTaps R)) (done : DoneAt held name room faults wires W N joined now logs d) (inside : 0 < length joined) where
+    abbrev wins : ℕ → List Window
+    wins = done_windows held name room faults wires W N joined now logs d done setting map_of fresh.engines_are.is fresh.wires_are long inside (shared d) places_joined
+
+    abbrev wired : IsWiredRun (meant setting) wires W N done.windows wins
+    wired = done_wired held name room faults wires W N joined now logs d done setting map_of fresh.engines_are.is fresh.wires_are long inside (shared d) places_joined
+
+    abbrev the_run : Run
+    the_run = run_of setting map_of fresh.engines_are.is wires fresh.wires_are W N done.windows wins wired
+
+    answers_are : answers_in_run the_run ≡ answers_of wins
+    answers_are = run_answers setting map_of fresh.engines_are.is wires fresh.wires_are W N done.windows wins wired
+
+    made_all : (k : ℕ) → k < length joined → HasMadeAll held name faults setting the_run N k (slice_index_or joined k d).engine (slice_index_or now k d).engine
+    made_all k h =
+        let c = done.going.clocks k h in
+        let st = done_stands held name room faults wires W N joined now logs d done setting map_of fresh.engines_are.is fresh.wires_are long inside (shared d) places_joined k h in
+        record {
+          whole = c.whole;
+          same = c.same;
+          answers = st.0;
+          rest = st.1;
+          stands = st.2;
+          are = ap (answered setting) (st.3 ∙ sym answers_are);
+          bytes = λ sink node out.
+              done_bytes held name room faults wires W N joined now logs d done setting map_of fresh.engines_are.is fresh.wires_are long inside (shared d) places_joined k h sink node out
+              ∙ ap (λ (A : ℕ → List (Option (List Cell))). grown (ticks_bytes (answered setting A) node N) (held_of held (slice_index_or joined k d).engine sink)) (sym answers_are);
+        }
+
+    tasks_run : HasRunTasks held name faults wires setting map_of W N (map engine_of bare) now logs
+    tasks_run = record {
+      windows = wins;
+      run = record {
+        many = map_long engine_of now ∙ done.going.many ∙ j.many ∙ sym (map_long engine_of bare);
+        lawful = run_is_lawful setting map_of fresh.engines_are.is wires fresh.wires_are W N done.windows wins wired;
+        engines = λ k e h. (let low : k < length bare = (let n = map_long (engine_of {S = S} {R = R}) bare in omega (arith, h, n)) in let m = j.many in let n = done.going.many in
+            subst (λ (z : ClockEngine S × ClockEngine S). HasMadeAll held name faults setting the_run N k z.0 z.1)
+            (λ i. ((engine_is k d low ∙ sym (map_get engine_of bare k d e low)) i, sym (map_get engine_of now k d e (omega (arith, low, m, n))) i)) (made_all k (omega (arith, low, m))));
+      };
+      one = d;
+      logged = done.going.logged;
+      places = λ b low. (let p = (places_joined b low).0 in let n = done.going.many in omega (arith, p, n));
+      lists = λ k h. (done.going.clocks k (let n = done.going.many in omega (arith, h, n))).lists;
+    }
+
+  pub has_run : (now : List (Task S (ThreadTaps R))) (logs : List (List Answers)) → RunDone held name room faults wires W N joined now logs → HasRunTasks held name faults wires setting map_of W N (map engine_of bare) now logs
+  has_run now logs done = let inside : 0 < length joined = (let m = j.many in omega (arith, some, m)) in with_one joined inside (λ d. tasks_run now logs d (done d) inside)
+
+  -- a run to the end, as far as any run
+  pub part_of_done : (now : List (Task S (ThreadTaps R))) (logs : List (List Answers)) → RunDone held name room faults wires W N joined now logs → RunPart held wires W N joined now
+  part_of_done now logs done d = let at = done d in record {
+    closed = at.windows;
+    histories = at.going.histories;
+    many = at.going.many;
+    clocks = λ k h. (start W N at.windows, omega arith, start_up W N at.windows, inl (at.going.clocks k h).gone);
+    runs = λ b low. going_runs held name room faults wires W N at.windows joined now logs d at.going places_joined b low;
+  }
+
+  pub has_run_part : (now : List (Task S (ThreadTaps R))) → RunPart held wires W N joined now → HasRunPart held wires W N (map engine_of bare) (map engine_of now)
+  has_run_part now part = with_one joined (let m = j.many in omega (arith, some, m)) (λ d.
+      let p = part d in
+      record {
+        many = map_long engine_of now ∙ p.many ∙ j.many ∙ sym (map_long engine_of bare);
+        closed = p.closed;
+        histories = p.histories;
+        clocks = λ k e h. (let low : k < length bare = (let n = map_long (engine_of {S = S} {R = R}) bare in omega (arith, h, n)) in let m = j.many in let n = p.many in
+            let c = p.clocks k (omega (arith, low, m)) in
+            let was : (slice_index_or joined k d).engine ≡ slice_index_or (map engine_of bare) k e = engine_is k d low ∙ sym (map_get engine_of bare k d e low) in
+            let is : (slice_index_or now k d).engine ≡ slice_index_or (map engine_of now) k e = sym (map_get engine_of now k d e (omega (arith, low, m, n))) in
+            (c.0, c.1, c.2, subst (λ (z : ClockEngine S × ClockEngine S). EngineGone held c.0 (p.histories k) (held_of held z.0) z.1 ⊎ EngineGonePart held c.0 (p.histories k) (held_of held z.0) z.1) (λ i. (was i, is i)) c.3));
+        runs = p.runs;
+      })
+
+  pub bare_is : AreBare bare
+  bare_is = record { puts = λ k d h. (tasks.each k d h).puts; takes = λ k d h. (tasks.each k d h).takes }

@@ -1,0 +1,46 @@
+use Rattle.std.proofs.Common.{length, sym, subst}
+use Rattle.plan_core.specs.declared.plan.Plan.{Plan}
+use Rattle.plan_core.specs.Plans.{IsWellFormed}
+use Rattle.clock_threads.specs.Threads.{AreLaid}
+use Rattle.clock_threads.proofs.Readying.{part_none}
+use Rattle.clock_threads.proofs.Wiring.{fresh_is, laid, some_are, some_wires, wires_are}
+use Rattle.clock_threads.proofs.run.run_threads.Goals as goal
+
+pub wires_of-requires : goal.wires_of-requires
+wires_of-requires g c = subst (λ (p : Plan). IsWellFormed p) c.requires.engines.are.plan_is c.requires.engines.are.is.plan
+
+pub run_wired-end-requires-clause-wires : goal.run_wired-end-requires-clause-wires
+run_wired-end-requires-clause-wires g c =
+    let are = c.requires.engines.are in
+    subst (λ n. AreLaid c.args.plan.now n c.in-Ok.wires.items) (sym are.all)
+    (laid c.args.plan.now c.args.clocks.now c.requires.engines.setting are.is are.plan_is c.in-Ok.wires.items c.in-Ok.ensures.few c.in-Ok.ensures.wires)
+
+pub run_wired-end-requires-clause-fresh : goal.run_wired-end-requires-clause-fresh
+run_wired-end-requires-clause-fresh g c = record {
+  setting = c.requires.engines.setting;
+  clocks = c.args.clocks.now;
+  are = fresh_is g.O.Sink.room c.args.plan.now c.args.clocks.now c.args.ticks c.requires.engines.setting c.args.engines.items c.in-Ok.wires.items c.requires.engines.are c.in-Ok.ensures.wires;
+}
+
+pub returns-clause-done : goal.returns-clause-done
+returns-clause-done g c = λ e setting are.
+    c.run_wired-end.ensures.done e setting c.args.clocks.now
+    (fresh_is g.O.Sink.room c.args.plan.now c.args.clocks.now c.args.ticks setting c.args.engines.items c.in-Ok.wires.items are c.in-Ok.ensures.wires)
+
+pub returns-clause-part : goal.returns-clause-part
+returns-clause-part g c = λ e setting are. record {
+  wires = c.in-Ok.wires.items;
+  are = wires_are c.args.plan.now c.args.clocks.now setting are.is are.plan_is c.in-Ok.wires.items c.in-Ok.ensures.wires;
+  part = c.run_wired-end.ensures.part e;
+}
+
+pub returns-in_default-clause-part : goal.returns-in_default-clause-part
+returns-in_default-clause-part g c = λ e setting are. record {
+  wires = some_wires c.args.plan.now c.args.clocks.now setting are.is are.plan_is;
+  are = some_are c.args.plan.now c.args.clocks.now setting are.is are.plan_is;
+  part = part_none g.O.Sink.held g.O.Sink.room c.args.plan.now (some_wires c.args.plan.now c.args.clocks.now setting are.is are.plan_is) c.args.window c.args.ticks c.args.engines.items (record {
+    setting = setting;
+    clocks = c.args.clocks.now;
+    are = record { engines_are = are; wires_are = some_are c.args.plan.now c.args.clocks.now setting are.is are.plan_is };
+  });
+}

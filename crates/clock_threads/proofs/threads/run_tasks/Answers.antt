@@ -1,0 +1,34 @@
+use Rattle.std.proofs.Common.{map, sym, subst}
+use Rattle.clock_threads.specs.Tasks.{engine_of}
+use Rattle.clock_threads.specs.Runs.{HasRunPart}
+use Rattle.clock_threads.proofs.Readying.{ready, has_run, has_run_part, part_of_done, part_none, engines_same, bare_is}
+use Rattle.clock_threads.proofs.threads.run_tasks.Goals as goal
+
+pub run_windows-requires-clause-ready : goal.run_windows-requires-clause-ready
+run_windows-requires-clause-ready g c = λ κs lives.
+    ready g.O.Sink.held g.O.Sink.name g.O.Sink.room g.O.Sink.faults c.args.plan.now c.args.wires.now c.args.window c.args.ticks c.args.tasks.now c.join_all.new.tasks
+    c.requires.some c.requires.wires c.requires.tasks c.requires.fresh.setting c.requires.fresh.clocks c.requires.fresh.are c.in_default.ensures.joined c.args.logs.now c.requires.logs
+
+pub returns-clause-done : goal.returns-clause-done
+returns-clause-done g c = λ e setting clocks fresh.
+    has_run g.O.Sink.held g.O.Sink.name g.O.Sink.room g.O.Sink.faults c.args.plan.now c.args.wires.now c.args.window c.args.ticks c.args.tasks.now c.join_all.new.tasks
+    c.requires.some c.requires.wires c.requires.tasks setting clocks fresh c.in_default.ensures.joined c.run_windows.new.tasks c.run_windows.new.logs (c.run_windows.ensures.done e)
+
+pub returns-clause-all : goal.returns-clause-all
+returns-clause-all g c = λ e.
+    has_run_part g.O.Sink.held g.O.Sink.name g.O.Sink.room g.O.Sink.faults c.args.plan.now c.args.wires.now c.args.window c.args.ticks c.args.tasks.now c.join_all.new.tasks
+    c.requires.some c.requires.wires c.requires.tasks c.requires.fresh.setting c.requires.fresh.clocks c.requires.fresh.are c.in_default.ensures.joined c.run_windows.new.tasks
+    (part_of_done g.O.Sink.held g.O.Sink.name g.O.Sink.room g.O.Sink.faults c.args.plan.now c.args.wires.now c.args.window c.args.ticks c.args.tasks.now c.join_all.new.tasks
+    c.requires.some c.requires.wires c.requires.tasks c.requires.fresh.setting c.requires.fresh.clocks c.requires.fresh.are c.in_default.ensures.joined c.run_windows.new.tasks c.run_windows.new.logs (c.run_windows.ensures.done e))
+
+pub returns-clause-part : goal.returns-clause-part
+returns-clause-part g c = λ e.
+    has_run_part g.O.Sink.held g.O.Sink.name g.O.Sink.room g.O.Sink.faults c.args.plan.now c.args.wires.now c.args.window c.args.ticks c.args.tasks.now c.join_all.new.tasks
+    c.requires.some c.requires.wires c.requires.tasks c.requires.fresh.setting c.requires.fresh.clocks c.requires.fresh.are c.in_default.ensures.joined c.run_windows.new.tasks (c.run_windows.ensures.part e)
+
+pub returns-in-Err-clause-part : goal.returns-in-Err-clause-part
+returns-in-Err-clause-part g c = λ e.
+    let old = map (engine_of {S = g.row.O.Denot} {R = g.row.R.Denot}) c.args.tasks.now in
+    subst (HasRunPart g.O.Sink.held c.args.wires.now c.args.window c.args.ticks old)
+    (sym (engines_same c.args.tasks.now c.join_all.new.tasks c.join_all.ensures.engines))
+    (part_none g.O.Sink.held g.O.Sink.room c.args.plan.now c.args.wires.now c.args.window c.args.ticks old c.requires.fresh)

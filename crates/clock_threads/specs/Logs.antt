@@ -1,0 +1,45 @@
+-- The logs of a run, and their counts.
+use Rattle.std.specs.Prelude.{◌≡◌, ◌≢◌, ◌<◌, ◌+◌, ℕ, List, [], length, flat_map, slice_index_or}
+use Rattle.buffer_ends.specs.Local.{Answers, LocalBuffer, counts_of, puts_of, takes_of_window}
+use Rattle.buffer_ends.specs.declared.counts.Counts.{Counts}
+use Rattle.buffer_ends.specs.declared.thread_taps.ThreadTaps.{ThreadTaps}
+use Rattle.clock_tasks.specs.declared.task.Task.{Task}
+use Rattle.clock_windows.specs.declared.wires.Wire.{Wire}
+use Rattle.clock_windows.specs.Wires.{wire_at}
+
+-- two counts as one
+abbrev pub more_counts : Counts → Counts → Counts
+more_counts one other = record {
+  accepted = one.accepted + other.accepted;
+  full = one.full + other.full;
+  got = one.got + other.got;
+  empty = one.empty + other.empty;
+}
+
+-- all answers of a log
+abbrev pub answers_of_log : List Answers → Answers
+answers_of_log log = record { puts = flat_map puts_of log; takes = flat_map takes_of_window log }
+
+abbrev pub counts_in : List Answers → Counts
+counts_in log = counts_of (answers_of_log log)
+
+-- so many logs of no window
+pub record AreNoLogs (many : ℕ) (logs : List (List Answers)) : Type 0 where
+  pub are_many : length logs ≡ many
+  pub each : (b : ℕ) (d : List Answers) → b < length logs → slice_index_or logs b d ≡ []
+
+-- the logs of the buffers with both ends in this clock are those of its lists, and the others are as they were
+pub record TookLogs (wires : List Wire) (clock : ℕ) (lists logs after : List (List Answers)) : Type 0 where
+  pub many : length after ≡ length logs
+  pub here : (b : ℕ) (d : List Answers) → b < length wires → b < length lists → b < length logs → (wire_at wires b).from ≡ (wire_at wires b).to → (wire_at wires b).from ≡ clock
+      → slice_index_or after b d ≡ slice_index_or lists b d
+  pub joined : (b : ℕ) (d : List Answers) → (wire_at wires b).from ≢ (wire_at wires b).to → slice_index_or after b d ≡ slice_index_or logs b d
+  pub others : (b : ℕ) (d : List Answers) → (wire_at wires b).from ≢ clock → slice_index_or after b d ≡ slice_index_or logs b d
+
+-- the logs of all buffers with both ends in one of these clocks are those of its lists, and the others are as they were
+pub record AreCollected {S R : Type 0} (wires : List Wire) (tasks : List (Task S (ThreadTaps R))) (logs after : List (List Answers)) : Type 0 where
+  pub many : length after ≡ length logs
+  pub local : (b : ℕ) (d : List Answers) (e : Task S (ThreadTaps R)) (f : LocalBuffer) → b < length wires → b < length logs → (wire_at wires b).from ≡ (wire_at wires b).to → (wire_at wires b).from < length tasks
+      → b < length (slice_index_or tasks (wire_at wires b).from e).taps.local
+      → slice_index_or after b d ≡ (slice_index_or (slice_index_or tasks (wire_at wires b).from e).taps.local b f).closed
+  pub joined : (b : ℕ) (d : List Answers) → (wire_at wires b).from ≢ (wire_at wires b).to → slice_index_or after b d ≡ slice_index_or logs b d

@@ -1,0 +1,90 @@
+-- Runs of the engines of all clocks by threads, in windows of ticks.
+use Rattle.std.specs.Prelude.{◌≡◌, ◌⊎◌, ◌<◌, ◌≤◌, ◌++◌, ℕ, suc, Option, None, List, [], length, map, slice_index_or}
+use Rattle.liq_base.specs.Pieces.{grown}
+use Rattle.plan_core.specs.declared.plan.Plan.{Plan}
+use Rattle.clock_infer.specs.declared.clock_map.ClockMap.{ClockMap}
+use Rattle.frame_core.specs.declared.cell.Cell.{Cell}
+use Rattle.frame_core.specs.Legal.{IsRun}
+use Rattle.op_leaf.specs.Readers.{Answer}
+use Rattle.buffer_ends.specs.Local.{Answers}
+use Rattle.buffer_ends.specs.declared.counts.Counts.{Counts}
+use Rattle.stream_meaning.specs.Instants.{Setting}
+use Rattle.stream_meaning.specs.Settings.{IsSetting}
+use Rattle.stream_meaning.specs.Sinks.{ticks_bytes}
+use Rattle.node_states.specs.Ticks.{IsOutput, with_rest}
+use Rattle.run_records.specs.Records.{IsLawful, Run, setting_in, start}
+use Rattle.clock_engine.specs.Engines.{EngineStands, setting_of}
+use Rattle.clock_engine.specs.Ticks.{HaveTicksRoom}
+use Rattle.clock_engine.specs.declared.engine.ClockEngine.{ClockEngine}
+use Rattle.clock_tasks.specs.Histories.{History}
+use Rattle.clock_tasks.specs.Tasks.{EngineGone, EngineGonePart, IsSameClock, IsWhole, held_of}
+use Rattle.clock_windows.specs.declared.wires.Wire.{Wire}
+use Rattle.clock_windows.specs.Wires.{told, wire_at}
+use Rattle.clock_windows.specs.Records.{windows_upto}
+use Rattle.clock_windows.specs.Lawful.{AreWires}
+use Rattle.clock_threads.specs.Logs.{counts_in}
+
+-- the engine of clock k, which has made no tick, with room for N
+pub record IsFresh {S : Type 0} (room : S → Option ℕ) (setting : Setting) (N k : ℕ) (engine : ClockEngine S) : Type 0 where
+  pub whole : IsWhole engine
+  pub over : setting_of engine.works ≡ setting
+  pub clock : engine.works.clock ≡ k
+  pub stands : EngineStands engine.works 0 (λ buffer. [])
+  pub rooms : HaveTicksRoom room engine.works engine.outs.items N
+
+-- the engines of all running clocks, in their order, over one setting of this plan
+pub record AreEngines {S : Type 0} (room : S → Option ℕ) (plan : Plan) (clocks : ClockMap) (N : ℕ) (setting : Setting) (engines : List (ClockEngine S)) : Type 0 where
+  pub is : IsSetting setting clocks
+  pub plan_is : setting.plan ≡ plan
+  pub all : length engines ≡ clocks.running
+  pub each : (k : ℕ) (d : ClockEngine S) → k < length engines → IsFresh room setting N k (slice_index_or engines k d)
+
+pub record AreAlike {S : Type 0} (room : S → Option ℕ) (plan : Plan) (clocks : ClockMap) (N : ℕ) (engines : List (ClockEngine S)) : Type 0 where
+  pub setting : Setting
+  pub are : AreEngines room plan clocks N setting engines
+
+-- An engine has made all its ticks of a run: it stands for them, and for what its takes got in the run; and each output has grown by
+-- what its node means then.
+pub record HasMadeAll {S : Type 0} (held name : S → Option (List ℕ)) (faults : S → ℕ) (setting : Setting) (run : Run) (N k : ℕ) (old new : ClockEngine S) : Type 0 where
+  pub whole : IsWhole new
+  pub same : IsSameClock name faults old new
+  pub answers : ℕ → List Answer
+  pub rest : ℕ → List Answer
+  pub stands : EngineStands new.works N answers
+  pub are : with_rest setting answers rest ≡ setting_in setting run
+  pub bytes : (sink node : ℕ) → IsOutput setting k sink node → held_of held new sink ≡ grown (ticks_bytes (setting_in setting run) node N) (held_of held old sink)
+
+-- All engines have made their ticks, in windows of W, and this is the record of their calls: it is lawful.
+pub record HasRun {S : Type 0} (held name : S → Option (List ℕ)) (faults : S → ℕ) (setting : Setting) (clocks : ClockMap) (W N : ℕ) (run : Run) (old new : List (ClockEngine S)) : Type 0 where
+  pub many : length new ≡ length old
+  pub lawful : IsLawful setting clocks.running W N run
+  pub engines : (k : ℕ) (d : ClockEngine S) → k < length old → HasMadeAll held name faults setting run N k (slice_index_or old k d) (slice_index_or new k d)
+
+-- each buffer's log has the answers of its windows, and its counts are the numbers of these
+pub record AreTold (run : Run) (counts : List Counts) (logs : List (List Answers)) : Type 0 where
+  pub logs_are : logs ≡ map (map told) run.buffers
+  pub counts_are : counts ≡ map counts_in logs
+
+-- a run of all ticks, with its counts and logs
+pub record HasRunAll {S : Type 0} (held name : S → Option (List ℕ)) (faults : S → ℕ) (setting : Setting) (clocks : ClockMap) (W N : ℕ) (old new : List (ClockEngine S))
+    (counts : List Counts) (logs : List (List Answers)) : Type 0 where
+  pub run : Run
+  pub has_run : HasRun held name faults setting clocks W N run old new
+  pub tells : AreTold run counts logs
+
+-- The run broke off: no clock is past the window in which the first one stopped, each output holds a front of its bytes for what its
+-- clock's takes got, and the windows that were closed until then are one history of each buffer.
+pub record HasRunPart {S : Type 0} (held : S → Option (List ℕ)) (wires : List Wire) (W N : ℕ) (old new : List (ClockEngine S)) : Type 0 where
+  pub many : length new ≡ length old
+  pub closed : ℕ
+  pub histories : ℕ → History
+  pub clocks : (k : ℕ) (d : ClockEngine S) → k < length old → (t : ℕ) × (start W N closed ≤ t) × (t ≤ start W N (suc closed))
+      × (EngineGone held t (histories k) (held_of held (slice_index_or old k d)) (slice_index_or new k d)
+      ⊎ EngineGonePart held t (histories k) (held_of held (slice_index_or old k d)) (slice_index_or new k d))
+  pub runs : (b : ℕ) → b < length wires → (chunks : List (List Cell)) × IsRun (wire_at wires b).capacity [] (windows_upto (wire_at wires b) histories b W N closed) chunks
+
+-- the same, by the wires of this setting's buffers
+pub record HasRunSome {S : Type 0} (held : S → Option (List ℕ)) (setting : Setting) (clocks : ClockMap) (W N : ℕ) (old new : List (ClockEngine S)) : Type 0 where
+  pub wires : List Wire
+  pub are : AreWires setting clocks.running wires
+  pub part : HasRunPart held wires W N old new

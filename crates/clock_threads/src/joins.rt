@@ -1,0 +1,76 @@
+// The ends are handed out to the clocks.
+ghost use Rattle.std.specs.Prelude.{◌≡◌, ◌≢◌, ◌<◌, ◌^◌, ℕ, length, slice_index_or, OnOk, OnErr};
+ghost use Rattle.clock_windows.specs.Wires.{wire_at};
+ghost use Rattle.clock_windows.specs.Records.{SameEngines};
+ghost use Rattle.clock_threads.specs.Starts.{AreQueues, AreBare, AreJoined, PutAdded, TakeAdded, BothAdded};
+
+use buffer_ends::{PutEnd, TakeEnd, ThreadTaps};
+use buffer_queue::{BufferQueue, PutPass, TakePass};
+use liq_base::Memory;
+use clock_windows::Wire;
+use std::alloc::Global;
+use clock_tasks::Task;
+
+fn add_put<'q, O, R>(task: &mut Task<'_, O, ThreadTaps<'q, R>>, end: PutEnd<'q>) -> Result<(), Memory>
+    requires { (k : ℕ) (d : _) → k < length task.old.taps.puts.items → (slice_index_or task.old.taps.puts.items k d).buffer ≢ end.buffer }
+    ensures added { OnOk result (PutAdded task.old task.new end.entry) }
+    ensures engine { task.new.engine ≡ task.old.engine }
+{
+    task.taps.add_put(end)
+}
+
+fn add_take<'q, O, R>(task: &mut Task<'_, O, ThreadTaps<'q, R>>, end: TakeEnd<'q>) -> Result<(), Memory>
+    requires { (k : ℕ) (d : _) → k < length task.old.taps.takes.items → (slice_index_or task.old.taps.takes.items k d).buffer ≢ end.buffer }
+    ensures added { OnOk result (TakeAdded task.old task.new end.entry) }
+    ensures engine { task.new.engine ≡ task.old.engine }
+{
+    task.taps.add_take(end)
+}
+
+// Hands both ends of a buffer to two clocks.
+fn join_one<'q, O, R>(
+    tasks: &mut [Task<'_, O, ThreadTaps<'q, R>>],
+    from: usize,
+    to: usize,
+    put: PutEnd<'q>,
+    take: TakeEnd<'q>,
+) -> Result<(), Memory>
+    requires places { (from < length tasks.old) × (to < length tasks.old) × (from ≢ to) }
+    requires put_free { (d : _) (k : ℕ) (e : _) → k < length (slice_index_or tasks.old from d).taps.puts.items → (slice_index_or (slice_index_or tasks.old from d).taps.puts.items k e).buffer ≢ put.buffer }
+    requires take_free { (d : _) (k : ℕ) (e : _) → k < length (slice_index_or tasks.old to d).taps.takes.items → (slice_index_or (slice_index_or tasks.old to d).taps.takes.items k e).buffer ≢ take.buffer }
+    ensures added { OnOk result (BothAdded from to put.entry take.entry tasks.old tasks.new) }
+    ensures engines { SameEngines tasks.old tasks.new }
+{
+    add_put(&mut tasks[from], put)?;
+    add_take(&mut tasks[to], take)?;
+    Ok(())
+}
+
+// Hands both ends of each buffer that joins two clocks to these.
+pub(crate) fn join_all<'q, O, R>(
+    wires: &[Wire],
+    queues: &'q Vec<BufferQueue>,
+    passes: Vec<(PutPass, TakePass)>,
+    tasks: &mut [Task<'_, O, ThreadTaps<'q, R>>],
+) -> Result<(), Memory>
+    requires queues { AreQueues wires.now (length wires.now) queues.now.items passes.items }
+    requires bare { AreBare tasks.old }
+    requires places { (b : ℕ) → b < length wires.now → (wire_at wires.now b).from < length tasks.old × ((wire_at wires.now b).to < length tasks.old) }
+    requires few { length wires.now < 2 ^ 32 }
+    ensures joined { OnOk result (AreJoined wires.now 0 tasks.old tasks.new) }
+    ensures engines { SameEngines tasks.old tasks.new }
+{
+    let mut passes = passes;
+    while let Some((put, take)) = passes.pop() {
+        let b = passes.len();
+        let wire = wires[b];
+        if wire.from == wire.to {
+            continue;
+        }
+        let queue = &queues[b];
+        let put = PutEnd::new(b as u32, queue, put);
+        let take = TakeEnd::new(b as u32, queue, take);
+        join_one(tasks, wire.from as usize, wire.to as usize, put, take)?;
+    }
+    Ok(())
+}

@@ -1,0 +1,57 @@
+// The logs of the buffers.
+ghost use Rattle.std.specs.Prelude.{◌≡◌, IfOk};
+ghost use Rattle.clock_threads.specs.Logs.{AreNoLogs, TookLogs};
+
+use buffer_ends::BufferLog;
+use clock_windows::Wire;
+use liq_base::Memory;
+use std::alloc::Global;
+use std::mem;
+
+// So many logs of no window.
+pub(crate) fn no_logs(alloc: Global, count: usize) -> Result<Vec<BufferLog>, Memory>
+    ensures { IfOk result (λ logs. AreNoLogs count logs.items) }
+{
+    let mut logs = Vec::with_capacity(alloc, count)?;
+    for _ in 0..count {
+        logs.push(BufferLog {
+            windows: Vec::new(alloc),
+        })?;
+    }
+    Ok(logs)
+}
+
+// Puts the logs of the lists of a clock where the buffers with both ends in it have theirs.
+pub(crate) fn take_logs(
+    wires: &[Wire],
+    clock: usize,
+    lists: Vec<BufferLog>,
+    logs: &mut [BufferLog],
+)
+    ensures { TookLogs wires.now clock lists.items logs.old logs.new }
+{
+    let mut lists = lists;
+    for b in 0..wires.len() {
+        let wire = wires[b];
+        if wire.from != wire.to {
+            continue;
+        }
+        if wire.from as usize != clock {
+            continue;
+        }
+        if b >= lists.len() {
+            continue;
+        }
+        if b >= logs.len() {
+            continue;
+        }
+        exchange(&mut logs[b], &mut lists[b]);
+    }
+}
+
+// Exchanges a buffer's log for another.
+fn exchange(log: &mut BufferLog, other: &mut BufferLog)
+    ensures { log.new ≡ other.old }
+{
+    mem::swap(log, other);
+}

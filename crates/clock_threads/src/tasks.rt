@@ -1,0 +1,75 @@
+// Engines into tasks, and out of them.
+ghost use Rattle.std.specs.Prelude.{◌≡◌, ◌≤◌, ◌+◌, ◌++◌, ℕ, [], length, map, vec_capacity, OnOk, IfOk, OnErr};
+ghost use Rattle.plan_core.specs.declared.plan.Plan.{Plan as ThePlan};
+ghost use Rattle.clock_threads.specs.Logs.{AreCollected};
+ghost use Rattle.clock_threads.specs.Tasks.{AreLocals, AreTasks, engine_of};
+
+use crate::logs::take_logs;
+use buffer_ends::{BufferLog, LocalTaps, ThreadTaps};
+use clock_engine::ClockEngine;
+use clock_tasks::Task;
+use clock_windows::Wire;
+use liq_base::Memory;
+use plan_core::Plan;
+use std::alloc::Global;
+
+// The lists of each clock.
+fn locals_of(alloc: Global, plan: &Plan, count: usize) -> Result<Vec<LocalTaps>, Memory>
+    ensures { IfOk result (λ locals. AreLocals plan.now count locals.items) }
+{
+    let mut locals = Vec::new(alloc);
+    for _ in 0..count {
+        locals.push(LocalTaps::new(alloc, plan)?)?;
+    }
+    Ok(locals)
+}
+
+// A task for each engine. Where memory is refused the engines stay.
+pub(crate) fn tasks_of<'a, 'q, O, R>(
+    rt: &'q R,
+    alloc: Global,
+    plan: &Plan,
+    engines: &mut Vec<ClockEngine<'a, O>>,
+) -> Result<Vec<Task<'a, O, ThreadTaps<'q, R>>>, Memory>
+    ensures tasks { IfOk result (λ tasks. AreTasks plan.now engines.old.items tasks.items) }
+    ensures room { OnOk result ((engines.new.items ≡ []) × (length engines.old.items ≤ vec_capacity engines.new)) }
+    ensures kept { OnErr result (engines.new.items ≡ engines.old.items) }
+{
+    let count = engines.len();
+    let mut locals = locals_of(alloc, plan, count)?;
+    let mut tasks = Vec::with_capacity(alloc, count)?;
+    for _ in 0..count {
+        let engine = engines.remove(0);
+        let local = locals.remove(0);
+        tasks.push_reserved(Task {
+            engine,
+            taps: ThreadTaps::new(rt, local, Vec::new(alloc), Vec::new(alloc)),
+        });
+    }
+    Ok(tasks)
+}
+
+// The engines come back, in the same order, and the logs of the clocks' own buffers with them.
+pub(crate) fn engines_of<'a, O, R>(
+    wires: &[Wire],
+    tasks: Vec<Task<'a, O, ThreadTaps<'_, R>>>,
+    logs: &mut [BufferLog],
+    engines: &mut Vec<ClockEngine<'a, O>>,
+)
+    requires none { engines.old.items ≡ [] }
+    requires room { length tasks.items ≤ vec_capacity engines.old }
+    ensures engines { engines.new.items ≡ map engine_of tasks.entry.items }
+    ensures logs { AreCollected wires.now tasks.entry.items logs.old logs.new }
+{
+    let mut tasks = tasks;
+    let count = tasks.len();
+    for k in 0..count {
+        let Task { engine, taps } = tasks.remove(0);
+        let (local, puts, takes) = taps.into_parts();
+        drop(puts);
+        drop(takes);
+        take_logs(wires, k, local.into_logs(), logs);
+        engines.push_reserved(engine);
+    }
+    tasks.destroy_empty();
+}

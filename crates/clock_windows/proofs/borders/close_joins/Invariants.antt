@@ -1,0 +1,9 @@
+use Rattle.clock_windows.proofs.Closing.{Closing}
+use Rattle.clock_windows.proofs.Logging.{Logging}
+use Rattle.clock_windows.proofs.borders.close_joins.Given as goal
+
+abbrev pub invariant-loop-b : goal.invariant-loop-b
+invariant-loop-b g l = record {
+  tasks : Closing l.wires l.b l.fn.tasks l.tasks;
+  logs : Logging l.wires l.b l.fn.tasks l.fn.logs l.logs;
+}

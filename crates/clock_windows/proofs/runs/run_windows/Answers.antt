@@ -1,0 +1,49 @@
+use Rattle.std.proofs.Common.{◌≡◌, ◌<◌, ◌≤◌, rules, sym, subst, length, slice_index_or, ap, arith}
+use Rattle.clock_windows.proofs.Ending.{Loop, loop_none, loop_can, loop_close, loop_logs, loop_more, loop_stopped, loop_broke, loop_all}
+use Rattle.clock_windows.proofs.Logging.{engines_then}
+use Rattle.clock_windows.proofs.runs.run_windows.Goals as goal
+
+pub loop-made-init : goal.loop-made-init
+loop-made-init g c = loop_none g.O.Sink.held g.O.Sink.name g.O.Sink.room g.O.Sink.faults c.args.wires.now c.args.window c.args.ticks c.args.tasks.now c.args.logs.now c.requires.ready
+
+pub run_window-requires-clause-can : goal.run_window-requires-clause-can
+run_window-requires-clause-can g c = λ κs lives.
+    loop_can g.O.Sink.held g.O.Sink.name g.O.Sink.room g.O.Sink.faults c.args.wires.now c.args.window c.args.ticks c.loop-made.made c.min-count.result c.args.tasks.now c.loop-made.tasks c.args.logs.now c.loop-made.logs c.requires.ready c.requires.few
+    c.loop-made-test.true c.min-count.ensures c.loop-made.invariant
+
+pub returns-in-Some-clause-part : goal.returns-in-Some-clause-part
+returns-in-Some-clause-part g c = λ no.
+    loop_stopped g.O.Sink.held g.O.Sink.name g.O.Sink.room g.O.Sink.faults c.args.wires.now c.args.window c.args.ticks c.loop-made.made c.min-count.result c.args.tasks.now c.loop-made.tasks c.run_window.new.tasks c.args.logs.now c.loop-made.logs c.requires.ready
+    c.loop-made-test.true c.min-count.ensures c.loop-made.invariant c.run_window.ensures.ran c.run_window.auto.tasks
+
+pub close_joins-requires-clause-may : goal.close_joins-requires-clause-may
+close_joins-requires-clause-may g c =
+    loop_close g.O.Sink.held g.O.Sink.name g.O.Sink.room g.O.Sink.faults c.args.wires.now c.args.window c.args.ticks c.loop-made.made c.min-count.result c.args.tasks.now c.loop-made.tasks c.run_window.new.tasks c.args.logs.now c.loop-made.logs c.requires.ready
+    c.loop-made-test.true c.min-count.ensures c.loop-made.invariant c.run_window.ensures.ran c.run_window.auto.tasks c.in_default.ensures.none
+
+pub close_joins-requires-clause-logs : goal.close_joins-requires-clause-logs
+close_joins-requires-clause-logs g c =
+    loop_logs g.O.Sink.held g.O.Sink.name g.O.Sink.room g.O.Sink.faults c.args.wires.now c.args.window c.args.ticks c.loop-made.made c.min-count.result c.args.tasks.now c.loop-made.tasks c.run_window.new.tasks c.args.logs.now c.loop-made.logs c.requires.ready
+    c.loop-made-test.true c.min-count.ensures c.loop-made.invariant c.run_window.ensures.ran c.run_window.auto.tasks
+
+pub returns-in-Err-clause-part : goal.returns-in-Err-clause-part
+returns-in-Err-clause-part g c = λ no.
+    loop_broke g.O.Sink.held g.O.Sink.name g.O.Sink.room g.O.Sink.faults c.args.wires.now c.args.window c.args.ticks c.loop-made.made c.min-count.result c.args.tasks.now c.loop-made.tasks c.run_window.new.tasks c.args.logs.now c.loop-made.logs c.requires.ready
+    c.loop-made-test.true c.min-count.ensures c.loop-made.invariant c.run_window.ensures.ran c.run_window.auto.tasks c.close_joins.new.tasks c.close_joins.ensures.engines
+
+pub returns-in-Err-end_windows-clause-part : goal.returns-in-Err-end_windows-clause-part
+returns-in-Err-end_windows-clause-part g c = λ no.
+    loop_broke g.O.Sink.held g.O.Sink.name g.O.Sink.room g.O.Sink.faults c.args.wires.now c.args.window c.args.ticks c.loop-made.made c.min-count.result c.args.tasks.now c.loop-made.tasks c.run_window.new.tasks c.args.logs.now c.loop-made.logs c.requires.ready
+    c.loop-made-test.true c.min-count.ensures c.loop-made.invariant c.run_window.ensures.ran c.run_window.auto.tasks c.end_windows.new.tasks
+    (engines_then c.run_window.new.tasks c.close_joins.new.tasks c.end_windows.new.tasks c.close_joins.ensures.engines c.end_windows.ensures.engines)
+
+pub loop-made-preserved : goal.loop-made-preserved
+loop-made-preserved g c =
+    loop_more g.O.Sink.held g.O.Sink.name g.O.Sink.room g.O.Sink.faults c.args.wires.now c.args.window c.args.ticks c.loop-made.made c.min-count.result c.args.tasks.now c.loop-made.tasks c.run_window.new.tasks c.args.logs.now c.loop-made.logs c.requires.ready
+    c.loop-made-test.true c.min-count.ensures c.loop-made.invariant c.run_window.ensures.ran c.run_window.auto.tasks c.in_default.ensures.none c.close_joins.new.tasks c.end_windows.new.tasks c.close_joins.new.logs
+    c.in_default-close_joins.ensures.closed c.in_default-end_windows.ensures.ended
+
+pub returns-clause-done : goal.returns-clause-done
+returns-clause-done g c = λ e.
+    let high : c.args.ticks ≤ c.loop-made.made = search rules in
+    loop_all g.O.Sink.held g.O.Sink.name g.O.Sink.room g.O.Sink.faults c.args.wires.now c.args.window c.args.ticks c.loop-made.made c.args.tasks.now c.loop-made.tasks c.loop-made.logs high c.loop-made.invariant

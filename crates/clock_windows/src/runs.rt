@@ -1,0 +1,95 @@
+// All windows of a run.
+ghost use Rattle.std.specs.Prelude.{◌≡◌, ◌<◌, ◌≤◌, ◌^◌, ℕ, None, length, slice_index_or, OnOk, OnErr, IfNone, IfSome};
+ghost use Rattle.buffer_ends.specs.declared.run_end.End.TheVariants.{Done};
+ghost use Rattle.clock_windows.specs.Wires.{wire_at};
+ghost use Rattle.run_records.specs.Records.{start};
+ghost use Rattle.clock_windows.specs.Records.{Going, EndedTask, AllEndedTasks, SameEngines};
+ghost use Rattle.clock_windows.specs.Runs.{IsReady, RunDone, RunPart};
+
+use crate::borders::close_joins;
+use crate::wires::Wire;
+use buffer_ends::{BufferLog, End, ThreadTaps};
+use clock_engine::TickFault;
+use clock_tasks::{Task, run_window};
+use liq_base::{Gate, Memory, Sink};
+use std::alloc::Global;
+use std::sync::Wait;
+use std::thread::Threads;
+
+fn end_of(clock: u32, fault: TickFault) -> End
+    ensures { result ≡ Done → ⊥ }
+{
+    match fault {
+        TickFault::Write { sink } => End::Write { clock, sink },
+        TickFault::Memory => End::Memory,
+    }
+}
+
+// How the run ends, where a clock stopped: the lowest tells.
+fn stopped_in<O, R>(tasks: &[Task<'_, O, ThreadTaps<'_, R>>]) -> Option<End>
+    ensures none { IfNone result ((k : ℕ) (d : _) → k < length tasks.now → (slice_index_or tasks.now k d).engine.works.stopped ≡ None) }
+    ensures some { IfSome result (λ end. end ≡ Done → ⊥) }
+{
+    for k in 0..tasks.len() {
+        if let Some(fault) = tasks[k].engine.works.stopped {
+            return Some(end_of(tasks[k].engine.works.clock, fault));
+        }
+    }
+    None
+}
+
+fn end_one<O, R>(alloc: Global, task: &mut Task<'_, O, ThreadTaps<'_, R>>) -> Result<(), Memory>
+    ensures ended { OnOk result (EndedTask task.old task.new) }
+    ensures engine { task.new.engine ≡ task.old.engine }
+{
+    task.taps.end_window(alloc)
+}
+
+// Closes the windows of the lists.
+fn end_windows<O, R>(
+    alloc: Global,
+    tasks: &mut [Task<'_, O, ThreadTaps<'_, R>>],
+) -> Result<(), Memory>
+    ensures ended { OnOk result (AllEndedTasks tasks.old tasks.new) }
+    ensures engines { SameEngines tasks.old tasks.new }
+{
+    for k in 0..tasks.len() {
+        end_one(alloc, &mut tasks[k])?;
+    }
+    Ok(())
+}
+
+/// All clocks make so many ticks, in windows of so many.
+pub fn run_windows<O: Sink + Send, G: Gate + Sync, R: Threads + Wait + Sync>(
+    rt: &R,
+    alloc: Global,
+    wires: &[Wire],
+    tasks: &mut [Task<'_, O, ThreadTaps<'_, R>>],
+    logs: &mut [BufferLog],
+    ticks: u64,
+    window: u64,
+    gate: &G,
+) -> End
+    requires ready { IsReady O.held O.name O.room O.faults wires.now window ticks tasks.old logs.old }
+    requires few { ticks ≤ 1000000000 }
+    requires window { 0 < window }
+    ensures done { result ≡ Done → RunDone O.held O.name O.room O.faults wires.now window ticks tasks.old tasks.new logs.new }
+    ensures part { (result ≡ Done → ⊥) → RunPart O.held wires.now window ticks tasks.old tasks.new }
+{
+    let mut made = 0;
+    while made < ticks {
+        let count = window.min(ticks - made);
+        run_window(rt, alloc, tasks, gate, count);
+        if let Some(end) = stopped_in(tasks) {
+            return end;
+        }
+        if let Err(Memory) = close_joins(alloc, tasks, wires, logs) {
+            return End::Memory;
+        }
+        if let Err(Memory) = end_windows(alloc, tasks) {
+            return End::Memory;
+        }
+        made += count;
+    }
+    End::Done
+}
