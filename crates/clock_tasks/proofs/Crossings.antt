@@ -46,8 +46,26 @@ vec_send R s = VecSent.the_send R Global.the_row TheImpl.ghosts s GlobalSent.the
 
 pub shape_send : (a : NamedLft) → IsSend (Shape.the_field a).row
 shape_send a = Send.struct_send (Declared.shape (Shape.the_type a)) (
-  search (Crossing.crosses, TheKnot.crosses_both, DecimalSent.the_field_sync, MarkSent.the_field_sync, KindSent.the_field_sync, TextSent.the_sync, ItemsSent.the_sync, BufferSent.the_sync, BufferSent.the_field_sync, SinkSent.the_sync,
-    SinkSent.the_field_sync, GlobalSent.the_sync, BoxSent.the_sync, OptionSent.the_sync, MemorySent.the_sync, StringSent.the_sync, VecSent.the_sync, sendable) depth 60 fits 20000,
+  search (
+    Crossing.crosses,
+    TheKnot.crosses_both,
+    DecimalSent.the_field_sync,
+    MarkSent.the_field_sync,
+    KindSent.the_field_sync,
+    TextSent.the_sync,
+    ItemsSent.the_sync,
+    BufferSent.the_sync,
+    BufferSent.the_field_sync,
+    SinkSent.the_sync,
+    SinkSent.the_field_sync,
+    GlobalSent.the_sync,
+    BoxSent.the_sync,
+    OptionSent.the_sync,
+    MemorySent.the_sync,
+    StringSent.the_sync,
+    VecSent.the_sync,
+    sendable,
+  ) depth 60 fits 20000,
   (
     search (LibrarySent.the_sync, sendable) depth 20,
     (search (ClockSent.the_sync, ClockSent.the_field_sync, sendable) depth 20, tt),

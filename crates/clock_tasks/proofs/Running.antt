@@ -53,8 +53,10 @@ there xs ys k x e long = go (slice_get ys k) refl
     go (Some y) e' = (y, e')
 
 kept_then : {S : Type 0} (name : S → Option (List ℕ)) (faults : S → ℕ) (a b c : List S) → length b ≡ length a → AreKept name faults a b → AreKept name faults b c → AreKept name faults a c
-kept_then name faults a b c long first next = record { each = λ k before after was is. (
-    let mid = there a b k before was long in let x = first.each k before mid.0 was mid.1 in let y = next.each k mid.0 after mid.1 is in (y.0 ∙ x.0, (let p = x.1 in let q = y.1 in omega (arith, p, q)))) }
+kept_then name faults a b c long first next = record {
+  each = λ k before after was is. (
+      let mid = there a b k before was long in let x = first.each k before mid.0 was mid.1 in let y = next.each k mid.0 after mid.1 is in (y.0 ∙ x.0, (let p = x.1 in let q = y.1 in omega (arith, p, q))));
+}
 
 pub same_then : {S : Type 0} (name : S → Option (List ℕ)) (faults : S → ℕ) (a b c : ClockEngine S) → IsSameClock name faults a b → IsSameClock name faults b c → IsSameClock name faults a c
 same_then name faults a b c x y = record {
@@ -166,9 +168,13 @@ module _ {S T : Type 0} (held name : S → Option (List ℕ)) (room : S → Opti
 
 module _ {S : Type 0} (room : S → Option ℕ) (works : Works) (outs : List S) where
   pub rooms_fewer : (m n : ℕ) → m ≤ n → HaveTicksRoom room works outs n → HaveTicksRoom room works outs m
-  rooms_fewer m n h r = record { each = λ k port out p o left e. (let most = r.each k port out p o left e in
-      let less : m * (works.shape.plan.now.frame * (2 * channels_of port.kind)) ≤ n * (works.shape.plan.now.frame * (2 * channels_of port.kind)) = mul-le-mul_right (works.shape.plan.now.frame * (2 * channels_of port.kind)) h in omega (arith, most, less)) }
+  rooms_fewer m n h r = record {
+    each = λ k port out p o left e. (let most = r.each k port out p o left e in
+        let less : m * (works.shape.plan.now.frame * (2 * channels_of port.kind)) ≤ n * (works.shape.plan.now.frame * (2 * channels_of port.kind)) = mul-le-mul_right (works.shape.plan.now.frame * (2 * channels_of port.kind)) h in omega (arith, most, less));
+  }
 
   pub room_one : HaveTicksRoom room works outs 1 → HaveTickRoom room works outs
-  room_one r = record { each = λ k port out p o left e. (let most = r.each k port out p o left e in
-      let one : 1 * (works.shape.plan.now.frame * (2 * channels_of port.kind)) ≡ works.shape.plan.now.frame * (2 * channels_of port.kind) = grind arith in omega (arith, most, one)) }
+  room_one r = record {
+    each = λ k port out p o left e. (let most = r.each k port out p o left e in
+        let one : 1 * (works.shape.plan.now.frame * (2 * channels_of port.kind)) ≡ works.shape.plan.now.frame * (2 * channels_of port.kind) = grind arith in omega (arith, most, one));
+  }

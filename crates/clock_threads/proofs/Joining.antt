@@ -232,17 +232,17 @@ module _ {S R : Type 0} where
               ]);
           opens = λ x' low high apart'. (elim (same_or_other x' b) [
             | inl e ↦ subst (λ n. JoinOpen (wire_at wires n) n [] two) (sym e) (record {
-                queue = queue;
-                capacity = capacity;
-                put = λ d. subst (λ l. HasEnd l b (opened queue [])) (sym (put_at d).puts) (has_last (put_ends (slice_index_or now (wire_at wires b).from d)) b (opened queue []));
-                take = λ d. subst (λ l. HasEnd l b (opened queue [])) (sym (take_at d).takes) (has_last (take_ends (slice_index_or now (wire_at wires b).to d)) b (opened queue []));
-              })
+              queue = queue;
+              capacity = capacity;
+              put = λ d. subst (λ l. HasEnd l b (opened queue [])) (sym (put_at d).puts) (has_last (put_ends (slice_index_or now (wire_at wires b).from d)) b (opened queue []));
+              take = λ d. subst (λ l. HasEnd l b (opened queue [])) (sym (take_at d).takes) (has_last (take_ends (slice_index_or now (wire_at wires b).to d)) b (opened queue []));
+            })
             | inr off ↦ (let o = j.opens x' (omega (arith, low, is, off)) high apart' in record {
-                queue = o.queue;
-                capacity = o.capacity;
-                put = λ d. puts_on (wire_at wires x').from d x' (opened o.queue []) (o.put d);
-                take = λ d. takes_on (wire_at wires x').to d x' (opened o.queue []) (o.take d);
-              })
+              queue = o.queue;
+              capacity = o.capacity;
+              put = λ d. puts_on (wire_at wires x').from d x' (opened o.queue []) (o.put d);
+              take = λ d. takes_on (wire_at wires x').to d x' (opened o.queue []) (o.take d);
+            })
           ]);
         }
 

@@ -89,7 +89,7 @@ module _ (plan : Plan) (clocks : ClockMap) (setting : Setting) (is : IsSetting s
       let all = wires_are wires first in
       let capacity : (b : ℕ) (d : BufferPlan) → b < length wires → (slice_index_or plan.buffers b d).capacity ≡ (wire_at wires b).capacity =
       λ b d less. (let n = first.many in let low : b < length plan.buffers = omega (arith, less, n) in
-          sym (found (λ (p : BufferPlan). p.capacity) plan.buffers b d 0 low) ∙ ap (λ (p : Plan). option_map_or (λ (q : BufferPlan). q.capacity) (slice_get p.buffers b) 0) (sym plan_is) ∙ sym (all.each b less).capacity_is) in
+      sym (found (λ (p : BufferPlan). p.capacity) plan.buffers b d 0 low) ∙ ap (λ (p : Plan). option_map_or (λ (q : BufferPlan). q.capacity) (slice_get p.buffers b) 0) (sym plan_is) ∙ sym (all.each b less).capacity_is) in
       record {
         many = first.many;
         few = few;

@@ -6,12 +6,15 @@ ghost use Rattle.clock_threads.specs.Starts.{AreQueues, AreBare, AreJoined, PutA
 
 use buffer_ends::{PutEnd, TakeEnd, ThreadTaps};
 use buffer_queue::{BufferQueue, PutPass, TakePass};
-use liq_base::Memory;
-use clock_windows::Wire;
-use std::alloc::Global;
 use clock_tasks::Task;
+use clock_windows::Wire;
+use liq_base::Memory;
+use std::alloc::Global;
 
-fn add_put<'q, O, R>(task: &mut Task<'_, O, ThreadTaps<'q, R>>, end: PutEnd<'q>) -> Result<(), Memory>
+fn add_put<'q, O, R>(
+    task: &mut Task<'_, O, ThreadTaps<'q, R>>,
+    end: PutEnd<'q>,
+) -> Result<(), Memory>
     requires { (k : ℕ) (d : _) → k < length task.old.taps.puts.items → (slice_index_or task.old.taps.puts.items k d).buffer ≢ end.buffer }
     ensures added { OnOk result (PutAdded task.old task.new end.entry) }
     ensures engine { task.new.engine ≡ task.old.engine }
@@ -19,7 +22,10 @@ fn add_put<'q, O, R>(task: &mut Task<'_, O, ThreadTaps<'q, R>>, end: PutEnd<'q>)
     task.taps.add_put(end)
 }
 
-fn add_take<'q, O, R>(task: &mut Task<'_, O, ThreadTaps<'q, R>>, end: TakeEnd<'q>) -> Result<(), Memory>
+fn add_take<'q, O, R>(
+    task: &mut Task<'_, O, ThreadTaps<'q, R>>,
+    end: TakeEnd<'q>,
+) -> Result<(), Memory>
     requires { (k : ℕ) (d : _) → k < length task.old.taps.takes.items → (slice_index_or task.old.taps.takes.items k d).buffer ≢ end.buffer }
     ensures added { OnOk result (TakeAdded task.old task.new end.entry) }
     ensures engine { task.new.engine ≡ task.old.engine }

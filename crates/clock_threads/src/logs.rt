@@ -22,12 +22,7 @@ pub(crate) fn no_logs(alloc: Global, count: usize) -> Result<Vec<BufferLog>, Mem
 }
 
 // Puts the logs of the lists of a clock where the buffers with both ends in it have theirs.
-pub(crate) fn take_logs(
-    wires: &[Wire],
-    clock: usize,
-    lists: Vec<BufferLog>,
-    logs: &mut [BufferLog],
-)
+pub(crate) fn take_logs(wires: &[Wire], clock: usize, lists: Vec<BufferLog>, logs: &mut [BufferLog])
     ensures { TookLogs wires.now clock lists.items logs.old logs.new }
 {
     let mut lists = lists;

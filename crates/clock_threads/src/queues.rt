@@ -4,8 +4,8 @@ ghost use Rattle.clock_windows.specs.Wires.{wire_at};
 ghost use Rattle.clock_threads.specs.Starts.{AreQueues};
 
 use buffer_queue::{BufferQueue, PutPass, TakePass};
-use liq_base::Memory;
 use clock_windows::Wire;
+use liq_base::Memory;
 use std::alloc::Global;
 
 // A queue for each buffer, with its ends.

@@ -28,11 +28,7 @@ fn wire_of(plan: &Plan, clocks: &ClockMap, feed: u32, reads: u32, capacity: u32)
 }
 
 // The wires of all buffers, by their numbers.
-pub(crate) fn wires_of(
-    alloc: Global,
-    plan: &Plan,
-    clocks: &ClockMap,
-) -> Result<Vec<Wire>, Memory>
+pub(crate) fn wires_of(alloc: Global, plan: &Plan, clocks: &ClockMap) -> Result<Vec<Wire>, Memory>
     requires { IsWellFormed plan.now }
     ensures wires { IfOk result (λ wires. AreFirstWires plan.now clocks.now (length plan.now.buffers) wires.items) }
     ensures few { IfOk result (λ wires. length wires.items < 4294967296) }

@@ -168,9 +168,11 @@ module _ {S R : Type 0} where
             histories = λ k. (chosen d k).0;
             many = (let m = loop.many in omega (arith, m, mid_many));
             clocks = λ k h. (let r = (chosen d k).1.reached h in let n = next_at d in (r.0, r.1, (let x = r.2 in omega (arith, x, n)), r.3));
-            runs = λ b low. (let g = going_runs held name room faults wires W N j first now logs d l.going ready.places b low in
-                (g.0, subst (λ w. IsRun (wire_at wires b).capacity [] w g.0)
-                (sym (windows_alike (wire_at wires b) l.going.histories (λ k. (chosen d k).0) b W N j t (λ k. (chosen d k).1.agree) (λ i low'. start_climbs W N (suc i) (j - suc i) j (omega (arith, low'))) (λ i low'. start_up W N i))) g.1));
+            runs = λ b low. (let g = going_runs held name room faults wires W N j first now logs d l.going ready.places b low in (
+              g.0,
+              subst (λ w. IsRun (wire_at wires b).capacity [] w g.0)
+                  (sym (windows_alike (wire_at wires b) l.going.histories (λ k. (chosen d k).0) b W N j t (λ k. (chosen d k).1.agree) (λ i low'. start_climbs W N (suc i) (j - suc i) j (omega (arith, low'))) (λ i low'. start_up W N i))) g.1,
+            ));
           }
 
       -- the log of a buffer could not take a window

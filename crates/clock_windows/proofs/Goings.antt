@@ -103,16 +103,22 @@ module _ {S R : Type 0} (held name : S → Option (List ℕ)) (room : S → Opti
 
     abbrev chosen : (k : ℕ) → (h : History) × Goes k h
     chosen k = elim (low_or_high k (length first)) [
-      | inl less ↦ ((went k less).after, record {
+      | inl less ↦ (
+        (went k less).after,
+        record {
           agree = (went k less).agree;
           engine = λ again. (went k less).gone;
           taps = λ again. (went k less).taps (kept wires k (joined_upto (going.histories k).calls (start W N j))) (going.clocks k less).stand;
-        })
-      | inr high ↦ (going.histories k, record {
+        },
+      )
+      | inr high ↦ (
+        going.histories k,
+        record {
           agree = agree_none (start W N j) (going.histories k);
           engine = λ less. absurd (omega (arith, less, high));
           taps = λ less. absurd (omega (arith, less, high));
-        })
+        },
+      )
     ]
 
     abbrev after : ℕ → History
@@ -186,166 +192,166 @@ module _ {S R : Type 0} (held name : S → Option (List ℕ)) (room : S → Opti
           )
 
       module _ (last : List (Task S (ThreadTaps R))) (ends : AllEndedTasks shut last) where
-       in_mid : (k : ℕ) → k < length first → k < length mid
-       in_mid k h = let m = within k h in omega (arith, m, mid_many)
+        in_mid : (k : ℕ) → k < length first → k < length mid
+        in_mid k h = let m = within k h in omega (arith, m, mid_many)
 
-       in_shut : (k : ℕ) → k < length first → k < length shut
-       in_shut k h = let m = in_mid k h in let n = closed.tasks.many in omega (arith, m, n)
+        in_shut : (k : ℕ) → k < length first → k < length shut
+        in_shut k h = let m = in_mid k h in let n = closed.tasks.many in omega (arith, m, n)
 
-       join_on : (b : ℕ) (less : b < length wires) (apart : (wire_at wires b).from ≢ (wire_at wires b).to) → JoinGoing (wire_at wires b) b (windows_upto (wire_at wires b) after b W N (suc j)) last
-       join_on b less apart =
-          let wire = wire_at wires b in let r = join_shut b less apart in
-          let f_in = (places b less).0 in let t_in = (places b less).1 in
-          record {
-            chunks = r.0;
-            run = r.1;
-            opens = record {
-              queue = r.2.queue;
-              capacity = r.2.capacity;
-              put = λ e. subst (λ l. HasEnd l b (opened r.2.queue r.0)) (sym (ends.each wire.from e (in_shut wire.from f_in)).puts) (r.2.put e);
-              take = λ e. subst (λ l. HasEnd l b (opened r.2.queue r.0)) (sym (ends.each wire.to e (in_shut wire.to t_in)).takes) (r.2.take e);
-            };
-          }
+        join_on : (b : ℕ) (less : b < length wires) (apart : (wire_at wires b).from ≢ (wire_at wires b).to) → JoinGoing (wire_at wires b) b (windows_upto (wire_at wires b) after b W N (suc j)) last
+        join_on b less apart =
+            let wire = wire_at wires b in let r = join_shut b less apart in
+            let f_in = (places b less).0 in let t_in = (places b less).1 in
+            record {
+              chunks = r.0;
+              run = r.1;
+              opens = record {
+                queue = r.2.queue;
+                capacity = r.2.capacity;
+                put = λ e. subst (λ l. HasEnd l b (opened r.2.queue r.0)) (sym (ends.each wire.from e (in_shut wire.from f_in)).puts) (r.2.put e);
+                take = λ e. subst (λ l. HasEnd l b (opened r.2.queue r.0)) (sym (ends.each wire.to e (in_shut wire.to t_in)).takes) (r.2.take e);
+              };
+            }
 
-       lists_on : (k : ℕ) (h : k < length first) → ListsStand (λ b. Has (put_ends (slice_index_or last k d)) b ⊎ Has (take_ends (slice_index_or last k d)) b) (slice_index_or last k d).taps.local
-           (kept wires k (joined_upto (after k).calls (start W N (suc j))))
-       lists_on k h b f low away =
-           let c = going.clocks k h in let r = ran k (within k h) in let g = goes k h in
-           let s = closed.tasks.same k d (in_mid k h) in let e = ends.each k d (in_shut k h) in
-           let y = slice_index_or mid k d in let z = slice_index_or shut k d in let u = slice_index_or last k d in
-           let old = kept wires k (joined_upto (going.histories k).calls (start W N j)) in let more = joined_from (after k).calls (start W N j) count in
-           -- the lists after the ticks, at the closed ends, and after the border
-           let Away : ℕ → Type 0 = λ x. Has (put_ends z) x ⊎ Has (take_ends z) x in
-           let at_z : ListsStand Away z.taps.local (old ++ more) = subst (λ l. ListsStand Away l (old ++ more)) (sym s.local) (λ x f' low' out. g.1.2 x f' low' (λ has. out (moved has))) in
-           let at_u = e.lists (old ++ more) at_z in
-           let there = at_u b f low (λ has. away (gone_on has)) in
-           let none : ended wires k b ≡ false = elim (true_or_false (ended wires k b)) [ inr off ↦ off | inl on_end ↦ absurd (away (end_there on_end)) ] in
-           let same : on b (old ++ more) ≡ on b (kept wires k (joined_upto (after k).calls (start W N (suc j)))) =
-           on-append b old more ∙ (λ i. on_kept wires k b (joined_upto (going.histories k).calls (start W N j)) none i ++ on b more)
-           ∙ ap (λ l. on b l ++ on b more) (sym (joined_alike (after k).calls (going.histories k).calls (start W N j) (λ n less. (agrees k).calls n less)))
-           ∙ sym (on-append b (joined_upto (after k).calls (start W N j)) more) ∙ ap (on b) (sym (joined_split (after k).calls (start W N j) count) ∙ ap (joined_upto (after k).calls) (sym next))
-           ∙ sym (on_kept wires k b (joined_upto (after k).calls (start W N (suc j))) none) in
-           subst (λ l. Leads (empty_list (slice_index_or u.taps.local b f).capacity) l (held_by (slice_index_or u.taps.local b f))) same there
-         where
-           moved : {x : ℕ} → Has (put_ends (slice_index_or mid k d)) x ⊎ Has (take_ends (slice_index_or mid k d)) x → Has (put_ends (slice_index_or shut k d)) x ⊎ Has (take_ends (slice_index_or shut k d)) x
-           moved {x} (inl has) = inl (has_moved _ _ x (closed.tasks.puts_many k d (in_mid k h)) (λ p e. closed.tasks.puts k p d e (in_mid k h)) has)
-           moved {x} (inr has) = inr (has_moved _ _ x (closed.tasks.takes_many k d (in_mid k h)) (λ p e. closed.tasks.takes k p d e (in_mid k h)) has)
+        lists_on : (k : ℕ) (h : k < length first) → ListsStand (λ b. Has (put_ends (slice_index_or last k d)) b ⊎ Has (take_ends (slice_index_or last k d)) b) (slice_index_or last k d).taps.local
+            (kept wires k (joined_upto (after k).calls (start W N (suc j))))
+        lists_on k h b f low away =
+            let c = going.clocks k h in let r = ran k (within k h) in let g = goes k h in
+            let s = closed.tasks.same k d (in_mid k h) in let e = ends.each k d (in_shut k h) in
+            let y = slice_index_or mid k d in let z = slice_index_or shut k d in let u = slice_index_or last k d in
+            let old = kept wires k (joined_upto (going.histories k).calls (start W N j)) in let more = joined_from (after k).calls (start W N j) count in
+            -- the lists after the ticks, at the closed ends, and after the border
+            let Away : ℕ → Type 0 = λ x. Has (put_ends z) x ⊎ Has (take_ends z) x in
+            let at_z : ListsStand Away z.taps.local (old ++ more) = subst (λ l. ListsStand Away l (old ++ more)) (sym s.local) (λ x f' low' out. g.1.2 x f' low' (λ has. out (moved has))) in
+            let at_u = e.lists (old ++ more) at_z in
+            let there = at_u b f low (λ has. away (gone_on has)) in
+            let none : ended wires k b ≡ false = elim (true_or_false (ended wires k b)) [ inr off ↦ off | inl on_end ↦ absurd (away (end_there on_end)) ] in
+            let same : on b (old ++ more) ≡ on b (kept wires k (joined_upto (after k).calls (start W N (suc j)))) =
+            on-append b old more ∙ (λ i. on_kept wires k b (joined_upto (going.histories k).calls (start W N j)) none i ++ on b more)
+            ∙ ap (λ l. on b l ++ on b more) (sym (joined_alike (after k).calls (going.histories k).calls (start W N j) (λ n less. (agrees k).calls n less)))
+            ∙ sym (on-append b (joined_upto (after k).calls (start W N j)) more) ∙ ap (on b) (sym (joined_split (after k).calls (start W N j) count) ∙ ap (joined_upto (after k).calls) (sym next))
+            ∙ sym (on_kept wires k b (joined_upto (after k).calls (start W N (suc j))) none) in
+            subst (λ l. Leads (empty_list (slice_index_or u.taps.local b f).capacity) l (held_by (slice_index_or u.taps.local b f))) same there
+          where
+            moved : {x : ℕ} → Has (put_ends (slice_index_or mid k d)) x ⊎ Has (take_ends (slice_index_or mid k d)) x → Has (put_ends (slice_index_or shut k d)) x ⊎ Has (take_ends (slice_index_or shut k d)) x
+            moved {x} (inl has) = inl (has_moved _ _ x (closed.tasks.puts_many k d (in_mid k h)) (λ p e. closed.tasks.puts k p d e (in_mid k h)) has)
+            moved {x} (inr has) = inr (has_moved _ _ x (closed.tasks.takes_many k d (in_mid k h)) (λ p e. closed.tasks.takes k p d e (in_mid k h)) has)
 
-           gone_on : Has (put_ends (slice_index_or shut k d)) b ⊎ Has (take_ends (slice_index_or shut k d)) b → Has (put_ends (slice_index_or last k d)) b ⊎ Has (take_ends (slice_index_or last k d)) b
-           gone_on (inl has) = inl (subst (λ l. Has l b) (sym (ends.each k d (in_shut k h)).puts) has)
-           gone_on (inr has) = inr (subst (λ l. Has l b) (sym (ends.each k d (in_shut k h)).takes) has)
+            gone_on : Has (put_ends (slice_index_or shut k d)) b ⊎ Has (take_ends (slice_index_or shut k d)) b → Has (put_ends (slice_index_or last k d)) b ⊎ Has (take_ends (slice_index_or last k d)) b
+            gone_on (inl has) = inl (subst (λ l. Has l b) (sym (ends.each k d (in_shut k h)).puts) has)
+            gone_on (inr has) = inr (subst (λ l. Has l b) (sym (ends.each k d (in_shut k h)).takes) has)
 
-           few : b < length wires
-           few = let a = ends.each k d (in_shut k h) in let s' = ap length (closed.tasks.same k d (in_mid k h)).local in let r' = (ran k (within k h)).many in let c' = (going.clocks k h).lists in
-               let m = ap length a.local ∙ mapped_length (slice_index_or shut k d).taps.local in omega (arith, low, m, s', r', c')
+            few : b < length wires
+            few = let a = ends.each k d (in_shut k h) in let s' = ap length (closed.tasks.same k d (in_mid k h)).local in let r' = (ran k (within k h)).many in let c' = (going.clocks k h).lists in
+                let m = ap length a.local ∙ mapped_length (slice_index_or shut k d).taps.local in omega (arith, low, m, s', r', c')
 
-           end_there : ended wires k b ≡ true → Has (put_ends (slice_index_or last k d)) b ⊎ Has (take_ends (slice_index_or last k d)) b
-           end_there is_end = let t = ends_tell (wire_at wires b) k is_end in let g' = join_on b few t.0 in
-               elim t.1 [
-                 | inl f' ↦ inl (has_end _ b _ (subst (λ n. HasEnd (put_ends (slice_index_or last n d)) b (opened g'.opens.queue g'.chunks)) f' (g'.opens.put d)))
-                 | inr t' ↦ inr (has_end _ b _ (subst (λ n. HasEnd (take_ends (slice_index_or last n d)) b (opened g'.opens.queue g'.chunks)) t' (g'.opens.take d)))
-               ]
+            end_there : ended wires k b ≡ true → Has (put_ends (slice_index_or last k d)) b ⊎ Has (take_ends (slice_index_or last k d)) b
+            end_there is_end = let t = ends_tell (wire_at wires b) k is_end in let g' = join_on b few t.0 in
+                elim t.1 [
+                  | inl f' ↦ inl (has_end _ b _ (subst (λ n. HasEnd (put_ends (slice_index_or last n d)) b (opened g'.opens.queue g'.chunks)) f' (g'.opens.put d)))
+                  | inr t' ↦ inr (has_end _ b _ (subst (λ n. HasEnd (take_ends (slice_index_or last n d)) b (opened g'.opens.queue g'.chunks)) t' (g'.opens.take d)))
+                ]
 
-       clock_on : (k : ℕ) → k < length first → ClockGoing held name room faults wires N (start W N (suc j)) k (after k) (slice_index_or first k d) (slice_index_or last k d)
-       clock_on k h =
-           let c = going.clocks k h in let r = ran k (within k h) in let g = goes k h in
-           let s = closed.tasks.same k d (in_mid k h) in let e = ends.each k d (in_shut k h) in
-           let engine : (slice_index_or last k d).engine ≡ (slice_index_or mid k d).engine = e.engine ∙ s.engine in
-           let x = slice_index_or now k d in let y = slice_index_or mid k d in let z = slice_index_or shut k d in let u = slice_index_or last k d in
-           let running = all_run k (in_mid k h) in
-           let put_many : length (put_ends u) ≡ length (put_ends x) = ap length e.puts ∙ closed.tasks.puts_many k d (in_mid k h) ∙ r.taps.0.many in
-           let take_many : length (take_ends u) ≡ length (take_ends x) = ap length e.takes ∙ closed.tasks.takes_many k d (in_mid k h) ∙ r.taps.1.many in
-           let put_buffer : (p : ℕ) (f : Side) → p < length (put_ends u) → (slice_index_or (put_ends u) p f).buffer ≡ (slice_index_or (put_ends x) p f).buffer =
-           λ p f low. ap (λ l. (slice_index_or l p f).buffer) e.puts ∙ closed.tasks.puts k p d f (in_mid k h) ∙ (r.taps.0.each p f (omega (arith, low, put_many))).buffer in
-           let take_buffer : (p : ℕ) (f : Side) → p < length (take_ends u) → (slice_index_or (take_ends u) p f).buffer ≡ (slice_index_or (take_ends x) p f).buffer =
-           λ p f low. ap (λ l. (slice_index_or l p f).buffer) e.takes ∙ closed.tasks.takes k p d f (in_mid k h) ∙ (r.taps.1.each p f (omega (arith, low, take_many))).buffer in
-           let wired : IsWired wires k u = record {
-             puts = λ p f low. subst (λ b. (b < length wires) × ((wire_at wires b).from ≡ k) × ((wire_at wires b).to ≢ k)) (sym (put_buffer p f low)) (c.wired.puts p f (omega (arith, low, put_many)));
-             takes = λ p f low. subst (λ b. (b < length wires) × ((wire_at wires b).to ≡ k) × ((wire_at wires b).from ≢ k)) (sym (take_buffer p f low)) (c.wired.takes p f (omega (arith, low, take_many)));
-           } in
-           let calls = joined_upto (after k).calls (start W N (suc j)) in
-           let all = kept wires k (joined_upto (going.histories k).calls (start W N j)) ++ joined_from (after k).calls (start W N j) count in
-           record {
-             gone = subst (λ (q : ℕ × _). EngineGone held q.0 (after k) (held_of held (slice_index_or first k d).engine) q.1) (λ i. (sym next i, sym engine i)) g.0;
-             whole = subst IsWhole (sym engine) r.whole;
-             same = same_then name faults (slice_index_or first k d).engine x.engine u.engine c.same (subst (λ f. IsSameClock name faults x.engine f) (sym engine) r.clock);
-             rooms = λ n is. subst (λ f. HaveTicksRoom room f.works f.outs.items n) (sym engine) (r.rooms n running (c.rooms (n + count) (omega (arith, is, next))));
-             wired = wired;
-             stand = (
-               (λ p f low.
-                   let w = wired.puts p f low in let b = (slice_index_or (put_ends u) p f).buffer in let g' = join_on b w.0 (λ eq. w.2 (sym eq ∙ w.1)) in
-                   let q : HasEnd (put_ends u) b (opened g'.opens.queue g'.chunks) = subst (λ n. HasEnd (put_ends (slice_index_or last n d)) b (opened g'.opens.queue g'.chunks)) w.1 (g'.opens.put d) in
-                   let one : opened g'.opens.queue g'.chunks ≡ (slice_index_or (put_ends u) p f).window =
-                   one_window (put_ends u) b p (opened g'.opens.queue g'.chunks) (slice_index_or (put_ends u) p f).window u.taps.apart.0 q (record { within = low; is = λ f'. get_or_default (put_ends u) p f' f low }) in
-                   ap (λ (v : QueueWindow). v.answers) (sym one) ∙ sym (puts_kept wires k b calls (ends_from (wire_at wires b) k w.1 w.2))),
-               (λ p f low.
-                   let w = wired.takes p f low in let b = (slice_index_or (take_ends u) p f).buffer in let g' = join_on b w.0 (λ eq. w.2 (eq ∙ w.1)) in
-                   let q : HasEnd (take_ends u) b (opened g'.opens.queue g'.chunks) = subst (λ n. HasEnd (take_ends (slice_index_or last n d)) b (opened g'.opens.queue g'.chunks)) w.1 (g'.opens.take d) in
-                   let one : opened g'.opens.queue g'.chunks ≡ (slice_index_or (take_ends u) p f).window =
-                   one_window (take_ends u) b p (opened g'.opens.queue g'.chunks) (slice_index_or (take_ends u) p f).window u.taps.apart.1 q (record { within = low; is = λ f'. get_or_default (take_ends u) p f' f low }) in
-                   ap (λ (v : QueueWindow). v.answers) (sym one) ∙ sym (takes_kept wires k b calls (ends_to (wire_at wires b) k w.1 w.2))),
-               lists_on k h,
-             );
-             lists = ap length e.local ∙ mapped_length z.taps.local ∙ ap length s.local ∙ r.many ∙ c.lists;
-             capacities = λ b f low.
-                 let mid_in : b < length y.taps.local = (let n = r.many in let m = c.lists in omega (arith, low, n, m)) in
-                 let shut_in : b < length z.taps.local = (let n = ap length s.local in omega (arith, mid_in, n)) in
-                 ap (λ (l : List LocalBuffer). (slice_index_or l b f).capacity) e.local ∙ ap (λ (l : LocalBuffer). l.capacity) (mapped z.taps.local b f shut_in) ∙ ap (λ (l : List LocalBuffer). (slice_index_or l b f).capacity) s.local
-                 ∙ (r.taps.2.each b f (let n = r.many in omega (arith, mid_in, n))).capacity ∙ c.capacities b f low;
-           }
+        clock_on : (k : ℕ) → k < length first → ClockGoing held name room faults wires N (start W N (suc j)) k (after k) (slice_index_or first k d) (slice_index_or last k d)
+        clock_on k h =
+            let c = going.clocks k h in let r = ran k (within k h) in let g = goes k h in
+            let s = closed.tasks.same k d (in_mid k h) in let e = ends.each k d (in_shut k h) in
+            let engine : (slice_index_or last k d).engine ≡ (slice_index_or mid k d).engine = e.engine ∙ s.engine in
+            let x = slice_index_or now k d in let y = slice_index_or mid k d in let z = slice_index_or shut k d in let u = slice_index_or last k d in
+            let running = all_run k (in_mid k h) in
+            let put_many : length (put_ends u) ≡ length (put_ends x) = ap length e.puts ∙ closed.tasks.puts_many k d (in_mid k h) ∙ r.taps.0.many in
+            let take_many : length (take_ends u) ≡ length (take_ends x) = ap length e.takes ∙ closed.tasks.takes_many k d (in_mid k h) ∙ r.taps.1.many in
+            let put_buffer : (p : ℕ) (f : Side) → p < length (put_ends u) → (slice_index_or (put_ends u) p f).buffer ≡ (slice_index_or (put_ends x) p f).buffer =
+            λ p f low. ap (λ l. (slice_index_or l p f).buffer) e.puts ∙ closed.tasks.puts k p d f (in_mid k h) ∙ (r.taps.0.each p f (omega (arith, low, put_many))).buffer in
+            let take_buffer : (p : ℕ) (f : Side) → p < length (take_ends u) → (slice_index_or (take_ends u) p f).buffer ≡ (slice_index_or (take_ends x) p f).buffer =
+            λ p f low. ap (λ l. (slice_index_or l p f).buffer) e.takes ∙ closed.tasks.takes k p d f (in_mid k h) ∙ (r.taps.1.each p f (omega (arith, low, take_many))).buffer in
+            let wired : IsWired wires k u = record {
+              puts = λ p f low. subst (λ b. (b < length wires) × ((wire_at wires b).from ≡ k) × ((wire_at wires b).to ≢ k)) (sym (put_buffer p f low)) (c.wired.puts p f (omega (arith, low, put_many)));
+              takes = λ p f low. subst (λ b. (b < length wires) × ((wire_at wires b).to ≡ k) × ((wire_at wires b).from ≢ k)) (sym (take_buffer p f low)) (c.wired.takes p f (omega (arith, low, take_many)));
+            } in
+            let calls = joined_upto (after k).calls (start W N (suc j)) in
+            let all = kept wires k (joined_upto (going.histories k).calls (start W N j)) ++ joined_from (after k).calls (start W N j) count in
+            record {
+              gone = subst (λ (q : ℕ × _). EngineGone held q.0 (after k) (held_of held (slice_index_or first k d).engine) q.1) (λ i. (sym next i, sym engine i)) g.0;
+              whole = subst IsWhole (sym engine) r.whole;
+              same = same_then name faults (slice_index_or first k d).engine x.engine u.engine c.same (subst (λ f. IsSameClock name faults x.engine f) (sym engine) r.clock);
+              rooms = λ n is. subst (λ f. HaveTicksRoom room f.works f.outs.items n) (sym engine) (r.rooms n running (c.rooms (n + count) (omega (arith, is, next))));
+              wired = wired;
+              stand = (
+                (λ p f low.
+                    let w = wired.puts p f low in let b = (slice_index_or (put_ends u) p f).buffer in let g' = join_on b w.0 (λ eq. w.2 (sym eq ∙ w.1)) in
+                    let q : HasEnd (put_ends u) b (opened g'.opens.queue g'.chunks) = subst (λ n. HasEnd (put_ends (slice_index_or last n d)) b (opened g'.opens.queue g'.chunks)) w.1 (g'.opens.put d) in
+                    let one : opened g'.opens.queue g'.chunks ≡ (slice_index_or (put_ends u) p f).window =
+                    one_window (put_ends u) b p (opened g'.opens.queue g'.chunks) (slice_index_or (put_ends u) p f).window u.taps.apart.0 q (record { within = low; is = λ f'. get_or_default (put_ends u) p f' f low }) in
+                    ap (λ (v : QueueWindow). v.answers) (sym one) ∙ sym (puts_kept wires k b calls (ends_from (wire_at wires b) k w.1 w.2))),
+                (λ p f low.
+                    let w = wired.takes p f low in let b = (slice_index_or (take_ends u) p f).buffer in let g' = join_on b w.0 (λ eq. w.2 (eq ∙ w.1)) in
+                    let q : HasEnd (take_ends u) b (opened g'.opens.queue g'.chunks) = subst (λ n. HasEnd (take_ends (slice_index_or last n d)) b (opened g'.opens.queue g'.chunks)) w.1 (g'.opens.take d) in
+                    let one : opened g'.opens.queue g'.chunks ≡ (slice_index_or (take_ends u) p f).window =
+                    one_window (take_ends u) b p (opened g'.opens.queue g'.chunks) (slice_index_or (take_ends u) p f).window u.taps.apart.1 q (record { within = low; is = λ f'. get_or_default (take_ends u) p f' f low }) in
+                    ap (λ (v : QueueWindow). v.answers) (sym one) ∙ sym (takes_kept wires k b calls (ends_to (wire_at wires b) k w.1 w.2))),
+                lists_on k h,
+              );
+              lists = ap length e.local ∙ mapped_length z.taps.local ∙ ap length s.local ∙ r.many ∙ c.lists;
+              capacities = λ b f low.
+                  let mid_in : b < length y.taps.local = (let n = r.many in let m = c.lists in omega (arith, low, n, m)) in
+                  let shut_in : b < length z.taps.local = (let n = ap length s.local in omega (arith, mid_in, n)) in
+                  ap (λ (l : List LocalBuffer). (slice_index_or l b f).capacity) e.local ∙ ap (λ (l : LocalBuffer). l.capacity) (mapped z.taps.local b f shut_in) ∙ ap (λ (l : List LocalBuffer). (slice_index_or l b f).capacity) s.local
+                  ∙ (r.taps.2.each b f (let n = r.many in omega (arith, mid_in, n))).capacity ∙ c.capacities b f low;
+            }
 
-       abbrev window_more : ℕ → Window
-       window_more b = window_of (wire_at wires b) after b (start W N j) (start W N (suc j) - start W N j)
+        abbrev window_more : ℕ → Window
+        window_more b = window_of (wire_at wires b) after b (start W N j) (start W N (suc j) - start W N j)
 
-       -- the answers of the windows before this one, and of this one
-       told_more : (b : ℕ) (x y : List Answers) (z : Answers) → y ≡ x ++ z ∷ [] → x ≡ map told (windows_upto (wire_at wires b) going.histories b W N j) → z ≡ told (window_more b)
-           → y ≡ map told (windows_upto (wire_at wires b) after b W N (suc j))
-       told_more b x y z is before last_is =
-           let same : windows_upto (wire_at wires b) after b W N j ≡ windows_upto (wire_at wires b) going.histories b W N j =
-           windows_alike (wire_at wires b) going.histories after b W N j (start W N j) agrees (λ i low. reaches i low) (λ i low. up i (omega (arith, low))) in
-           is ∙ (λ i. (before ∙ ap (map told) (sym same)) i ++ last_is i ∷ []) ∙ sym (map_joined told (windows_upto (wire_at wires b) after b W N j) (window_more b ∷ []))
+        -- the answers of the windows before this one, and of this one
+        told_more : (b : ℕ) (x y : List Answers) (z : Answers) → y ≡ x ++ z ∷ [] → x ≡ map told (windows_upto (wire_at wires b) going.histories b W N j) → z ≡ told (window_more b)
+            → y ≡ map told (windows_upto (wire_at wires b) after b W N (suc j))
+        told_more b x y z is before last_is =
+            let same : windows_upto (wire_at wires b) after b W N j ≡ windows_upto (wire_at wires b) going.histories b W N j =
+            windows_alike (wire_at wires b) going.histories after b W N j (start W N j) agrees (λ i low. reaches i low) (λ i low. up i (omega (arith, low))) in
+            is ∙ (λ i. (before ∙ ap (map told) (sym same)) i ++ last_is i ∷ []) ∙ sym (map_joined told (windows_upto (wire_at wires b) after b W N j) (window_more b ∷ []))
 
-       joined_on : (b : ℕ) (e : List Answers) → b < length wires → (wire_at wires b).from ≢ (wire_at wires b).to → slice_index_or after_logs b e ≡ map told (windows_upto (wire_at wires b) after b W N (suc j))
-       joined_on b e less apart =
-           let wire = wire_at wires b in let r = join_ran b less apart in
-           let more : count ≡ start W N (suc j) - start W N j = omega (arith, next) in
-           told_more b (slice_index_or logs b e) (slice_index_or after_logs b e) (told (r.0.answers, r.1.answers)) (closed.logged b r.0 r.1 e less apart r.2) (going.logged.joined b e less apart)
-           ((λ i. told (r.5 i, r.6 i)) ∙ (λ i. told (window_of wire after b (start W N j) (more i))))
+        joined_on : (b : ℕ) (e : List Answers) → b < length wires → (wire_at wires b).from ≢ (wire_at wires b).to → slice_index_or after_logs b e ≡ map told (windows_upto (wire_at wires b) after b W N (suc j))
+        joined_on b e less apart =
+            let wire = wire_at wires b in let r = join_ran b less apart in
+            let more : count ≡ start W N (suc j) - start W N j = omega (arith, next) in
+            told_more b (slice_index_or logs b e) (slice_index_or after_logs b e) (told (r.0.answers, r.1.answers)) (closed.logged b r.0 r.1 e less apart r.2) (going.logged.joined b e less apart)
+            ((λ i. told (r.5 i, r.6 i)) ∙ (λ i. told (window_of wire after b (start W N j) (more i))))
 
-       local_on : (b : ℕ) (f : LocalBuffer) → b < length wires → (wire_at wires b).from ≡ (wire_at wires b).to
-           → IsLogged (windows_upto (wire_at wires b) after b W N (suc j)) (slice_index_or (slice_index_or last (wire_at wires b).from d).taps.local b f)
-       local_on b f less is =
-           let wire = wire_at wires b in let k = wire.from in let h = (places b less).0 in
-           let c = going.clocks k h in let r = ran k (within k h) in let s = closed.tasks.same k d (in_mid k h) in let e = ends.each k d (in_shut k h) in
-           let x = slice_index_or now k d in let y = slice_index_or mid k d in let z = slice_index_or shut k d in let u = slice_index_or last k d in
-           let l = slice_index_or x.taps.local b f in let m = slice_index_or y.taps.local b f in
-           let in_x : b < length x.taps.local = (let n = c.lists in omega (arith, less, n)) in
-           let in_y : b < length y.taps.local = (let n = r.many in omega (arith, in_x, n)) in
-           let in_z : b < length z.taps.local = (let n = ap length s.local in omega (arith, in_y, n)) in
-           let was = going.logged.local b f less is in let same = r.taps.2.each b f in_x in
-           let old = kept wires k (joined_upto (going.histories k).calls (start W N j)) in let more = joined_from (after k).calls (start W N j) count in
-           let away : Has (put_ends x) b ⊎ Has (take_ends x) b → ⊥ = not_ended wires k b x c.wired is in
-           let away_after : Has (put_ends y) b ⊎ Has (take_ends y) b → ⊥ =
-           λ has. ⊎_elim (λ (p : Has (put_ends y) b). away (inl (has_back (put_ends x) (put_ends y) b r.taps.0 p))) (λ (p : Has (take_ends y) b). away (inr (has_back (take_ends x) (take_ends y) b r.taps.1 p))) has in
-           let now_is : m.current ≡ told (puts_to b more, takes_of b more) = current_is b old more l m same.closed was.opens (c.stand.2 b f in_x away) ((goes k h).1.2 b f in_y away_after) in
-           let list_is : slice_index_or u.taps.local b f ≡ closed_list m =
-           ap (λ (ls : List LocalBuffer). slice_index_or ls b f) e.local ∙ mapped z.taps.local b f in_z ∙ ap (λ (ls : List LocalBuffer). closed_list (slice_index_or ls b f)) s.local in
-           let long : count ≡ start W N (suc j) - start W N j = omega (arith, next) in
-           record {
-             closed_are = told_more b l.closed (slice_index_or u.taps.local b f).closed m.current (ap (λ (q : LocalBuffer). q.closed) list_is ∙ ap (λ q. q ++ m.current ∷ []) same.closed) was.closed_are
-                 (now_is ∙ (λ i. told (puts_to b (joined_from (after k).calls (start W N j) (long i)), takes_of b (joined_from (after (is i)).calls (start W N j) (long i)))));
-             opens = ap (λ (q : LocalBuffer). q.current) list_is;
-           }
+        local_on : (b : ℕ) (f : LocalBuffer) → b < length wires → (wire_at wires b).from ≡ (wire_at wires b).to
+            → IsLogged (windows_upto (wire_at wires b) after b W N (suc j)) (slice_index_or (slice_index_or last (wire_at wires b).from d).taps.local b f)
+        local_on b f less is =
+            let wire = wire_at wires b in let k = wire.from in let h = (places b less).0 in
+            let c = going.clocks k h in let r = ran k (within k h) in let s = closed.tasks.same k d (in_mid k h) in let e = ends.each k d (in_shut k h) in
+            let x = slice_index_or now k d in let y = slice_index_or mid k d in let z = slice_index_or shut k d in let u = slice_index_or last k d in
+            let l = slice_index_or x.taps.local b f in let m = slice_index_or y.taps.local b f in
+            let in_x : b < length x.taps.local = (let n = c.lists in omega (arith, less, n)) in
+            let in_y : b < length y.taps.local = (let n = r.many in omega (arith, in_x, n)) in
+            let in_z : b < length z.taps.local = (let n = ap length s.local in omega (arith, in_y, n)) in
+            let was = going.logged.local b f less is in let same = r.taps.2.each b f in_x in
+            let old = kept wires k (joined_upto (going.histories k).calls (start W N j)) in let more = joined_from (after k).calls (start W N j) count in
+            let away : Has (put_ends x) b ⊎ Has (take_ends x) b → ⊥ = not_ended wires k b x c.wired is in
+            let away_after : Has (put_ends y) b ⊎ Has (take_ends y) b → ⊥ =
+            λ has. ⊎_elim (λ (p : Has (put_ends y) b). away (inl (has_back (put_ends x) (put_ends y) b r.taps.0 p))) (λ (p : Has (take_ends y) b). away (inr (has_back (take_ends x) (take_ends y) b r.taps.1 p))) has in
+            let now_is : m.current ≡ told (puts_to b more, takes_of b more) = current_is b old more l m same.closed was.opens (c.stand.2 b f in_x away) ((goes k h).1.2 b f in_y away_after) in
+            let list_is : slice_index_or u.taps.local b f ≡ closed_list m =
+            ap (λ (ls : List LocalBuffer). slice_index_or ls b f) e.local ∙ mapped z.taps.local b f in_z ∙ ap (λ (ls : List LocalBuffer). closed_list (slice_index_or ls b f)) s.local in
+            let long : count ≡ start W N (suc j) - start W N j = omega (arith, next) in
+            record {
+              closed_are = told_more b l.closed (slice_index_or u.taps.local b f).closed m.current (ap (λ (q : LocalBuffer). q.closed) list_is ∙ ap (λ q. q ++ m.current ∷ []) same.closed) was.closed_are
+                  (now_is ∙ (λ i. told (puts_to b (joined_from (after k).calls (start W N j) (long i)), takes_of b (joined_from (after (is i)).calls (start W N j) (long i)))));
+              opens = ap (λ (q : LocalBuffer). q.current) list_is;
+            }
 
-       pub going_more : Going held name room faults wires W N (suc j) first last after_logs d
-       going_more = record {
-         histories = after;
-         many = (let m = ends.many in let n = closed.tasks.many in let o = going.many in omega (arith, m, n, o, mid_many));
-         clocks = λ k h. clock_on k h;
-         joins = λ b less apart. join_on b less apart;
-         logged = record {
-           many = closed.logs_many ∙ going.logged.many;
-           joined = joined_on;
-           local = local_on;
-         };
-       }
+        pub going_more : Going held name room faults wires W N (suc j) first last after_logs d
+        going_more = record {
+          histories = after;
+          many = (let m = ends.many in let n = closed.tasks.many in let o = going.many in omega (arith, m, n, o, mid_many));
+          clocks = λ k h. clock_on k h;
+          joins = λ b less apart. join_on b less apart;
+          logged = record {
+            many = closed.logs_many ∙ going.logged.many;
+            joined = joined_on;
+            local = local_on;
+          };
+        }

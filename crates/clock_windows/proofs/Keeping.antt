@@ -9,7 +9,6 @@ use Rattle.clock_windows.specs.declared.wires.Wire.{Wire}
 use Rattle.clock_windows.specs.Wires.{ended, kept}
 
 module _ (wires : List Wire) (k : ℕ) where
-
   pub kept-append : (xs ys : List Call) → kept wires k (xs ++ ys) ≡ kept wires k xs ++ kept wires k ys
   kept-append [] ys = refl
   kept-append (call ∷ xs) ys = go (ended wires k (buffer_of call)) (kept-append xs ys)

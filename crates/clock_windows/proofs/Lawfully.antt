@@ -123,10 +123,12 @@ module _ (meant : Meaning) (wires : List Wire) (clocks : ℕ) (own : TakeOwn mea
     -- what follows the answers of the first n ticks
     pub rests : (n : ℕ) → n ≤ N → (b : ℕ) → (rest : List (Option (List Cell))) × (answers_of windows b ≡ got_by (hs m) n b ++ rest)
     rests n most b = elim (same_or_other (wire_at wires b).to m) [
-      | inl is ↦ (takes_of b (joined_from (hs m).calls n (N - n)),
-          (let e : N ≡ n + (N - n) = omega (arith, most) in
-          all_takes W N (wire_at wires b) hs b j ∙ (λ i. takes_of b (joined_upto (hs (is i)).calls (whole i)))
-          ∙ ap (λ k. takes_of b (joined_upto (hs m).calls k)) e ∙ ap (takes_of b) (joined_split (hs m).calls n (N - n)) ∙ takes-append b (joined_upto (hs m).calls n) (joined_from (hs m).calls n (N - n))))
+      | inl is ↦ (
+        takes_of b (joined_from (hs m).calls n (N - n)),
+        (let e : N ≡ n + (N - n) = omega (arith, most) in
+            all_takes W N (wire_at wires b) hs b j ∙ (λ i. takes_of b (joined_upto (hs (is i)).calls (whole i)))
+            ∙ ap (λ k. takes_of b (joined_upto (hs m).calls k)) e ∙ ap (takes_of b) (joined_split (hs m).calls n (N - n)) ∙ takes-append b (joined_upto (hs m).calls n) (joined_from (hs m).calls n (N - n))),
+      )
       | inr other ↦ (answers_of windows b, ap (λ l. l ++ answers_of windows b) (sym (no_takes b other n most)))
     ]
 
@@ -153,9 +155,11 @@ module _ (meant : Meaning) (wires : List Wire) (clocks : ℕ) (own : TakeOwn mea
       | inl e ↦ (let l = local b less e in (l.0, local_run W N (wire_at wires b) hs b j l.0 e (subst (λ n. Follows (wire_at wires b).capacity [] (on b (joined_upto (hs (wire_at wires b).from).calls n)) l.0) (sym whole) l.1)))
       | inr n ↦ joined b less n
     ]);
-    in_order = λ b less e. (let l = local b less e in
-        (l.0, subst (λ c. Follows (wire_at wires b).capacity [] (on b c) l.0) (joined_alike (hs (wire_at wires b).from).calls (histories_of meant windows (λ m t. (hs m).accepted t) (wire_at wires b).from).calls N
-        (λ i low. calls_are (wire_at wires b).from (places b less).0 (ticks (wire_at wires b).from (places b less).0) i low)) l.1));
+    in_order = λ b less e. (let l = local b less e in (
+      l.0,
+      subst (λ c. Follows (wire_at wires b).capacity [] (on b c) l.0) (joined_alike (hs (wire_at wires b).from).calls (histories_of meant windows (λ m t. (hs m).accepted t) (wire_at wires b).from).calls N
+          (λ i low. calls_are (wire_at wires b).from (places b less).0 (ticks (wire_at wires b).from (places b less).0) i low)) l.1,
+    ));
     others = λ b past. (let n : N ≤ N = omega arith in let off = beyond wires b past in
         all_takes W N (wire_at wires b) hs b j ∙ (λ i. takes_of b (joined_upto (hs (ap (λ (w : Wire). w.to) off i)).calls (whole i))) ∙ no_others 0 some (ticks 0 some) b past N n);
   }

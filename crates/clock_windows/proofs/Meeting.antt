@@ -42,7 +42,7 @@ windows_alike wire hs gs b W N (suc j) t agree below up =
     let alike : (k : ℕ) → joined_from (gs k).calls from count ≡ joined_from (hs k).calls from count =
     λ k. joined_alike (λ i. (gs k).calls (from + i)) (λ i. (hs k).calls (from + i)) count (λ i less. (agree k).calls (from + i) (omega (arith, less, most))) in
     (λ i. windows_alike wire hs gs b W N j t agree (λ n less. below n (omega (arith, less))) (λ n less. up n (omega (arith, less))) i
-      ++ (puts_to b (alike wire.from i), takes_of b (alike wire.to i)) ∷ [])
+    ++ (puts_to b (alike wire.from i), takes_of b (alike wire.to i)) ∷ [])
 
 -- buffer b joins clock k to another one, or not
 pub ends_from : (wire : Wire) (k : ℕ) → wire.from ≡ k → wire.to ≢ k → ends_at wire k ≡ true

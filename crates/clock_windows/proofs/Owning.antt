@@ -44,9 +44,11 @@ no_took setting b m read (Took c answer ∷ calls) each = by (eqb b c) refl (no_
 module _ (setting : Setting) (map : ClockMap) (is : IsSetting setting map) (wires : List Wire) (are : AreWires setting map.running wires) where
   -- no node reads a buffer that the plan does not have
   unread : (answers : Answers) (m b : ℕ) → length wires ≤ b → IsUnread (answered setting answers) (Main m) b
-  unread answers m b past = record { none = λ rank i node found work below. (
-      let known : b < length setting.plan.buffers = is.plan.read b i (node, found, reads_op setting.plan.rate i node.kind node.op b work) in
-      let n = are.many in omega (arith, known, n, past)) }
+  unread answers m b past = record {
+    none = λ rank i node found work below. (
+        let known : b < length setting.plan.buffers = is.plan.read b i (node, found, reads_op setting.plan.rate i node.kind node.op b work) in
+        let n = are.many in omega (arith, known, n, past));
+  }
 
   none_taken : (answers : Answers) (accepted : ℕ → Bool) (m t b : ℕ) → length wires ≤ b → takes_of b (meant setting answers accepted m t) ≡ []
   none_taken answers accepted m t b past = sym (in_takes b (meant setting answers accepted m t)) ∙ no_tick_takes (answered setting answers) accepted m t b (unread answers m b past)

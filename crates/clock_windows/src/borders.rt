@@ -12,10 +12,7 @@ use liq_base::Memory;
 use std::alloc::Global;
 
 // Takes the ends out that take.
-fn lent<'a, O, R>(
-    alloc: Global,
-    task: &mut Task<'_, O, ThreadTaps<'a, R>>,
-) -> Vec<TakeEnd<'a>>
+fn lent<'a, O, R>(alloc: Global, task: &mut Task<'_, O, ThreadTaps<'a, R>>) -> Vec<TakeEnd<'a>>
     ensures { WasLent task.old task.new result.items }
 {
     task.taps.lend_takes(alloc)
@@ -86,13 +83,7 @@ pub(crate) fn close_joins<O, R>(
         if wire.from == wire.to {
             continue;
         }
-        let window = close_join(
-            alloc,
-            tasks,
-            wire.from as usize,
-            wire.to as usize,
-            b as u32,
-        );
+        let window = close_join(alloc, tasks, wire.from as usize, wire.to as usize, b as u32);
         add_window(&mut logs[b], window)?;
     }
     Ok(())
