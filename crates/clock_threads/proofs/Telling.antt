@@ -1,5 +1,5 @@
 -- The logs of a run that ended well.
-use Rattle.std.proofs.Common.{◌≡◌, ℕ, zero, suc, ◌<◌, List, [], ◌∷◌, length, map, refl, slice_index_or, sym, ap, ◌∙◌, subst, arith, inl, inr, Option}
+use Rattle.std.proofs.Common.{◌≡◌, ℕ, zero, suc, ◌<◌, List, [], ◌∷◌, ◌++◌, length, take, map, refl, slice_index_or, sym, ap, ◌∙◌, subst, arith, inl, inr, Option}
 use Rattle.buffer_ends.specs.Local.{Answers, empty_buffer}
 use Rattle.buffer_ends.specs.declared.counts.Counts.{Counts}
 use Rattle.buffer_ends.specs.declared.thread_taps.ThreadTaps.{ThreadTaps}
@@ -23,6 +23,14 @@ same_lists [] [] e each = refl
 same_lists [] (y ∷ ys) e each = absurd (omega (arith, e))
 same_lists (x ∷ xs) [] e each = absurd (omega (arith, e))
 same_lists (x ∷ xs) (y ∷ ys) e each = (λ i. each 0 x (omega arith) i ∷ same_lists xs ys (omega (arith, e)) (λ k d h. each (suc k) d (omega (arith, h))) i)
+
+-- what stands in a vector whose slice was written
+pub written_is : {A : Type 0} (n : ℕ) (new rest : List A) → length new ≡ n → take n (new ++ rest) ≡ new
+written_is n new rest e = ap (λ k. take k (new ++ rest)) (sym e) ∙ go new rest
+  where
+    go : {B : Type 0} (xs ys : List B) → take (length xs) (xs ++ ys) ≡ xs
+    go [] ys = refl
+    go (x ∷ xs) ys = ap (λ l. x ∷ l) (go xs ys)
 
 pub run_told : {S R : Type 0} (held name : S → Option (List ℕ)) (faults : S → ℕ) (wires : List Wire) (setting : Setting) (clocks : ClockMap) (W N : ℕ) (old olds engines : List (ClockEngine S)) (tasks : List (Task S (ThreadTaps R)))
     (logs after : List (List Answers)) (counts : List Counts)

@@ -95,7 +95,7 @@ module _ (plan : Plan) (clocks : ClockMap) (setting : Setting) (is : IsSetting s
         few = few;
         some = λ b less. (let n = first.many in let low : b < length plan.buffers = omega (arith, less, n) in
             let one : BufferPlan = slice_index_or plan.buffers b (record { pre = 0; capacity = 0 }) in
-            let good : IsBuffer one = subst (λ (p : Plan). All IsBuffer p.buffers) plan_is is.plan.buffers (record { pre = 0; capacity = 0 }) b low in
+            let good : IsBuffer one = subst (λ (p : Plan). All IsBuffer p.buffers) plan_is is.plan.buffers b (record { pre = 0; capacity = 0 }) low in
             let same = capacity b (record { pre = 0; capacity = 0 }) less in let some = some_room one good in omega (arith, same, some));
         capacities = capacity;
         places = λ b less. (let n = all.many in let runs = feeder_runs setting clocks is b (omega (arith, less, n)) in let w = all.each b less in let f = w.from_is in

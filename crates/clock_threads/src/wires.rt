@@ -1,5 +1,6 @@
 // The wires of a plan's buffers.
-ghost use Rattle.std.specs.Prelude.{◌≡◌, ◌<◌, length, IfOk};
+ghost use Rattle.std.specs.Prelude.{◌≡◌, ◌<◌, length, slice_index_or, IfOk};
+ghost use Rattle.plan_core.specs.declared.sink.BufferPlan.{BufferPlan as ThePlan};
 ghost use Rattle.plan_core.specs.Plans.{IsWellFormed};
 ghost use Rattle.stream_meaning.specs.Instants.{Setting};
 ghost use Rattle.clock_threads.specs.Plans.{AreFirstWires, IsWireAt, over};
@@ -8,13 +9,22 @@ use crate::ends::{feeders, main_of, readers};
 use clock_infer::ClockMap;
 use clock_windows::Wire;
 use liq_base::Memory;
-use plan_core::Plan;
+use plan_core::{BufferPlan, Plan};
 use std::alloc::Global;
 
-// The wire between the clocks of two nodes.
-fn wire_of(plan: &Plan, clocks: &ClockMap, feed: u32, reads: u32, capacity: u32) -> Wire
-    ensures { (other : Setting) → IsWireAt (over plan.now clocks.now.of other) clocks.now.running feed reads capacity result }
+// The buffer of a number.
+fn buffer_at(buffers: &[BufferPlan], number: usize) -> &BufferPlan
+    requires { number < length buffers.now }
+    ensures { (d : ThePlan) → result.now ≡ slice_index_or buffers.now number d }
 {
+    &buffers[number]
+}
+
+// The wire of a buffer between the clocks of two nodes.
+fn wire_of(plan: &Plan, clocks: &ClockMap, feed: u32, reads: u32, buffer: &BufferPlan) -> Wire
+    ensures { (other : Setting) → IsWireAt (over plan.now clocks.now.of other) clocks.now.running feed reads buffer.now.capacity result }
+{
+    let capacity = buffer.capacity;
     let from = main_of(plan, clocks, feed);
     let to = main_of(plan, clocks, reads);
     if to < clocks.running {
@@ -41,7 +51,7 @@ pub(crate) fn wires_of(alloc: Global, plan: &Plan, clocks: &ClockMap) -> Result<
     let read = readers(alloc, plan)?;
     let mut wires = Vec::with_capacity(alloc, buffers.len())?;
     for b in 0..buffers.len() {
-        let wire = wire_of(plan, clocks, fed[b], read[b], buffers[b].capacity);
+        let wire = wire_of(plan, clocks, fed[b], read[b], buffer_at(buffers, b));
         wires.push(wire)?;
     }
     Ok(wires)

@@ -1,7 +1,9 @@
-use Rattle.std.proofs.Common.{length, sym, subst}
+use Rattle.std.proofs.Common.{List, length, sym, subst}
+use Rattle.clock_windows.specs.declared.wires.Wire.{Wire}
+use Rattle.clock_threads.specs.Runs.{HasRunPart}
 use Rattle.plan_core.specs.declared.plan.Plan.{Plan}
 use Rattle.plan_core.specs.Plans.{IsWellFormed}
-use Rattle.clock_threads.specs.Threads.{AreLaid}
+use Rattle.clock_threads.specs.Threads.{AreFresh, AreLaid, AreSomeFresh}
 use Rattle.clock_threads.proofs.Readying.{part_none}
 use Rattle.clock_threads.proofs.Wiring.{fresh_is, laid, some_are, some_wires, wires_are}
 use Rattle.clock_threads.proofs.run.run_threads.Goals as goal
@@ -10,28 +12,31 @@ pub wires_of-requires : goal.wires_of-requires
 wires_of-requires g c = subst (λ (p : Plan). IsWellFormed p) c.requires.engines.are.plan_is c.requires.engines.are.is.plan
 
 pub run_wired-end-requires-clause-wires : goal.run_wired-end-requires-clause-wires
-run_wired-end-requires-clause-wires g c =
+run_wired-end-requires-clause-wires g c = λ κs lives.
     let are = c.requires.engines.are in
-    subst (λ n. AreLaid c.args.plan.now n c.in-Ok.wires.items) (sym are.all)
-    (laid c.args.plan.now c.args.clocks.now c.requires.engines.setting are.is are.plan_is c.in-Ok.wires.items c.in-Ok.ensures.few c.in-Ok.ensures.wires)
+    subst (λ (wires : List Wire). AreLaid c.args.plan.now (length c.args.engines.items) wires) (sym c.as_slice.ensures.value)
+    (subst (λ n. AreLaid c.args.plan.now n c.in-Ok.wires.items) (sym are.all)
+    (laid c.args.plan.now c.args.clocks.now c.requires.engines.setting are.is are.plan_is c.in-Ok.wires.items c.in-Ok.ensures.few c.in-Ok.ensures.wires))
 
 pub run_wired-end-requires-clause-fresh : goal.run_wired-end-requires-clause-fresh
-run_wired-end-requires-clause-fresh g c = record {
-  setting = c.requires.engines.setting;
-  clocks = c.args.clocks.now;
-  are = fresh_is g.O.Sink.room c.args.plan.now c.args.clocks.now c.args.ticks c.requires.engines.setting c.args.engines.items c.in-Ok.wires.items c.requires.engines.are c.in-Ok.ensures.wires;
-}
+run_wired-end-requires-clause-fresh g c = λ κs lives.
+    subst (λ (wires : List Wire). AreSomeFresh g.O.Sink.room c.args.plan.now wires c.args.ticks c.args.engines.items) (sym c.as_slice.ensures.value) (record {
+      setting = c.requires.engines.setting;
+      clocks = c.args.clocks.now;
+      are = fresh_is g.O.Sink.room c.args.plan.now c.args.clocks.now c.args.ticks c.requires.engines.setting c.args.engines.items c.in-Ok.wires.items c.requires.engines.are c.in-Ok.ensures.wires;
+    })
 
 pub returns-clause-done : goal.returns-clause-done
 returns-clause-done g c = λ e setting are.
     c.run_wired-end.ensures.done e setting c.args.clocks.now
-    (fresh_is g.O.Sink.room c.args.plan.now c.args.clocks.now c.args.ticks setting c.args.engines.items c.in-Ok.wires.items are c.in-Ok.ensures.wires)
+    (subst (λ (wires : List Wire). AreFresh g.O.Sink.room c.args.plan.now wires c.args.ticks setting c.args.clocks.now c.args.engines.items) (sym c.as_slice.ensures.value)
+    (fresh_is g.O.Sink.room c.args.plan.now c.args.clocks.now c.args.ticks setting c.args.engines.items c.in-Ok.wires.items are c.in-Ok.ensures.wires))
 
 pub returns-clause-part : goal.returns-clause-part
 returns-clause-part g c = λ e setting are. record {
   wires = c.in-Ok.wires.items;
   are = wires_are c.args.plan.now c.args.clocks.now setting are.is are.plan_is c.in-Ok.wires.items c.in-Ok.ensures.wires;
-  part = c.run_wired-end.ensures.part e;
+  part = subst (λ (wires : List Wire). HasRunPart g.O.Sink.held wires c.args.window c.args.ticks c.args.engines.items c.run_wired-end.new.engines.items) c.as_slice.ensures.value (c.run_wired-end.ensures.part e);
 }
 
 pub returns-in_default-clause-part : goal.returns-in_default-clause-part

@@ -1,8 +1,14 @@
-use Rattle.std.proofs.Common.{map, sym, subst, ◌∙◌, ◌⊎◌, inl, inr}
-use Rattle.clock_threads.specs.Runs.{HasRunPart}
+use Rattle.std.proofs.Common.{◌≡◌, ◌∙◌, List, ap, arith, length, map, sym, subst}
+use Rattle.std.proofs.lemmas.List.{with_items_is}
+use Rattle.buffer_ends.specs.Local.{Answers}
+use Rattle.buffer_ends.specs.declared.thread_taps.ThreadTaps.{ThreadTaps}
+use Rattle.clock_tasks.specs.declared.task.Task.{Task}
+use Rattle.clock_threads.specs.Logs.{AreCollected, counts_in}
+use Rattle.clock_threads.specs.Tasks.{engine_of}
+use Rattle.clock_threads.specs.Runs.{HasRunAll, HasRunPart}
 use Rattle.clock_threads.specs.Threads.{AreFresh}
 use Rattle.clock_threads.proofs.Readying.{part_none}
-use Rattle.clock_threads.proofs.Telling.{run_told}
+use Rattle.clock_threads.proofs.Telling.{run_told, written_is}
 use Rattle.clock_threads.proofs.threads.run_wired.Goals as goal
 
 pub returns-in_default-clause-part : goal.returns-in_default-clause-part
@@ -20,8 +26,19 @@ returns-in_default-tasks_of-clause-part g c = λ e.
 
 pub returns-clause-done : goal.returns-clause-done
 returns-clause-done g c = λ e setting clocks fresh.
-    let t = c.told.ensures.done e in let tasks = c.in-Ok-tasks_of.tasks.items in
-    let same = c.in-Ok-tasks_of.ensures.tasks.engines_are in
-    run_told g.O.Sink.held g.O.Sink.name g.O.Sink.faults c.args.wires.now setting clocks c.args.window c.args.ticks c.args.engines.now.items _ c.engines_of.new.engines.items c.run_tasks-end.new.tasks
-    c.run_tasks-end.new.logs c.engines_of.new.logs c.told.result.counts.items
-    (c.run_tasks-end.ensures.done t.0 setting clocks (subst (AreFresh g.O.Sink.room c.args.plan.now c.args.wires.now c.args.ticks setting clocks) (sym same) fresh)) same c.engines_of.ensures.logs c.engines_of.ensures.engines t.2
+    let t = c.told.ensures.done e in
+    let old = c.args.engines.now.items in
+    let same : map (engine_of {S = g.row.O.Denot} {R = g.row.R.Denot}) c.as_mut_slice.result.now ≡ old = ap (map engine_of) c.as_mut_slice.ensures.value ∙ c.in-Ok-tasks_of.ensures.tasks.engines_are in
+    let tasks = c.run_tasks-end.new.tasks in let logs = c.run_tasks-end.new.logs in let after = c.engines_of.new.logs in
+    let tasks_long : length tasks ≡ c.in-Ok-tasks_of.tasks.len = (let n = c.as_mut_slice.ensures.len in let m = c.run_tasks-end.ensures.many in omega (arith, n, m)) in
+    let tasks_are = with_items_is c.in-Ok-tasks_of.tasks tasks tasks_long in
+    let logs_long : length logs ≡ c.in-Ok.logs.len = (let n = c.as_mut_slice-2.ensures.len in let m = c.run_tasks-end.auto.logs in omega (arith, n, m)) in
+    let logs_are : c.as_mut_slice-3.result.now ≡ logs = c.as_mut_slice-3.ensures.value ∙ with_items_is c.in-Ok.logs logs logs_long in
+    let after_long : length after ≡ c.in-Ok.logs.len = (let n = c.as_mut_slice-3.ensures.len in let m = c.engines_of.auto.logs in omega (arith, n, m)) in
+    let collected : AreCollected c.args.wires.now tasks logs after =
+    subst (λ (z : List (Task g.row.O.Denot (ThreadTaps g.row.R.Denot)) × List (List Answers)). AreCollected c.args.wires.now z.0 z.1 after) (λ i. (tasks_are i, logs_are i)) c.engines_of.ensures.logs in
+    let run = c.run_tasks-end.ensures.done t.0 setting clocks (subst (AreFresh g.O.Sink.room c.args.plan.now c.args.wires.now c.args.ticks setting clocks) (sym same) fresh) in
+    subst (HasRunAll g.O.Sink.held g.O.Sink.name g.O.Sink.faults setting clocks c.args.window c.args.ticks old c.engines_of.new.engines.items c.told.result.counts.items)
+    (sym (t.1 ∙ written_is _ after _ after_long))
+    (run_told g.O.Sink.held g.O.Sink.name g.O.Sink.faults c.args.wires.now setting clocks c.args.window c.args.ticks old (map engine_of c.as_mut_slice.result.now) c.engines_of.new.engines.items
+    tasks logs after c.told.result.counts.items run same collected (c.engines_of.ensures.engines ∙ ap (map engine_of) tasks_are) (t.2 ∙ ap (map counts_in) (written_is _ after _ after_long)))
