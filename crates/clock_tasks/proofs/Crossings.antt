@@ -16,9 +16,7 @@ use Rattle.clock_outputs.specs.contracts.feed.FeedPort
 use Rattle.clock_outputs.specs.contracts.port.Port
 use Rattle.clock_engine.specs.contracts.fault.TickFault
 use Rattle.clock_engine.specs.contracts.engine.Works
-use Rattle.clock_engine.specs.contracts.engine.ClockEngine
 use Rattle.engine_instants.specs.contracts.shape.Shape
-use Rattle.clock_tasks.specs.contracts.task.Task
 use Rattle.engine_ticks.proofs.lanes.Lanes.TheSendSync as LanesSent
 use Rattle.clock_outputs.proofs.port.Port.TheSendSync as PortSent
 use Rattle.clock_outputs.proofs.feed.FeedPort.TheSendSync as FeedSent
@@ -28,7 +26,6 @@ use Rattle.fixed_text.proofs.week.WeekSecond.TheSendSync as SecondSent
 use Rattle.fixed_text.proofs.decimal.Decimal.TheSendSync as DecimalSent
 use Rattle.fixed_text.proofs.time_mark.TimeMark.TheSendSync as MarkSent
 use Rattle.frame_core.proofs.library.Library.TheSendSync as LibrarySent
-use Rattle.frame_core.proofs.track.Track.TheSendSync as TrackSent
 use Rattle.liq_base.proofs.memory.Kind.TheSendSync as KindSent
 use Rattle.liq_base.proofs.text.Text.TheSendSync as TextSent
 use Rattle.plan_core.proofs.items.Items.TheSendSync as ItemsSent

@@ -1,19 +1,22 @@
 -- A task's ticks.
-use Rattle.std.proofs.Common.{◌≡◌, ◌⊎◌, ℕ, zero, suc, ◌<◌, ◌≤◌, ◌+◌, ◌*◌, List, [], ◌∷◌, ◌++◌, length, slice_get, sym, refl, ap, ◌∙◌, subst, arith, append_assoc, append-nil, add-one, add-zero, add-suc, Option, Some, None, inl, inr, Result, Ok, Err, OnOk, OnErr, IfErr}
+use Rattle.std.proofs.Common.{◌≡◌, ℕ, zero, suc, ◌<◌, ◌≤◌, ◌+◌, ◌*◌, List, [], ◌∷◌, ◌++◌, length, slice_get, sym, refl, ap, ◌∙◌, subst, arith, append_assoc, append-nil, add-zero, add-suc, Option, Some, None}
 use Rattle.frame_core.specs.Calls.{Call}
 use Rattle.op_leaf.specs.Readers.{Answer}
 use Rattle.stream_meaning.specs.Instants.{Setting}
-use Rattle.stream_meaning.specs.Calls.{joined_upto, after_calls}
+use Rattle.stream_meaning.specs.Calls.{after_calls}
 use Rattle.clock_outputs.specs.Appends.{AreKept, NoneFell}
 use Rattle.clock_engine.specs.declared.engine.ClockEngine.{ClockEngine}
-use Rattle.clock_engine.specs.Engines.{AreWorks, EngineStands, setting_of}
-use Rattle.clock_engine.specs.Ticks.{HasMade, HasFailed, HaveTicksRoom, HaveTickRoom}
+use Rattle.clock_engine.specs.Engines.{EngineStands, setting_of}
+use Rattle.clock_engine.specs.Ticks.{HasMade, HasFailed, HaveTicksRoom, HaveTickRoom, IsWriteFault}
+use Rattle.clock_engine.specs.declared.fault.TickFault.{TickFault}
+use Rattle.clock_engine.specs.declared.fault.TickFault.TheVariants.{Write}
 use Rattle.clock_engine.specs.declared.engine.Works.{Works}
 use Rattle.liq_base.specs.Kinds.{channels_of}
 use Rattle.std.proofs.Math.Nat.{mul-le-mul_right}
 use Rattle.clock_tasks.specs.declared.task.Task.{Task}
 use Rattle.clock_tasks.specs.Histories.{History, joined_from, Agree, HasGone, HasGonePart}
-use Rattle.clock_tasks.specs.Tasks.{IsWhole, IsSameClock, held_of, stands_for, EngineGone, EngineGonePart, WentOn, Halted, RanTask, WasRun}
+use Rattle.clock_tasks.specs.Tasks.{IsWhole, IsSameClock, held_of, stands_for, EngineGone, WentOn, WasRun}
+use Rattle.clock_tasks.proofs.Writing.{write_of, write_since}
 use Rattle.clock_tasks.proofs.Walking.{agree_none, agree_then, joined_alike, extended, extended_at, extended_below, gone_more, gone_part}
 
 -- nothing changed, and one change after another
@@ -79,6 +82,13 @@ pub record Running {S T : Type 0} (held name : S → Option (List ℕ)) (room : 
   pub engine : (t : ℕ) (answers : ℕ → List Answer) → EngineStands old.engine.works t answers → (more : ℕ → List Answer) × EngineStands new.engine.works (t + count) more
   pub runs : new.engine.works.stopped ≡ None
 
+-- what stopped is not nothing, and is one fault
+some_not_none : {A : Type 0} {o : Option A} {x : A} → o ≡ Some x → o ≡ None → ⊥
+some_not_none is none = cc
+
+some_is : {A : Type 0} {o : Option A} (x y : A) → o ≡ Some x → o ≡ Some y → x ≡ y
+some_is x y one other = cc
+
 module _ {S T : Type 0} (held name : S → Option (List ℕ)) (room : S → Option ℕ) (faults : S → ℕ) (stands : T → List Call → Type 0) (buffers : T → ℕ) (same : T → T → Type 0) where
   pub running_none : (x : Task S T) → IsWhole x.engine → same x.taps x.taps → x.engine.works.stopped ≡ None → Running held name room faults stands buffers same 0 x x
   running_none x whole s runs = record {
@@ -132,15 +142,15 @@ module _ {S T : Type 0} (held name : S → Option (List ℕ)) (room : S → Opti
 
     pub running_broke : (whole : ℕ) → count < whole → same x.taps s → buffers s ≡ buffers y.taps
         → HasFailed held stands y.engine.works e.works y.engine.outs.items e.outs.items y.taps s
-        → (e.works.stopped ≡ None → ⊥)
+        → (fault : TickFault) → e.works.stopped ≡ Some fault → ((sink : ℕ) → fault ≡ Write sink → IsWriteFault faults y.engine.works y.engine.outs.items e.outs.items fault)
         → WasRun held name room faults stands buffers same whole x (record { engine = e; taps = s })
-    running_broke whole fewer taps many failed stopped = record {
+    running_broke whole fewer taps many failed fault stopped cause = record {
       whole = whole_e;
       clock = same_then name faults x.engine y.engine e running.clock same_clock;
       taps = taps;
       many = many ∙ running.many;
       ran = record {
-        on = λ t h first gone runs. absurd (stopped runs);
+        on = λ t h first gone runs. absurd (some_not_none stopped runs);
         halted = λ t h first gone no.
             let w = running.on t h first gone in
             let part = gone_part (setting_of y.engine.works) stands_for (held_of held) y.engine.works.clock (t + count) w.after first y.engine e w.gone failed.made
@@ -153,7 +163,10 @@ module _ {S T : Type 0} (held name : S → Option (List ℕ)) (room : S → Opti
               part = subst (λ (z : Setting × ℕ). HasGonePart z.0 (held_of held) z.1 (t + count) w.after first e) (λ i. (sym same_clock.setting i, sym same_clock.clock i)) part;
             };
       };
-      rooms = λ n runs. absurd (stopped runs);
+      write = λ sink is. (let e' : fault ≡ Write sink = some_is fault (Write sink) stopped is in
+          write_since name faults x.engine y.engine e sink running.clock
+          (write_of name faults y.engine e sink running.whole.works (subst (IsWriteFault faults y.engine.works y.engine.outs.items e.outs.items) e' (cause sink e'))));
+      rooms = λ n runs. absurd (some_not_none stopped runs);
     }
 
   pub running_all : (count whole : ℕ) (x y : Task S T) → count ≡ whole → Running held name room faults stands buffers same count x y → WasRun held name room faults stands buffers same whole x y
@@ -163,6 +176,7 @@ module _ {S T : Type 0} (held name : S → Option (List ℕ)) (room : S → Opti
     taps = running.taps;
     many = running.many;
     ran = record { on = λ t h first gone runs. running.on t h first gone; halted = λ t h first gone no. absurd (no running.runs) };
+    write = λ sink is. absurd (some_not_none is running.runs);
     rooms = λ n runs. running.rooms n;
   })
 

@@ -1,10 +1,11 @@
 -- What a task does in a window.
-use Rattle.std.specs.Prelude.{◌≡◌, ◌<◌, ◌≤◌, ◌+◌, Option, None, List, ◌++◌, ℕ, length}
+use Rattle.std.specs.Prelude.{◌≡◌, ◌<◌, ◌≤◌, ◌+◌, Option, Some, None, List, ◌++◌, ℕ, length, slice_get}
 use Rattle.frame_core.specs.Calls.{Call}
 use Rattle.op_leaf.specs.Readers.{Answer}
-use Rattle.clock_outputs.specs.Appends.{AreKept, NoneFell}
+use Rattle.clock_outputs.specs.Appends.{AreKept, NoneFell, RoseAt}
 use Rattle.clock_engine.specs.declared.engine.ClockEngine.{ClockEngine}
-use Rattle.clock_engine.specs.Engines.{AreWorks, EngineStands, held_in, setting_of}
+use Rattle.clock_engine.specs.declared.fault.TickFault.TheVariants.{Write}
+use Rattle.clock_engine.specs.Engines.{AreWorks, EngineStands, held_in, outputs_of, setting_of}
 use Rattle.clock_engine.specs.Ticks.{HaveTicksRoom}
 use Rattle.clock_tasks.specs.declared.task.Task.{Task}
 use Rattle.clock_tasks.specs.Histories.{History, joined_from, Agree, HasGone, HasGonePart}
@@ -27,6 +28,13 @@ pub record IsSameClock {S : Type 0} (name : S → Option (List ℕ)) (faults : S
   pub outs : length new.outs.items ≡ length old.outs.items
   pub kept : AreKept name faults old.outs.items new.outs.items
   pub none_fell : NoneFell faults old.outs.items new.outs.items
+
+-- this is the sink of an output of the clock, and its count of faults rose
+pub record IsWriteOf {S : Type 0} (faults : S → ℕ) (sink : ℕ) (old new : ClockEngine S) : Type 0 where
+  pub place : ℕ
+  pub node : ℕ
+  pub there : slice_get (outputs_of (setting_of old.works) old.works.clock) place ≡ Some (sink, node)
+  pub rose : RoseAt faults place old.outs.items new.outs.items
 
 -- the engine stands for some ticks and answers
 pub record DoesStand {S : Type 0} (e : ClockEngine S) : Type 0 where
@@ -77,4 +85,5 @@ pub record WasRun {S T : Type 0} (held name : S → Option (List ℕ)) (room : S
   pub taps : same old.taps new.taps
   pub many : buffers new.taps ≡ buffers old.taps
   pub ran : RanTask held stands count old new
+  pub write : (sink : ℕ) → new.engine.works.stopped ≡ Some (Write sink) → IsWriteOf faults sink old.engine new.engine
   pub rooms : (n : ℕ) → new.engine.works.stopped ≡ None → HaveTicksRoom room old.engine.works old.engine.outs.items (n + count) → HaveTicksRoom room new.engine.works new.engine.outs.items n

@@ -1,5 +1,5 @@
 -- The logs of the lists of all clocks are put together.
-use Rattle.std.proofs.Common.{◌≡◌, ◌≢◌, ℕ, zero, suc, ◌<◌, ◌≤◌, ◌+◌, List, [], ◌∷◌, ◌++◌, length, map, set, slice_index_or, sym, refl, ap, ◌∙◌, subst, arith, inl, inr, take, drop, get_or-set_same, get_or-set_other, length-set, length-append}
+use Rattle.std.proofs.Common.{◌≡◌, ◌≢◌, ℕ, suc, ◌<◌, ◌≤◌, ◌+◌, List, [], ◌∷◌, ◌++◌, length, map, set, slice_index_or, sym, refl, ap, ◌∙◌, subst, arith, inl, inr, take, drop, get_or-set_same, get_or-set_other, length-set, length-append}
 use Rattle.std.proofs.lemmas.List.{get_or_default}
 use Rattle.buffer_ends.specs.Local.{Answers, LocalBuffer, closed_windows}
 use Rattle.buffer_ends.specs.declared.thread_taps.ThreadTaps.{ThreadTaps}

@@ -1,9 +1,8 @@
 -- The counts of a log, window by window.
-use Rattle.std.proofs.Common.{◌≡◌, ℕ, zero, suc, ◌<◌, ◌+◌, cond, Bool, true, false, List, [], ◌∷◌, ◌++◌, length, map, not, count_by, slice_index_or, sym, refl, ap, ◌∙◌, arith, take, flat_map, append_assoc, append-nil}
+use Rattle.std.proofs.Common.{◌≡◌, ℕ, zero, suc, ◌<◌, ◌+◌, cond, Bool, List, [], ◌∷◌, ◌++◌, length, map, not, count_by, slice_index_or, sym, refl, ap, ◌∙◌, arith, take, flat_map, append_assoc, append-nil}
 use Rattle.std.proofs.lemmas.List.Sums.{sum_by-append}
 use Rattle.buffer_ends.specs.Local.{Answers, counts_of, puts_of, takes_of_window, yes}
-use Rattle.buffer_ends.specs.declared.counts.Counts.{Counts}
-use Rattle.clock_threads.specs.Logs.{more_counts, answers_of_log, counts_in}
+use Rattle.clock_threads.specs.Logs.{more_counts, counts_in}
 
 pub take_more : {A : Type 0} (xs : List A) (k : ℕ) (d : A) → k < length xs → take (k + 1) xs ≡ take k xs ++ slice_index_or xs k d ∷ []
 take_more xs k d low = let one : k + 1 ≡ suc k = omega arith in ap (λ n. take n xs) one ∙ go xs k low

@@ -1,17 +1,16 @@
 -- The ends of the buffers are handed out, from the last buffer on.
-use Rattle.std.proofs.Common.{◌≡◌, ◌≢◌, ◌⊎◌, ℕ, zero, suc, ◌<◌, ◌≤◌, ◌+◌, List, [], ◌∷◌, ◌++◌, length, get_or, set, slice_index_or, sym, refl, ap, ◌∙◌, subst, arith, inl, inr, ⊎_elim, get_or-set_same, get_or-set_other, length-set, length-append}
-use Rattle.std.proofs.lemmas.List.{get_or_default}
+use Rattle.std.proofs.Common.{◌≡◌, ◌≢◌, ◌⊎◌, ℕ, zero, suc, ◌<◌, ◌≤◌, ◌+◌, List, [], ◌∷◌, ◌++◌, length, set, slice_index_or, sym, refl, ap, ◌∙◌, subst, arith, inl, inr, get_or-set_same, get_or-set_other, length-set, length-append}
 use Rattle.atomic_table.specs.Seated.{TableId}
 use Rattle.buffer_queue.specs.Window.{Window, opened, capacity_of}
 use Rattle.buffer_ends.specs.Sides.{Side}
-use Rattle.buffer_ends.specs.Borders.{HasAt, HasEnd}
+use Rattle.buffer_ends.specs.Borders.{HasEnd}
 use Rattle.buffer_ends.specs.declared.thread_taps.ThreadTaps.{ThreadTaps}
 use Rattle.clock_tasks.specs.declared.task.Task.{Task}
 use Rattle.clock_windows.specs.declared.wires.Wire.{Wire}
 use Rattle.clock_windows.specs.Wires.{wire_at}
 use Rattle.clock_windows.specs.Ends.{puts_of as put_ends, takes_of as take_ends, SameButEnds, JoinOpen}
 use Rattle.clock_windows.specs.Records.{SameEngines}
-use Rattle.clock_windows.proofs.Sets.{same_or_other, side, swapped}
+use Rattle.clock_windows.proofs.Sets.{same_or_other, side}
 use Rattle.clock_threads.specs.Starts.{AreQueues, AreBare, PutAdded, TakeAdded, BothAdded, AreJoined}
 
 -- queues, one more

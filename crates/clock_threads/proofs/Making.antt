@@ -1,5 +1,5 @@
 -- Engines become tasks one after another, and come back.
-use Rattle.std.proofs.Common.{◌≡◌, ℕ, zero, suc, ◌<◌, ◌≤◌, ◌+◌, ◌-◌, List, [], ◌∷◌, ◌++◌, length, map, get_or, slice_index_or, sym, refl, ap, ◌∙◌, subst, arith, inl, inr, append_assoc, append-nil, length-append, take, drop}
+use Rattle.std.proofs.Common.{◌≡◌, ℕ, zero, suc, ◌<◌, ◌≤◌, ◌+◌, List, [], ◌∷◌, ◌++◌, length, map, slice_index_or, sym, refl, ap, ◌∙◌, subst, arith, inl, inr, append_assoc, append-nil, length-append, take, drop}
 use Rattle.plan_core.specs.declared.plan.Plan.{Plan}
 use Rattle.buffer_ends.specs.Local.{LocalBuffer, planned}
 use Rattle.buffer_ends.specs.declared.thread_taps.ThreadTaps.{ThreadTaps}

@@ -1,56 +1,55 @@
 -- Tasks that are ready, and what a run of them tells of their engines.
-use Rattle.std.proofs.Common.{◌≡◌, ◌≢◌, ◌⊎◌, ℕ, zero, suc, ◌<◌, ◌≤◌, ◌+◌, Bool, true, None, Some, List, [], ◌∷◌, ◌++◌, length, map, get_or, slice_index_or, sym, refl, ap, ◌∙◌, subst, arith, inl, inr, ⊎_elim, Option, append-nil}
-use Rattle.std.proofs.lemmas.List.{get_or_default}
+use Rattle.std.proofs.Common.{◌≡◌, ◌⊎◌, ℕ, suc, ◌<◌, true, None, Some, List, [], ◌∷◌, length, map, slice_get, slice_index_or, sym, refl, ap, ◌∙◌, subst, arith, Option, append-nil}
+use Rattle.std.proofs.lemmas.Option.{get_or_from_slice_get}
 use Rattle.liq_base.specs.Pieces.{grown}
-use Rattle.frame_core.specs.Calls.{Call}
 use Rattle.plan_core.specs.declared.plan.Plan.{Plan}
 use Rattle.plan_core.specs.declared.sink.BufferPlan.{BufferPlan}
 use Rattle.buffer_ends.specs.Local.{Answers, LocalBuffer, planned}
 use Rattle.buffer_ends.specs.Ends.{Has, ListsStand, EndsStand}
-use Rattle.buffer_ends.specs.Sides.{Side}
 use Rattle.buffer_ends.proofs.Windows.{stand_planned}
+use Rattle.buffer_ends.specs.declared.run_end.End.{End}
+use Rattle.buffer_ends.specs.declared.run_end.End.TheVariants.{Write}
 use Rattle.buffer_ends.specs.declared.thread_taps.ThreadTaps.{ThreadTaps}
 use Rattle.stream_meaning.specs.Instants.{Setting, answered}
 use Rattle.stream_meaning.specs.Sinks.{ticks_bytes}
 use Rattle.stream_meaning.specs.Calls.{joined_upto}
-use Rattle.node_states.specs.Ticks.{IsOutput}
-use Rattle.clock_outputs.specs.Appends.{AreKept, NoneFell}
-use Rattle.clock_engine.specs.Engines.{EngineStands, setting_of}
+use Rattle.clock_engine.specs.Engines.{EngineStands, outputs_of, setting_of}
 use Rattle.clock_engine.specs.Ticks.{HaveTicksRoom}
 use Rattle.clock_engine.specs.declared.engine.ClockEngine.{ClockEngine}
 use Rattle.clock_tasks.specs.declared.task.Task.{Task}
 use Rattle.clock_tasks.specs.Histories.{History}
-use Rattle.clock_tasks.specs.Tasks.{EngineGone, EngineGonePart, IsSameClock, held_of}
+use Rattle.clock_tasks.proofs.Writing.{read}
+use Rattle.clock_tasks.specs.Tasks.{EngineGone, IsSameClock, held_of}
 use Rattle.clock_windows.specs.declared.wires.Wire.{Wire}
 use Rattle.clock_windows.specs.Wires.{wire_at, kept}
-use Rattle.clock_windows.specs.Ends.{puts_of as put_ends, takes_of as take_ends, SameButEnds}
+use Rattle.clock_windows.specs.Ends.{puts_of as put_ends, takes_of as take_ends}
 use Rattle.run_records.specs.Records.{Run, Window, start, answers_of as answers_in_run}
 use Rattle.clock_infer.specs.declared.clock_map.ClockMap.{ClockMap}
 use Rattle.frame_core.specs.declared.cell.Cell.{Cell}
-use Rattle.clock_windows.specs.Records.{windows_upto, IsWired, ClockGoing, JoinGoing, Going, SameEngines}
-use Rattle.clock_windows.specs.Runs.{IsReady, DoneAt, RunDone, PartAt, RunPart}
+use Rattle.clock_windows.specs.Records.{ClockGoing, SameEngines}
+use Rattle.clock_windows.specs.Runs.{IsReady, IsWriteAt, DoneAt, RunDone, PartAt, RunPart}
 use Rattle.clock_windows.specs.Lawful.{IsWiredRun, answers_of, meant}
-use Rattle.clock_windows.proofs.Starts.{start_zero, start_up}
+use Rattle.clock_windows.proofs.Starts.{start_zero}
 use Rattle.clock_windows.proofs.Ending.{with_one}
-use Rattle.clock_windows.proofs.Lists.{going_runs}
 use Rattle.clock_windows.proofs.Finishing.{done_windows, done_wired, done_bytes, done_stands}
+use Rattle.clock_windows.proofs.Partly.{part_begun, part_fronts, part_run}
 use Rattle.clock_windows.proofs.Recording.{run_of, run_answers, run_is_lawful}
 use Rattle.clock_threads.specs.Logs.{AreNoLogs}
 use Rattle.clock_threads.specs.Starts.{AreJoined, AreBare}
-use Rattle.clock_threads.specs.Tasks.{engine_of, AreTasks, IsBare}
-use Rattle.clock_threads.specs.Runs.{IsFresh, HasMadeAll, HasRunPart}
-use Rattle.clock_threads.specs.Threads.{AreLaid, AreFresh, AreSomeFresh, HasRunTasks}
+use Rattle.clock_threads.specs.Tasks.{engine_of, AreTasks}
+use Rattle.clock_threads.specs.Runs.{IsFresh, HasMadeAll, HasMadePart, HasRunSome, IsWriteEnd}
+use Rattle.clock_threads.specs.Threads.{AreLaid, AreFresh, HasRunTasks}
 use Rattle.clock_threads.proofs.Making.{map_get, map_long}
 
 nothing : History
 nothing = record { calls = λ t. []; accepted = λ t b. true }
 
-grown_none : (held : Option (List ℕ)) → held ≡ grown [] held
+pub grown_none : (held : Option (List ℕ)) → held ≡ grown [] held
 grown_none None = refl
 grown_none (Some bytes) = ap Some (sym (append-nil bytes))
 
 -- an engine is as it was
-same_not : {S : Type 0} (name : S → Option (List ℕ)) (faults : S → ℕ) (e : ClockEngine S) → IsSameClock name faults e e
+pub same_not : {S : Type 0} (name : S → Option (List ℕ)) (faults : S → ℕ) (e : ClockEngine S) → IsSameClock name faults e e
 same_not name faults e = record {
   setting = refl;
   clock = refl;
@@ -65,16 +64,6 @@ same_not name faults e = record {
 -- an engine that has made no tick
 gone_none : {S : Type 0} (held : S → Option (List ℕ)) (e : ClockEngine S) → EngineStands e.works 0 (λ b. []) → EngineGone held 0 nothing (held_of held e) e
 gone_none held e st = record { stand = st; ticks = λ i less rest. absurd (omega (arith, less)); holds = λ rest sink node out. grown_none (held_of held e sink) }
-
--- no tick was made
-pub part_none : {S : Type 0} (held : S → Option (List ℕ)) (room : S → Option ℕ) (plan : Plan) (wires : List Wire) (W N : ℕ) (engines : List (ClockEngine S)) → AreSomeFresh room plan wires N engines → HasRunPart held wires W N engines engines
-part_none held room plan wires W N engines fresh = record {
-  many = refl;
-  closed = 0;
-  histories = λ k. nothing;
-  clocks = λ k d h. (0, (let z = start_zero W N in omega (arith, z)), omega arith, inl (gone_none held (slice_index_or engines k d) (fresh.are.engines_are.each k d h).stands));
-  runs = λ b low. ([], refl);
-}
 
 map_same : {S R : Type 0} (old new : List (Task S (ThreadTaps R))) → length new ≡ length old → ((k : ℕ) (d : Task S (ThreadTaps R)) → k < length old → (slice_index_or new k d).engine ≡ (slice_index_or old k d).engine)
     → map (engine_of {S = S} {R = R}) new ≡ map engine_of old
@@ -209,30 +198,55 @@ module _ {S R : Type 0} (held name : S → Option (List ℕ)) (room : S → Opti
   pub has_run : (now : List (Task S (ThreadTaps R))) (logs : List (List Answers)) → RunDone held name room faults wires W N joined now logs → HasRunTasks held name faults wires setting map_of W N (map engine_of bare) now logs
   has_run now logs done = let inside : 0 < length joined = (let m = j.many in omega (arith, some, m)) in with_one joined inside (λ d. tasks_run now logs d (done d) inside)
 
-  -- a run to the end, as far as any run
-  pub part_of_done : (now : List (Task S (ThreadTaps R))) (logs : List (List Answers)) → RunDone held name room faults wires W N joined now logs → RunPart held wires W N joined now
-  part_of_done now logs done d = let at = done d in record {
-    closed = at.windows;
-    histories = at.going.histories;
-    many = at.going.many;
-    clocks = λ k h. (start W N at.windows, omega arith, start_up W N at.windows, inl (at.going.clocks k h).gone);
-    runs = λ b low. going_runs held name room faults wires W N at.windows joined now logs d at.going places_joined b low;
-  }
+  module _ (now : List (Task S (ThreadTaps R))) (d : Task S (ThreadTaps R)) (p : PartAt held name faults wires W N joined now d) where
+    abbrev begun_run : Run
+    begun_run = part_run held name faults wires W N joined now d p setting map_of fresh.engines_are.is fresh.wires_are long (shared d)
 
-  pub has_run_part : (now : List (Task S (ThreadTaps R))) → RunPart held wires W N joined now → HasRunPart held wires W N (map engine_of bare) (map engine_of now)
-  has_run_part now part = with_one joined (let m = j.many in omega (arith, some, m)) (λ d.
-      let p = part d in
-      record {
-        many = map_long engine_of now ∙ p.many ∙ j.many ∙ sym (map_long engine_of bare);
-        closed = p.closed;
-        histories = p.histories;
-        clocks = λ k e h. (let low : k < length bare = (let n = map_long (engine_of {S = S} {R = R}) bare in omega (arith, h, n)) in let m = j.many in let n = p.many in
-            let c = p.clocks k (omega (arith, low, m)) in
-            let was : (slice_index_or joined k d).engine ≡ slice_index_or (map engine_of bare) k e = engine_is k d low ∙ sym (map_get engine_of bare k d e low) in
-            let is : (slice_index_or now k d).engine ≡ slice_index_or (map engine_of now) k e = sym (map_get engine_of now k d e (omega (arith, low, m, n))) in
-            (c.0, c.1, c.2, subst (λ (z : ClockEngine S × ClockEngine S). EngineGone held c.0 (p.histories k) (held_of held z.0) z.1 ⊎ EngineGonePart held c.0 (p.histories k) (held_of held z.0) z.1) (λ i. (was i, is i)) c.3));
-        runs = p.runs;
-      })
+    made_part : (k : ℕ) → k < length joined → HasMadePart held name faults setting begun_run N k (slice_index_or joined k d).engine (slice_index_or now k d).engine
+    made_part k h = record {
+      whole = (p.clocks k h).whole;
+      same = (p.clocks k h).same;
+      part = part_fronts held name faults wires W N joined now d p setting map_of fresh.engines_are.is fresh.wires_are long (shared d) k h;
+    }
+
+    -- the end names a sink of the lowest clock that stopped
+    write_end : (clock sink : ℕ) → IsWriteAt faults clock sink joined now → IsWriteEnd faults setting clock sink (map engine_of bare) (map engine_of now)
+    write_end clock sink w =
+        let k = w.place in let h = w.within in let sh = shared d k h in let one = w.write d in
+        let low : k < length bare = in_bare k h in
+        let in_now : k < length now = (let n = p.many in omega (arith, h, n)) in
+        let in_engines : k < length (map (engine_of {S = S} {R = R}) bare) = (let n = map_long (engine_of {S = S} {R = R}) bare in omega (arith, low, n)) in
+        let in_new : k < length (map (engine_of {S = S} {R = R}) now) = (let n = map_long (engine_of {S = S} {R = R}) now in omega (arith, in_now, n)) in
+        let place : k ≡ clock = sym ((p.clocks k h).same.clock ∙ sh.1) ∙ w.clock_is d in
+        subst (λ c. IsWriteEnd faults setting c sink (map engine_of bare) (map engine_of now)) place (record {
+          before = (slice_index_or joined k d).engine;
+          after = (slice_index_or now k d).engine;
+          was = read (map engine_of bare) k d.engine in_engines ∙ ap Some (map_get engine_of bare k d d.engine low ∙ sym (engine_is k d low));
+          is = read (map engine_of now) k d.engine in_new ∙ ap Some (map_get engine_of now k d d.engine in_now);
+          stopped = w.stopped d;
+          lowest = λ j engine below there. (let inside : j < length now = omega (arith, below, in_now) in
+              ap (λ (e : ClockEngine S). e.works.stopped) (sym (get_or_from_slice_get (map engine_of now) j engine d.engine there) ∙ map_get engine_of now j d d.engine inside) ∙ w.lowest j d below);
+          place = one.place;
+          node = one.node;
+          there = (λ i. slice_get (outputs_of (sym sh.0 i) (sym sh.1 i)) one.place) ∙ one.there;
+          rose = one.rose;
+        })
+
+    some_run : (end : End) → ((clock sink : ℕ) → end ≡ Write clock sink → IsWriteAt faults clock sink joined now)
+        → HasRunSome held name faults setting map_of W N (map engine_of bare) (map engine_of now) end
+    some_run end write = record {
+      run = begun_run;
+      begun = part_begun held name faults wires W N joined now d p setting map_of fresh.engines_are.is fresh.wires_are long (shared d);
+      many = map_long engine_of now ∙ p.many ∙ j.many ∙ sym (map_long engine_of bare);
+      engines = λ k e h. (let low : k < length bare = (let n = map_long (engine_of {S = S} {R = R}) bare in omega (arith, h, n)) in let m = j.many in let n = p.many in
+          subst (λ (z : ClockEngine S × ClockEngine S). HasMadePart held name faults setting begun_run N k z.0 z.1)
+          (λ i. ((engine_is k d low ∙ sym (map_get engine_of bare k d e low)) i, sym (map_get engine_of now k d e (omega (arith, low, m, n))) i)) (made_part k (omega (arith, low, m))));
+      write = λ clock sink e. write_end clock sink (write clock sink e);
+    }
+
+  pub has_run_some : (now : List (Task S (ThreadTaps R))) (end : End) → RunPart held name faults wires W N joined now → ((clock sink : ℕ) → end ≡ Write clock sink → IsWriteAt faults clock sink joined now)
+      → HasRunSome held name faults setting map_of W N (map engine_of bare) (map engine_of now) end
+  has_run_some now end part write = with_one joined (let m = j.many in omega (arith, some, m)) (λ d. some_run now d (part d) end write)
 
   pub bare_is : AreBare bare
   bare_is = record { puts = λ k d h. (tasks.each k d h).puts; takes = λ k d h. (tasks.each k d h).takes }

@@ -1,5 +1,5 @@
 -- The logs of a run that ended well.
-use Rattle.std.proofs.Common.{◌≡◌, ℕ, zero, suc, ◌<◌, List, [], ◌∷◌, ◌++◌, length, take, map, refl, slice_index_or, sym, ap, ◌∙◌, subst, arith, inl, inr, Option}
+use Rattle.std.proofs.Common.{◌≡◌, ℕ, suc, ◌<◌, List, [], ◌∷◌, ◌++◌, length, take, map, refl, slice_index_or, sym, ap, ◌∙◌, subst, arith, inl, inr, Option}
 use Rattle.buffer_ends.specs.Local.{Answers, empty_buffer}
 use Rattle.buffer_ends.specs.declared.counts.Counts.{Counts}
 use Rattle.buffer_ends.specs.declared.thread_taps.ThreadTaps.{ThreadTaps}

@@ -1,29 +1,24 @@
 -- The wires of a plan's buffers.
-use Rattle.std.proofs.Common.{◌≡◌, ◌<◌, ◌≤◌, ◌+◌, ◌∙◌, ℕ, zero, suc, Bool, cond, Option, Some, None, List, [], ◌∷◌, ◌++◌, length, length-append, slice_index_or, slice_get, nat_lt, refl, sym, ap, subst, arith, inl, inr}
+use Rattle.std.proofs.Common.{◌≡◌, ◌<◌, ◌+◌, ◌∙◌, ℕ, zero, suc, Bool, cond, Option, List, [], ◌∷◌, ◌++◌, length, length-append, slice_index_or, slice_get, nat_lt, refl, sym, ap, subst, arith, inl, inr}
 use Rattle.std.specs.Prelude.{All}
 use Rattle.std.specs.Option.{option_map_or}
 use Rattle.std.proofs.lemmas.Bool.{cases_lt, lt-ltb, le-ltb}
-use Rattle.std.proofs.lemmas.List.{get_or_default}
 use Rattle.plan_core.specs.declared.plan.Plan.{Plan}
 use Rattle.plan_core.specs.declared.sink.BufferPlan.{BufferPlan}
 use Rattle.plan_core.specs.Plans.{IsBuffer}
 use Rattle.clock_infer.specs.declared.clock_map.ClockMap.{ClockMap}
-use Rattle.clock_infer.specs.declared.clock_map.NodeClock.{NodeClock}
 use Rattle.stream_meaning.specs.Instants.{Setting}
 use Rattle.stream_meaning.specs.Settings.{IsSetting}
-use Rattle.run_records.specs.Buffers.{feeder, main_of, read_from, reader}
-use Rattle.run_records.specs.Records.{capacity_of}
+use Rattle.run_records.specs.Buffers.{feeder, main_of, reader}
 use Rattle.run_records.proofs.Alone.{feeder_runs}
 use Rattle.clock_engine.specs.declared.engine.ClockEngine.{ClockEngine}
 use Rattle.clock_windows.specs.declared.wires.Wire.{Wire}
 use Rattle.clock_windows.specs.Wires.{no_wire, wire_at}
-use Rattle.clock_windows.specs.Lawful.{AreWires, IsWireOf, taker}
-use Rattle.clock_windows.specs.Listed.{listed}
-use Rattle.clock_windows.proofs.Recording.{listed_at, listed_long}
+use Rattle.clock_windows.specs.Lawful.{AreWires, IsWireOf}
 use Rattle.clock_windows.proofs.Sets.{same_or_other}
 use Rattle.clock_threads.specs.Plans.{AreFeeders, AreFirstWires, AreReaders, IsWireAt, over}
-use Rattle.clock_threads.specs.Runs.{AreEngines, AreAlike}
-use Rattle.clock_threads.specs.Threads.{AreFresh, AreLaid, AreSomeFresh}
+use Rattle.clock_threads.specs.Runs.{AreEngines}
+use Rattle.clock_threads.specs.Threads.{AreFresh, AreLaid}
 use Rattle.clock_threads.proofs.Joining.{front_get, last_get}
 
 -- what is found at a place that is there
@@ -69,20 +64,6 @@ module _ (plan : Plan) (clocks : ClockMap) (setting : Setting) (is : IsSetting s
     many = first.many ∙ ap (λ (p : Plan). length p.buffers) (sym plan_is);
     each = λ b less. (let n = first.many in subst (λ s. IsWireOf s clocks.running b (wire_at wires b)) same_setting (first.each setting b (omega (arith, less, n))));
   }
-
-  -- the buffers of a setting have wires
-  abbrev pub some_wires : List Wire
-  some_wires = listed (length setting.plan.buffers) (λ b. record { from = feeder setting b; to = taker setting clocks.running b; capacity = capacity_of setting b })
-
-  pub some_are : AreWires setting clocks.running some_wires
-  some_are =
-      let wire_at_b : ℕ → Wire = λ b. record { from = feeder setting b; to = taker setting clocks.running b; capacity = capacity_of setting b } in
-      record {
-        many = listed_long (length setting.plan.buffers) wire_at_b;
-        each = λ b less. (let n = listed_long (length setting.plan.buffers) wire_at_b in
-            let w : wire_at some_wires b ≡ wire_at_b b = listed_at (length setting.plan.buffers) wire_at_b b no_wire (omega (arith, less, n)) in
-            record { from_is = ap (λ (x : Wire). x.from) w; to_is = ap (λ (x : Wire). x.to) w; capacity_is = ap (λ (x : Wire). x.capacity) w });
-      }
 
   pub laid : (wires : List Wire) → length wires < 4294967296 → AreFirstWires plan clocks (length plan.buffers) wires → AreLaid plan clocks.running wires
   laid wires few first =

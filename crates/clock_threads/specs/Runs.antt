@@ -1,27 +1,25 @@
 -- Runs of the engines of all clocks by threads, in windows of ticks.
-use Rattle.std.specs.Prelude.{◌≡◌, ◌⊎◌, ◌<◌, ◌≤◌, ◌++◌, ℕ, suc, Option, None, List, [], length, map, slice_index_or}
-use Rattle.liq_base.specs.Pieces.{grown}
+use Rattle.std.specs.Prelude.{◌≡◌, ◌<◌, ℕ, Option, Some, None, List, [], length, map, slice_get, slice_index_or}
+use Rattle.liq_base.specs.Pieces.{IsPrefix, grown}
 use Rattle.plan_core.specs.declared.plan.Plan.{Plan}
 use Rattle.clock_infer.specs.declared.clock_map.ClockMap.{ClockMap}
-use Rattle.frame_core.specs.declared.cell.Cell.{Cell}
-use Rattle.frame_core.specs.Legal.{IsRun}
 use Rattle.op_leaf.specs.Readers.{Answer}
 use Rattle.buffer_ends.specs.Local.{Answers}
 use Rattle.buffer_ends.specs.declared.counts.Counts.{Counts}
+use Rattle.buffer_ends.specs.declared.run_end.End.{End}
+use Rattle.buffer_ends.specs.declared.run_end.End.TheVariants.{Write}
 use Rattle.stream_meaning.specs.Instants.{Setting}
 use Rattle.stream_meaning.specs.Settings.{IsSetting}
 use Rattle.stream_meaning.specs.Sinks.{ticks_bytes}
 use Rattle.node_states.specs.Ticks.{IsOutput, with_rest}
-use Rattle.run_records.specs.Records.{IsLawful, Run, setting_in, start}
-use Rattle.clock_engine.specs.Engines.{EngineStands, setting_of}
+use Rattle.run_records.specs.Records.{AreWindowsBegun, IsLawful, Run, setting_in, setting_then}
+use Rattle.clock_outputs.specs.Appends.{RoseAt}
+use Rattle.clock_engine.specs.Engines.{EngineStands, outputs_of, setting_of}
 use Rattle.clock_engine.specs.Ticks.{HaveTicksRoom}
 use Rattle.clock_engine.specs.declared.engine.ClockEngine.{ClockEngine}
-use Rattle.clock_tasks.specs.Histories.{History}
-use Rattle.clock_tasks.specs.Tasks.{EngineGone, EngineGonePart, IsSameClock, IsWhole, held_of}
-use Rattle.clock_windows.specs.declared.wires.Wire.{Wire}
-use Rattle.clock_windows.specs.Wires.{told, wire_at}
-use Rattle.clock_windows.specs.Records.{windows_upto}
-use Rattle.clock_windows.specs.Lawful.{AreWires}
+use Rattle.clock_engine.specs.declared.fault.TickFault.TheVariants.{Write as Refused}
+use Rattle.clock_tasks.specs.Tasks.{IsSameClock, IsWhole, held_of}
+use Rattle.clock_windows.specs.Wires.{told}
 use Rattle.clock_threads.specs.Logs.{counts_in}
 
 -- the engine of clock k, which has made no tick, with room for N
@@ -72,19 +70,31 @@ pub record HasRunAll {S : Type 0} (held name : S → Option (List ℕ)) (faults 
   pub has_run : HasRun held name faults setting clocks W N run old new
   pub tells : AreTold run counts logs
 
--- The run broke off: no clock is past the window in which the first one stopped, each output holds a front of its bytes for what its
--- clock's takes got, and the windows that were closed until then are one history of each buffer.
-pub record HasRunPart {S : Type 0} (held : S → Option (List ℕ)) (wires : List Wire) (W N : ℕ) (old new : List (ClockEngine S)) : Type 0 where
-  pub many : length new ≡ length old
-  pub closed : ℕ
-  pub histories : ℕ → History
-  pub clocks : (k : ℕ) (d : ClockEngine S) → k < length old → (t : ℕ) × (start W N closed ≤ t) × (t ≤ start W N (suc closed))
-      × (EngineGone held t (histories k) (held_of held (slice_index_or old k d)) (slice_index_or new k d)
-      ⊎ EngineGonePart held t (histories k) (held_of held (slice_index_or old k d)) (slice_index_or new k d))
-  pub runs : (b : ℕ) → b < length wires → (chunks : List (List Cell)) × IsRun (wire_at wires b).capacity [] (windows_upto (wire_at wires b) histories b W N closed) chunks
+-- An engine has made a part of its ticks of a run: each output has grown by a front of its bytes, whatever answers follow those that
+-- the run got.
+pub record HasMadePart {S : Type 0} (held name : S → Option (List ℕ)) (faults : S → ℕ) (setting : Setting) (run : Run) (N k : ℕ) (old new : ClockEngine S) : Type 0 where
+  pub whole : IsWhole new
+  pub same : IsSameClock name faults old new
+  pub part : (rest : ℕ → List Answer) (sink node : ℕ) → IsOutput setting k sink node
+      → (front : List ℕ) × IsPrefix front (ticks_bytes (setting_then setting run rest) node N) × (held_of held new sink ≡ grown front (held_of held old sink))
 
--- the same, by the wires of this setting's buffers
-pub record HasRunSome {S : Type 0} (held : S → Option (List ℕ)) (setting : Setting) (clocks : ClockMap) (W N : ℕ) (old new : List (ClockEngine S)) : Type 0 where
-  pub wires : List Wire
-  pub are : AreWires setting clocks.running wires
-  pub part : HasRunPart held wires W N old new
+-- The end names an output of this clock, the lowest that stopped, and the count of faults of its sink rose.
+pub record IsWriteEnd {S : Type 0} (faults : S → ℕ) (setting : Setting) (clock sink : ℕ) (old new : List (ClockEngine S)) : Type 0 where
+  pub before : ClockEngine S
+  pub after : ClockEngine S
+  pub was : slice_get old clock ≡ Some before
+  pub is : slice_get new clock ≡ Some after
+  pub stopped : after.works.stopped ≡ Some (Refused sink)
+  pub lowest : (k : ℕ) (engine : ClockEngine S) → k < clock → slice_get new k ≡ Some engine → engine.works.stopped ≡ None
+  pub place : ℕ
+  pub node : ℕ
+  pub there : slice_get (outputs_of setting clock) place ≡ Some (sink, node)
+  pub rose : RoseAt faults place before.outs.items after.outs.items
+
+-- A run came so far, and this is its record; no clock is past the window that follows those that were closed.
+pub record HasRunSome {S : Type 0} (held name : S → Option (List ℕ)) (faults : S → ℕ) (setting : Setting) (clocks : ClockMap) (W N : ℕ) (old new : List (ClockEngine S)) (end : End) : Type 0 where
+  pub run : Run
+  pub begun : AreWindowsBegun setting clocks.running W N run
+  pub many : length new ≡ length old
+  pub engines : (k : ℕ) (d : ClockEngine S) → k < length old → HasMadePart held name faults setting run N k (slice_index_or old k d) (slice_index_or new k d)
+  pub write : (clock sink : ℕ) → end ≡ Write clock sink → IsWriteEnd faults setting clock sink old new

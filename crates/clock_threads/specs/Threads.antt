@@ -1,5 +1,5 @@
 -- A run of all clocks by threads, over wires.
-use Rattle.std.specs.Prelude.{◌≡◌, ◌<◌, ◌≤◌, ℕ, Option, None, List, [], length, map, slice_index_or}
+use Rattle.std.specs.Prelude.{◌≡◌, ◌<◌, ℕ, Option, List, length, map, slice_index_or}
 use Rattle.plan_core.specs.declared.plan.Plan.{Plan}
 use Rattle.plan_core.specs.declared.sink.BufferPlan.{BufferPlan}
 use Rattle.clock_infer.specs.declared.clock_map.ClockMap.{ClockMap}

@@ -18,7 +18,7 @@ use std::thread::Threads;
 /// Renders so many ticks, at most 1000000000, of each clock, by a thread for each clock, in windows of so many ticks, at least
 /// one. The engines are those of all running clocks of this plan, in clock order, and made no tick; before each tick the gate is
 /// entered. A clock that stops does so at its tick; the others end their window, and no further one begins. The same engines
-/// come back in the same order, whatever the end is.
+/// come back in the same order, whatever the end is. Where a sink refused bytes, the end names the lowest clock that stopped.
 pub fn run_threads<'a, O: Sink + Send, G: Gate + Sync, R: Threads + Wait + Sync>(
     rt: &R,
     alloc: Global,
@@ -29,16 +29,18 @@ pub fn run_threads<'a, O: Sink + Send, G: Gate + Sync, R: Threads + Wait + Sync>
     window: u64,
     gate: &G,
 ) -> (Vec<ClockEngine<'a, O>>, RunEnd)
-    requires some { 0 < length engines.items }
     requires engines { AreAlike O.room plan.now clocks.now ticks engines.items }
     requires few { ticks ≤ 1000000000 }
     requires window { 0 < window }
     ensures many { length result.0.items ≡ length engines.entry.items }
     ensures done { result.1.end ≡ Done → (setting : Setting) → AreEngines O.room plan.now clocks.now ticks setting engines.entry.items
         → HasRunAll O.held O.name O.faults setting clocks.now window ticks engines.entry.items result.0.items result.1.counts.items result.1.logs.items }
-    ensures part { (result.1.end ≡ Done → ⊥) → (setting : Setting) → AreEngines O.room plan.now clocks.now ticks setting engines.entry.items
-        → HasRunSome O.held setting clocks.now window ticks engines.entry.items result.0.items }
+    ensures part { (setting : Setting) → AreEngines O.room plan.now clocks.now ticks setting engines.entry.items
+        → HasRunSome O.held O.name O.faults setting clocks.now window ticks engines.entry.items result.0.items result.1.end }
 {
+    if engines.is_empty() {
+        return (engines, ended(alloc, End::Done));
+    }
     let mut engines = engines;
     let Ok(wires) = wires_of(alloc, plan, clocks) else {
         return (engines, ended(alloc, End::Memory));

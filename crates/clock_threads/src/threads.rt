@@ -1,12 +1,12 @@
 // The run over wires.
-ghost use Rattle.std.specs.Prelude.{◌≡◌, ◌⊎◌, ◌<◌, ◌≤◌, ℕ, length, map};
-ghost use Rattle.buffer_ends.specs.declared.run_end.End.TheVariants.{Done};
+ghost use Rattle.std.specs.Prelude.{◌≡◌, ◌⊎◌, ◌<◌, ◌≤◌, ℕ, [], length, map};
+ghost use Rattle.buffer_ends.specs.declared.run_end.End.TheVariants.{Done, Write};
 ghost use Rattle.clock_threads.specs.Logs.{AreNoLogs, counts_in};
 ghost use Rattle.clock_threads.specs.Starts.{AreQueues};
 ghost use Rattle.clock_threads.specs.Tasks.{AreTasks, engine_of};
 ghost use Rattle.clock_infer.specs.declared.clock_map.ClockMap.{ClockMap as Map};
 ghost use Rattle.stream_meaning.specs.Instants.{Setting};
-ghost use Rattle.clock_threads.specs.Runs.{HasRunAll, HasRunPart};
+ghost use Rattle.clock_threads.specs.Runs.{HasRunAll, HasRunSome};
 ghost use Rattle.clock_threads.specs.Threads.{AreFresh, AreLaid, AreSomeFresh, HasRunTasks};
 
 use crate::counts::count_logs;
@@ -50,8 +50,8 @@ fn run_tasks<'q, O: Sink + Send, G: Gate + Sync, R: Threads + Wait + Sync>(
     ensures many { length tasks.new ≡ length tasks.old }
     ensures done { result ≡ Done → (setting : Setting) (clocks : Map) → AreFresh O.room plan.now wires.now ticks setting clocks (map engine_of tasks.old)
         → HasRunTasks O.held O.name O.faults wires.now setting clocks window ticks (map engine_of tasks.old) tasks.new logs.new }
-    ensures all { result ≡ Done → HasRunPart O.held wires.now window ticks (map engine_of tasks.old) (map engine_of tasks.new) }
-    ensures part { (result ≡ Done → ⊥) → HasRunPart O.held wires.now window ticks (map engine_of tasks.old) (map engine_of tasks.new) }
+    ensures part { (setting : Setting) (clocks : Map) → AreFresh O.room plan.now wires.now ticks setting clocks (map engine_of tasks.old)
+        → HasRunSome O.held O.name O.faults setting clocks window ticks (map engine_of tasks.old) (map engine_of tasks.new) result }
 {
     if let Err(Memory) = join_all(wires, queues, passes, tasks) {
         return End::Memory;
@@ -59,9 +59,10 @@ fn run_tasks<'q, O: Sink + Send, G: Gate + Sync, R: Threads + Wait + Sync>(
     run_windows(rt, alloc, wires, tasks, logs, ticks, window, gate)
 }
 
-// The answer of a run that did not come to its end.
+// The answer of a run of which no log is told.
 pub(crate) fn ended(alloc: Global, end: End) -> RunEnd
-    ensures { result.end ≡ end }
+    ensures end { result.end ≡ end }
+    ensures none { (result.counts.items ≡ []) × (result.logs.items ≡ []) }
 {
     RunEnd {
         counts: Vec::new(alloc),
@@ -73,7 +74,7 @@ pub(crate) fn ended(alloc: Global, end: End) -> RunEnd
 // The answer of a run with these logs.
 fn told(alloc: Global, logs: Vec<BufferLog>, end: End) -> RunEnd
     ensures done { result.end ≡ Done → (end ≡ Done) × (result.logs.items ≡ logs.items) × (result.counts.items ≡ map counts_in logs.items) }
-    ensures ended { (result.end ≡ Done → ⊥) → (end ≡ Done) ⊎ (result.end ≡ end) }
+    ensures write { (clock sink : ℕ) → result.end ≡ Write clock sink → end ≡ Write clock sink }
 {
     if end != End::Done {
         return ended(alloc, end);
@@ -103,7 +104,8 @@ pub(crate) fn run_wired<'a, O: Sink + Send, G: Gate + Sync, R: Threads + Wait + 
     ensures many { length engines.new.items ≡ length engines.old.items }
     ensures done { result.end ≡ Done → (setting : Setting) (clocks : Map) → AreFresh O.room plan.now wires.now ticks setting clocks engines.old.items
         → HasRunAll O.held O.name O.faults setting clocks window ticks engines.old.items engines.new.items result.counts.items result.logs.items }
-    ensures part { (result.end ≡ Done → ⊥) → HasRunPart O.held wires.now window ticks engines.old.items engines.new.items }
+    ensures part { (setting : Setting) (clocks : Map) → AreFresh O.room plan.now wires.now ticks setting clocks engines.old.items
+        → HasRunSome O.held O.name O.faults setting clocks window ticks engines.old.items engines.new.items result.end }
 {
     let Ok(mut logs) = no_logs(alloc, wires.len()) else {
         return ended(alloc, End::Memory);

@@ -1,18 +1,17 @@
 -- The windows of the buffers between clocks are closed one after another.
-use Rattle.std.proofs.Common.{◌≡◌, ◌≢◌, ◌⊎◌, ℕ, zero, suc, ◌<◌, ◌≤◌, ◌+◌, List, [], ◌∷◌, ◌++◌, length, map, get_or, set, slice_index_or, slice_set, sym, refl, ap, ◌∙◌, subst, arith, inl, inr, ⊎_elim, get_or-set_same, get_or-set_other, length-set}
+use Rattle.std.proofs.Common.{◌≡◌, ◌≢◌, ℕ, ◌<◌, ◌≤◌, ◌+◌, List, length, map, get_or, set, slice_index_or, sym, refl, ap, ◌∙◌, subst, arith, inl, inr, get_or-set_same, get_or-set_other, length-set}
 use Rattle.std.proofs.lemmas.List.{get_or_default}
-use Rattle.frame_core.specs.declared.cell.Cell.{Cell}
 use Rattle.frame_core.specs.Legal.{Legal}
 use Rattle.buffer_queue.specs.Window.{Window, opened, capacity_of, is_chunk}
 use Rattle.buffer_ends.specs.Local.{Answers}
-use Rattle.buffer_ends.specs.Sides.{Side, Apart}
-use Rattle.buffer_ends.specs.Borders.{HasAt, HasEnd, Turned, WasClosed, HaveEnds}
+use Rattle.buffer_ends.specs.Sides.{Side}
+use Rattle.buffer_ends.specs.Borders.{HasEnd, WasClosed, HaveEnds}
 use Rattle.buffer_ends.specs.declared.thread_taps.ThreadTaps.{ThreadTaps}
 use Rattle.clock_tasks.specs.declared.task.Task.{Task}
 use Rattle.clock_windows.specs.declared.wires.Wire.{Wire}
 use Rattle.clock_windows.specs.Wires.{wire_at, told}
-use Rattle.clock_windows.specs.Ends.{puts_of, takes_of, SameButEnds, TasksClosed, WasLent, WasPutBack, GiverClosed, JoinClosed, JoinOpen, JoinRan, JoinTurned, SameTasks}
-use Rattle.clock_windows.proofs.Sets.{same_or_other, side, turned_here, turned_other, turned_many, turned_buffers, one_window, set_twice, swapped}
+use Rattle.clock_windows.specs.Ends.{puts_of, takes_of, SameButEnds, WasLent, WasPutBack, GiverClosed, JoinClosed, JoinRan, JoinTurned, SameTasks}
+use Rattle.clock_windows.proofs.Sets.{same_or_other, turned_here, turned_other, turned_many, turned_buffers, one_window, set_twice, swapped}
 
 module _ {S R : Type 0} where
   same_but_refl : (x : Task S (ThreadTaps R)) → SameButEnds x x

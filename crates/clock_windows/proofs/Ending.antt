@@ -1,25 +1,25 @@
 -- The whole run.
-use Rattle.std.proofs.Common.{◌≡◌, ◌≢◌, ◌⊎◌, ℕ, zero, suc, ◌<◌, ◌≤◌, ◌+◌, ◌-◌, ◌*◌, ◌^◌, All, List, [], ◌∷◌, ◌++◌, length, get_or, set, slice_index_or, min, sym, refl, ap, ◌∙◌, subst, arith, inl, inr, ⊎_elim, Option, Some, None, add-one, length-set, get_or-set_same, get_or-set_other}
-use Rattle.std.proofs.lemmas.List.{get_or_default}
+use Rattle.std.proofs.Common.{◌≡◌, ◌≢◌, ◌⊎◌, ℕ, suc, ◌<◌, ◌≤◌, ◌+◌, ◌-◌, All, List, [], ◌∷◌, length, set, slice_index_or, min, sym, refl, ap, ◌∙◌, subst, arith, inl, inr, Option, Some, None, length-set, get_or-set_same, get_or-set_other}
 use Rattle.clock_engine.specs.declared.engine.ClockEngine.{ClockEngine}
-use Rattle.clock_engine.specs.Ticks.{HaveTicksRoom}
-use Rattle.clock_engine.specs.Engines.{setting_of}
-use Rattle.frame_core.specs.declared.cell.Cell.{Cell}
 use Rattle.frame_core.specs.Legal.{IsRun}
 use Rattle.buffer_ends.specs.Local.{Answers}
 use Rattle.buffer_ends.specs.declared.thread_taps.ThreadTaps.{ThreadTaps}
+use Rattle.buffer_ends.specs.declared.run_end.End.{End}
+use Rattle.buffer_ends.specs.declared.run_end.End.TheVariants.{Done, Write}
 use Rattle.clock_engine.specs.declared.fault.TickFault.{TickFault}
+use Rattle.clock_engine.specs.declared.fault.TickFault.TheVariants.{Memory as OutOfMemory, Write as Refused}
 use Rattle.clock_tasks.specs.declared.task.Task.{Task}
 use Rattle.clock_tasks.specs.Histories.{History, Agree, answers_by}
-use Rattle.clock_tasks.specs.Tasks.{CanRun, WasRun, EngineGone, EngineGonePart, held_of}
+use Rattle.clock_tasks.specs.Tasks.{CanRun, WasRun, EngineGone, EngineGonePart, IsSameClock, IsWhole, held_of}
 use Rattle.clock_tasks.proofs.Walking.{agree_none}
-use Rattle.clock_tasks.proofs.Running.{rooms_fewer}
+use Rattle.clock_tasks.proofs.Running.{rooms_fewer, same_then}
+use Rattle.clock_tasks.proofs.Writing.{write_since}
 use Rattle.clock_windows.specs.declared.wires.Wire.{Wire}
 use Rattle.clock_windows.specs.Wires.{wire_at}
 use Rattle.clock_windows.specs.Ends.{MayClose, AllClosed}
 use Rattle.run_records.specs.Records.{start}
-use Rattle.clock_windows.specs.Records.{windows_upto, Going, EndedTask, AllEndedTasks, SameEngines}
-use Rattle.clock_windows.specs.Runs.{IsReady, DoneAt, PartAt, RunDone, RunPart}
+use Rattle.clock_windows.specs.Records.{Going, EndedTask, AllEndedTasks, SameEngines}
+use Rattle.clock_windows.specs.Runs.{CameTo, IsReady, IsToldByLowest, IsWriteAt, RunDone, RunPart, end_by}
 use Rattle.clock_windows.proofs.Sets.{same_or_other}
 use Rattle.clock_windows.proofs.Starts.{start_zero, start_most, start_up, start_next, start_climbs}
 use Rattle.clock_windows.proofs.Lists.{going_runs}
@@ -28,6 +28,19 @@ use Rattle.clock_windows.proofs.Goings.{TapsStand, TapsBuffers, SameTaps, may_cl
 
 some_none : {A : Type 0} {x : A} → Some x ≡ None → ⊥
 some_none e = cc
+
+-- the end of a fault
+pub not_done : (clock : ℕ) (fault : TickFault) → end_by clock fault ≡ Done → ⊥
+not_done clock (Refused sink) e = cc
+not_done clock OutOfMemory e = cc
+
+write_clock : (clock : ℕ) (fault : TickFault) (other sink : ℕ) → end_by clock fault ≡ Write other sink → clock ≡ other
+write_clock clock (Refused named) other sink e = cc
+write_clock clock OutOfMemory other sink e = absurd cc
+
+write_sink : (clock : ℕ) (fault : TickFault) (other sink : ℕ) → end_by clock fault ≡ Write other sink → fault ≡ Refused sink
+write_sink clock (Refused named) other sink e = cc
+write_sink clock OutOfMemory other sink e = absurd cc
 
 pub all_by : {A : Type 0} (P : A → Type 0) (xs : List A) → ((d : A) (k : ℕ) → k < length xs → P (slice_index_or xs k d)) → All P xs
 all_by P xs h k d less = h d k less
@@ -91,6 +104,18 @@ module _ {S R : Type 0} where
     pub loop_none : (first : List (Task S (ThreadTaps R))) (logs : List (List Answers)) → IsReady held name room faults wires W N first logs → Loop 0 first first logs
     loop_none first logs ready = record { many = refl; at = λ d. record { windows = 0; is = sym (start_zero W N); tight = λ i low. absurd (omega (arith, low)); going = ready.begun d } }
 
+    -- a run to its end, as far as any run
+    pub loop_part : (made : ℕ) (first now : List (Task S (ThreadTaps R))) (start_logs logs : List (List Answers)) → IsReady held name room faults wires W N first start_logs → Loop made first now logs → RunPart held name faults wires W N first now
+    loop_part made first now start_logs logs ready loop d = let l = loop.at d in
+        record {
+          closed = l.windows;
+          histories = l.going.histories;
+          many = loop.many;
+          clocks = λ k h. (let c = l.going.clocks k h in
+              record { whole = c.whole; same = c.same; ticks = start W N l.windows; least = omega arith; came = inl (start_up W N l.windows, c.gone) });
+          runs = λ b low. going_runs held name room faults wires W N l.windows first now logs d l.going ready.places b low;
+        }
+
     pub loop_all : (made : ℕ) (first now : List (Task S (ThreadTaps R))) (logs : List (List Answers)) → N ≤ made → Loop made first now logs → RunDone held name room faults wires W N first now logs
     loop_all made first now logs high loop d = let l = loop.at d in
         record { windows = l.windows; all = (let m = start_most W N l.windows in let i = l.is in omega (arith, m, i, high)); tight = l.tight; going = l.going }
@@ -137,21 +162,27 @@ module _ {S R : Type 0} where
         };
       }
 
+      same_from : (d : Task S (ThreadTaps R)) (k : ℕ) → k < length first → IsSameClock name faults (slice_index_or first k d).engine (slice_index_or mid k d).engine
+      same_from d k h =
+          let m = loop.many in let within : k < length now = omega (arith, h, m) in
+          same_then name faults (slice_index_or first k d).engine (slice_index_or now k d).engine (slice_index_or mid k d).engine ((loop.at d).going.clocks k h).same (ran k d within).clock
+
       -- how far a clock came
       record At (d : Task S (ThreadTaps R)) (k : ℕ) (g : History) : Type 0 where
         agree : Agree (start W N (loop.at d).windows) ((loop.at d).going.histories k) g
-        reached : k < length first → (n : ℕ) × (start W N (loop.at d).windows ≤ n) × (n ≤ start W N (loop.at d).windows + count)
-            × (EngineGone held n g (held_of held (slice_index_or first k d).engine) (slice_index_or mid k d).engine ⊎ EngineGonePart held n g (held_of held (slice_index_or first k d).engine) (slice_index_or mid k d).engine)
+        reached : k < length first → CameTo held name faults W N (loop.at d).windows g (slice_index_or first k d) (slice_index_or mid k d)
 
       stops : (d : Task S (ThreadTaps R)) (k : ℕ) → k < length first → (o : Option TickFault) → (slice_index_or mid k d).engine.works.stopped ≡ o → (g : History) × At d k g
       stops d k less' None e =
           let c = (loop.at d).going in let t = start W N (loop.at d).windows in let m = loop.many in let within : k < length now = omega (arith, less', m) in
-          let w = (ran k d within).ran.on t (c.histories k) (held_of held (slice_index_or first k d).engine) (c.clocks k less').gone e in
-          (w.after, record { agree = w.agree; reached = λ again. (t + count, omega arith, omega arith, inl w.gone) })
+          let r = ran k d within in let n = next_at d in
+          let w = r.ran.on t (c.histories k) (held_of held (slice_index_or first k d).engine) (c.clocks k less').gone e in
+          (w.after, record { agree = w.agree; reached = λ again. record { whole = r.whole; same = same_from d k less'; ticks = t + count; least = omega arith; came = inl (omega (arith, n), w.gone) } })
       stops d k less' (Some fault) e =
           let c = (loop.at d).going in let t = start W N (loop.at d).windows in let m = loop.many in let within : k < length now = omega (arith, less', m) in
-          let w = (ran k d within).ran.halted t (c.histories k) (held_of held (slice_index_or first k d).engine) (c.clocks k less').gone (λ n. some_none (sym e ∙ n)) in
-          (w.after, record { agree = w.agree; reached = λ again. (t + w.made, omega arith, (let f = w.fewer in omega (arith, f)), inr w.part) })
+          let r = ran k d within in let n = next_at d in
+          let w = r.ran.halted t (c.histories k) (held_of held (slice_index_or first k d).engine) (c.clocks k less').gone (λ n. some_none (sym e ∙ n)) in
+          (w.after, record { agree = w.agree; reached = λ again. record { whole = r.whole; same = same_from d k less'; ticks = t + w.made; least = omega arith; came = inr ((let f = w.fewer in omega (arith, f, n)), w.part) } })
 
       abbrev chosen : (d : Task S (ThreadTaps R)) (k : ℕ) → (g : History) × At d k g
       chosen d k = elim (low_or_high k (length first)) [
@@ -160,14 +191,14 @@ module _ {S R : Type 0} where
       ]
 
       -- a clock stopped
-      pub loop_stopped : RunPart held wires W N first mid
+      pub loop_stopped : RunPart held name faults wires W N first mid
       loop_stopped d =
           let l = loop.at d in let j = l.windows in let t = start W N j in
           record {
             closed = j;
             histories = λ k. (chosen d k).0;
             many = (let m = loop.many in omega (arith, m, mid_many));
-            clocks = λ k h. (let r = (chosen d k).1.reached h in let n = next_at d in (r.0, r.1, (let x = r.2 in omega (arith, x, n)), r.3));
+            clocks = λ k h. (chosen d k).1.reached h;
             runs = λ b low. (let g = going_runs held name room faults wires W N j first now logs d l.going ready.places b low in (
               g.0,
               subst (λ w. IsRun (wire_at wires b).capacity [] w g.0)
@@ -175,8 +206,25 @@ module _ {S R : Type 0} where
             ));
           }
 
+      -- and its sink refused bytes
+      pub loop_write : (end : End) → IsToldByLowest mid end → (clock sink : ℕ) → end ≡ Write clock sink → IsWriteAt faults clock sink first mid
+      loop_write end told clock sink e =
+          let m = loop.many in let within : told.place < length first = (let w = told.within in omega (arith, w, m, mid_many)) in
+          let refused : (d : Task S (ThreadTaps R)) → told.fault ≡ Refused sink = λ d. write_sink (slice_index_or mid told.place d).engine.works.clock told.fault clock sink (sym (told.end_is d) ∙ e) in
+          let stopped : (d : Task S (ThreadTaps R)) → (slice_index_or mid told.place d).engine.works.stopped ≡ Some (Refused sink) = λ d. told.stopped d ∙ ap Some (refused d) in
+          record {
+            place = told.place;
+            within = within;
+            clock_is = λ d. write_clock (slice_index_or mid told.place d).engine.works.clock told.fault clock sink (sym (told.end_is d) ∙ e);
+            stopped = stopped;
+            lowest = told.lowest;
+            write = λ d. (let here : told.place < length now = omega (arith, within, m) in
+                write_since name faults (slice_index_or first told.place d).engine (slice_index_or now told.place d).engine (slice_index_or mid told.place d).engine sink
+                ((loop.at d).going.clocks told.place within).same ((ran told.place d here).write sink (stopped d)));
+          }
+
       -- the log of a buffer could not take a window
-      pub loop_broke : (last : List (Task S (ThreadTaps R))) → SameEngines mid last → RunPart held wires W N first last
+      pub loop_broke : (last : List (Task S (ThreadTaps R))) → SameEngines mid last → RunPart held name faults wires W N first last
       loop_broke last same d =
           let p = loop_stopped d in
           record {
@@ -184,7 +232,14 @@ module _ {S R : Type 0} where
             histories = p.histories;
             many = same.many ∙ p.many;
             clocks = λ k h. (let c = p.clocks k h in
-                let is : (slice_index_or last k d).engine ≡ (slice_index_or mid k d).engine = same.each k d (let m = p.many in omega (arith, h, m)) in
-                (c.0, c.1, c.2, subst (λ (e : ClockEngine S). EngineGone held c.0 (p.histories k) (held_of held (slice_index_or first k d).engine) e ⊎ EngineGonePart held c.0 (p.histories k) (held_of held (slice_index_or first k d).engine) e) (sym is) c.3));
+                let is : (slice_index_or mid k d).engine ≡ (slice_index_or last k d).engine = sym (same.each k d (let m = p.many in omega (arith, h, m))) in
+                record {
+                  whole = subst IsWhole is c.whole;
+                  same = subst (IsSameClock name faults (slice_index_or first k d).engine) is c.same;
+                  ticks = c.ticks;
+                  least = c.least;
+                  came = subst (λ (e : ClockEngine S). ((c.ticks ≤ start W N (suc p.closed)) × EngineGone held c.ticks (p.histories k) (held_of held (slice_index_or first k d).engine) e)
+                      ⊎ ((c.ticks < start W N (suc p.closed)) × EngineGonePart held c.ticks (p.histories k) (held_of held (slice_index_or first k d).engine) e)) is c.came;
+                });
             runs = p.runs;
           }

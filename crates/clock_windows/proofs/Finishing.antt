@@ -1,30 +1,24 @@
 -- A run by threads that ends well: its record is lawful by its wires, and each output holds its bytes for it.
-use Rattle.std.proofs.Common.{◌≡◌, ◌≢◌, ◌⊎◌, ℕ, zero, suc, ◌<◌, ◌≤◌, ◌==◌, ◌||◌, eqb, Bool, true, false, true≢false, List, [], ◌∷◌, ◌++◌, length, slice_index_or, sym, refl, ap, ◌∙◌, subst, arith, inl, inr, ⊎_elim, Option, if◌then◌else◌}
-use Rattle.std.proofs.lemmas.Bool.Decides.{eqb_tells}
+use Rattle.std.proofs.Common.{◌≡◌, ℕ, suc, ◌<◌, ◌≤◌, List, [], length, slice_index_or, sym, ap, ◌∙◌, subst, arith, Option}
 use mathlib.Core.Path.{fun_ext}
 use Rattle.liq_base.specs.Pieces.{grown}
 use Rattle.frame_core.specs.declared.cell.Cell.{Cell}
-use Rattle.frame_core.specs.Calls.{Call}
-use Rattle.buffer_ends.specs.Local.{Answers as Told, LocalBuffer, on, Leads, empty_list, empty_buffer, held as held_by}
-use Rattle.buffer_ends.specs.Sides.{Side}
-use Rattle.buffer_ends.specs.Ends.{Has}
+use Rattle.buffer_ends.specs.Local.{Answers as Told, on}
 use Rattle.buffer_ends.specs.declared.thread_taps.ThreadTaps.{ThreadTaps}
 use Rattle.stream_meaning.specs.Instants.{Setting, answered}
 use Rattle.stream_meaning.specs.Sinks.{ticks_bytes}
 use Rattle.stream_meaning.specs.Calls.{joined_upto}
-use Rattle.node_states.specs.Ticks.{IsOutput, with_rest}
+use Rattle.node_states.specs.Ticks.{IsOutput}
 use Rattle.clock_engine.specs.Engines.{EngineStands, setting_of}
 use Rattle.clock_engine.specs.declared.engine.ClockEngine.{ClockEngine}
 use Rattle.clock_tasks.specs.declared.task.Task.{Task}
 use Rattle.clock_tasks.specs.Histories.{History, answers_by}
 use Rattle.clock_tasks.specs.Tasks.{held_of}
 use Rattle.clock_windows.specs.declared.wires.Wire.{Wire}
-use Rattle.clock_windows.specs.Wires.{wire_at, ends_at, ended, kept}
-use Rattle.clock_windows.specs.Ends.{puts_of as put_ends, takes_of as take_ends}
-use Rattle.run_records.specs.Records.{Follows, Window, start}
+use Rattle.clock_windows.specs.Wires.{wire_at}
+use Rattle.run_records.specs.Records.{Follows, Window}
 use Rattle.clock_infer.specs.declared.clock_map.ClockMap.{ClockMap}
 use Rattle.stream_meaning.specs.Settings.{IsSetting}
-use Rattle.clock_windows.specs.Records.{windows_upto, ClockGoing, Going}
 use Rattle.clock_windows.specs.Runs.{DoneAt}
 use Rattle.clock_windows.specs.Lawful.{Answers, IsWiredRun, AreWires, TakeOwn, answers_of, meant, and_rest, got_by}
 use Rattle.clock_windows.proofs.Owning.{in_takes, take_own}

@@ -1,5 +1,5 @@
 -- From window to window.
-use Rattle.std.proofs.Common.{◌≡◌, ◌≢◌, ◌⊎◌, ℕ, zero, suc, ◌<◌, ◌≤◌, ◌+◌, ◌-◌, ◌^◌, Bool, true, false, true≢false, List, [], ◌∷◌, ◌++◌, length, map, get_or, set, slice_index_or, sym, refl, ap, ◌∙◌, subst, arith, inl, inr, ⊎_elim, append_assoc, append-nil, Option, None}
+use Rattle.std.proofs.Common.{◌≡◌, ◌≢◌, ◌⊎◌, ℕ, zero, suc, ◌<◌, ◌≤◌, ◌+◌, ◌-◌, ◌^◌, true, false, List, [], ◌∷◌, ◌++◌, length, map, get_or, slice_index_or, sym, refl, ap, ◌∙◌, subst, arith, inl, inr, ⊎_elim, Option, None}
 use Rattle.std.proofs.lemmas.List.{get_or_default}
 use Rattle.frame_core.specs.declared.cell.Cell.{Cell}
 use Rattle.frame_core.specs.Legal.{Legal, IsRun}
@@ -7,27 +7,26 @@ use Rattle.frame_core.specs.Calls.{Call, takes_of, puts_to}
 use Rattle.frame_core.proofs.Laws.{run_more}
 use Rattle.buffer_queue.specs.Window.{Window as QueueWindow, opened, capacity_of}
 use Rattle.buffer_ends.specs.Local.{Answers, LocalBuffer, closed as closed_list, on, Leads, empty_list, held as held_by}
-use Rattle.buffer_ends.specs.Sides.{Side, Apart, SameSides}
+use Rattle.buffer_ends.specs.Sides.{Side, SameSides}
 use Rattle.buffer_ends.specs.Same.{SameBuffers}
 use Rattle.buffer_ends.specs.Ends.{EndsStand, ListsStand, PutsStand, TakesStand, Has}
-use Rattle.buffer_ends.specs.Borders.{HasAt, HasEnd}
+use Rattle.buffer_ends.specs.Borders.{HasEnd}
 use Rattle.buffer_ends.specs.declared.thread_taps.ThreadTaps.{ThreadTaps}
 use Rattle.clock_engine.specs.Ticks.{HaveTicksRoom}
-use Rattle.clock_engine.specs.Engines.{setting_of}
 use Rattle.clock_tasks.specs.declared.task.Task.{Task}
 use Rattle.clock_tasks.specs.Histories.{History, joined_from, Agree}
 use Rattle.stream_meaning.specs.Calls.{joined_upto}
-use Rattle.clock_tasks.specs.Tasks.{EngineGone, WentOn, RanTask, WasRun, IsWhole, IsSameClock, held_of}
+use Rattle.clock_tasks.specs.Tasks.{EngineGone, WentOn, WasRun, IsWhole, IsSameClock, held_of}
 use Rattle.clock_tasks.proofs.Walking.{joined_alike, agree_none}
 use Rattle.clock_windows.proofs.Keeping.{takes-append}
 use Rattle.clock_tasks.proofs.Running.{same_then}
 use Rattle.clock_windows.specs.declared.wires.Wire.{Wire}
-use Rattle.clock_windows.specs.Wires.{wire_at, ends_at, ended, kept, told}
-use Rattle.clock_windows.specs.Ends.{puts_of as put_ends, takes_of as take_ends, JoinOpen, JoinRan, JoinTurned, MayClose, SameTasks, AllClosed}
+use Rattle.clock_windows.specs.Wires.{wire_at, ended, kept, told}
+use Rattle.clock_windows.specs.Ends.{puts_of as put_ends, takes_of as take_ends, JoinOpen, JoinRan, MayClose, AllClosed}
 use Rattle.run_records.specs.Records.{start, Window}
-use Rattle.clock_windows.specs.Records.{window_of, windows_upto, IsWired, IsLogged, LogsGoing, ClockGoing, JoinGoing, Going, EndedTask, AllEndedTasks, SameEngines}
-use Rattle.clock_windows.proofs.Sets.{same_or_other, side, one_window}
-use Rattle.clock_windows.proofs.Keeping.{kept-append, puts_kept, takes_kept, on_kept, puts-append, on-append}
+use Rattle.clock_windows.specs.Records.{window_of, windows_upto, IsWired, IsLogged, ClockGoing, JoinGoing, Going, AllEndedTasks}
+use Rattle.clock_windows.proofs.Sets.{side, one_window}
+use Rattle.clock_windows.proofs.Keeping.{puts_kept, takes_kept, on_kept, puts-append, on-append}
 use Rattle.clock_windows.proofs.Logging.{map_joined, current_is, has_back, not_ended}
 use Rattle.clock_windows.proofs.Meeting.{joined_split, windows_alike, ends_from, ends_to, ends_tell, true_or_false, low_or_high, has_moved, has_end}
 

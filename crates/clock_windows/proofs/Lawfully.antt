@@ -1,15 +1,13 @@
 -- A run that ends well has a lawful record by its wires.
-use Rattle.std.proofs.Common.{◌≡◌, ◌≢◌, ◌⊎◌, ℕ, zero, suc, ◌<◌, ◌≤◌, ◌+◌, ◌-◌, ◌==◌, eqb, Bool, true, false, List, [], ◌∷◌, ◌++◌, length, slice_index_or, sym, refl, ap, ◌∙◌, subst, arith, inl, inr, ⊎_elim, append_assoc, append-nil, Option, Some, None, if◌then◌else◌}
-use Rattle.std.proofs.lemmas.Bool.Decides.{eqb_tells}
+use Rattle.std.proofs.Common.{◌≡◌, ◌≢◌, ℕ, zero, suc, ◌<◌, ◌≤◌, ◌+◌, ◌-◌, ◌==◌, Bool, true, false, List, [], ◌∷◌, ◌++◌, length, sym, refl, ap, ◌∙◌, subst, arith, inl, inr, append_assoc, append-nil, Option, Some, None, if◌then◌else◌}
 use Rattle.std.specs.List.{flat_map}
 use mathlib.Core.Path.{fun_ext}
-use Rattle.liq_base.specs.Pieces.{grown}
 use Rattle.frame_core.specs.declared.cell.Cell.{Cell}
-use Rattle.frame_core.specs.Legal.{Legal, IsRun, empty, got, full, accepted}
+use Rattle.frame_core.specs.Legal.{Legal, IsRun}
 use Rattle.frame_core.specs.Calls.{Call, takes_of, puts_to, put_of}
 use Rattle.frame_core.specs.Calls.Call.{Took, Given}
 use Rattle.frame_core.proofs.Laws.{run_more}
-use Rattle.buffer_ends.specs.Local.{Held, on, Leads, Step, buffer_of}
+use Rattle.buffer_ends.specs.Local.{Held, on, Leads}
 use Rattle.stream_meaning.specs.Calls.{joined_upto}
 use Rattle.clock_tasks.specs.Histories.{History, joined_from}
 use Rattle.clock_tasks.proofs.Walking.{joined_alike}
@@ -23,7 +21,7 @@ use Rattle.run_records.proofs.Rounding.{follows_split}
 use Rattle.clock_windows.proofs.Sets.{same_or_other}
 use Rattle.clock_windows.proofs.Keeping.{puts-append, takes-append, on-append}
 use Rattle.clock_windows.proofs.Meeting.{joined_split}
-use Rattle.clock_windows.proofs.Starts.{start_zero, start_most, start_up, start_climbs}
+use Rattle.clock_windows.proofs.Starts.{start_zero, start_most, start_up}
 
 pub leads_follows : (q : Held) (cs : List Call) (r : Held) → Leads q cs r → Follows q.capacity q.chunks cs r.chunks
 leads_follows q [] r e = ap (λ (h : Held). h.chunks) e
@@ -50,7 +48,7 @@ follows_legal C b (Given x c a ∷ cs) q r f = go (b == x) a (λ q' g. follows_l
     go true true rec g = Legal.accepted g.0 (rec (q ++ c ∷ []) g.1)
     go true false rec g = Legal.full g.0 (rec q g.1)
 
-flat_snoc : {A B : Type 0} (f : A → List B) (xs : List A) (y : A) → flat_map f (xs ++ y ∷ []) ≡ flat_map f xs ++ f y
+pub flat_snoc : {A B : Type 0} (f : A → List B) (xs : List A) (y : A) → flat_map f (xs ++ y ∷ []) ≡ flat_map f xs ++ f y
 flat_snoc f [] y = append-nil (f y)
 flat_snoc f (x ∷ xs) y = ap (λ l. f x ++ l) (flat_snoc f xs y) ∙ sym (append_assoc (f x) (flat_map f xs) (f y))
 
@@ -98,7 +96,7 @@ module _ (W N : ℕ) where
       let t : joined_from (gs wire.to).calls s count ≡ joined_from (hs wire.to).calls s count = joined_alike (λ i. (gs wire.to).calls (s + i)) (λ i. (hs wire.to).calls (s + i)) count (λ i less. to (s + i) (omega (arith, less, most, up))) in
       (λ i. windows_same wire hs gs b j from to i ++ (puts_to b (f i), takes_of b (t i)) ∷ [])
 
-takes_none : (f : ℕ → List Call) (b n : ℕ) → ((i : ℕ) → i < n → takes_of b (f i) ≡ []) → takes_of b (joined_upto f n) ≡ []
+pub takes_none : (f : ℕ → List Call) (b n : ℕ) → ((i : ℕ) → i < n → takes_of b (f i) ≡ []) → takes_of b (joined_upto f n) ≡ []
 takes_none f b zero h = refl
 takes_none f b (suc n) h = takes-append b (joined_upto f n) (f n) ∙ (λ i. takes_none f b n (λ k less. h k (omega (arith, less))) i ++ h n (omega arith) i)
 

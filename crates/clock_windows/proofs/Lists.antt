@@ -1,5 +1,5 @@
 -- The lists of the buffers with both ends in one clock: the calls on each in their order, and its windows as one history.
-use Rattle.std.proofs.Common.{◌≡◌, ◌≢◌, ◌⊎◌, ℕ, ◌<◌, ◌==◌, ◌||◌, eqb, Bool, true, false, List, [], length, slice_index_or, sym, ap, subst, arith, inl, inr, ⊎_elim, Option, if◌then◌else◌}
+use Rattle.std.proofs.Common.{◌≡◌, ℕ, ◌<◌, ◌==◌, ◌||◌, eqb, true, false, List, [], length, slice_index_or, ap, subst, arith, inl, inr, ⊎_elim, Option, if◌then◌else◌}
 use Rattle.std.proofs.lemmas.Bool.Decides.{eqb_tells}
 use Rattle.frame_core.specs.declared.cell.Cell.{Cell}
 use Rattle.frame_core.specs.Legal.{IsRun}

@@ -1,9 +1,8 @@
 -- The answers of a window in the logs: of a buffer between clocks, and of a list.
-use Rattle.std.proofs.Common.{◌≡◌, ◌≢◌, ◌⊎◌, ℕ, zero, suc, ◌<◌, ◌≤◌, ◌+◌, List, [], ◌∷◌, ◌++◌, length, map, set, slice_index_or, sym, refl, ap, ◌∙◌, subst, arith, inl, inr, ⊎_elim, Option, append-nil, flat_map, get_or-set_same, get_or-set_other, length-set}
-use Rattle.frame_core.specs.declared.cell.Cell.{Cell}
+use Rattle.std.proofs.Common.{◌≡◌, ◌≢◌, ◌⊎◌, ℕ, ◌<◌, ◌≤◌, ◌+◌, List, [], ◌∷◌, ◌++◌, length, map, set, slice_index_or, sym, refl, ap, ◌∙◌, subst, arith, inl, inr, ⊎_elim, append-nil, flat_map, get_or-set_same, get_or-set_other, length-set}
 use Rattle.frame_core.specs.Calls.{Call, takes_of, puts_to}
 use Rattle.buffer_queue.specs.Window.{Window, is_chunk}
-use Rattle.buffer_ends.specs.Local.{Answers, LocalBuffer, Leads, all_answers, empty_list, held, no_answers, on, puts_of, takes_of_window}
+use Rattle.buffer_ends.specs.Local.{Answers, LocalBuffer, Leads, empty_list, held, no_answers, on, puts_of, takes_of_window}
 use Rattle.buffer_ends.specs.Sides.{Side, SameSides}
 use Rattle.buffer_ends.specs.Ends.{Has}
 use Rattle.buffer_ends.specs.declared.thread_taps.ThreadTaps.{ThreadTaps}

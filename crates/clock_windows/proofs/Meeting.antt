@@ -1,30 +1,18 @@
 -- A window more of all clocks.
-use Rattle.std.proofs.Common.{◌≡◌, ◌≢◌, ◌⊎◌, ℕ, zero, suc, ◌<◌, ◌≤◌, ◌+◌, ◌-◌, ◌*◌, ◌==◌, ◌||◌, eqb, Bool, true, false, true≢false, List, [], ◌∷◌, ◌++◌, length, get_or, set, slice_index_or, slice_set, min, sym, refl, ap, ◌∙◌, subst, arith, inl, inr, ⊎_elim, length-set, append_assoc, append-nil, Option, None, if◌then◌else◌}
-use Rattle.std.proofs.lemmas.List.{get_or_default}
+use Rattle.std.proofs.Common.{◌≡◌, ◌≢◌, ◌⊎◌, ℕ, zero, suc, ◌<◌, ◌≤◌, ◌+◌, ◌-◌, ◌==◌, ◌||◌, eqb, Bool, true, false, true≢false, List, [], ◌∷◌, ◌++◌, length, slice_index_or, sym, refl, ap, ◌∙◌, arith, inl, inr, ⊎_elim, append_assoc, append-nil, if◌then◌else◌}
 use Rattle.std.proofs.lemmas.Bool.Decides.{eqb_tells}
-use Rattle.frame_core.specs.declared.cell.Cell.{Cell}
-use Rattle.frame_core.specs.Legal.{Legal, IsRun}
 use Rattle.frame_core.specs.Calls.{Call, takes_of, puts_to}
-use Rattle.frame_core.proofs.Laws.{run_more}
-use Rattle.buffer_queue.specs.Window.{Window as QueueWindow, opened, capacity_of}
-use Rattle.buffer_ends.specs.Local.{LocalBuffer, on, Leads, empty_list, held as held_by}
-use Rattle.buffer_ends.specs.Sides.{Side, Apart, SameSides}
-use Rattle.buffer_ends.specs.Same.{SameBuffers}
-use Rattle.buffer_ends.specs.Ends.{EndsStand, ListsStand, PutsStand, TakesStand, Has}
-use Rattle.buffer_ends.specs.Borders.{HasAt, HasEnd}
-use Rattle.buffer_ends.specs.declared.thread_taps.ThreadTaps.{ThreadTaps}
-use Rattle.clock_tasks.specs.declared.task.Task.{Task}
+use Rattle.buffer_queue.specs.Window.{Window as QueueWindow}
+use Rattle.buffer_ends.specs.Sides.{Side}
+use Rattle.buffer_ends.specs.Ends.{Has}
+use Rattle.buffer_ends.specs.Borders.{HasEnd}
 use Rattle.clock_tasks.specs.Histories.{History, joined_from, Agree}
 use Rattle.stream_meaning.specs.Calls.{joined_upto}
-use Rattle.clock_tasks.specs.Tasks.{EngineGone}
 use Rattle.clock_tasks.proofs.Walking.{joined_alike}
 use Rattle.clock_windows.specs.declared.wires.Wire.{Wire}
-use Rattle.clock_windows.specs.Wires.{wire_at, ends_at, ended, kept}
-use Rattle.clock_windows.specs.Ends.{puts_of as put_ends, takes_of as take_ends, JoinOpen, JoinRan, JoinTurned, MayClose, SameTasks, AllClosed}
-use Rattle.run_records.specs.Records.{start, Window}
-use Rattle.clock_windows.specs.Records.{window_of, windows_upto, IsWired, ClockGoing, JoinGoing, Going, EndedTask, AllEndedTasks}
-use Rattle.clock_windows.proofs.Sets.{same_or_other, side, one_window}
-use Rattle.clock_windows.proofs.Keeping.{kept-append, puts_kept, takes_kept, on_kept, puts-append, on-append}
+use Rattle.clock_windows.specs.Wires.{ends_at}
+use Rattle.run_records.specs.Records.{start}
+use Rattle.clock_windows.specs.Records.{windows_upto}
 
 pub joined_split : (f : ℕ → List Call) (t n : ℕ) → joined_upto f (t + n) ≡ joined_upto f t ++ joined_from f t n
 joined_split f t zero = let e : t + 0 ≡ t = omega arith in ap (joined_upto f) e ∙ sym (append-nil (joined_upto f t))

@@ -1,17 +1,13 @@
 -- A clock's tick gives only to the buffers that it feeds, and takes only of those that it reads.
-use Rattle.std.proofs.Common.{◌≡◌, ◌≢◌, ◌⊎◌, ◌∙◌, ◌<◌, ◌≤◌, ◌==◌, eqb, ℕ, zero, suc, Bool, true, false, Option, Some, None, List, [], ◌∷◌, length, nat_eq, slice_get, arith, refl, ap, sym, cond, inl, inr}
+use Rattle.std.proofs.Common.{◌≡◌, ◌≢◌, ◌∙◌, ◌<◌, ◌≤◌, eqb, ℕ, Bool, true, false, List, [], ◌∷◌, length, nat_eq, arith, refl, ap, sym, cond, inl, inr}
 use Rattle.std.specs.Prelude.{All}
 use Rattle.std.proofs.lemmas.List.Elements.{All-head, All-tail}
-use Rattle.std.proofs.lemmas.Bool.{cases_lt, lt-ltb, le-ltb}
+use Rattle.std.proofs.lemmas.Bool.{cases_lt, lt-ltb}
 use Rattle.std.proofs.lemmas.Bool.Decides.{nat_tests}
-use Rattle.plan_core.specs.declared.node.Node.{Node}
 use Rattle.clock_infer.specs.declared.clock_map.ClockMap.{ClockMap}
 use Rattle.clock_infer.specs.declared.clock_map.NodeClock.TheVariants.{Main}
-use Rattle.frame_core.specs.declared.cell.Cell.{Cell}
-use Rattle.frame_core.specs.Calls.{Call, Took, Given, takes_of, puts_to}
-use Rattle.op_leaf.specs.Readers.{Answer}
-use Rattle.stream_meaning.specs.Operators.{Reads}
-use Rattle.stream_meaning.specs.Instants.{Setting, answered, work_at}
+use Rattle.frame_core.specs.Calls.{Call, Took, Given, takes_of}
+use Rattle.stream_meaning.specs.Instants.{Setting, answered}
 use Rattle.stream_meaning.specs.Calls.{IsUnread, answers_in, calls_of_tick}
 use Rattle.stream_meaning.specs.Settings.{IsSetting}
 use Rattle.stream_meaning.proofs.Unread.{no_tick_takes}
@@ -20,8 +16,8 @@ use Rattle.run_records.specs.Buffers.{feeder, reader}
 use Rattle.run_records.specs.Owning.{IsOwn}
 use Rattle.run_records.proofs.Owning.{own_tick}
 use Rattle.clock_windows.specs.declared.wires.Wire.{Wire}
-use Rattle.clock_windows.specs.Wires.{wire_at, no_wire}
-use Rattle.clock_windows.specs.Lawful.{Answers, AreWires, TakeOwn, meant, taker}
+use Rattle.clock_windows.specs.Wires.{wire_at}
+use Rattle.clock_windows.specs.Lawful.{Answers, AreWires, TakeOwn, meant}
 
 -- two spellings of what was got
 pub in_takes : (b : ℕ) (cs : List Call) → answers_in b cs ≡ takes_of b cs
@@ -53,7 +49,7 @@ module _ (setting : Setting) (map : ClockMap) (is : IsSetting setting map) (wire
   none_taken : (answers : Answers) (accepted : ℕ → Bool) (m t b : ℕ) → length wires ≤ b → takes_of b (meant setting answers accepted m t) ≡ []
   none_taken answers accepted m t b past = sym (in_takes b (meant setting answers accepted m t)) ∙ no_tick_takes (answered setting answers) accepted m t b (unread answers m b past)
 
-  to_reader : (m b : ℕ) → b < length wires → m < map.running → reader setting b ≡ m → (wire_at wires b).to ≡ m
+  pub to_reader : (m b : ℕ) → b < length wires → m < map.running → reader setting b ≡ m → (wire_at wires b).to ≡ m
   to_reader m b less runs e = (are.each b less).to_is ∙ ap (λ (t : Bool). cond t (reader setting b) (feeder setting b)) (lt-ltb (reader setting b) map.running (omega (arith, runs, e))) ∙ e
 
   pub take_own : TakeOwn (meant setting) wires map.running

@@ -1,19 +1,18 @@
 -- The record of a run by its wires is a lawful record of its setting.
-use Rattle.std.proofs.Common.{◌≡◌, ◌≢◌, ◌⊎◌, ◌∙◌, ◌<◌, ◌≤◌, ◌+◌, ◌-◌, eqb, ℕ, zero, suc, Bool, true, false, cond, Option, Some, None, List, [], ◌∷◌, ◌++◌, length, length-append, slice_index_or, nat_eq, arith, refl, ap, sym, subst, inl, inr}
+use Rattle.std.proofs.Common.{◌≡◌, ◌≢◌, ◌∙◌, ◌<◌, ◌≤◌, ◌+◌, ◌-◌, eqb, ℕ, zero, suc, Bool, cond, List, [], ◌∷◌, ◌++◌, length, length-append, slice_index_or, nat_eq, arith, refl, ap, sym, subst, inl, inr}
 use Rattle.std.specs.List.{flat_map}
 use Rattle.std.proofs.lemmas.Bool.{cases_lt, lt-ltb, le-ltb}
 use Rattle.std.proofs.lemmas.Bool.Decides.{nat_tests}
 use mathlib.Core.Path.{fun_ext}
 use Rattle.clock_infer.specs.declared.clock_map.ClockMap.{ClockMap}
-use Rattle.frame_core.specs.declared.cell.Cell.{Cell}
 use Rattle.frame_core.specs.Legal.{IsRun}
 use Rattle.frame_core.specs.Calls.{Call, Took, Given, takes_of, puts_to}
 use Rattle.buffer_ends.specs.Local.{on as on_ends}
-use Rattle.stream_meaning.specs.Instants.{Setting, answered}
-use Rattle.stream_meaning.specs.Calls.{joined_upto, joined_between}
+use Rattle.stream_meaning.specs.Instants.{Setting}
+use Rattle.stream_meaning.specs.Calls.{joined_upto}
 use Rattle.stream_meaning.specs.Settings.{IsSetting}
 use Rattle.run_records.specs.Buffers.{feeder, reader}
-use Rattle.run_records.specs.Records.{Follows, IsLawful, Run, Window, answers_of as answers_in_run, calls_in, capacity_of, on, setting_in, start, ticks_of, windows_in, windows_of}
+use Rattle.run_records.specs.Records.{Follows, IsLawful, Run, Window, answers_of as answers_in_run, calls_in, on, setting_in, start, windows_in, windows_of}
 use Rattle.run_records.proofs.Alone.{feeder_runs}
 use Rattle.run_records.proofs.Owning.{own_tick}
 use Rattle.run_records.proofs.Running.{runs_in, rests_in}
@@ -21,8 +20,8 @@ use Rattle.clock_tasks.specs.Histories.{History, joined_from}
 use Rattle.clock_tasks.proofs.Walking.{joined_alike}
 use Rattle.clock_windows.specs.declared.wires.Wire.{Wire}
 use Rattle.clock_windows.specs.Wires.{wire_at}
-use Rattle.clock_windows.specs.Records.{window_of, windows_upto}
-use Rattle.clock_windows.specs.Lawful.{Answers, AreWires, IsWiredRun, answers_of, histories_of, meant, taker}
+use Rattle.clock_windows.specs.Records.{windows_upto}
+use Rattle.clock_windows.specs.Lawful.{Answers, AreWires, IsWiredRun, answers_of, histories_of, meant}
 use Rattle.clock_windows.specs.Listed.{listed}
 use Rattle.clock_windows.proofs.Sets.{same_or_other}
 use Rattle.clock_windows.proofs.Keeping.{takes-append}
@@ -43,7 +42,7 @@ last [] y d (suc k) h = absurd (omega (arith, h))
 last (x ∷ xs) y d zero h = absurd (omega (arith, h))
 last (x ∷ xs) y d (suc k) h = last xs y d k (omega (arith, h))
 
-past_end : {A : Type 0} (xs : List A) (k : ℕ) (d : A) → length xs ≤ k → slice_index_or xs k d ≡ d
+pub past_end : {A : Type 0} (xs : List A) (k : ℕ) (d : A) → length xs ≤ k → slice_index_or xs k d ≡ d
 past_end [] k d h = refl
 past_end (x ∷ xs) zero d h = absurd (omega (arith, h))
 past_end (x ∷ xs) (suc k) d h = past_end xs k d (omega (arith, h))
@@ -65,7 +64,7 @@ on_same b (Given x c a ∷ cs) =
     let same : eqb b x ≡ nat_eq b x = grind (arith, nat_tests) in
     ap (λ z. cond z (Given x c a ∷ on_ends b cs) (on_ends b cs)) same ∙ ap (λ l. cond (nat_eq b x) (Given x c a ∷ l) l) (on_same b cs)
 
-none_joined : (f : ℕ → List Call) (b n : ℕ) → ((i : ℕ) → takes_of b (f i) ≡ []) → takes_of b (joined_upto f n) ≡ []
+pub none_joined : (f : ℕ → List Call) (b n : ℕ) → ((i : ℕ) → takes_of b (f i) ≡ []) → takes_of b (joined_upto f n) ≡ []
 none_joined f b zero none = refl
 none_joined f b (suc n) none = takes-append b (joined_upto f n) (f n) ∙ (λ i. none_joined f b n none i ++ none n i)
 

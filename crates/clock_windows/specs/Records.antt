@@ -1,5 +1,5 @@
 -- What the clocks have done, window by window.
-use Rattle.std.specs.Prelude.{◌≡◌, ◌≢◌, ◌⊎◌, ◌<◌, ◌+◌, ◌-◌, ℕ, zero, suc, Option, None, List, [], ◌∷◌, ◌++◌, length, map, slice_index_or}
+use Rattle.std.specs.Prelude.{◌≡◌, ◌≢◌, ◌⊎◌, ◌<◌, ◌+◌, ◌-◌, ℕ, zero, suc, Option, List, [], ◌∷◌, ◌++◌, length, map, slice_index_or}
 use Rattle.frame_core.specs.declared.cell.Cell.{Cell}
 use Rattle.frame_core.specs.Legal.{IsRun}
 use Rattle.frame_core.specs.Calls.{Call, takes_of, puts_to}

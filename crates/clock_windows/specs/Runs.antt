@@ -1,12 +1,16 @@
 -- A run of all clocks by threads.
-use Rattle.std.specs.Prelude.{◌≡◌, ◌≢◌, ◌⊎◌, ◌<◌, ◌≤◌, ◌^◌, ℕ, suc, Option, None, List, [], length, slice_index_or}
+use Rattle.std.specs.Prelude.{◌≡◌, ◌⊎◌, ◌<◌, ◌≤◌, ◌^◌, ℕ, suc, Option, Some, None, List, [], length, slice_index_or}
 use Rattle.frame_core.specs.declared.cell.Cell.{Cell}
 use Rattle.frame_core.specs.Legal.{IsRun}
 use Rattle.buffer_ends.specs.Local.{Answers}
+use Rattle.buffer_ends.specs.declared.run_end.End.{End}
+use Rattle.buffer_ends.specs.declared.run_end.End.TheVariants.{Write, Memory as NoMemory}
 use Rattle.buffer_ends.specs.declared.thread_taps.ThreadTaps.{ThreadTaps}
+use Rattle.clock_engine.specs.declared.fault.TickFault.{TickFault}
+use Rattle.clock_engine.specs.declared.fault.TickFault.TheVariants.{Memory as OutOfMemory, Write as Refused}
 use Rattle.clock_tasks.specs.declared.task.Task.{Task}
 use Rattle.clock_tasks.specs.Histories.{History}
-use Rattle.clock_tasks.specs.Tasks.{EngineGone, EngineGonePart, held_of}
+use Rattle.clock_tasks.specs.Tasks.{EngineGone, EngineGonePart, IsSameClock, IsWhole, IsWriteOf, held_of}
 use Rattle.clock_windows.specs.declared.wires.Wire.{Wire}
 use Rattle.clock_windows.specs.Wires.{wire_at}
 use Rattle.run_records.specs.Records.{start}
@@ -30,15 +34,46 @@ pub record DoneAt {S R : Type 0} (held name : S → Option (List ℕ)) (room : S
 abbrev pub RunDone : {S R : Type 0} → (held name : S → Option (List ℕ)) → (S → Option ℕ) → (S → ℕ) → List Wire → (W N : ℕ) → (first now : List (Task S (ThreadTaps R))) → (logs : List (List Answers)) → Type 0
 RunDone {S} {R} held name room faults wires W N first now logs = (d : Task S (ThreadTaps R)) → DoneAt held name room faults wires W N first now logs d
 
--- the run broke off: no clock is past the window in which the first one stopped
-pub record PartAt {S R : Type 0} (held : S → Option (List ℕ)) (wires : List Wire) (W N : ℕ) (first now : List (Task S (ThreadTaps R))) (d : Task S (ThreadTaps R)) : Type 0 where
+-- How far a clock came in the window that follows so many: it has made so many ticks, and maybe a part of the next one, which is still
+-- of that window.
+pub record CameTo {S R : Type 0} (held name : S → Option (List ℕ)) (faults : S → ℕ) (W N closed : ℕ) (history : History) (first now : Task S (ThreadTaps R)) : Type 0 where
+  pub whole : IsWhole now.engine
+  pub same : IsSameClock name faults first.engine now.engine
+  pub ticks : ℕ
+  pub least : start W N closed ≤ ticks
+  pub came : ((ticks ≤ start W N (suc closed)) × EngineGone held ticks history (held_of held first.engine) now.engine)
+      ⊎ ((ticks < start W N (suc closed)) × EngineGonePart held ticks history (held_of held first.engine) now.engine)
+
+-- the run came so far: no clock is past the window that follows those that were closed
+pub record PartAt {S R : Type 0} (held name : S → Option (List ℕ)) (faults : S → ℕ) (wires : List Wire) (W N : ℕ) (first now : List (Task S (ThreadTaps R))) (d : Task S (ThreadTaps R)) : Type 0 where
   pub closed : ℕ
   pub histories : ℕ → History
   pub many : length now ≡ length first
-  pub clocks : (k : ℕ) → k < length first → (t : ℕ) × (start W N closed ≤ t) × (t ≤ start W N (suc closed))
-      × (EngineGone held t (histories k) (held_of held (slice_index_or first k d).engine) (slice_index_or now k d).engine
-      ⊎ EngineGonePart held t (histories k) (held_of held (slice_index_or first k d).engine) (slice_index_or now k d).engine)
+  pub clocks : (k : ℕ) → k < length first → CameTo held name faults W N closed (histories k) (slice_index_or first k d) (slice_index_or now k d)
   pub runs : (b : ℕ) → b < length wires → (chunks : List (List Cell)) × IsRun (wire_at wires b).capacity [] (windows_upto (wire_at wires b) histories b W N closed) chunks
 
-abbrev pub RunPart : {S R : Type 0} → (S → Option (List ℕ)) → List Wire → (W N : ℕ) → (first now : List (Task S (ThreadTaps R))) → Type 0
-RunPart {S} {R} held wires W N first now = (d : Task S (ThreadTaps R)) → PartAt held wires W N first now d
+abbrev pub RunPart : {S R : Type 0} → (held name : S → Option (List ℕ)) → (S → ℕ) → List Wire → (W N : ℕ) → (first now : List (Task S (ThreadTaps R))) → Type 0
+RunPart {S} {R} held name faults wires W N first now = (d : Task S (ThreadTaps R)) → PartAt held name faults wires W N first now d
+
+-- how a run ends, where this fault stopped a clock
+abbrev pub end_by : (clock : ℕ) → TickFault → End
+end_by clock (Refused sink) = Write clock sink
+end_by clock OutOfMemory = NoMemory
+
+-- the lowest clock that stopped tells the end
+pub record IsToldByLowest {S R : Type 0} (tasks : List (Task S (ThreadTaps R))) (end : End) : Type 0 where
+  pub place : ℕ
+  pub within : place < length tasks
+  pub fault : TickFault
+  pub stopped : (d : Task S (ThreadTaps R)) → (slice_index_or tasks place d).engine.works.stopped ≡ Some fault
+  pub lowest : (k : ℕ) (d : Task S (ThreadTaps R)) → k < place → (slice_index_or tasks k d).engine.works.stopped ≡ None
+  pub end_is : (d : Task S (ThreadTaps R)) → end ≡ end_by (slice_index_or tasks place d).engine.works.clock fault
+
+-- this sink of this clock, the lowest that stopped, refused bytes
+pub record IsWriteAt {S R : Type 0} (faults : S → ℕ) (clock sink : ℕ) (first now : List (Task S (ThreadTaps R))) : Type 0 where
+  pub place : ℕ
+  pub within : place < length first
+  pub clock_is : (d : Task S (ThreadTaps R)) → (slice_index_or now place d).engine.works.clock ≡ clock
+  pub stopped : (d : Task S (ThreadTaps R)) → (slice_index_or now place d).engine.works.stopped ≡ Some (Refused sink)
+  pub lowest : (k : ℕ) (d : Task S (ThreadTaps R)) → k < place → (slice_index_or now k d).engine.works.stopped ≡ None
+  pub write : (d : Task S (ThreadTaps R)) → IsWriteOf faults sink (slice_index_or first place d).engine (slice_index_or now place d).engine

@@ -1,10 +1,10 @@
 // All windows of a run.
 ghost use Rattle.std.specs.Prelude.{◌≡◌, ◌<◌, ◌≤◌, ◌^◌, ℕ, None, length, slice_index_or, OnOk, OnErr, IfNone, IfSome};
-ghost use Rattle.buffer_ends.specs.declared.run_end.End.TheVariants.{Done};
+ghost use Rattle.buffer_ends.specs.declared.run_end.End.TheVariants.{Done, Write};
 ghost use Rattle.clock_windows.specs.Wires.{wire_at};
 ghost use Rattle.run_records.specs.Records.{start};
 ghost use Rattle.clock_windows.specs.Records.{Going, EndedTask, AllEndedTasks, SameEngines};
-ghost use Rattle.clock_windows.specs.Runs.{IsReady, RunDone, RunPart};
+ghost use Rattle.clock_windows.specs.Runs.{IsReady, IsToldByLowest, IsWriteAt, RunDone, RunPart, end_by};
 
 use crate::borders::close_joins;
 use crate::wires::Wire;
@@ -16,8 +16,9 @@ use std::alloc::Global;
 use std::sync::Wait;
 use std::thread::Threads;
 
+// How the run ends at a fault of this clock.
 fn end_of(clock: u32, fault: TickFault) -> End
-    ensures { result ≡ Done → ⊥ }
+    ensures { result ≡ end_by clock fault }
 {
     match fault {
         TickFault::Write { sink } => End::Write { clock, sink },
@@ -28,7 +29,7 @@ fn end_of(clock: u32, fault: TickFault) -> End
 // How the run ends, where a clock stopped: the lowest tells.
 fn stopped_in<O, R>(tasks: &[Task<'_, O, ThreadTaps<'_, R>>]) -> Option<End>
     ensures none { IfNone result ((k : ℕ) (d : _) → k < length tasks.now → (slice_index_or tasks.now k d).engine.works.stopped ≡ None) }
-    ensures some { IfSome result (λ end. end ≡ Done → ⊥) }
+    ensures some { IfSome result (IsToldByLowest tasks.now) }
 {
     for k in 0..tasks.len() {
         if let Some(fault) = tasks[k].engine.works.stopped {
@@ -74,7 +75,8 @@ pub fn run_windows<O: Sink + Send, G: Gate + Sync, R: Threads + Wait + Sync>(
     requires few { ticks ≤ 1000000000 }
     requires window { 0 < window }
     ensures done { result ≡ Done → RunDone O.held O.name O.room O.faults wires.now window ticks tasks.old tasks.new logs.new }
-    ensures part { (result ≡ Done → ⊥) → RunPart O.held wires.now window ticks tasks.old tasks.new }
+    ensures part { RunPart O.held O.name O.faults wires.now window ticks tasks.old tasks.new }
+    ensures write { (clock sink : ℕ) → result ≡ Write clock sink → IsWriteAt O.faults clock sink tasks.old tasks.new }
 {
     let mut made = 0;
     while made < ticks {

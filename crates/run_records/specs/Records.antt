@@ -113,3 +113,19 @@ pub record AreRoundsBegun (setting : Setting) (clocks N : ℕ) (run : Run) : Typ
   pub begun : (rest : ℕ → List Answer) → (accepted : ℕ → ℕ → ℕ → Bool) × IsBegin calls (rounds_of (setting_then setting run rest) accepted clocks N)
   pub are : (buffer : ℕ) → buffer < length setting.plan.buffers → windows_of run buffer ≡ (puts_to buffer calls, takes_of buffer calls) ∷ []
   pub in_order : (buffer : ℕ) → buffer < length setting.plan.buffers → (rest : List (List Cell)) × Follows (capacity_of setting buffer) [] (on buffer calls) rest
+
+-- The record of a run in windows that was broken off: so many windows were closed, and each clock made these calls since, maybe up to
+-- the middle of a tick. They begin those of its ticks of the next window, whatever answers follow. The windows that were closed are one
+-- history of each buffer; its last window has what was called since.
+pub record AreWindowsBegun (setting : Setting) (clocks W N : ℕ) (run : Run) : Type 0 where
+  pub buffers : length run.buffers ≡ length setting.plan.buffers
+  pub accepted : (m t buffer : ℕ) → Bool
+  pub closed : ℕ
+  pub since : ℕ → List Call
+  pub begun : (rest : ℕ → List Answer) (m : ℕ)
+      → IsBegin (since m) (joined_between (calls_in (setting_then setting run rest) clocks accepted m) (start W N closed) (start W N (suc closed)))
+  pub are : (rest : ℕ → List Answer) (buffer : ℕ) → buffer < length setting.plan.buffers
+      → windows_of run buffer
+      ≡ windows_in (setting_then setting run rest) clocks accepted buffer W N closed ++ (puts_to buffer (since (feeder setting buffer)), takes_of buffer (since (reader setting buffer))) ∷ []
+  pub legal : (rest : ℕ → List Answer) (buffer : ℕ) → buffer < length setting.plan.buffers
+      → (chunks : List (List Cell)) × IsRun (capacity_of setting buffer) [] (windows_in (setting_then setting run rest) clocks accepted buffer W N closed) chunks

@@ -1,7 +1,7 @@
-use Rattle.std.proofs.Common.{◌≡◌, ◌<◌, ◌+◌, ◌≢◌, get_or, sym, subst, length, arith, rules, ap, ◌∙◌, length-append, [], ◌∷◌}
+use Rattle.std.proofs.Common.{◌≡◌, ◌<◌, ◌+◌, get_or, sym, subst, length, arith, rules, ap, ◌∙◌, length-append, [], ◌∷◌}
 use Rattle.buffer_queue.specs.Window.{Window}
 use Rattle.clock_windows.specs.Wires.{wire_at}
-use Rattle.clock_threads.proofs.Joining.{Waiting, waiting_all, waiting_less, waiting_last, joined_none, joined_skip, join_step, joined_engines, engines_then, put_free, take_free}
+use Rattle.clock_threads.proofs.Joining.{waiting_less, waiting_last, joined_skip, join_step}
 use Rattle.clock_threads.proofs.joins.join_all.Goals as goal
 
 pub loop-put-preserved-then-wire : goal.loop-put-preserved-then-wire

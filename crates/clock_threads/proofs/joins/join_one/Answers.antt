@@ -1,4 +1,4 @@
-use Rattle.std.proofs.Common.{◌≡◌, ◌<◌, ◌≢◌, sym, subst, set, slice_index_or, length, length-set, arith, ap, ◌∙◌, get_or-set_other}
+use Rattle.std.proofs.Common.{◌≡◌, ◌<◌, subst, set, length, length-set, arith}
 use Rattle.std.proofs.lemmas.List.{get_or_default}
 use Rattle.clock_tasks.specs.declared.task.Task.{Task}
 use Rattle.buffer_ends.specs.declared.thread_taps.ThreadTaps.{ThreadTaps}

@@ -1,11 +1,10 @@
-use Rattle.std.proofs.Common.{List, length, sym, subst}
+use Rattle.std.proofs.Common.{◌∙◌, rules, List, length, sym, subst}
 use Rattle.clock_windows.specs.declared.wires.Wire.{Wire}
-use Rattle.clock_threads.specs.Runs.{HasRunPart}
 use Rattle.plan_core.specs.declared.plan.Plan.{Plan}
 use Rattle.plan_core.specs.Plans.{IsWellFormed}
 use Rattle.clock_threads.specs.Threads.{AreFresh, AreLaid, AreSomeFresh}
-use Rattle.clock_threads.proofs.Readying.{part_none}
-use Rattle.clock_threads.proofs.Wiring.{fresh_is, laid, some_are, some_wires, wires_are}
+use Rattle.clock_threads.proofs.Idling.{done_no_write, memory_no_write, none_made, none_run}
+use Rattle.clock_threads.proofs.Wiring.{fresh_is, laid}
 use Rattle.clock_threads.proofs.run.run_threads.Goals as goal
 
 pub wires_of-requires : goal.wires_of-requires
@@ -33,19 +32,22 @@ returns-clause-done g c = λ e setting are.
     (fresh_is g.O.Sink.room c.args.plan.now c.args.clocks.now c.args.ticks setting c.args.engines.items c.in-Ok.wires.items are c.in-Ok.ensures.wires))
 
 pub returns-clause-part : goal.returns-clause-part
-returns-clause-part g c = λ e setting are. record {
-  wires = c.in-Ok.wires.items;
-  are = wires_are c.args.plan.now c.args.clocks.now setting are.is are.plan_is c.in-Ok.wires.items c.in-Ok.ensures.wires;
-  part = subst (λ (wires : List Wire). HasRunPart g.O.Sink.held wires c.args.window c.args.ticks c.args.engines.items c.run_wired-end.new.engines.items) c.as_slice.ensures.value (c.run_wired-end.ensures.part e);
-}
+returns-clause-part g c = λ setting are.
+    c.run_wired-end.ensures.part setting c.args.clocks.now
+    (subst (λ (wires : List Wire). AreFresh g.O.Sink.room c.args.plan.now wires c.args.ticks setting c.args.clocks.now c.args.engines.items) (sym c.as_slice.ensures.value)
+    (fresh_is g.O.Sink.room c.args.plan.now c.args.clocks.now c.args.ticks setting c.args.engines.items c.in-Ok.wires.items are c.in-Ok.ensures.wires))
 
 pub returns-in_default-clause-part : goal.returns-in_default-clause-part
-returns-in_default-clause-part g c = λ e setting are. record {
-  wires = some_wires c.args.plan.now c.args.clocks.now setting are.is are.plan_is;
-  are = some_are c.args.plan.now c.args.clocks.now setting are.is are.plan_is;
-  part = part_none g.O.Sink.held g.O.Sink.room c.args.plan.now (some_wires c.args.plan.now c.args.clocks.now setting are.is are.plan_is) c.args.window c.args.ticks c.args.engines.items (record {
-    setting = setting;
-    clocks = c.args.clocks.now;
-    are = record { engines_are = are; wires_are = some_are c.args.plan.now c.args.clocks.now setting are.is are.plan_is };
-  });
-}
+returns-in_default-clause-part g c = λ setting are.
+    none_made g.O.Sink.held g.O.Sink.name g.O.Sink.room g.O.Sink.faults c.args.plan.now setting c.args.clocks.now c.args.window c.args.ticks c.args.engines.items _
+    (λ clock sink e. memory_no_write clock sink (sym c.ended-in_default.ensures.end ∙ e)) are
+
+pub returns-then-is_empty-clause-done : goal.returns-then-is_empty-clause-done
+returns-then-is_empty-clause-done g c = λ e setting are.
+    none_run g.O.Sink.held g.O.Sink.name g.O.Sink.room g.O.Sink.faults c.args.plan.now setting c.args.clocks.now c.args.window c.args.ticks c.args.engines.items
+    (search rules) c.requires.window are _ _ c.ended.ensures.none.0 c.ended.ensures.none.1
+
+pub returns-then-is_empty-clause-part : goal.returns-then-is_empty-clause-part
+returns-then-is_empty-clause-part g c = λ setting are.
+    none_made g.O.Sink.held g.O.Sink.name g.O.Sink.room g.O.Sink.faults c.args.plan.now setting c.args.clocks.now c.args.window c.args.ticks c.args.engines.items _
+    (λ clock sink e. done_no_write clock sink (sym c.ended.ensures.end ∙ e)) are

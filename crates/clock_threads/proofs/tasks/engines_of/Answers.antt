@@ -1,4 +1,4 @@
-use Rattle.std.proofs.Common.{◌≡◌, ◌<◌, ◌∙◌, ap, arith, length, map, refl, vec_capacity}
+use Rattle.std.proofs.Common.{◌<◌, ◌∙◌, ap, arith, length, map, refl, vec_capacity}
 use Rattle.buffer_ends.specs.Local.{closed_windows}
 use Rattle.clock_threads.proofs.Making.{unmaking_more}
 use Rattle.clock_threads.proofs.Collecting.{collecting_more}

@@ -1,4 +1,4 @@
-use Rattle.std.proofs.Common.{vec_capacity, length}
+use Rattle.std.proofs.Common.{vec_capacity}
 use Rattle.clock_threads.proofs.Making.{Unmaking}
 use Rattle.clock_threads.proofs.Collecting.{Collecting}
 use Rattle.clock_threads.proofs.tasks.engines_of.Given as goal

@@ -1,5 +1,5 @@
-use Rattle.std.proofs.Common.{◌≡◌, ◌<◌, ◌≤◌, ◌∙◌, refl, sym, arith, rules, ap, length, vec_capacity}
-use Rattle.clock_threads.proofs.Making.{Making, making_none, making_more, making_all}
+use Rattle.std.proofs.Common.{◌≡◌, ◌∙◌, refl, arith, rules, vec_capacity}
+use Rattle.clock_threads.proofs.Making.{making_more, making_all}
 use Rattle.clock_threads.proofs.tasks.tasks_of.Goals as goal
 
 pub loop-preserved : goal.loop-preserved

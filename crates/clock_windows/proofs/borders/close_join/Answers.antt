@@ -1,4 +1,4 @@
-use Rattle.std.proofs.Common.{◌≡◌, refl, sym, subst, set, slice_index_or, length, ◌<◌, arith, length-set}
+use Rattle.std.proofs.Common.{refl, subst, set, length, ◌<◌, arith, length-set}
 use Rattle.std.proofs.lemmas.List.{get_or_default}
 use Rattle.clock_tasks.specs.declared.task.Task.{Task}
 use Rattle.buffer_ends.specs.declared.thread_taps.ThreadTaps.{ThreadTaps}

@@ -1,8 +1,8 @@
-use Rattle.std.proofs.Common.{◌≡◌, ◌<◌, ◌≤◌, ◌≢◌, ◌++◌, ◌∷◌, [], List, rules, refl, arith, length, subst, ◌+◌}
+use Rattle.std.proofs.Common.{◌≡◌, ◌<◌, ◌≤◌, ◌++◌, ◌∷◌, [], List, rules, refl, arith, length, subst, ◌+◌}
 use Rattle.std.proofs.lemmas.List.{get_or_default}
 use Rattle.buffer_ends.specs.Local.{Answers}
 use Rattle.clock_windows.specs.Wires.{wire_at}
-use Rattle.clock_windows.proofs.Closing.{Closing, closing_none, closing_skip, closing_more, ends_there, log_is}
+use Rattle.clock_windows.proofs.Closing.{closing_none, closing_skip, closing_more, ends_there, log_is}
 use Rattle.clock_windows.proofs.Logging.{logging_none, logging_skip, logging_more, all_closed, closing_engines}
 use Rattle.clock_windows.proofs.borders.close_joins.Goals as goal
 

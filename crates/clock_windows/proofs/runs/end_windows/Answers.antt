@@ -1,9 +1,9 @@
-use Rattle.std.proofs.Common.{◌≡◌, ◌<◌, rules, sym, subst, length, slice_index_or, ap}
+use Rattle.std.proofs.Common.{◌≡◌, ◌<◌, rules, subst, length}
 use Rattle.std.proofs.lemmas.List.{get_or_default}
 use Rattle.clock_tasks.specs.declared.task.Task.{Task}
 use Rattle.buffer_ends.specs.declared.thread_taps.ThreadTaps.{ThreadTaps}
 use Rattle.clock_windows.specs.Records.{EndedTask}
-use Rattle.clock_windows.proofs.Ending.{ended_none, ended_more, ended_engines, ended_all, ended_same}
+use Rattle.clock_windows.proofs.Ending.{ended_none, ended_more, ended_engines}
 use Rattle.clock_windows.proofs.runs.end_windows.Goals as goal
 
 pub loop-k-init : goal.loop-k-init

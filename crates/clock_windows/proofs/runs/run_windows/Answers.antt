@@ -1,5 +1,5 @@
-use Rattle.std.proofs.Common.{◌≡◌, ◌<◌, ◌≤◌, rules, sym, subst, length, slice_index_or, ap, arith}
-use Rattle.clock_windows.proofs.Ending.{Loop, loop_none, loop_can, loop_close, loop_logs, loop_more, loop_stopped, loop_broke, loop_all}
+use Rattle.std.proofs.Common.{◌≤◌, ◌∙◌, rules, sym, arith}
+use Rattle.clock_windows.proofs.Ending.{loop_none, loop_can, loop_close, loop_logs, loop_more, loop_part, loop_stopped, loop_broke, loop_write, loop_all, not_done, with_one}
 use Rattle.clock_windows.proofs.Logging.{engines_then}
 use Rattle.clock_windows.proofs.runs.run_windows.Goals as goal
 
@@ -12,9 +12,19 @@ run_window-requires-clause-can g c = λ κs lives.
     c.loop-made-test.true c.min-count.ensures c.loop-made.invariant
 
 pub returns-in-Some-clause-part : goal.returns-in-Some-clause-part
-returns-in-Some-clause-part g c = λ no.
+returns-in-Some-clause-part g c =
     loop_stopped g.O.Sink.held g.O.Sink.name g.O.Sink.room g.O.Sink.faults c.args.wires.now c.args.window c.args.ticks c.loop-made.made c.min-count.result c.args.tasks.now c.loop-made.tasks c.run_window.new.tasks c.args.logs.now c.loop-made.logs c.requires.ready
     c.loop-made-test.true c.min-count.ensures c.loop-made.invariant c.run_window.ensures.ran c.run_window.auto.tasks
+
+pub returns-in-Some-clause-done : goal.returns-in-Some-clause-done
+returns-in-Some-clause-done g c = λ e.
+    let told = c.in-Some.ensures.some in
+    absurd (with_one c.run_window.new.tasks (let w = told.within in omega (arith, w)) (λ d. not_done _ told.fault (sym (told.end_is d) ∙ e)))
+
+pub returns-in-Some-clause-write : goal.returns-in-Some-clause-write
+returns-in-Some-clause-write g c =
+    loop_write g.O.Sink.held g.O.Sink.name g.O.Sink.room g.O.Sink.faults c.args.wires.now c.args.window c.args.ticks c.loop-made.made c.min-count.result c.args.tasks.now c.loop-made.tasks c.run_window.new.tasks c.args.logs.now c.loop-made.logs c.requires.ready
+    c.loop-made-test.true c.min-count.ensures c.loop-made.invariant c.run_window.ensures.ran c.run_window.auto.tasks _ c.in-Some.ensures.some
 
 pub close_joins-requires-clause-may : goal.close_joins-requires-clause-may
 close_joins-requires-clause-may g c =
@@ -27,12 +37,12 @@ close_joins-requires-clause-logs g c =
     c.loop-made-test.true c.min-count.ensures c.loop-made.invariant c.run_window.ensures.ran c.run_window.auto.tasks
 
 pub returns-in-Err-clause-part : goal.returns-in-Err-clause-part
-returns-in-Err-clause-part g c = λ no.
+returns-in-Err-clause-part g c =
     loop_broke g.O.Sink.held g.O.Sink.name g.O.Sink.room g.O.Sink.faults c.args.wires.now c.args.window c.args.ticks c.loop-made.made c.min-count.result c.args.tasks.now c.loop-made.tasks c.run_window.new.tasks c.args.logs.now c.loop-made.logs c.requires.ready
     c.loop-made-test.true c.min-count.ensures c.loop-made.invariant c.run_window.ensures.ran c.run_window.auto.tasks c.close_joins.new.tasks c.close_joins.ensures.engines
 
 pub returns-in-Err-end_windows-clause-part : goal.returns-in-Err-end_windows-clause-part
-returns-in-Err-end_windows-clause-part g c = λ no.
+returns-in-Err-end_windows-clause-part g c =
     loop_broke g.O.Sink.held g.O.Sink.name g.O.Sink.room g.O.Sink.faults c.args.wires.now c.args.window c.args.ticks c.loop-made.made c.min-count.result c.args.tasks.now c.loop-made.tasks c.run_window.new.tasks c.args.logs.now c.loop-made.logs c.requires.ready
     c.loop-made-test.true c.min-count.ensures c.loop-made.invariant c.run_window.ensures.ran c.run_window.auto.tasks c.end_windows.new.tasks
     (engines_then c.run_window.new.tasks c.close_joins.new.tasks c.end_windows.new.tasks c.close_joins.ensures.engines c.end_windows.ensures.engines)
@@ -47,3 +57,7 @@ pub returns-clause-done : goal.returns-clause-done
 returns-clause-done g c = λ e.
     let high : c.args.ticks ≤ c.loop-made.made = search rules in
     loop_all g.O.Sink.held g.O.Sink.name g.O.Sink.room g.O.Sink.faults c.args.wires.now c.args.window c.args.ticks c.loop-made.made c.args.tasks.now c.loop-made.tasks c.loop-made.logs high c.loop-made.invariant
+
+pub returns-clause-part : goal.returns-clause-part
+returns-clause-part g c =
+    loop_part g.O.Sink.held g.O.Sink.name g.O.Sink.room g.O.Sink.faults c.args.wires.now c.args.window c.args.ticks c.loop-made.made c.args.tasks.now c.loop-made.tasks c.args.logs.now c.loop-made.logs c.requires.ready c.loop-made.invariant

@@ -1,4 +1,4 @@
-use Rattle.std.proofs.Common.{◌≡◌, ◌<◌, ℕ, None, length, slice_index_or}
+use Rattle.std.proofs.Common.{◌≡◌, ◌<◌, ℕ, None, slice_index_or}
 use Rattle.clock_windows.proofs.runs.stopped_in.Given as goal
 
 abbrev pub invariant-loop-k : goal.invariant-loop-k

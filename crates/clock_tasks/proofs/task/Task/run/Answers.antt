@@ -1,4 +1,4 @@
-use Rattle.std.proofs.Common.{◌≡◌, ◌<◌, ◌≤◌, ◌+◌, suc, sym, subst, ◌∙◌, add-one, arith, rules, ap, None}
+use Rattle.std.proofs.Common.{◌≡◌, ◌+◌, sym, subst, add-one, arith, rules}
 use Rattle.clock_tasks.proofs.Running.{Running, running_none, running_more, running_broke, running_all, rooms_fewer, room_one}
 use Rattle.clock_tasks.proofs.task.Task.run.Goals as goal
 
@@ -12,7 +12,7 @@ returns-in-Err g c =
     running_broke g.O.Sink.held g.O.Sink.name g.O.Sink.room g.O.Sink.faults g.T.Taps.stands g.T.Taps.buffers g.T.Taps.same c.loop.counter c.args.self.now c.loop.self c.tick.new.self c.tick.new.taps
     c.loop.invariant (record { setting = n.setting; clock = n.clock; outs = n.outs; kept = n.kept; none_fell = n.faults }) (record { works = n.works; sinks = n.sinks }) c.args.count c.loop-test.true
     (g.met.T.Taps.same_trans c.args.self.now.taps c.loop.self.taps c.tick.new.taps c.loop.invariant.taps n.taps) n.buffers c.in-Err.ensures.stopped
-    (λ e. let f = c.in-Err.ensures.fault in cc)
+    _ c.in-Err.ensures.fault c.in-Err.ensures.cause
 
 pub loop-preserved : goal.loop-preserved
 loop-preserved g c =

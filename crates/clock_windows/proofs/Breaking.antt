@@ -1,0 +1,298 @@
+-- A run that came so far: its record begins that of its setting.
+use Rattle.std.proofs.Common.{◌≡◌, ◌≢◌, ◌⊎◌, ◌∙◌, ◌<◌, ◌≤◌, ◌+◌, ◌-◌, ℕ, zero, suc, Bool, cond, Option, List, [], ◌∷◌, ◌++◌, length, nat_lt, arith, refl, ap, sym, subst, inl, inr, append_assoc, append-nil, if◌then◌else◌}
+use Rattle.std.specs.List.{flat_map}
+use Rattle.std.proofs.lemmas.Bool.{cases_lt, lt-ltb, le-ltb}
+use mathlib.Core.Path.{fun_ext}
+use Rattle.liq_base.specs.Pieces.{IsPrefix, grown}
+use Rattle.clock_infer.specs.declared.clock_map.ClockMap.{ClockMap}
+use Rattle.frame_core.specs.declared.cell.Cell.{Cell}
+use Rattle.frame_core.specs.Legal.{IsRun}
+use Rattle.frame_core.specs.Calls.{Call, takes_of, puts_to}
+use Rattle.stream_meaning.specs.Instants.{Setting, answered}
+use Rattle.stream_meaning.specs.Sinks.{tick_bytes, ticks_bytes}
+use Rattle.stream_meaning.specs.Calls.{IsBegin, after_calls, answers_in, calls_of_tick, joined_upto, joined_between}
+use Rattle.stream_meaning.specs.Settings.{IsSetting}
+use Rattle.node_states.specs.Ticks.{IsOutput, with_rest}
+use Rattle.run_records.specs.Buffers.{feeder, reader}
+use Rattle.run_records.specs.Records.{AreWindowsBegun, Run, Window, answers_of, calls_in, setting_then, start, windows_in, windows_of}
+use Rattle.run_records.proofs.Alone.{feeder_runs}
+use Rattle.run_records.proofs.Owning.{own_tick}
+use Rattle.run_records.proofs.Running.{runs_in, rests_in}
+use Rattle.clock_tasks.specs.Histories.{AreTicks, History, answers_by, joined_from}
+use Rattle.clock_tasks.proofs.Walking.{answers-append, joined_alike}
+use Rattle.clock_windows.specs.declared.wires.Wire.{Wire}
+use Rattle.clock_windows.specs.Wires.{wire_at}
+use Rattle.clock_windows.specs.Records.{windows_upto}
+use Rattle.clock_windows.specs.Lawful.{Answers, AreWires}
+use Rattle.clock_windows.specs.Listed.{listed}
+use Rattle.clock_windows.proofs.Sets.{same_or_other}
+use Rattle.clock_windows.proofs.Keeping.{takes-append}
+use Rattle.clock_windows.proofs.Meeting.{joined_split}
+use Rattle.clock_windows.proofs.Starts.{start_climbs, start_up}
+use Rattle.clock_windows.proofs.Owning.{in_takes, no_took, take_own, to_reader}
+use Rattle.clock_windows.proofs.Lawfully.{all_takes, flat_snoc, takes_none}
+use Rattle.clock_windows.proofs.Recording.{listed_at, listed_long, none_joined, past_end}
+
+front_none : {A : Type 0} (xs ys : List A) → xs ++ ys ≡ [] → xs ≡ []
+front_none [] ys e = refl
+front_none (x ∷ xs) ys e = absurd cc
+
+pub begin_none : (calls : List Call) → IsBegin [] calls
+begin_none calls = record { rest = calls; are = refl }
+
+-- the bytes of more ticks begin with those of fewer
+ticks_more : (setting : Setting) (node t k : ℕ) → (rest : List ℕ) × (ticks_bytes setting node (t + k) ≡ ticks_bytes setting node t ++ rest)
+ticks_more setting node t zero = (let e : t + 0 ≡ t = omega arith in ([], ap (ticks_bytes setting node) e ∙ sym (append-nil (ticks_bytes setting node t))))
+ticks_more setting node t (suc k) =
+    let e : t + suc k ≡ suc (t + k) = omega arith in let before = ticks_more setting node t k in (
+      before.0 ++ tick_bytes setting node (t + k),
+      ap (ticks_bytes setting node) e ∙ ap (λ l. l ++ tick_bytes setting node (t + k)) before.1 ∙ append_assoc (ticks_bytes setting node t) before.0 (tick_bytes setting node (t + k)),
+    )
+
+pub front_more : (setting : Setting) (node t n : ℕ) (front : List ℕ) → t ≤ n → IsPrefix front (ticks_bytes setting node t) → IsPrefix front (ticks_bytes setting node n)
+front_more setting node t n front most is =
+    let e : n ≡ t + (n - t) = omega (arith, most) in let more = ticks_more setting node t (n - t) in
+    record {
+      rest = is.rest ++ more.0;
+      whole_is = ap (ticks_bytes setting node) e ∙ more.1 ∙ ap (λ l. l ++ more.0) is.whole_is ∙ append_assoc front is.rest more.0;
+    }
+
+-- A clock has made so many ticks from the last border on, and then these calls of the next one; each output has grown by a front of
+-- its bytes of N ticks.
+pub record Came (setting : Setting) (m s e N : ℕ) (history : History) (ticks : ℕ) (made : List Call) (accepted : ℕ → Bool) (old new : ℕ → Option (List ℕ)) : Type 0 where
+  pub least : s ≤ ticks
+  pub inside : ((ticks ≤ e) × (made ≡ [])) ⊎ (ticks < e)
+  pub ticks_are : AreTicks setting m ticks history
+  pub begun : (rest : Answers) → IsBegin made (calls_of_tick (with_rest setting (after_calls (answers_by history ticks) made) rest) accepted m ticks)
+  pub front : (rest : Answers) (sink node : ℕ) → IsOutput setting m sink node
+      → (bytes : List ℕ) × IsPrefix bytes (ticks_bytes (with_rest setting (after_calls (answers_by history ticks) made) rest) node N) × (new sink ≡ grown bytes (old sink))
+
+-- what a clock called since the last border; one that does not run called nothing
+pub record Reach (setting : Setting) (running m s e N : ℕ) (history : History) (old new : ℕ → Option (List ℕ)) : Type 0 where
+  pub ticks : ℕ
+  pub made : List Call
+  pub accepted : ℕ → Bool
+  pub since : List Call
+  pub since_is : m < running → since ≡ joined_from history.calls s (ticks - s) ++ made
+  pub came : m < running → Came setting m s e N history ticks made accepted old new
+  pub rests : running ≤ m → since ≡ []
+
+module _ (setting : Setting) (map : ClockMap) (is : IsSetting setting map) (wires : List Wire) (are : AreWires setting map.running wires) (W N closed : ℕ) (hs : ℕ → History) (old new : ℕ → ℕ → Option (List ℕ))
+    (reach : (m : ℕ) → Reach setting map.running m (start W N closed) (start W N (suc closed)) N (hs m) (old m) (new m)) where
+  abbrev s : ℕ
+  s = start W N closed
+
+  abbrev e : ℕ
+  e = start W N (suc closed)
+
+  abbrev ticks : ℕ → ℕ
+  ticks m = (reach m).ticks
+
+  abbrev made : ℕ → List Call
+  made m = (reach m).made
+
+  abbrev since : ℕ → List Call
+  since m = (reach m).since
+
+  -- what a tick of clock m accepts
+  abbrev accepts : (m t : ℕ) → ℕ → Bool
+  accepts m t = if nat_lt t (ticks m) then (hs m).accepted t else (reach m).accepted
+
+  -- all calls of a clock
+  abbrev all : ℕ → List Call
+  all m = joined_upto (hs m).calls (ticks m) ++ made m
+
+  abbrev windows : ℕ → List Window
+  windows b = windows_upto (wire_at wires b) hs b W N closed ++ (puts_to b (since (feeder setting b)), takes_of b (since (reader setting b))) ∷ []
+
+  abbrev pub broken_run : Run
+  broken_run = record { buffers = listed (length wires) windows }
+
+  abbrev world : Answers → Setting
+  world rest = setting_then setting broken_run rest
+
+  windows_are : (b : ℕ) → b < length wires → windows_of broken_run b ≡ windows b
+  windows_are b less = listed_at (length wires) windows b [] less
+
+  none_beyond : (b : ℕ) → length wires ≤ b → answers_of broken_run b ≡ []
+  none_beyond b past = ap (flat_map (λ (w : Window). w.1)) (past_end (listed (length wires) windows) b [] (let n = listed_long (length wires) windows in omega (arith, past, n)))
+
+  -- a tick takes nothing of a buffer that its clock does not read
+  silent : (m : ℕ) (answers : Answers) (accepted : ℕ → Bool) (t b : ℕ) → (reader setting b ≢ m) ⊎ (length wires ≤ b) → takes_of b (calls_of_tick (answered setting answers) accepted m t) ≡ []
+  silent m answers accepted t b (inl other) = no_took setting b m other (calls_of_tick (answered setting answers) accepted m t) (own_tick setting map is answers accepted m t)
+  silent m answers accepted t b (inr past) = (take_own setting map is wires are).none answers accepted m t b past
+
+  module _ (m : ℕ) (runs : m < map.running) where
+    abbrev came : Came setting m s e N (hs m) (ticks m) (made m) (reach m).accepted (old m) (new m)
+    came = (reach m).came runs
+
+    tick_quiet : (b : ℕ) → (reader setting b ≢ m) ⊎ (length wires ≤ b) → (i : ℕ) → i < ticks m → takes_of b ((hs m).calls i) ≡ []
+    tick_quiet b off i less = ap (takes_of b) (came.ticks_are i less (λ x. [])) ∙ silent m (λ x. answers_by (hs m) (suc i) x ++ []) ((hs m).accepted i) i b off
+
+    made_quiet : (b : ℕ) → (reader setting b ≢ m) ⊎ (length wires ≤ b) → takes_of b (made m) ≡ []
+    made_quiet b off =
+        let begun = came.begun (λ x. []) in
+        front_none (takes_of b (made m)) (takes_of b begun.rest) (sym (takes-append b (made m) begun.rest) ∙ ap (takes_of b) (sym begun.are)
+        ∙ silent m (λ x. after_calls (answers_by (hs m) (ticks m)) (made m) x ++ []) (reach m).accepted (ticks m) b off)
+
+    quiet : (b : ℕ) → (reader setting b ≢ m) ⊎ (length wires ≤ b) → takes_of b (all m) ≡ []
+    quiet b off = takes-append b (joined_upto (hs m).calls (ticks m)) (made m) ∙ (λ i. takes_none (hs m).calls b (ticks m) (tick_quiet b off) i ++ made_quiet b off i)
+
+    since_all : joined_upto (hs m).calls s ++ since m ≡ all m
+    since_all =
+        let least = came.least in let calls = (hs m).calls in
+        let n : s + (ticks m - s) ≡ ticks m = omega (arith, least) in
+        ap (λ l. joined_upto calls s ++ l) ((reach m).since_is runs) ∙ sym (append_assoc (joined_upto calls s) (joined_from calls s (ticks m - s)) (made m))
+        ∙ ap (λ l. l ++ made m) (sym (joined_split calls s (ticks m - s)) ∙ ap (joined_upto calls) n)
+
+    -- what the run got of a buffer that this clock reads
+    answers_are : (b : ℕ) → b < length wires → reader setting b ≡ m → answers_of broken_run b ≡ takes_of b (all m)
+    answers_are b less read =
+        let to : (wire_at wires b).to ≡ m = to_reader setting map is wires are m b less runs read in
+        ap (flat_map (λ (w : Window). w.1)) (windows_are b less)
+        ∙ flat_snoc (λ (w : Window). w.1) (windows_upto (wire_at wires b) hs b W N closed) (puts_to b (since (feeder setting b)), takes_of b (since (reader setting b)))
+        ∙ ap (λ l. l ++ takes_of b (since (reader setting b))) (all_takes W N (wire_at wires b) hs b closed)
+        ∙ (λ i. takes_of b (joined_upto (hs (to i)).calls s) ++ takes_of b (since (read i)))
+        ∙ sym (takes-append b (joined_upto (hs m).calls s) (since m)) ∙ ap (takes_of b) since_all
+
+    module _ (front behind : List Call) (split : all m ≡ front ++ behind) where
+      -- the run's answers begin with what these first calls got
+      rests : (b : ℕ) → (rest : List (Option (List Cell))) × (answers_of broken_run b ≡ answers_in b front ++ rest)
+      rests b = elim (cases_lt b (length wires)) [
+        | inr past ↦ (answers_of broken_run b, ap (λ l. l ++ answers_of broken_run b) (sym (none_in (inr past))))
+        | inl less ↦ (elim (same_or_other (reader setting b) m) [
+          | inl read ↦ (takes_of b behind, answers_are b less read ∙ ap (takes_of b) split ∙ takes-append b front behind ∙ ap (λ l. l ++ takes_of b behind) (sym (in_takes b front)))
+          | inr other ↦ (answers_of broken_run b, ap (λ l. l ++ answers_of broken_run b) (sym (none_in (inl other))))
+        ])
+      ]
+        where
+          none_in : (reader setting b ≢ m) ⊎ (length wires ≤ b) → answers_in b front ≡ []
+          none_in off = in_takes b front ∙ front_none (takes_of b front) (takes_of b behind) (sym (takes-append b front behind) ∙ ap (takes_of b) (sym split) ∙ quiet b off)
+
+      abbrev later : Answers → Answers
+      later rest b = (rests b).0 ++ rest b
+
+      world_is : (rest : Answers) → world rest ≡ with_rest setting (λ b. answers_in b front) (later rest)
+      world_is rest = ap (answered setting) (fun_ext (λ b. ap (λ l. l ++ rest b) (rests b).1 ∙ append_assoc (answers_in b front) (rests b).0 (rest b)))
+
+    calls_are : (rest : Answers) (i : ℕ) → i < ticks m → (hs m).calls i ≡ calls_in (world rest) map.running accepts m i
+    calls_are rest i less =
+        let calls = (hs m).calls in let front = joined_upto calls (suc i) in let behind = joined_from calls (suc i) (ticks m - suc i) ++ made m in
+        let n : ticks m ≡ suc i + (ticks m - suc i) = omega (arith, less) in
+        let split : all m ≡ front ++ behind = ap (λ l. l ++ made m) (ap (joined_upto calls) n ∙ joined_split calls (suc i) (ticks m - suc i)) ∙ append_assoc front (joined_from calls (suc i) (ticks m - suc i)) (made m) in
+        let accepted : (hs m).accepted i ≡ accepts m i = ap (λ (t : Bool). cond t ((hs m).accepted i) (reach m).accepted) (sym (lt-ltb i (ticks m) less)) in
+        came.ticks_are i less (later front behind split rest)
+        ∙ (λ j. calls_of_tick (sym (world_is front behind split rest) j) (accepted j) m i)
+        ∙ sym (runs_in (world rest) map.running accepts m i runs)
+
+    -- what all calls of the clock got, whatever answers follow
+    abbrev whole_later : Answers → Answers
+    whole_later rest = later (all m) [] (sym (append-nil (all m))) rest
+
+    whole_world : (rest : Answers) → with_rest setting (after_calls (answers_by (hs m) (ticks m)) (made m)) (whole_later rest) ≡ world rest
+    whole_world rest =
+        ap (λ (A : Answers). with_rest setting A (whole_later rest)) (fun_ext (λ b. sym (answers-append b (joined_upto (hs m).calls (ticks m)) (made m))))
+        ∙ sym (world_is (all m) [] (sym (append-nil (all m))) rest)
+
+    part_is : (rest : Answers) → IsBegin (made m) (calls_in (world rest) map.running accepts m (ticks m))
+    part_is rest =
+        let t = ticks m in let high : t ≤ t = omega arith in
+        let accepted : (reach m).accepted ≡ accepts m t = ap (λ (b : Bool). cond b ((hs m).accepted t) (reach m).accepted) (sym (le-ltb t t high)) in
+        subst (IsBegin (made m)) ((λ j. calls_of_tick (whole_world rest j) (accepted j) m t) ∙ sym (runs_in (world rest) map.running accepts m t runs)) (came.begun (whole_later rest))
+
+    -- the calls of the window that begins there
+    abbrev next_calls : Answers → ℕ → List Call
+    next_calls rest j = calls_in (world rest) map.running accepts m (s + j)
+
+    since_is : (rest : Answers) → since m ≡ joined_upto (next_calls rest) (ticks m - s) ++ made m
+    since_is rest = (let least = came.least in
+        (reach m).since_is runs ∙ ap (λ l. l ++ made m) (joined_alike (λ j. (hs m).calls (s + j)) (next_calls rest) (ticks m - s) (λ j low. calls_are rest (s + j) (omega (arith, low, least)))))
+
+    begins_by : (rest : Answers) → ((ticks m ≤ e) × (made m ≡ [])) ⊎ (ticks m < e) → IsBegin (since m) (joined_upto (next_calls rest) (e - s))
+    begins_by rest (inl whole) =
+        let least = came.least in let most = whole.0 in let k = e - ticks m in let n = ticks m - s in let f = next_calls rest in
+        let cut : e - s ≡ n + k = omega (arith, least, most) in
+        record {
+          rest = joined_from f n k;
+          are = ap (joined_upto f) cut ∙ joined_split f n k ∙ ap (λ l. l ++ joined_from f n k) (sym (since_is rest ∙ ap (λ l. joined_upto f n ++ l) whole.1 ∙ append-nil (joined_upto f n)));
+        }
+    begins_by rest (inr most) =
+        let least = came.least in let k = e - suc (ticks m) in let n = ticks m - s in let f = next_calls rest in let p = part_is rest in
+        let cut : e - s ≡ suc n + k = omega (arith, least, most) in
+        let at : s + n ≡ ticks m = omega (arith, least) in
+        let one : f n ≡ made m ++ p.rest = ap (calls_in (world rest) map.running accepts m) at ∙ p.are in
+        let front = joined_upto f n in let behind = joined_from f (suc n) k in
+        record {
+          rest = p.rest ++ behind;
+          are = ap (joined_upto f) cut ∙ joined_split f (suc n) k ∙ ap (λ l. (front ++ l) ++ behind) one ∙ ap (λ l. l ++ behind) (sym (append_assoc front (made m) p.rest))
+              ∙ append_assoc (front ++ made m) p.rest behind ∙ ap (λ l. l ++ (p.rest ++ behind)) (sym (since_is rest));
+        }
+
+    -- the calls since the border begin those of the window
+    since_begins : (rest : Answers) → IsBegin (since m) (joined_between (calls_in (world rest) map.running accepts m) s e)
+    since_begins rest = begins_by rest came.inside
+
+    -- each output of the clock has grown by a front of its bytes
+    pub fronts : (rest : Answers) (sink node : ℕ) → IsOutput setting m sink node → (bytes : List ℕ) × IsPrefix bytes (ticks_bytes (world rest) node N) × (new m sink ≡ grown bytes (old m sink))
+    fronts rest sink node out =
+        let f = came.front (whole_later rest) sink node out in
+        (f.0, subst (λ (w : Setting). IsPrefix f.0 (ticks_bytes w node N)) (whole_world rest) f.1, f.2)
+
+  in_plan : (b : ℕ) → b < length wires → b < length setting.plan.buffers
+  in_plan b less = let n = are.many in omega (arith, less, n)
+
+  -- the windows that were closed
+  module _ (rest : Answers) (b : ℕ) (less : b < length wires) where
+    abbrev calls : ℕ → ℕ → List Call
+    calls = calls_in (world rest) map.running accepts
+
+    from_runs : feeder setting b < map.running
+    from_runs = feeder_runs setting map is b (in_plan b less)
+
+    same_calls : (m : ℕ) → m < map.running → (t n : ℕ) → t + n ≤ s → joined_from (hs m).calls t n ≡ joined_from (calls m) t n
+    same_calls m runs t n most = (let least = (came m runs).least in
+        joined_alike (λ j. (hs m).calls (t + j)) (λ j. calls m (t + j)) n (λ j low. calls_are m runs rest (t + j) (omega (arith, low, most, least))))
+
+    puts_same : (t n : ℕ) → t + n ≤ s → puts_to b (joined_from (hs (wire_at wires b).from).calls t n) ≡ puts_to b (joined_from (calls (feeder setting b)) t n)
+    puts_same t n most = (λ i. puts_to b (joined_from (hs ((are.each b less).from_is i)).calls t n)) ∙ ap (puts_to b) (same_calls (feeder setting b) from_runs t n most)
+
+    takes_same : (t n : ℕ) → t + n ≤ s → takes_of b (joined_from (hs (wire_at wires b).to).calls t n) ≡ takes_of b (joined_from (calls (reader setting b)) t n)
+    takes_same t n most = elim (cases_lt (reader setting b) map.running) [
+      | inl runs ↦ (
+          let to : (wire_at wires b).to ≡ reader setting b = to_reader setting map is wires are (reader setting b) b less runs refl in
+          (λ i. takes_of b (joined_from (hs (to i)).calls t n)) ∙ ap (takes_of b) (same_calls (reader setting b) runs t n most))
+      | inr high ↦ (
+          let to : (wire_at wires b).to ≡ feeder setting b = (are.each b less).to_is ∙ ap (λ (t : Bool). cond t (reader setting b) (feeder setting b)) (le-ltb (reader setting b) map.running high) in
+          let other : reader setting b ≢ feeder setting b = λ same. (let f = from_runs in omega (arith, same, f, high)) in
+          let least = (came (feeder setting b) from_runs).least in
+          (λ i. takes_of b (joined_from (hs (to i)).calls t n))
+          ∙ takes_none (λ j. (hs (feeder setting b)).calls (t + j)) b n (λ j low. tick_quiet (feeder setting b) from_runs b (inl other) (t + j) (omega (arith, low, most, least)))
+          ∙ sym (none_joined (λ j. calls (reader setting b) (t + j)) b n (λ j. ap (takes_of b) (rests_in (world rest) map.running accepts (reader setting b) (t + j) high))))
+    ]
+
+    windows_same : (j : ℕ) → j ≤ closed → windows_upto (wire_at wires b) hs b W N j ≡ windows_in (world rest) map.running accepts b W N j
+    windows_same zero low = refl
+    windows_same (suc j) low =
+        let up = start_up W N j in let climbs = start_climbs W N (suc j) (closed - suc j) closed (omega (arith, low)) in
+        let most : start W N j + (start W N (suc j) - start W N j) ≤ s = omega (arith, up, climbs) in
+        (λ i. windows_same j (omega (arith, low)) i ++ (puts_same (start W N j) (start W N (suc j) - start W N j) most i, takes_same (start W N j) (start W N (suc j) - start W N j) most i) ∷ [])
+
+  in_wires : (b : ℕ) → b < length setting.plan.buffers → b < length wires
+  in_wires b known = let n = are.many in omega (arith, known, n)
+
+  -- the record of the run
+  pub windows_begun : ((b : ℕ) → b < length wires → (chunks : List (List Cell)) × IsRun (wire_at wires b).capacity [] (windows_upto (wire_at wires b) hs b W N closed) chunks) → AreWindowsBegun setting map.running W N broken_run
+  windows_begun legal = record {
+    buffers = listed_long (length wires) windows ∙ are.many;
+    accepted = accepts;
+    closed = closed;
+    since = since;
+    begun = λ rest m. (elim (cases_lt m map.running) [
+      | inl runs ↦ since_begins m runs rest
+      | inr high ↦ subst (λ l. IsBegin l (joined_between (calls_in (world rest) map.running accepts m) s e)) (sym ((reach m).rests high)) (begin_none (joined_between (calls_in (world rest) map.running accepts m) s e))
+    ]);
+    are = λ rest b known. (let less = in_wires b known in
+        windows_are b less ∙ ap (λ l. l ++ (puts_to b (since (feeder setting b)), takes_of b (since (reader setting b))) ∷ []) (windows_same rest b less closed (omega arith)));
+    legal = λ rest b known. (let less = in_wires b known in let l = legal b less in
+        (l.0, subst (λ (z : ℕ × List Window). IsRun z.0 [] z.1 l.0) (λ i. ((are.each b less).capacity_is i, windows_same rest b less closed (omega arith) i)) l.1));
+  }

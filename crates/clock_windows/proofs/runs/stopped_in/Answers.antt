@@ -1,0 +1,19 @@
+use Rattle.std.proofs.Common.{◌<◌, ◌∙◌, ap, length, rules}
+use Rattle.std.proofs.lemmas.List.{get_or_default}
+use Rattle.buffer_ends.specs.declared.thread_taps.ThreadTaps.{ThreadTaps}
+use Rattle.clock_tasks.specs.declared.task.Task.{Task}
+use Rattle.clock_windows.specs.Runs.{end_by}
+use Rattle.clock_windows.proofs.runs.stopped_in.Goals as goal
+
+pub returns-in-Some-clause-some : goal.returns-in-Some-clause-some
+returns-in-Some-clause-some g c =
+    let within : c.loop-k.k < length c.args.tasks.now = search rules in
+    record {
+      place = c.loop-k.k;
+      within = within;
+      fault = c.in-Some.fault;
+      stopped = λ d. ap (λ (t : Task g.row.O.Denot (ThreadTaps g.row.R.Denot)). t.engine.works.stopped) (get_or_default c.args.tasks.now c.loop-k.k d _ within) ∙ c.in-Some.is;
+      lowest = c.loop-k.invariant;
+      end_is = λ d. c.end_of.ensures
+          ∙ ap (λ (t : Task g.row.O.Denot (ThreadTaps g.row.R.Denot)). end_by t.engine.works.clock c.in-Some.fault) (get_or_default c.args.tasks.now c.loop-k.k c.index-tasks-k.result d within);
+    }
