@@ -104,7 +104,7 @@ some_from n [] = refl
 some_from n (None ∷ xs) = some_from (n + 0) xs
 some_from n (Some chunk ∷ xs) = some_from (n + 1) xs
 
-some_counted : (xs : List (Option (List Cell))) → count_by yes (map is_chunk xs) ≡ count_by is_some xs
+pub some_counted : (xs : List (Option (List Cell))) → count_by yes (map is_chunk xs) ≡ count_by is_some xs
 some_counted xs = some_from 0 xs
 
 none_from : (n : ℕ) (xs : List (Option (List Cell))) → fold (λ (a : ℕ) (x : Bool). a + cond (not x) 1 0) n (map is_chunk xs) ≡ fold (λ (a : ℕ) (x : Option (List Cell)). a + cond (is_none x) 1 0) n xs
@@ -112,7 +112,7 @@ none_from n [] = refl
 none_from n (None ∷ xs) = none_from (n + 1) xs
 none_from n (Some chunk ∷ xs) = none_from (n + 0) xs
 
-none_counted : (xs : List (Option (List Cell))) → count_by not (map is_chunk xs) ≡ count_by is_none xs
+pub none_counted : (xs : List (Option (List Cell))) → count_by not (map is_chunk xs) ≡ count_by is_none xs
 none_counted xs = none_from 0 xs
 
 some_mapped : (xs : List (Option (List Cell))) → map is_chunk xs ≡ map is_some xs

@@ -4,6 +4,7 @@ ghost use Rattle.std.specs.Option.{ForSome};
 ghost use Rattle.frame_core.specs.Library.{IsLibrary};
 ghost use Rattle.stations.specs.Findings.{Fails, IsFound, IsLoaded};
 ghost use Rattle.station_check.specs.Halts.{HaltsFor, load_halt};
+ghost use Rattle.track_library.specs.Singles.{HaveSingles};
 
 use crate::Halt;
 use frame_core::Library;
@@ -19,6 +20,7 @@ pub fn load_files<S: Shelf>(alloc: Global, plan: &Plan, shelf: &mut S) -> Result
     ensures loaded { IfOk result (λ library. ForSome (S.files shelf.old) (λ files. IsLoaded files plan.now library)) }
     ensures library { IfOk result (λ library. IsLibrary library) }
     ensures leaves { IfOk result (λ library. length library.leaves ≡ length plan.now.nodes) }
+    ensures singles { IfOk result (λ library. HaveSingles plan.now.nodes library.leaves) }
     ensures fault { IfErr result (HaltsFor (S.files shelf.old) (S.read_count shelf.old) (S.read_count shelf.new)
         (λ files fault. (ticks : ℕ) → IsFound files plan.now ticks (Fails fault))) }
     ensures files { S.files shelf.new ≡ S.files shelf.old }

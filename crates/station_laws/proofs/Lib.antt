@@ -1,3 +1,4 @@
 mod Walked
 mod Lengths
 mod Gapless
+mod AsOne

@@ -7,11 +7,14 @@ ghost use Rattle.plan_core.specs.Plans.{IsWellFormed};
 ghost use Rattle.plan_core.specs.declared.plan.Plan.{Plan as ThePlan};
 ghost use Rattle.stations.specs.Findings.{IsAccepted};
 ghost use Rattle.run_records.specs.Records.{Run};
-ghost use Rattle.stations.specs.Stations.{Station, setting_of};
+ghost use Rattle.run_records.specs.Rounds.{HasNoJoin};
+ghost use Rattle.stations.specs.Renderings.{RendersAsOneThread};
+ghost use Rattle.stations.specs.Stations.{IsLawful, Station, bare, setting_of};
 ghost use Rattle.stations.specs.Streams.{HasNoGaps, bytes_of, header_for};
 ghost use Rattle.stream_meaning.specs.Sinks.{kind_of, ticks_bytes};
 ghost use Rattle.wav_io.specs.Header.{block_size};
 
+use run_records::{lawful_records_are_rounds, rounds_are_one};
 use stream_meaning::infallible_nodes_offer;
 
 /// Whatever buffers answer, an output of an infallible node has no gap.
@@ -21,6 +24,16 @@ pub fn infallible_outputs_have_no_gaps()
         → HasNoGaps station run }
 {
     infallible_nodes_offer();
+}
+
+/// Where no buffer joins two clocks, a lawful run renders what one thread renders, whatever the length of its windows.
+pub fn threads_render_as_one_thread()
+    ensures { (files : Files) (station : Station) (run : Run) → IsWellFormed station.plan
+        → IsAccepted files station.plan station.ticks station.library station.clocks → station.start < 604800
+        → IsLawful station run → HasNoJoin (bare station) → RendersAsOneThread station run }
+{
+    lawful_records_are_rounds();
+    rounds_are_one();
 }
 
 /// The bytes of an output are its header and then those of all ticks, as many as its samples take.

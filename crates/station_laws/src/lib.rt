@@ -3,4 +3,4 @@
 
 mod laws;
 
-pub use laws::{infallible_outputs_have_no_gaps, outputs_are_whole};
+pub use laws::{infallible_outputs_have_no_gaps, outputs_are_whole, threads_render_as_one_thread};

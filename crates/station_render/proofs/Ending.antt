@@ -80,3 +80,8 @@ begun_all name held files setting run ticks order groups are = record { created 
 pub cause_later : (w0 w1 w2 : ℕ) (failed : Type 0) → w0 ≤ w1 → w1 ≤ w2 → Rose w0 w1 ⊎ failed → (failed → Rose w1 w2) → Rose w0 w2
 cause_later w0 w1 w2 failed low high (inl rose) close = rose_within w0 w0 w1 w2 (omega arith) high rose
 cause_later w0 w1 w2 failed low high (inr has) close = rose_within w0 w1 w2 w2 low (omega arith) (close has)
+
+-- so is a fault of what was written, or one of a closing
+pub cause_of : (w0 w1 w2 : ℕ) (failed wrote : Type 0) → w0 ≤ w1 → w1 ≤ w2 → wrote ⊎ Rose w1 w2 → (wrote → Rose w0 w1 ⊎ failed) → (failed → Rose w1 w2) → Rose w0 w2
+cause_of w0 w1 w2 failed wrote low high (inl did) cause close = cause_later w0 w1 w2 failed low high (cause did) close
+cause_of w0 w1 w2 failed wrote low high (inr rose) cause close = rose_within w0 w1 w2 w2 low (omega arith) rose

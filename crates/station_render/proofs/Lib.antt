@@ -8,4 +8,5 @@ pub mod Pools
 pub mod Pooling
 pub mod Running
 pub mod Ending
+pub mod Gathering
 pub mod Returning

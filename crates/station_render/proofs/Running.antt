@@ -3,7 +3,6 @@ use Rattle.std.proofs.Common.{◌≡◌, ◌<◌, ◌≤◌, ◌*◌, ◌∙◌,
 use Rattle.std.specs.Prelude.{Option, Some, None}
 use Rattle.std.specs.List.{AllZip}
 use Rattle.std.proofs.lemmas.Bool.{eq-eqb, false_from_ne_true, eqb-true}
-use Rattle.liq_base.specs.Counts.{Rose}
 use Rattle.liq_base.specs.Files.{Files}
 use Rattle.liq_base.specs.Kinds.{channels_of}
 use Rattle.liq_base.specs.Pieces.{HasRoom, IsPrefix, grown}
@@ -22,13 +21,12 @@ use Rattle.clock_engine.specs.declared.engine.ClockEngine.{ClockEngine}
 use Rattle.clock_engine.specs.Engines.{AreWorks, EngineStands, held_in, output_of, outputs_from, outputs_of, setting_of}
 use Rattle.clock_engine.specs.Ticks.{HaveTicksRoom}
 use Rattle.clock_engine.proofs.Numbered.{are_there, from_mapped}
-use Rattle.buffer_ends.specs.declared.run_end.End.{End}
-use Rattle.rounds_run.specs.Rounds.{AreEngines, HasRunPart, HaveRunPart, IsWriteEnd, held_of}
+use Rattle.rounds_run.specs.Rounds.{AreEngines, HasRunPart, HaveRunPart, held_of}
 use Rattle.rounds_run.specs.Runs.{HasRunTicks, HaveRunTicks}
 use Rattle.rounds_run.proofs.Fronts.{front_of, ticks_front}
 use Rattle.run_records.specs.Records.{Run, setting_then}
 use Rattle.stations.specs.Streams.{header_for}
-use Rattle.station_render.specs.Sinks.{AreCreated, HasFailed, of_clock}
+use Rattle.station_render.specs.Sinks.{AreCreated, of_clock}
 use Rattle.station_render.specs.Engines.{AreAt, ArePast, IsAt, IsPast, outs_of}
 use Rattle.station_render.specs.Renders.{IsPart, IsReady, IsWhole, Written, body_size, main_of, order_of, written}
 use Rattle.station_render.proofs.Lists.{got_is, mapped, many_mapped, unmapped, within}
@@ -331,18 +329,6 @@ stand_after held name faults setting world ticks old new at run = record {
         given = ap (λ s. with_rest s ran.answers ran.rest) (sym is.over) ∙ ran.given;
         stands = ran.stands;
       };
-}
-
--- the sink of a run that broke off has failed
-pub sink_failed : {S : Type 0} (faults : S → ℕ) (clock : ℕ) (old new : List (ClockEngine S)) (end : End) → IsWriteEnd faults clock old new end → HasFailed faults (outs_of new)
-sink_failed faults clock old new end is = record {
-  clock = clock;
-  place = is.place;
-  group = is.after.outs.items;
-  sink = is.rose.after;
-  there = mapped (λ engine. engine.outs.items) new clock is.after is.is;
-  stands = is.rose.is;
-  failed = (let rose : Rose (faults is.rose.before) (faults is.rose.after) = is.rose.rose in omega (arith, rose));
 }
 
 -- the engine of an output

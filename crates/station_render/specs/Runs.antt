@@ -1,17 +1,24 @@
 -- What a run of a station leaves in its sinks, and what is told of it.
-use Rattle.std.specs.Prelude.{◌≡◌, ℕ, suc, List, [], ◌∷◌, ◌++◌, Option, Some}
+use Rattle.std.specs.Prelude.{◌≡◌, ℕ, suc, List, [], ◌∷◌, ◌++◌, Option, Some, length}
 use Rattle.std.specs.Option.{ForSome}
 use Rattle.liq_base.specs.Files.{Files}
 use Rattle.plan_core.specs.declared.sink.BufferPlan.{BufferPlan}
-use Rattle.run_records.specs.Records.{Run, windows_of}
+use Rattle.clock_infer.specs.declared.clock_map.ClockMap.{ClockMap}
+use Rattle.stream_meaning.specs.Instants.{Setting}
+use Rattle.run_records.specs.Records.{Run, setting_in, setting_then, windows_of}
 use Rattle.stations.specs.Outputs.{with_outputs}
 use Rattle.stations.specs.Reports.{answers_line}
-use Rattle.stations.specs.Stations.{IsBegun, IsLawful, Station, bare, setting_of}
+use Rattle.stations.specs.Stations.{IsBegun, IsBegunIn, IsLawful, IsLawfulIn, Station, bare, setting_of}
 use Rattle.stations.specs.Streams.{gaps_in_order, outputs_of}
 use Rattle.buffer_ends.specs.declared.counts.Counts.{Counts}
-use Rattle.rounds_run.specs.Runs.{counts_of_windows}
-use Rattle.station_render.specs.Sinks.{AreCreated}
-use Rattle.station_render.specs.Renders.{AreBegun, IsWhole, written}
+use Rattle.buffer_ends.specs.declared.run_end.End.{End}
+use Rattle.buffer_ends.specs.declared.run_end.End.TheVariants.{Write}
+use Rattle.clock_engine.specs.declared.engine.ClockEngine.{ClockEngine}
+use Rattle.rounds_run.specs.Rounds.{HaveRunPart}
+use Rattle.rounds_run.specs.Runs.{HaveRunTicks, counts_of_run, counts_of_windows}
+use Rattle.station_render.specs.Engines.{AreAt, AreEmptyBelow, outs_of}
+use Rattle.station_render.specs.Sinks.{AreCreated, HasFailed}
+use Rattle.station_render.specs.Renders.{AreBegun, IsReady, IsWhole, order_of, written}
 use Rattle.station_render.specs.declared.rendered.Rendered.{Rendered}
 
 -- the counts of these buffers in a run, of which the first has this number
@@ -47,6 +54,35 @@ pub record RanPart {S : Type 0} (name held : S → Option (List ℕ)) (files : O
   pub run : Run
   pub begun : IsBegun station run
   pub parts : AreBegun name held files (bare station) run station.ticks order groups
+
+-- The outputs of a plan were created, in this order of their clocks, and the engines of all clocks took the sinks, each of which holds
+-- its header and has room for its samples. No tick was made.
+pub record AreOpened {S : Type 0} (name held : S → Option (List ℕ)) (left : S → Option ℕ) (files : Option Files) (setting : Setting) (clocks : ClockMap) (ticks : ℕ)
+    (order : List ℕ) (engines : List (ClockEngine S)) (groups : List (List S)) : Type 0 where
+  pub order_is : order ≡ order_of setting (written setting.plan.sinks)
+  pub all : length engines ≡ clocks.running
+  pub at : AreAt setting engines
+  pub ready : AreCreated (IsReady name held left files setting ticks) (written setting.plan.sinks) (order_of setting (written setting.plan.sinks)) (outs_of engines)
+  pub many : length groups ≡ length engines
+  pub taken : AreEmptyBelow (length engines) groups
+
+-- The engines of so many clocks made all ticks, and this is their record: each stands for its ticks and has written their bytes, given
+-- what the record's takes got, and these are the record's counts.
+pub record RanAll {S : Type 0} (held name : S → Option (List ℕ)) (faults : S → ℕ) (setting : Setting) (clocks ticks : ℕ) (window : Option ℕ)
+    (old new : List (ClockEngine S)) (counts : List Counts) : Type 0 where
+  pub run : Run
+  pub lawful : IsLawfulIn setting clocks ticks window run
+  pub engines : HaveRunTicks held name faults (setting_in setting run) ticks old new
+  pub counts_are : counts ≡ counts_of_run run
+
+-- The engines came so far, and this is their record: each has written a front of its bytes, whatever answers follow. A write that ended
+-- the run is one of a sink that failed.
+pub record RanSome {S : Type 0} (held name : S → Option (List ℕ)) (faults : S → ℕ) (setting : Setting) (clocks ticks : ℕ) (window : Option ℕ)
+    (old new : List (ClockEngine S)) (end : End) : Type 0 where
+  pub run : Run
+  pub begun : IsBegunIn setting clocks ticks window run
+  pub part : HaveRunPart held name faults (setting_then setting run) (λ k. 0) (λ k. ticks) old new
+  pub failed : (clock sink : ℕ) → end ≡ Write clock sink → HasFailed faults (outs_of new)
 
 -- the lines of these counts, of which the first is that of this buffer
 abbrev pub counted_lines : (buffer : ℕ) → List Counts → List ℕ

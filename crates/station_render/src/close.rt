@@ -1,14 +1,44 @@
 // The sinks of the outputs are closed.
-ghost use Rattle.std.specs.Prelude.{◌≡◌, ◌<◌, ◌≤◌, ◌∷◌, [], List, length, slice_get, Some, IsSomeAnd, OnOk, OnErr};
+ghost use Rattle.std.specs.Prelude.{◌≡◌, ◌<◌, ◌≤◌, ◌⊎◌, ◌∷◌, [], ℕ, List, Option, length, slice_get, Some, IfOk, IsErrOf, IsSomeAnd, OnOk, OnErr};
 ghost use Rattle.std.specs.Option.{ForSome};
 ghost use Rattle.liq_base.specs.Counts.{Rose};
+ghost use Rattle.liq_base.specs.Files.{Files};
 ghost use Rattle.stations.specs.Outputs.{OutputFile, with_outputs, HoldsParts};
+ghost use Rattle.stations.specs.Renderings.{WrotePart};
+ghost use Rattle.stations.specs.Stations.{Station};
+ghost use Rattle.station_render.specs.Runs.{IsRendered, RanPart, RanWhole};
 ghost use Rattle.station_render.specs.Sinks.{AreCreated, HasFailed, HaveSizes, HoldsWhole, HoldsPart, AreAllEmpty, WasTaken, lists_of};
 
+use crate::{RenderFault, Rendered};
 use liq_base::{Failed, Shelf};
 
-/// Closes the sinks in sink order, also those behind one whose closing failed.
-pub(crate) fn close_each<S: Shelf>(
+/// Closes all sinks in sink order, whatever was written, and answers what was told of it.
+pub(crate) fn close_all<S: Shelf>(
+    shelf: &mut S,
+    order: &[u32],
+    groups: Vec<Vec<S::Out>>,
+    wrote: Result<Rendered, RenderFault>,
+) -> Result<Rendered, RenderFault>
+    requires sizes { HaveSizes order.now (lists_of groups.items) }
+    ensures done { (station : Station) (before : Option Files) → S.files shelf.old ≡ before
+        → IfOk wrote (RanWhole S.Out.name S.Out.held before station order.now (lists_of groups.items))
+        → IfOk result (IsRendered station before (S.files shelf.new)) }
+    ensures part { (station : Station) (before : Option Files) (count : ℕ) → S.files shelf.old ≡ before → count ≤ S.write_count shelf.old
+        → RanPart S.Out.name S.Out.held before station order.now (lists_of groups.items)
+        → ForSome before (λ files. WrotePart station (Rose count (S.write_count shelf.new)) files (S.files shelf.new)) }
+    ensures cause { IsErrOf result RenderFault.Write → IsErrOf wrote RenderFault.Write ⊎ Rose (S.write_count shelf.old) (S.write_count shelf.new) }
+    ensures failed { HasFailed S.Out.faults (lists_of groups.items) → Rose (S.write_count shelf.old) (S.write_count shelf.new) }
+    ensures reads { S.read_count shelf.old ≤ S.read_count shelf.new }
+    ensures writes { S.write_count shelf.old ≤ S.write_count shelf.new }
+{
+    let closed = close_each(shelf, order, groups);
+    let rendered = wrote?;
+    closed?;
+    Ok(rendered)
+}
+
+// Closes the sinks in sink order, also those behind one whose closing failed.
+fn close_each<S: Shelf>(
     shelf: &mut S,
     order: &[u32],
     groups: Vec<Vec<S::Out>>,

@@ -1,18 +1,14 @@
-// The engines of all clocks, and their run.
-ghost use Rattle.std.specs.Prelude.{◌≡◌, ◌<◌, ◌≤◌, ◌^◌, [], ◌∷◌, ℕ, List, Option, length, map, slice_get, Some, IfOk, OnOk, OnErr, IsErrOf};
+// The engines of all clocks.
+ghost use Rattle.std.specs.Prelude.{◌≡◌, ◌<◌, ◌≤◌, ◌^◌, [], ◌∷◌, ℕ, List, length, map, slice_get, Some, IfOk, OnOk, OnErr, IsErrOf};
 ghost use Rattle.std.specs.List.{slice_set};
-ghost use Rattle.liq_base.specs.Files.{Files};
-ghost use Rattle.liq_base.specs.Pieces.{HasRoom};
 ghost use Rattle.buffer_ends.specs.declared.run_end.End.TheVariants.{Done, Write as WriteEnd};
 ghost use Rattle.clock_engine.specs.Engines.{outputs_of};
 ghost use Rattle.stream_meaning.specs.Instants.{Setting};
 ghost use Rattle.stations.specs.Findings.{IsFit};
-ghost use Rattle.stations.specs.Stations.{station_of};
 ghost use Rattle.stations.specs.Streams.{counts_in};
-ghost use Rattle.station_render.specs.Sinks.{AreCreated, HasFailed, lists_of};
+ghost use Rattle.station_render.specs.Sinks.{lists_of};
 ghost use Rattle.station_render.specs.Engines.{AreAt, AreEmptyBelow, ArePast, IsAt, outs_of, pooled};
-ghost use Rattle.station_render.specs.Renders.{AreMain, IsReady, body_size, order_of, setting_for, written};
-ghost use Rattle.station_render.specs.Runs.{RanPart, RanWhole};
+ghost use Rattle.station_render.specs.Renders.{AreMain, setting_for};
 
 use crate::headers::clock_of;
 use crate::{RenderFault, Rendered};
@@ -22,41 +18,9 @@ use clock_infer::ClockMap;
 use fixed_text::WeekSecond;
 use liq_base::{Memory, Sink};
 use plan_core::{Plan, SinkPlan};
-use rounds_run::run_rounds;
 use stations::Ready;
 use std::alloc::{AllocError, Global};
 use std::mem;
-
-/// Renders so many ticks into the sinks of all clocks, and answers the gaps of the outputs, in sink order, and the counts of
-/// the buffers.
-pub(crate) fn run_all<O: Sink>(
-    alloc: Global,
-    plan: &Plan,
-    ready: &Ready,
-    start: WeekSecond,
-    ticks: u64,
-    groups: &mut Vec<Vec<O>>,
-) -> Result<Rendered, RenderFault>
-    requires fit { IsFit plan.now ready.now.library ready.now.clocks ticks }
-    requires size { length (lists_of groups.old.items) ≡ ready.now.clocks.running }
-    requires rooms { AreCreated (λ output sink. HasRoom (O.room sink) (body_size (setting_for plan.now ready.now.library ready.now.clocks start.second) ticks output.node))
-        (written plan.now.sinks) (order_of (setting_for plan.now ready.now.library ready.now.clocks start.second) (written plan.now.sinks)) (lists_of groups.old.items) }
-    ensures done { IfOk result (λ rendered. (files : Option Files) → AreCreated (IsReady O.name O.held O.room files (setting_for plan.now ready.now.library ready.now.clocks start.second) ticks)
-        (written plan.now.sinks) (order_of (setting_for plan.now ready.now.library ready.now.clocks start.second) (written plan.now.sinks)) (lists_of groups.old.items)
-        → RanWhole O.name O.held files (station_of plan.now ready.now start.second ticks)
-        (order_of (setting_for plan.now ready.now.library ready.now.clocks start.second) (written plan.now.sinks)) (lists_of groups.new.items) rendered) }
-    ensures part { (files : Option Files) → AreCreated (IsReady O.name O.held O.room files (setting_for plan.now ready.now.library ready.now.clocks start.second) ticks)
-        (written plan.now.sinks) (order_of (setting_for plan.now ready.now.library ready.now.clocks start.second) (written plan.now.sinks)) (lists_of groups.old.items)
-        → RanPart O.name O.held files (station_of plan.now ready.now start.second ticks)
-        (order_of (setting_for plan.now ready.now.library ready.now.clocks start.second) (written plan.now.sinks)) (lists_of groups.new.items) }
-    ensures cause { IsErrOf result RenderFault.Write → HasFailed O.faults (lists_of groups.new.items) }
-{
-    let mut engines = make_engines(alloc, plan, ready, start, groups)?;
-    let run = run_rounds(alloc, plan, &mut engines, ticks);
-    let told = tell(alloc, plan, &ready.clocks, &engines, run);
-    give_back(engines, groups);
-    told
-}
 
 // Puts these sinks into the place of a clock that has none.
 fn put_back<O>(groups: &mut Vec<Vec<O>>, clock: usize, outs: Vec<O>)
@@ -125,8 +89,8 @@ fn give_back<O: Sink>(engines: Vec<ClockEngine<'_, O>>, groups: &mut Vec<Vec<O>>
     engines.destroy_empty();
 }
 
-// Makes the engines of all clocks, which take the sinks.
-fn make_engines<'a, O: Sink>(
+/// Makes the engines of all clocks, which take the sinks.
+pub(crate) fn make_engines<'a, O: Sink>(
     alloc: Global,
     plan: &'a Plan,
     ready: &'a Ready,
@@ -210,4 +174,31 @@ fn tell<O: Sink>(
         End::Write { .. } => Err(RenderFault::Write),
         End::Memory => Err(RenderFault::Memory),
     }
+}
+
+/// Takes the sinks of the engines back, after a run that ended so, and answers what is told of it.
+pub(crate) fn take_back<O: Sink>(
+    alloc: Global,
+    plan: &Plan,
+    clocks: &ClockMap,
+    engines: Vec<ClockEngine<'_, O>>,
+    run: RunEnd,
+    groups: &mut Vec<Vec<O>>,
+) -> Result<Rendered, RenderFault>
+    requires main { AreMain plan.now clocks.now }
+    requires size { length engines.items ≡ clocks.now.running }
+    requires few { length plan.now.sinks < 2 ^ 32 }
+    requires stand { run.end ≡ Done → (setting : Setting) × (world : Setting) × (ticks : ℕ) × (setting.plan ≡ plan.now) × (setting.clocks ≡ clocks.now.of) × ArePast setting world ticks engines.items }
+    requires many { length (lists_of groups.old.items) ≡ length engines.items }
+    requires empty { AreEmptyBelow (length engines.items) (lists_of groups.old.items) }
+    ensures back { lists_of groups.new.items ≡ outs_of engines.entry.items }
+    ensures done { OnOk result (run.end ≡ Done) }
+    ensures gaps { IfOk result (λ rendered. (setting world : Setting) (ticks : ℕ) → setting.plan ≡ plan.now → setting.clocks ≡ clocks.now.of → ArePast setting world ticks engines.entry.items
+        → rendered.gaps.items ≡ counts_in world ticks plan.now.sinks) }
+    ensures counts { IfOk result (λ rendered. rendered.counts.items ≡ run.counts.items) }
+    ensures write { IsErrOf result RenderFault.Write → (clock : ℕ) × (sink : ℕ) × (run.end ≡ WriteEnd clock sink) }
+{
+    let told = tell(alloc, plan, clocks, &engines, run);
+    give_back(engines, groups);
+    told
 }

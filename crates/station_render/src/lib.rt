@@ -1,5 +1,5 @@
-//! A station is rendered into its files: outputs are created in sink order, the clocks' ticks are made in rounds on one
-//! thread, and all outputs are closed, also after a fault.
+//! A station is rendered into its files: outputs are created in sink order, the clocks' ticks are made by threads in
+//! windows, or in rounds on one thread, and all outputs are closed, also after a fault.
 #![tactic(auto)]
 
 mod close;
@@ -7,6 +7,7 @@ mod create;
 mod engines;
 mod fault;
 mod headers;
+mod opened;
 mod rendered;
 mod rendering;
 mod reports;
@@ -14,5 +15,5 @@ mod sinks;
 
 pub use fault::RenderFault;
 pub use rendered::Rendered;
-pub use rendering::render;
+pub use rendering::{render, render_alone};
 pub use reports::report;

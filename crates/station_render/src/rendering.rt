@@ -1,5 +1,5 @@
 // A station is rendered.
-ghost use Rattle.std.specs.Prelude.{◌≡◌, ◌≤◌, ◌⊎◌, [], IfOk, IsErrOf};
+ghost use Rattle.std.specs.Prelude.{◌≡◌, ◌<◌, ◌≤◌, ◌⊎◌, [], None, Some, IfOk, IsErrOf};
 ghost use Rattle.std.specs.Option.{ForSome};
 ghost use Rattle.liq_base.specs.Counts.{Rose};
 ghost use Rattle.stations.specs.Findings.{IsFit};
@@ -8,22 +8,66 @@ ghost use Rattle.stations.specs.Stations.{station_of};
 ghost use Rattle.station_render.specs.Sinks.{AreEmpty, HasFailed, lists_of};
 ghost use Rattle.station_render.specs.Runs.{IsRendered, RanPart, RanWhole};
 
-use crate::close::close_each;
-use crate::create::create_each;
-use crate::engines::run_all;
+use crate::close::close_all;
+use crate::engines::take_back;
+use crate::opened::open_all;
 use crate::sinks::no_sinks;
 use crate::{RenderFault, Rendered};
+use clock_threads::run_threads;
 use fixed_text::WeekSecond;
-use liq_base::Shelf;
+use liq_base::{Gate, Shelf};
 use plan_core::Plan;
+use rounds_run::run_rounds;
 use stations::Ready;
 use std::alloc::Global;
+use std::sync::Wait;
+use std::thread::Threads;
 
 /// Renders so many ticks of a plan, from a second of the week on, into the files of its outputs, and answers the gaps of
-/// each output in sink order, and how each buffer answered. The outputs are created in sink order, each with room for exactly its bytes and with its
-/// header as one piece; then every clock makes its ticks, in rounds; then all outputs are closed in sink order, whatever
-/// happened. The rules stand in `docs/streams.md` and `docs/outside.md`.
-pub fn render<S: Shelf>(
+/// each output in sink order, and how each buffer answered. The outputs are created in sink order, each with room for
+/// exactly its bytes and with its header as one piece; then each clock makes its ticks on a thread of its own, in windows
+/// of so many ticks, at least one, and enters the gate before each; then all outputs are closed in sink order, whatever
+/// happened. The rules stand in `docs/streams.md`, `docs/buffers.md` and `docs/outside.md`.
+pub fn render<S: Shelf, G: Gate + Sync, R: Threads + Wait + Sync>(
+    rt: &R,
+    alloc: Global,
+    plan: &Plan,
+    ready: &Ready,
+    start: WeekSecond,
+    ticks: u64,
+    window: u64,
+    shelf: &mut S,
+    gate: &G,
+) -> Result<Rendered, RenderFault>
+    requires fit { IsFit plan.now ready.now.library ready.now.clocks ticks }
+    requires window { 0 < window }
+    ensures done { IfOk result (IsRendered (station_of plan.now ready.now start.second ticks (Some window)) (S.files shelf.old) (S.files shelf.new)) }
+    ensures part { ForSome (S.files shelf.old) (λ files. WrotePart (station_of plan.now ready.now start.second ticks (Some window))
+        (Rose (S.write_count shelf.old) (S.write_count shelf.new)) files (S.files shelf.new)) }
+    ensures cause { IsErrOf result RenderFault.Write → Rose (S.write_count shelf.old) (S.write_count shelf.new) }
+    ensures reads { S.read_count shelf.old ≤ S.read_count shelf.new }
+    ensures writes { S.write_count shelf.old ≤ S.write_count shelf.new }
+{
+    let mut order = Vec::new(alloc);
+    let mut groups = no_sinks(alloc, ready.clocks.running)?;
+    let wrote = write_by_threads(
+        rt,
+        alloc,
+        plan,
+        ready,
+        start,
+        ticks,
+        window,
+        shelf,
+        gate,
+        &mut order,
+        &mut groups,
+    );
+    close_all(shelf, &order, groups, wrote)
+}
+
+/// The same on one thread: between the creations and the closings every clock makes its ticks, in rounds.
+pub fn render_alone<S: Shelf>(
     alloc: Global,
     plan: &Plan,
     ready: &Ready,
@@ -32,8 +76,8 @@ pub fn render<S: Shelf>(
     shelf: &mut S,
 ) -> Result<Rendered, RenderFault>
     requires fit { IsFit plan.now ready.now.library ready.now.clocks ticks }
-    ensures done { IfOk result (IsRendered (station_of plan.now ready.now start.second ticks) (S.files shelf.old) (S.files shelf.new)) }
-    ensures part { ForSome (S.files shelf.old) (λ files. WrotePart (station_of plan.now ready.now start.second ticks)
+    ensures done { IfOk result (IsRendered (station_of plan.now ready.now start.second ticks None) (S.files shelf.old) (S.files shelf.new)) }
+    ensures part { ForSome (S.files shelf.old) (λ files. WrotePart (station_of plan.now ready.now start.second ticks None)
         (Rose (S.write_count shelf.old) (S.write_count shelf.new)) files (S.files shelf.new)) }
     ensures cause { IsErrOf result RenderFault.Write → Rose (S.write_count shelf.old) (S.write_count shelf.new) }
     ensures reads { S.read_count shelf.old ≤ S.read_count shelf.new }
@@ -41,7 +85,7 @@ pub fn render<S: Shelf>(
 {
     let mut order = Vec::new(alloc);
     let mut groups = no_sinks(alloc, ready.clocks.running)?;
-    let wrote = write_each(
+    let wrote = write_alone(
         alloc,
         plan,
         ready,
@@ -51,15 +95,42 @@ pub fn render<S: Shelf>(
         &mut order,
         &mut groups,
     );
-    let closed = close_each(shelf, &order, groups);
-    let rendered = wrote?;
-    closed?;
-    Ok(rendered)
+    close_all(shelf, &order, groups, wrote)
 }
 
-// Creates the outputs and renders into them. `order` and `groups` get the clock of each sink that is created, and the
-// sinks of each clock.
-fn write_each<S: Shelf>(
+// Creates the outputs and renders into them by threads. `order` and `groups` get the clock of each sink that is created,
+// and the sinks of each clock.
+fn write_by_threads<S: Shelf, G: Gate + Sync, R: Threads + Wait + Sync>(
+    rt: &R,
+    alloc: Global,
+    plan: &Plan,
+    ready: &Ready,
+    start: WeekSecond,
+    ticks: u64,
+    window: u64,
+    shelf: &mut S,
+    gate: &G,
+    order: &mut Vec<u32>,
+    groups: &mut Vec<Vec<S::Out>>,
+) -> Result<Rendered, RenderFault>
+    requires fit { IsFit plan.now ready.now.library ready.now.clocks ticks }
+    requires window { 0 < window }
+    requires none { order.old.items ≡ [] }
+    requires empty { AreEmpty ready.now.clocks.running (lists_of groups.old.items) }
+    ensures done { IfOk result (RanWhole S.Out.name S.Out.held (S.files shelf.old) (station_of plan.now ready.now start.second ticks (Some window)) order.new.items (lists_of groups.new.items)) }
+    ensures part { RanPart S.Out.name S.Out.held (S.files shelf.old) (station_of plan.now ready.now start.second ticks (Some window)) order.new.items (lists_of groups.new.items) }
+    ensures cause { IsErrOf result RenderFault.Write → Rose (S.write_count shelf.old) (S.write_count shelf.new) ⊎ HasFailed S.Out.faults (lists_of groups.new.items) }
+    ensures files { S.files shelf.new ≡ S.files shelf.old }
+    ensures reads { S.read_count shelf.old ≤ S.read_count shelf.new }
+    ensures writes { S.write_count shelf.old ≤ S.write_count shelf.new }
+{
+    let engines = open_all(alloc, plan, ready, start, ticks, shelf, order, groups)?;
+    let (engines, run) = run_threads(rt, alloc, plan, &ready.clocks, engines, ticks, window, gate);
+    take_back(alloc, plan, &ready.clocks, engines, run, groups)
+}
+
+// The same on one thread, in rounds.
+fn write_alone<S: Shelf>(
     alloc: Global,
     plan: &Plan,
     ready: &Ready,
@@ -72,13 +143,14 @@ fn write_each<S: Shelf>(
     requires fit { IsFit plan.now ready.now.library ready.now.clocks ticks }
     requires none { order.old.items ≡ [] }
     requires empty { AreEmpty ready.now.clocks.running (lists_of groups.old.items) }
-    ensures done { IfOk result (RanWhole S.Out.name S.Out.held (S.files shelf.old) (station_of plan.now ready.now start.second ticks) order.new.items (lists_of groups.new.items)) }
-    ensures part { RanPart S.Out.name S.Out.held (S.files shelf.old) (station_of plan.now ready.now start.second ticks) order.new.items (lists_of groups.new.items) }
+    ensures done { IfOk result (RanWhole S.Out.name S.Out.held (S.files shelf.old) (station_of plan.now ready.now start.second ticks None) order.new.items (lists_of groups.new.items)) }
+    ensures part { RanPart S.Out.name S.Out.held (S.files shelf.old) (station_of plan.now ready.now start.second ticks None) order.new.items (lists_of groups.new.items) }
     ensures cause { IsErrOf result RenderFault.Write → Rose (S.write_count shelf.old) (S.write_count shelf.new) ⊎ HasFailed S.Out.faults (lists_of groups.new.items) }
     ensures files { S.files shelf.new ≡ S.files shelf.old }
     ensures reads { S.read_count shelf.old ≤ S.read_count shelf.new }
     ensures writes { S.write_count shelf.old ≤ S.write_count shelf.new }
 {
-    create_each(plan, &ready.clocks, ticks, shelf, order, groups)?;
-    Ok(run_all(alloc, plan, ready, start, ticks, groups)?)
+    let mut engines = open_all(alloc, plan, ready, start, ticks, shelf, order, groups)?;
+    let run = run_rounds(alloc, plan, &mut engines, ticks);
+    take_back(alloc, plan, &ready.clocks, engines, run, groups)
 }

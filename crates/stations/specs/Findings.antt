@@ -19,6 +19,7 @@ use Rattle.wav_io.specs.Header.{header_of}
 use Rattle.track_library.specs.declared.rules.Rules.{Rules}
 use Rattle.track_library.specs.declared.fault.LoadFault.{LoadFault}
 use Rattle.track_library.specs.declared.fault.LoadFault.TheVariants.{Missing, BadAudio, OtherRate, FileTooLarge, AllTooLarge, ReadFault, Memory}
+use Rattle.track_library.specs.Singles.{HaveSingles}
 use Rattle.track_library.specs.Walk.{load_of}
 use Rattle.stations.specs.declared.fault.StationFault.{StationFault}
 use Rattle.stations.specs.declared.fault.StationFault.TheVariants.{Files as Unloaded, FallibleOutput, Clocks, OutputTooLong}
@@ -128,6 +129,7 @@ pub record IsFit (plan : Plan) (library : Sounds) (clocks : ClockMap) (ticks : �
   pub plan_is : IsWellFormed plan
   pub sounds : IsLibrary library
   pub leaves : length library.leaves ≡ length plan.nodes
+  pub singles : HaveSingles plan.nodes library.leaves
   pub map : IsClockMap plan clocks
   pub few : ticks ≤ 1000000000
   pub none : first_name (is_too_long plan ticks) plan.sinks ≡ None

@@ -1,21 +1,23 @@
 -- What an accepted script renders.
-use Rattle.std.specs.Prelude.{ℕ, List, []}
+use Rattle.std.specs.Prelude.{ℕ, List, [], Option, Some, None}
 use Rattle.frame_core.specs.Library.{Sounds}
 use Rattle.plan_core.specs.declared.plan.Plan.{Plan}
 use Rattle.clock_infer.specs.declared.clock_map.ClockMap.{ClockMap}
 use Rattle.stream_meaning.specs.Instants.{Setting}
 use Rattle.op_leaf.specs.Readers.{Answer}
-use Rattle.run_records.specs.Records.{AreRoundsBegun, IsRounds, Run, setting_in, setting_then}
+use Rattle.run_records.specs.Records.{AreRoundsBegun, AreWindowsBegun, IsLawful as AreWindows, IsRounds, Run, setting_in, setting_then}
 use Rattle.stations.specs.declared.ready.Ready.{Ready}
 
--- a plan with its audio files and its clocks, the second of the week at which it begins, and how many ticks are rendered;
--- a `check` is that of no tick from second 0 on
+-- a plan with its audio files and its clocks, the second of the week at which it begins, how many ticks are rendered, and how many
+-- of them a window of threads has: nothing where all clocks run on one thread, in rounds; a `check` is that of no tick from second
+-- 0 on, on one thread
 pub record Station : Type 0 where
   pub plan : Plan
   pub library : Sounds
   pub clocks : ClockMap
   pub start : ℕ
   pub ticks : ℕ
+  pub window : Option ℕ
 
 -- what the streams of a station rest on, but for the answers of its buffers
 abbrev pub bare : Station → Setting
@@ -34,14 +36,24 @@ setting_of station run = setting_in (bare station) run
 abbrev pub setting_with : Station → Run → (rest : ℕ → List Answer) → Setting
 setting_with station run rest = setting_then (bare station) run rest
 
--- the run is one of this station on one thread: in rounds, to its end or as far as it came
+-- so many clocks made all their ticks: in rounds on one thread, or by threads in windows of so many ticks
+abbrev pub IsLawfulIn : Setting → (clocks ticks : ℕ) → (window : Option ℕ) → Run → Type 0
+IsLawfulIn setting clocks ticks None run = IsRounds setting clocks ticks run
+IsLawfulIn setting clocks ticks (Some window) run = AreWindows setting clocks window ticks run
+
+-- or as many as they came to
+abbrev pub IsBegunIn : Setting → (clocks ticks : ℕ) → (window : Option ℕ) → Run → Type 0
+IsBegunIn setting clocks ticks None run = AreRoundsBegun setting clocks ticks run
+IsBegunIn setting clocks ticks (Some window) run = AreWindowsBegun setting clocks window ticks run
+
+-- the run is one of this station: to its end, or as far as it came
 abbrev pub IsLawful : Station → Run → Type 0
-IsLawful station run = IsRounds (bare station) station.clocks.running station.ticks run
+IsLawful station run = IsLawfulIn (bare station) station.clocks.running station.ticks station.window run
 
 abbrev pub IsBegun : Station → Run → Type 0
-IsBegun station run = AreRoundsBegun (bare station) station.clocks.running station.ticks run
+IsBegun station run = IsBegunIn (bare station) station.clocks.running station.ticks station.window run
 
 -- the station of a plan with these files and clocks
-abbrev pub station_of : Plan → Ready → (start ticks : ℕ) → Station
-station_of plan ready start ticks =
-    record { plan = plan; library = ready.library; clocks = ready.clocks; start = start; ticks = ticks }
+abbrev pub station_of : Plan → Ready → (start ticks : ℕ) → (window : Option ℕ) → Station
+station_of plan ready start ticks window =
+    record { plan = plan; library = ready.library; clocks = ready.clocks; start = start; ticks = ticks; window = window }

@@ -2,3 +2,4 @@ pub mod Lists
 pub mod Walk
 pub mod Reads
 pub mod States
+pub mod Singles

@@ -5,6 +5,7 @@ ghost use Rattle.std.specs.Option.{ForSome};
 ghost use Rattle.frame_core.specs.Library.{IsLibrary};
 ghost use Rattle.track_library.specs.Walk.{Ends, entries_played, leaf_of, load_of, nothing_met, single_leaf, use_audio};
 ghost use Rattle.track_library.specs.Reads.{EntriesRead, FirstRead, LeafReads, LoadReads};
+ghost use Rattle.track_library.specs.Singles.{HasOne, HaveSingles};
 ghost use Rattle.track_library.specs.States.{heard_of, IsHeard, Plays, walked_of, with_found};
 
 use crate::audio::AudioFiles;
@@ -53,6 +54,7 @@ impl Walk {
         ensures leaf { IfOk result (λ leaf. ForSome (S.files shelf.old) (λ files. leaf_of rules files op.now (walked_of self.old) ≡ Ok (walked_of self.new, leaf.items))) }
         ensures fault { IfErr result (Ends (S.files shelf.old) (S.read_count shelf.old) (S.read_count shelf.new) (λ files. LeafReads rules files op.now (walked_of self.old)) (λ files. leaf_of rules files op.now (walked_of self.old))) }
         ensures plays { IfOk result (λ leaf. Plays (heard_of self.old.audio) (heard_of self.new.audio) leaf.items) }
+        ensures single { IfOk result (λ leaf. HasOne op.now leaf.items) }
         ensures files { S.files shelf.new ≡ S.files shelf.old }
         ensures reads { S.read_count shelf.old ≤ S.read_count shelf.new }
         ensures writes { S.write_count shelf.old ≤ S.write_count shelf.new }
@@ -95,6 +97,7 @@ pub fn load<S: Shelf>(
     requires { sizes.file ≤ 268435456 }
     ensures loaded { IfOk result (λ library. ForSome (S.files shelf.old) (λ files. load_of (record { rate = plan.now.rate; file = sizes.file; all = sizes.all }) files plan.now.nodes ≡ Ok library)) }
     ensures leaves { IfOk result (λ library. length library.leaves ≡ length plan.now.nodes) }
+    ensures singles { IfOk result (λ library. HaveSingles plan.now.nodes library.leaves) }
     ensures library { IfOk result IsLibrary }
     ensures fault { IfErr result (Ends (S.files shelf.old) (S.read_count shelf.old) (S.read_count shelf.new)
         (λ files. LoadReads (record { rate = plan.now.rate; file = sizes.file; all = sizes.all }) files plan.now.nodes)
@@ -129,6 +132,7 @@ fn find_single<S: Shelf>(
     ensures leaf { IfOk result (λ leaf. ForSome (S.files shelf.old) (λ files. single_leaf name.now (use_audio rules files (heard_of audio.old) name.now) ≡ Ok (heard_of audio.new, leaf.items))) }
     ensures fault { IfErr result (Ends (S.files shelf.old) (S.read_count shelf.old) (S.read_count shelf.new) (λ _. FirstRead (heard_of audio.old).names name.now) (λ files. single_leaf name.now (use_audio rules files (heard_of audio.old) name.now))) }
     ensures plays { IfOk result (λ leaf. Plays (heard_of audio.old) (heard_of audio.new) leaf.items) }
+    ensures one { IfOk result (λ leaf. length leaf.items ≡ 1) }
     ensures files { S.files shelf.new ≡ S.files shelf.old }
     ensures reads { S.read_count shelf.old ≤ S.read_count shelf.new }
     ensures writes { S.write_count shelf.old ≤ S.write_count shelf.new }

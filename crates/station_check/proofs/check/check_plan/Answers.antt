@@ -21,6 +21,7 @@ returns-clause-fit g c = record {
   plan_is = c.requires.plan;
   sounds = c.in_ok-library.ensures.library;
   leaves = c.in_ok-library.ensures.leaves;
+  singles = c.in_ok-library.ensures.singles;
   map = c.in_ok-clocks.ensures.map;
   few = c.requires.few;
   none = c.in_ok-clocks.ensures.short;

@@ -2,11 +2,14 @@ use Rattle.std.proofs.Common.{rules, arith, length, length-append, ◌≡◌, �
 use Rattle.std.specs.Prelude.{Ok, Vec}
 use Rattle.std.specs.declared.alloc.Global.{Global}
 use Rattle.track_library.specs.Walk.{Ends, load_of, leaf_of, leaf_added, nodes_walked, sounds_of}
+use Rattle.frame_core.specs.Library.{Sounds}
 use Rattle.track_library.specs.Reads.{LeafReads, LoadReads}
+use Rattle.track_library.specs.Singles.{HaveSingles}
 use Rattle.track_library.specs.States.{heard_of, walked_of}
 use Rattle.track_library.specs.declared.rules.Rules.{Rules}
 use Rattle.track_library.proofs.Ending.{ends_through}
 use Rattle.track_library.proofs.Leaves.{LeavesSoFar, one_leaf_more}
+use Rattle.track_library.proofs.OneFile.{SinglesSoFar, all_singles, one_single_more}
 use Rattle.track_library.proofs.Steps.{next_node_of, nodes_end, items_pushed, next_node_reads, later_node_reads}
 use Rattle.track_library.proofs.walk.load.Goals as goal
 
@@ -62,4 +65,13 @@ loop-node-preserved g c =
           c.as_slice-node-items.ensures c.loop-node-test.true c.node-item.is
           (ap (leaf_added leaves) (c.in_ok-leaf.ensures.leaf files (c.loop-node.invariant.0 ∙ t)) ∙ ap (λ (ls : List (List ℕ)). Ok (walked_of c.find_leaf.new.self, ls)) (sym pushed)) h),
       omega (arith, many),
+      subst (λ (ls : List (List ℕ)). SinglesSoFar (c.loop-node.node-index + 1) c.args.plan.now.nodes ls) (sym pushed)
+          (one_single_more c.as_slice-node-items.result.now c.args.plan.now.nodes c.loop-node.node-index leaves c.in_ok-leaf.leaf.items c.node-item.result
+          c.as_slice-node-items.ensures c.loop-node-test.true c.node-item.is c.loop-node.invariant.6 c.in_ok-leaf.ensures.single c.loop-node.invariant.7),
     )
+
+pub returns-clause-singles : goal.returns-clause-singles
+returns-clause-singles g c =
+    let leaves = map (λ (v : Vec ℕ Global). v.items) c.loop-node.leaves.items in
+    subst (λ (ls : List (List ℕ)). HaveSingles c.args.plan.now.nodes ls) (sym (ap (λ (s : Sounds). s.leaves) c.into_library.ensures.same))
+    (all_singles c.as_slice-node-items.result.now c.args.plan.now.nodes c.loop-node.node-index leaves c.as_slice-node-items.ensures (λ low. omega (arith, low, c.loop-node-test.false)) c.loop-node.invariant.7)

@@ -5,6 +5,7 @@ use Rattle.track_library.specs.Walk.{nodes_walked, nothing_met}
 use Rattle.track_library.specs.Reads.{LoadReads, NodesRead}
 use Rattle.track_library.specs.States.{heard_of, walked_of}
 use Rattle.track_library.proofs.Leaves.{LeavesSoFar}
+use Rattle.track_library.proofs.OneFile.{SinglesSoFar}
 use Rattle.track_library.proofs.walk.load.Given as goal
 
 -- the leaves so far and the nodes that are left make the whole
@@ -19,3 +20,4 @@ invariant-loop-node g l =
     → NodesRead l.rules files (drop l.node-index l.plan.nodes) (Ok (walked_of l.walk, map (λ leaf. leaf.items) l.leaves.items)) read
     → LoadReads l.rules files l.plan.nodes read)
     × (length (map (λ leaf. leaf.items) l.leaves.items) ≡ l.node-index)
+    × SinglesSoFar l.node-index l.plan.nodes (map (λ leaf. leaf.items) l.leaves.items)

@@ -1,0 +1,7 @@
+use Rattle.station_laws.proofs.AsOne.{as_one_thread}
+use Rattle.station_laws.proofs.Gapless.{is_bare_setting}
+use Rattle.station_laws.proofs.laws.threads_render_as_one_thread.Goals as goal
+
+pub returns : goal.returns
+returns c = λ files station run plan accepted start lawful local.
+    as_one_thread c.lawful_records_are_rounds.ensures c.rounds_are_one.ensures station run (is_bare_setting files station plan accepted start) station.window lawful local

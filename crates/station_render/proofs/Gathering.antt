@@ -1,0 +1,195 @@
+-- What rounds and threads leave, as one record of a run.
+use Rattle.std.proofs.Common.{◌≡◌, ◌+◌, ◌∙◌, ◌++◌, true, ℕ, Bool, List, [], ◌∷◌, length, map, flat_map, slice_get, slice_index_or, arith, refl, ap, sym, subst}
+use Rattle.std.specs.Prelude.{Option, Some, None, count_by, is_none, is_some, not}
+use Rattle.std.proofs.lemmas.List.{map-append}
+use native.Mathlib.Nat.{min-le_left}
+use Rattle.liq_base.specs.Counts.{Rose}
+use Rattle.clock_infer.specs.declared.clock_map.ClockMap.{ClockMap}
+use Rattle.stream_meaning.specs.Instants.{Setting}
+use Rattle.stream_meaning.specs.Sinks.{ticks_bytes}
+use Rattle.stream_meaning.proofs.Answering.{begin_none}
+use Rattle.node_states.specs.Ticks.{IsOutput, with_rest}
+use Rattle.clock_outputs.specs.Appends.{RoseAt}
+use Rattle.run_records.specs.Records.{AreRoundsBegun, IsRounds, Run, Window, setting_then}
+use Rattle.clock_engine.specs.declared.engine.ClockEngine.{ClockEngine}
+use Rattle.clock_engine.specs.Engines.{setting_of}
+use Rattle.buffer_queue.specs.Window.{is_chunk}
+use Rattle.buffer_ends.specs.Local.{Answers, puts_of, takes_of_window, yes}
+use Rattle.buffer_ends.specs.declared.counts.Counts.{Counts}
+use Rattle.buffer_ends.specs.declared.run_end.End.{End}
+use Rattle.rounds_run.specs.Rounds.{made_by, ticks_by}
+use Rattle.rounds_run.specs.Runs.{counts_of_windows}
+use Rattle.rounds_run.specs.Runs as rounds
+use Rattle.rounds_run.proofs.Fronts.{front_of, ticks_front}
+use Rattle.rounds_run.proofs.Lawful.{none_counted, some_counted}
+use Rattle.rounds_run.proofs.Records.{run_of, window_at, windows_many}
+use Rattle.clock_windows.specs.Wires.{told}
+use Rattle.clock_threads.specs.Logs.{counts_in}
+use Rattle.clock_threads.specs.Runs as threads
+use Rattle.stations.specs.Stations.{IsBegunIn, IsLawfulIn}
+use Rattle.station_render.specs.Sinks.{HasFailed}
+use Rattle.station_render.specs.Engines.{AreAt, IsAt, outs_of}
+use Rattle.station_render.specs.Runs.{RanAll, RanSome}
+use Rattle.station_render.proofs.Lists.{got_is, mapped, within}
+
+-- a run that made no call
+pub not_begun : (setting : Setting) (clocks ticks : ℕ) (window : Option ℕ) → IsBegunIn setting clocks ticks window (run_of (length setting.plan.buffers) [])
+not_begun setting clocks ticks None = record {
+  buffers = windows_many [] 0 (length setting.plan.buffers);
+  calls = [];
+  begun = λ rest. ((λ m t buffer. true), begin_none _);
+  are = window_at (length setting.plan.buffers) [];
+  in_order = λ buffer low. ([], refl);
+}
+not_begun setting clocks ticks (Some window) = record {
+  buffers = windows_many [] 0 (length setting.plan.buffers);
+  accepted = λ m t buffer. true;
+  closed = 0;
+  since = λ m. [];
+  begun = λ rest m. begin_none _;
+  are = λ rest. window_at (length setting.plan.buffers) [];
+  legal = λ rest buffer low. ([], refl);
+}
+
+-- the record of a run has the windows of each buffer
+pub lawful_many : (setting : Setting) (clocks ticks : ℕ) (window : Option ℕ) (run : Run) → IsLawfulIn setting clocks ticks window run → length run.buffers ≡ length setting.plan.buffers
+lawful_many setting clocks ticks None run lawful = lawful.buffers
+lawful_many setting clocks ticks (Some window) run lawful = lawful.buffers
+
+-- a sink whose count of faults rose has failed
+pub failed_at : {S : Type 0} (faults : S → ℕ) (clock place : ℕ) (new : List (ClockEngine S)) (before after : ClockEngine S) → slice_get new clock ≡ Some after
+    → RoseAt faults place before.outs.items after.outs.items → HasFailed faults (outs_of new)
+failed_at faults clock place new before after is rose = record {
+  clock = clock;
+  place = place;
+  group = after.outs.items;
+  sink = rose.after;
+  there = mapped (λ engine. engine.outs.items) new clock after is;
+  stands = rose.is;
+  failed = (let more : Rose (faults rose.before) (faults rose.after) = rose.rose in omega (arith, more));
+}
+
+-- the counts of the logs of a record are its own
+puts_told : (windows : List Window) → flat_map puts_of (map told windows) ≡ map is_chunk (flat_map (λ (window : Window). window.0) windows)
+puts_told [] = refl
+puts_told (window ∷ windows) = ap (λ (bs : List Bool). map is_chunk window.0 ++ bs) (puts_told windows) ∙ sym (map-append is_chunk window.0 (flat_map (λ (w : Window). w.0) windows))
+
+takes_told : (windows : List Window) → flat_map takes_of_window (map told windows) ≡ map is_chunk (flat_map (λ (window : Window). window.1) windows)
+takes_told [] = refl
+takes_told (window ∷ windows) = ap (λ (bs : List Bool). map is_chunk window.1 ++ bs) (takes_told windows) ∙ sym (map-append is_chunk window.1 (flat_map (λ (w : Window). w.1) windows))
+
+count_told : (windows : List Window) → counts_in (map told windows) ≡ counts_of_windows windows
+count_told windows =
+    let puts = puts_told windows in
+    let takes = takes_told windows in
+    let put = flat_map (λ (window : Window). window.0) windows in
+    let take = flat_map (λ (window : Window). window.1) windows in
+    let accepted : count_by yes (flat_map puts_of (map told windows)) ≡ count_by is_some put = ap (count_by yes) puts ∙ some_counted put in
+    let full : count_by not (flat_map puts_of (map told windows)) ≡ count_by is_none put = ap (count_by not) puts ∙ none_counted put in
+    let got : count_by yes (flat_map takes_of_window (map told windows)) ≡ count_by is_some take = ap (count_by yes) takes ∙ some_counted take in
+    let empty : count_by not (flat_map takes_of_window (map told windows)) ≡ count_by is_none take = ap (count_by not) takes ∙ none_counted take in
+    λ i. record { accepted = accepted i; full = full i; got = got i; empty = empty i }
+
+counts_told : (buffers : List (List Window)) → map counts_in (map (map told) buffers) ≡ map counts_of_windows buffers
+counts_told [] = refl
+counts_told (windows ∷ buffers) = λ i. count_told windows i ∷ counts_told buffers i
+
+-- the records of rounds
+module _ {S : Type 0} {held name : S → Option (List ℕ)} {faults : S → ℕ} {setting : Setting} {clocks ticks : ℕ} {old new : List (ClockEngine S)} (all : length old ≡ clocks) where
+  pub rounds_all : {counts : List Counts} {logs : List (List Answers)} → rounds.HasRunAll held name faults setting ticks old new counts logs → RanAll held name faults setting clocks ticks None old new counts
+  rounds_all ran = record {
+    run = ran.run;
+    lawful = subst (λ n. IsRounds setting n ticks ran.run) all ran.rounds;
+    engines = ran.engines;
+    counts_are = ran.counts_are;
+  }
+
+  pub rounds_some : {end : End} → rounds.HasRunSome held name faults setting ticks old new end → RanSome held name faults setting clocks ticks None old new end
+  rounds_some ran = record {
+    run = ran.run;
+    begun = subst (λ n. AreRoundsBegun setting n ticks ran.run) all ran.begun;
+    part = record {
+      size = ran.part.size;
+      each = λ k before after was is.
+          let made = ran.part.each k before after was is in
+          let most = ticks_by ticks ran.round (ran.clock + 1) k in
+          record {
+            works = made.works;
+            setting = made.setting;
+            clock = made.clock;
+            part = λ rest sink node out.
+                let some = made.part rest sink node out in
+                let world : Setting = setting_then setting ran.run rest in (
+                  some.0,
+                  record { rest = some.0; whole_is = refl },
+                  front_of some.0 (ticks_bytes world node most) (ticks_bytes world node ticks) some.2 (ticks_front world node most ticks (min-le_left ticks (made_by ran.round (ran.clock + 1) k))),
+                  some.3,
+                );
+            none_fell = made.none_fell;
+            outs = made.outs;
+            kept = made.kept;
+          };
+    };
+    failed = λ failed sink is. let write = ran.write failed sink is in failed_at faults ran.clock write.place new write.before write.after write.is write.rose;
+  }
+
+output_in : {S : Type 0} (setting : Setting) (k : ℕ) (engine : ClockEngine S) → IsAt setting k engine → (sink node : ℕ) → IsOutput (setting_of engine.works) engine.works.clock sink node → IsOutput setting k sink node
+output_in setting k engine is sink node out = subst (λ (z : Setting × ℕ). IsOutput z.0 z.1 sink node) (λ i. (is.over i, is.clock_is i)) out
+
+both_are : {A : Type 0} (old new : List A) (k : ℕ) (before after : A) → slice_get old k ≡ Some before → slice_get new k ≡ Some after
+    → ◌≡◌ {A = A × A} (slice_index_or old k before, slice_index_or new k before) (before, after)
+both_are old new k before after was is = λ i. (got_is old k before before was i, got_is new k after before is i)
+
+-- the records of threads
+module _ {S : Type 0} {held name : S → Option (List ℕ)} {faults : S → ℕ} {setting : Setting} {clocks : ClockMap} {window ticks : ℕ} {old new : List (ClockEngine S)} (at : AreAt setting old) where
+  pub threads_all : {counts : List Counts} {logs : List (List Answers)} → threads.HasRunAll held name faults setting clocks window ticks old new counts logs
+      → RanAll held name faults setting clocks.running ticks (Some window) old new counts
+  threads_all ran = record {
+    run = ran.run;
+    lawful = ran.has_run.lawful;
+    engines = record {
+      size = ran.has_run.many;
+      each = λ k before after was is.
+          let fresh = at.each k before was in
+          let made = subst (λ (z : ClockEngine S × ClockEngine S). threads.HasMadeAll held name faults setting ran.run ticks k z.0 z.1) (both_are old new k before after was is) (ran.has_run.engines k before (within old k before was)) in
+          record {
+            works = made.whole.works;
+            sinks = made.whole.sinks;
+            over = made.same.setting;
+            clock = made.same.clock;
+            answers = made.answers;
+            rest = made.rest;
+            given = ap (λ s. with_rest s made.answers made.rest) fresh.over ∙ made.are;
+            stands = made.stands;
+            grew = λ sink node out. made.bytes sink node (output_in setting k before fresh sink node out);
+            none_fell = made.same.none_fell;
+            outs = made.same.outs;
+            kept = made.same.kept;
+          };
+    };
+    counts_are = ran.tells.counts_are ∙ ap (map counts_in) ran.tells.logs_are ∙ counts_told ran.run.buffers;
+  }
+
+  pub threads_some : {end : End} → threads.HasRunSome held name faults setting clocks window ticks old new end → RanSome held name faults setting clocks.running ticks (Some window) old new end
+  threads_some ran = record {
+    run = ran.run;
+    begun = ran.begun;
+    part = record {
+      size = ran.many;
+      each = λ k before after was is.
+          let fresh = at.each k before was in
+          let made = subst (λ (z : ClockEngine S × ClockEngine S). threads.HasMadePart held name faults setting ran.run ticks k z.0 z.1) (both_are old new k before after was is) (ran.engines k before (within old k before was)) in
+          record {
+            works = made.whole.works;
+            setting = made.same.setting;
+            clock = made.same.clock;
+            part = λ rest sink node out.
+                let some = made.part rest sink node (output_in setting k before fresh sink node out) in
+                (some.0, record { rest = some.0; whole_is = refl }, some.1, some.2);
+            none_fell = made.same.none_fell;
+            outs = made.same.outs;
+            kept = made.same.kept;
+          };
+    };
+    failed = λ clock sink is. let write = ran.write clock sink is in failed_at faults clock write.place new write.before write.after write.is write.rose;
+  }

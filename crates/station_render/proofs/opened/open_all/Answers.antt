@@ -1,0 +1,63 @@
+use Rattle.std.proofs.Common.{◌≡◌, ◌∙◌, ℕ, List, [], length, ap, sym, subst}
+use Rattle.std.proofs.lemmas.Result.{err_from_is_err_and}
+use Rattle.rounds_run.proofs.Records.{run_of}
+use Rattle.stations.specs.Stations.{station_of}
+use Rattle.station_render.specs.Sinks.{AreCreated, lists_of}
+use Rattle.station_render.specs.Renders.{IsReady, order_of, setting_for, written}
+use Rattle.station_render.specs.Runs.{RanPart}
+use Rattle.station_render.proofs.Fits.{are_main}
+use Rattle.station_render.proofs.Gathering.{not_begun}
+use Rattle.station_render.proofs.Pooling.{outs_many}
+use Rattle.station_render.proofs.Returning.{in_main, starved}
+use Rattle.station_render.proofs.Running.{many_sinks}
+use Rattle.station_render.proofs.opened.open_all.Goals as goal
+
+pub returns-in_err-create_each-clause-part : goal.returns-in_err-create_each-clause-part
+returns-in_err-create_each-clause-part g c =
+    let p = err_from_is_err_and c.from_residual.result c.from_residual.ensures.1 in rw p.1
+    (λ window. record {
+      run = run_of (length c.args.plan.now.buffers) [];
+      begun = not_begun (setting_for c.args.plan.now c.args.ready.now.library c.args.ready.now.clocks c.args.start.second) c.args.ready.now.clocks.running c.args.ticks window;
+      parts = c.create_each.ensures.begun c.args.ready.now.library c.args.start.second (run_of (length c.args.plan.now.buffers) []);
+    })
+
+pub make_engines-requires-clause-sinks : goal.make_engines-requires-clause-sinks
+make_engines-requires-clause-sinks g c =
+    let setting = setting_for c.args.plan.now c.args.ready.now.library c.args.ready.now.clocks c.args.start.second in
+    let main = are_main c.args.plan.now c.args.ready.now.library c.args.ready.now.clocks c.args.ticks c.requires.fit in
+    let ready : AreCreated (IsReady g.S.Out.Sink.name g.S.Out.Sink.held g.S.Out.Sink.room (g.S.Shelf.files c.args.shelf.now) setting c.args.ticks) (written c.args.plan.now.sinks) (order_of setting (written c.args.plan.now.sinks)) (lists_of c.create_each.new.groups.items) =
+    subst (λ o. AreCreated (IsReady g.S.Out.Sink.name g.S.Out.Sink.held g.S.Out.Sink.room (g.S.Shelf.files c.args.shelf.now) setting c.args.ticks) (written c.args.plan.now.sinks) o (lists_of c.create_each.new.groups.items))
+    (c.in_ok-create_each.ensures.order c.args.ready.now.library c.args.start.second) (c.in_ok-create_each.ensures.ready c.args.ready.now.library c.args.start.second) in
+    λ clock group at.
+    many_sinks setting c.args.ticks (in_main c.args.plan.now c.args.ready.now.library c.args.ready.now.clocks c.args.start.second c.args.ticks main)
+    (IsReady g.S.Out.Sink.name g.S.Out.Sink.held g.S.Out.Sink.room (g.S.Shelf.files c.args.shelf.now) setting c.args.ticks) (lists_of c.create_each.new.groups.items) ready clock group at
+
+pub returns-in_err-make_engines-clause-part : goal.returns-in_err-make_engines-clause-part
+returns-in_err-make_engines-clause-part g c =
+    let p = err_from_is_err_and c.from_residual-in_err-make_engines.result c.from_residual-in_err-make_engines.ensures.1 in
+    let setting = setting_for c.args.plan.now c.args.ready.now.library c.args.ready.now.clocks c.args.start.second in
+    let order_is = c.in_ok-create_each.ensures.order c.args.ready.now.library c.args.start.second in
+    let ready : AreCreated (IsReady g.S.Out.Sink.name g.S.Out.Sink.held g.S.Out.Sink.room (g.S.Shelf.files c.args.shelf.now) setting c.args.ticks) (written c.args.plan.now.sinks) (order_of setting (written c.args.plan.now.sinks)) (lists_of c.create_each.new.groups.items) =
+    subst (λ o. AreCreated (IsReady g.S.Out.Sink.name g.S.Out.Sink.held g.S.Out.Sink.room (g.S.Shelf.files c.args.shelf.now) setting c.args.ticks) (written c.args.plan.now.sinks) o (lists_of c.create_each.new.groups.items))
+    order_is (c.in_ok-create_each.ensures.ready c.args.ready.now.library c.args.start.second) in
+    rw p.1 (λ window.
+    subst (λ (z : List ℕ × List (List g.row.S-Out.Denot)). RanPart g.S.Out.Sink.name g.S.Out.Sink.held (g.S.Shelf.files c.args.shelf.now) (station_of c.args.plan.now c.args.ready.now c.args.start.second c.args.ticks window) z.0 z.1)
+    (λ i. (sym order_is i, sym c.in_err-make_engines.ensures.back i))
+    (starved c.args.plan.now c.args.ready.now.library c.args.ready.now.clocks c.args.start.second c.args.ticks g.S.Out.Sink.name g.S.Out.Sink.held g.S.Out.Sink.room g.S.Out.Sink.faults
+    (lists_of c.create_each.new.groups.items) (g.S.Shelf.files c.args.shelf.now) window ready))
+
+pub returns-clause-opened : goal.returns-clause-opened
+returns-clause-opened g c =
+    let setting = setting_for c.args.plan.now c.args.ready.now.library c.args.ready.now.clocks c.args.start.second in
+    let order_is = c.in_ok-create_each.ensures.order c.args.ready.now.library c.args.start.second in
+    let engines = c.in_ok-make_engines.field-0.items in
+    let many : length engines ≡ length (lists_of c.create_each.new.groups.items) = sym (outs_many engines) ∙ ap length c.in_ok-make_engines.ensures.outs in
+    record {
+      order_is = order_is;
+      all = many ∙ c.create_each.ensures.size;
+      at = c.in_ok-make_engines.ensures.made;
+      ready = subst (λ (z : List ℕ × List (List g.row.S-Out.Denot)). AreCreated (IsReady g.S.Out.Sink.name g.S.Out.Sink.held g.S.Out.Sink.room (g.S.Shelf.files c.args.shelf.now) setting c.args.ticks) (written c.args.plan.now.sinks) z.0 z.1)
+          (λ i. (order_is i, sym c.in_ok-make_engines.ensures.outs i)) (c.in_ok-create_each.ensures.ready c.args.ready.now.library c.args.start.second);
+      many = c.in_ok-make_engines.ensures.size ∙ sym many;
+      taken = c.in_ok-make_engines.ensures.taken;
+    }
