@@ -1,6 +1,6 @@
 use Rattle.std.proofs.Common.{◌∙◌, sym}
-use Rattle.clock_engine_tests.proofs.Outputs.{one_output}
-use Rattle.clock_engine_tests.proofs.ticks_tests.begun.Goals as goal
+use Rattle.engine_tests.proofs.Outputs.{one_output}
+use Rattle.engine_tests.proofs.ticks_tests.begun.Goals as goal
 
 pub new-requires-clause-outs : goal.new-requires-clause-outs
 new-requires-clause-outs c =
