@@ -17,4 +17,6 @@ mod op_cross_tests;
 #[cfg(test)]
 mod op_select_tests;
 #[cfg(test)]
+mod ticks_tests;
+#[cfg(test)]
 mod trace_log_tests;

@@ -2,8 +2,8 @@
 //! of it. No code runs here; the definitions stand in `specs/`, and `docs/streams.md` tells them.
 #![tactic(auto)]
 
-mod law;
+mod laws;
 mod part;
 
-pub use law::{calls_go_by_sub_clocks, infallible_nodes_offer, sub_clocks_have_slots};
+pub use laws::{calls_go_by_sub_clocks, infallible_nodes_offer, sub_clocks_have_slots};
 pub use part::Part;

@@ -1,5 +1,0 @@
-use Rattle.stream_meaning.proofs.Calling.{calls_of-is}
-use Rattle.stream_meaning.proofs.law.calls_go_by_sub_clocks.Goals as goal
-
-pub returns : goal.returns
-returns c = calls_of-is

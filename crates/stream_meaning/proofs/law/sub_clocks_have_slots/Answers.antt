@@ -1,5 +1,0 @@
-use Rattle.stream_meaning.proofs.Existence.{meaning}
-use Rattle.stream_meaning.proofs.law.sub_clocks_have_slots.Goals as goal
-
-pub returns : goal.returns
-returns c = meaning
