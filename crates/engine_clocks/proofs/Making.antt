@@ -80,8 +80,10 @@ module _ (setting : Setting) (sub : ℕ → ℕ → List Slot) (rank : NodeClock
   pub clock_stands : ClockStands setting sub clock (history setting sub clock (u.reached.ran_now clock)) u.reached.fed_now lanes.states.items
   clock_stands = record {
     each = λ i node state inside found.
-        subst (λ past. StateStands setting sub past (u.reached.fed_now i) i (work_at setting i node) state) (past_is i (same_clock-true (clock_of setting i) clock inside.inside))
-        (u.reached.stand.stand i node state inside.there found);
+        let here = same_clock-true (clock_of setting i) clock inside.inside in
+        let level : rank (clock_of setting i) ≡ rank clock = ap rank here in
+        subst (λ past. StateStands setting sub past (u.reached.fed_now i) i (work_at setting i node) state) (past_is i here)
+        (u.reached.stand.stand i node state inside.there found (omega (arith, level)));
   }
 
   pub are_settled : AreSettled setting sub clock (history setting sub clock (u.reached.ran_now clock)) u.reached.fed_now
@@ -112,12 +114,13 @@ module _ (setting : Setting) (sub : ℕ → ℕ → List Slot) (rank : NodeClock
     past_own i inside = ap (λ c. history setting sub c (bumped u.reached.ran_now clock c)) inside ∙ ap (λ n. history setting sub clock n) (bumped-same u.reached.ran_now clock)
 
     stand_all : (i : ℕ) (node : Node) (state : NodeState) → slice_get setting.plan.nodes i ≡ Some node → slice_get new.states.items i ≡ Some state
+        → rank clock ≤ rank (clock_of setting i)
         → StateStands setting sub (past_of setting sub (bumped u.reached.ran_now clock) i) (u.reached.fed_now i) i (work_at setting i node) state
-    stand_all i node state found stored = elim (same_or_other (clock_of setting i) clock) [
+    stand_all i node state found stored above = elim (same_or_other (clock_of setting i) clock) [
       | inl inside ↦ subst (λ past. StateStands setting sub past (u.reached.fed_now i) i (work_at setting i node) state) (sym (past_own i inside))
           (stands.each i node state (record { there = found; inside = are_same (clock_of setting i) clock inside }) stored)
       | inr other ↦ subst (λ past. StateStands setting sub past (u.reached.fed_now i) i (work_at setting i node) state) (sym (past_other i other))
-          (u.reached.stand.stand i node state found (sym (others i (they_differ (clock_of setting i) clock other)) ∙ stored))
+          (u.reached.stand.stand i node state found (sym (others i (they_differ (clock_of setting i) clock other)) ∙ stored) above)
     ]
 
     -- a reader of the clock has begun this instant

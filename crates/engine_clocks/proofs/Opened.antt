@@ -12,7 +12,7 @@ use Rattle.stream_meaning.specs.Instants.{Setting, Moment, clock_of, history, li
 use Rattle.stream_meaning.specs.Calls.{IsBegin, after_calls, answers_in, takes_at}
 use Rattle.stream_meaning.proofs.Existence.{same_clock-true}
 use Rattle.node_states.specs.declared.state.NodeState.{NodeState}
-use Rattle.node_states.specs.declared.state.NodeState.TheVariants.{Leaf, Select, Mix, Cross, Read}
+use Rattle.node_states.specs.declared.state.NodeState.TheVariants.{Leaf, Select, Mix, Cross, Read, Idle}
 use Rattle.node_states.specs.declared.time.WeekTime.{WeekTime}
 use Rattle.node_states.specs.States.{StateStands, reading_by, reads, reads_at, reads_in}
 use Rattle.node_states.specs.Ticks.{past_of}
@@ -48,6 +48,7 @@ stays setting sub past fed i (Reads buffer) (Leaf state) within even stands = ab
 stays setting sub past fed i (Reads buffer) (Select state) within even stands = absurd stands
 stays setting sub past fed i (Reads buffer) (Mix mixer) within even stands = absurd stands
 stays setting sub past fed i (Reads buffer) (Cross state) within even stands = absurd stands
+stays setting sub past fed i (Reads buffer) Idle within even stands = absurd stands
 stays setting sub past fed i (Reads buffer) (Read reader) within even stands =
     let same : fed ≡ length past = even refl in
     stands ∙ ap (λ (n : ℕ). (reading_by setting i buffer past n).reader) same
@@ -87,7 +88,9 @@ module _ (setting : Setting) (sub : ℕ → ℕ → List Slot) (rank : NodeClock
   pub clock_stands_at : ClockStands setting sub clock (history setting sub clock (ran clock)) fed old.states.items
   clock_stands_at = record {
     each = λ i node state inside found.
-        subst (λ past. StateStands setting sub past (fed i) i (work_at setting i node) state) (past_is i inside.inside) (stand.stand i node state inside.there found);
+        let level : rank (clock_of setting i) ≡ rank clock = ap rank (same_clock-true (clock_of setting i) clock inside.inside) in
+        subst (λ past. StateStands setting sub past (fed i) i (work_at setting i node) state) (past_is i inside.inside)
+        (stand.stand i node state inside.there found (omega (arith, level)));
   }
 
   pub have_taken : HaveTaken setting clock (history setting sub clock (ran clock)) fed front
@@ -128,13 +131,14 @@ module _ (setting : Setting) (sub : ℕ → ℕ → List Slot) (rank : NodeClock
       (others : (i : ℕ) → lies_in setting clock i ≡ false → slice_get new.states.items i ≡ slice_get old.states.items i)
       (times : new.times.items ≡ old.times.items) where
     stand_all : (i : ℕ) (node : Node) (state : NodeState) → slice_get setting.plan.nodes i ≡ Some node → slice_get new.states.items i ≡ Some state
+        → rank clock ≤ rank (clock_of setting i)
         → (b : Bool) → lies_in setting clock i ≡ b → StateStands setting sub (past_of setting sub ran i) (begun_in setting clock fed i) i (work_at setting i node) state
-    stand_all i node state found stored true inside =
+    stand_all i node state found stored above true inside =
         subst (λ past. StateStands setting sub past (begun_in setting clock fed i) i (work_at setting i node) state) (sym (past_is i inside))
         (begun.each i node state (record { there = found; inside = inside }) stored)
-    stand_all i node state found stored false outside =
+    stand_all i node state found stored above false outside =
         subst (λ (n : ℕ). StateStands setting sub (past_of setting sub ran i) n i (work_at setting i node) state) (sym (begun-outside setting clock fed i outside))
-        (stand.stand i node state found (sym (others i outside) ∙ stored))
+        (stand.stand i node state found (sym (others i outside) ∙ stored) above)
 
     taken_all : (i buffer : ℕ) (node : Node) → slice_get setting.plan.nodes i ≡ Some node → work_at setting i node ≡ Reads buffer
         → (b : Bool) → lies_in setting clock i ≡ b → (reading_by setting i buffer (past_of setting sub ran i) (begun_in setting clock fed i)).taken ≡ length (after_calls front more buffer)
@@ -159,7 +163,7 @@ module _ (setting : Setting) (sub : ℕ → ℕ → List Slot) (rank : NodeClock
 
     pub opened_stand : Stand setting sub rank (rank clock) ran (begun_in setting clock fed) (after_calls front more) new
     opened_stand = record {
-      stand = λ i node state found stored. stand_all i node state found stored (lies_in setting clock i) refl;
+      stand = λ i node state found stored above. stand_all i node state found stored above (lies_in setting clock i) refl;
       taken = λ i buffer node found work. taken_all i buffer node found work (lies_in setting clock i) refl;
       even = λ k fades above. begun-no_reader setting clock fed k (fade_reads setting k fades) ∙ stand.even k fades above;
       time = λ k time above at. stand.time k time above (ap (λ ts. slice_get ts k) (sym times) ∙ at);

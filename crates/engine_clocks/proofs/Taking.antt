@@ -36,7 +36,7 @@ needed_below setting sub rank low high ran fed up needed = record {
 pub stand_below : (setting : Setting) (sub : ℕ → ℕ → List Slot) (rank : NodeClock → ℕ) (low high : ℕ) (ran : NodeClock → ℕ) (fed : ℕ → ℕ) (front : ℕ → List Answer) (lanes : ClockLanes) → low ≤ high
     → Stand setting sub rank low ran fed front lanes → Stand setting sub rank high ran fed front lanes
 stand_below setting sub rank low high ran fed front lanes up stand = record {
-  stand = stand.stand;
+  stand = λ i node state found stored above. stand.stand i node state found stored (omega (arith, up, above));
   taken = stand.taken;
   even = λ k fades above. stand.even k fades (omega (arith, up, above));
   time = λ k time above at. stand.time k time (omega (arith, up, above)) at;
@@ -124,21 +124,43 @@ module _ (setting : Setting) (sub : ℕ → ℕ → List Slot) (rank : NodeClock
             ∙ ap (λ n. sub k (m.fed_now k) ++ (part_at (moment_after setting sub (Sub k) (history setting sub (Sub k) n)).parts (crossfaded setting.plan.nodes k)).slot ∷ []) fed_is
             ∙ ap (λ ps. sub k (m.fed_now k) ++ (part_at ps (crossfaded setting.plan.nodes k)).slot ∷ []) (sym m.parts)
 
+        -- the clocks of the crossfade's rank made no instant
+        kept_low : (i : ℕ) (node : Node) (state : NodeState) → slice_get setting.plan.nodes i ≡ Some node → slice_get made.states.items i ≡ Some state
+            → rank (clock_of setting k) ≡ rank (clock_of setting i)
+            → StateStands setting sub (past_of setting sub m.ran_now i) (m.fed_now i) i (work_at setting i node) state
+        kept_low i node state found stored level =
+            let low : rank (clock_of setting i) ≤ rank (clock_of setting k) = omega (arith, level) in
+            let apart_here = apart (clock_of setting i) low in
+            let under_here = under (clock_of setting i) low in
+            subst (λ past. StateStands setting sub past (m.fed_now i) i (work_at setting i node) state)
+            (ap (λ n. history setting sub (clock_of setting i) n) (sym (m.others (clock_of setting i) apart_here under_here)))
+            (subst (λ f. StateStands setting sub (past_of setting sub r.reached.ran_now i) f i (work_at setting i node) state) (sym (m.held i apart_here under_here))
+            (r.reached.stand.stand i node state found (sym (left.states i apart_here under_here) ∙ stored) (omega (arith, level))))
+
+        stand_made : (i : ℕ) (node : Node) (state : NodeState) → slice_get setting.plan.nodes i ≡ Some node → slice_get made.states.items i ≡ Some state
+            → rank (clock_of setting k) ≤ rank (clock_of setting i)
+            → StateStands setting sub (past_of setting sub m.ran_now i) (m.fed_now i) i (work_at setting i node) state
+        stand_made i node state found stored above = elim (same_or_above (rank (clock_of setting k)) (rank (clock_of setting i)) above) [
+          | inl higher ↦ (let up = deeper k within in m.stand.stand i node state found stored (omega (arith, up, higher)))
+          | inr level ↦ kept_low i node state found stored level
+        ]
+
         stand_here : (node : Node) (state : NodeState) → slice_get setting.plan.nodes k ≡ Some node → slice_get new.states.items k ≡ Some state
             → StateStands setting sub (past_of setting sub m.ran_now k) (fed_more m.fed_now k k) k (work_at setting k node) state
         stand_here node state found stored =
             let was = item_at made.states.items k (omega (arith, in_states, within)) in
             subst (λ f. StateStands setting sub (past_of setting sub m.ran_now k) f k (work_at setting k node) state) (sym (fed_more-same m.fed_now k))
             (feeds.fed (past_of setting sub m.ran_now k) (m.fed_now k) (work_at setting k node) was.0 state was.1 stored
-            (m.stand.stand k node was.0 found was.1) grows)
+            (kept_low k node was.0 found was.1 refl) grows)
 
         stand_all : (i : ℕ) (node : Node) (state : NodeState) → slice_get setting.plan.nodes i ≡ Some node → slice_get new.states.items i ≡ Some state
+            → rank (clock_of setting k) ≤ rank (clock_of setting i)
             → StateStands setting sub (past_of setting sub m.ran_now i) (fed_more m.fed_now k i) i (work_at setting i node) state
-        stand_all i node state found stored = elim (same_or_other i k) [
+        stand_all i node state found stored above = elim (same_or_other i k) [
           | inl same ↦ subst (λ j. slice_get setting.plan.nodes j ≡ Some node → slice_get new.states.items j ≡ Some state
               → StateStands setting sub (past_of setting sub m.ran_now j) (fed_more m.fed_now k j) j (work_at setting j node) state) (sym same) (stand_here node state) found stored
           | inr other ↦ subst (λ f. StateStands setting sub (past_of setting sub m.ran_now i) f i (work_at setting i node) state) (sym (fed_more-other m.fed_now k i other))
-              (m.stand.stand i node state found (sym (feeds.states i other) ∙ stored))
+              (stand_made i node state found (sym (feeds.states i other) ∙ stored) above)
         ]
 
         -- a node that is no crossfade is not this one
@@ -273,13 +295,13 @@ reached_item setting sub rank k ran fed front more lanes state at settles runs b
   where
     here : (node : Node) → slice_get setting.plan.nodes k ≡ Some node → HasItem setting sub f.reached.ran_now f.reached.fed_now k node
     here node found = record {
-      settled = settles (past_of setting sub f.reached.ran_now k) (f.reached.fed_now k) (work_at setting k node) (f.reached.stand.stand k node state found at)
+      settled = settles (past_of setting sub f.reached.ran_now k) (f.reached.fed_now k) (work_at setting k node) (f.reached.stand.stand k node state found at (omega arith))
           (λ buffer work.
           let reading = reads_work setting k buffer node found work in
           f.reached.idle k (reads_fade setting k reading) (omega arith) ∙ begun reading
           ∙ ap suc (sym (past_long setting sub (clock_of setting k) (f.reached.ran_now (clock_of setting k)) ∙ f.reached.others (clock_of setting k) (omega arith))));
       run = λ overlap work. runs (past_of setting sub f.reached.ran_now k) (f.reached.fed_now k) overlap
-          (subst (λ w. StateStands setting sub (past_of setting sub f.reached.ran_now k) (f.reached.fed_now k) k w state) work (f.reached.stand.stand k node state found at));
+          (subst (λ w. StateStands setting sub (past_of setting sub f.reached.ran_now k) (f.reached.fed_now k) k w state) work (f.reached.stand.stand k node state found at (omega arith)));
     }
 
 -- a node that wants one is a crossfade
@@ -292,5 +314,5 @@ pub reached_fading : (setting : Setting) (sub : ℕ → ℕ → List Slot) (rank
 reached_fading setting sub rank k ran fed front more lanes state within at fades f =
     let node = item_at setting.plan.nodes k within in
     let on = fades_on sub (past_of setting sub f.reached.ran_now k) (f.reached.fed_now k) k (work_at setting k node.0)
-    (fades (past_of setting sub f.reached.ran_now k) (f.reached.fed_now k) (work_at setting k node.0) (f.reached.stand.stand k node.0 state node.1 at)) in
+    (fades (past_of setting sub f.reached.ran_now k) (f.reached.fed_now k) (work_at setting k node.0) (f.reached.stand.stand k node.0 state node.1 at (omega arith))) in
     (node.0, on.0, node.1, on.1, on.2)

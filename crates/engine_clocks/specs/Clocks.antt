@@ -102,13 +102,13 @@ pub record RanAsNeeded (setting : Setting) (sub : ℕ → ℕ → List Slot) (ra
       → level ≤ rank (clock_of setting k) → ran (Sub k) ≡ ran_by sub k overlap (past_of setting sub ran k)
   pub begun : (i : ℕ) → reads_at setting i ≡ true → level ≤ rank (clock_of setting i) → fed i ≡ ran (clock_of setting i)
 
--- all states stand for the instants that their clocks have made, and the readers have taken these answers; in clocks of this rank and
--- deeper ones each crossfade was fed what its sub-clock made, and the sub-clock's time is that of its next instant; and clocks deeper
--- than this ran as needed. `fed i` is also how many instants reader i has begun
+-- the readers have taken these answers; in clocks of this rank and deeper ones the states stand for the instants that the clocks have
+-- made, each crossfade was fed what its sub-clock made, and the sub-clock's time is that of its next instant; and clocks deeper than
+-- this ran as needed. `fed i` is also how many instants reader i has begun. Of states in lower clocks nothing is said: such may be idle
 pub record Stand (setting : Setting) (sub : ℕ → ℕ → List Slot) (rank : NodeClock → ℕ) (level : ℕ) (ran : NodeClock → ℕ) (fed : ℕ → ℕ)
     (front : ℕ → List Answer) (lanes : ClockLanes) : Type 0 where
   pub stand : (i : ℕ) (node : Node) (state : NodeState) → slice_get setting.plan.nodes i ≡ Some node → slice_get lanes.states.items i ≡ Some state
-      → StateStands setting sub (past_of setting sub ran i) (fed i) i (work_at setting i node) state
+      → level ≤ rank (clock_of setting i) → StateStands setting sub (past_of setting sub ran i) (fed i) i (work_at setting i node) state
   pub taken : (i buffer : ℕ) (node : Node) → slice_get setting.plan.nodes i ≡ Some node → work_at setting i node ≡ Reads buffer
       → (reading_by setting i buffer (past_of setting sub ran i) (fed i)).taken ≡ length (front buffer)
   pub even : (k : ℕ) → fade_at setting k ≡ true → level ≤ rank (clock_of setting k) → fed k ≡ ran (Sub k)

@@ -16,7 +16,7 @@ use Rattle.plan_core.specs.declared.node.Node.{Node}
 use Rattle.stream_meaning.specs.Instants.{Setting, Moment, Reading, count, last_pick, position, reading_after, reading_at, work_at}
 use Rattle.node_mixing.specs.Mixings.{mixing_of}
 use Rattle.node_states.specs.declared.state.NodeState.{NodeState}
-use Rattle.node_states.specs.declared.state.NodeState.TheVariants.{Leaf, Select, Mix, Cross, Read}
+use Rattle.node_states.specs.declared.state.NodeState.TheVariants.{Leaf, Select, Mix, Cross, Read, Idle}
 
 -- a leaf gave so many cells
 pub record LeafStands (library : Sounds) (leaf : TheLeaf) (given : ℕ) (state : LeafState) : Type 0 where
@@ -41,7 +41,7 @@ reading_by setting i buffer past begun =
     else reading_at setting buffer (length past) (reading_after setting i buffer past)
 
 -- node i, which does this work, has the state that its past implies, where a crossfade was fed so many slots of its child, and a
--- reader has begun so many instants
+-- reader has begun so many instants; an idle state stands for no past
 abbrev pub StateStands : Setting → (sub : ℕ → ℕ → List Slot) → List Moment → (fed i : ℕ) → Work → NodeState → Type 0
 StateStands setting sub past fed i (Plays leaf) (Leaf state) = LeafStands setting.library leaf (count past i) state
 StateStands setting sub past fed i (Picks rule eligible) (Select state) = SelectStands rule (last_pick past i) state
@@ -77,6 +77,7 @@ Fits library children (Select state) = state.children ≡ children
 Fits library children (Mix mixer) = ⊤
 Fits library children (Cross state) = ⊤
 Fits library children (Read reader) = ⊤
+Fits library children Idle = ⊤
 
 -- it is a crossfade, and its item is not settled
 abbrev pub wants : NodeState → Bool
@@ -85,6 +86,7 @@ wants (Select state) = false
 wants (Mix mixer) = false
 wants (Cross state) = crossing_wants state
 wants (Read reader) = false
+wants Idle = false
 
 -- a bound on the slots that it asks for before its item is settled
 abbrev pub left : NodeState → ℕ
@@ -93,6 +95,7 @@ left (Select state) = 0
 left (Mix mixer) = 0
 left (Cross state) = crossing_left state
 left (Read reader) = 0
+left Idle = 0
 
 -- whether a node's work is to read a buffer
 abbrev pub reads : Work → Bool

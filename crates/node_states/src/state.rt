@@ -44,6 +44,9 @@ pub enum NodeState {
 
     /// The reader of a buffer.
     Read(ReaderState),
+
+    /// A node of which no instant is made where the state stands: it keeps nothing.
+    Idle,
 }
 
 impl NodeState {
@@ -141,6 +144,7 @@ impl NodeState {
             NodeState::Mix(mixer) => unpicked(mixer.slot(slots)),
             NodeState::Cross(state) => unpicked(item(state)),
             NodeState::Read(state) => unpicked(state.offer()),
+            NodeState::Idle => unpicked(None),
         }
     }
 
@@ -201,6 +205,7 @@ impl NodeState {
                 }
             }
             NodeState::Read(state) => { if gave { state.rest(most) } else { most } }
+            NodeState::Idle => most,
         }
     }
 
@@ -222,6 +227,7 @@ impl NodeState {
             NodeState::Mix(_) => {}
             NodeState::Cross(state) => step_crossfade(state, gave),
             NodeState::Read(state) => step_reader(state, gave),
+            NodeState::Idle => {}
         }
     }
 }

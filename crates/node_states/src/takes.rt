@@ -28,6 +28,7 @@ impl NodeState {
             NodeState::Select(_) => Ok(()),
             NodeState::Mix(_) => Ok(()),
             NodeState::Cross(_) => Ok(()),
+            NodeState::Idle => Ok(()),
         }
     }
 }

@@ -29,6 +29,10 @@ pub returns-in-Mix-clause-took : goal.returns-in-Mix-clause-took
 returns-in-Mix-clause-took g c = begun_other g.T.Taps.stands c.args.buffer _ c.args.taps.now
     (λ setting sub past fed i buffer at. subst (λ (s : NodeState). StateStands setting sub past fed i (Reads buffer) s) c.in-Mix.is at)
 
+pub returns-in-Idle-clause-took : goal.returns-in-Idle-clause-took
+returns-in-Idle-clause-took g c = begun_other g.T.Taps.stands c.args.buffer _ c.args.taps.now
+    (λ setting sub past fed i buffer at. subst (λ (s : NodeState). StateStands setting sub past fed i (Reads buffer) s) c.in-Idle.is at)
+
 pub returns-in-Cross-clause-took : goal.returns-in-Cross-clause-took
 returns-in-Cross-clause-took g c = begun_other g.T.Taps.stands c.args.buffer _ c.args.taps.now
     (λ setting sub past fed i buffer at. subst (λ (s : NodeState). StateStands setting sub past fed i (Reads buffer) s) c.in-Cross.is at)
