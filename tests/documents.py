@@ -37,6 +37,15 @@ def is_there(path, places):
     return any(os.path.exists(os.path.join(TOP, place, path)) for place in places)
 
 
+def sources():
+    """The files of code and of definitions, by their paths from the top."""
+    found = []
+    for base, folders, names in os.walk(os.path.join(TOP, "crates")):
+        folders[:] = [name for name in folders if name != "out"]
+        found += [os.path.relpath(os.path.join(base, name), TOP) for name in names if name.endswith((".rt", ".antt"))]
+    return sorted(found)
+
+
 def paths_that_are_missing(_program):
     """Each path in backticks and each link of the documents exists. The page of a crate names files of its own, and of the
     crates that it names."""
@@ -51,7 +60,49 @@ def paths_that_are_missing(_program):
         linked = [link for link in re.findall(r"\]\(([^)\s]+)\)", text) if not re.match(r"https?:|#", link)]
         found += [f"{page} names {path}" for path in named if not is_there(path, places)]
         found += [f"{page} links to {link}" for link in linked if not os.path.exists(os.path.join(TOP, place, link.split("#")[0]))]
+    for page in sources():
+        named = re.findall(r"`((?:%s)/[^`\s]*)`" % "|".join(TOPS), text_of(page))
+        found += [f"{page} names {path}" for path in named if not is_there(path, [""])]
     return found
+
+
+def has_section(path, name):
+    """Whether a page has this title, or a paragraph that begins with it."""
+    return re.search(r"^(?:#+ |\*\*)%s(?:$|\.\*\*)" % re.escape(name), text_of(path), flags=re.M) is not None
+
+
+def has_anchor(path, anchor):
+    """Whether a page has a title of this anchor."""
+    titles = re.findall(r"^#+ (.*)$", text_of(path), flags=re.M)
+    return anchor in [re.sub(r"[^\w -]", "", title).lower().replace(" ", "-") for title in titles]
+
+
+def sections_that_are_missing(_program):
+    """Each section that is named behind a page, as `docs/x.md`, "Title", or by a link as x.md#title, stands there."""
+    found = []
+    for page in documents() + sources():
+        text, place = re.sub(r"\s*\n\s*(?:///?!?|--)?\s*", " ", text_of(page)), os.path.dirname(page)
+        for link, path, name in re.findall(r'(?:\]\(([\w./]+\.md)\)|`(docs/\w+\.md)`), "([^"]+)"', text):
+            path = path or os.path.normpath(os.path.join(place, link))
+            if not has_section(path, name.strip(",.")):
+                found.append(f"{page} names the section {name} of {path}")
+        for link, anchor in re.findall(r"\]\(([\w./]*)#([^)\s]+)\)", text) if page.endswith(".md") else []:
+            path = os.path.normpath(os.path.join(place, link)) if link else page
+            if not has_anchor(path, anchor):
+                found.append(f"{page} links to the section {anchor} of {path}")
+    return found
+
+
+def tests_that_are_missing(_program):
+    """Each test module that a page names is there, and the page of a test crate names each of its modules."""
+    crates = os.path.join(TOP, "crates")
+    groups = [name for name in os.listdir(crates) if name.endswith("_tests")]
+    modules = {group: [name.removesuffix(".rt") for name in os.listdir(os.path.join(crates, group, "src")) if name.endswith("_tests.rt")]
+               for group in groups}
+    there = groups + sum(modules.values(), [])
+    found = [f"{page} names {name}" for page in documents() for name in re.findall(r"`(?:crates/)?(\w+_tests)`", text_of(page)) if name not in there]
+    return found + [f"crates/{group}/README.md does not name {name}" for group in groups for name in modules[group]
+                    if f"`{name}`" not in text_of(f"crates/{group}/README.md")]
 
 
 def cells_of(line):
@@ -205,6 +256,8 @@ def recipes_that_fail(program):
 
 checks = {
     "documents/paths": paths_that_are_missing,
+    "documents/sections": sections_that_are_missing,
+    "documents/tests": tests_that_are_missing,
     "documents/builtins": builtins_that_differ,
     "documents/forms": forms_that_differ,
     "documents/recipes": recipes_that_fail,

@@ -4,7 +4,7 @@ use liq_base::Text;
 use track_library::LoadFault;
 
 /// Why a plan is not rendered, in the order in which the faults are looked for. The line of each stands in
-/// `docs/formats.md`.
+/// `docs/faults.md`.
 #[derive(Debug, Drop)]
 pub enum StationFault {
     /// The audio files are not loaded.

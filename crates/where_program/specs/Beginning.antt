@@ -8,7 +8,8 @@ use Rattle.script_grammar.specs.Placed.{IsPlaced}
 use Rattle.parse_base.specs.Gives.{kinds}
 use Rattle.script_places.specs.Starts.{start, first_token}
 use Rattle.script_places.specs.declared.named.Named.{Named}
-use Rattle.script_places.specs.declared.named.Named.TheVariants.{Byte, Token as NamedToken, Statement}
+use Rattle.script_places.specs.declared.named.Named.TheVariants.{Byte, Token as NamedToken, Statement, Source}
+use Rattle.where_program.specs.Sources.{IsSourceAt}
 
 -- the text has these tokens, and token k begins at this byte
 pub record IsTokenAt (text : List ℕ) (k at : ℕ) : Type 0 where
@@ -31,3 +32,4 @@ abbrev pub Begins : List ℕ → Named → ℕ → Type 0
 Begins text (Byte n) at = at ≡ n
 Begins text (NamedToken k) at = IsTokenAt text k at
 Begins text (Statement number) at = IsStatementAt text number at
+Begins text (Source k) at = IsSourceAt text k at

@@ -1,7 +1,10 @@
 //! The filter `where`: passes its lines on, and behind a line that names a place of a script it shows the place.
 #![tactic(auto)]
 
+mod calls;
+mod fronts;
 mod places;
+mod sources;
 
 use liq_base::limits::MAX_SCRIPT_BYTES;
 use liq_base::{Fetched, Shelf, Sink};
