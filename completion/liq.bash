@@ -11,7 +11,7 @@ _liq() {
         check:* | render:3) ;;
         render:*)
             compopt -o nospace 2>/dev/null
-            mapfile -t COMPREPLY < <(compgen -W "--one-thread --start=" -- "$word")
+            mapfile -t COMPREPLY < <(compgen -W "--one-thread --window= --start=" -- "$word")
             ;;
     esac
 }

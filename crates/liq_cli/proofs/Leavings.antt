@@ -1,6 +1,6 @@
 -- What a job leaves, by the way that it ends.
 use Rattle.std.proofs.Common.{◌≡◌, ◌≤◌, ℕ, Bool, List, refl, sym, subst, ◌∙◌, arith}
-use Rattle.std.specs.Prelude.{Option, Some, Result, Ok, Err, IfOk, IfErr, IsSomeAnd}
+use Rattle.std.specs.Prelude.{Option, Some, Result, Ok, Err, IfOk, IfErr}
 use Rattle.std.specs.Option.{ForSome}
 use Rattle.liq_base.specs.Counts.{Rose}
 use Rattle.liq_base.specs.Files.{Files}
@@ -9,8 +9,9 @@ use Rattle.plan_core.specs.declared.plan.Plan.{Plan}
 use Rattle.clock_infer.specs.declared.clock_map.ClockMap.{ClockMap}
 use Rattle.fallible_infer.specs.Infallible.{IsMarking}
 use Rattle.run_records.specs.Records.{Run}
-use Rattle.stations.specs.Renderings.{WrotePart}
-use Rattle.stations.specs.Stations.{Station}
+use Rattle.run_records.specs.Rounds.{HasNoJoin}
+use Rattle.stations.specs.Renderings.{RendersAsOneThread, WrotePart}
+use Rattle.stations.specs.Stations.{IsLawful, Station, bare}
 use Rattle.stations.specs.Streams.{HasNoGaps, outputs_with}
 use Rattle.stations.specs.Reports.{check_report_of, report_of}
 use Rattle.station_render.specs.declared.fault.RenderFault.{RenderFault}
@@ -102,10 +103,10 @@ checked file told left plan library clocks report one same tells files t =
     for_one (Check file) files (Found plan library clocks) (λ a. Rendered a files left report) (one files t)
     (record { kept = same ∙ t; mark = tells.0; marking = tells.1; report_is = tells.2 (station_for (Check file) plan library clocks) refl refl })
 
-module _ (file : List ℕ) (start ticks : ℕ) (told left : Option Files) (plan : Plan) (library : Sounds) (clocks : ClockMap)
+module _ (file : List ℕ) (start ticks : ℕ) (window : Option ℕ) (told left : Option Files) (plan : Plan) (library : Sounds) (clocks : ClockMap)
     (one : ForSome told (λ files. IsOneOutcome files file ticks (Found plan library clocks))) where
   abbrev station : Station
-  station = station_for (Render file start ticks) plan library clocks
+  station = station_for (Render file start ticks window) plan library clocks
 
   -- a part that was written may be told of a wider cause
   wrote_later : (writes_before writes_between writes_after : ℕ) → writes_before ≤ writes_between → (files : Files) → WrotePart station (Rose writes_between writes_after) files left → WrotePart station (Rose writes_before writes_after) files left
@@ -119,14 +120,14 @@ module _ (file : List ℕ) (start ticks : ℕ) (told left : Option Files) (plan 
   pub broke_off : {U : Type 0} (reads_before reads_after writes_before writes_between writes_after : ℕ) (e : RenderFault) → writes_before ≤ writes_between
       → ForSome told (λ files. WrotePart station (Rose writes_between writes_after) files left)
       → (e ≡ render_write → Rose writes_between writes_after)
-      → Stops {T = U} (Render file start ticks) told left reads_before reads_after writes_before writes_after (Err (halt_of_render e))
+      → Stops {T = U} (Render file start ticks window) told left reads_before reads_after writes_before writes_after (Err (halt_of_render e))
   broke_off reads_before reads_after writes_before writes_between writes_after render_write le parts cause = record {
     fault = λ fault at. absurd (cc);
     fault_kept = λ fault at. absurd (cc);
     read = λ at. absurd (cc);
     read_kept = λ at. absurd (cc);
     write = λ at. let rose = cause refl in omega arith;
-    broken = λ at files t. for_one (Render file start ticks) files (Found plan library clocks) (λ a. Broken a (Rose writes_before writes_after) files left) (one files t)
+    broken = λ at files t. for_one (Render file start ticks window) files (Found plan library clocks) (λ a. Broken a (Rose writes_before writes_after) files left) (one files t)
         (wrote_later writes_before writes_between writes_after le files (parts files t));
     memory = λ at. absurd (cc);
   }
@@ -137,24 +138,25 @@ module _ (file : List ℕ) (start ticks : ℕ) (told left : Option Files) (plan 
     read_kept = λ at. absurd (cc);
     write = λ at. absurd (cc);
     broken = λ at. absurd (cc);
-    memory = λ at files t. for_each (Render file start ticks) files (Found plan library clocks) (λ a. Starved a (Rose writes_before writes_after) files left) (one files t)
+    memory = λ at files t. for_each (Render file start ticks window) files (Found plan library clocks) (λ a. Starved a (Rose writes_before writes_after) files left) (one files t)
         (wrote_later writes_before writes_between writes_after le files (parts files t));
   }
 
   -- a rendering whose last step is its report: memory may be refused for that
   pub ended_written : {U : Type 0} (r : Result U Halt) (reads_before reads_after writes_before writes_between writes_after : ℕ) → IfErr r (λ e. e ≡ no_memory) → writes_before ≤ writes_between
       → ForSome told (λ files. WrotePart station (Rose writes_between writes_after) files left)
-      → Stops {T = U} (Render file start ticks) told left reads_before reads_after writes_before writes_after r
-  ended_written {U} (Ok v) reads_before reads_after writes_before writes_between writes_after starved le parts = went_on (Render file start ticks) told left reads_before reads_after writes_before writes_after v
+      → Stops {T = U} (Render file start ticks window) told left reads_before reads_after writes_before writes_after r
+  ended_written {U} (Ok v) reads_before reads_after writes_before writes_between writes_after starved le parts = went_on (Render file start ticks window) told left reads_before reads_after writes_before writes_after v
   ended_written {U} (Err e) reads_before reads_after writes_before writes_between writes_after starved le parts =
-      subst (λ x. Stops {T = U} (Render file start ticks) told left reads_before reads_after writes_before writes_after (Err x)) (sym starved)
+      subst (λ x. Stops {T = U} (Render file start ticks window) told left reads_before reads_after writes_before writes_after (Err x)) (sym starved)
       (broke_off reads_before reads_after writes_before writes_between writes_after render_memory le parts (λ at. absurd (cc)))
 
   -- the report of a rendering
   pub rendered : (before : Option Files) (report : List ℕ) (value : Shown) → before ≡ told → IsRendered station before left value
       → ((run : Run) → IsTold station run value → report ≡ report_of station run)
       → ((files : Files) (run : Run) → IsOneOutcome files file ticks (Found plan library clocks) → HasNoGaps station run)
-      → ForSome told (λ files. ForOne (Render file start ticks) files (λ a. Rendered a files left report))
-  rendered before report value kept is report_is gapless files t =
-      for_one (Render file start ticks) files (Found plan library clocks) (λ a. Rendered a files left report) (one files t)
-      (record { run = is.run; lawful = is.lawful; written = is.all_written files (kept ∙ t); report_is = report_is is.run is.told; no_gaps = gapless files is.run (one files t) })
+      → ((files : Files) (run : Run) → IsOneOutcome files file ticks (Found plan library clocks) → IsLawful station run → HasNoJoin (bare station) → RendersAsOneThread station run)
+      → ForSome told (λ files. ForOne (Render file start ticks window) files (λ a. Rendered a files left report))
+  rendered before report value kept is report_is gapless alike files t =
+      for_one (Render file start ticks window) files (Found plan library clocks) (λ a. Rendered a files left report) (one files t)
+      (record { run = is.run; lawful = is.lawful; written = is.all_written files (kept ∙ t); report_is = report_is is.run is.told; no_gaps = gapless files is.run (one files t); as_one_thread = alike files is.run (one files t) is.lawful })

@@ -1,3 +1,4 @@
+mod Reading
 mod Asking
 mod Outcomes
 mod Found
@@ -6,5 +7,6 @@ mod Parts
 mod Uncalled
 mod Leavings
 mod Ended
+mod Finished
 mod Complete
 mod Counted

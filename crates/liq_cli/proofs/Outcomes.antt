@@ -1,5 +1,6 @@
 -- The answers to what is asked for are those of outcomes.
 use Rattle.std.proofs.Common.{◌≡◌, ℕ, refl, sym, ap, ◌∙◌, subst}
+use Rattle.std.specs.Prelude.{Option, None}
 use Rattle.liq_base.specs.Files.{Files}
 use Rattle.stations.specs.Stations.{Station}
 use Rattle.liq_cli.specs.Words.{Asked, Check, Render, file_of, ticks_of}
@@ -9,8 +10,8 @@ use Rattle.liq_cli.specs.Prepared.{ForEach, ForOne, Found, IsOneOutcome, IsOutco
 -- an outcome's answer is one
 pub answered : (asked : Asked) (files : Files) (outcome : Outcome) → IsOutcome files (file_of asked) (ticks_of asked) outcome → IsAnswerTo asked files (answer_of asked outcome)
 answered asked files (Lost fault) is = is
-answered (Check file) files (Found plan library clocks) is = record { has_plan = is.has_plan; accepted = is.accepted; start_is = refl; ticks_are = refl }
-answered (Render file start ticks) files (Found plan library clocks) is = record { has_plan = is.has_plan; accepted = is.accepted; start_is = refl; ticks_are = refl }
+answered (Check file) files (Found plan library clocks) is = record { has_plan = is.has_plan; accepted = is.accepted; start_is = refl; ticks_are = refl; window_is = refl }
+answered (Render file start ticks window) files (Found plan library clocks) is = record { has_plan = is.has_plan; accepted = is.accepted; start_is = refl; ticks_are = refl; window_is = refl }
 
 -- an answer is that of an outcome
 record Comes (asked : Asked) (files : Files) (answer : Answer) : Type 0 where
@@ -18,9 +19,9 @@ record Comes (asked : Asked) (files : Files) (answer : Answer) : Type 0 where
   is : IsOutcome files (file_of asked) (ticks_of asked) outcome
   same : answer ≡ answer_of asked outcome
 
-same_station : (station : Station) (start ticks : ℕ) → station.start ≡ start → station.ticks ≡ ticks
-    → station ≡ record { plan = station.plan; library = station.library; clocks = station.clocks; start = start; ticks = ticks }
-same_station station start ticks s t = rw (sym s, sym t) refl
+same_station : (station : Station) (start ticks : ℕ) (window : Option ℕ) → station.start ≡ start → station.ticks ≡ ticks → station.window ≡ window
+    → station ≡ record { plan = station.plan; library = station.library; clocks = station.clocks; start = start; ticks = ticks; window = window }
+same_station station start ticks window s t w = rw (sym s, sym t, sym w) refl
 
 comes : (asked : Asked) (files : Files) (answer : Answer) → IsAnswerTo asked files answer → Comes asked files answer
 comes asked files Usage is = absurd is
@@ -28,14 +29,14 @@ comes asked files (Refused fault) is = record { outcome = Lost fault; is = is; s
 comes (Check file) files (Checked station) is = record {
   outcome = Found station.plan station.library station.clocks;
   is = record { has_plan = is.has_plan; accepted = is.accepted };
-  same = ap Checked (same_station station 0 0 is.start_is is.ticks_are);
+  same = ap Checked (same_station station 0 0 None is.start_is is.ticks_are is.window_is);
 }
 comes (Check file) files (Accepted station) is = absurd is
-comes (Render file start ticks) files (Checked station) is = absurd is
-comes (Render file start ticks) files (Accepted station) is = record {
+comes (Render file start ticks window) files (Checked station) is = absurd is
+comes (Render file start ticks window) files (Accepted station) is = record {
   outcome = Found station.plan station.library station.clocks;
   is = record { has_plan = is.has_plan; accepted = is.accepted };
-  same = ap Accepted (same_station station start ticks is.start_is is.ticks_are);
+  same = ap Accepted (same_station station start ticks window is.start_is is.ticks_are is.window_is);
 }
 
 -- so one outcome is one answer

@@ -1,5 +1,5 @@
 -- What a call answers, by its words and the files.
-use Rattle.std.specs.Prelude.{◌≡◌, ℕ, List, None, Some, codes}
+use Rattle.std.specs.Prelude.{◌≡◌, ℕ, List, Option, None, Some, codes}
 use Rattle.liq_base.specs.Files.{Files, file_at}
 use Rattle.plan_core.specs.declared.plan.Plan.{Plan}
 use Rattle.script_plan.specs.declared.fault.ScriptFault.{ScriptFault}
@@ -45,21 +45,23 @@ IsFault files file ticks NoScript = file_at files file ≡ None
 IsFault files file ticks (Script fault) = HasFault files file fault
 IsFault files file ticks (Unfit fault) = HasUnfitPlan files file ticks fault
 
--- the station of a script that is accepted, for so many ticks from a second on: its plan, with its audio files and clocks
-pub record IsStation (files : Files) (file : List ℕ) (start ticks : ℕ) (station : Station) : Type 0 where
+-- the station of a script that is accepted, for so many ticks from a second on, by threads or on one: its plan, with its audio files and
+-- clocks
+pub record IsStation (files : Files) (file : List ℕ) (start ticks : ℕ) (window : Option ℕ) (station : Station) : Type 0 where
   pub has_plan : HasPlan files file station.plan
   pub accepted : IsAccepted files station.plan ticks station.library station.clocks
   pub start_is : station.start ≡ start
   pub ticks_are : station.ticks ≡ ticks
+  pub window_is : station.window ≡ window
 
 -- this is the answer to what is asked for
 abbrev pub IsAnswerTo : Asked → Files → Answer → Type 0
 IsAnswerTo asked files Usage = ⊥
 IsAnswerTo asked files (Refused fault) = IsFault files (file_of asked) (ticks_of asked) fault
-IsAnswerTo (Check file) files (Checked station) = IsStation files file 0 0 station
+IsAnswerTo (Check file) files (Checked station) = IsStation files file 0 0 None station
 IsAnswerTo (Check file) files (Accepted station) = ⊥
-IsAnswerTo (Render file start ticks) files (Checked station) = ⊥
-IsAnswerTo (Render file start ticks) files (Accepted station) = IsStation files file start ticks station
+IsAnswerTo (Render file start ticks window) files (Checked station) = ⊥
+IsAnswerTo (Render file start ticks window) files (Accepted station) = IsStation files file start ticks window station
 
 -- the words have a form, and this is the answer to what they ask for
 pub record IsFormed (words : List (List ℕ)) (files : Files) (answer : Answer) : Type 0 where

@@ -1,14 +1,15 @@
 -- What one call leaves, for each status.
-use Rattle.std.specs.Prelude.{◌≡◌, ◌≤◌, ◌⊎◌, ℕ, List, Bool, Option, Some, IsSomeAnd}
+use Rattle.std.specs.Prelude.{◌≡◌, ◌≤◌, ◌⊎◌, ℕ, List, Bool, Option, Some}
 use Rattle.std.specs.Option.{ForSome}
 use Rattle.liq_base.specs.Counts.{Rose}
 use Rattle.liq_base.specs.Pieces.{IsPrefix, grown}
 use Rattle.liq_base.specs.Files.{Files}
 use Rattle.fallible_infer.specs.Infallible.{IsMarking}
 use Rattle.run_records.specs.Records.{Run}
+use Rattle.run_records.specs.Rounds.{HasNoJoin}
 use Rattle.stations.specs.Outputs.{with_outputs}
-use Rattle.stations.specs.Renderings.{WrotePart}
-use Rattle.stations.specs.Stations.{Station, IsLawful}
+use Rattle.stations.specs.Renderings.{RendersAsOneThread, WrotePart}
+use Rattle.stations.specs.Stations.{Station, IsLawful, bare}
 use Rattle.stations.specs.Streams.{outputs_of, HasNoGaps}
 use Rattle.stations.specs.Reports.{report_of, check_report_of}
 use Rattle.refusal_lines.specs.Lines.{line_of}
@@ -36,13 +37,14 @@ pub record GrewPart (line : List ℕ) (old new : Option (List ℕ)) : Type 0 whe
   pub is_front : IsPrefix part line
   pub grew : new ≡ grown part old
 
--- a run wrote all outputs, and this is its report
+-- A run wrote all outputs, and this is its report. Where no buffer joins two clocks, one thread writes and tells the same.
 pub record Wrote (station : Station) (files : Files) (after : Option Files) (report : List ℕ) : Type 0 where
   pub run : Run
   pub lawful : IsLawful station run
   pub written : after ≡ Some (with_outputs files (outputs_of station run))
   pub report_is : report ≡ report_of station run
   pub no_gaps : HasNoGaps station run
+  pub as_one_thread : HasNoJoin (bare station) → RendersAsOneThread station run
 
 -- no file changed, and the report tells the clock of each output, and whether its node is infallible
 pub record Told (station : Station) (files : Files) (after : Option Files) (report : List ℕ) : Type 0 where

@@ -1,5 +1,5 @@
 -- What is found of a script before anything is rendered. Only what is private cites this.
-use Rattle.std.specs.Prelude.{◌≡◌, ◌≤◌, ℕ, List, Result, Err, Option, IsErrOf}
+use Rattle.std.specs.Prelude.{◌≡◌, ◌≤◌, ℕ, List, Result, Err, Option, None, Some, IsErrOf}
 use Rattle.std.specs.Option.{ForSome}
 use Rattle.liq_base.specs.Counts.{Rose}
 use Rattle.liq_base.specs.Files.{Files}
@@ -16,24 +16,26 @@ use Rattle.station_render.specs.declared.fault.RenderFault.{RenderFault}
 use Rattle.station_render.specs.declared.fault.RenderFault.TheVariants.{Write as render_write, Memory as render_memory}
 use Rattle.refusal_lines.specs.declared.fault.Fault.{Fault}
 use Rattle.refusal_lines.specs.declared.fault.Fault.TheVariants.{Script, Station as Unfit}
-use Rattle.liq_cli.specs.Words.{Asked, Check, Render, start_of, ticks_of}
+use Rattle.liq_cli.specs.Words.{Asked, Check, Render, start_of, ticks_of, window_of}
 use Rattle.liq_cli.specs.Answer.{Answer, Refused, Checked, Accepted, HasPlan, IsFault, IsAnswerTo}
 use Rattle.liq_cli.specs.Call.{Broken, Starved}
 use Rattle.liq_cli.specs.declared.halt.Halt.{Halt}
 use Rattle.liq_cli.specs.declared.halt.Halt.TheVariants.{Read, Write, Memory, Refused as refused_for}
 use Rattle.liq_cli.specs.declared.words.Task.{Task}
-use Rattle.liq_cli.specs.declared.words.Task.TheVariants.{Check as checks, Render as renders}
+use Rattle.liq_cli.specs.declared.words.Task.TheVariants.{Check as checks, Alone as alone, Threads as by_threads}
 use Rattle.liq_cli.specs.declared.words.Form.{Form}
 use Rattle.liq_cli.specs.declared.prepare.Work.{Work}
 
 -- what a form asks for
 abbrev pub asked_for : List ℕ → Task → Asked
 asked_for file checks = Check file
-asked_for file (renders start ticks) = Render file start.second ticks
+asked_for file (alone start ticks) = Render file start.second ticks None
+asked_for file (by_threads start ticks window) = Render file start.second ticks (Some window.ticks)
 
 abbrev pub ticks_in : Task → ℕ
 ticks_in checks = 0
-ticks_in (renders start ticks) = ticks
+ticks_in (alone start ticks) = ticks
+ticks_in (by_threads start ticks window) = ticks
 
 abbrev pub asked_of : Form → Asked
 asked_of form = asked_for form.file.now form.task
@@ -54,12 +56,12 @@ IsOutcome files file ticks (Lost fault) = IsFault files file ticks fault
 -- the station of an outcome, and the answer
 abbrev pub station_for : Asked → Plan → Sounds → ClockMap → Station
 station_for asked plan library clocks =
-    record { plan = plan; library = library; clocks = clocks; start = start_of asked; ticks = ticks_of asked }
+    record { plan = plan; library = library; clocks = clocks; start = start_of asked; ticks = ticks_of asked; window = window_of asked }
 
 abbrev pub answer_of : Asked → Outcome → Answer
 answer_of asked (Lost fault) = Refused fault
 answer_of (Check file) (Found plan library clocks) = Checked (station_for (Check file) plan library clocks)
-answer_of (Render file start ticks) (Found plan library clocks) = Accepted (station_for (Render file start ticks) plan library clocks)
+answer_of (Render file start ticks window) (Found plan library clocks) = Accepted (station_for (Render file start ticks window) plan library clocks)
 
 -- this is the outcome, and there is no other
 pub record IsOneOutcome (files : Files) (file : List ℕ) (ticks : ℕ) (outcome : Outcome) : Type 0 where

@@ -1,16 +1,18 @@
 // The top call.
-ghost use Rattle.std.specs.Prelude.{◌≡◌, None};
+ghost use Rattle.std.specs.Prelude.{◌≡◌, ◌↔◌, None, IfSome, IsNone};
 ghost use Rattle.liq_cli.specs.Call.{Ends, IsComplete, moment_of};
-ghost use Rattle.liq_cli.specs.Telling.{MayTell, Tells};
-ghost use Rattle.liq_cli.specs.Words.{texts};
+ghost use Rattle.liq_cli.specs.Telling.{Finishes, MayTell, Tells};
+ghost use Rattle.liq_cli.specs.Words.{NeedsThreads, texts};
 ghost use Rattle.refusal_lines.specs.Lines.{line_of};
 
 use crate::halt::Halt;
-use crate::jobs::do_job;
-use crate::words::read_words;
+use crate::jobs::{alone_job, check_job, threads_job};
+use crate::words::{Task, read_threaded, read_words};
 use liq_base::{Failed, Gate, Memory, Shelf, Sink};
 use refusal_lines::Fault;
 use std::alloc::Global;
+use std::sync::Wait;
+use std::thread::Threads;
 
 const USAGE: &str =
     "usage: check FILE | render FILE N [--one-thread] [--window=W] [--start=D:HH:MM:SS] [--trace=NAME] | make SEED SIZE\n";
@@ -34,14 +36,16 @@ const WRITE_FAILED: u8 = 4;
 const NO_MEMORY: u8 = 5;
 
 /// Does what the words ask for, and answers the status, from 0 to 5. `docs/promises.md` says what each leaves.
-/// `out` gets the report and `err` the line of a refusal; both tell no room left.
-pub fn liq<S: Shelf, O: Sink, E: Sink, G: Gate + Sync>(
+/// `out` gets the report and `err` the line of a refusal; both tell no room left. A rendering without `--one-thread` runs each
+/// clock on a thread of its own, which enters the gate before each tick.
+pub fn liq<S: Shelf, O: Sink, E: Sink, G: Gate + Sync, R: Threads + Wait + Sync>(
+    rt: &R,
     alloc: Global,
     words: &[String],
     shelf: &mut S,
     out: &mut O,
     err: &mut E,
-    _gate: &G,
+    gate: &G,
 ) -> u8
     requires out_room { O.room out.old ≡ None }
     requires err_room { E.room err.old ≡ None }
@@ -54,28 +58,87 @@ pub fn liq<S: Shelf, O: Sink, E: Sink, G: Gate + Sync>(
         (moment_of S.files S.read_count S.write_count O.held O.faults E.held E.faults shelf.new out.new err.new)
         result }
 {
-    run(alloc, words, shelf, out, err)
+    match liq_alone(alloc, words, shelf, out, err) {
+        Some(status) => status,
+        None => by_threads(rt, alloc, words, shelf, out, err, gate),
+    }
 }
 
-// The call itself: a job answers the report or why there is none, and then the one text is written.
-fn run<S: Shelf, O: Sink, E: Sink>(
+/// Does what the words ask for where it takes no threads, and answers the status. It answers nothing exactly where they ask
+/// for a rendering by threads, and then nothing was done. It waits for nobody.
+pub fn liq_alone<S: Shelf, O: Sink, E: Sink>(
     alloc: Global,
     words: &[String],
     shelf: &mut S,
     out: &mut O,
     err: &mut E,
+) -> Option<u8>
+    requires out_room { O.room out.old ≡ None }
+    requires err_room { E.room err.old ≡ None }
+    ensures none { IsNone result ↔ NeedsThreads (texts words.now) }
+    ensures kept { IsNone result → (shelf.new ≡ shelf.old) × (out.new ≡ out.old) × (err.new ≡ err.old) }
+    ensures ends { IfSome result (Ends (texts words.now)
+        (moment_of S.files S.read_count S.write_count O.held O.faults E.held E.faults shelf.old out.old err.old)
+        (moment_of S.files S.read_count S.write_count O.held O.faults E.held E.faults shelf.new out.new err.new)) }
+    ensures complete { IfSome result (IsComplete (texts words.now)
+        (moment_of S.files S.read_count S.write_count O.held O.faults E.held E.faults shelf.old out.old err.old)
+        (moment_of S.files S.read_count S.write_count O.held O.faults E.held E.faults shelf.new out.new err.new)) }
+{
+    let Some(form) = read_words(words) else {
+        return Some(tell(err, USAGE, NO_FORM));
+    };
+    let job = match form.task {
+        Task::Check => check_job(alloc, form.file, shelf),
+        Task::Alone { start, ticks } => alone_job(alloc, form.file, start, ticks, shelf),
+        Task::Threads { .. } => return None,
+    };
+    Some(finish(alloc, job, out, err))
+}
+
+// A rendering by threads.
+fn by_threads<S: Shelf, O: Sink, E: Sink, G: Gate + Sync, R: Threads + Wait + Sync>(
+    rt: &R,
+    alloc: Global,
+    words: &[String],
+    shelf: &mut S,
+    out: &mut O,
+    err: &mut E,
+    gate: &G,
 ) -> u8
     requires out_room { O.room out.old ≡ None }
     requires err_room { E.room err.old ≡ None }
+    requires threads { NeedsThreads (texts words.now) }
     ensures { Ends (texts words.now)
         (moment_of S.files S.read_count S.write_count O.held O.faults E.held E.faults shelf.old out.old err.old)
         (moment_of S.files S.read_count S.write_count O.held O.faults E.held E.faults shelf.new out.new err.new)
         result }
 {
-    let Some(form) = read_words(words) else {
-        return tell(err, USAGE, NO_FORM);
-    };
-    match do_job(alloc, form, shelf) {
+    let asked = read_threaded(words);
+    let job = threads_job(
+        rt,
+        alloc,
+        asked.file,
+        asked.start,
+        asked.ticks,
+        asked.window,
+        shelf,
+        gate,
+    );
+    finish(alloc, job, out, err)
+}
+
+// Writes the one text of a call whose job ended so: the report, or the line of a refusal.
+fn finish<O: Sink, E: Sink>(
+    alloc: Global,
+    job: Result<String, Halt>,
+    out: &mut O,
+    err: &mut E,
+) -> u8
+    requires out_room { O.room out.old ≡ None }
+    requires err_room { E.room err.old ≡ None }
+    ensures { Finishes O.held O.faults E.held E.faults job out.old out.new err.old err.new result }
+{
+    match job {
         Ok(report) => tell(out, report.as_str(), DONE),
         Err(Halt::Refused(fault)) => refuse(alloc, &fault, err),
         Err(Halt::Read) => READ_FAILED,

@@ -1,37 +1,25 @@
 // What is done before the last text is written.
-ghost use Rattle.std.specs.Prelude.{◌≡◌, ◌≤◌, ◌^◌, IfOk, IfErr, Ok, string_bytes};
+ghost use Rattle.std.specs.Prelude.{◌≡◌, ◌≤◌, ◌<◌, ◌^◌, IfOk, IfErr, None, Ok, Some, string_bytes};
 ghost use Rattle.std.specs.Option.{ForSome};
 ghost use Rattle.liq_cli.specs.declared.halt.Halt.TheVariants.{Memory as no_memory};
 ghost use Rattle.liq_cli.specs.Call.{Rendered};
-ghost use Rattle.liq_cli.specs.Prepared.{asked_of, ForOne, Stops, ticks_in};
+ghost use Rattle.liq_cli.specs.Prepared.{ForOne, Stops};
 ghost use Rattle.liq_cli.specs.Words.{Check, Render};
 
 use crate::halt::Halt;
 use crate::prepare::prepare;
-use crate::words::{Form, Task};
+use crate::window::Window;
 use fixed_text::WeekSecond;
-use liq_base::{Memory, Shelf};
+use liq_base::{Gate, Memory, Shelf};
 use station_check::check_report;
-use station_laws::infallible_outputs_have_no_gaps;
-use station_render::{render, report};
+use station_laws::{infallible_outputs_have_no_gaps, threads_render_as_one_thread};
+use station_render::{render, render_alone, report};
 use std::alloc::Global;
+use std::sync::Wait;
+use std::thread::Threads;
 
-/// All that is done before the last text is written. It answers the report.
-pub fn do_job<S: Shelf>(alloc: Global, form: Form<'_>, shelf: &mut S) -> Result<String, Halt>
-    requires { ticks_in form.task ≤ 10 ^ 9 }
-    ensures done { IfOk result (λ report. ForSome (S.files shelf.old) (λ files.
-        ForOne (asked_of form.entry) files (λ answer. Rendered answer files (S.files shelf.new) (string_bytes report)))) }
-    ensures stops { Stops (asked_of form.entry) (S.files shelf.old) (S.files shelf.new) (S.read_count shelf.old) (S.read_count shelf.new)
-        (S.write_count shelf.old) (S.write_count shelf.new) result }
-{
-    match form.task {
-        Task::Check => check_job(alloc, form.file, shelf),
-        Task::Render { start, ticks } => render_job(alloc, form.file, start, ticks, shelf),
-    }
-}
-
-// The report of a check. No file changes.
-fn check_job<S: Shelf>(alloc: Global, file: &str, shelf: &mut S) -> Result<String, Halt>
+/// The report of a check. No file changes.
+pub fn check_job<S: Shelf>(alloc: Global, file: &str, shelf: &mut S) -> Result<String, Halt>
     ensures done { IfOk result (λ report. ForSome (S.files shelf.old) (λ files.
         ForOne (Check file.now) files (λ answer. Rendered answer files (S.files shelf.new) (string_bytes report)))) }
     ensures stops { Stops (Check file.now) (S.files shelf.old) (S.files shelf.new) (S.read_count shelf.old) (S.read_count shelf.new)
@@ -41,8 +29,8 @@ fn check_job<S: Shelf>(alloc: Global, file: &str, shelf: &mut S) -> Result<Strin
     report_or_halt(check_report(alloc, &work.plan, &work.ready))
 }
 
-// The report of a rendering, whose outputs are written.
-fn render_job<S: Shelf>(
+/// The report of a rendering on one thread, whose outputs are written.
+pub fn alone_job<S: Shelf>(
     alloc: Global,
     file: &str,
     start: WeekSecond,
@@ -51,13 +39,48 @@ fn render_job<S: Shelf>(
 ) -> Result<String, Halt>
     requires { ticks ≤ 10 ^ 9 }
     ensures done { IfOk result (λ report. ForSome (S.files shelf.old) (λ files.
-        ForOne (Render file.now start.second ticks) files (λ answer. Rendered answer files (S.files shelf.new) (string_bytes report)))) }
-    ensures stops { Stops (Render file.now start.second ticks) (S.files shelf.old) (S.files shelf.new) (S.read_count shelf.old) (S.read_count shelf.new)
+        ForOne (Render file.now start.second ticks None) files (λ answer. Rendered answer files (S.files shelf.new) (string_bytes report)))) }
+    ensures stops { Stops (Render file.now start.second ticks None) (S.files shelf.old) (S.files shelf.new) (S.read_count shelf.old) (S.read_count shelf.new)
         (S.write_count shelf.old) (S.write_count shelf.new) result }
 {
     let work = prepare(alloc, file, ticks, shelf)?;
     infallible_outputs_have_no_gaps();
-    let rendered = render(alloc, &work.plan, &work.ready, start, ticks, shelf)?;
+    threads_render_as_one_thread();
+    let rendered = render_alone(alloc, &work.plan, &work.ready, start, ticks, shelf)?;
+    report_or_halt(report(alloc, &work.plan, ticks, &rendered))
+}
+
+/// The report of a rendering by threads, whose outputs are written.
+pub fn threads_job<S: Shelf, G: Gate + Sync, R: Threads + Wait + Sync>(
+    rt: &R,
+    alloc: Global,
+    file: &str,
+    start: WeekSecond,
+    ticks: u64,
+    window: Window,
+    shelf: &mut S,
+    gate: &G,
+) -> Result<String, Halt>
+    requires { ticks ≤ 10 ^ 9 }
+    ensures done { IfOk result (λ report. ForSome (S.files shelf.old) (λ files.
+        ForOne (Render file.now start.second ticks (Some window.ticks)) files (λ answer. Rendered answer files (S.files shelf.new) (string_bytes report)))) }
+    ensures stops { Stops (Render file.now start.second ticks (Some window.ticks)) (S.files shelf.old) (S.files shelf.new) (S.read_count shelf.old) (S.read_count shelf.new)
+        (S.write_count shelf.old) (S.write_count shelf.new) result }
+{
+    let work = prepare(alloc, file, ticks, shelf)?;
+    infallible_outputs_have_no_gaps();
+    threads_render_as_one_thread();
+    let rendered = render(
+        rt,
+        alloc,
+        &work.plan,
+        &work.ready,
+        start,
+        ticks,
+        window.ticks,
+        shelf,
+        gate,
+    )?;
     report_or_halt(report(alloc, &work.plan, ticks, &rendered))
 }
 

@@ -5,6 +5,7 @@ mod call;
 mod halt;
 mod jobs;
 mod prepare;
+mod window;
 mod words;
 
-pub use call::liq;
+pub use call::{liq, liq_alone};

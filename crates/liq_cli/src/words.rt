@@ -1,9 +1,10 @@
 // The words of a call.
-ghost use Rattle.std.specs.Prelude.{◌≡◌, ◌^◌, ◌≤◌, ℕ, true, None, Some, decimal, is_some, option_map, if◌then◌else◌, IfSome, IsSomeAnd};
-ghost use Rattle.liq_cli.specs.Prepared.{asked_of, ticks_in};
+ghost use Rattle.std.specs.Prelude.{◌≡◌, ◌^◌, ◌≤◌, ℕ, List, true, None, Some, decimal, is_some, option_map, unwrap_or, if◌then◌else◌, IfSome, IsSome, IsSomeAnd, OnSome};
+ghost use Rattle.liq_cli.specs.Prepared.{asked_for, asked_of, ticks_in};
 ghost use Rattle.liq_cli.specs.Read.{options_of};
-ghost use Rattle.liq_cli.specs.Words.{Asked, AreOptions, IsAsked, IsCheck, IsOption, IsRender, IsStart, Options as AllOptions, no_options, start_in, texts};
+ghost use Rattle.liq_cli.specs.Words.{Asked, AreApart, AreOptions, IsAsked, IsCheck, IsOption, IsRender, IsStart, NeedsThreads, Options as AllOptions, Render as Rendering, no_options, start_in, texts, window_in};
 
+use crate::window::{Window, read_window_option};
 use fixed_text::{WeekSecond, read_start, read_u64};
 
 /// Ticks of a rendering, at most.
@@ -15,13 +16,25 @@ pub enum Task {
     /// `check FILE`
     Check,
 
-    /// `render FILE N` and options
-    Render {
+    /// `render FILE N --one-thread` and options
+    Alone {
         /// The second of the week of the first sample.
         start: WeekSecond,
 
         /// How many ticks are rendered, at most 1000000000.
         ticks: u64,
+    },
+
+    /// `render FILE N` and options, by threads
+    Threads {
+        /// The second of the week of the first sample.
+        start: WeekSecond,
+
+        /// How many ticks are rendered, at most 1000000000.
+        ticks: u64,
+
+        /// How many of them a window has.
+        window: Window,
     },
 }
 
@@ -33,11 +46,28 @@ pub struct Form<'a> {
     pub task: Task,
 }
 
-// The options of a rendering: whether it runs on one thread, as every rendering does today; and where the week begins, if
-// that is said.
+/// A rendering by threads.
+#[derive(Clone, Copy)]
+pub struct Threaded<'a> {
+    /// The name of the script.
+    pub file: &'a str,
+
+    /// The second of the week of the first sample.
+    pub start: WeekSecond,
+
+    /// How many ticks are rendered, at most 1000000000.
+    pub ticks: u64,
+
+    /// How many of them a window has.
+    pub window: Window,
+}
+
+// The options of a rendering: whether it runs on one thread; and how many ticks a window has, and where the week begins, if
+// these are said.
 #[derive(Clone, Copy)]
 struct Options {
     one_thread: bool,
+    window: Option<Window>,
     start: Option<WeekSecond>,
 }
 
@@ -54,6 +84,32 @@ pub fn read_words(words: &[String]) -> Option<Form<'_>>
         "check" => read_check(rest),
         "render" => read_render(rest),
         _ => None,
+    }
+}
+
+/// The rendering by threads that words ask for.
+pub fn read_threaded(words: &[String]) -> Threaded<'_>
+    requires { NeedsThreads (texts words.now) }
+    ensures found { IsAsked (texts words.now) (Rendering result.file.now result.start.second result.ticks (Some result.window.ticks)) }
+    ensures only { (asked : Asked) → IsAsked (texts words.now) asked → asked ≡ Rendering result.file.now result.start.second result.ticks (Some result.window.ticks) }
+    ensures few { result.ticks ≤ 10 ^ 9 }
+{
+    let Some(form) = read_words(words) else {
+        unreachable!();
+    };
+    let Task::Threads {
+        start,
+        ticks,
+        window,
+    } = form.task
+    else {
+        unreachable!();
+    };
+    Threaded {
+        file: form.file,
+        start,
+        ticks,
+        window,
     }
 }
 
@@ -83,13 +139,33 @@ fn read_render(words: &[String]) -> Option<Form<'_>>
     };
     let ticks = read_ticks(number.as_bytes())?;
     let options = read_options(options)?;
+    let task = task_of(options, ticks)?;
     Some(Form {
         file: file.as_str(),
-        task: Task::Render {
-            start: start_of(options),
-            ticks,
-        },
+        task,
     })
+}
+
+// The rendering of so many ticks that options ask for; nothing where a window stands beside `--one-thread`.
+fn task_of(options: Options, ticks: u64) -> Option<Task>
+    ensures found { IfSome result (λ task. (file : List ℕ) → asked_for file task ≡ Rendering file (start_in (options_of options)) ticks (window_in (options_of options))) }
+    ensures ticks { IfSome result (λ task. ticks_in task ≡ ticks) }
+    ensures apart { OnSome result (AreApart (options_of options)) }
+    ensures only { AreApart (options_of options) → IsSome result }
+{
+    let start = start_of(options);
+    if !options.one_thread {
+        let window = window_of(options);
+        return Some(Task::Threads {
+            start,
+            ticks,
+            window,
+        });
+    }
+    if options.window.is_some() {
+        return None;
+    }
+    Some(Task::Alone { start, ticks })
 }
 
 // The number of ticks that a word is.
@@ -112,6 +188,7 @@ fn read_options(words: &[String]) -> Option<Options>
 {
     let mut options = Options {
         one_thread: false,
+        window: None,
         start: None,
     };
     for word in words {
@@ -126,11 +203,13 @@ fn read_option(word: &str, before: Options) -> Option<Options>
     ensures only { (after : AllOptions) → IsOption word.now (options_of before) after → option_map options_of result ≡ Some after }
 {
     if word == "--one-thread" {
-        with_one_thread(before)
-    } else {
-        let start = read_start_option(word)?;
-        with_start(start, before)
+        return with_one_thread(before);
     }
+    if let Some(window) = read_window_option(word) {
+        return with_window(window, before);
+    }
+    let start = read_start_option(word)?;
+    with_start(start, before)
 }
 
 // The options with `--one-thread`, where it was not there before.
@@ -146,6 +225,19 @@ fn with_one_thread(before: Options) -> Option<Options>
     })
 }
 
+// The options with a window, where none was there before.
+fn with_window(window: Window, before: Options) -> Option<Options>
+    ensures { result ≡ (if is_some before.window then None else Some (record before { window = Some window })) }
+{
+    if before.window.is_some() {
+        return None;
+    }
+    Some(Options {
+        window: Some(window),
+        ..before
+    })
+}
+
 // The options with a start, where none was there before.
 fn with_start(start: WeekSecond, before: Options) -> Option<Options>
     ensures { result ≡ (if is_some before.start then None else Some (record before { start = Some start })) }
@@ -157,6 +249,16 @@ fn with_start(start: WeekSecond, before: Options) -> Option<Options>
         start: Some(start),
         ..before
     })
+}
+
+// The window that options give.
+fn window_of(options: Options) -> Window
+    ensures { result.ticks ≡ unwrap_or (options_of options).window 16 }
+{
+    match options.window {
+        Some(window) => window,
+        None => Window { ticks: 16 },
+    }
 }
 
 // The start that options give.

@@ -21,7 +21,9 @@ fn main(rt: HostRuntime) -> ExitCode {
     let mut shelf = FileShelf::new(&rt);
     let mut out = OutSink::new(rt.stdout());
     let mut err = OutSink::new(rt.stderr());
-    let status = liq(alloc, &words, &mut shelf, &mut out, &mut err, &FreeGate);
+    let status = liq(
+        &rt, alloc, &words, &mut shelf, &mut out, &mut err, &FreeGate,
+    );
     ExitCode::from(status)
 }
 

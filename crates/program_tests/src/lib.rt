@@ -7,4 +7,6 @@ mod liq_cli_tests;
 #[cfg(test)]
 mod real_files_tests;
 #[cfg(test)]
+mod threads_tests;
+#[cfg(test)]
 mod workload_tests;

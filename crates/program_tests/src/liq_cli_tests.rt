@@ -3,7 +3,9 @@ use liq_base::{FreeGate, MemShelf, MemSink};
 use liq_cli::liq;
 use std::alloc::{AllocError, Global};
 use std::process::Abort;
+use std::sync::Wait;
 use std::test::Fail;
+use std::thread::Threads;
 
 const SCRIPT: &[u8] = b"output.file(%wav, \"A\", single(\"B\"))";
 
@@ -34,7 +36,8 @@ fn push_words(alloc: Global, words: &mut Vec<String>, line: &str) -> Result<(), 
 }
 
 // The status of a call.
-fn call(
+fn call<R: Threads + Wait + Sync>(
+    rt: &R,
     alloc: Global,
     line: &str,
     shelf: &mut MemShelf,
@@ -43,12 +46,12 @@ fn call(
 ) -> Result<u8, Fail> {
     let mut words = Vec::new(alloc);
     push_words(alloc, &mut words, line)?;
-    Ok(liq(alloc, &words, shelf, out, err, &FreeGate))
+    Ok(liq(rt, alloc, &words, shelf, out, err, &FreeGate))
 }
 
 // A call ends with this status, prints this report, whose appends fail so, and nothing else.
-fn check_call(
-    rt: &impl Abort,
+fn check_call<R: Abort + Threads + Wait + Sync>(
+    rt: &R,
     alloc: Global,
     line: &str,
     shelf: &mut MemShelf,
@@ -58,7 +61,7 @@ fn check_call(
 ) -> Result<(), Fail> {
     let mut out = MemSink::new(alloc, 1000, out_fails)?;
     let mut err = MemSink::new(alloc, 1000, Vec::new(alloc))?;
-    let found = call(alloc, line, shelf, &mut out, &mut err)?;
+    let found = call(rt, alloc, line, shelf, &mut out, &mut err)?;
     assert_eq!(rt; found, status);
     assert_eq!(rt; out.held(), report.as_bytes());
     assert_eq!(rt; err.held(), b"".as_slice());
@@ -74,14 +77,23 @@ fn check_output(rt: &impl Abort, output: &[u8]) {
     }
 }
 
-#[test]
-fn renders_with_ample_memory(rt: HostRuntime) -> Result<(), Fail> {
-    let alloc = rt.alloc();
+// These words render the file of one tick.
+fn check_rendering<R: Abort + Threads + Wait + Sync>(
+    rt: &R,
+    alloc: Global,
+    words: &str,
+) -> Result<(), Fail> {
     let mut shelf = shelf(alloc)?;
     let fails = Vec::new(alloc);
-    check_call(&rt, alloc, "render f 1", &mut shelf, fails, 0, REPORT)?;
-    check_output(&rt, shelf.get("A").unwrap_or(&[]));
+    check_call(rt, alloc, words, &mut shelf, fails, 0, REPORT)?;
+    check_output(rt, shelf.get("A").unwrap_or(&[]));
     Ok(())
+}
+
+#[test]
+fn renders_with_ample_memory(rt: HostRuntime) -> Result<(), Fail> {
+    check_rendering(&rt, rt.alloc(), "render f 1")?;
+    check_rendering(&rt, rt.alloc(), "render f 1 --one-thread")
 }
 
 /// Which call of a device fails.
@@ -125,27 +137,32 @@ fn let_fail(
 }
 
 // A row: what fails, the words, the status, the bytes of the output and the report.
-fn check_row(
-    rt: &impl Abort,
+fn check_row<R: Abort + Threads + Wait + Sync>(
+    rt: &R,
     alloc: Global,
     row: &(Failing, &str, u8, Option<usize>, &str),
+    more: &str,
     shelf: &mut MemShelf,
 ) -> Result<(), Fail> {
     let (failing, words, status, held, report) = *row;
     let fails = let_fail(alloc, shelf, failing)?;
-    check_call(rt, alloc, words, shelf, fails, status, report)?;
+    let mut line = String::from_str(alloc, words)?;
+    line.push_str(more)?;
+    check_call(rt, alloc, line.as_str(), shelf, fails, status, report)?;
     assert_eq!(rt; shelf.get("A").map(|bytes| bytes.len()), held);
     Ok(())
 }
 
-fn check(
-    rt: &impl Abort,
+// The rows hold with these words behind their own.
+fn check<R: Abort + Threads + Wait + Sync>(
+    rt: &R,
     alloc: Global,
     rows: &[(Failing, &str, u8, Option<usize>, &str)],
+    more: &str,
 ) -> Result<(), Fail> {
     for row in rows {
         let mut shelf = shelf(alloc)?;
-        check_row(rt, alloc, row, &mut shelf)?;
+        check_row(rt, alloc, row, more, &mut shelf)?;
     }
     Ok(())
 }
@@ -167,5 +184,6 @@ fn a_failing_call_leaves_a_prefix_and_others_are_not_made(rt: HostRuntime) -> Re
         (Failing::SecondClosing, one, 0, Some(7100), REPORT),
         (Failing::SecondReport, one, 0, Some(7100), REPORT),
     ];
-    check(&rt, rt.alloc(), &rows)
+    check(&rt, rt.alloc(), &rows, "")?;
+    check(&rt, rt.alloc(), &rows, " --one-thread")
 }

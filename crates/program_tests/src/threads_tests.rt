@@ -1,0 +1,223 @@
+// Calls by threads, and those that take none. Expected bytes and lines are worked out by hand from the rules in `docs/`.
+use liq_base::{FreeGate, Gate, MemShelf, MemSink};
+use liq_cli::{liq, liq_alone};
+use std::alloc::{AllocError, Global};
+use std::process::Abort;
+use std::sync::Wait;
+use std::sync::atomic::{AtomicBool, AtomicU64, Ordering};
+use std::test::Fail;
+use std::thread;
+use std::thread::Threads;
+
+/// Mono, 8000 Hz, the samples 1 2 3.
+const ONE_TWO_THREE: &[u8] =
+    b"RIFF\x2a\0\0\0WAVEfmt \x10\0\0\0\x01\0\x01\0\x40\x1f\0\0\x80\x3e\0\0\x02\0\x10\0data\x06\0\0\0\x01\0\x02\0\x03\0";
+
+/// These samples on both sides.
+const CYCLE: &[u8] = b"\x01\0\x01\0\x02\0\x02\0\x03\0\x03\0";
+
+/// A source in the clock `main`, and a buffer of one chunk that carries it to the clock `b`. A tick has 8 samples.
+const JOINED: &str =
+    "set(\"frame.audio.samplerate\", 8000)\nset(\"frame.duration\", 0.001)\ns = single(\"B\")\noutput.file(%wav, \"A\", s)\noutput.file(%wav, \"C\", clock(id=\"b\", mksafe(buffer(buffer=0., max=0., s))))\n";
+
+/// Two outputs in one clock.
+const SHARED: &str =
+    "set(\"frame.audio.samplerate\", 8000)\nset(\"frame.duration\", 0.001)\ns = blank()\noutput.file(%wav, \"A\", s)\noutput.file(%wav, \"C\", clock(id=\"b\", s))\n";
+
+/// Two clocks that no buffer joins, each with a buffer of its own.
+const APART: &str =
+    "set(\"frame.audio.samplerate\", 8000)\nset(\"frame.duration\", 0.001)\ns = single(\"B\")\noutput.file(%wav, \"A\", mksafe(buffer(buffer=0.002, max=0.002, s)))\nt = single(\"B\")\noutput.file(%wav, \"C\", clock(id=\"b\", fallback([t, buffer(buffer=0., max=0., t)])))\n";
+
+// A script, and the audio file that it names.
+fn shelf(alloc: Global, script: &str) -> Result<MemShelf, AllocError> {
+    let script = (String::from_str(alloc, "f")?, script.as_bytes().to_vec(alloc)?);
+    let audio = (String::from_str(alloc, "B")?, ONE_TWO_THREE.to_vec(alloc)?);
+    Ok(MemShelf::new(alloc, vec![in alloc; script, audio]?))
+}
+
+// The words of a line.
+fn words_of(alloc: Global, line: &str) -> Result<Vec<String>, Fail> {
+    let mut words = Vec::new(alloc);
+    for word in line.split(' ') {
+        words.push(String::from_str(alloc, word)?)?;
+    }
+    Ok(words)
+}
+
+// A sink with room for a report.
+fn sink(alloc: Global) -> Result<MemSink, Fail> {
+    Ok(MemSink::new(alloc, 1000, Vec::new(alloc))?)
+}
+
+/// So many turns a clock waits at most.
+const TURNS: u64 = 200_000_000;
+
+/// Lets two clocks go on in turn: clock 0 begins a tick once clock 1 has come to the same one; and clock 1 begins a tick
+/// below 3 once clock 0 has come to the next one.
+#[derive(Drop)]
+struct Turns {
+    /// How many ticks each clock has come to.
+    first: AtomicU64,
+    second: AtomicU64,
+
+    /// A clock waited too long.
+    late: AtomicBool,
+}
+
+impl Turns {
+    fn new() -> Turns {
+        Turns {
+            first: AtomicU64::new(0),
+            second: AtomicU64::new(0),
+            late: AtomicBool::new(false),
+        }
+    }
+
+    // Waits until a clock has come to so many ticks.
+    fn wait_for(&self, clock: &AtomicU64, ticks: u64) {
+        for _ in 0..TURNS {
+            if clock.load(Ordering::SeqCst) >= ticks || self.late.load(Ordering::SeqCst) {
+                return;
+            }
+            thread::yield_now();
+        }
+        self.late.store(true, Ordering::SeqCst);
+    }
+}
+
+impl Gate for Turns {
+    fn enter(&self, clock: u32, tick: u64) {
+        let come = tick.saturating_add(1);
+        if clock == 0 {
+            self.first.store(come, Ordering::SeqCst);
+            self.wait_for(&self.second, come);
+        } else {
+            self.second.store(come, Ordering::SeqCst);
+            if tick < 3 {
+                self.wait_for(&self.first, come.saturating_add(1));
+            }
+        }
+    }
+}
+
+// There are 32 samples, which begin with so many times 1 2 3; the last time may be cut off.
+fn check_output(rt: &impl Abort, output: &[u8], cycles: usize) {
+    assert_eq!(rt; output.len(), 172);
+    for cycle in output[44..].chunks(12).take(cycles) {
+        assert!(rt; CYCLE.starts_with(cycle));
+    }
+}
+
+#[test]
+fn two_clocks_at_once(rt: HostRuntime) -> Result<(), Fail> {
+    let alloc = rt.alloc();
+    let mut shelf = shelf(alloc, JOINED)?;
+    let words = words_of(alloc, "render f 4 --window=16")?;
+    let (mut out, mut err) = (sink(alloc)?, sink(alloc)?);
+    let gate = Turns::new();
+    let status = liq(&rt, alloc, &words, &mut shelf, &mut out, &mut err, &gate);
+    assert!(rt; !gate.late.load(Ordering::SeqCst));
+    assert_eq!(rt; status, 0);
+    assert!(rt; out.held().starts_with(
+        b"output A samples 32 gaps 0\noutput C samples 32 gaps 0\nbuffer 0 accepted 4 full 0 "
+    ));
+    check_output(&rt, shelf.get("A").unwrap_or(&[]), 11);
+    check_output(&rt, shelf.get("C").unwrap_or(&[]), 8);
+    Ok(())
+}
+
+// What a call of these words leaves, as one text: the status, the report, the output `A`, and the output `C`.
+fn rendered<R: Threads + Wait + Sync>(
+    rt: &R,
+    alloc: Global,
+    script: &str,
+    line: &str,
+) -> Result<Vec<u8>, Fail> {
+    let mut shelf = shelf(alloc, script)?;
+    let words = words_of(alloc, line)?;
+    let (mut out, mut err) = (sink(alloc)?, sink(alloc)?);
+    let mut left = Vec::new(alloc);
+    left.push(liq(rt, alloc, &words, &mut shelf, &mut out, &mut err, &FreeGate))?;
+    left.extend_from_slice(out.held())?;
+    left.extend_from_slice(shelf.get("A").unwrap_or(&[]))?;
+    left.extend_from_slice(shelf.get("C").unwrap_or(&[]))?;
+    Ok(left)
+}
+
+const WINDOWS: &[&str] = &[
+    "render f 7 --window=1",
+    "render f 7 --window=3",
+    "render f 7 --window=16",
+    "render f 7",
+];
+
+// A script in which no buffer joins two clocks leaves the same in windows of any length, and on one thread.
+fn check_windows<R: Abort + Threads + Wait + Sync>(
+    rt: &R,
+    alloc: Global,
+    script: &str,
+) -> Result<(), Fail> {
+    let alone = rendered(rt, alloc, script, "render f 7 --one-thread")?;
+    assert!(rt; alone.starts_with(b"\0output A samples 56 gaps 0\noutput C samples 56 gaps 0\n"));
+    for line in WINDOWS {
+        let left = rendered(rt, alloc, script, line)?;
+        assert!(rt; left.as_slice() == alone.as_slice());
+    }
+    Ok(())
+}
+
+#[test]
+fn windows_of_any_length_render_what_one_thread_does(rt: HostRuntime) -> Result<(), Fail> {
+    check_windows(&rt, rt.alloc(), SHARED)?;
+    check_windows(&rt, rt.alloc(), APART)
+}
+
+/// Words, and what is answered where no threads are there.
+const ALONE: &[(&str, Option<u8>)] = &[
+    ("check f", Some(0)),
+    ("check g", Some(1)),
+    ("render f 1 --one-thread", Some(0)),
+    ("render f 1 --start=1:00:00:00 --one-thread", Some(0)),
+    ("render g 1 --one-thread", Some(1)),
+    ("render f 1", None),
+    ("render g 1", None),
+    ("render f 1 --window=1000000", None),
+    ("render f 1 --start=1:00:00:00 --window=1", None),
+    ("render f 1 --window=0", Some(2)),
+    ("render f 1 --window=1000001", Some(2)),
+    ("render f 1 --window=01", Some(2)),
+    ("render f 1 --window=1 --window=1", Some(2)),
+    ("render f 1 --one-thread --window=2", Some(2)),
+    ("render f 1 --window=2 --one-thread", Some(2)),
+    ("check f --window=2", Some(2)),
+    ("render f 1 --trace=t", Some(2)),
+    ("make 1 1", Some(2)),
+    ("render", Some(2)),
+];
+
+// A row of the table: where nothing is answered, nothing was written.
+fn check_alone(
+    rt: &impl Abort,
+    alloc: Global,
+    line: &str,
+    answer: Option<u8>,
+) -> Result<(), Fail> {
+    let mut shelf = shelf(alloc, SHARED)?;
+    let words = words_of(alloc, line)?;
+    let (mut out, mut err) = (sink(alloc)?, sink(alloc)?);
+    let found = liq_alone(alloc, &words, &mut shelf, &mut out, &mut err);
+    assert_eq!(rt; found, answer);
+    let written = line.starts_with("render") && answer == Some(0);
+    assert_eq!(rt; shelf.get("A").is_some(), written);
+    assert_eq!(rt; out.held().is_empty(), answer != Some(0));
+    assert_eq!(rt; err.held().is_empty(), answer.unwrap_or(0) == 0);
+    Ok(())
+}
+
+#[test]
+fn what_takes_threads_is_left(rt: HostRuntime) -> Result<(), Fail> {
+    for (line, answer) in ALONE {
+        check_alone(&rt, rt.alloc(), line, *answer)?;
+    }
+    Ok(())
+}
