@@ -17,4 +17,8 @@ mod op_cross_tests;
 #[cfg(test)]
 mod op_select_tests;
 #[cfg(test)]
+mod random_ops_tests;
+#[cfg(test)]
+mod seed_words_tests;
+#[cfg(test)]
 mod trace_log_tests;
