@@ -17,6 +17,10 @@ mod op_cross_tests;
 #[cfg(test)]
 mod op_select_tests;
 #[cfg(test)]
+mod random_ops_tests;
+#[cfg(test)]
+mod seed_words_tests;
+#[cfg(test)]
 mod ticks_tests;
 #[cfg(test)]
 mod trace_log_tests;

@@ -3,27 +3,15 @@ use Rattle.std.proofs.Common.{◌≡◌, ◌∙◌, ◌+◌, ◌%◌, ◌++◌, 
 use Rattle.liq_base.specs.declared.memory.Kind.TheVariants.{Mono}
 use Rattle.wav_io.specs.Header.{header_bytes, header_of}
 use Rattle.frame_core.specs.Bytes.{sample_bytes}
-use Rattle.rand_core.specs.Pcg32Seed.{pcg32_seed}
-use Rattle.rand_pcg.specs.Lcg.{Lcg}
-use Rattle.rand_pcg.specs.Pcg.{pcg32, pcg32_of_seed}
+use Rattle.seed_words.specs.Words.{Unread, word, words_from}
 use Rattle.workload_gen.specs.Files.{begin_of, drawn, length_at, sample_of, track_bytes}
-use Rattle.workload_gen.specs.Words.{generator_after, word}
 
-pub first_generator : (seed : ℕ) → generator_after seed 0 ≡ pcg32_of_seed (pcg32_seed 16 seed)
-unfolding generator_after
-first_generator seed = refl
+-- what is left from word n on has word n in front
+pub next_is : (seed n : ℕ) (words : Unread) → words ≡ words_from seed n → words.next ≡ word seed n
+next_is seed n words at = ap (λ w. w.next) at
 
-pub next_generator : (seed n : ℕ) → generator_after seed (suc n) ≡ (pcg32 (generator_after seed n)).1
-unfolding generator_after
-next_generator seed n = refl
-
--- a word was drawn
-pub drew : (seed n value : ℕ) (old new : Lcg) → (value, new) ≡ pcg32 old → old ≡ generator_after seed n → (value ≡ word seed n) × (new ≡ generator_after seed (suc n))
-drew seed n value old new is at =
-    (ap (λ p. p.0) is ∙ ap (λ g. (pcg32 g).0) at, ap (λ p. p.1) is ∙ ap (λ g. (pcg32 g).1) at ∙ sym (next_generator seed n))
-
-pub further : (seed from count : ℕ) (g : Lcg) → g ≡ generator_after seed (suc (from + count)) → g ≡ generator_after seed (from + (count + 1))
-further seed from count g is = let e : suc (from + count) ≡ from + (count + 1) = omega arith in is ∙ ap (generator_after seed) e
+pub further : (seed from count : ℕ) (words : Unread) → words ≡ words_from seed (suc (from + count)) → words ≡ words_from seed (from + (count + 1))
+further seed from count words is = let e : suc (from + count) ≡ from + (count + 1) = omega arith in is ∙ ap (words_from seed) e
 
 one_more : (seed from count n : ℕ) → n ≡ suc count → drawn seed from n ≡ drawn seed from count ++ sample_bytes (sample_of (word seed (from + count)))
 one_more seed from count n is = ap (drawn seed from) is

@@ -3,8 +3,8 @@ use Rattle.std.specs.Prelude.{ℕ, zero, suc, ℤ, pos, ◌+◌, ◌%◌, ◌-�
 use Rattle.std.specs.declared.alloc.Global.{Global}
 use Rattle.liq_base.specs.declared.memory.Kind.TheVariants.{Mono}
 use Rattle.frame_core.specs.Bytes.{sample_bytes}
+use Rattle.seed_words.specs.Words.{word}
 use Rattle.wav_io.specs.Header.{header_bytes}
-use Rattle.workload_gen.specs.Words.{word}
 
 -- a file: its name and its bytes
 abbrev pub File : Type 0

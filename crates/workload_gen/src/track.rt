@@ -1,12 +1,11 @@
 // An audio file of words that are drawn one after another.
 ghost use Rattle.std.specs.Prelude.{◌≡◌, ◌≤◌, ◌<◌, ◌+◌, ◌%◌, ◌++◌, ℕ, suc, IfOk, OnOk};
 ghost use Rattle.frame_core.specs.Bytes.{sample_bytes};
+ghost use Rattle.seed_words.specs.Words.{word, words_from};
 ghost use Rattle.workload_gen.specs.Files.{drawn, length_at, sample_of, track_bytes};
-ghost use Rattle.workload_gen.specs.Words.{generator_after, word};
 
 use liq_base::{Kind, Memory};
-use rand_core::utils::NextWord;
-use rand_pcg::Pcg32;
+use seed_words::SeedWords;
 use std::alloc::{AllocError, Global};
 use wav_io::header;
 
@@ -14,9 +13,9 @@ use wav_io::header;
 const RATE: u32 = 8000;
 
 /// The bytes of the next audio file: its length, from 1 to 4000 samples, takes one word, and so does each sample.
-pub fn track(alloc: Global, words: &mut Pcg32) -> Result<Vec<u8>, Memory>
-    ensures bytes { IfOk result (λ bytes. (seed begin : ℕ) → words.old ≡ generator_after seed begin → bytes.items ≡ track_bytes seed begin) }
-    ensures words { OnOk result ((seed begin : ℕ) → words.old ≡ generator_after seed begin → words.new ≡ generator_after seed (begin + 1 + length_at seed begin)) }
+pub fn track(alloc: Global, words: &mut SeedWords) -> Result<Vec<u8>, Memory>
+    ensures bytes { IfOk result (λ bytes. (seed begin : ℕ) → words.old ≡ words_from seed begin → bytes.items ≡ track_bytes seed begin) }
+    ensures words { OnOk result ((seed begin : ℕ) → words.old ≡ words_from seed begin → words.new ≡ words_from seed (begin + 1 + length_at seed begin)) }
 {
     let length = 1 + words.next_word() % 4000;
     let Some(head) = header(Kind::Mono, RATE, u64::from(length)) else {
@@ -29,9 +28,9 @@ pub fn track(alloc: Global, words: &mut Pcg32) -> Result<Vec<u8>, Memory>
 }
 
 // So many samples more.
-fn draw(words: &mut Pcg32, count: u32, bytes: &mut Vec<u8>) -> Result<(), Memory>
-    ensures bytes { OnOk result ((seed from : ℕ) → words.old ≡ generator_after seed from → bytes.new.items ≡ bytes.old.items ++ drawn seed from count) }
-    ensures words { OnOk result ((seed from : ℕ) → words.old ≡ generator_after seed from → words.new ≡ generator_after seed (from + count)) }
+fn draw(words: &mut SeedWords, count: u32, bytes: &mut Vec<u8>) -> Result<(), Memory>
+    ensures bytes { OnOk result ((seed from : ℕ) → words.old ≡ words_from seed from → bytes.new.items ≡ bytes.old.items ++ drawn seed from count) }
+    ensures words { OnOk result ((seed from : ℕ) → words.old ≡ words_from seed from → words.new ≡ words_from seed (from + count)) }
 {
     for _ in 0..count {
         let sample = next_sample(words);
@@ -41,9 +40,9 @@ fn draw(words: &mut Pcg32, count: u32, bytes: &mut Vec<u8>) -> Result<(), Memory
 }
 
 // The sample of the next word, from -10000 to 10000.
-fn next_sample(words: &mut Pcg32) -> i16
-    ensures sample { (seed n : ℕ) → words.old ≡ generator_after seed n → result ≡ sample_of (word seed n) }
-    ensures words { (seed n : ℕ) → words.old ≡ generator_after seed n → words.new ≡ generator_after seed (suc n) }
+fn next_sample(words: &mut SeedWords) -> i16
+    ensures sample { (seed n : ℕ) → words.old ≡ words_from seed n → result ≡ sample_of (word seed n) }
+    ensures words { (seed n : ℕ) → words.old ≡ words_from seed n → words.new ≡ words_from seed (suc n) }
 {
     (words.next_word() % 20001) as i16 - 10000
 }

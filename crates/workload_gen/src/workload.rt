@@ -1,13 +1,12 @@
 // All files of a workload.
 ghost use Rattle.std.specs.Prelude.{◌≡◌, ◌≤◌, ◌+◌, ℕ, suc, IfOk, OnOk, codes, map};
+ghost use Rattle.seed_words.specs.Words.{words_from};
 ghost use Rattle.workload_gen.specs.Files.{begin_of, file_of, list_text, script_text, track, workload};
-ghost use Rattle.workload_gen.specs.Words.{generator_after};
 
 use crate::script::{list, script, track_name};
 use crate::track::track;
 use liq_base::Memory;
-use rand_core::SeedableRng;
-use rand_pcg::Pcg32;
+use seed_words::SeedWords;
 use std::alloc::Global;
 
 /// The files of a workload, by name: `size` audio files, from 1 to 100, the list `all.m3u` of them, and the script
@@ -17,7 +16,7 @@ pub fn make(alloc: Global, seed: u64, size: u32) -> Result<Vec<(String, Vec<u8>)
     requires few { size ≤ 100 }
     ensures { IfOk result (λ files. (n : ℕ) → size ≡ n + 1 → map file_of files.items ≡ workload seed n) }
 {
-    let mut words = Pcg32::seed_from_u64(seed);
+    let mut words = SeedWords::new(seed);
     let mut files = Vec::with_capacity(alloc, size as usize + 2)?;
     for number in 0..size {
         files.push(next_file(alloc, &mut words, number)?)?;
@@ -28,9 +27,9 @@ pub fn make(alloc: Global, seed: u64, size: u32) -> Result<Vec<(String, Vec<u8>)
 }
 
 // The next audio file, with its name.
-fn next_file(alloc: Global, words: &mut Pcg32, number: u32) -> Result<(String, Vec<u8>), Memory>
-    ensures file { IfOk result (λ file. (seed : ℕ) → words.old ≡ generator_after seed (begin_of seed number) → file_of file ≡ track seed number) }
-    ensures words { OnOk result ((seed : ℕ) → words.old ≡ generator_after seed (begin_of seed number) → words.new ≡ generator_after seed (begin_of seed (suc number))) }
+fn next_file(alloc: Global, words: &mut SeedWords, number: u32) -> Result<(String, Vec<u8>), Memory>
+    ensures file { IfOk result (λ file. (seed : ℕ) → words.old ≡ words_from seed (begin_of seed number) → file_of file ≡ track seed number) }
+    ensures words { OnOk result ((seed : ℕ) → words.old ≡ words_from seed (begin_of seed number) → words.new ≡ words_from seed (begin_of seed (suc number))) }
 {
     let bytes = track(alloc, words)?;
     Ok((track_name(alloc, number)?, bytes))

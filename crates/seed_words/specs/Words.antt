@@ -11,3 +11,12 @@ generator_after seed (suc n) = (pcg32 (generator_after seed n)).1
 
 abbrev pub word : (seed n : ℕ) → ℕ
 word seed n = (pcg32 (generator_after seed n)).0
+
+-- what is left of the words of a seed: the next one, and the generator behind it
+pub record Unread : Type 0 where
+  pub next : ℕ
+  pub behind : Lcg
+
+-- the words of a seed from word n on
+abbrev pub words_from : (seed n : ℕ) → Unread
+words_from seed n = record { next = word seed n; behind = generator_after seed (suc n) }

@@ -1,0 +1,10 @@
+//! Which child a rotate or a random uses.
+#![tactic(auto)]
+
+mod choice;
+pub mod laws;
+mod state;
+mod turn;
+
+pub use state::TurnState;
+pub use turn::{Pick, Turn};
