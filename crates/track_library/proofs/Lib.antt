@@ -6,3 +6,4 @@ pub mod Finding
 pub mod Played
 pub mod Steps
 pub mod Leaves
+pub mod Changed
