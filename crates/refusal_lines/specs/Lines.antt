@@ -13,7 +13,7 @@ use Rattle.script_values.specs.declared.fault.EvalFault.TheVariants.{BadSetting,
 use Rattle.wav_io.specs.declared.fault.WavFault.{WavFault}
 use Rattle.wav_io.specs.declared.fault.WavFault.TheVariants.{NotRiff, NoFormat, BadFormat, NotPcm16, NoData, Empty}
 use Rattle.track_library.specs.declared.fault.LoadFault.{LoadFault}
-use Rattle.track_library.specs.declared.fault.LoadFault.TheVariants.{Missing, BadAudio, OtherRate, FileTooLarge, AllTooLarge, ReadFault, Memory as load_memory}
+use Rattle.track_library.specs.declared.fault.LoadFault.TheVariants.{Missing, BadAudio, FileTooLarge, AllTooLarge, ReadFault, Memory as load_memory}
 use Rattle.clock_infer.specs.declared.clock_map.ClockName.{ClockName}
 use Rattle.clock_infer.specs.declared.clock_map.ClockName.TheVariants.{Named, Sub, AnyMain}
 use Rattle.clock_infer.specs.declared.clock_map.ClockFault.{ClockFault}
@@ -83,7 +83,6 @@ wav_number Empty = 6
 abbrev pub file_line : LoadFault → List ℕ
 file_line (Missing name) = of_name (codes "E20 missing file") name
 file_line (BadAudio name fault) = of_audio (codes "E21 bad audio") name (wav_number fault)
-file_line (OtherRate name) = of_name (codes "E22 other rate") name
 file_line (FileTooLarge name) = of_name (codes "E23 file too large") name
 file_line AllTooLarge = codes "E24 files too large\n"
 file_line (ReadFault name) = []

@@ -17,7 +17,6 @@ pub fn file_line(alloc: Global, fault: &LoadFault) -> Result<String, Memory>
         LoadFault::BadAudio(name, fault) => {
             of_audio(alloc, "E21 bad audio", name.as_str(), wav_number(*fault))
         }
-        LoadFault::OtherRate(name) => of_name(alloc, "E22 other rate", name.as_str()),
         LoadFault::FileTooLarge(name) => of_name(alloc, "E23 file too large", name.as_str()),
         LoadFault::AllTooLarge => plain(alloc, "E24 files too large"),
         LoadFault::ReadFault(_) => Ok(String::new(alloc)),

@@ -11,7 +11,7 @@ use Rattle.clock_infer.specs.declared.clock_map.ClockFault.TheVariants.{TwoClock
 use Rattle.clock_infer.specs.Answers.{IsCause, IsClockMap}
 use Rattle.track_library.specs.Walk.{Ends, load_of}
 use Rattle.track_library.specs.declared.fault.LoadFault.{LoadFault}
-use Rattle.track_library.specs.declared.fault.LoadFault.TheVariants.{Missing, BadAudio, OtherRate, FileTooLarge, AllTooLarge, ReadFault, Memory as load_memory}
+use Rattle.track_library.specs.declared.fault.LoadFault.TheVariants.{Missing, BadAudio, FileTooLarge, AllTooLarge, ReadFault, Memory as load_memory}
 use Rattle.stations.specs.Findings.{Fails, IsFound, IsLoaded, rules_of}
 use Rattle.station_check.specs.Halts.{HaltsFor, ClockHalts, GapHalts, LengthHalts, RestHalts, load_halt, clock_halt}
 use Rattle.station_check.specs.Steps.{IsUngapped, OnlyCause, OnlyClocks}
@@ -25,7 +25,6 @@ pub loading : (told : Option Files) (before after : ℕ) (reads : Files → List
     → HaltsFor told before after (λ files f. (ticks : ℕ) → IsFound files plan ticks (Fails f)) (load_halt fault)
 loading told before after reads plan (Missing name) ends = λ files t ticks. found_file files plan ticks (Missing name) (ends files t) (ends files t)
 loading told before after reads plan (BadAudio name fault) ends = λ files t ticks. found_file files plan ticks (BadAudio name fault) (ends files t) (ends files t)
-loading told before after reads plan (OtherRate name) ends = λ files t ticks. found_file files plan ticks (OtherRate name) (ends files t) (ends files t)
 loading told before after reads plan (FileTooLarge name) ends = λ files t ticks. found_file files plan ticks (FileTooLarge name) (ends files t) (ends files t)
 loading told before after reads plan AllTooLarge ends = λ files t ticks. found_file files plan ticks AllTooLarge (ends files t) (ends files t)
 loading told before after reads plan (ReadFault name) ends = ends.0

@@ -8,7 +8,7 @@ use Rattle.plan_core.specs.Plans.{IsWellFormed}
 use Rattle.clock_infer.specs.declared.clock_map.ClockMap.{ClockMap}
 use Rattle.clock_infer.specs.declared.clock_map.ClockFault.{ClockFault}
 use Rattle.track_library.specs.declared.fault.LoadFault.{LoadFault}
-use Rattle.track_library.specs.declared.fault.LoadFault.TheVariants.{Missing, BadAudio, OtherRate, FileTooLarge, AllTooLarge, ReadFault, Memory}
+use Rattle.track_library.specs.declared.fault.LoadFault.TheVariants.{Missing, BadAudio, FileTooLarge, AllTooLarge, ReadFault, Memory}
 use Rattle.stations.specs.declared.fault.StationFault.TheVariants.{Files as Unloaded, FallibleOutput, Clocks, OutputTooLong}
 use Rattle.stations.specs.Findings.{Finding, Fits, Fails, IsFileFault, IsFinding, IsFound, IsLoaded, IsSafe, IsUnloaded, IsUnsafe, first_name, is_too_long}
 use Rattle.station_check.specs.Steps.{IsUngapped, OnlyCause, OnlyClocks}
@@ -28,7 +28,6 @@ module _ (files : Files) (plan : Plan) (ticks : ℕ) where
   unloaded : (fault : LoadFault) → IsFileFault files plan fault → IsUnloaded files plan fault
   unloaded (Missing name) h = h
   unloaded (BadAudio name fault) h = h
-  unloaded (OtherRate name) h = h
   unloaded (FileTooLarge name) h = h
   unloaded AllTooLarge h = h
   unloaded (ReadFault name) h = absurd h

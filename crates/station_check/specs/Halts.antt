@@ -9,7 +9,7 @@ use Rattle.clock_infer.specs.declared.clock_map.ClockFault.{ClockFault}
 use Rattle.clock_infer.specs.declared.clock_map.ClockFault.TheVariants.{TwoClocks, Nested, TooManyClocks, Memory as clock_memory}
 use Rattle.fallible_infer.specs.Infallible.{IsMarking, refuses}
 use Rattle.track_library.specs.declared.fault.LoadFault.{LoadFault}
-use Rattle.track_library.specs.declared.fault.LoadFault.TheVariants.{Missing, BadAudio, OtherRate, FileTooLarge, AllTooLarge, ReadFault, Memory as load_memory}
+use Rattle.track_library.specs.declared.fault.LoadFault.TheVariants.{Missing, BadAudio, FileTooLarge, AllTooLarge, ReadFault, Memory as load_memory}
 use Rattle.stations.specs.declared.fault.StationFault.{StationFault}
 use Rattle.stations.specs.declared.fault.StationFault.TheVariants.{Files as Unloaded, FallibleOutput, Clocks, OutputTooLong}
 use Rattle.stations.specs.Findings.{Fails, IsFound, IsLoaded, first_name, is_too_long}
@@ -28,7 +28,6 @@ HaltsFor told before after IsTold Memory = ⊤
 abbrev pub load_halt : LoadFault → Halt
 load_halt (Missing name) = Refused (Unloaded (Missing name))
 load_halt (BadAudio name fault) = Refused (Unloaded (BadAudio name fault))
-load_halt (OtherRate name) = Refused (Unloaded (OtherRate name))
 load_halt (FileTooLarge name) = Refused (Unloaded (FileTooLarge name))
 load_halt AllTooLarge = Refused (Unloaded AllTooLarge)
 load_halt (ReadFault name) = Read

@@ -1,6 +1,7 @@
 // The audio files of a plan.
 ghost use Rattle.std.specs.Prelude.{◌≡◌, ◌≤◌, ℕ, length, IfOk, IfErr};
 ghost use Rattle.std.specs.Option.{ForSome};
+ghost use Rattle.plan_core.specs.Plans.{IsWellFormed};
 ghost use Rattle.frame_core.specs.Library.{IsLibrary};
 ghost use Rattle.stations.specs.Findings.{Fails, IsFound, IsLoaded};
 ghost use Rattle.station_check.specs.Halts.{HaltsFor, load_halt};
@@ -17,6 +18,7 @@ use track_library::{LoadFault, Sizes, load};
 
 /// The audio files of a plan, each read once; or the first fault of their loading.
 pub fn load_files<S: Shelf>(alloc: Global, plan: &Plan, shelf: &mut S) -> Result<Library, Halt>
+    requires { IsWellFormed plan.now }
     ensures loaded { IfOk result (λ library. ForSome (S.files shelf.old) (λ files. IsLoaded files plan.now library)) }
     ensures library { IfOk result (λ library. IsLibrary library) }
     ensures leaves { IfOk result (λ library. length library.leaves ≡ length plan.now.nodes) }

@@ -18,7 +18,7 @@ use Rattle.fallible_infer.specs.Infallible.{IsMarking, refuses}
 use Rattle.wav_io.specs.Header.{header_of}
 use Rattle.track_library.specs.declared.rules.Rules.{Rules}
 use Rattle.track_library.specs.declared.fault.LoadFault.{LoadFault}
-use Rattle.track_library.specs.declared.fault.LoadFault.TheVariants.{Missing, BadAudio, OtherRate, FileTooLarge, AllTooLarge, ReadFault, Memory}
+use Rattle.track_library.specs.declared.fault.LoadFault.TheVariants.{Missing, BadAudio, FileTooLarge, AllTooLarge, ReadFault, Memory}
 use Rattle.track_library.specs.Singles.{HaveSingles}
 use Rattle.track_library.specs.Walk.{load_of}
 use Rattle.stations.specs.declared.fault.StationFault.{StationFault}
@@ -98,7 +98,6 @@ pub record IsTooLong (files : Files) (plan : Plan) (ticks : ℕ) (name : List �
 abbrev pub IsFileFault : Files → Plan → LoadFault → Type 0
 IsFileFault files plan (Missing name) = IsUnloaded files plan (Missing name)
 IsFileFault files plan (BadAudio name fault) = IsUnloaded files plan (BadAudio name fault)
-IsFileFault files plan (OtherRate name) = IsUnloaded files plan (OtherRate name)
 IsFileFault files plan (FileTooLarge name) = IsUnloaded files plan (FileTooLarge name)
 IsFileFault files plan AllTooLarge = IsUnloaded files plan AllTooLarge
 IsFileFault files plan (ReadFault name) = ⊥

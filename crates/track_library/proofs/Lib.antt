@@ -7,3 +7,4 @@ pub mod Played
 pub mod Steps
 pub mod Leaves
 pub mod OneFile
+pub mod Changed

@@ -3,11 +3,30 @@ use Rattle.std.specs.Prelude.{◌≤◌, ◌<◌, ◌^◌, ℕ, [], ◌∷◌, �
 use Rattle.std.specs.List.{All}
 use Rattle.std.specs.declared.alloc.Global.{Global}
 use Rattle.frame_core.specs.Sounds.{IsSound}
-use Rattle.track_library.specs.Walk.{Heard, Walked}
+use Rattle.resample.specs.Resampled.{IsFile, resampled}
+use Rattle.track_library.specs.Walk.{Audio, Heard, Walked}
+use Rattle.track_library.specs.declared.rules.Rules.{Rules}
+use Rattle.track_library.specs.declared.recording.Recording.{Recording}
 use Rattle.track_library.specs.declared.walk.Walk.{Walk}
 use Rattle.track_library.specs.declared.audio.AudioFiles.{AudioFiles}
 use Rattle.track_library.specs.declared.read_lists.ReadLists.{ReadLists}
 use Rattle.track_library.specs.declared.fault.Unusable.{Unusable}
+
+-- what the rules of a walk have to meet
+pub record AreRules (rules : Rules) : Type 0 where
+  pub least : 8000 ≤ rules.rate
+  pub most : rules.rate ≤ 192000
+  pub file : rules.file ≤ 268435456
+
+-- a rate above 0, and whole blocks, as many as may be changed to another rate
+pub record IsRecording (recording : Recording) : Type 0 where
+  pub rate : 0 < recording.rate
+  pub file : IsFile recording.kind recording.samples.items
+
+-- what was read, at the rate of the script
+abbrev pub at_rate : ℕ → Result Recording Unusable → Result Audio Unusable
+at_rate rate (Err fault) = Err fault
+at_rate rate (Ok recording) = Ok (record { kind = recording.kind; samples = resampled recording.rate rate recording.kind recording.samples.items }, recording.bytes)
 
 -- values under names, in the order of a map
 abbrev pub named : {V : Type 0} → List (String Global × V) → List (List ℕ × V)

@@ -1,5 +1,5 @@
 -- The walk over the nodes of a plan that finds the audio files that they play. `docs/formats.md` has the rules.
-use Rattle.std.specs.Prelude.{◌≡◌, ℕ, ◌+◌, ◌^◌, ⊤, List, [], ◌∷◌, ◌++◌, length, Option, Some, None, Result, Ok, Err, if◌then◌else◌, nat_eq, nat_le, Vec}
+use Rattle.std.specs.Prelude.{◌≡◌, ℕ, ◌+◌, ◌*◌, ◌^◌, max, ⊤, List, [], ◌∷◌, ◌++◌, length, Option, Some, None, Result, Ok, Err, if◌then◌else◌, nat_le, Vec}
 use Rattle.std.specs.declared.alloc.Global.{Global}
 use Rattle.std.specs.Option.{ForSome}
 use Rattle.std.specs.Str.{bytes_eq}
@@ -9,6 +9,7 @@ use Rattle.plan_core.specs.declared.node.Node.{Node}
 use Rattle.plan_core.specs.declared.node.Op.{Op}
 use Rattle.plan_core.specs.declared.node.Op.TheVariants.{Single, Playlist, Blank, Square, Fail, Fallback, Switch, Sequence, Add, Amplify, Mean, Stereo, Crossfade, Buffer, Clock}
 use Rattle.wav_io.specs.Reading.{Wav, read_of}
+use Rattle.resample.specs.Resampled.{resampled}
 use Rattle.frame_core.specs.Bytes.{samples_in}
 use Rattle.frame_core.specs.Library.{Sounds}
 use Rattle.frame_core.specs.Sounds.{Sound}
@@ -16,9 +17,9 @@ use Rattle.wav_io.specs.declared.fault.WavFault.{WavFault}
 use Rattle.track_library.specs.Lists.{names_of}
 use Rattle.track_library.specs.declared.rules.Rules.{Rules}
 use Rattle.track_library.specs.declared.fault.LoadFault.{LoadFault}
-use Rattle.track_library.specs.declared.fault.LoadFault.TheVariants.{Missing, BadAudio, OtherRate, FileTooLarge, AllTooLarge, ReadFault, Memory}
+use Rattle.track_library.specs.declared.fault.LoadFault.TheVariants.{Missing, BadAudio, FileTooLarge, AllTooLarge, ReadFault, Memory}
 use Rattle.track_library.specs.declared.fault.Unusable.{Unusable}
-use Rattle.track_library.specs.declared.fault.Unusable.TheVariants.{NotThere, NotWav, AnotherRate, TooLong}
+use Rattle.track_library.specs.declared.fault.Unusable.TheVariants.{NotThere, NotWav, TooLong}
 
 -- the bytes of a file that is there and has at most so many
 abbrev pub bytes_in : ℕ → Option (List ℕ) → Result (List ℕ) Unusable
@@ -30,26 +31,35 @@ abbrev pub items_of : Result (Vec ℕ Global) Unusable → Result (List ℕ) Unu
 items_of (Err fault) = Err fault
 items_of (Ok bytes) = Ok bytes.items
 
--- the sound of what was read, at the rate of the script
-abbrev pub sound_in : ℕ → Result Wav WavFault → Result Sound Unusable
-sound_in rate (Err fault) = Err (NotWav fault)
-sound_in rate (Ok wav) = if nat_eq wav.rate rate then Ok (record { kind = wav.kind; samples = samples_in wav.body }) else Err AnotherRate
+-- the sound of a WAV file, changed to the rate of the script
+abbrev pub sound_of : ℕ → Wav → Sound
+sound_of rate wav = record { kind = wav.kind; samples = resampled wav.rate rate wav.kind (samples_in wav.body) }
 
--- the sound of an audio file, and how many bytes the file has
+-- how many bytes a file of so many counts for: these, or those that a file with this sound has, whichever are more
+abbrev pub counted_bytes : ℕ → Sound → ℕ
+counted_bytes size sound = max size (44 + 2 * length sound.samples)
+
+-- the sound of an audio file at the rate of the script, and how many bytes the file counts for
 abbrev pub Audio : Type 0
 Audio = Sound × ℕ
 
-abbrev pub sized : ℕ → Result Sound Unusable → Result Audio Unusable
-sized size (Err fault) = Err fault
-sized size (Ok sound) = Ok (sound, size)
+-- the file counts for at most so many bytes
+abbrev pub of_at_most : ℕ → Audio → Result Audio Unusable
+of_at_most most audio = if nat_le audio.1 most then Ok audio else Err TooLong
 
-abbrev pub opened : ℕ → Result (List ℕ) Unusable → Result Audio Unusable
-opened rate (Err fault) = Err fault
-opened rate (Ok bytes) = sized (length bytes) (sound_in rate (read_of bytes))
+-- the audio of these bytes, as they were read
+abbrev pub audio_in : Rules → List ℕ → Result Wav WavFault → Result Audio Unusable
+audio_in rules bytes (Err fault) = Err (NotWav fault)
+audio_in rules bytes (Ok wav) = of_at_most rules.file (sound_of rules.rate wav, counted_bytes (length bytes) (sound_of rules.rate wav))
 
--- an audio file that can be used: it is there, not too long, a WAV file, and at the rate of the script; else what it breaks first
+abbrev pub opened : Rules → Result (List ℕ) Unusable → Result Audio Unusable
+opened rules (Err fault) = Err fault
+opened rules (Ok bytes) = audio_in rules bytes (read_of bytes)
+
+-- an audio file that can be used: it is there, has no more bytes than one may, is a WAV file, and counts for no more
+-- than one may; else what it breaks first
 abbrev pub audio_at : Rules → Files → List ℕ → Result Audio Unusable
-audio_at rules files name = opened rules.rate (bytes_in rules.file (file_at files name))
+audio_at rules files name = opened rules (bytes_in rules.file (file_at files name))
 
 -- what stands first under a name
 abbrev pub value_of : {V : Type 0} → List ℕ → List (List ℕ × V) → Option V
@@ -57,13 +67,13 @@ value_of name [] = None
 value_of name (entry ∷ entries) = if bytes_eq name entry.0 then Some entry.1 else value_of name entries
 
 -- the audio files that were met: what each name is, which is the number of a sound or a fault; the sounds that are
--- used, in the order in which they were met; and the bytes of their files
+-- used, in the order in which they were met; and how many bytes their files count for
 pub record Heard : Type 0 where
   pub names : List (List ℕ × Result ℕ Unusable)
   pub sounds : List Sound
   pub bytes : ℕ
 
--- a name that was not met before: a sound is used, if the bytes of its file fit beside those of the others
+-- a name that was not met before: a sound is used, if what its file counts for fits beside the others
 abbrev pub first_use : ℕ → Heard → List ℕ → Result Audio Unusable → Result (Heard × Result ℕ Unusable) LoadFault
 first_use all heard name (Err fault) = Ok (record { names = heard.names ++ (name, Err fault) ∷ []; sounds = heard.sounds; bytes = heard.bytes }, Err fault)
 first_use all heard name (Ok audio) =
@@ -83,7 +93,6 @@ use_audio rules files heard name = use_of rules.all heard name (value_of name he
 abbrev pub told_fault : List ℕ → Unusable → LoadFault
 told_fault name NotThere = Missing name
 told_fault name (NotWav fault) = BadAudio name fault
-told_fault name AnotherRate = OtherRate name
 told_fault name TooLong = FileTooLarge name
 
 -- a `single` plays its file
@@ -188,7 +197,6 @@ load_of rules files nodes = sounds_of (nodes_walked rules files nodes (Ok (nothi
 abbrev pub Ends : {X : Type 0} → Option Files → ℕ → ℕ → (Files → List ℕ → Type 0) → (Files → Result X LoadFault) → LoadFault → Type 0
 Ends told before after reads step (Missing name) = ForSome told (λ files. step files ≡ Err (Missing name))
 Ends told before after reads step (BadAudio name fault) = ForSome told (λ files. step files ≡ Err (BadAudio name fault))
-Ends told before after reads step (OtherRate name) = ForSome told (λ files. step files ≡ Err (OtherRate name))
 Ends told before after reads step (FileTooLarge name) = ForSome told (λ files. step files ≡ Err (FileTooLarge name))
 Ends told before after reads step AllTooLarge = ForSome told (λ files. step files ≡ Err AllTooLarge)
 Ends told before after reads step (ReadFault name) = Rose before after × ForSome told (λ files. reads files name)
@@ -198,7 +206,6 @@ Ends told before after reads step Memory = ⊤
 abbrev pub IsReading : List ℕ → ℕ → ℕ → LoadFault → Type 0
 IsReading file before after (Missing name) = ⊥
 IsReading file before after (BadAudio name fault) = ⊥
-IsReading file before after (OtherRate name) = ⊥
 IsReading file before after (FileTooLarge name) = ⊥
 IsReading file before after AllTooLarge = ⊥
 IsReading file before after (ReadFault name) = Rose before after × (name ≡ file)
@@ -208,7 +215,6 @@ IsReading file before after Memory = ⊤
 abbrev pub EndsAt : {X : Type 0} → Result X LoadFault → LoadFault → Type 0
 EndsAt step (Missing name) = step ≡ Err (Missing name)
 EndsAt step (BadAudio name fault) = step ≡ Err (BadAudio name fault)
-EndsAt step (OtherRate name) = step ≡ Err (OtherRate name)
 EndsAt step (FileTooLarge name) = step ≡ Err (FileTooLarge name)
 EndsAt step AllTooLarge = step ≡ Err AllTooLarge
 EndsAt step (ReadFault name) = ⊥

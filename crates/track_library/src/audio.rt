@@ -4,7 +4,7 @@ ghost use Rattle.std.specs.Option.{ForSome};
 ghost use Rattle.frame_core.specs.Sounds.{IsSound};
 ghost use Rattle.track_library.specs.Walk.{Ends, EndsAt, first_use, use_audio, value_of};
 ghost use Rattle.track_library.specs.Reads.{FirstRead};
-ghost use Rattle.track_library.specs.States.{heard_of, Finds, IsHeard};
+ghost use Rattle.track_library.specs.States.{heard_of, AreRules, Finds, IsHeard};
 
 use crate::fault::{LoadFault, Unusable};
 use crate::reading::read_audio;
@@ -23,7 +23,7 @@ pub struct AudioFiles {
     /// The sounds, in the order in which they were met.
     pub tracks: Vec<Track>,
 
-    /// The bytes of the files of all sounds.
+    /// How many bytes the files of all sounds count for.
     pub bytes: u64,
 }
 
@@ -61,7 +61,7 @@ impl AudioFiles {
         Ok(number)
     }
 
-    /// Uses an audio file that was not met before, if its bytes fit beside those of the others.
+    /// Uses an audio file that was not met before, if what it counts for fits beside the others.
     fn add(
         &mut self,
         alloc: Global,
@@ -101,7 +101,8 @@ impl AudioFiles {
         name: &str,
         rules: Rules,
     ) -> Result<Result<u32, Unusable>, LoadFault>
-        requires { IsHeard (heard_of self.old) }
+        requires heard { IsHeard (heard_of self.old) }
+        requires rules { AreRules rules }
         ensures used { IfOk result (λ found. ForSome (S.files shelf.old) (λ files. use_audio rules files (heard_of self.old) name.now ≡ Ok (heard_of self.new, found))) }
         ensures finds { IfOk result (λ found. Finds (heard_of self.old) (heard_of self.new) found) }
         ensures fault { IfErr result (Ends (S.files shelf.old) (S.read_count shelf.old) (S.read_count shelf.new) (λ _. FirstRead (heard_of self.old).names name.now) (λ files. use_audio rules files (heard_of self.old) name.now)) }

@@ -8,7 +8,8 @@ use std::alloc::{AllocError, AllocFailed, Global};
 use thiserror::Error;
 use wav_io::WavFault;
 
-/// Why the audio files of a plan are not loaded. The faults are numbered as they stand, and carry the name of a file.
+/// Why the audio files of a plan are not loaded. Most faults carry the name of a file. No fault has the number 3 any more:
+/// a file of another rate than the script's is changed to it.
 #[derive(Debug, Drop, Error)]
 pub enum LoadFault {
     /// Fault 1: the file is not there.
@@ -19,11 +20,7 @@ pub enum LoadFault {
     #[error("bad audio {}: {}", .0.as_str(), .1)]
     BadAudio(Text, WavFault),
 
-    /// Fault 3: the file's rate is not that of the script.
-    #[error("other rate {}", .0.as_str())]
-    OtherRate(Text),
-
-    /// Fault 4: the file, or the list, is longer than one may be.
+    /// Fault 4: the file counts for more bytes than one may, or the list has more.
     #[error("too large {}", .0.as_str())]
     FileTooLarge(Text),
 
@@ -46,14 +43,11 @@ pub enum Unusable {
     /// It is not there.
     NotThere,
 
-    /// It is longer than one audio file may be.
+    /// It counts for more bytes than one audio file may.
     TooLong,
 
     /// It is no WAV file that can be read.
     NotWav(WavFault),
-
-    /// It has another rate than the script.
-    AnotherRate,
 }
 
 impl From<Memory> for LoadFault {
@@ -73,7 +67,6 @@ pub fn fault_of(alloc: Global, name: &str, fault: Unusable) -> Result<LoadFault,
         Unusable::NotThere => LoadFault::Missing(name),
         Unusable::TooLong => LoadFault::FileTooLarge(name),
         Unusable::NotWav(fault) => LoadFault::BadAudio(name, fault),
-        Unusable::AnotherRate => LoadFault::OtherRate(name),
     })
 }
 

@@ -3,14 +3,17 @@
 
 mod audio;
 mod fault;
+mod laws;
 mod list;
 mod read_lists;
 mod reading;
+mod recording;
 mod rules;
 mod samples;
 mod walk;
 
 pub use fault::LoadFault;
+pub use laws::own_rate_changes_nothing;
 pub use list::read_list;
 pub use rules::Sizes;
 pub use samples::read_samples;

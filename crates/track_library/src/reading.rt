@@ -1,18 +1,25 @@
 // Audio files that are read from a shelf.
-ghost use Rattle.std.specs.Prelude.{◌≡◌, ◌≤◌, ◌^◌, length, Ok, Err, IfOk, IfErr};
+ghost use Rattle.std.specs.Prelude.{◌≡◌, ◌≤◌, ◌+◌, ◌*◌, length, IfOk, IfErr};
 ghost use Rattle.std.specs.Option.{ForSome};
 ghost use Rattle.liq_base.specs.Files.{file_at};
+ghost use Rattle.frame_core.specs.Bytes.{samples_in};
 ghost use Rattle.frame_core.specs.Sounds.{IsSound};
-ghost use Rattle.wav_io.specs.Reading.{read_of};
-ghost use Rattle.track_library.specs.Walk.{audio_at, bytes_in, sized, sound_in, items_of, IsReading};
+ghost use Rattle.wav_io.specs.Reading.{AreBlocks, read_of};
+ghost use Rattle.resample.specs.Resampled.{AreRates, resampled};
+ghost use Rattle.track_library.specs.Walk.{audio_at, audio_in, bytes_in, items_of, IsReading};
+ghost use Rattle.track_library.specs.States.{AreRules, IsRecording, at_rate};
 
 use crate::fault::{LoadFault, Unusable};
+use crate::recording::{Recording, track_at};
 use crate::rules::Rules;
 use crate::samples::read_samples;
 use frame_core::Track;
-use liq_base::{Fetched, Memory, Shelf, ShelfFault, Text};
+use liq_base::{Fetched, Kind, Memory, Shelf, ShelfFault, Text};
 use std::alloc::Global;
 use wav_io::read_wav;
+
+/// The bytes that stand before the blocks of a file with nothing else in it.
+const HEADER_BYTES: u64 = 44;
 
 /// The bytes of a file that is there and has at most so many.
 pub fn fetch<S: Shelf>(
@@ -22,6 +29,7 @@ pub fn fetch<S: Shelf>(
     most: u64,
 ) -> Result<Result<Vec<u8>, Unusable>, LoadFault>
     ensures fetched { IfOk result (λ found. ForSome (S.files shelf.old) (λ files. bytes_in most (file_at files name.now) ≡ items_of found)) }
+    ensures few { IfOk result (λ found. IfOk found (λ bytes. length bytes.items ≤ most)) }
     ensures fault { IfErr result (λ fault. IsReading name.now (S.read_count shelf.old) (S.read_count shelf.new) fault) }
     ensures files { S.files shelf.new ≡ S.files shelf.old }
     ensures reads { S.read_count shelf.old ≤ S.read_count shelf.new }
@@ -37,34 +45,74 @@ pub fn fetch<S: Shelf>(
     }
 }
 
-/// The sound of an audio file at this rate, and how many bytes the file has.
-pub fn open_audio(
-    alloc: Global,
-    bytes: &[u8],
-    rate: u32,
-) -> Result<Result<(Track, u64), Unusable>, Memory>
-    ensures opened { IfOk result (λ found. found ≡ sized (length bytes.now) (sound_in rate (read_of bytes.now))) }
-    ensures sound { IfOk result (λ found. IfOk found (λ audio. IsSound audio.0)) }
+/// What the bytes of an audio file hold, if the file counts for no more bytes than one may. Whether it does is known
+/// before memory is taken for its samples.
+fn decode(alloc: Global, bytes: &[u8], rules: Rules) -> Result<Result<Recording, Unusable>, Memory>
+    requires rules { AreRules rules }
+    requires few { length bytes.now ≤ rules.file }
+    ensures decoded { IfOk result (λ found. audio_in rules bytes.now (read_of bytes.now) ≡ at_rate rules.rate found) }
+    ensures recording { IfOk result (λ found. IfOk found IsRecording) }
 {
     let wav = match read_wav(bytes) {
         Ok(wav) => wav,
         Err(fault) => return Ok(Err(Unusable::NotWav(fault))),
     };
-    if wav.rate != rate {
-        return Ok(Err(Unusable::AnotherRate));
+    let size = bytes.len() as u64;
+    let counted = size.max(written_bytes(wav.kind, wav.body, wav.rate, rules.rate));
+    if counted > rules.file {
+        return Ok(Err(Unusable::TooLong));
     }
     let samples = read_samples(alloc, wav.body)?;
-    Ok(Ok((Track::new(wav.kind, samples), bytes.len() as u64)))
+    Ok(Ok(Recording {
+        kind: wav.kind,
+        rate: wav.rate,
+        samples,
+        bytes: counted,
+    }))
 }
 
-/// The sound of the audio file of this name, and how many bytes the file has. The bytes are given back once they are
-/// decoded.
+/// How many bytes a file with these blocks has at another rate.
+fn written_bytes(kind: Kind, blocks: &[u8], from: u32, to: u32) -> u64
+    requires blocks { AreBlocks kind blocks.now }
+    requires few { length blocks.now ≤ 268435456 }
+    requires rates { AreRates from to }
+    ensures { result ≡ 44 + 2 * length (resampled from to kind (samples_in blocks.now)) }
+{
+    let block = 2 * u64::from(kind.channels());
+    let count = blocks.len() as u64 / block;
+    HEADER_BYTES + block * resample::length(count, from, to)
+}
+
+/// What the audio file of this name holds. Its bytes are given back once they are decoded.
+fn read_recording<S: Shelf>(
+    alloc: Global,
+    shelf: &mut S,
+    name: &str,
+    rules: Rules,
+) -> Result<Result<Recording, Unusable>, LoadFault>
+    requires { AreRules rules }
+    ensures audio { IfOk result (λ found. ForSome (S.files shelf.old) (λ files. audio_at rules files name.now ≡ at_rate rules.rate found)) }
+    ensures recording { IfOk result (λ found. IfOk found IsRecording) }
+    ensures fault { IfErr result (λ fault. IsReading name.now (S.read_count shelf.old) (S.read_count shelf.new) fault) }
+    ensures files { S.files shelf.new ≡ S.files shelf.old }
+    ensures reads { S.read_count shelf.old ≤ S.read_count shelf.new }
+    ensures writes { S.write_count shelf.old ≤ S.write_count shelf.new }
+{
+    match fetch(alloc, shelf, name, rules.file)? {
+        Ok(bytes) => Ok(decode(alloc, &bytes, rules)?),
+        Err(fault) => Ok(Err(fault)),
+    }
+}
+
+/// The sound of the audio file of this name at the rate of the script, and how many bytes the file counts for. Of its
+/// bytes, its samples and those at the rate of the script at most two are held at one time.
 pub fn read_audio<S: Shelf>(
     alloc: Global,
     shelf: &mut S,
     name: &str,
     rules: Rules,
 ) -> Result<Result<(Track, u64), Unusable>, LoadFault>
+    requires { AreRules rules }
     ensures audio { IfOk result (λ found. ForSome (S.files shelf.old) (λ files. audio_at rules files name.now ≡ found)) }
     ensures sound { IfOk result (λ found. IfOk found (λ audio. IsSound audio.0)) }
     ensures fault { IfErr result (λ fault. IsReading name.now (S.read_count shelf.old) (S.read_count shelf.new) fault) }
@@ -72,8 +120,8 @@ pub fn read_audio<S: Shelf>(
     ensures reads { S.read_count shelf.old ≤ S.read_count shelf.new }
     ensures writes { S.write_count shelf.old ≤ S.write_count shelf.new }
 {
-    match fetch(alloc, shelf, name, rules.file)? {
-        Ok(bytes) => Ok(open_audio(alloc, &bytes, rules.rate)?),
+    match read_recording(alloc, shelf, name, rules)? {
+        Ok(recording) => Ok(Ok(track_at(alloc, recording, rules.rate)?)),
         Err(fault) => Ok(Err(fault)),
     }
 }

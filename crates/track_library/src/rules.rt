@@ -3,22 +3,22 @@
 /// How many bytes may be loaded.
 #[derive(Clone, Copy, Debug)]
 pub struct Sizes {
-    /// The most bytes of one audio file, at most 268435456.
+    /// The most bytes that one audio file may count for, at most 268435456.
     pub file: u64,
 
-    /// The most bytes of all audio files that are used, each counted once.
+    /// The most bytes that all audio files that are used may count for, each once.
     pub all: u64,
 }
 
 /// What the walk goes by.
 #[derive(Clone, Copy, Debug)]
 pub struct Rules {
-    /// The rate of the script, in samples a second.
+    /// The rate of the script, from 8000 to 192000 samples a second.
     pub rate: u32,
 
-    /// The most bytes of one audio file.
+    /// The most bytes that one audio file may count for, at most 268435456.
     pub file: u64,
 
-    /// The most bytes of all audio files that are used.
+    /// The most bytes that all audio files that are used may count for.
     pub all: u64,
 }

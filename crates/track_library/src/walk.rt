@@ -6,7 +6,7 @@ ghost use Rattle.frame_core.specs.Library.{IsLibrary};
 ghost use Rattle.track_library.specs.Walk.{Ends, entries_played, leaf_of, load_of, nothing_met, single_leaf, use_audio};
 ghost use Rattle.track_library.specs.Reads.{EntriesRead, FirstRead, LeafReads, LoadReads};
 ghost use Rattle.track_library.specs.Singles.{HasOne, HaveSingles};
-ghost use Rattle.track_library.specs.States.{heard_of, IsHeard, Plays, walked_of, with_found};
+ghost use Rattle.track_library.specs.States.{heard_of, AreRules, IsHeard, Plays, walked_of, with_found};
 
 use crate::audio::AudioFiles;
 use crate::fault::{LoadFault, Unusable, fault_of};
@@ -50,7 +50,8 @@ impl Walk {
         op: &Op,
         rules: Rules,
     ) -> Result<Vec<u32>, LoadFault>
-        requires { IsHeard (heard_of self.old.audio) }
+        requires heard { IsHeard (heard_of self.old.audio) }
+        requires rules { AreRules rules }
         ensures leaf { IfOk result (λ leaf. ForSome (S.files shelf.old) (λ files. leaf_of rules files op.now (walked_of self.old) ≡ Ok (walked_of self.new, leaf.items))) }
         ensures fault { IfErr result (Ends (S.files shelf.old) (S.read_count shelf.old) (S.read_count shelf.new) (λ files. LeafReads rules files op.now (walked_of self.old)) (λ files. leaf_of rules files op.now (walked_of self.old))) }
         ensures plays { IfOk result (λ leaf. Plays (heard_of self.old.audio) (heard_of self.new.audio) leaf.items) }
@@ -87,14 +88,17 @@ impl Walk {
     }
 }
 
-/// The audio files of a plan: for each of its nodes those that it plays, each of them once.
+/// The audio files of a plan: for each of its nodes those that it plays, each of them once, and each changed to the rate
+/// of the plan.
 pub fn load<S: Shelf>(
     alloc: Global,
     plan: &Plan,
     shelf: &mut S,
     sizes: Sizes,
 ) -> Result<Library, LoadFault>
-    requires { sizes.file ≤ 268435456 }
+    requires least { 8000 ≤ plan.now.rate }
+    requires most { plan.now.rate ≤ 192000 }
+    requires file { sizes.file ≤ 268435456 }
     ensures loaded { IfOk result (λ library. ForSome (S.files shelf.old) (λ files. load_of (record { rate = plan.now.rate; file = sizes.file; all = sizes.all }) files plan.now.nodes ≡ Ok library)) }
     ensures leaves { IfOk result (λ library. length library.leaves ≡ length plan.now.nodes) }
     ensures singles { IfOk result (λ library. HaveSingles plan.now.nodes library.leaves) }
@@ -128,7 +132,8 @@ fn find_single<S: Shelf>(
     name: &str,
     rules: Rules,
 ) -> Result<Vec<u32>, LoadFault>
-    requires { IsHeard (heard_of audio.old) }
+    requires heard { IsHeard (heard_of audio.old) }
+    requires rules { AreRules rules }
     ensures leaf { IfOk result (λ leaf. ForSome (S.files shelf.old) (λ files. single_leaf name.now (use_audio rules files (heard_of audio.old) name.now) ≡ Ok (heard_of audio.new, leaf.items))) }
     ensures fault { IfErr result (Ends (S.files shelf.old) (S.read_count shelf.old) (S.read_count shelf.new) (λ _. FirstRead (heard_of audio.old).names name.now) (λ files. single_leaf name.now (use_audio rules files (heard_of audio.old) name.now))) }
     ensures plays { IfOk result (λ leaf. Plays (heard_of audio.old) (heard_of audio.new) leaf.items) }
@@ -165,7 +170,8 @@ fn play_entries<S: Shelf>(
     names: &[Text],
     rules: Rules,
 ) -> Result<Vec<u32>, LoadFault>
-    requires { IsHeard (heard_of audio.old) }
+    requires heard { IsHeard (heard_of audio.old) }
+    requires rules { AreRules rules }
     ensures leaf { IfOk result (λ leaf. ForSome (S.files shelf.old) (λ files. entries_played rules files names.now (Ok (heard_of audio.old, [])) ≡ Ok (heard_of audio.new, leaf.items))) }
     ensures fault { IfErr result (Ends (S.files shelf.old) (S.read_count shelf.old) (S.read_count shelf.new) (λ files. EntriesRead rules files names.now (Ok (heard_of audio.old, []))) (λ files. entries_played rules files names.now (Ok (heard_of audio.old, [])))) }
     ensures plays { IfOk result (λ leaf. Plays (heard_of audio.old) (heard_of audio.new) leaf.items) }

@@ -2,3 +2,4 @@ pub mod Headers
 pub mod Steps
 pub mod Own
 pub mod Blocks
+pub mod Heads

@@ -1,5 +1,5 @@
 // WAV files that others wrote.
-ghost use Rattle.std.specs.Prelude.{◌≡◌, ◌≤◌, ◌<◌, length, Ok, Err, IfOk, MatchResult};
+ghost use Rattle.std.specs.Prelude.{◌≡◌, ◌≤◌, ◌<◌, ◌+◌, length, Ok, Err, IfOk, MatchResult};
 ghost use Rattle.wav_io.specs.Reading.{read_of, is_riff, whole_blocks, AreBlocks};
 
 use crate::WavFault;
@@ -13,7 +13,7 @@ use liq_base::Kind;
 pub struct Wav<'a> {
     pub kind: Kind,
 
-    /// Samples a second.
+    /// Samples a second, above 0.
     pub rate: u32,
 
     /// Whole blocks: of each channel one signed sample of 16 bits, the lower byte first, left before right.
@@ -26,6 +26,9 @@ pub fn read_wav(bytes: &[u8]) -> Result<Wav<'_>, WavFault>
     ensures read { MatchResult result (λ wav. read_of bytes.now ≡ Ok (record { kind = wav.kind; rate = wav.rate; body = wav.body.now }))
         (λ fault. read_of bytes.now ≡ Err fault) }
     ensures blocks { IfOk result (λ wav. AreBlocks wav.kind wav.body.now) }
+    ensures rate { IfOk result (λ wav. 0 < wav.rate) }
+    // The heads of the file and of the two chunks, and the format, stand beside the blocks.
+    ensures heads { IfOk result (λ wav. 44 + length wav.body.now ≤ length bytes.now) }
 {
     if !is_riff(bytes) {
         return Err(WavFault::NotRiff);
