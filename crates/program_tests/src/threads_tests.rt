@@ -30,7 +30,10 @@ const APART: &str =
 
 // A script, and the audio file that it names.
 fn shelf(alloc: Global, script: &str) -> Result<MemShelf, AllocError> {
-    let script = (String::from_str(alloc, "f")?, script.as_bytes().to_vec(alloc)?);
+    let script = (
+        String::from_str(alloc, "f")?,
+        script.as_bytes().to_vec(alloc)?,
+    );
     let audio = (String::from_str(alloc, "B")?, ONE_TWO_THREE.to_vec(alloc)?);
     Ok(MemShelf::new(alloc, vec![in alloc; script, audio]?))
 }
@@ -118,9 +121,11 @@ fn two_clocks_at_once(rt: HostRuntime) -> Result<(), Fail> {
     let status = liq(&rt, alloc, &words, &mut shelf, &mut out, &mut err, &gate);
     assert!(rt; !gate.late.load(Ordering::SeqCst));
     assert_eq!(rt; status, 0);
-    assert!(rt; out.held().starts_with(
-        b"output A samples 32 gaps 0\noutput C samples 32 gaps 0\nbuffer 0 accepted 4 full 0 "
-    ));
+    assert!(rt;
+        out.held().starts_with(
+            b"output A samples 32 gaps 0\noutput C samples 32 gaps 0\nbuffer 0 accepted 4 full 0 "
+        )
+    );
     check_output(&rt, shelf.get("A").unwrap_or(&[]), 11);
     check_output(&rt, shelf.get("C").unwrap_or(&[]), 8);
     Ok(())
@@ -196,12 +201,7 @@ const ALONE: &[(&str, Option<u8>)] = &[
 ];
 
 // A row of the table: where nothing is answered, nothing was written.
-fn check_alone(
-    rt: &impl Abort,
-    alloc: Global,
-    line: &str,
-    answer: Option<u8>,
-) -> Result<(), Fail> {
+fn check_alone(rt: &impl Abort, alloc: Global, line: &str, answer: Option<u8>) -> Result<(), Fail> {
     let mut shelf = shelf(alloc, SHARED)?;
     let words = words_of(alloc, line)?;
     let (mut out, mut err) = (sink(alloc)?, sink(alloc)?);
