@@ -1,8 +1,8 @@
 -- From what is asked for to the words.
-use Rattle.std.proofs.Common.{◌≡◌, ◌∙◌, ℕ, List, refl, sym, ap, subst}
-use Rattle.std.specs.Prelude.{Option, Some, None, option_map}
+use Rattle.std.proofs.Common.{◌≡◌, ℕ, List, refl, sym, subst}
+use Rattle.std.specs.Prelude.{Some, option_map}
 use Rattle.liq_base.specs.Files.{Files}
-use Rattle.liq_cli.specs.Words.{Asked, IsAsked, HasNoForm, NeedsThreads, window_of}
+use Rattle.liq_cli.specs.Words.{Asked, IsAsked, HasNoForm}
 use Rattle.liq_cli.specs.Answer.{Answer, Usage, Refused, Checked, Accepted, ForAnswer, ForEachAnswer, IsAnswer, IsAnswerTo, IsFormed}
 use Rattle.liq_cli.specs.Prepared.{ForEach, ForOne, asked_of}
 use Rattle.liq_cli.specs.declared.words.Form.{Form}
@@ -71,13 +71,3 @@ one_more asked files P Q f one = record { answer = one.answer; is_answer = one.i
 
 pub each_one : (asked : Asked) (files : Files) (P : Answer → Type 0) → ForOne asked files P → ForEach asked files P
 each_one asked files P one answer is = subst P (sym (one.only answer is)) one.holds
-
--- words for which no form was read have none
-pub none_asked : (words : List (List ℕ)) (form : Option Form) → form ≡ None → ((asked : Asked) → IsAsked words asked → option_map asked_of form ≡ Some asked) → HasNoForm words
-none_asked words form none only asked is = let e : option_map asked_of None ≡ Some asked = rw none at (only asked is) in absurd (cc)
-
--- where the one thing that they ask for takes no threads, they need none
-pub no_threads : (words : List (List ℕ)) (asked : Asked) → window_of asked ≡ None → AsksOne words asked → NeedsThreads words → ⊥
-no_threads words asked none asks needs =
-    let e : window_of asked ≡ Some needs.window = ap window_of (sym (asks.only _ needs.is_asked)) in
-    let both : None ≡ Some needs.window = sym none ∙ e in absurd (cc)

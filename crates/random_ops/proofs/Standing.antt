@@ -1,17 +1,22 @@
 -- What a state stands for, before an instant and behind it.
-use Rattle.std.proofs.Common.{◌≡◌, ◌∙◌, ℕ, suc, Bool, true, false, not, Option, Some, List, if◌then◌else◌, ap, refl, sym}
+use Rattle.std.proofs.Common.{◌≡◌, ◌∙◌, ℕ, suc, Bool, true, false, not, Option, Some, List, is_some, if◌then◌else◌, ap, refl, sym}
+use Rattle.std.specs.List.{list_any}
 use Rattle.frame_core.specs.Slots.{Slot}
 use Rattle.random_ops.specs.declared.turn.Pick.{Pick}
 use Rattle.random_ops.specs.declared.turn.Turn.{Turn}
 use Rattle.random_ops.specs.declared.turn.Turn.TheVariants.{Random, Rotate}
 use Rattle.random_ops.specs.Choices.{used_by}
 use Rattle.random_ops.specs.Turns.{Past, offered, past_behind, past_given, picked, plays_on, used_child, words_left}
-use Rattle.random_ops.proofs.Offering.{picked_tells}
+use Rattle.random_ops.proofs.Offering.{picked_some, picked_tells}
 
 -- the words that are left tell the child that the past tells
 words_tell : (turn : Turn) (past : Past) (slots : List Slot) → used_by (words_left turn past.choices) past.last slots ≡ used_child turn past slots
 words_tell Rotate past slots = refl
 words_tell (Random seed) past slots = refl
+
+pub some_offered : (turn : Turn) (past : Past) (slots : List Slot) → is_some (offered turn past slots) ≡ list_any is_some slots
+some_offered turn past slots =
+    ap (λ used. is_some (picked past.last slots used)) (sym (words_tell turn past slots)) ∙ picked_some (words_left turn past.choices) past.last slots
 
 -- what was given tells the past behind it
 

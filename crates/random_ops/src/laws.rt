@@ -1,5 +1,6 @@
 //! What the definitions of turns imply. Each law is the contract of a function without a body.
-ghost use Rattle.std.specs.Prelude.{◌≡◌, List, Some};
+ghost use Rattle.std.specs.Prelude.{◌≡◌, List, Some, is_some};
+ghost use Rattle.std.specs.List.{list_any};
 ghost use Rattle.frame_core.specs.Slots.{Slot};
 ghost use Rattle.random_ops.specs.declared.turn.Pick.{Pick};
 ghost use Rattle.random_ops.specs.declared.turn.Turn.{Turn};
@@ -10,4 +11,9 @@ ghost use Rattle.random_ops.specs.Turns.{offered, Past, past_behind, past_given}
 pub fn marked_cells_are_choices()
     ensures { (turn : Turn) (past : Past) (slots : List Slot) (pick : Pick) → Some pick ≡ offered turn past slots
         → past_behind turn past slots ≡ past_given past pick }
+{}
+
+/// A rotate and a random offer nothing exactly where no child offers.
+pub fn some_child_is_used()
+    ensures { (turn : Turn) (past : Past) (slots : List Slot) → is_some (offered turn past slots) ≡ list_any is_some slots }
 {}
