@@ -77,13 +77,7 @@ fn leaf_of(alloc: Global, is_list: bool, name: &str) -> Result<Op, Memory> {
 }
 
 /// The library of a plan of one leaf, where so many bytes are the most for one file and for all.
-fn library_of(
-    alloc: Global,
-    leaf: Op,
-    rate: u32,
-    file: u16,
-    all: u16,
-) -> Result<Library, LoadFault>
+fn library_of(alloc: Global, leaf: Op, rate: u32, file: u16, all: u16) -> Result<Library, LoadFault>
     requires least { 8000 ≤ rate }
     requires most { rate ≤ 192000 }
     ensures { IfOk result (λ library. length library.leaves ≡ 1) }
