@@ -3,6 +3,7 @@ use Rattle.std.proofs.Common.{◌≡◌, ◌<◌, ◌+◌, ◌∙◌, ◌++◌, 
 use Rattle.std.proofs.lemmas.List.{length-append}
 use Rattle.plan_core.specs.declared.node.Node.{Node}
 use Rattle.plan_core.specs.declared.plan.Plan.{Plan}
+use Rattle.clock_infer.specs.declared.clock_map.NodeClock.{NodeClock}
 use Rattle.node_states.specs.declared.state.NodeState.{NodeState}
 use Rattle.clock_engine.proofs.Numbered.{no_item}
 use Rattle.clock_engine.specs.Beginnings.{AreNewStates, IsNewState}
@@ -26,15 +27,15 @@ pushed [] x y (suc k) e = absurd (no_item k y e)
 pushed (z ∷ xs) x y zero e = inl e
 pushed (z ∷ xs) x y (suc k) e = elim (pushed xs x y k e) [ inl old ↦ inl old | inr new ↦ inr (ap suc new.0, new.1) ]
 
-pub states_more : (plan : Plan) (i : ℕ) (states : List NodeState) (state : NodeState)
-    → ((node : Node) → slice_get plan.nodes i ≡ Some node → IsNewState plan i node state)
-    → AreNewStates plan i states → AreNewStates plan (i + 1) (states ++ state ∷ [])
-states_more plan i states state new before = record {
+pub states_more : (plan : Plan) (clocks : List NodeClock) (m i : ℕ) (states : List NodeState) (state : NodeState)
+    → ((node : Node) → slice_get plan.nodes i ≡ Some node → IsNewState plan clocks m i node state)
+    → AreNewStates plan clocks m i states → AreNewStates plan clocks m (i + 1) (states ++ state ∷ [])
+states_more plan clocks m i states state new before = record {
   size = length-append states (state ∷ []) ∙ ap (λ n. n + 1) before.size;
   each = λ k node s found stored. elim (pushed states state s k stored) [
     | inl old ↦ before.each k node s found old
     | inr last ↦ (let at : i ≡ k = sym before.size ∙ sym last.0 in
-        subst (λ j. slice_get plan.nodes j ≡ Some node → IsNewState plan j node s) at
-        (λ there. subst (λ z. IsNewState plan i node z) last.1 (new node there)) found)
+        subst (λ j. slice_get plan.nodes j ≡ Some node → IsNewState plan clocks m j node s) at
+        (λ there. subst (λ z. IsNewState plan clocks m i node z) last.1 (new node there)) found)
   ];
 }

@@ -24,6 +24,10 @@ pub filled_kind : (port : Port) (slots : List Slot) → (after_slots port slots)
 filled_kind port [] = refl
 filled_kind port (slot ∷ slots) = filled_kind (after_slot port slot) slots
 
+pub filled_before : (port : Port) (slots : List Slot) → (after_slots port slots).gaps_before ≡ port.gaps_before
+filled_before port [] = refl
+filled_before port (slot ∷ slots) = filled_before (after_slot port slot) slots
+
 pub filled_room : (port : Port) (slots : List Slot) → (after_slots port slots).piece.room ≡ port.piece.room
 filled_room port [] = refl
 filled_room port (slot ∷ slots) = filled_room (after_slot port slot) slots

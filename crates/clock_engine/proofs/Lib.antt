@@ -6,6 +6,7 @@ pub mod Ticking
 pub mod Feeding
 pub mod Made
 pub mod Beginning
+pub mod Driving
 pub mod Sinks
 pub mod FedSinks
 pub mod Starting

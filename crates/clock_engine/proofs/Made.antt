@@ -26,10 +26,10 @@ use Rattle.engine_ticks.specs.Lanes.{AreLanes, LanesStand}
 use Rattle.engine_ticks.specs.Runs.{HasRun, Heard, HeardSome, IsMeant, with_slots}
 use Rattle.clock_engine.specs.declared.engine.Works.{Works}
 use Rattle.clock_engine.specs.declared.fault.TickFault.{TickFault}
-use Rattle.clock_engine.specs.Engines.{AreWorks, EngineStands, after_tick, feed_of, feeds_of, held_in, output_of, scene_of, setting_of}
+use Rattle.clock_engine.specs.Engines.{AreWorks, EngineStands, EngineStopped, after_tick, feed_of, feeds_of, held_in, output_of, scene_of, setting_of}
 use Rattle.clock_engine.specs.Ticks.{HaveTickRoom, RoomsFell, HaveTicksRoom}
 use Rattle.clock_engine.proofs.Giving.{gives_are, gives_flat}
-use Rattle.clock_engine.proofs.Filling.{filled_kind, filled_long, filled_room, filled_sink}
+use Rattle.clock_engine.proofs.Filling.{filled_before, filled_kind, filled_long, filled_room, filled_sink}
 use Rattle.clock_engine.proofs.Numbered.{from_mapped, got_mapped, no_item, port_inside, port_node}
 use Rattle.clock_engine.proofs.Holding.{held_grew, held_part, held_same}
 use Rattle.clock_engine.proofs.Mapped.{goes_down, meaning_of}
@@ -110,6 +110,22 @@ module _ (works other : Works) (parts : AreWorks works)
   port_before k port at =
       let found = from_mapped hear works.ports.items k port (sym (ap (λ xs. slice_get xs k) ports_are) ∙ at) in
       (found.0, found.1, sym found.2)
+
+  -- it stopped in a tick, whose gaps are not counted
+  pub halted_by : (t : ℕ) (answers : ℕ → List Answer) (made : List Call) (held now : ℕ → Option (List ℕ)) (fault : TickFault) → EngineStands works t answers
+      → HasStopped (setting_of works) works.clock t answers made held now → EngineStopped (after_tick works other works.ticks (Some fault)) t answers made
+  halted_by t answers made held now fault stands stopped = record {
+    ticks_are = stands.made;
+    fault = fault;
+    stopped = refl;
+    accepted = stopped.accepted;
+    begun = stopped.begun;
+    gaps_are = λ rest k port at.
+        let found = port_before k port at in
+        let before : port.gaps_before ≡ found.0.gaps = ap (λ p. p.gaps_before) found.2 ∙ filled_before (emptied found.0) (slots found.0.node) in
+        let node : found.0.node ≡ port.node = sym (ap (λ p. p.node) found.2 ∙ after_slots-node (emptied found.0) (slots found.0.node)) in
+        before ∙ stands.gaps_are rest k found.0 found.1 ∙ ap (λ i. gaps (with_rest (setting_of works) answers rest) i t) node;
+  }
 
   pub sink_before : (old : Port) → (hear old).sink ≡ old.sink
   sink_before old = filled_sink (emptied old) (slots old.node)

@@ -16,7 +16,7 @@ use Rattle.engine_clocks.specs.Clocks.{HasLevels, HasRanks, clock_at}
 use Rattle.clock_engine.specs.Engines.{AreClocksOf}
 
 -- the rank of a clock, where nodes have these
-abbrev clock_rank : (ℕ → ℕ) → NodeClock → ℕ
+abbrev pub clock_rank : (ℕ → ℕ) → NodeClock → ℕ
 clock_rank rank (Main m) = 0
 clock_rank rank (Sub k) = suc (rank k)
 
@@ -37,6 +37,12 @@ module _ (plan : Plan) (clocks : List NodeClock) (of : AreClocksOf plan clocks) 
 
   pub has_ranks : HasRanks clocks (clock_rank (ranks plan of.map of.assigned).0)
   has_ranks = record { deeper = λ k within. ap suc (rank_is k (omega (arith, within, in_clocks)) (clock_at clocks k) refl) }
+
+  pub rank_low : (i : ℕ) → i < length plan.nodes → clock_rank (ranks plan of.map of.assigned).0 (clock_at clocks i) < length plan.nodes
+  rank_low i within =
+      let low = rank_below of.map (clock_at clocks) (length plan.nodes) (ranks plan of.map of.assigned).0 (ranks plan of.map of.assigned).1 nested i within in
+      let same = rank_is i within (clock_at clocks i) refl in
+      omega (arith, low, same)
 
   -- a main clock has no more levels below it than there are nodes
   pub has_levels : (m : ℕ) → HasLevels clocks (Main m) (length plan.nodes)

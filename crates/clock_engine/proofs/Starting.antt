@@ -1,27 +1,33 @@
 -- New states stand for no instant.
-use Rattle.std.proofs.Common.{◌≡◌, ◌*◌, ◌∙◌, ℕ, List, [], Some, get_or, slice_get, replicate, ap, arith, refl, subst, sym, inl, inr}
+use Rattle.std.proofs.Common.{◌≡◌, ◌<◌, ◌*◌, ◌∙◌, ℕ, length, List, [], Some, get_or, slice_get, replicate, ap, arith, refl, subst, sym, inl, inr}
 use Rattle.std.proofs.lemmas.Bool.{cases_lt}
 use Rattle.std.proofs.lemmas.List.{get_or-replicate, get_or_past, length-replicate}
+use Rattle.std.proofs.lemmas.Option.{slice_get_within}
 use Rattle.clock_infer.specs.declared.clock_map.NodeClock.{NodeClock}
-use Rattle.stream_meaning.specs.Instants.{Setting, sub_of}
+use Rattle.clock_infer.specs.declared.clock_map.NodeClock.TheVariants.{Main}
+use Rattle.stream_meaning.specs.Instants.{Setting, clock_of, sub_of}
 use Rattle.node_states.specs.declared.time.WeekTime.{WeekTime}
 use Rattle.node_states.specs.Times.{TimeStands}
 use Rattle.engine_clocks.specs.Clocks.{HasRanks}
 use Rattle.engine_ticks.specs.declared.lanes.Lanes.{Lanes}
 use Rattle.engine_ticks.specs.Lanes.{LanesStand}
 use Rattle.clock_engine.specs.Beginnings.{AreNewStates}
+use Rattle.clock_engine.proofs.Driving.{driven_by, lifted, lifted_ranks}
 
-none_made : (setting : Setting) (clock : NodeClock) (lanes : Lanes) (n : ℕ) (rank : NodeClock → ℕ) → HasRanks setting.clocks rank → AreNewStates setting.plan n lanes.clocks.states.items
+none_made : (setting : Setting) (m : ℕ) (lanes : Lanes) (n : ℕ) (rank : NodeClock → ℕ) → HasRanks setting.clocks rank
+    → ((i : ℕ) → i < length setting.plan.nodes → rank (clock_of setting i) < length setting.plan.nodes) → AreNewStates setting.plan setting.clocks m n lanes.clocks.states.items
     → TimeStands setting.start 0 lanes.time → ((k : ℕ) (time : WeekTime) → slice_get lanes.clocks.times.items k ≡ Some time → time ≡ lanes.time)
-    → LanesStand setting (sub_of setting) clock 0 (λ buffer. []) lanes
-none_made setting clock lanes n rank ranks new time same = record {
-  rank = rank;
+    → LanesStand setting (sub_of setting) (Main m) 0 (λ buffer. []) lanes
+none_made setting m lanes n rank ranks low new time same = record {
+  rank = lifted setting.clocks rank m (length setting.plan.nodes);
   ran = λ other. 0;
   fed = λ k. 0;
-  ranks = ranks;
+  ranks = lifted_ranks setting.clocks rank m (length setting.plan.nodes) ranks;
   made = refl;
   stand = record {
-    stand = λ i node state found stored. (new.each i node state found stored).stands setting (sub_of setting) refl refl;
+    stand = λ i node state found stored above.
+        let under = driven_by setting.clocks rank m (length setting.plan.nodes) i (low i (slice_get_within setting.plan.nodes i node found)) above in
+        (new.each i node state found stored).stands setting (sub_of setting) under.0 under.1 refl refl;
     taken = λ i buffer node found work. refl;
     even = λ k fades above. refl;
     time = λ k one above at. subst (λ t. TimeStands setting.start 0 t) (sym (same k one at)) time;
@@ -31,12 +37,13 @@ none_made setting clock lanes n rank ranks new time same = record {
   time = time;
 }
 
-pub new_stand : (setting : Setting) (clock : NodeClock) (lanes : Lanes) (n : ℕ) (rank : NodeClock → ℕ) → HasRanks setting.clocks rank → AreNewStates setting.plan n lanes.clocks.states.items
+pub new_stand : (setting : Setting) (m : ℕ) (lanes : Lanes) (n : ℕ) (rank : NodeClock → ℕ) → HasRanks setting.clocks rank
+    → ((i : ℕ) → i < length setting.plan.nodes → rank (clock_of setting i) < length setting.plan.nodes) → AreNewStates setting.plan setting.clocks m n lanes.clocks.states.items
     → TimeStands setting.start 0 lanes.time → ((k : ℕ) (time : WeekTime) → slice_get lanes.clocks.times.items k ≡ Some time → time ≡ lanes.time)
-    → LanesStand setting (sub_of setting) clock (0 * setting.plan.frame) (λ buffer. []) lanes
-new_stand setting clock lanes n rank ranks new time same =
+    → LanesStand setting (sub_of setting) (Main m) (0 * setting.plan.frame) (λ buffer. []) lanes
+new_stand setting m lanes n rank ranks low new time same =
     let none : 0 ≡ 0 * setting.plan.frame = omega arith in
-    subst (λ m. LanesStand setting (sub_of setting) clock m (λ buffer. []) lanes) none (none_made setting clock lanes n rank ranks new time same)
+    subst (λ count. LanesStand setting (sub_of setting) (Main m) count (λ buffer. []) lanes) none (none_made setting m lanes n rank ranks low new time same)
 
 -- a list of like items is that item at each place
 pub all_alike : {A : Type 0} (xs : List A) (n : ℕ) (a : A) → xs ≡ replicate n a → (j : ℕ) → get_or xs j a ≡ a

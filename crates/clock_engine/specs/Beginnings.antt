@@ -3,25 +3,29 @@ use Rattle.std.specs.Prelude.{◌≡◌, ◌<◌, ◌≤◌, ◌*◌, ℕ, List,
 use Rattle.liq_base.specs.Kinds.{channels_of}
 use Rattle.plan_core.specs.declared.node.Node.{Node}
 use Rattle.plan_core.specs.declared.plan.Plan.{Plan}
+use Rattle.clock_infer.specs.declared.clock_map.NodeClock.{NodeClock}
+use Rattle.clock_infer.specs.declared.clock_map.NodeClock.TheVariants.{Main}
 use Rattle.frame_core.specs.Slots.{Slot}
 use Rattle.frame_core.specs.Library.{IsLibrary, Sounds}
 use Rattle.stream_meaning.specs.Instants.{Setting, work_at}
 use Rattle.stream_meaning.specs.Sinks.{kind_of}
 use Rattle.node_states.specs.declared.state.NodeState.{NodeState}
 use Rattle.node_states.specs.States.{Fits, StateStands}
+use Rattle.engine_instants.specs.Takes.{IsUnder}
 use Rattle.clock_outputs.specs.declared.port.Port.{Port}
 use Rattle.clock_outputs.specs.declared.feed.FeedPort.{FeedPort}
 
--- the state of node i of a plan before the first instant
-pub record IsNewState (plan : Plan) (i : ℕ) (node : Node) (state : NodeState) : Type 0 where
+-- the state of node i of a plan before the first instant, in an engine of main clock m: where the clock drives the node, which lies in
+-- it or in a sub-clock below it, it stands for no instant
+pub record IsNewState (plan : Plan) (clocks : List NodeClock) (m i : ℕ) (node : Node) (state : NodeState) : Type 0 where
   pub fits : (library : Sounds) → IsLibrary library → i < length library.leaves → Fits library (length node.children) state
-  pub stands : (setting : Setting) (sub : ℕ → ℕ → List Slot) → setting.plan ≡ plan → sub i 0 ≡ []
+  pub stands : (setting : Setting) (sub : ℕ → ℕ → List Slot) (rank : ℕ) → IsUnder clocks (Main m) rank i → setting.plan ≡ plan → sub i 0 ≡ []
       → StateStands setting sub [] 0 i (work_at setting i node) state
 
 -- the states of the first n nodes before the first instant
-pub record AreNewStates (plan : Plan) (n : ℕ) (states : List NodeState) : Type 0 where
+pub record AreNewStates (plan : Plan) (clocks : List NodeClock) (m n : ℕ) (states : List NodeState) : Type 0 where
   pub size : length states ≡ n
-  pub each : (i : ℕ) (node : Node) (state : NodeState) → slice_get plan.nodes i ≡ Some node → slice_get states i ≡ Some state → IsNewState plan i node state
+  pub each : (i : ℕ) (node : Node) (state : NodeState) → slice_get plan.nodes i ≡ Some node → slice_get states i ≡ Some state → IsNewState plan clocks m i node state
 
 -- an output before the first tick
 pub record IsNewPort (setting : Setting) (port : Port) : Type 0 where

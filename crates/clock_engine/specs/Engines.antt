@@ -1,5 +1,5 @@
 -- An engine's parts, and for what they stand.
-use Rattle.std.specs.Prelude.{◌≡◌, ◌≤◌, ◌*◌, ℕ, suc, Option, Some, None, List, [], ◌∷◌, All, length, map, nat_eq, slice_get, if◌then◌else◌}
+use Rattle.std.specs.Prelude.{◌≡◌, ◌≤◌, ◌*◌, ℕ, suc, Bool, Option, Some, None, List, [], ◌∷◌, All, length, map, nat_eq, slice_get, if◌then◌else◌}
 use Rattle.liq_base.specs.Kinds.{channels_of}
 use Rattle.liq_base.specs.declared.limits.TheConstants.{MAX_NODES}
 use Rattle.plan_core.specs.declared.plan.Plan.{Plan}
@@ -10,10 +10,11 @@ use Rattle.clock_infer.specs.declared.clock_map.ClockMap.{ClockMap}
 use Rattle.clock_infer.specs.declared.clock_map.NodeClock.{NodeClock}
 use Rattle.clock_infer.specs.declared.clock_map.NodeClock.TheVariants.{Main}
 use Rattle.clock_infer.specs.Answers.{IsClockMap}
+use Rattle.frame_core.specs.Calls.{Call}
 use Rattle.op_leaf.specs.Readers.{Answer}
 use Rattle.stream_meaning.specs.Instants.{Setting, lies_in, sub_of}
 use Rattle.stream_meaning.specs.Sinks.{gaps, kind_of}
-use Rattle.stream_meaning.specs.Calls.{IsUnread}
+use Rattle.stream_meaning.specs.Calls.{IsBegin, IsUnread, after_calls, calls_of_tick}
 use Rattle.node_states.specs.Ticks.{with_rest}
 use Rattle.clock_outputs.specs.declared.port.Port.{Port}
 use Rattle.clock_outputs.specs.declared.feed.FeedPort.{FeedPort}
@@ -108,6 +109,17 @@ pub record EngineStands (works : Works) (ticks : ℕ) (answers : ℕ → List An
       (ticks * works.shape.plan.now.frame) answers works.lanes
   pub gaps_are : (rest : ℕ → List Answer) (k : ℕ) (port : Port) → slice_get works.ports.items k ≡ Some port
       → port.gaps ≡ gaps (with_rest (setting_of works) answers rest) port.node ticks
+
+-- an engine that stopped in tick t, before which it stood for these answers, after these calls: they are the first ones of the tick's,
+-- whatever answers follow theirs; and its ticks and gaps are those of the t ticks before
+pub record EngineStopped (works : Works) (t : ℕ) (answers : ℕ → List Answer) (made : List Call) : Type 0 where
+  pub ticks_are : works.ticks ≡ t
+  pub fault : TickFault
+  pub stopped : works.stopped ≡ Some fault
+  pub accepted : ℕ → Bool
+  pub begun : (rest : ℕ → List Answer) → IsBegin made (calls_of_tick (with_rest (setting_of works) (after_calls answers made) rest) accepted works.clock t)
+  pub gaps_are : (rest : ℕ → List Answer) (k : ℕ) (port : Port) → slice_get works.ports.items k ≡ Some port
+      → port.gaps_before ≡ gaps (with_rest (setting_of works) answers rest) port.node t
 
 -- what the sink of this number holds, where it tells it: `held` tells it of a sink
 abbrev pub held_in : {S : Type 0} → (S → Option (List ℕ)) → List Port → List S → ℕ → Option (List ℕ)

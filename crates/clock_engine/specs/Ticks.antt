@@ -1,4 +1,4 @@
--- What a tick of an engine without buffers owes.
+-- What a tick of an engine owes.
 use Rattle.std.specs.Prelude.{◌≡◌, ◌<◌, ◌*◌, ℕ, Option, Some, List, ◌++◌, length, slice_get, ◌⊎◌}
 use Rattle.clock_infer.specs.declared.clock_map.NodeClock.TheVariants.{Main}
 use Rattle.engine_instants.specs.Takes.{HasReader}
@@ -9,7 +9,7 @@ use Rattle.op_leaf.specs.Readers.{Answer}
 use Rattle.node_states.specs.Ticks.{HasStopped, HasTicked}
 use Rattle.clock_outputs.specs.declared.port.Port.{Port}
 use Rattle.clock_outputs.specs.Appends.{RoseAt}
-use Rattle.clock_engine.specs.Engines.{EngineStands, feeds_of, held_in, setting_of}
+use Rattle.clock_engine.specs.Engines.{EngineStands, EngineStopped, feeds_of, held_in, setting_of}
 use Rattle.clock_engine.specs.declared.engine.Works.{Works}
 use Rattle.clock_engine.specs.declared.fault.TickFault.{TickFault}
 use Rattle.clock_engine.specs.declared.fault.TickFault.TheVariants.{Write}
@@ -44,13 +44,14 @@ pub record HasMade {S T : Type 0} (held : S → Option (List ℕ)) (taps_stand :
       → HasTicked (EngineStands new) (setting_of old) old.clock t answers more (held_in held old.ports.items outs_old) (held_in held new.ports.items outs_new)
   pub taps : (calls : List Call) → taps_stand taps_old calls → taps_stand taps_new (calls ++ more)
 
--- the same of a tick that answers a fault: the calls that were made are the first ones of the tick's, and each output has grown by a
--- part of its bytes
+-- the same of a tick that answers a fault: the calls that were made are the first ones of the tick's, each output has grown by a part of
+-- its bytes, and the engine stopped in this tick
 pub record HasFailed {S T : Type 0} (held : S → Option (List ℕ)) (taps_stand : T → List Call → Type 0) (old new : Works) (outs_old outs_new : List S)
     (taps_old taps_new : T) : Type 0 where
   pub made : List Call
   pub engine : (t : ℕ) (answers : ℕ → List Answer) → EngineStands old t answers
       → HasStopped (setting_of old) old.clock t answers made (held_in held old.ports.items outs_old) (held_in held new.ports.items outs_new)
+  pub halted : (t : ℕ) (answers : ℕ → List Answer) → EngineStands old t answers → EngineStopped new t answers made
   pub taps : (calls : List Call) → taps_stand taps_old calls → taps_stand taps_new (calls ++ made)
 
 -- the room of each sink that tells it fell by the piece of a tick

@@ -1,5 +1,7 @@
 // The engine of one clock.
+ghost use Rattle.clock_engine.specs.declared.fault.TickFault.{TickFault as Fault};
 ghost use Rattle.clock_engine.specs.declared.fault.TickFault.TheVariants.{Memory as OutOfMemory, Write};
+ghost use Rattle.frame_core.specs.Calls.{Call};
 ghost use Rattle.clock_outputs.specs.Feeds.{HaveGiven, HaveGivenSome};
 ghost use Rattle.std.specs.Prelude.{◌≡◌, ◌<◌, ◌+◌, ℕ, Some, None, List, [], All, map, length, IfOk, OnOk, OnErr, IfErr};
 ghost use Rattle.plan_core.specs.Plans.{IsWellFormed};
@@ -10,7 +12,7 @@ ghost use Rattle.engine_ticks.specs.Runs.{Heard, HeardSome};
 ghost use Rattle.clock_infer.specs.declared.clock_map.NodeClock.TheVariants.{Main as InMain};
 ghost use Rattle.op_leaf.specs.Readers.{Answer};
 ghost use Rattle.clock_outputs.specs.Appends.{AreKept};
-ghost use Rattle.clock_engine.specs.Engines.{AreClocksOf, AreWorks, EngineStands, after_tick, feed_of, outputs_of, scene_of, setting_of};
+ghost use Rattle.clock_engine.specs.Engines.{AreClocksOf, AreWorks, EngineStands, EngineStopped, after_tick, feed_of, outputs_of, scene_of, setting_of};
 ghost use Rattle.clock_outputs.specs.Appends.{NoneFell};
 ghost use Rattle.stream_meaning.specs.Sinks.{gaps};
 ghost use Rattle.node_states.specs.Ticks.{IsOutput, with_rest};
@@ -80,7 +82,7 @@ fn make_works<'a>(
     ensures clock { IfOk result (λ works. works.clock ≡ clock) }
     ensures stands { IfOk result (λ works. EngineStands works 0 (λ buffer. [])) }
 {
-    let states = states_of(alloc, shape.plan)?;
+    let states = states_of(alloc, &shape, clock)?;
     let silent = Part {
         slot: None,
         pick: None,
@@ -198,6 +200,17 @@ fn give_or_stop<T: Taps>(
     }
 }
 
+// The gaps of an output in whole ticks, where a fault may have stopped the engine.
+fn whole_gaps(port: &Port, stopped: Option<TickFault>) -> u64
+    ensures runs { stopped ≡ None → result ≡ port.now.gaps }
+    ensures stopped { (fault : Fault) → stopped ≡ Some fault → result ≡ port.now.gaps_before }
+{
+    match stopped {
+        None => port.gaps,
+        Some(_) => port.gaps_before,
+    }
+}
+
 impl<'a, O: Sink> ClockEngine<'a, O> {
     /// An engine of a running main clock that made no tick: over a plan, its clocks, its
     /// files, and one sink for each output of the clock, in sink order. Where memory is refused the sinks come back.
@@ -274,16 +287,19 @@ impl<'a, O: Sink> ClockEngine<'a, O> {
         Ok(())
     }
 
-    /// At how many instants of the ticks so far the node of this output, which is one of the clock, offered nothing.
+    /// At how many instants of the ticks made the node of this output, which is one of the clock, offered nothing. A tick
+    /// that stopped the engine is not among them.
     pub fn gaps(&self, sink: u32) -> u64
         requires works { AreWorks self.now.works }
         requires output { (node : ℕ) × IsOutput (setting_of self.now.works) self.now.works.clock sink node }
-        ensures { (ticks : ℕ) (answers rest : ℕ → List Answer) (node : ℕ) → EngineStands self.now.works ticks answers
+        ensures made { (ticks : ℕ) (answers rest : ℕ → List Answer) (node : ℕ) → EngineStands self.now.works ticks answers
+            → IsOutput (setting_of self.now.works) self.now.works.clock sink node → result ≡ gaps (with_rest (setting_of self.now.works) answers rest) node ticks }
+        ensures stopped { (ticks : ℕ) (answers rest : ℕ → List Answer) (made : List Call) (node : ℕ) → EngineStopped self.now.works ticks answers made
             → IsOutput (setting_of self.now.works) self.now.works.clock sink node → result ≡ gaps (with_rest (setting_of self.now.works) answers rest) node ticks }
     {
         for port in &self.works.ports {
             if port.sink == sink {
-                return port.gaps;
+                return whole_gaps(port, self.works.stopped);
             }
         }
         0
@@ -296,9 +312,10 @@ impl<'a, O: Sink> ClockEngine<'a, O> {
         self.works.stopped
     }
 
-    /// How many ticks were made.
+    /// How many ticks were made. A tick that stopped the engine is not among them.
     pub fn ticks(&self) -> u64
-        ensures { (ticks : ℕ) (answers : ℕ → List Answer) → EngineStands self.now.works ticks answers → result ≡ ticks }
+        ensures made { (ticks : ℕ) (answers : ℕ → List Answer) → EngineStands self.now.works ticks answers → result ≡ ticks }
+        ensures stopped { (ticks : ℕ) (answers : ℕ → List Answer) (made : List Call) → EngineStopped self.now.works ticks answers made → result ≡ ticks }
     {
         self.works.ticks
     }

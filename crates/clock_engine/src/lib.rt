@@ -3,7 +3,6 @@
 
 mod engine;
 mod fault;
-pub mod laws;
 mod outputs;
 mod parts;
 

@@ -53,6 +53,7 @@ fn port_of(alloc: Global, shape: &Shape<'_>, sink: u32, node: u32) -> Result<Por
         kind,
         piece,
         gaps: 0,
+        gaps_before: 0,
     })
 }
 

@@ -1,5 +1,5 @@
 // The parts of a new engine.
-ghost use Rattle.std.specs.Prelude.{◌≡◌, ◌<◌, ◌≤◌, ℕ, Some, nat_eq, length, slice_get, IfOk};
+ghost use Rattle.std.specs.Prelude.{◌≡◌, ◌<◌, ◌≤◌, ◌||◌, ℕ, Some, All, false, nat_eq, length, slice_get, slice_index_or, IfOk};
 ghost use Rattle.std.specs.List.{list_any};
 ghost use Rattle.liq_base.specs.declared.limits.TheConstants.{MAX_CHILDREN, MAX_NODES};
 ghost use Rattle.plan_core.specs.declared.node.Node.{Node as PlanNode};
@@ -8,6 +8,7 @@ ghost use Rattle.clock_infer.specs.declared.clock_map.NodeClock.TheVariants.{Mai
 ghost use Rattle.stream_meaning.specs.Instants.{Setting, is_root, same_clock};
 ghost use Rattle.node_states.specs.declared.time.WeekTime.{WeekTime as Time};
 ghost use Rattle.engine_instants.specs.States.{HasRoomFor, over};
+ghost use Rattle.engine_instants.specs.Takes.{IsUnder};
 ghost use Rattle.engine_clocks.specs.Clocks.{AreOwnRoots};
 ghost use Rattle.clock_engine.specs.Beginnings.{AreNewStates, IsNewState};
 
@@ -19,17 +20,17 @@ use node_states::{NodeState, WeekTime};
 use plan_core::{Node, Plan, SinkPlan};
 use std::alloc::Global;
 
-/// The states of the nodes before the first instant.
-pub fn states_of(alloc: Global, plan: &Plan) -> Result<Vec<NodeState>, Memory>
-    requires rate { 0 < plan.now.rate }
-    requires nodes { AreNodes plan.now.nodes }
-    requires few { length plan.now.nodes ≤ MAX_NODES }
-    ensures { IfOk result (λ states. AreNewStates plan.now (length plan.now.nodes) states.items) }
+/// The states of the nodes before the first instant, where those that the main clock of this number does not drive are idle.
+pub fn states_of(alloc: Global, shape: &Shape<'_>, clock: u32) -> Result<Vec<NodeState>, Memory>
+    requires rate { 0 < shape.now.plan.now.rate }
+    requires nodes { AreNodes shape.now.plan.now.nodes }
+    requires few { length shape.now.plan.now.nodes ≤ MAX_NODES }
+    ensures { IfOk result (λ states. AreNewStates shape.now.plan.now shape.now.clocks.now clock (length shape.now.plan.now.nodes) states.items) }
 {
-    let nodes = plan.nodes.as_slice();
+    let nodes = shape.plan.nodes.as_slice();
     let mut states = Vec::with_capacity(alloc, nodes.len())?;
     for i in 0..nodes.len() {
-        states.push(state_of(alloc, plan, &nodes[i], i as u32)?)?;
+        states.push(state_of(alloc, shape, clock, &nodes[i], i as u32)?)?;
     }
     Ok(states)
 }
@@ -46,14 +47,13 @@ pub fn is_main(of: NodeClock, clock: u32) -> bool
 
 /// For each node, whether its own clock demands it of itself.
 pub fn own_roots(alloc: Global, shape: &Shape<'_>) -> Result<Vec<bool>, Memory>
-    requires { length shape.now.clocks.now ≡ length shape.now.plan.now.nodes }
+    requires in_clocks { length shape.now.clocks.now ≡ length shape.now.plan.now.nodes }
+    requires sinks { All (λ sink. sink_node sink < length shape.now.plan.now.nodes) shape.now.plan.now.sinks }
     ensures size { IfOk result (λ own. length own.items ≡ length shape.now.plan.now.nodes) }
     ensures roots { IfOk result (λ own. (other : Setting) → AreOwnRoots (over shape.now.plan.now shape.now.library.now shape.now.clocks.now other) own.items) }
 {
-    let mut own = Vec::with_capacity(alloc, shape.clocks.len())?;
-    for i in 0..shape.clocks.len() {
-        own.push(is_own_root(shape, shape.clocks[i], i))?;
-    }
+    let mut own = vec![in alloc; false; shape.clocks.len()]?;
+    mark_roots(shape, &mut own);
     Ok(own)
 }
 
@@ -77,14 +77,48 @@ pub fn most_children(plan: &Plan) -> usize
     most
 }
 
-// The state of a node.
-fn state_of(alloc: Global, plan: &Plan, node: &Node, i: u32) -> Result<NodeState, Memory>
-    requires rate { 0 < plan.now.rate }
+// The state of node i. One that the clock does not drive takes no memory.
+fn state_of(
+    alloc: Global,
+    shape: &Shape<'_>,
+    clock: u32,
+    node: &Node,
+    i: u32,
+) -> Result<NodeState, Memory>
+    requires rate { 0 < shape.now.plan.now.rate }
     requires range { IsInRange node.now.op }
     requires few { length node.now.children ≤ MAX_CHILDREN }
-    ensures { IfOk result (λ state. IsNewState plan.now i node.now state) }
+    ensures { IfOk result (λ state. IsNewState shape.now.plan.now shape.now.clocks.now clock i node.now state) }
 {
-    NodeState::new(alloc, plan, node, i)
+    if is_driven(shape.clocks, clock, i) {
+        return NodeState::new(alloc, shape.plan, node, i);
+    }
+    Ok(NodeState::Idle)
+}
+
+// Whether a main clock drives node i, which lies in it or in a sub-clock below it. It goes up by as many clocks as there are
+// nodes, which is more than nest in any plan.
+fn is_driven(clocks: &[NodeClock], clock: u32, i: u32) -> bool
+    ensures { result ≡ false → (rank : ℕ) → IsUnder clocks.now (InMain clock) rank i → ⊥ }
+{
+    let mut at = i;
+    for _ in 0..clocks.len() {
+        match clock_at(clocks, at) {
+            NodeClock::Main(m) => return m == clock,
+            NodeClock::Sub(k) => at = k,
+        }
+    }
+    true
+}
+
+// The clock of a node.
+fn clock_at(clocks: &[NodeClock], i: u32) -> NodeClock
+    ensures { result ≡ slice_index_or clocks.now i (InMain 0) }
+{
+    match clocks.get(i as usize) {
+        Some(clock) => *clock,
+        None => NodeClock::Main(0),
+    }
 }
 
 // The node of a sink.
@@ -97,24 +131,47 @@ fn node_of(sink: &SinkPlan) -> u32
     }
 }
 
-// Whether a sink has this node.
-fn has_sink(sinks: &[SinkPlan], i: usize) -> bool
-    ensures { result ≡ list_any (λ sink. nat_eq (sink_node sink) i) sinks.now }
+// The same as marks, of which none is set before.
+fn mark_roots(shape: &Shape<'_>, own: &mut [bool])
+    requires in_clocks { length shape.now.clocks.now ≡ length own.old }
+    requires sinks { All (λ sink. sink_node sink < length own.old) shape.now.plan.now.sinks }
+    requires none { (i : ℕ) → slice_index_or own.old i false ≡ false }
+    ensures { (other : Setting) (i : ℕ) → i < length own.old
+        → slice_index_or own.new i false ≡ is_root (over shape.now.plan.now shape.now.library.now shape.now.clocks.now other) (slice_index_or shape.now.clocks.now i (InMain 0)) i }
+{
+    mark_sinks(shape.plan.sinks.as_slice(), own);
+    keep_roots(shape, own);
+}
+
+// Marks the nodes of sinks.
+fn mark_sinks(sinks: &[SinkPlan], marks: &mut [bool])
+    requires { All (λ sink. sink_node sink < length marks.old) sinks.now }
+    ensures { (i : ℕ) → slice_index_or marks.new i false ≡ (slice_index_or marks.old i false || list_any (λ sink. nat_eq (sink_node sink) i) sinks.now) }
 {
     for sink in sinks {
-        if node_of(sink) as usize == i {
-            return true;
-        }
+        marks[node_of(sink) as usize] = true;
     }
-    false
+}
+
+// Of marks for the nodes of sinks, makes those for what each node's own clock demands of itself.
+fn keep_roots(shape: &Shape<'_>, own: &mut [bool])
+    requires in_clocks { length shape.now.clocks.now ≡ length own.old }
+    requires marks { (i : ℕ) → slice_index_or own.old i false ≡ list_any (λ sink. nat_eq (sink_node sink) i) shape.now.plan.now.sinks }
+    ensures { (other : Setting) (i : ℕ) → i < length own.old
+        → slice_index_or own.new i false ≡ is_root (over shape.now.plan.now shape.now.library.now shape.now.clocks.now other) (slice_index_or shape.now.clocks.now i (InMain 0)) i }
+{
+    for i in 0..shape.clocks.len() {
+        own[i] = is_own_root(shape, shape.clocks[i], i, own[i]);
+    }
 }
 
 // Whether its own clock demands node i of itself: a main clock the nodes of sinks, a sub-clock its crossfade's child.
-fn is_own_root(shape: &Shape<'_>, of: NodeClock, i: usize) -> bool
+fn is_own_root(shape: &Shape<'_>, of: NodeClock, i: usize, has_sink: bool) -> bool
+    requires { has_sink ≡ list_any (λ sink. nat_eq (sink_node sink) i) shape.now.plan.now.sinks }
     ensures { (other : Setting) → result ≡ is_root (over shape.now.plan.now shape.now.library.now shape.now.clocks.now other) of i }
 {
     match of {
-        NodeClock::Main(_) => has_sink(shape.plan.sinks.as_slice(), i),
+        NodeClock::Main(_) => has_sink,
         NodeClock::Sub(k) => child_of(shape.plan.nodes.as_slice(), k) as usize == i,
     }
 }

@@ -1,4 +1,4 @@
--- What an output has heard of its node: the bytes of the tick so far, and the gaps since the beginning.
+-- What an output has heard of its node: the bytes of the tick so far, and the gaps since the beginning, with and without the tick.
 use Rattle.std.specs.Prelude.{ℕ, ◌+◌, ◌-◌, ◌*◌, ◌^◌, ◌≤◌, min, Some, None, List, [], ◌∷◌, ◌++◌, All, length}
 use Rattle.liq_base.specs.Kinds.{channels_of}
 use Rattle.frame_core.specs.Slots.{Slot}
@@ -18,11 +18,19 @@ with_bytes port bytes gaps = record {
   kind = port.kind;
   piece = record { bytes = bytes; room = port.piece.room };
   gaps = gaps;
+  gaps_before = port.gaps_before;
 }
 
 -- at the start of a tick
 abbrev pub emptied : Port → Port
-emptied port = with_bytes port [] port.gaps
+emptied port = record {
+  sink = port.sink;
+  node = port.node;
+  kind = port.kind;
+  piece = record { bytes = []; room = port.piece.room };
+  gaps = port.gaps;
+  gaps_before = port.gaps;
+}
 
 -- after one more slot of its node
 abbrev pub after_slot : Port → Slot → Port

@@ -6,6 +6,7 @@ ghost use Rattle.frame_core.specs.Calls.{Adds};
 ghost use Rattle.std.specs.Prelude.{[]};
 ghost use Rattle.clock_outputs.specs.Feeds.{HasGiven, HaveGiven, HaveGivenSome, with_slot};
 
+use crate::port::slot_of;
 use frame_core::{Cell, Chunk, Frame, Gave, Taps};
 use liq_base::Memory;
 use std::alloc::Global;
@@ -76,15 +77,5 @@ fn give_one<T: Taps>(alloc: Global, feed: &FeedPort, taps: &mut T) -> Result<(),
             drop::<Chunk>(chunk);
             Err(refused)
         }
-    }
-}
-
-// What a node offers, by what the nodes do.
-fn slot_of(parts: &[Part], node: u32) -> Option<Cell>
-    ensures { result ≡ (part_at parts.now node).slot }
-{
-    match parts.get(node as usize) {
-        Some(part) => part.slot,
-        None => None,
     }
 }

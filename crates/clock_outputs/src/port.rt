@@ -8,18 +8,30 @@ use frame_core::Cell;
 use liq_base::Kind;
 use stream_meaning::Part;
 
-/// An output of a clock: its number among the sinks of the plan, its node, the bytes of the tick so far, and at how many
-/// instants its node offered nothing.
+/// An output of a clock: its number among the sinks of the plan, its node, and the bytes of the tick so far.
 #[derive(Debug, Drop)]
 pub struct Port {
     pub sink: u32,
     pub node: u32,
     pub kind: Kind,
     pub piece: Piece,
+
+    /// At how many instants its node offered nothing, those of the tick so far among them.
     pub gaps: u64,
+
+    /// The same of the ticks before this one.
+    pub gaps_before: u64,
 }
 
 impl Port {
+    // Begins a tick.
+    fn begin(&mut self)
+        ensures { self.new ≡ emptied self.old }
+    {
+        self.piece.clear();
+        self.gaps_before = self.gaps;
+    }
+
     // Takes one more slot of its node.
     fn hear(&mut self, slot: Option<Cell>)
         requires { HasRoomLeft 1 self.old }
@@ -37,7 +49,7 @@ pub fn begin_tick(ports: &mut Vec<Port>)
     ensures { ports.new.items ≡ map emptied ports.old.items }
 {
     for k in 0..ports.len() {
-        ports[k].piece.clear();
+        ports[k].begin();
     }
 }
 
@@ -53,7 +65,7 @@ pub fn hear_all(ports: &mut Vec<Port>, parts: &[Part])
 }
 
 // What a node offers, by what the nodes do.
-fn slot_of(parts: &[Part], node: u32) -> Option<Cell>
+pub(crate) fn slot_of(parts: &[Part], node: u32) -> Option<Cell>
     ensures { result ≡ (part_at parts.now node).slot }
 {
     match parts.get(node as usize) {

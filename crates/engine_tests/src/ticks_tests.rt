@@ -192,7 +192,7 @@ fn check_ticks(
     assert_eq!(rt; tick(rt, alloc, engine, taps), Ok(()));
     assert_eq!(rt; tick(rt, alloc, engine, taps), ending);
     assert_eq!(rt; engine.stopped(), ending.err());
-    assert_eq!(rt; engine.works.ticks, if ending.is_ok() { 3 } else { 2 });
+    assert_eq!(rt; engine.ticks(), if ending.is_ok() { 3 } else { 2 });
 }
 
 // One sink holds these bytes.

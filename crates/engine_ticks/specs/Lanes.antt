@@ -1,8 +1,6 @@
 -- What changes from instant to instant, and what it stands for.
-use Rattle.std.specs.Prelude.{◌≡◌, ℕ, List, Some, slice_get}
-use Rattle.plan_core.specs.declared.node.Node.{Node}
+use Rattle.std.specs.Prelude.{◌≡◌, ℕ, List}
 use Rattle.plan_core.specs.declared.plan.Plan.{Plan}
-use Rattle.plan_core.specs.Plans.{IsNoReader}
 use Rattle.clock_infer.specs.declared.clock_map.NodeClock.{NodeClock}
 use Rattle.frame_core.specs.Slots.{Slot}
 use Rattle.frame_core.specs.Library.{Sounds}
@@ -11,10 +9,6 @@ use Rattle.stream_meaning.specs.Instants.{Setting}
 use Rattle.node_states.specs.Times.{TimeStands}
 use Rattle.engine_clocks.specs.Clocks.{AreClockLanes, HasRanks, RanAsNeeded, Stand}
 use Rattle.engine_ticks.specs.declared.lanes.Lanes.{Lanes}
-
--- a plan without readers of buffers
-pub record HasNoReaders (plan : Plan) : Type 0 where
-  pub readers : (i : ℕ) (node : Node) → slice_get plan.nodes i ≡ Some node → IsNoReader node.op
 
 -- lanes for the nodes of this plan, with these files and these clocks of its nodes
 pub record AreLanes (plan : Plan) (library : Sounds) (clocks : List NodeClock) (lanes : Lanes) : Type 0 where

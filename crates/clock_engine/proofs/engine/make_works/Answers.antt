@@ -1,11 +1,10 @@
 use Rattle.std.proofs.Common.{◌∙◌, rules, [], length, ap, arith, refl}
 use Rattle.std.proofs.lemmas.Option.{slice_get_within}
-use Rattle.clock_infer.specs.declared.clock_map.NodeClock.TheVariants.{Main}
 use Rattle.stream_meaning.specs.Instants.{Setting}
 use Rattle.node_states.specs.Ticks.{with_rest}
 use Rattle.clock_engine.specs.Beginnings.{IsNewPort}
 use Rattle.clock_engine.proofs.Made.{all_at}
-use Rattle.clock_engine.proofs.Mapped.{has_ranks}
+use Rattle.clock_engine.proofs.Mapped.{has_ranks, rank_low}
 use Rattle.clock_engine.proofs.Starting.{all_alike, new_stand}
 use Rattle.clock_engine.proofs.engine.make_works.Goals as goal
 
@@ -57,6 +56,6 @@ returns-clause-stands c =
       made = refl;
       runs = refl;
       others = λ buffer unread. refl;
-      lanes = λ rest. new_stand (with_rest S (λ buffer. []) rest) (Main c.args.clock) _ (length c.args.shape.plan.now.nodes) _ (has_ranks c.args.shape.plan.now c.args.shape.clocks.now c.requires.clocks c.requires.in_clocks) c.in_ok-states.ensures c.new-time.ensures.stands c.in_ok-times.ensures.each;
+      lanes = λ rest. new_stand (with_rest S (λ buffer. []) rest) c.args.clock _ (length c.args.shape.plan.now.nodes) _ (has_ranks c.args.shape.plan.now c.args.shape.clocks.now c.requires.clocks c.requires.in_clocks) (rank_low c.args.shape.plan.now c.args.shape.clocks.now c.requires.clocks c.requires.in_clocks) c.in_ok-states.ensures c.new-time.ensures.stands c.in_ok-times.ensures.each;
       gaps_are = λ rest k port at. (all_at (IsNewPort S) c.in_ok-ports.ports.items (c.in_ok-ports.ensures.new S) k port at).gaps;
     }

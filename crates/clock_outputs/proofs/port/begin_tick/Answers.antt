@@ -6,5 +6,4 @@ use Rattle.clock_outputs.proofs.port.begin_tick.Goals as goal
 pub loop-k-preserved : goal.loop-k-preserved
 loop-k-preserved c =
     mapped_more emptied c.args.ports.now.items c.loop-k.ports.items c.loop-k.k c.index_mut.result.now _ (omega arith) c.loop-k.invariant
-    (ap (λ piece. record { sink = c.index_mut.result.now.sink; node = c.index_mut.result.now.node; kind = c.index_mut.result.now.kind; piece = piece; gaps = c.index_mut.result.now.gaps }) c.clear.ensures
-    ∙ ap emptied c.index_mut.ensures.value)
+    (c.begin.ensures ∙ ap emptied c.index_mut.ensures.value)

@@ -64,5 +64,5 @@ loop-k-preserved g c =
     items ∙ ap (λ counts. counts ++ c.gaps.result ∷ []) (c.loop-k.invariant setting world ticks plan_is clocks_is engines)
     ∙ ap (λ count. counts_in world ticks (take c.loop-k.k c.args.plan.now.sinks) ++ count ∷ [])
     (gaps_here c.args.plan.now c.args.clocks.now setting world ticks plan_is clocks_is c.loop-k.k c.in-Output.name c.in-Output.node c.in-Output.fallible at c.clock_of-clock.result c.clock_of-clock.ensures
-    c.index-engines-clock.result (engines.each c.clock_of-clock.result c.index-engines-clock.result there) c.gaps.result c.gaps.ensures)
+    c.index-engines-clock.result (engines.each c.clock_of-clock.result c.index-engines-clock.result there) c.gaps.result c.gaps.ensures.made)
     ∙ sym (counts_next world ticks c.args.plan.now.sinks c.loop-k.k c.in-Output.name c.in-Output.node c.in-Output.fallible at)

@@ -7,12 +7,21 @@ use Rattle.engine_instants.proofs.Places.{below_or_same}
 use Rattle.clock_engine.proofs.Numbered.{port_found, port_node}
 use Rattle.clock_engine.proofs.engine.ClockEngine.gaps.Goals as goal
 
-pub returns-then-port-sink : goal.returns-then-port-sink
-returns-then-port-sink g c ticks answers rest node stands output =
+pub returns-then-port-sink-clause-made : goal.returns-then-port-sink-clause-made
+returns-then-port-sink-clause-made g c ticks answers rest node stands output =
     let within : c.loop-port.port-index < length c.args.self.now.works.ports.items = omega (arith, c.loop-port-test.true, ap length c.deref-port-items.ensures.value) in
     let at : slice_get c.args.self.now.works.ports.items c.loop-port.port-index ≡ Some c.port-item.result =
     slice_get_read _ _ _ _ refl within (c.port-item.is ∙ ap (λ xs. get_or xs c.loop-port.port-index c.port-item.result) c.deref-port-items.ensures.value) in
-    stands.gaps_are rest c.loop-port.port-index c.port-item.result at
+    c.whole_gaps.ensures.runs stands.runs ∙ stands.gaps_are rest c.loop-port.port-index c.port-item.result at
+    ∙ ap (λ i. gaps (with_rest (setting_of c.args.self.now.works) answers rest) i ticks)
+    (port_node (setting_of c.args.self.now.works) c.args.self.now.works.clock c.args.self.now.works.ports.items c.requires.works.outputs c.args.sink node output c.loop-port.port-index c.port-item.result at c.if-port-sink.true)
+
+pub returns-then-port-sink-clause-stopped : goal.returns-then-port-sink-clause-stopped
+returns-then-port-sink-clause-stopped g c ticks answers rest made node stopped output =
+    let within : c.loop-port.port-index < length c.args.self.now.works.ports.items = omega (arith, c.loop-port-test.true, ap length c.deref-port-items.ensures.value) in
+    let at : slice_get c.args.self.now.works.ports.items c.loop-port.port-index ≡ Some c.port-item.result =
+    slice_get_read _ _ _ _ refl within (c.port-item.is ∙ ap (λ xs. get_or xs c.loop-port.port-index c.port-item.result) c.deref-port-items.ensures.value) in
+    c.whole_gaps.ensures.stopped stopped.fault stopped.stopped ∙ stopped.gaps_are rest c.loop-port.port-index c.port-item.result at
     ∙ ap (λ i. gaps (with_rest (setting_of c.args.self.now.works) answers rest) i ticks)
     (port_node (setting_of c.args.self.now.works) c.args.self.now.works.clock c.args.self.now.works.ports.items c.requires.works.outputs c.args.sink node output c.loop-port.port-index c.port-item.result at c.if-port-sink.true)
 
@@ -28,8 +37,14 @@ loop-port-preserved g c k port below found same =
           c.if-port-sink.false (ap (λ p. p.sink) its ∙ same))
     ]
 
-pub returns : goal.returns
-returns g c ticks answers rest node stands output =
+pub returns-clause-made : goal.returns-clause-made
+returns-clause-made g c ticks answers rest node stands output =
+    let found = port_found (setting_of c.args.self.now.works) c.args.self.now.works.clock c.args.self.now.works.ports.items c.requires.works.outputs c.args.sink node output in
+    let within : found.0 < length c.args.self.now.works.ports.items = slice_get_within c.args.self.now.works.ports.items found.0 found.1 found.2 in
+    absurd (c.loop-port.invariant found.0 found.1 (omega (arith, within, c.loop-port-test.false, ap length c.deref-port-items.ensures.value)) found.2 found.3)
+
+pub returns-clause-stopped : goal.returns-clause-stopped
+returns-clause-stopped g c ticks answers rest made node stopped output =
     let found = port_found (setting_of c.args.self.now.works) c.args.self.now.works.clock c.args.self.now.works.ports.items c.requires.works.outputs c.args.sink node output in
     let within : found.0 < length c.args.self.now.works.ports.items = slice_get_within c.args.self.now.works.ports.items found.0 found.1 found.2 in
     absurd (c.loop-port.invariant found.0 found.1 (omega (arith, within, c.loop-port-test.false, ap length c.deref-port-items.ensures.value)) found.2 found.3)

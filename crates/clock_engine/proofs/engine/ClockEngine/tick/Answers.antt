@@ -2,9 +2,9 @@ use Rattle.std.proofs.Common.{rules, ◌≡◌, ◌<◌, ◌+◌, ◌∙◌, ◌
 use Rattle.std.proofs.lemmas.Option.{slice_get_read, slice_get_within}
 use Rattle.clock_outputs.specs.Appends.{HaveRoom, TookAll, TookParts}
 use Rattle.clock_engine.specs.declared.fault.TickFault.TheVariants.{Memory, Write}
-use Rattle.clock_engine.specs.Engines.{AreWorks, after_tick, setting_of}
+use Rattle.clock_engine.specs.Engines.{AreWorks, EngineStopped, after_tick, setting_of}
 use Rattle.clock_engine.specs.Ticks.{HasEnds, HasFailed, HasMade, HaveTicksRoom}
-use Rattle.clock_engine.proofs.Made.{as_many, has_broken, has_stopped, has_stopped_giving, has_ticked, have_room, parts_after, port_before, rooms_fell, sink_before, room_after}
+use Rattle.clock_engine.proofs.Made.{as_many, halted_by, has_broken, has_stopped, has_stopped_giving, has_ticked, have_room, parts_after, port_before, rooms_fell, sink_before, room_after}
 use Rattle.clock_engine.proofs.Feeding.{feeds_some, feeds_within, if_fault}
 use Rattle.clock_outputs.proofs.Gives.{adds_more, on_fault}
 use Rattle.clock_engine.proofs.engine.ClockEngine.tick.Goals as goal
@@ -37,6 +37,13 @@ returns-in-Err-clause-stopped g c =
           has_stopped c.args.self.now.works c.run_or_stop.new.works c.requires.works g.T.Taps.stands c.args.taps.now c.run_or_stop.new.taps h t answers stands c.requires.few g.O.Sink.held g.O.Sink.room
           c.args.self.now.outs.items c.append_all.new.outs.items c.requires.sinks c.append_all.ensures.sizes
           (subst (λ ports. TookParts g.O.Sink.held g.O.Sink.room ports c.args.self.now.outs.items c.append_all.new.outs.items) c.deref.ensures.value c.in-Err.ensures.part);
+      halted = λ t answers stands.
+          subst (λ w. EngineStopped w t answers h.more)
+          (sym (ap (λ w. after_tick w c.run_or_stop.new.works w.ticks (Some (Write c.index.result.now.sink))) c.in_ok-run_or_stop.ensures.kept))
+          (halted_by c.args.self.now.works c.run_or_stop.new.works c.requires.works c.run_or_stop.ensures.lanes h.slots h.ports_are t answers h.more _ _ (Write c.index.result.now.sink) stands
+          (has_stopped c.args.self.now.works c.run_or_stop.new.works c.requires.works g.T.Taps.stands c.args.taps.now c.run_or_stop.new.taps h t answers stands c.requires.few g.O.Sink.held g.O.Sink.room
+          c.args.self.now.outs.items c.append_all.new.outs.items c.requires.sinks c.append_all.ensures.sizes
+          (subst (λ ports. TookParts g.O.Sink.held g.O.Sink.room ports c.args.self.now.outs.items c.append_all.new.outs.items) c.deref.ensures.value c.in-Err.ensures.part)));
       taps = h.taps;
     }
 
@@ -94,6 +101,13 @@ returns-in_err-give_or_stop-clause-stopped g c =
           has_stopped_giving c.args.self.now.works c.run_or_stop.new.works c.requires.works g.T.Taps.stands c.args.taps.now c.run_or_stop.new.taps h t answers stands c.requires.few
           g.O.Sink.held g.O.Sink.room c.args.self.now.outs.items c.append_all.new.outs.items c.requires.sinks c.append_all.ensures.sizes
           (subst (λ ports. TookAll g.O.Sink.held g.O.Sink.room ports (length ports) c.args.self.now.outs.items c.append_all.new.outs.items) c.deref.ensures.value took) c.give_or_stop.new.taps v;
+      halted = λ t answers stands.
+          subst (λ w. EngineStopped w t answers (h.more ++ v.made))
+          (sym (ap (λ w. after_tick w c.run_or_stop.new.works w.ticks (Some Memory)) c.in_ok-run_or_stop.ensures.kept))
+          (halted_by c.args.self.now.works c.run_or_stop.new.works c.requires.works c.run_or_stop.ensures.lanes h.slots h.ports_are t answers (h.more ++ v.made) _ _ Memory stands
+          (has_stopped_giving c.args.self.now.works c.run_or_stop.new.works c.requires.works g.T.Taps.stands c.args.taps.now c.run_or_stop.new.taps h t answers stands c.requires.few
+          g.O.Sink.held g.O.Sink.room c.args.self.now.outs.items c.append_all.new.outs.items c.requires.sinks c.append_all.ensures.sizes
+          (subst (λ ports. TookAll g.O.Sink.held g.O.Sink.room ports (length ports) c.args.self.now.outs.items c.append_all.new.outs.items) c.deref.ensures.value took) c.give_or_stop.new.taps v));
       taps = adds_more g.T.Taps.stands c.args.taps.now c.run_or_stop.new.taps c.give_or_stop.new.taps h.more v.made h.taps v.taps;
     }))
 
@@ -105,6 +119,10 @@ returns-in_err-run_or_stop-clause-stopped g c =
       made = h.made;
       engine = λ t answers stands.
           has_broken c.args.self.now.works c.run_or_stop.new.works c.requires.works g.T.Taps.stands c.args.taps.now c.run_or_stop.new.taps h t answers stands g.O.Sink.held c.args.self.now.outs.items;
+      halted = λ t answers stands.
+          subst (λ w. EngineStopped w t answers h.made) (sym c.in_err-run_or_stop.ensures.ended.1)
+          (halted_by c.args.self.now.works c.run_or_stop.new.works c.requires.works c.run_or_stop.ensures.lanes h.slots h.ports_are t answers h.made _ _ Memory stands
+          (has_broken c.args.self.now.works c.run_or_stop.new.works c.requires.works g.T.Taps.stands c.args.taps.now c.run_or_stop.new.taps h t answers stands g.O.Sink.held c.args.self.now.outs.items));
       taps = h.taps;
     })
 
