@@ -2,8 +2,8 @@ use Rattle.std.proofs.Common.{◌<◌, length}
 use Rattle.std.proofs.lemmas.List.Elements.{All-contains}
 use Rattle.plan_core.specs.Plans.{sink_node}
 use Rattle.stations.specs.Stations.{setting_of}
-use Rattle.station_laws.proofs.Gapless.{is_setting}
-use Rattle.station_laws.proofs.laws.infallible_outputs_have_no_gaps.Goals as goal
+use Rattle.stations.proofs.Gapless.{is_setting}
+use Rattle.stations.proofs.laws.infallible_outputs_have_no_gaps.Goals as goal
 
 pub returns : goal.returns
 returns c = λ files station run plan accepted start mark name node fallible marking among true.

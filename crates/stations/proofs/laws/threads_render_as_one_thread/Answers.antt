@@ -1,6 +1,6 @@
-use Rattle.station_laws.proofs.AsOne.{as_one_thread}
-use Rattle.station_laws.proofs.Gapless.{is_bare_setting}
-use Rattle.station_laws.proofs.laws.threads_render_as_one_thread.Goals as goal
+use Rattle.stations.proofs.AsOne.{as_one_thread}
+use Rattle.stations.proofs.Gapless.{is_bare_setting}
+use Rattle.stations.proofs.laws.threads_render_as_one_thread.Goals as goal
 
 pub returns : goal.returns
 returns c = λ files station run plan accepted start lawful local.

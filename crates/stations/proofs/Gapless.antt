@@ -6,7 +6,7 @@ use Rattle.stations.specs.Findings.{IsAccepted, rules_of}
 use Rattle.run_records.specs.Records.{Run}
 use Rattle.stations.specs.Stations.{Station, bare, setting_of}
 use Rattle.stream_meaning.specs.Settings.{IsSetting}
-use Rattle.station_laws.proofs.Walked.{leaves_long, singles_have_one}
+use Rattle.stations.proofs.Walked.{leaves_long, singles_have_one}
 
 pub is_setting : (files : Files) (station : Station) (run : Run) → IsWellFormed station.plan
     → IsAccepted files station.plan station.ticks station.library station.clocks → station.start < 604800
