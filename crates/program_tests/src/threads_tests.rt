@@ -111,14 +111,29 @@ fn check_output(rt: &impl Abort, output: &[u8], cycles: usize) {
     }
 }
 
-#[test]
-fn two_clocks_at_once(rt: HostRuntime) -> Result<(), Fail> {
-    let alloc = rt.alloc();
-    let mut shelf = shelf(alloc, JOINED)?;
-    let words = words_of(alloc, "render f 4 --window=16")?;
-    let (mut out, mut err) = (sink(alloc)?, sink(alloc)?);
+// The status of a call of these words.
+fn call<R: Threads + Wait + Sync, G: Gate + Sync>(
+    rt: &R,
+    alloc: Global,
+    line: &str,
+    shelf: &mut MemShelf,
+    out: &mut MemSink,
+    gate: &G,
+) -> Result<u8, Fail> {
+    let words = words_of(alloc, line)?;
+    let mut err = sink(alloc)?;
+    Ok(liq(rt, alloc, &words, shelf, out, &mut err, gate))
+}
+
+// Renders four ticks of both clocks, which go on in turn.
+fn check_turns<R: Abort + Threads + Wait + Sync>(
+    rt: &R,
+    alloc: Global,
+    shelf: &mut MemShelf,
+) -> Result<(), Fail> {
     let gate = Turns::new();
-    let status = liq(&rt, alloc, &words, &mut shelf, &mut out, &mut err, &gate);
+    let mut out = sink(alloc)?;
+    let status = call(rt, alloc, "render f 4 --window=16", shelf, &mut out, &gate)?;
     assert!(rt; !gate.late.load(Ordering::SeqCst));
     assert_eq!(rt; status, 0);
     assert!(rt;
@@ -126,12 +141,28 @@ fn two_clocks_at_once(rt: HostRuntime) -> Result<(), Fail> {
             b"output A samples 32 gaps 0\noutput C samples 32 gaps 0\nbuffer 0 accepted 4 full 0 "
         )
     );
+    Ok(())
+}
+
+#[test]
+fn two_clocks_at_once(rt: HostRuntime) -> Result<(), Fail> {
+    let mut shelf = shelf(rt.alloc(), JOINED)?;
+    check_turns(&rt, rt.alloc(), &mut shelf)?;
     check_output(&rt, shelf.get("A").unwrap_or(&[]), 11);
     check_output(&rt, shelf.get("C").unwrap_or(&[]), 8);
     Ok(())
 }
 
-// What a call of these words leaves, as one text: the status, the report, the output `A`, and the output `C`.
+// What a call left, as one text: the status, the report, the output `A`, and the output `C`.
+fn joined(alloc: Global, status: u8, report: &[u8], shelf: &MemShelf) -> Result<Vec<u8>, Fail> {
+    let mut left = vec![in alloc; status]?;
+    left.extend_from_slice(report)?;
+    left.extend_from_slice(shelf.get("A").unwrap_or(&[]))?;
+    left.extend_from_slice(shelf.get("C").unwrap_or(&[]))?;
+    Ok(left)
+}
+
+// What a call of these words leaves.
 fn rendered<R: Threads + Wait + Sync>(
     rt: &R,
     alloc: Global,
@@ -139,14 +170,9 @@ fn rendered<R: Threads + Wait + Sync>(
     line: &str,
 ) -> Result<Vec<u8>, Fail> {
     let mut shelf = shelf(alloc, script)?;
-    let words = words_of(alloc, line)?;
-    let (mut out, mut err) = (sink(alloc)?, sink(alloc)?);
-    let mut left = Vec::new(alloc);
-    left.push(liq(rt, alloc, &words, &mut shelf, &mut out, &mut err, &FreeGate))?;
-    left.extend_from_slice(out.held())?;
-    left.extend_from_slice(shelf.get("A").unwrap_or(&[]))?;
-    left.extend_from_slice(shelf.get("C").unwrap_or(&[]))?;
-    Ok(left)
+    let mut out = sink(alloc)?;
+    let status = call(rt, alloc, line, &mut shelf, &mut out, &FreeGate)?;
+    joined(alloc, status, out.held(), &shelf)
 }
 
 const WINDOWS: &[&str] = &[
@@ -200,17 +226,29 @@ const ALONE: &[(&str, Option<u8>)] = &[
     ("render", Some(2)),
 ];
 
+// What a call of these words answers without threads.
+fn call_alone(
+    alloc: Global,
+    line: &str,
+    shelf: &mut MemShelf,
+    out: &mut MemSink,
+    err: &mut MemSink,
+) -> Result<Option<u8>, Fail> {
+    let words = words_of(alloc, line)?;
+    Ok(liq_alone(alloc, &words, shelf, out, err))
+}
+
 // A row of the table: where nothing is answered, nothing was written.
 fn check_alone(rt: &impl Abort, alloc: Global, line: &str, answer: Option<u8>) -> Result<(), Fail> {
     let mut shelf = shelf(alloc, SHARED)?;
-    let words = words_of(alloc, line)?;
-    let (mut out, mut err) = (sink(alloc)?, sink(alloc)?);
-    let found = liq_alone(alloc, &words, &mut shelf, &mut out, &mut err);
-    assert_eq!(rt; found, answer);
-    let written = line.starts_with("render") && answer == Some(0);
-    assert_eq!(rt; shelf.get("A").is_some(), written);
-    assert_eq!(rt; out.held().is_empty(), answer != Some(0));
-    assert_eq!(rt; err.held().is_empty(), answer.unwrap_or(0) == 0);
+    let mut out = sink(alloc)?;
+    let mut err = sink(alloc)?;
+    let found = call_alone(alloc, line, &mut shelf, &mut out, &mut err)?;
+    let done = answer == Some(0);
+    assert!(rt; found == answer);
+    assert!(rt; shelf.get("A").is_some() == (done && line.starts_with("render")));
+    assert!(rt; out.held().is_empty() != done);
+    assert!(rt; err.held().is_empty() == (done || answer.is_none()));
     Ok(())
 }
 
