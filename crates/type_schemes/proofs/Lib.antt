@@ -3,6 +3,8 @@ pub mod NewTypes
 pub mod NewKinds
 pub mod Instancing
 pub mod Members
+pub mod Leads
+pub mod Visits
 pub mod Names
 pub mod Builtins
 pub mod Openers

@@ -1,12 +1,9 @@
--- Numbers among others, and the variables of a type.
-use Rattle.std.proofs.Common.{◌≡◌, ◌∙◌, sym, ap, subst, refl, ℕ, ◌+◌, ◌<◌, ◌≤◌, ◌⊎◌, inl, inr, Bool, true, false, ◌||◌, cond, List, [], ◌∷◌, ◌++◌, length, take, take_all, get_or, nat_eq, eqb-true, eq-eqb}
+-- Numbers among others.
+use Rattle.std.proofs.Common.{◌≡◌, ◌∙◌, sym, ap, subst, refl, ℕ, ◌+◌, ◌<◌, ◌≤◌, ◌⊎◌, inl, inr, Bool, true, false, ◌||◌, cond, List, [], ◌∷◌, ◌++◌, length, take, take_all, get_or, nat_eq, eqb-true, eq-eqb, Option, Some, None, is_some}
 use Rattle.std.proofs.lemmas.List.{take_more}
-use Rattle.std.proofs.lemmas.List.Folds.{list_any-append}
-use Rattle.type_terms.specs.Naming.{type_variables, all_type_variables, kind_variables, all_kind_variables}
-use Rattle.type_terms.specs.Term.{Term, Terms, base_term, list_term, tuple_term, source_term, variable, no_terms, one_more, InTerm, InTerms}
-use Rattle.type_terms.specs.declared.ty.KindTerm.TheVariants.{Fixed, Var}
+use Rattle.std.proofs.lemmas.List.Folds.{list_any-append, list_any_at}
 use Rattle.type_schemes.specs.Holding.{is_held}
-use Rattle.type_schemes.specs.Renewing.{HoldsMore}
+use Rattle.type_schemes.specs.Renewing.{FindsBut}
 
 pub either : {A B C : Type 0} → (A → C) → (B → C) → A ⊎ B → C
 either f g (inl a) = f a
@@ -49,53 +46,7 @@ held_one k n e = by (or_cases (nat_eq k n) false e)
 pub one_held : (n : ℕ) → is_held (n ∷ []) n ≡ true
 one_held n = or_left (nat_eq n n) false (number_same n)
 
--- what holds of a type's variables holds of each
-mutual
-  pub type_variable_in : (P Q : ℕ → Type 0) (t : Term) → InTerm P Q t → (k : ℕ) → is_held (type_variables t) k ≡ true → P k
-  type_variable_in P Q (base_term b) h k e = absurd (let g : false ≡ true = e in cc)
-  type_variable_in P Q (list_term t) h k e = type_variable_in P Q t h k e
-  type_variable_in P Q (tuple_term ts) h k e = type_variable_of_all P Q ts h k e
-  type_variable_in P Q (source_term c) h k e = absurd (let g : false ≡ true = e in cc)
-  type_variable_in P Q (variable n) h k e = subst P (sym (held_one k n e)) h
-
-  type_variable_of_all : (P Q : ℕ → Type 0) (ts : Terms) → InTerms P Q ts → (k : ℕ) → is_held (all_type_variables ts) k ≡ true → P k
-  type_variable_of_all P Q no_terms h k e = absurd (let g : false ≡ true = e in cc)
-  type_variable_of_all P Q (one_more t ts) h k e = either (λ f. type_variable_in P Q t h.0 k f) (λ f. type_variable_of_all P Q ts h.1 k f) (held_append (type_variables t) (all_type_variables ts) k e)
-
-mutual
-  pub kind_variable_in : (P Q : ℕ → Type 0) (t : Term) → InTerm P Q t → (k : ℕ) → is_held (kind_variables t) k ≡ true → Q k
-  kind_variable_in P Q (base_term b) h k e = absurd (let g : false ≡ true = e in cc)
-  kind_variable_in P Q (list_term t) h k e = kind_variable_in P Q t h k e
-  kind_variable_in P Q (tuple_term ts) h k e = kind_variable_of_all P Q ts h k e
-  kind_variable_in P Q (source_term (Fixed c)) h k e = absurd (let g : false ≡ true = e in cc)
-  kind_variable_in P Q (source_term (Var n)) h k e = subst Q (sym (held_one k n e)) h
-  kind_variable_in P Q (variable n) h k e = absurd (let g : false ≡ true = e in cc)
-
-  kind_variable_of_all : (P Q : ℕ → Type 0) (ts : Terms) → InTerms P Q ts → (k : ℕ) → is_held (all_kind_variables ts) k ≡ true → Q k
-  kind_variable_of_all P Q no_terms h k e = absurd (let g : false ≡ true = e in cc)
-  kind_variable_of_all P Q (one_more t ts) h k e = either (λ f. kind_variable_in P Q t h.0 k f) (λ f. kind_variable_of_all P Q ts h.1 k f) (held_append (kind_variables t) (all_kind_variables ts) k e)
-
--- and the other way round
-mutual
-  pub in_by_variables : (P Q : ℕ → Type 0) (t : Term) → ((k : ℕ) → is_held (type_variables t) k ≡ true → P k) → ((k : ℕ) → is_held (kind_variables t) k ≡ true → Q k) → InTerm P Q t
-  in_by_variables P Q (base_term b) f g = tt
-  in_by_variables P Q (list_term t) f g = in_by_variables P Q t f g
-  in_by_variables P Q (tuple_term ts) f g = all_by_variables P Q ts f g
-  in_by_variables P Q (source_term (Fixed c)) f g = tt
-  in_by_variables P Q (source_term (Var n)) f g = g n (one_held n)
-  in_by_variables P Q (variable n) f g = f n (one_held n)
-
-  all_by_variables : (P Q : ℕ → Type 0) (ts : Terms) → ((k : ℕ) → is_held (all_type_variables ts) k ≡ true → P k) → ((k : ℕ) → is_held (all_kind_variables ts) k ≡ true → Q k) → InTerms P Q ts
-  all_by_variables P Q no_terms f g = tt
-  all_by_variables P Q (one_more t ts) f g = (
-    in_by_variables P Q t (λ k e. f k (held_left (type_variables t) (all_type_variables ts) k e)) (λ k e. g k (held_left (kind_variables t) (all_kind_variables ts) k e)),
-    all_by_variables P Q ts (λ k e. f k (held_right (type_variables t) (all_type_variables ts) k e)) (λ k e. g k (held_right (kind_variables t) (all_kind_variables ts) k e)),
-  )
-
 -- ---- a set that grows by one number
-
-pub holds_none : (xs : List ℕ) → HoldsMore xs [] xs
-holds_none xs = record { kept = λ k e. e; added = λ k e. absurd (let g : false ≡ true = e in cc); only = λ k e. inl e }
 
 cond_yes : (b c : Bool) → c ≡ true → cond b true c ≡ true
 cond_yes true c e = refl
@@ -105,21 +56,67 @@ cond_cases : (b c : Bool) → cond b true c ≡ true → (b ≡ true) ⊎ (c ≡
 cond_cases true c e = inl refl
 cond_cases false c e = inr e
 
-pub holds_next : (old ns now new : List ℕ) (i d : ℕ) → i < length ns → ((q : ℕ) → is_held new q ≡ cond (nat_eq (get_or ns i d) q) true (is_held now q)) → HoldsMore old (take i ns) now → HoldsMore old (take (i + 1) ns) new
-holds_next old ns now new i d l u h =
+abbrev pub Inserts : ℕ → List ℕ → List ℕ → Type 0
+Inserts x old new = (q : ℕ) → is_held new q ≡ cond (nat_eq x q) true (is_held old q)
+
+pub inserted_kept : (x : ℕ) (old new : List ℕ) → Inserts x old new → (k : ℕ) → is_held old k ≡ true → is_held new k ≡ true
+inserted_kept x old new u k e = u k ∙ cond_yes (nat_eq x k) (is_held old k) e
+
+pub inserted_here : (x : ℕ) (old new : List ℕ) → Inserts x old new → is_held new x ≡ true
+inserted_here x old new u = u x ∙ ap (λ b. cond b true (is_held old x)) (number_same x)
+
+pub inserted_only : (x : ℕ) (old new : List ℕ) → Inserts x old new → (k : ℕ) → is_held new k ≡ true → (k ≡ x) ⊎ (is_held old k ≡ true)
+inserted_only x old new u k e = either (λ f. inl (sym (same_number x k f))) (λ f. inr f) (cond_cases (nat_eq x k) (is_held old k) (sym (u k) ∙ e))
+
+-- ---- a set that loses one number
+
+abbrev pub Removes : ℕ → List ℕ → List ℕ → Type 0
+Removes x old new = (q : ℕ) → is_held new q ≡ cond (nat_eq x q) false (is_held old q)
+
+pub removed_only : (x : ℕ) (old new : List ℕ) → Removes x old new → (k : ℕ) → is_held new k ≡ true → (is_held old k ≡ true) × (k ≡ x → ⊥)
+removed_only x old new u k e = by (nat_eq x k) refl (sym (u k) ∙ e)
+  where
+    by : (b : Bool) → nat_eq x k ≡ b → cond b false (is_held old k) ≡ true → (is_held old k ≡ true) × (k ≡ x → ⊥)
+    by true n f = absurd (let g : ◌≡◌ {A = Bool} false true = f in cc)
+    by false n f = (f, λ j. let g : ◌≡◌ {A = Bool} true false = sym (subst (λ i. nat_eq x i ≡ true) (sym j) (number_same x)) ∙ n in cc)
+
+pub removed_else : (x : ℕ) (old new : List ℕ) → Removes x old new → (k : ℕ) → is_held old k ≡ true → (k ≡ x) ⊎ (is_held new k ≡ true)
+removed_else x old new u k e = by (nat_eq x k) refl
+  where
+    by : (b : Bool) → nat_eq x k ≡ b → (k ≡ x) ⊎ (is_held new k ≡ true)
+    by true n = inl (sym (same_number x k n))
+    by false n = inr (u k ∙ ap (λ b. cond b false (is_held old k)) n ∙ e)
+
+-- ---- some numbers of a list, found one by one
+
+pub nothing_there : {A : Type 0} (o : Option A) → is_some o ≡ false → o ≡ None
+nothing_there None e = refl
+nothing_there (Some x) e = absurd (let g : ◌≡◌ {A = Bool} true false = e in cc)
+
+pub finds_none : (P : ℕ → Type 0) (found : List ℕ) → found ≡ [] → FindsBut P [] found
+finds_none P found e = record {
+  among = λ k f. absurd (let g : ◌≡◌ {A = Bool} false true = sym (ap (λ xs. is_held xs k) e) ∙ f in cc);
+  others = λ k f. absurd (let g : ◌≡◌ {A = Bool} false true = f in cc);
+}
+
+pub finds_next : (P : ℕ → Type 0) (ns found : List ℕ) (i d : ℕ) → i < length ns → FindsBut P (take i ns) found → FindsBut P (take (i + 1) ns) (found ++ get_or ns i d ∷ [])
+finds_next P ns found i d l h =
     let x : ℕ = get_or ns i d in
-    let more : take (i + 1) ns ≡ take i ns ++ (x ∷ []) = take_more ns i d l in
-    subst (λ ms. HoldsMore old ms new) (sym more) (record {
-      kept = λ k e. u k ∙ cond_yes (nat_eq x k) (is_held now k) (h.kept k e);
-      added = λ k e. either
-          (λ f. u k ∙ cond_yes (nat_eq x k) (is_held now k) (h.added k f))
-          (λ f. (let same : k ≡ x = held_one k x f in subst (λ j. is_held new j ≡ true) (sym same) (u x ∙ ap (λ b. cond b true (is_held now x)) (number_same x))))
-          (held_append (take i ns) (x ∷ []) k e);
-      only = λ k e. either
-          (λ f. inr (held_right (take i ns) (x ∷ []) k (subst (λ j. is_held (x ∷ []) j ≡ true) (same_number x k f) (one_held x))))
-          (λ f. either (λ g. inl g) (λ g. inr (held_left (take i ns) (x ∷ []) k g)) (h.only k f))
-          (cond_cases (nat_eq x k) (is_held now k) (sym (u k) ∙ e));
+    subst (λ ms. FindsBut P ms (found ++ x ∷ [])) (sym (take_more ns i d l)) (record {
+      among = λ k f. either (λ g. held_left (take i ns) (x ∷ []) k (h.among k g)) (λ g. held_right (take i ns) (x ∷ []) k g) (held_append found (x ∷ []) k f);
+      others = λ k f. either (λ g. either (λ y. inl (held_left found (x ∷ []) k y)) (λ y. inr y) (h.others k g)) (λ g. inl (held_right found (x ∷ []) k g)) (held_append (take i ns) (x ∷ []) k f);
     })
 
-pub holds_all : (old ns now : List ℕ) (i : ℕ) → length ns ≤ i → HoldsMore old (take i ns) now → HoldsMore old ns now
-holds_all old ns now i l h = subst (λ ms. HoldsMore old ms now) (take_all i ns l) h
+pub passes_next : (P : ℕ → Type 0) (ns found : List ℕ) (i d : ℕ) → i < length ns → P (get_or ns i d) → FindsBut P (take i ns) found → FindsBut P (take (i + 1) ns) found
+passes_next P ns found i d l p h =
+    let x : ℕ = get_or ns i d in
+    subst (λ ms. FindsBut P ms found) (sym (take_more ns i d l)) (record {
+      among = λ k f. held_left (take i ns) (x ∷ []) k (h.among k f);
+      others = λ k f. either (λ g. h.others k g) (λ g. inr (subst P (sym (held_one k x g)) p)) (held_append (take i ns) (x ∷ []) k f);
+    })
+
+pub finds_all : (P : ℕ → Type 0) (ns found : List ℕ) (i : ℕ) → length ns ≤ i → FindsBut P (take i ns) found → FindsBut P ns found
+finds_all P ns found i l h = subst (λ ms. FindsBut P ms found) (take_all i ns l) h
+
+pub number_there : (xs : List ℕ) (i : ℕ) → i < length xs → is_held xs (get_or xs i 0) ≡ true
+number_there xs i l = list_any_at (nat_eq (get_or xs i 0)) xs i 0 l (number_same (get_or xs i 0))

@@ -1,16 +1,18 @@
 -- The variables that the types of names hold.
-use Rattle.std.specs.Prelude.{◌≡◌, ℕ, ◌<◌, Bool, true, List, map, length, nat_eq}
+use Rattle.std.specs.Prelude.{◌≡◌, ℕ, suc, ◌<◌, Bool, true, List, map, length, nat_eq}
 use Rattle.std.specs.List.{list_any}
 use Rattle.std.specs.Coded.{Coded, code_by, coded×, coded_list, coded_ℕ}
 use Rattle.std.specs.Prelude.{refl}
-use Rattle.type_terms.specs.Ground.{Assignment}
+use Rattle.type_terms.specs.Ground.{Assignment, size}
 use Rattle.type_terms.specs.Resolved.{IsFreeType, IsFreeKind}
 use Rattle.type_terms.specs.Table.{Table, Solves}
 use Rattle.type_terms.specs.Term.{Term, meaning}
 
+-- The variables that are held, and the bound ones that were gone through: what they are bound to holds no others.
 pub record HeldVariables : Type 0 where
   pub types : List ℕ
   pub kinds : List ℕ
+  pub passed : List ℕ
 
 abbrev pub is_held : List ℕ → ℕ → Bool
 is_held ks k = list_any (nat_eq k) ks
@@ -19,6 +21,15 @@ is_held ks k = list_any (nat_eq k) ks
 pub record AgreeOn (h : HeldVariables) (a b : Assignment) : Type 0 where
   pub types : (k : ℕ) → is_held h.types k ≡ true → a.type_of k ≡ b.type_of k
   pub kinds : (k : ℕ) → is_held h.kinds k ≡ true → a.kind_of k ≡ b.kind_of k
+
+-- both say the same of the held kinds, and of those held variables that have fewer than n nodes under the first
+pub record AgreeBelow (h : HeldVariables) (n : ℕ) (a b : Assignment) : Type 0 where
+  pub types : (k : ℕ) → is_held h.types k ≡ true → size (a.type_of k) < n → a.type_of k ≡ b.type_of k
+  pub kinds : (k : ℕ) → is_held h.kinds k ≡ true → a.kind_of k ≡ b.kind_of k
+
+-- both say the same of those passed variables that have fewer than n nodes under the first
+abbrev pub AgreeOnPassed : HeldVariables → ℕ → Assignment → Assignment → Type 0
+AgreeOnPassed h n a b = (k : ℕ) → is_held h.passed k ≡ true → size (a.type_of k) < n → a.type_of k ≡ b.type_of k
 
 -- the names have the same types under both
 abbrev pub SameTypes : List Term → Assignment → Assignment → Type 0
@@ -29,12 +40,14 @@ pub record AreThere (s : Table) (h : HeldVariables) : Type 0 where
   pub types : (k : ℕ) → is_held h.types k ≡ true → k < length s.types
   pub kinds : (k : ℕ) → is_held h.kinds k ≡ true → k < length s.kinds
 
--- The names hold exactly these variables, which are bound to nothing: two solutions give the names the same types just where they say the same of the variables.
+-- The names hold exactly these variables, which are bound to nothing: two solutions give the names the same types just where they say the same of the variables. A passed variable is larger than the held ones that stand behind it, and these alone fix it.
 pub record IsHeldBy (s : Table) (names : List Term) (h : HeldVariables) : Type 0 where
   pub free_types : (k : ℕ) → is_held h.types k ≡ true → IsFreeType s k
   pub free_kinds : (k : ℕ) → is_held h.kinds k ≡ true → IsFreeKind s k
   pub fixed : (a b : Assignment) → Solves a s → Solves b s → SameTypes names a b → AgreeOn h a b
   pub enough : (a b : Assignment) → Solves a s → Solves b s → AgreeOn h a b → SameTypes names a b
+  pub behind : (a b : Assignment) → Solves a s → Solves b s → (n : ℕ) → AgreeBelow h n a b → AgreeOnPassed h (suc n) a b
 
 abbrev pub held_code : Coded HeldVariables
-held_code = code_by (List ℕ × List ℕ) (coded× (coded_list coded_ℕ) (coded_list coded_ℕ)) (λ h. (h.types, h.kinds)) (λ p. record { types = p.0; kinds = p.1 }) (λ _. refl)
+held_code =
+    code_by (List ℕ × (List ℕ × List ℕ)) (coded× (coded_list coded_ℕ) (coded× (coded_list coded_ℕ) (coded_list coded_ℕ))) (λ h. (h.types, (h.kinds, h.passed))) (λ p. record { types = p.0; kinds = p.1.0; passed = p.1.1 }) (λ _. refl)

@@ -3,6 +3,7 @@ pub mod Schemes
 pub mod Instances
 pub mod NewVariables
 pub mod Holding
+pub mod Walks
 pub mod Renewing
 pub mod Generals
 pub mod Numbering

@@ -1,22 +1,33 @@
--- Held variables, one by one. No contract of a public call cites this.
-use Rattle.std.specs.Prelude.{◌≡◌, ◌⊎◌, ℕ, true, List}
+-- What names hold, where more is bound. No contract of a public call cites this.
+use Rattle.std.specs.Prelude.{◌≡◌, ◌⊎◌, ℕ, suc, true, List}
 use Rattle.type_terms.specs.Ground.{Assignment}
-use Rattle.type_terms.specs.Table.{Table}
+use Rattle.type_terms.specs.Resolved.{IsFreeType, IsFreeKind}
+use Rattle.type_terms.specs.Table.{Table, Solves}
 use Rattle.type_terms.specs.Term.{Term}
-use Rattle.type_schemes.specs.Holding.{HeldVariables, AgreeOn, IsHeldBy, SameTypes, is_held}
+use Rattle.type_schemes.specs.Holding.{HeldVariables, AgreeBelow, AgreeOn, AgreeOnPassed, SameTypes, is_held}
 
-abbrev pub held : List ℕ → List ℕ → HeldVariables
-held types kinds = record { types = types; kinds = kinds }
+-- the names hold these variables, of which some may be bound by now
+pub record IsFixedBy (s : Table) (names : List Term) (h : HeldVariables) : Type 0 where
+  pub fixed : (a b : Assignment) → Solves a s → Solves b s → SameTypes names a b → AgreeOn h a b
+  pub enough : (a b : Assignment) → Solves a s → Solves b s → AgreeOn h a b → SameTypes names a b
+  pub behind : (a b : Assignment) → Solves a s → Solves b s → (n : ℕ) → AgreeBelow h n a b → AgreeOnPassed h (suc n) a b
 
--- the new numbers are the old ones and those of a list
-pub record HoldsMore (old more new : List ℕ) : Type 0 where
-  pub kept : (k : ℕ) → is_held old k ≡ true → is_held new k ≡ true
-  pub added : (k : ℕ) → is_held more k ≡ true → is_held new k ≡ true
-  pub only : (k : ℕ) → is_held new k ≡ true → (is_held old k ≡ true) ⊎ (is_held more k ≡ true)
+-- the number was there, and is none of the list
+abbrev pub IsLeft : List ℕ → List ℕ → ℕ → Type 0
+IsLeft old gone k = (is_held old k ≡ true) × (is_held gone k ≡ true → ⊥)
 
--- Some names that say as much as these variables hold what is held.
-pub record StandsFor (s : Table) (old h : HeldVariables) : Type 0 where
-  pub names : List Term
-  pub held : IsHeldBy s names h
-  pub to : (a b : Assignment) → AgreeOn old a b → SameTypes names a b
-  pub back : (a b : Assignment) → SameTypes names a b → AgreeOn old a b
+-- the same names hold the new variables; in the place of those of two lists stand others, which are bound to nothing
+pub record Renews (s : Table) (types kinds : List ℕ) (old new : HeldVariables) : Type 0 where
+  pub fixed : (names : List Term) → IsFixedBy s names old → IsFixedBy s names new
+  pub types_only : (k : ℕ) → is_held new.types k ≡ true → IsLeft old.types types k ⊎ IsFreeType s k
+  pub kinds_only : (k : ℕ) → is_held new.kinds k ≡ true → IsLeft old.kinds kinds k ⊎ IsFreeKind s k
+
+-- some of the numbers were found, and the others are as they should be
+pub record FindsBut (P : ℕ → Type 0) (numbers found : List ℕ) : Type 0 where
+  pub among : (k : ℕ) → is_held found k ≡ true → is_held numbers k ≡ true
+  pub others : (k : ℕ) → is_held numbers k ≡ true → (is_held found k ≡ true) ⊎ P k
+
+-- both lists have the same numbers
+pub record HaveSame (old new : List ℕ) : Type 0 where
+  pub there : (k : ℕ) → is_held old k ≡ true → is_held new k ≡ true
+  pub back : (k : ℕ) → is_held new k ≡ true → is_held old k ≡ true

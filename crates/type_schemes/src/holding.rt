@@ -1,26 +1,19 @@
 // Which variables the types of names hold.
-ghost use Rattle.std.specs.Prelude.{◌≡◌, ◌<◌, ◌∷◌, ℕ, [], true, length, List, IfOk, OnOk};
+ghost use Rattle.std.specs.Prelude.{◌≡◌, ◌∷◌, [], List, IfOk, OnOk};
 ghost use Rattle.type_terms.specs.Agrees.{Follows};
 ghost use Rattle.type_terms.specs.Table.{Table, IsOver};
 ghost use Rattle.type_terms.specs.Term.{Term, term_of};
 ghost use Rattle.type_schemes.specs.Holding.{AreThere, IsHeldBy, is_held};
-ghost use Rattle.type_schemes.specs.Renewing.{HoldsMore, StandsFor, held};
+ghost use Rattle.type_schemes.specs.Renewing.{HaveSame};
+ghost use Rattle.type_schemes.specs.Walks.{held};
 
+use crate::renewing::{push_bound_kinds, push_bound_types, renew_both};
+use crate::walking::walk;
 use indexmap::IndexSet;
 use liq_base::Memory;
 use std::alloc::Global;
 use std::marker::Model;
-use type_terms::{KindTerm, Subst, Ty, resolved, variables};
-
-/// Adds numbers.
-fn insert_all(numbers: &mut IndexSet<u64>, more: &[u64]) -> Result<(), Memory>
-    ensures { OnOk result (HoldsMore numbers.old.keys more.now numbers.new.keys) }
-{
-    for number in more {
-        numbers.insert(*number)?;
-    }
-    Ok(())
-}
+use type_terms::{Subst, Ty};
 
 /// Adds the variables that a name's type holds.
 fn add_name(
@@ -28,84 +21,26 @@ fn add_name(
     subst: &Subst,
     types: &mut IndexSet<u64>,
     kinds: &mut IndexSet<u64>,
+    passed: &mut IndexSet<u64>,
     name: &Ty,
 ) -> Result<(), Memory>
     requires over { IsOver subst.now (term_of name.now) }
-    ensures { OnOk result ((names : List Term) → IsHeldBy subst.now names (held types.old.keys kinds.old.keys) → IsHeldBy subst.now (term_of name.now ∷ names) (held types.new.keys kinds.new.keys)) }
+    ensures { OnOk result ((names : List Term) → IsHeldBy subst.now names (held types.old.keys kinds.old.keys passed.old.keys) → IsHeldBy subst.now (term_of name.now ∷ names) (held types.new.keys kinds.new.keys passed.new.keys)) }
 {
-    let ty = resolved(alloc, subst, name)?;
-    let found = variables(alloc, &ty)?;
-    insert_both(types, kinds, &found.types, &found.kinds)?;
-    Ok(())
+    let mut work = Vec::new(alloc);
+    work.push(name)?;
+    walk(&mut work, subst, types, kinds, passed)
 }
 
-/// Adds numbers to both.
-fn insert_both(
-    types: &mut IndexSet<u64>,
-    kinds: &mut IndexSet<u64>,
-    more_types: &[u64],
-    more_kinds: &[u64],
-) -> Result<(), Memory>
-    ensures types { OnOk result (HoldsMore types.old.keys more_types.now types.new.keys) }
-    ensures kinds { OnOk result (HoldsMore kinds.old.keys more_kinds.now kinds.new.keys) }
+/// The same numbers once more.
+fn copied(alloc: Global, numbers: &[u64]) -> Result<IndexSet<u64>, Memory>
+    ensures { IfOk result (λ copy. HaveSame numbers.now copy.keys) }
 {
-    insert_all(types, more_types)?;
-    insert_all(kinds, more_kinds)?;
-    Ok(())
-}
-
-/// Adds what type variables hold.
-fn renew_types(
-    alloc: Global,
-    subst: &Subst,
-    types: &mut IndexSet<u64>,
-    kinds: &mut IndexSet<u64>,
-    numbers: &[u64],
-) -> Result<(), Memory>
-    requires there { (k : ℕ) → is_held numbers.now k ≡ true → k < length subst.now.types }
-    ensures { OnOk result (StandsFor subst.now (held [] []) (held types.old.keys kinds.old.keys) → StandsFor subst.now (held numbers.now []) (held types.new.keys kinds.new.keys)) }
-{
+    let mut copy = IndexSet::new(alloc);
     for number in numbers {
-        let name = Ty::Var(*number);
-        add_name(alloc, subst, types, kinds, &name)?;
+        copy.insert(*number)?;
     }
-    Ok(())
-}
-
-/// Adds what kind variables hold.
-fn renew_kinds(
-    alloc: Global,
-    subst: &Subst,
-    types: &mut IndexSet<u64>,
-    kinds: &mut IndexSet<u64>,
-    numbers: &[u64],
-) -> Result<(), Memory>
-    requires there { (k : ℕ) → is_held numbers.now k ≡ true → k < length subst.now.kinds }
-    ensures { OnOk result ((xs : List ℕ) → StandsFor subst.now (held xs []) (held types.old.keys kinds.old.keys) → StandsFor subst.now (held xs numbers.now) (held types.new.keys kinds.new.keys)) }
-{
-    for number in numbers {
-        let name = Ty::Source(KindTerm::Var(*number));
-        add_name(alloc, subst, types, kinds, &name)?;
-    }
-    Ok(())
-}
-
-/// Adds what type variables and kind variables hold.
-fn renew_both(
-    alloc: Global,
-    subst: &Subst,
-    types: &mut IndexSet<u64>,
-    kinds: &mut IndexSet<u64>,
-    type_numbers: &[u64],
-    kind_numbers: &[u64],
-) -> Result<(), Memory>
-    requires types { (k : ℕ) → is_held type_numbers.now k ≡ true → k < length subst.now.types }
-    requires kinds { (k : ℕ) → is_held kind_numbers.now k ≡ true → k < length subst.now.kinds }
-    ensures { OnOk result (StandsFor subst.now (held [] []) (held types.old.keys kinds.old.keys) → StandsFor subst.now (held type_numbers.now kind_numbers.now) (held types.new.keys kinds.new.keys)) }
-{
-    renew_types(alloc, subst, types, kinds, type_numbers)?;
-    renew_kinds(alloc, subst, types, kinds, kind_numbers)?;
-    Ok(())
+    Ok(copy)
 }
 
 /// The variables that the types of names hold: those in which a def that follows is not general.
@@ -113,6 +48,8 @@ fn renew_both(
 pub struct Held {
     types: IndexSet<u64>,
     kinds: IndexSet<u64>,
+    // The bound variables behind which all was added.
+    passed: IndexSet<u64>,
 }
 
 impl Model for Held {
@@ -122,7 +59,7 @@ impl Model for Held {
 
     ghost coded = { held_code };
 
-    ghost view = { λ s. record { types = s.types.keys; kinds = s.kinds.keys } };
+    ghost view = { λ s. record { types = s.types.keys; kinds = s.kinds.keys; passed = s.passed.keys } };
 }
 
 impl Held {
@@ -133,6 +70,7 @@ impl Held {
         Held {
             types: IndexSet::new(alloc),
             kinds: IndexSet::new(alloc),
+            passed: IndexSet::new(alloc),
         }
     }
 
@@ -150,30 +88,61 @@ impl Held {
         self.kinds.contains(&number)
     }
 
-    /// Adds what a further name's type holds. It takes time that grows with the type alone, as it is with all that is bound put in.
+    /// Adds what a further name's type holds. It takes time that grows with the type, and goes behind each bound variable once
+    /// for all names.
     ///
     /// Where memory runs out, some of it may have been added.
     pub fn add(&mut self, alloc: Global, subst: &Subst, name: &Ty) -> Result<(), Memory>
         requires over { IsOver subst.now (term_of name.now) }
         ensures held { OnOk result ((names : List Term) → IsHeldBy subst.now names self.old → IsHeldBy subst.now (term_of name.now ∷ names) self.new) }
     {
-        add_name(alloc, subst, &mut self.types, &mut self.kinds, name)
+        add_name(
+            alloc,
+            subst,
+            &mut self.types,
+            &mut self.kinds,
+            &mut self.passed,
+            name,
+        )
     }
 
-    /// What the same names hold now that more is bound. It takes time that grows with what was held.
+    /// What the same names hold now that more is bound. It looks at each held variable, and takes further time only for those
+    /// that were bound since.
+    ///
+    /// Where memory runs out, some of it may have been done.
+    pub fn renew(&mut self, alloc: Global, subst: &Subst) -> Result<(), Memory>
+        requires there { AreThere subst.now self.old }
+        ensures held { OnOk result ((s : Table) (names : List Term) → Follows s subst.now → IsHeldBy s names self.old → IsHeldBy subst.now names self.new) }
+    {
+        let mut types = Vec::new(alloc);
+        let mut kinds = Vec::new(alloc);
+        push_bound_types(subst, self.types.as_slice(), &mut types)?;
+        push_bound_kinds(subst, self.kinds.as_slice(), &mut kinds)?;
+        renew_both(
+            alloc,
+            subst,
+            &mut self.types,
+            &mut self.kinds,
+            &mut self.passed,
+            &types,
+            &kinds,
+        )
+    }
+
+    /// The same in a new one, which has what was held copied first.
     pub fn renewed(&self, alloc: Global, subst: &Subst) -> Result<Held, Memory>
         requires there { AreThere subst.now self.now }
         ensures held { IfOk result (λ h. (s : Table) (names : List Term) → Follows s subst.now → IsHeldBy s names self.now → IsHeldBy subst.now names h) }
     {
-        let mut renewed = Held::new(alloc);
-        renew_both(
-            alloc,
-            subst,
-            &mut renewed.types,
-            &mut renewed.kinds,
-            self.types.as_slice(),
-            self.kinds.as_slice(),
-        )?;
-        Ok(renewed)
+        let types = copied(alloc, self.types.as_slice())?;
+        let kinds = copied(alloc, self.kinds.as_slice())?;
+        let passed = copied(alloc, self.passed.as_slice())?;
+        let mut held = Held {
+            types,
+            kinds,
+            passed,
+        };
+        held.renew(alloc, subst)?;
+        Ok(held)
     }
 }

@@ -7,6 +7,8 @@ mod generalising;
 mod holding;
 mod instances;
 mod numbering;
+mod renewing;
+mod walking;
 
 pub use builtin_types::instantiate_builtin;
 pub use general::{General, KindParameter, TextKind, TypeParameter};

@@ -5,7 +5,7 @@ ghost use Rattle.type_terms.specs.Agrees.{HasBoundType, HasNewKind, HasNewType, 
 ghost use Rattle.type_terms.specs.Extends.{Extends, HasDefaults};
 ghost use Rattle.type_terms.specs.Ground.{Assignment, IsNumber};
 ghost use Rattle.type_terms.specs.Resolved.{IsUnbound};
-ghost use Rattle.type_terms.specs.Table.{table, IsOver, Solves, bound_at, kind_at, number_at};
+ghost use Rattle.type_terms.specs.Table.{table, IsOver, IsSound, Solves, bound_at, kind_at, number_at};
 ghost use Rattle.type_terms.specs.Term.{kind_meaning, meaning, source_term, term_of, variable};
 ghost use Rattle.type_terms.specs.declared.ty.KindTerm.TheVariants.{Var};
 
@@ -160,6 +160,13 @@ impl Subst {
     /// One solution has stereo for each kind variable, and int for each type variable, that is bound to nothing.
     pub fn has_defaults(&self)
         ensures { HasDefaults self.now }
+    {
+        let _ = &self.types;
+    }
+
+    /// What variables are bound to is over variables that are there, and no variable stands in what it is bound to.
+    pub fn is_sound(&self)
+        ensures { IsSound self.now }
     {
         let _ = &self.types;
     }

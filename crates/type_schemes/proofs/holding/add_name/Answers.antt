@@ -1,14 +1,23 @@
-use Rattle.std.proofs.Common.{◌∙◌, subst}
-use Rattle.type_terms.specs.Term.{term_of}
-use Rattle.type_schemes.specs.Renewing.{HoldsMore, held}
+use Rattle.std.proofs.Common.{◌≡◌, ◌∙◌, ◌++◌, ◌∷◌, [], ap, subst, sym, List}
+use Rattle.type_terms.specs.Nested.{terms}
+use Rattle.type_terms.specs.Table.{IsOver}
+use Rattle.type_terms.specs.Term.{Term, term_of}
+use Rattle.type_schemes.specs.Walks.{Every, Leads, held}
+use Rattle.type_schemes.proofs.Leads.{ok_then}
 use Rattle.type_schemes.proofs.Names.{held_more}
 use Rattle.type_schemes.proofs.holding.add_name.Goals as goal
 
+pub walk-requires : goal.walk-requires
+walk-requires c =
+    let one : terms c.push.new.self.items ≡ term_of c.args.name.now ∷ [] = ap terms (rw c.new-work.ensures.items at c.in_ok-push.ensures.items) in
+    record { over = subst (λ (ts : List Term). Every (IsOver c.args.subst.now) ts) (sym one) (c.requires.over, tt) }
+
 pub returns : goal.returns
-returns c = λ names old.
-    held_more c.args.subst.now names (term_of c.args.name.now) (term_of c.in_ok-ty.ty)
-    (held c.args.types.now.keys c.args.kinds.now.keys) (held c.insert_both.new.types.keys c.insert_both.new.kinds.keys)
-    c.in_ok-ty.ensures.unbound c.in_ok-ty.ensures.same
-    (subst (λ xs. HoldsMore c.args.types.now.keys xs c.insert_both.new.types.keys) (c.deref.ensures.value ∙ c.in_ok-found.ensures.types) c.in_ok-insert_both.ensures.types)
-    (subst (λ xs. HoldsMore c.args.kinds.now.keys xs c.insert_both.new.kinds.keys) (c.deref-2.ensures.value ∙ c.in_ok-found.ensures.kinds) c.in_ok-insert_both.ensures.kinds)
-    old
+returns c =
+    let one : terms c.push.new.self.items ≡ term_of c.args.name.now ∷ [] = ap terms (rw c.new-work.ensures.items at c.in_ok-push.ensures.items) in
+    let s = c.args.subst.now in
+    let h = held c.args.types.now.keys c.args.kinds.now.keys c.args.passed.now.keys in
+    let h1 = held c.walk.new.types.keys c.walk.new.kinds.keys c.walk.new.passed.keys in
+    ok_then c.walk.result
+    (λ w names old. held_more s names (term_of c.args.name.now) h h1 (subst (λ (ts : List Term). Leads s ts [] h h1) one w) old)
+    c.walk.ensures

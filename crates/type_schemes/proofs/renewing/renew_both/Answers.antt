@@ -1,0 +1,15 @@
+use Rattle.type_schemes.specs.Walks.{held}
+use Rattle.type_schemes.proofs.Names.{renews_all}
+use Rattle.type_schemes.proofs.renewing.renew_both.Goals as goal
+
+pub renew_types-requires : goal.renew_types-requires
+renew_types-requires c = record { there = c.requires.types }
+
+pub renew_kinds-requires : goal.renew_kinds-requires
+renew_kinds-requires c = record { there = c.requires.kinds }
+
+pub returns : goal.returns
+returns c =
+    renews_all c.args.subst.now c.args.type_numbers.now c.args.kind_numbers.now
+    (held c.args.types.now.keys c.args.kinds.now.keys c.args.passed.now.keys) (held c.renew_types.new.types.keys c.renew_types.new.kinds.keys c.renew_types.new.passed.keys) (held c.renew_types.new.types.keys c.renew_kinds.new.kinds.keys c.renew_types.new.passed.keys)
+    c.in_ok-renew_types.ensures (c.in_ok-renew_kinds.ensures c.renew_types.new.types.keys c.renew_types.new.passed.keys)
