@@ -1,6 +1,7 @@
 -- A buffer that one clock keeps as a list.
-use Rattle.std.specs.Prelude.{◌≡◌, ℕ, zero, suc, ℤ, ◌<◌, ◌==◌, Bool, true, false, not, List, [], ◌∷◌, ◌++◌, length, flat_map, count_by, Some, None, if◌then◌else◌, refl}
-use Rattle.std.specs.Coded.{Coded, code_by, coded×, coded_ℕ, coded_ℤ, coded_bool, coded_list}
+use Rattle.std.specs.Prelude.{◌≡◌, ℕ, zero, suc, ◌<◌, ◌==◌, Bool, true, false, not, List, [], ◌∷◌, ◌++◌, length, flat_map, count_by, Some, None, if◌then◌else◌, refl}
+use Rattle.std.specs.Coded.{Coded, code_by, coded×, coded_ℕ, coded_bool, coded_list}
+use Rattle.frame_core.specs.Coded.{cell_coded}
 use Rattle.frame_core.specs.declared.cell.Cell.{Cell}
 use Rattle.frame_core.specs.Calls.{Call}
 use Rattle.frame_core.specs.Calls.Call.{Took, Given}
@@ -120,11 +121,6 @@ closed_windows buffer = buffer.closed
 -- a buffer of a plan before any call
 abbrev pub planned : BufferPlan → LocalBuffer
 planned buffer = empty_buffer buffer.capacity
-
-abbrev pub cell_coded : Coded Cell
-cell_coded =
-    code_by (ℤ × (ℤ × Bool)) (coded× coded_ℤ (coded× coded_ℤ coded_bool))
-    (λ c. (c.left, (c.right, c.first))) (λ p. record { left = p.0; right = p.1.0; first = p.1.1 }) (λ _. refl)
 
 abbrev pub answers_coded : Coded Answers
 answers_coded = code_by (List Bool × List Bool) (coded× (coded_list coded_bool) (coded_list coded_bool))

@@ -1,7 +1,8 @@
 -- What a clause sees of a queue and of its ends: which queue it is, and the window that is open.
-use Rattle.std.specs.Prelude.{◌≡◌, ℕ, ◌+◌, ◌≤◌, ℤ, Bool, true, false, List, [], ◌∷◌, ◌++◌, length, Option, Some, None, refl}
-use Rattle.std.specs.Coded.{Coded, code_by, coded×, coded_ℕ, coded_ℤ, coded_bool, coded_list, coded_option}
+use Rattle.std.specs.Prelude.{◌≡◌, ℕ, ◌+◌, ◌≤◌, Bool, true, false, List, [], ◌∷◌, ◌++◌, length, Option, Some, None, refl}
+use Rattle.std.specs.Coded.{Coded, code_by, coded×, coded_ℕ, coded_list, coded_option}
 use Rattle.atomic_table.specs.Seated.{TableId, table_id_coded}
+use Rattle.frame_core.specs.Coded.{cell_coded}
 use Rattle.frame_core.specs.declared.cell.Cell.{Cell}
 use Rattle.frame_core.specs.declared.chunk.Gave.{Gave}
 use Rattle.frame_core.specs.declared.chunk.Gave.TheVariants.{Accepted, Full}
@@ -15,11 +16,6 @@ pub record Window : Type 0 where
   pub opening : List (List Cell)
   pub left : ℕ
   pub answers : List (Option (List Cell))
-
-abbrev cell_coded : Coded Cell
-cell_coded =
-    code_by (ℤ × (ℤ × Bool)) (coded× coded_ℤ (coded× coded_ℤ coded_bool))
-    (λ c. (c.left, (c.right, c.first))) (λ p. record { left = p.0; right = p.1.0; first = p.1.1 }) (λ _. refl)
 
 abbrev pub window_coded : Coded Window
 window_coded =

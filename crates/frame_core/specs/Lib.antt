@@ -6,4 +6,4 @@ pub mod Frames
 pub mod Legal
 pub mod Order
 pub mod Calls
-pub mod Streams
+pub mod Coded

@@ -3,7 +3,7 @@ use Rattle.std.proofs.Common.{◌≡◌, ◌≢◌, ℕ, List, [], ◌∷◌, �
 use Rattle.std.specs.List.{list_all}
 use Rattle.std.proofs.lemmas.Bool.{and_parts, and_from, eq-eqb, ne_eqb, eqb-true}
 use Rattle.std.proofs.Math.Bool.{or-true}
-use Rattle.trace_log.specs.Marks.{is_letter, are_letters, answers_in}
+use Rattle.trace_log.specs.Marks.{is_letter, are_letters, told_by}
 use Rattle.trace_log.specs.Texts.{letter, letters}
 
 letter_passes : (one other : ℕ) (a : Bool) → is_letter one other (letter one other a) ≡ true
@@ -71,7 +71,7 @@ letter_no_stroke : (one other : ℕ) (a : Bool) → 45 ≢ one → 45 ≢ other 
 letter_no_stroke one other true p q = ne_eqb one 45 (λ e. p (sym e))
 letter_no_stroke one other false p q = ne_eqb other 45 (λ e. q (sym e))
 
-pub letters_told : (one other : ℕ) (xs : List Bool) → one ≢ other → 45 ≢ one → 45 ≢ other → answers_in one (letters one other xs) ≡ xs
+pub letters_told : (one other : ℕ) (xs : List Bool) → one ≢ other → 45 ≢ one → 45 ≢ other → told_by one (letters one other xs) ≡ xs
 unfolding letters
 letters_told one other [] apart p q = refl
 letters_told one other (a ∷ []) apart p q = rw (letter_no_stroke one other a p q, letter_told one other a apart) refl
@@ -79,10 +79,10 @@ letters_told one other (a ∷ b ∷ more) apart p q = each_told one other (a ∷
 
 -- the same letters are those of the same answers
 pub one_letters : (one other : ℕ) (xs ys : List Bool) → one ≢ other → 45 ≢ one → 45 ≢ other → letters one other xs ≡ letters one other ys → xs ≡ ys
-one_letters one other xs ys apart p q e = sym (letters_told one other xs apart p q) ∙ ap (answers_in one) e ∙ letters_told one other ys apart p q
+one_letters one other xs ys apart p q e = sym (letters_told one other xs apart p q) ∙ ap (told_by one) e ∙ letters_told one other ys apart p q
 
 -- without the stroke, each letter tells an answer
-pub told_each : (one : ℕ) (bs : List ℕ) → bs ≢ 45 ∷ [] → answers_in one bs ≡ map (λ x. eqb x one) bs
+pub told_each : (one : ℕ) (bs : List ℕ) → bs ≢ 45 ∷ [] → told_by one bs ≡ map (λ x. eqb x one) bs
 told_each one [] apart = refl
 told_each one (b ∷ []) apart = rw (ne_eqb b 45 (λ e. apart (ap (λ x. x ∷ []) e))) refl
 told_each one (b ∷ c ∷ bs) apart = refl

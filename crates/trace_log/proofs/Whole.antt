@@ -3,7 +3,7 @@ use Rattle.std.proofs.Common.{◌≡◌, ◌<◌, ◌≤◌, ◌*◌, ◌+◌, �
 use Rattle.std.proofs.lemmas.Nat.{div-add-mod', div-mul-add, mod-mul-add, mul-le}
 use Rattle.buffer_ends.specs.Local.{Answers}
 use Rattle.trace_log.specs.Texts.{header, letters, line, lines_below, trace_text, windows_of, InBounds, IsTrace}
-use Rattle.trace_log.specs.Marks.{answers_in}
+use Rattle.trace_log.specs.Marks.{told_by}
 use Rattle.trace_log.specs.Stops.{Lines, HasLine, IsText}
 use Rattle.trace_log.proofs.Letters.{letters_told}
 use Rattle.trace_log.proofs.Parts.{among, lines_are, one_header, one_rest}
@@ -65,8 +65,8 @@ places_fit n w b bounds =
 
 -- what the letters of a line tell is its log
 pub line_read : (text puts takes : List ℕ) (j i : ℕ) (log : Answers) (ps ts : List Bool) (rest : List ℕ) → puts ≡ letters 65 70 log.puts → takes ≡ letters 71 69 log.takes
-    → text ≡ line j i log ++ rest → ps ≡ answers_in 65 puts → ts ≡ answers_in 71 takes → text ≡ line j i (record { puts = ps; takes = ts }) ++ rest
+    → text ≡ line j i log ++ rest → ps ≡ told_by 65 puts → ts ≡ told_by 71 takes → text ≡ line j i (record { puts = ps; takes = ts }) ++ rest
 line_read text puts takes j i log ps ts rest p t e a b =
-    let put : log.puts ≡ ps = sym (a ∙ ap (answers_in 65) p ∙ letters_told 65 70 log.puts (λ x. omega arith) (λ x. omega arith) (λ x. omega arith)) in
-    let take : log.takes ≡ ts = sym (b ∙ ap (answers_in 71) t ∙ letters_told 71 69 log.takes (λ x. omega arith) (λ x. omega arith) (λ x. omega arith)) in
+    let put : log.puts ≡ ps = sym (a ∙ ap (told_by 65) p ∙ letters_told 65 70 log.puts (λ x. omega arith) (λ x. omega arith) (λ x. omega arith)) in
+    let take : log.takes ≡ ts = sym (b ∙ ap (told_by 71) t ∙ letters_told 71 69 log.takes (λ x. omega arith) (λ x. omega arith) (λ x. omega arith)) in
     e ∙ (λ k. line j i (record { puts = put k; takes = take k }) ++ rest)

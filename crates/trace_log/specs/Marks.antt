@@ -17,7 +17,7 @@ are_letters one other (b ∷ []) = b == 45 || is_letter one other b
 are_letters one other (b ∷ c ∷ bs) = list_all (is_letter one other) (b ∷ c ∷ bs)
 
 -- the answers that letters tell, of which the one stands for true
-abbrev pub answers_in : ℕ → List ℕ → List Bool
-answers_in one [] = []
-answers_in one (b ∷ []) = if b == 45 then [] else (b == one) ∷ []
-answers_in one (b ∷ c ∷ bs) = map (λ x. x == one) (b ∷ c ∷ bs)
+abbrev pub told_by : ℕ → List ℕ → List Bool
+told_by one [] = []
+told_by one (b ∷ []) = if b == 45 then [] else (b == one) ∷ []
+told_by one (b ∷ c ∷ bs) = map (λ x. x == one) (b ∷ c ∷ bs)

@@ -1,6 +1,6 @@
 // A text becomes its trace.
 ghost use Rattle.std.specs.Prelude.{◌≡◌, ◌<◌, ◌*◌, ◌^◌, ◌++◌, ◌∷◌, [], ◌↔◌, ◌≢◌, ℕ, Err, Ok, IfOk, OnOk, length, replicate, slice_index_or, slice_set};
-ghost use Rattle.trace_log.specs.Marks.{answers_in};
+ghost use Rattle.trace_log.specs.Marks.{told_by};
 ghost use Rattle.trace_log.specs.Stops.{HasLine, IsText, Lines, StopsAt};
 ghost use Rattle.trace_log.specs.Texts.{IsTrace, line, lines_below, trace_text};
 ghost use Rattle.trace_log.specs.Values.{TraceValue};
@@ -109,7 +109,7 @@ fn read_line(
 
 // The answers that letters tell, of which the one stands for true.
 fn answers_of(alloc: Global, letters: &[u8], one: u8) -> Result<Vec<bool>, Memory>
-    ensures { IfOk result (λ answers. answers.items ≡ answers_in one letters.now) }
+    ensures { IfOk result (λ answers. answers.items ≡ told_by one letters.now) }
 {
     if letters == b"-".as_slice() {
         return Ok(Vec::new(alloc));
