@@ -6,11 +6,10 @@ ghost use Rattle.frame_core.specs.Calls.{Adds};
 ghost use Rattle.std.specs.Prelude.{[]};
 ghost use Rattle.clock_outputs.specs.Feeds.{HasGiven, HaveGiven, HaveGivenSome, with_slot};
 
-use crate::port::slot_of;
 use frame_core::{Cell, Chunk, Frame, Gave, Taps};
 use liq_base::Memory;
 use std::alloc::Global;
-use stream_meaning::Part;
+use stream_meaning::{Part, slot_of};
 
 /// A feed of a clock: its buffer, its node, and the slots of its node in the tick.
 #[derive(Debug, Drop)]

@@ -6,7 +6,7 @@ ghost use Rattle.clock_outputs.specs.Ports.{AllHaveRoomLeft, HasRoomLeft, after_
 use crate::Piece;
 use frame_core::Cell;
 use liq_base::Kind;
-use stream_meaning::Part;
+use stream_meaning::{Part, slot_of};
 
 /// An output of a clock: its number among the sinks of the plan, its node, and the bytes of the tick so far.
 #[derive(Debug, Drop)]
@@ -61,15 +61,5 @@ pub fn hear_all(ports: &mut Vec<Port>, parts: &[Part])
     for k in 0..ports.len() {
         let slot = slot_of(parts, ports[k].node);
         ports[k].hear(slot);
-    }
-}
-
-// What a node offers, by what the nodes do.
-pub(crate) fn slot_of(parts: &[Part], node: u32) -> Option<Cell>
-    ensures { result ≡ (part_at parts.now node).slot }
-{
-    match parts.get(node as usize) {
-        Some(part) => part.slot,
-        None => None,
     }
 }

@@ -11,9 +11,8 @@ ghost use Rattle.engine_clocks.specs.Clocks.{AreClockLanes, left_at, wants_at};
 
 use crate::ClockLanes;
 use engine_instants::Shape;
-use frame_core::Cell;
 use plan_core::Node;
-use stream_meaning::Part;
+use stream_meaning::slot_of;
 
 /// The child of crossfade k.
 pub fn child_of(nodes: &[Node], k: u32) -> u32
@@ -57,15 +56,5 @@ fn first_of(numbers: &[u32]) -> u32
     match numbers.get(0) {
         Some(number) => *number,
         None => 0,
-    }
-}
-
-// The slot of a node at the instant; nothing where there is none of this number.
-fn slot_of(parts: &[Part], number: u32) -> Option<Cell>
-    ensures { result ≡ (part_at parts.now number).slot }
-{
-    match parts.get(number as usize) {
-        Some(part) => part.slot,
-        None => None,
     }
 }

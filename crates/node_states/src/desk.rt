@@ -13,7 +13,7 @@ use liq_base::Memory;
 use plan_core::Node;
 use std::alloc::Global;
 use std::marker::Model;
-use stream_meaning::Part;
+use stream_meaning::{Part, slot_of};
 
 /// Room for the slots of a node's children, and for a mark of each. Contracts see for how many children.
 #[derive(Drop)]
@@ -109,15 +109,5 @@ fn gather(parts: &[Part], children: &[u32], slots: &mut [Option<Cell>])
 {
     for at in 0..children.len() {
         slots[at] = slot_of(parts, children[at]);
-    }
-}
-
-// The slot of a node; nothing where there is none of this number.
-fn slot_of(parts: &[Part], number: u32) -> Option<Cell>
-    ensures { result ≡ (part_at parts.now number).slot }
-{
-    match parts.get(number as usize) {
-        Some(part) => part.slot,
-        None => None,
     }
 }

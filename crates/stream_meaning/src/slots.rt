@@ -1,0 +1,16 @@
+// The slot of a node, by what all nodes do.
+ghost use Rattle.std.specs.Prelude.{◌≡◌};
+ghost use Rattle.stream_meaning.specs.Instants.{part_at};
+
+use crate::part::Part;
+use frame_core::Cell;
+
+/// The slot of a node at an instant, by what the nodes do then; nothing where there is none of this number.
+pub fn slot_of(parts: &[Part], node: u32) -> Option<Cell>
+    ensures { result ≡ (part_at parts.now node).slot }
+{
+    match parts.get(node as usize) {
+        Some(part) => part.slot,
+        None => None,
+    }
+}
