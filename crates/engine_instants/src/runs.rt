@@ -5,7 +5,7 @@ ghost use Rattle.node_mixing.specs.Runs.{samples_of};
 ghost use Rattle.engine_instants.specs.Runs.{HasRunRoom};
 
 use liq_base::Memory;
-use node_mixing::{MAX_RUN, Sums};
+use node_mixing::{MAX_RUN, Sums, samples_of};
 use std::alloc::Global;
 
 /// Room for the runs of a plan's nodes: the samples of each node, as many for each as a run has at most, node behind node;
@@ -30,31 +30,21 @@ impl Runs {
         Ok(Runs { left, right, sums })
     }
 
-    /// The left samples of node i in the latest run, which had so many instants.
-    pub fn left_of(&self, i: usize, count: usize) -> &[i16]
+    /// The left samples of a node in the latest run, which had so many instants.
+    pub fn left_of(&self, node: u32, count: usize) -> &[i16]
         requires short { count ≤ 1024 }
-        requires within { i * 1024 + 1024 ≤ length self.now.left.items }
-        ensures { result.now ≡ samples_of self.now.left.items i count }
+        requires within { (node + 1) * 1024 ≤ length self.now.left.items }
+        ensures { result.now ≡ samples_of self.now.left.items node count }
     {
-        samples_at(&self.left, i, count)
+        samples_of(&self.left, node, count)
     }
 
-    /// The right samples of node i in the latest run, which had so many instants.
-    pub fn right_of(&self, i: usize, count: usize) -> &[i16]
+    /// The right samples of a node in the latest run, which had so many instants.
+    pub fn right_of(&self, node: u32, count: usize) -> &[i16]
         requires short { count ≤ 1024 }
-        requires within { i * 1024 + 1024 ≤ length self.now.right.items }
-        ensures { result.now ≡ samples_of self.now.right.items i count }
+        requires within { (node + 1) * 1024 ≤ length self.now.right.items }
+        ensures { result.now ≡ samples_of self.now.right.items node count }
     {
-        samples_at(&self.right, i, count)
+        samples_of(&self.right, node, count)
     }
-}
-
-// The samples of node i.
-fn samples_at(samples: &[i16], i: usize, count: usize) -> &[i16]
-    requires short { count ≤ 1024 }
-    requires within { i * 1024 + 1024 ≤ length samples.now }
-    ensures { result.now ≡ samples_of samples.now i count }
-{
-    let (_, own) = samples.split_at(i * MAX_RUN as usize);
-    &own[..count]
 }
