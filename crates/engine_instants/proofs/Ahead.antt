@@ -1,5 +1,5 @@
 -- What lies ahead of nodes that gave.
-use Rattle.std.proofs.Common.{◌≡◌, ◌<◌, ◌≤◌, ◌∙◌, ◌&&◌, ℕ, suc, Bool, true, false, Some, List, length, slice_get, arith, ap, sym, subst, inl, inr}
+use Rattle.std.proofs.Common.{◌≡◌, ◌≤◌, ◌∙◌, ◌&&◌, ℕ, suc, Bool, true, false, Some, List, length, slice_get, arith, sym, subst, inl, inr}
 use Rattle.std.specs.Prelude.{is_some, slice_index_or}
 use Rattle.std.proofs.lemmas.Bool.{cases_lt, true≢false}
 use Rattle.clock_infer.specs.declared.clock_map.NodeClock.{NodeClock}
@@ -9,7 +9,7 @@ use Rattle.stream_meaning.specs.Instants.{part_at}
 use Rattle.node_states.specs.declared.state.NodeState.{NodeState}
 use Rattle.node_states.specs.Runs.{LiesAhead}
 use Rattle.node_states.proofs.Ahead.{lies_less}
-use Rattle.engine_instants.specs.Nodes.{IsFirst, lies_at}
+use Rattle.engine_instants.specs.Nodes.{IsFirst}
 use Rattle.engine_instants.specs.Runs.{AllLieAhead}
 use Rattle.engine_instants.proofs.Places.{same_or_other}
 
@@ -50,3 +50,10 @@ module _ (library : Sounds) (clocks : List NodeClock) (clock : NodeClock) (parts
   ahead_less below count few less ahead = record {
     each = λ i state low inside found gave. lies_less library state count few less (ahead.each i state low inside found gave);
   }
+
+-- the same over equal lists
+pub ahead_over : (library : Sounds) (clocks : List NodeClock) (clock : NodeClock) (parts other : List Part) (marks others : List Bool) (states : List NodeState) (below count : ℕ)
+    → other ≡ parts → others ≡ marks → AllLieAhead library clocks clock parts marks states below count → AllLieAhead library clocks clock other others states below count
+ahead_over library clocks clock parts other marks others states below count same alike ahead =
+    subst (λ ps. AllLieAhead library clocks clock ps others states below count) (sym same)
+    (subst (λ ms. AllLieAhead library clocks clock parts ms states below count) (sym alike) ahead)

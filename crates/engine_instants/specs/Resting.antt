@@ -1,5 +1,5 @@
 -- How far a node goes on behind an instant, and with it its clock.
-use Rattle.std.specs.Prelude.{◌≡◌, ◌<◌, ◌≤◌, ◌+◌, ◌%◌, Bool, true, false, Option, Some, None, List, ℕ, length, is_some, nat_eq, slice_index_or}
+use Rattle.std.specs.Prelude.{◌≡◌, ◌<◌, ◌≤◌, ◌+◌, ◌%◌, Bool, true, false, Option, Some, None, List, ℕ, length, is_some, nat_eq}
 use Rattle.plan_core.specs.declared.node.Node.{Node}
 use Rattle.clock_infer.specs.declared.clock_map.NodeClock.{NodeClock}
 use Rattle.frame_core.specs.Slots.{Slot, slot_at, is_first}

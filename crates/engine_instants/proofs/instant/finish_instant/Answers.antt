@@ -1,4 +1,4 @@
-use Rattle.std.proofs.Common.{◌≡◌, ◌∙◌, false, length, get_or, arith, ap}
+use Rattle.std.proofs.Common.{◌≡◌, ◌∙◌, false, length, get_or, arith, ap, sym}
 use Rattle.std.proofs.lemmas.List.{with_items_is}
 use Rattle.stream_meaning.specs.Instants.{part_at}
 use Rattle.engine_instants.proofs.instant.finish_instant.Goals as goal

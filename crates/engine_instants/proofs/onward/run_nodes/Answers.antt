@@ -1,4 +1,4 @@
-use Rattle.std.proofs.Common.{rules, ◌≡◌, ◌<◌, ◌∙◌, ◌&&◌, suc, Some, false, length, get_or, slice_get, arith, ap, sym, refl, subst}
+use Rattle.std.proofs.Common.{rules, ◌≡◌, ◌<◌, ◌∙◌, ◌&&◌, suc, Some, false, length, get_or, slice_get, arith, ap, sym, refl}
 use Rattle.std.specs.Prelude.{is_some}
 use Rattle.std.proofs.lemmas.List.{get_or_default}
 use Rattle.std.proofs.lemmas.Option.{slice_get-get_or}
@@ -32,21 +32,25 @@ loop-i-smaller c =
     let low = next.low in
     omega (arith, low, c.loop-i-test.true)
 
-pub run_node-requires : goal.run_node-requires
-run_node-requires c =
+pub run_node-requires-clause-in_left : goal.run_node-requires-clause-in_left
+run_node-requires-clause-in_left c = c.loop-i.invariant.in_left ∙ c.requires.in_left
+
+pub run_node-requires-clause-in_right : goal.run_node-requires-clause-in_right
+run_node-requires-clause-in_right c = c.loop-i.invariant.in_right ∙ c.requires.in_right
+
+pub run_node-requires-clause-fits : goal.run_node-requires-clause-fits
+run_node-requires-clause-fits c = λ node found.
+    let in_nodes : c.loop-i.i < length c.args.shape.now.plan.now.nodes = omega (arith, c.requires.in_clocks, c.loop-i-test.true) in
+    let in_states : c.loop-i.i < length c.loop-i.states = omega (arith, c.loop-i.invariant.fit.size, in_nodes) in
+    c.loop-i.invariant.fit.each c.loop-i.i node _ found (slice_get-get_or _ _ _ in_states)
+
+pub run_node-requires-clause-ahead : goal.run_node-requires-clause-ahead
+run_node-requires-clause-ahead c = λ gave.
     let in_nodes : c.loop-i.i < length c.args.shape.now.plan.now.nodes = omega (arith, c.requires.in_clocks, c.loop-i-test.true) in
     let in_states : c.loop-i.i < length c.loop-i.states = omega (arith, c.loop-i.invariant.fit.size, in_nodes) in
     let in_marks : c.loop-i.i < length c.args.marks.now = omega (arith, c.requires.in_marks, in_nodes) in
-    let inside = c.loop-i.invariant.own c.loop-i-test.true in
-    let there : slice_get c.loop-i.states c.loop-i.i ≡ Some (get_or c.loop-i.states c.loop-i.i c.index-states-i.result) = slice_get-get_or _ _ _ in_states in
-    record {
-      within = in_nodes;
-      in_left = c.loop-i.invariant.in_left ∙ c.requires.in_left;
-      in_right = c.loop-i.invariant.in_right ∙ c.requires.in_right;
-      fits = λ node found. c.loop-i.invariant.fit.each c.loop-i.i node _ found there;
-      ahead = λ gave. c.requires.ahead.each c.loop-i.i _ c.loop-i-test.true inside (sym (c.loop-i.invariant.stayed c.loop-i.i (omega arith)) ∙ there)
-          (ap (λ m. m && is_some (part_at c.args.parts.now c.loop-i.i).slot) (get_or_default _ _ false _ in_marks) ∙ gave);
-    }
+    c.requires.ahead.each c.loop-i.i _ c.loop-i-test.true (c.loop-i.invariant.own c.loop-i-test.true) (sym (c.loop-i.invariant.stayed c.loop-i.i (omega arith)) ∙ slice_get-get_or _ _ _ in_states)
+    (ap (λ m. m && is_some (part_at c.args.parts.now c.loop-i.i).slot) (get_or_default _ _ false _ in_marks) ∙ gave)
 
 pub loop-i-preserved : goal.loop-i-preserved
 loop-i-preserved c =
