@@ -1,5 +1,5 @@
 -- A clock makes many instants at once, which go on as its latest one did.
-use Rattle.std.proofs.Common.{◌≡◌, ◌<◌, ◌≤◌, ◌+◌, ◌%◌, ◌∙◌, ◌&&◌, ◌||◌, ◌++◌, ℕ, ℤ, zero, suc, Bool, true, false, cond, Some, None, Option, List, [], ◌∷◌, length, get_or, nat_eq, slice_get, append-nil, arith, refl, ap, sym, subst, inl, inr}
+use Rattle.std.proofs.Common.{◌≡◌, ◌<◌, ◌≤◌, ◌+◌, ◌%◌, ◌∙◌, ◌&&◌, ◌||◌, ◌++◌, ℕ, zero, suc, Bool, true, false, cond, Some, None, List, [], ◌∷◌, length, get_or, nat_eq, slice_get, append-nil, arith, refl, ap, sym, subst, inl, inr}
 use Rattle.std.specs.Prelude.{is_some, slice_index_or}
 use Rattle.std.proofs.lemmas.Bool.{cases_lt, false≢true, true≢false}
 use Rattle.std.proofs.lemmas.List.{length-append}
@@ -14,15 +14,14 @@ use Rattle.op_cross.specs.Crossfade.{cross}
 use Rattle.op_cross.specs.Runs.{run_of}
 use Rattle.op_cross.specs.States.{Crossing, StandsFor, ready_items, unsettled}
 use Rattle.op_cross.proofs.LeastRuns.{run_of-is}
-use Rattle.op_leaf.specs.Lanes.{IsLane}
 use Rattle.op_leaf.specs.Readers.{Answer}
 use Rattle.op_leaf.proofs.Laid.{lane_of_same}
 use Rattle.stream_meaning.specs.declared.part.Part.{Part}
-use Rattle.stream_meaning.specs.Operators.{Work, Fades, Reads}
-use Rattle.stream_meaning.specs.Instants.{Setting, Moment, Reading, IsMeaning, clock_of, demanded, demands_from, gives, history, is_root, is_used, lies_in, moment_after, offer, part_at, position, read_on, reading_after, reading_at, same_clock, uses_from, work_at}
+use Rattle.stream_meaning.specs.Operators.{Fades, Reads}
+use Rattle.stream_meaning.specs.Instants.{Setting, Moment, Reading, IsMeaning, clock_of, demanded, demands_from, gives, history, is_root, is_used, lies_in, moment_after, offer, part_at, position, reading_after, reading_at, same_clock, uses_from, work_at}
 use Rattle.stream_meaning.specs.Calls.{GoDown, calls_of, ran_by}
 use Rattle.stream_meaning.proofs.Existence.{same_clock-true}
-use Rattle.segment_laws.specs.Stretches.{AreQuiet, IsNode, IsOn, IsStretch, going_on, lane}
+use Rattle.segment_laws.specs.Stretches.{AreQuiet, IsNode, IsStretch, going_on, lane}
 use Rattle.segment_laws.proofs.Parts.{part_past, uses_long}
 use Rattle.segment_laws.proofs.Quiet.{no_calls}
 use Rattle.segment_laws.proofs.Stretching.{alike_all, on_all}
@@ -31,22 +30,22 @@ use Rattle.node_states.specs.declared.state.NodeState.{NodeState}
 use Rattle.node_states.specs.declared.state.NodeState.TheVariants.{Leaf, Select, Mix, Cross, Read, Idle}
 use Rattle.node_states.specs.declared.time.WeekTime.{WeekTime}
 use Rattle.node_states.specs.Runs.{fed_on}
-use Rattle.node_states.specs.States.{AreLong, CrossStands, StateStands, reading_by, reads, reads_at}
+use Rattle.node_states.specs.States.{AreLong, CrossStands, StateStands, reading_by, reads_at}
 use Rattle.node_states.specs.Ticks.{past_of}
 use Rattle.node_states.specs.Times.{TimeStands}
 use Rattle.node_states.proofs.Begun.{as_many}
 use Rattle.node_states.proofs.Chunks.{reading_closed, reading_open, reading_stays}
 use Rattle.node_states.proofs.Running.{needed_kept}
-use Rattle.engine_instants.specs.Runs.{HasGoneOn, IsBehind, IsMarked, begun_on}
-use Rattle.engine_instants.specs.States.{ClockStands, IsIn, over}
+use Rattle.engine_instants.specs.Runs.{HasGoneOn, IsBehind, begun_on}
+use Rattle.engine_instants.specs.States.{ClockStands}
 use Rattle.engine_instants.proofs.Gone.{offers_in}
 use Rattle.engine_clocks.specs.declared.lanes.ClockLanes.{ClockLanes}
-use Rattle.engine_clocks.specs.Clocks.{AreOwnRoots, HasRanks, RanAsNeeded, Stand, fade_at, is_fade}
+use Rattle.engine_clocks.specs.Clocks.{AreOwnRoots, HasRanks, RanAsNeeded, Stand, fade_at}
 use Rattle.engine_clocks.specs.Runs.{HasRunOn, IsRunOf}
 use Rattle.engine_clocks.proofs.Equal.{are_same, item_at, same_itself, same_or_other, they_differ}
-use Rattle.engine_clocks.proofs.Fading.{fade_of, fade_op, fade_reads, fade_within, op_of_work, reads_work, work_of_op}
+use Rattle.engine_clocks.proofs.Fading.{fade_op, fade_reads, fade_within, op_of_work, reads_work, work_of_op}
 use Rattle.engine_clocks.proofs.Opened.{clock_stands_at, past_long}
-use Rattle.engine_clocks.proofs.Making.{roots_are, taken_stays}
+use Rattle.engine_clocks.proofs.Making.{taken_stays}
 use Rattle.engine_clocks.proofs.Taking.{needed_below}
 
 -- a clock's count becomes another number

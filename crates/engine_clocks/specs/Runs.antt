@@ -1,5 +1,5 @@
 -- Instants of a clock that go on as its latest one did, made at once.
-use Rattle.std.specs.Prelude.{◌≡◌, ◌<◌, ◌≤◌, ◌+◌, Bool, true, false, None, List, [], ℕ, ℤ, suc, is_some, slice_index_or}
+use Rattle.std.specs.Prelude.{◌≡◌, ◌<◌, ◌+◌, Bool, true, false, None, List, [], ℕ, ℤ, suc, is_some, slice_index_or}
 use Rattle.plan_core.specs.declared.plan.Plan.{Plan}
 use Rattle.clock_infer.specs.declared.clock_map.NodeClock.{NodeClock}
 use Rattle.frame_core.specs.Slots.{Slot}

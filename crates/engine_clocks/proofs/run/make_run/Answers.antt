@@ -1,6 +1,6 @@
-use Rattle.std.proofs.Common.{◌≡◌, ◌∙◌, false, List, length, slice_get, arith, ap, refl, sym, subst}
+use Rattle.std.proofs.Common.{◌≡◌, ◌∙◌, List, length, slice_get, arith, ap, refl, sym, subst}
 use Rattle.std.proofs.lemmas.List.{with_items_is}
-use Rattle.stream_meaning.specs.Instants.{history, moment_after}
+use Rattle.stream_meaning.specs.Instants.{history}
 use Rattle.node_states.specs.declared.state.NodeState.{NodeState}
 use Rattle.node_states.proofs.Begun.{as_many}
 use Rattle.engine_instants.specs.Runs.{HasGoneOn, IsBehind}
