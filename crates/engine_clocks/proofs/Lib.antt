@@ -7,3 +7,4 @@ pub mod Joining
 pub mod Making
 pub mod Settling
 pub mod Readers
+mod Behind

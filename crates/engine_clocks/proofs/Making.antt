@@ -57,7 +57,7 @@ are_ready setting sub rank clock ran fed front lanes stand needed = record {
 }
 
 -- the answers that a reader has taken stay at an instant's end
-taken_stays : (gave : Bool) (reading : Reading) → (read_on gave reading).taken ≡ reading.taken
+pub taken_stays : (gave : Bool) (reading : Reading) → (read_on gave reading).taken ≡ reading.taken
 taken_stays true reading = refl
 taken_stays false reading = refl
 

@@ -21,6 +21,7 @@ use Rattle.node_states.specs.States.{IsSettled, StateStands, left, reading_by, r
 use Rattle.node_states.specs.Ticks.{past_of}
 use Rattle.node_states.specs.Times.{TimeStands}
 use Rattle.engine_instants.specs.Nodes.{AreNodesOf, IsLatest}
+use Rattle.engine_instants.specs.Runs.{HasRunRoom}
 use Rattle.engine_instants.specs.States.{AllFit, HasRoomFor, over}
 use Rattle.engine_instants.specs.Takes.{HasOwnReaders, begun_in}
 use Rattle.engine_clocks.specs.declared.lanes.ClockLanes.{ClockLanes}
@@ -46,6 +47,7 @@ pub record AreClockLanes (plan : Plan) (library : Sounds) (clocks : List NodeClo
   pub chains : AreNodesOf clocks lanes.nodes
   pub latest : IsLatest clocks lanes.latest
   pub room : HasRoomFor plan lanes.desk
+  pub runs : HasRunRoom (length plan.nodes) lanes.runs
   pub rates : (k : ℕ) (time : WeekTime) → slice_get lanes.times.items k ≡ Some time → time.rate ≡ plan.rate
   pub frames : (k : ℕ) (time : WeekTime) → slice_get lanes.times.items k ≡ Some time → time.frame ≡ plan.frame
 

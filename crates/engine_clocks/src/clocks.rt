@@ -4,6 +4,7 @@ ghost use Rattle.liq_base.specs.declared.limits.TheConstants.{MAX_NODES};
 ghost use Rattle.plan_core.specs.Plans.{AreNodes};
 ghost use Rattle.clock_infer.specs.declared.clock_map.NodeClock.{NodeClock as Clock};
 ghost use Rattle.clock_infer.specs.declared.clock_map.NodeClock.TheVariants.{Main as InMain};
+ghost use Rattle.engine_instants.specs.Runs.{IsMarked};
 ghost use Rattle.engine_instants.specs.Takes.{HasReader, ReadersAreIn};
 ghost use Rattle.engine_clocks.specs.Clocks.{AllSettled, AreClockLanes, AreLeft, HasLevels, HasRanks, InstantMade, InstantStopped, NodeSettled, NodeStopped, SettlingStopped, is_in, is_node};
 
@@ -45,6 +46,7 @@ pub fn make_instant<T: Taps>(
     ensures same { T.same taps.old taps.new }
     ensures left { OnOk result ((rank : Clock → ℕ) → HasRanks shape.now.clocks.now rank
         → AreLeft shape.now.clocks.now rank (rank clock) (is_in shape.now.clocks.now clock) lanes.old lanes.new) }
+    ensures marked { OnOk result (IsMarked shape.now.plan.now shape.now.library.now shape.now.clocks.now own.now clock lanes.new.latest) }
     ensures made { OnOk result (InstantMade T.stands shape.now.plan.now shape.now.library.now shape.now.clocks.now own.now clock time lanes.old lanes.new taps.old taps.new) }
     ensures stopped { OnErr result (InstantStopped T.stands shape.now.plan.now shape.now.library.now shape.now.clocks.now own.now clock time lanes.old taps.old taps.new) }
     ensures reads { OnErr result (HasReader shape.now.plan.now shape.now.clocks.now clock) }

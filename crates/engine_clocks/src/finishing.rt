@@ -5,6 +5,7 @@ ghost use Rattle.clock_infer.specs.declared.clock_map.NodeClock.TheVariants.{Mai
 ghost use Rattle.frame_core.specs.Slots.{Slot as TheSlot};
 ghost use Rattle.stream_meaning.specs.Instants.{Setting, Moment, moment_after, same_clock, second_at};
 ghost use Rattle.node_states.specs.States.{AreLong};
+ghost use Rattle.engine_instants.specs.Runs.{IsMarked};
 ghost use Rattle.engine_instants.specs.States.{AreSettled, ClockStands, over};
 ghost use Rattle.engine_clocks.specs.Clocks.{AreClockLanes, AreOwnRoots};
 
@@ -29,6 +30,7 @@ pub fn finish(
     ensures others { (i : ℕ) → same_clock (slice_index_or shape.now.clocks.now i (InMain 0)) clock ≡ false
         → slice_get lanes.new.states.items i ≡ slice_get lanes.old.states.items i }
     ensures times { lanes.new.times.items ≡ lanes.old.times.items }
+    ensures marked { IsMarked shape.now.plan.now shape.now.library.now shape.now.clocks.now own.now clock lanes.new.latest }
     ensures parts { (setting : Setting) (sub : ℕ → ℕ → List TheSlot) (past : List Moment) (fed : ℕ → ℕ) →
         let setting = over shape.now.plan.now shape.now.library.now shape.now.clocks.now setting in
         at.second ≡ second_at setting (length past) → AreLong sub → ClockStands setting sub clock past fed lanes.old.states.items

@@ -6,7 +6,9 @@ mod feeding;
 mod finishing;
 mod lanes;
 mod opening;
+mod run;
 
 pub use clocks::make_instant;
 pub use feeding::child_of;
 pub use lanes::ClockLanes;
+pub use run::make_run;

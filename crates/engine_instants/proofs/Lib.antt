@@ -10,3 +10,6 @@ pub mod Going
 pub mod Beginning
 pub mod Reading
 mod Stretched
+pub mod Samples
+mod Ahead
+pub mod Gone

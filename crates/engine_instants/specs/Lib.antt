@@ -3,3 +3,4 @@ pub mod Takes
 pub mod Demands
 pub mod Nodes
 pub mod Resting
+pub mod Runs

@@ -1,5 +1,5 @@
 -- How far a node goes on behind an instant, and with it its clock.
-use Rattle.std.specs.Prelude.{◌≡◌, ◌<◌, ◌≤◌, ◌+◌, ◌%◌, Bool, true, false, Option, Some, None, List, ℕ, length, is_some, nat_eq, slice_index_or}
+use Rattle.std.specs.Prelude.{◌≡◌, ◌<◌, ◌≤◌, ◌+◌, ◌%◌, Bool, true, false, Option, Some, None, List, ℕ, length, is_some, nat_eq}
 use Rattle.plan_core.specs.declared.node.Node.{Node}
 use Rattle.clock_infer.specs.declared.clock_map.NodeClock.{NodeClock}
 use Rattle.frame_core.specs.Slots.{Slot, slot_at, is_first}
@@ -12,7 +12,7 @@ use Rattle.stream_meaning.specs.declared.part.Part.{Part}
 use Rattle.stream_meaning.specs.Operators.{Eligible, Plays, Picks, Fades, Reads, marks_at}
 use Rattle.stream_meaning.specs.Instants.{Setting, Moment, count, gives, last_pick, moment_after, offer, parts_upto, position, reading_after, reading_at, second_at, slots_at, work_at}
 use Rattle.segment_laws.specs.Steady.{IsFree, is_inner}
-use Rattle.segment_laws.specs.Stretches.{AreFed, IsNode}
+use Rattle.segment_laws.specs.Stretches.{IsNode}
 
 -- the child at a place begins a track
 abbrev pub begins_at : List Part → List ℕ → Option ℕ → Bool
@@ -38,10 +38,6 @@ pub record NodeStretches (setting : Setting) (sub : ℕ → ℕ → List Slot) (
 -- the readers of a clock have begun so many instants
 pub record AreReadTo (setting : Setting) (clock : NodeClock) (fed : ℕ → ℕ) (n : ℕ) : Type 0 where
   pub each : (i : ℕ) (node : Node) (buffer : ℕ) → IsNode setting clock i node → work_at setting i node ≡ Reads buffer → fed i ≡ n
-
--- each crossfade's sub-clock goes on with a track for so many instants
-pub record AreFedOn (setting : Setting) (sub : ℕ → ℕ → List Slot) (fed : ℕ → ℕ) (rests : List ℕ) : Type 0 where
-  pub each : (i : ℕ) → AreFed setting sub i (fed i) (slice_index_or rests i 0)
 
 -- so many instants lie behind this one in its second
 pub record IsSameSecond (setting : Setting) (n second : ℕ) : Type 0 where

@@ -7,14 +7,17 @@ mod instant;
 mod latest;
 mod nodes;
 mod offers;
+mod onward;
 mod resting;
 mod roots;
+mod runs;
 mod shape;
 mod takes;
 
 pub use instant::finish_instant;
 pub use latest::Latest;
 pub use nodes::ClockNodes;
-pub use resting::rest_of;
+pub use onward::run_on;
+pub use runs::Runs;
 pub use shape::Shape;
 pub use takes::begin_readers;

@@ -7,13 +7,14 @@ ghost use Rattle.clock_infer.specs.declared.clock_map.NodeClock.{NodeClock as Cl
 ghost use Rattle.frame_core.specs.Slots.{Slot as TheSlot};
 ghost use Rattle.op_select.specs.declared.rule.Rule.{Rule as TheRule};
 ghost use Rattle.stream_meaning.specs.Operators.{Eligible, Every, Picks, Reads, work_of};
-ghost use Rattle.stream_meaning.specs.Instants.{Setting, Moment, moment_after, work_at};
-ghost use Rattle.segment_laws.specs.Stretches.{AreFed, IsNode, IsStretch};
+ghost use Rattle.stream_meaning.specs.Instants.{Setting, Moment, moment_after, part_at, work_at};
+ghost use Rattle.segment_laws.specs.Stretches.{IsNode, IsStretch};
+ghost use Rattle.node_states.specs.Runs.{LiesAhead};
 ghost use Rattle.node_states.specs.States.{AreLong, Fits, StateStands};
-ghost use Rattle.node_states.specs.Times.{TimeStands};
 ghost use Rattle.engine_instants.specs.Nodes.{AreNodesOf};
-ghost use Rattle.engine_instants.specs.Resting.{AreFedOn, AreReadTo, IsSameSecond, IsSameTick, NodeStretches, begins_at};
-ghost use Rattle.engine_instants.specs.States.{AllFit, ClockStands, over};
+ghost use Rattle.engine_instants.specs.Resting.{IsSameSecond, IsSameTick, NodeStretches, begins_at};
+ghost use Rattle.engine_instants.specs.Runs.{AllLieAhead, IsBehind};
+ghost use Rattle.engine_instants.specs.States.{AllFit, over};
 
 use crate::{ClockNodes, Shape};
 use clock_infer::NodeClock;
@@ -21,8 +22,9 @@ use node_states::{NodeState, WeekTime};
 use plan_core::Op;
 use stream_meaning::Part;
 
-/// How many instants, at most so many, go on as the latest one of a clock did, at which its nodes had these parts and marks:
-/// they are a stretch with it. `time` is its time, and `rests` instants of the sub-clock of each crossfade go on with a track.
+/// How many instants, at most so many and no more than a second has, go on as the latest one of a clock did, at which its
+/// nodes had these parts and marks: they are a stretch with it. `time` is its time. A crossfade goes on for the items that it
+/// has ready.
 pub fn rest_of(
     shape: &Shape<'_>,
     nodes: &ClockNodes,
@@ -30,7 +32,6 @@ pub fn rest_of(
     parts: &[Part],
     marks: &[bool],
     states: &[NodeState],
-    rests: &[u32],
     time: WeekTime,
     most: u32,
 ) -> u32
@@ -41,24 +42,20 @@ pub fn rest_of(
     requires chains { AreNodesOf shape.now.clocks.now nodes.now }
     requires in_parts { length parts.now ≡ length shape.now.plan.now.nodes }
     requires in_marks { length marks.now ≡ length shape.now.plan.now.nodes }
-    requires in_rests { length rests.now ≡ length shape.now.plan.now.nodes }
     requires fit { AllFit shape.now.plan.now shape.now.library.now states.now }
     ensures within { result ≤ most }
+    ensures later { result ≤ time.rate }
+    ensures ahead { AllLieAhead shape.now.library.now shape.now.clocks.now clock parts.now marks.now states.now (length shape.now.clocks.now) result }
     ensures stretch { (setting : Setting) (sub : ℕ → ℕ → List TheSlot) (past : List Moment) (fed : ℕ → ℕ) →
         let setting = over shape.now.plan.now shape.now.library.now shape.now.clocks.now setting in
-        AreLong sub → ClockStands setting sub clock (moment_after setting sub clock past ∷ past) fed states.now
-        → parts.now ≡ (moment_after setting sub clock past).parts → marks.now ≡ (moment_after setting sub clock past).demands
-        → AreReadTo setting clock fed (suc (length past)) → AreFedOn setting sub fed rests.now → TimeStands setting.start (length past) time
-        → IsStretch setting sub clock past (suc result) }
+        IsBehind setting sub clock past fed time parts.now marks.now states.now → IsStretch setting sub clock past (suc result) }
 {
     let second = time.second_left();
     let tick = time.tick_left();
-    let mut rest = most;
+    let mut rest = most.min(time.rate);
     let mut i = nodes.first(clock);
     while i < shape.clocks.len() {
-        rest = node_rest(
-            shape, parts, marks[i], &states[i], i, rests[i], second, tick, rest,
-        );
+        rest = node_rest(shape, parts, marks[i], &states[i], i, second, tick, rest);
         i = nodes.after(i);
     }
     rest
@@ -71,7 +68,6 @@ fn node_rest(
     marked: bool,
     state: &NodeState,
     i: usize,
-    below: u32,
     second: u32,
     tick: u32,
     most: u32,
@@ -81,24 +77,25 @@ fn node_rest(
     requires within { i < length shape.now.plan.now.nodes }
     requires fits { (node : PlanNode) → slice_get shape.now.plan.now.nodes i ≡ Some node → Fits shape.now.library.now (length node.children) state.now }
     ensures within { result ≤ most }
+    ensures ahead { (marked && is_some (part_at parts.now i).slot) ≡ true → LiesAhead shape.now.library.now state.now result }
     ensures goes { (setting : Setting) (sub : ℕ → ℕ → List TheSlot) (clock : Clock) (past : List Moment) (fed : ℕ) (node : PlanNode) →
         let setting = over shape.now.plan.now shape.now.library.now shape.now.clocks.now setting in
         AreLong sub → IsNode setting clock i node → StateStands setting sub (moment_after setting sub clock past ∷ past) fed i (work_at setting i node) state.now
         → parts.now ≡ (moment_after setting sub clock past).parts → slice_index_or (moment_after setting sub clock past).demands i false ≡ marked
         → ((buffer : ℕ) → work_at setting i node ≡ Reads buffer → fed ≡ suc (length past))
-        → AreFed setting sub i fed below → IsSameSecond setting (length past) second → IsSameTick setting (length past) tick
+        → IsSameSecond setting (length past) second → IsSameTick setting (length past) tick
         → NodeStretches setting sub clock past i node result }
 {
     let node = &shape.plan.nodes.as_slice()[i];
     let part = parts[i];
     let gave = gives(part, marked);
     let begins = begins(parts, node.children.as_slice(), state.last());
-    let rest = state.rest(part, gave, begins, shape.library, below, most);
+    let rest = state.rest(part, gave, begins, shape.library, 0, most);
     rest.min(border(&node.op, second, tick, most))
 }
 
 // Whether a node with this part gives.
-fn gives(part: Part, marked: bool) -> bool
+pub fn gives(part: Part, marked: bool) -> bool
     ensures { result ≡ (marked && is_some part.slot) }
 {
     marked && part.slot.is_some()

@@ -1,1 +1,4 @@
-pub mod Sums
+pub mod CellSums
+pub mod Lanes
+mod Levels
+mod Summing

@@ -1,1 +1,2 @@
 pub mod Mixings
+pub mod Runs

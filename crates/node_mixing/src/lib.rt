@@ -1,9 +1,14 @@
-//! What a node makes of the slots of its children: a sum, a gain, a mean of both sides, or one side on both.
-//! `docs/streams.md`, "Arithmetic", has the rules.
+//! What a node makes of the slots of its children, at an instant or over a run of them: a sum, a gain, a mean of both sides,
+//! or one side on both. `docs/streams.md`, "Arithmetic", has the rules.
 #![tactic(auto)]
 
 mod change;
+mod lane;
 mod mixer;
+mod room;
 mod sum;
+mod walk;
 
 pub use mixer::Mixer;
+pub use room::{MAX_RUN, Sums};
+pub use walk::samples_of;

@@ -29,8 +29,8 @@ pub fn summed(slots: &[Option<Cell>], normalize: bool) -> Option<Cell>
     })
 }
 
-// The sum of so many samples and of one more.
-fn added(sum: i32, parts: u16, sample: i16) -> i32
+/// The sum of so many samples and of one more.
+pub fn added(sum: i32, parts: u16, sample: i16) -> i32
     requires few { parts < 65535 }
     requires sum { IsSumOf parts sum }
     ensures is { result ≡ sum +ℤ sample }

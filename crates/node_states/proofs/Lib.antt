@@ -6,3 +6,6 @@ pub mod Seconds
 pub mod Chunks
 mod Rested
 pub mod Running
+pub mod Ahead
+mod Hearing
+mod Ran

@@ -6,7 +6,7 @@ use Rattle.std.proofs.lemmas.List.{get_or_past}
 use Rattle.frame_core.specs.Slots.{Slot, slot_at}
 use Rattle.op_cross.specs.Crossfade.{cross}
 use Rattle.op_cross.specs.Runs.{item_of}
-use Rattle.op_cross.specs.States.{AllInner, Crossing, IsCrossing, StandsFor, passes}
+use Rattle.op_cross.specs.States.{AllInner, Crossing, IsCrossing, StandsFor, passes, ready_stretch}
 use Rattle.op_cross.proofs.LeastRuns.{item_of-is}
 use Rattle.op_cross.proofs.Running.{passing}
 use Rattle.op_leaf.specs.Readers.{Reader, after_cell, read_by, reader_slot}
@@ -43,6 +43,14 @@ cross_goes setting sub fed i p overlap below rest state long stands are is ready
         let inner = ready e j low in
         ap is_inner (item_of-is state.overlap (sub i) (p + j) fed (long.each i) (inner_within (cross state.overlap (sub i fed)) (p + j) inner)
         (λ m less. let l = least m less in omega (arith, l))) ∙ inner
+
+-- so many items are ready, where its sub-clock is not to go on
+pub cross_ahead : (state : Crossing) (below rest : ℕ) → (passes state ≡ true → rest ≤ below) → (passes state ≡ false → rest ≤ ready_stretch state) → below ≡ 0 → rest ≤ ready_stretch state
+cross_ahead state below rest few ahead none = by (passes state) refl
+  where
+    by : (through : Bool) → passes state ≡ through → rest ≤ ready_stretch state
+    by true e = (let f = few e in omega (arith, f, none))
+    by false e = ahead e
 
 -- what a node that gave has gone on by
 pub gave_count : (past : List Moment) (moment : Moment) (i : ℕ) → gives moment i ≡ true → count (moment ∷ past) i ≡ suc (count past i)

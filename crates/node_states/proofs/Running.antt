@@ -1,8 +1,8 @@
 -- What states stand for behind a run of instants.
-use Rattle.std.proofs.Common.{◌≡◌, ◌<◌, ◌≤◌, ◌+◌, ◌-◌, ◌∙◌, ◌++◌, ℕ, zero, suc, Some, List, length, map, take, if◌then◌else◌, Bool, true, false, arith, refl, ap, sym, subst, inl, inr}
+use Rattle.std.proofs.Common.{◌≡◌, ◌<◌, ◌≤◌, ◌+◌, ◌-◌, ◌∙◌, ◌++◌, ℕ, zero, suc, Some, List, [], length, map, take, Bool, true, false, arith, refl, ap, sym, subst, inl, inr}
 use Rattle.std.specs.Prelude.{is_some, not}
 use Rattle.std.proofs.lemmas.Bool.{cases_lt}
-use Rattle.std.proofs.lemmas.List.{take_all}
+use Rattle.std.proofs.lemmas.List.{append-nil, take_all}
 use Rattle.plan_core.specs.declared.node.Node.{Node}
 use Rattle.plan_core.specs.Plans.{AreNodes}
 use Rattle.clock_infer.specs.declared.clock_map.NodeClock.{NodeClock}
@@ -23,6 +23,7 @@ use Rattle.segment_laws.proofs.Reaching.{run_more}
 use Rattle.node_states.specs.declared.state.NodeState.{NodeState}
 use Rattle.node_states.specs.declared.state.NodeState.TheVariants.{Leaf, Select, Mix, Cross, Read}
 use Rattle.node_states.specs.States.{AreLong, CrossStands, LeafStands, SelectStands, StateStands, reading_by, reads}
+use Rattle.node_states.specs.Runs.{fed_on}
 use Rattle.node_states.proofs.Chunks.{reading_closed}
 
 -- two pasts are the same to a node of this work
@@ -32,10 +33,6 @@ SamePast setting (Picks rule eligible) i past later = last_pick later i ≡ last
 SamePast setting (Mixes mixing) i past later = Unit {0}
 SamePast setting (Fades overlap) i past later = position later i ≡ position past i
 SamePast setting (Reads buffer) i past later = (reading_after setting i buffer later).reader ≡ (reading_after setting i buffer past).reader
-
--- what a node has begun or was fed, where a reader has begun so many instants more
-abbrev pub fed_on : Bool → (many fed : ℕ) → ℕ
-fed_on reading many fed = if reading then fed + many else fed
 
 -- a reader that has begun each instant of its past holds what they left
 closed_reader : (setting : Setting) (i buffer : ℕ) (past : List Moment) (fed : ℕ) → fed ≡ length past → (reading_by setting i buffer past fed).reader ≡ (reading_after setting i buffer past).reader
@@ -54,8 +51,16 @@ stands_same setting sub past later many fed i (Reads buffer) (Read reader) same 
     s ∙ closed_reader setting i buffer past fed now ∙ sym same ∙ sym (closed_reader setting i buffer later (fed + many) (omega (arith, now, long)))
 stands_same setting sub past later many fed i work state same long closed s = absurd s
 
+-- no slot more is fed
+pub fed_none : (setting : Setting) (sub : ℕ → ℕ → List Slot) (k n : ℕ) → AreFed setting sub k n 0
+fed_none setting sub k n = record { cells = []; inner = tt; long = refl; fed = λ m few. none m few }
+  where
+    none : (m : ℕ) → m ≤ 0 → sub k (n + m) ≡ sub k n ++ map Some (take m [])
+    none zero few = let e : n + 0 ≡ n = omega arith in ap (sub k) e ∙ sym (append-nil (sub k n))
+    none (suc m) few = absurd (omega (arith, few))
+
 -- so many cells more of a reader
-read_more : (m n : ℕ) (reader : Reader) → read_by (m + n) reader ≡ read_by n (read_by m reader)
+pub read_more : (m n : ℕ) (reader : Reader) → read_by (m + n) reader ≡ read_by n (read_by m reader)
 read_more m zero reader = let e : m + 0 ≡ m = omega arith in ap (λ k. read_by k reader) e
 read_more m (suc n) reader = let e : m + suc n ≡ suc (m + n) = omega arith in ap (λ k. read_by k reader) e ∙ ap after_cell (read_more m n reader)
 

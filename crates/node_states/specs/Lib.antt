@@ -3,3 +3,4 @@ pub mod Works
 pub mod States
 pub mod Takes
 pub mod Ticks
+pub mod Runs

@@ -5,6 +5,7 @@
 mod desk;
 pub mod laws;
 mod marks;
+mod run;
 mod state;
 mod steps;
 mod takes;

@@ -9,6 +9,7 @@ ghost use Rattle.op_select.specs.declared.rule.Rule.{Rule as TheRule};
 ghost use Rattle.stream_meaning.specs.Operators.{Work, Eligible, Fades, Picks, Reads};
 ghost use Rattle.segment_laws.specs.Stretches.{AreFed, NodeGoes};
 ghost use Rattle.stream_meaning.specs.Instants.{Setting, Moment, demanded, gives, last_pick, part_at, part_by, position, second_at, work_at};
+ghost use Rattle.node_states.specs.Runs.{LiesAhead};
 ghost use Rattle.node_states.specs.States.{AreLong, FadesOn, Fits, IsSettled, left, StateStands, wants};
 
 use crate::marks::mark_eligible;
@@ -173,6 +174,7 @@ impl NodeState {
     ) -> u32
         requires fits { (children : ℕ) × Fits library.now children self.now }
         ensures within { result ≤ most }
+        ensures ahead { below ≡ 0 → gave ≡ true → LiesAhead library.now self.now result }
         ensures goes { (setting : Setting) (sub : ℕ → ℕ → List TheSlot) (past : List Moment) (moment : Moment) (fed i : ℕ) (work : Work)
             → setting.library ≡ library.now → AreLong sub → StateStands setting sub (moment ∷ past) fed i work self.now
             → ((buffer : ℕ) → work ≡ Reads buffer → fed ≡ suc (length past))

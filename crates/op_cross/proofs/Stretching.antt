@@ -1,14 +1,14 @@
 -- How many ready items are cells of one track.
-use Rattle.std.proofs.Common.{◌≡◌, ◌<◌, ◌≤◌, ◌-◌, ◌∙◌, ◌++◌, ℕ, zero, suc, Some, List, [], ◌∷◌, length, take, drop, map, Bool, true, false, cond, arith, refl, ap, sym, append_assoc}
+use Rattle.std.proofs.Common.{◌≡◌, ◌<◌, ◌≤◌, ◌+◌, ◌-◌, ◌∙◌, ◌++◌, ℕ, zero, suc, Some, None, List, [], ◌∷◌, length, take, drop, map, Bool, true, false, cond, arith, refl, ap, sym, append_assoc}
 use Rattle.std.specs.Prelude.{nat_eq, nat_lt}
 use Rattle.std.proofs.lemmas.Bool.Decides.{nat_tests}
-use Rattle.std.proofs.lemmas.List.{length-take, drop_at}
+use Rattle.std.proofs.lemmas.List.{length-drop, length-take, drop_at}
 use Rattle.frame_core.specs.declared.cell.Cell.{Cell}
 use Rattle.frame_core.specs.Slots.{Slot}
 use Rattle.op_cross.specs.Crossfade.{mixed_cells, cross}
 use Rattle.op_cross.specs.Stretches.{inner_run, stretch}
 use Rattle.op_cross.specs.States.{Crossing, StandsFor, IsCrossing, AllInner, IsTrack, gap_of, ready_items, ready_stretch}
-use Rattle.op_cross.proofs.Standing.{settled_now, by_less, take_none, none_ready_at}
+use Rattle.op_cross.proofs.Standing.{is_settled, settled_now, by_less, take_none, none_ready_at}
 
 inner_of : (cells : List Cell) (more : List Slot) → AllInner cells → inner_run more ≡ 0 → inner_run (map Some cells ++ more) ≡ length cells
 inner_of [] more inner none = none
@@ -108,6 +108,29 @@ stretch_is s slots p is stands =
         gap_stretch true = refl
         gap_stretch false = refl
     by (suc n) ready = some_stretch s is stands.plain (omega (arith, ready))
+
+run_within : (slots : List Slot) → inner_run slots ≤ length slots
+run_within [] = omega arith
+run_within (None ∷ slots) = omega arith
+run_within (Some cell ∷ slots) = by cell.first (run_within slots)
+  where
+    by : (first : Bool) → inner_run slots ≤ length slots → cond first 0 (suc (inner_run slots)) ≤ suc (length slots)
+    by true few = omega arith
+    by false few = omega (arith, few)
+
+stretch_within : (slots : List Slot) → stretch slots ≤ length slots
+stretch_within [] = omega arith
+stretch_within (None ∷ slots) = omega arith
+stretch_within (Some cell ∷ slots) = let few = run_within slots in omega (arith, few)
+
+-- items that are ready are settled
+pub settled_ahead : (s : Crossing) (slots : List Slot) (p n : ℕ) → IsCrossing s → StandsFor s slots p → n ≤ ready_stretch s → p + n ≤ length (cross s.overlap slots)
+settled_ahead s slots p n is stands few =
+    let long = is_settled s slots p is stands in
+    let same = stretch_is s slots p is stands in
+    let within = stretch_within (drop p (cross s.overlap slots)) in
+    let rest = length-drop p (cross s.overlap slots) in
+    omega (arith, long, same, within, rest, few)
 
 pub long_run : (s : Crossing) (mixed : ℕ) → mixed ≡ length s.next → mixed < s.ready → s.ready - mixed ≡ ready_stretch s
 long_run s mixed is less =

@@ -212,6 +212,7 @@ impl CrossState {
         requires same { length right.old ≡ length left.old }
         requires ready { length left.old ≤ ready_stretch self.old }
         ensures overlap { self.new.overlap ≡ self.old.overlap }
+        ensures settled { (slots : List Slot) (p : ℕ) → StandsFor self.old slots p → p + length left.old ≤ length (cross self.old.overlap slots) }
         ensures stands { (slots : List Slot) (p : ℕ) → StandsFor self.old slots p → StandsFor self.new slots (p + length left.old) }
         ensures left { (slots : List Slot) (p : ℕ) → StandsFor self.old slots p → left.new ≡ map left_of (take (length left.old) (drop p (cross self.old.overlap slots))) }
         ensures right { (slots : List Slot) (p : ℕ) → StandsFor self.old slots p → right.new ≡ map right_of (take (length left.old) (drop p (cross self.old.overlap slots))) }
@@ -262,6 +263,7 @@ impl CrossState {
             → is_inner (slot_at (cross self.now.overlap slots) (p + j)) ≡ true }
         ensures plain { (slots : List Slot) (p : ℕ) → StandsFor self.now slots p → passes self.now ≡ true → 0 < result → AllInner self.now.cells }
         ensures below { passes self.now ≡ true → result ≤ below }
+        ensures ahead { passes self.now ≡ false → result ≤ ready_stretch self.now }
         ensures within { result ≤ most }
         ensures crossing { IsCrossing self.now }
     {

@@ -1,13 +1,12 @@
 -- The cells that files give at once.
-use Rattle.std.proofs.Common.{◌≡◌, ◌<◌, ◌≤◌, ◌+◌, ◌-◌, ◌∙◌, ◌&&◌, ℕ, ℤ, zero, suc, Some, List, [], ◌∷◌, length, map, take, get_or, nat_eq, if◌then◌else◌, arith, refl, ap, sym, subst}
+use Rattle.std.proofs.Common.{◌≡◌, ◌<◌, ◌+◌, ◌-◌, ◌∙◌, ◌&&◌, ℕ, ℤ, zero, suc, Some, List, ◌∷◌, length, map, take, get_or, nat_eq, if◌then◌else◌, arith, refl, ap, sym, subst}
 use Rattle.std.specs.List.{range_with_len}
-use Rattle.frame_core.specs.Slots.{Slot}
 use Rattle.frame_core.specs.Sounds.{Sound, cell_of, lefts_from, length_of, rights_from}
 use Rattle.frame_core.specs.Library.{IsLibrary, Sounds, no_sound, sound_at, tracks_of}
 use Rattle.op_leaf.specs.declared.files.Files.{Files}
 use Rattle.op_leaf.specs.Inner.{LieInFile, lefts_of, rights_of, slot_left, slot_right}
 use Rattle.op_leaf.specs.Leaves.{files_slot, place_in_round, sounds_of, total_of}
-use Rattle.op_leaf.specs.Standing.{FilesArePlacedIn, FilesStandAt}
+use Rattle.op_leaf.specs.Standing.{FilesStandAt}
 use Rattle.op_leaf.proofs.Cursors.{later-next, length-sounds, some_samples, sounds-at}
 use Rattle.op_leaf.proofs.Positions.{joined-within}
 use Rattle.op_leaf.proofs.Stretching.{run_here}

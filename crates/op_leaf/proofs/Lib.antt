@@ -5,3 +5,5 @@ pub mod Holding
 mod Stretching
 mod Giving
 pub mod Onward
+pub mod Laid
+mod Reading

@@ -14,7 +14,7 @@ behind cells zero = refl
 behind [] (suc j) = refl
 behind (cell ∷ cells) (suc j) = behind cells j
 
-played : (j : ℕ) (cells : List Cell) (prefill frame : ℕ) → read_by j (record { cells = cells; playing = true; prefill = prefill; frame = frame })
+pub played : (j : ℕ) (cells : List Cell) (prefill frame : ℕ) → read_by j (record { cells = cells; playing = true; prefill = prefill; frame = frame })
     ≡ record { cells = drop j cells; playing = true; prefill = prefill; frame = frame }
 played zero cells prefill frame = refl
 played (suc j) cells prefill frame =

@@ -1,21 +1,17 @@
 -- A leaf goes on with its track until that ends.
-use Rattle.std.proofs.Common.{◌≡◌, ◌<◌, ◌≤◌, ◌+◌, ◌-◌, ◌%◌, ◌∙◌, ◌&&◌, ℕ, zero, suc, Bool, true, false, not, min, Some, None, Option, IsSome, List, length, get_or, take, nat_eq, nat_lt, if◌then◌else◌, cond, arith, refl, sym, ap, subst}
-use Rattle.std.specs.Prelude.{is_some}
+use Rattle.std.proofs.Common.{◌≡◌, ◌<◌, ◌≤◌, ◌+◌, ◌%◌, ◌∙◌, ◌&&◌, ℕ, zero, suc, Bool, true, false, not, min, Some, None, IsSome, List, length, get_or, take, nat_eq, nat_lt, if◌then◌else◌, cond, arith, refl, sym, ap, subst}
 use Rattle.std.proofs.lemmas.Bool.{false≢true}
 use Rattle.std.proofs.lemmas.Bool.Decides.{nat_tests}
-use Rattle.std.proofs.Math.Nat.{mod-eq_of_lt, mod_self}
 use Rattle.std.proofs.lemmas.Nat.{mod_below}
-use Rattle.liq_base.specs.declared.memory.Kind.{Kind}
-use Rattle.frame_core.specs.declared.cell.Cell.{Cell}
 use Rattle.frame_core.specs.Slots.{Slot}
-use Rattle.frame_core.specs.Sounds.{Sound, cell_of, length_of}
+use Rattle.frame_core.specs.Sounds.{Sound, length_of}
 use Rattle.frame_core.specs.Library.{IsLibrary, Sounds, no_sound, sound_at, tracks_of}
 use Rattle.op_leaf.specs.declared.blank.Blank.{Blank}
 use Rattle.op_leaf.specs.declared.files.Files.{Files}
 use Rattle.op_leaf.specs.Inner.{inner_from, is_inner, stretch_from}
-use Rattle.op_leaf.specs.Leaves.{blank_cell, files_slot, place_in_round, sounds_of, square_cell, total_of}
+use Rattle.op_leaf.specs.Leaves.{blank_cell, files_slot, place_in_round, sounds_of, total_of}
 use Rattle.op_leaf.specs.Standing.{BlankStandsAt, FilesArePlacedIn, FilesStandAt}
-use Rattle.op_leaf.proofs.Cursors.{files-here, files-over, later-here, later-next, length-sounds, some_samples, sounds-at}
+use Rattle.op_leaf.proofs.Cursors.{files-over, later-here, later-next, length-sounds, some_samples, sounds-at}
 use Rattle.op_leaf.proofs.Positions.{joined-within}
 use Rattle.op_leaf.proofs.Turns.{mod-step, mod-round}
 
@@ -177,3 +173,19 @@ stretch_inner slots position (suc most) (suc j) here low =
 pub inner_some : (slot : Slot) → is_inner slot ≡ true → IsSome slot
 inner_some None e = absurd (false≢true e)
 inner_some (Some cell) e = refl
+
+-- a blank has gone on within its track, or to its end
+pub blank_further : (blank : Blank) (position n : ℕ) → 0 < blank.track → BlankStandsAt blank position → blank.at + n < blank.track
+    → blank.at + n ≡ (if nat_eq blank.track 0 then min (position + n) 1 else ((position + n) % blank.track))
+blank_further blank position n track stands less =
+    let e : nat_eq blank.track 0 ≡ false = grind (arith, nat_tests, track) in
+    rw e (sym (blank_place blank.track blank.at position n track (blank_at blank position track stands) less))
+
+pub blank_over : (blank : Blank) (position n : ℕ) → 0 < blank.track → BlankStandsAt blank position → 0 < n → blank.at + n ≡ blank.track
+    → 0 ≡ (if nat_eq blank.track 0 then min (position + n) 1 else ((position + n) % blank.track))
+blank_over blank position zero track stands some ends = absurd (omega (arith, some))
+blank_over blank position (suc n) track stands some ends =
+    let e : nat_eq blank.track 0 ≡ false = grind (arith, nat_tests, track) in
+    let f : position + suc n ≡ suc (position + n) = omega arith in
+    rw e (sym (ap (λ q. q % blank.track) f ∙ mod-round (position + n) blank.track (blank.at + n)
+    (sym (blank_place blank.track blank.at position n track (blank_at blank position track stands) (omega (arith, ends)))) (omega (arith, ends))))

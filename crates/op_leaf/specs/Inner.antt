@@ -4,7 +4,11 @@ use Rattle.std.specs.List.{range_with_len}
 use Rattle.frame_core.specs.Library.{Sounds, sound_at, tracks_of}
 use Rattle.frame_core.specs.Slots.{Slot, is_first}
 use Rattle.frame_core.specs.Sounds.{length_of}
+use Rattle.op_leaf.specs.declared.blank.Blank.{Blank}
 use Rattle.op_leaf.specs.declared.files.Files.{Files}
+use Rattle.op_leaf.specs.declared.leaf.Cursor.{Cursor}
+use Rattle.op_leaf.specs.declared.leaf.Cursor.TheVariants.{Track, Silence, Wave, Nothing}
+use Rattle.op_leaf.specs.declared.leaf.LeafState.{LeafState}
 
 -- a cell that begins no track
 abbrev pub is_inner : Slot → Bool
@@ -39,3 +43,17 @@ rights_of slots position count = map (λ q. slot_right (slots q)) (range_with_le
 pub record LieInFile (library : Sounds) (files : Files) (count : ℕ) : Type 0 where
   pub there : files.track < length (tracks_of library files.node)
   pub within : files.at + count ≤ length_of (sound_at library files.node files.track)
+
+-- so many samples from its place on lie in a blank's track
+pub record LieInTrack (blank : Blank) (count : ℕ) : Type 0 where
+  pub within : 0 < blank.track → blank.at + count ≤ blank.track
+
+-- so many cells from the cursor on lie in what it plays
+abbrev pub CursorLiesAhead : Sounds → Cursor → (count : ℕ) → Type 0
+CursorLiesAhead library (Track files) count = LieInFile library files count
+CursorLiesAhead library (Silence blank) count = LieInTrack blank count
+CursorLiesAhead library (Wave square) count = Unit {0}
+CursorLiesAhead library Nothing count = ⊥
+
+abbrev pub LiesAhead : Sounds → LeafState → (count : ℕ) → Type 0
+LiesAhead library state count = CursorLiesAhead library state.cursor count

@@ -3,3 +3,4 @@ pub mod Standing
 pub mod Readers
 pub mod Stores
 pub mod Inner
+pub mod Lanes

@@ -41,10 +41,14 @@ played_by Nothing = leaf.Never
 abbrev pub leaf_of : LeafState → Leaf
 leaf_of state = played_by state.cursor
 
+-- a blank whose tracks end stands within one
+pub record BlankIsPlaced (blank : Blank) : Type 0 where
+  pub within : 0 < blank.track → blank.at < blank.track
+
 -- its place is one of this library
 abbrev pub CursorIsPlacedIn : Sounds → Cursor → Type 0
 CursorIsPlacedIn library (Track files) = FilesArePlacedIn library files
-CursorIsPlacedIn library (Silence blank) = Unit {0}
+CursorIsPlacedIn library (Silence blank) = BlankIsPlaced blank
 CursorIsPlacedIn library (Wave square) = Unit {0}
 CursorIsPlacedIn library Nothing = Unit {0}
 

@@ -1,8 +1,8 @@
 // Zeros, cut into tracks.
-ghost use Rattle.std.specs.Prelude.{◌≡◌, ◌<◌, ◌≤◌, ℕ, suc, Some};
-ghost use Rattle.op_leaf.specs.Inner.{stretch_from};
+ghost use Rattle.std.specs.Prelude.{◌≡◌, ◌<◌, ◌≤◌, ◌+◌, ℕ, suc, Some};
+ghost use Rattle.op_leaf.specs.Inner.{LieInTrack, stretch_from};
 ghost use Rattle.op_leaf.specs.Leaves.{blank_cell};
-ghost use Rattle.op_leaf.specs.Standing.{BlankStandsAt};
+ghost use Rattle.op_leaf.specs.Standing.{BlankIsPlaced, BlankStandsAt};
 
 use frame_core::Cell;
 
@@ -20,6 +20,7 @@ impl Blank {
     /// At its start.
     pub fn new(track: u64) -> Blank
         ensures track { result.track ≡ track }
+        ensures placed { BlankIsPlaced result }
         ensures stands { BlankStandsAt result 0 }
     {
         Blank { track, at: 0 }
@@ -38,20 +39,40 @@ impl Blank {
 
     /// How many samples, from its own on and at most so many, lie in its track.
     pub fn stretch(&self, most: u32) -> u32
-        requires { 0 < most }
+        requires placed { BlankIsPlaced self.now }
+        requires some { 0 < most }
         ensures stretch { (p : ℕ) → BlankStandsAt self.now p → result ≡ stretch_from (λ q. Some (blank_cell self.now.track q)) p most }
         ensures within { result ≤ most }
         ensures some { 0 < result }
+        ensures ahead { LieInTrack self.now result }
     {
-        if self.track == 0 || self.at >= self.track {
+        if self.track == 0 {
             return most;
         }
         u64::from(most).min(self.track - self.at) as u32
     }
 
+    /// Goes on by so many samples, which lie in its track.
+    pub fn run(&mut self, count: u64)
+        requires some { 0 < count }
+        requires ahead { LieInTrack self.old count }
+        ensures track { self.new.track ≡ self.old.track }
+        ensures placed { BlankIsPlaced self.new }
+        ensures stands { (p : ℕ) → BlankStandsAt self.old p → BlankStandsAt self.new (p + count) }
+    {
+        if self.track == 0 {
+            self.at = 1;
+        } else if count < self.track - self.at {
+            self.at += count;
+        } else {
+            self.at = 0;
+        }
+    }
+
     /// Goes on by one sample.
     pub fn advance(&mut self)
         ensures track { self.new.track ≡ self.old.track }
+        ensures placed { BlankIsPlaced self.new }
         ensures stands { (p : ℕ) → BlankStandsAt self.old p → BlankStandsAt self.new (suc p) }
     {
         if self.track == 0 {

@@ -45,7 +45,8 @@ impl Files {
     /// The cell at its place; nothing past the last file.
     pub fn offer(&self, library: &Library) -> Option<Cell>
         requires { FilesArePlacedIn library.now self.now }
-        ensures { (p : ℕ) → FilesStandAt library.now self.now p → result ≡ files_slot (sounds_of library.now self.now.node) self.now.again self.now.kind p }
+        ensures offered { (p : ℕ) → FilesStandAt library.now self.now p → result ≡ files_slot (sounds_of library.now self.now.node) self.now.again self.now.kind p }
+        ensures ahead { IsSome result → LieInFile library.now self.now 1 }
     {
         if self.track < library.tracks(self.node) {
             Some(library.cell(self.node, self.track, self.at, self.kind))
@@ -62,6 +63,7 @@ impl Files {
             → result ≡ stretch_from (files_slot (sounds_of library.now self.now.node) self.now.again self.now.kind) p most }
         ensures within { result ≤ most }
         ensures some { 0 < result }
+        ensures ahead { LieInFile library.now self.now 1 → LieInFile library.now self.now result }
     {
         if self.track >= library.tracks(self.node) {
             return most;
@@ -75,7 +77,7 @@ impl Files {
         requires placed { FilesArePlacedIn library.now self.old }
         requires same { length right.old ≡ length left.old }
         requires some { 0 < length left.old }
-        requires lie { LieInFile library.now self.old (length left.old) }
+        requires ahead { LieInFile library.now self.old (length left.old) }
         ensures node { self.new.node ≡ self.old.node }
         ensures again { self.new.again ≡ self.old.again }
         ensures kind { self.new.kind ≡ self.old.kind }

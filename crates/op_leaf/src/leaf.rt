@@ -1,6 +1,7 @@
 // What a leaf plays, and where it stands.
-ghost use Rattle.std.specs.Prelude.{◌≡◌, ◌<◌, ◌≤◌, ◌+◌, ℕ, suc, true, None, IsSome};
-ghost use Rattle.op_leaf.specs.Inner.{is_inner, stretch_from};
+ghost use Rattle.std.specs.Prelude.{◌≡◌, ◌<◌, ◌≤◌, ◌+◌, ℕ, suc, true, pos, None, IsSome, length, map};
+ghost use Rattle.std.specs.List.{range_with_len};
+ghost use Rattle.op_leaf.specs.Inner.{LiesAhead, is_inner, lefts_of, rights_of, stretch_from};
 ghost use Rattle.frame_core.specs.Library.{IsLibrary, Sounds};
 ghost use Rattle.op_leaf.specs.Leaves.{leaf_slot, HasRate, HasTracksOf};
 ghost use Rattle.op_leaf.specs.Standing.{leaf_of, IsPlacedIn, StandsAt};
@@ -73,6 +74,7 @@ impl LeafState {
     pub fn offer(&self, library: &Library) -> Option<Cell>
         requires { IsPlacedIn library.now self.now }
         ensures offered { (p : ℕ) → StandsAt library.now self.now p → result ≡ leaf_slot library.now (leaf_of self.now) p }
+        ensures ahead { IsSome result → LiesAhead library.now self.now 1 }
     {
         match &self.cursor {
             Cursor::Track(files) => files.offer(library),
@@ -90,6 +92,7 @@ impl LeafState {
             → result ≡ stretch_from (leaf_slot library.now (leaf_of self.now)) p most }
         ensures within { result ≤ most }
         ensures some { 0 < result }
+        ensures ahead { LiesAhead library.now self.now 1 → LiesAhead library.now self.now result }
     {
         match &self.cursor {
             Cursor::Track(files) => files.stretch(library, most),
@@ -104,11 +107,36 @@ impl LeafState {
         requires placed { IsPlacedIn library.now self.now }
         ensures inner { (p j : ℕ) → StandsAt library.now self.now p → j < result → is_inner (leaf_slot library.now (leaf_of self.now) (p + j)) ≡ true }
         ensures within { result ≤ most }
+        ensures ahead { 0 < result → LiesAhead library.now self.now result }
     {
         if most == 0 || !is_inner(self.offer(library)) {
             return 0;
         }
         self.stretch(library, most)
+    }
+
+    /// Gives as many cells as the slices are long, and goes on behind them.
+    pub fn run(&mut self, library: &Library, left: &mut [i16], right: &mut [i16])
+        requires placed { IsPlacedIn library.now self.old }
+        requires same { length right.old ≡ length left.old }
+        requires some { 0 < length left.old }
+        requires ahead { LiesAhead library.now self.old (length left.old) }
+        ensures leaf { leaf_of self.new ≡ leaf_of self.old }
+        ensures placed { IsPlacedIn library.now self.new }
+        ensures stands { (p : ℕ) → StandsAt library.now self.old p → StandsAt library.now self.new (p + length left.old) }
+        ensures left { (p : ℕ) → StandsAt library.now self.old p → left.new ≡ lefts_of (leaf_slot library.now (leaf_of self.old)) p (length left.old) }
+        ensures right { (p : ℕ) → StandsAt library.now self.old p → right.new ≡ rights_of (leaf_slot library.now (leaf_of self.old)) p (length left.old) }
+    {
+        match &mut self.cursor {
+            Cursor::Track(files) => files.run(library, left, right),
+            Cursor::Silence(blank) => {
+                silence(left);
+                silence(right);
+                blank.run(left.len() as u64);
+            }
+            Cursor::Wave(square) => square.run(left, right),
+            Cursor::Nothing => {}
+        }
     }
 
     /// Goes on by the cell that it offers. Where it offers nothing it stays.
@@ -125,6 +153,15 @@ impl LeafState {
             Cursor::Wave(square) => square.advance(),
             Cursor::Nothing => {}
         }
+    }
+}
+
+// Lays zeros.
+fn silence(into: &mut [i16])
+    ensures { (p : ℕ) → into.new ≡ map (λ q. pos 0) (range_with_len p (length into.old)) }
+{
+    for at in 0..into.len() {
+        into[at] = 0;
     }
 }
 

@@ -2,6 +2,7 @@
 ghost use Rattle.std.specs.Prelude.{◌≡◌, ◌<◌, ◌≤◌, ◌+◌, ◌++◌, [], ℕ, true, false, length, max, IfOk};
 ghost use Rattle.cell_ring.specs.Rings.{Ring};
 ghost use Rattle.op_leaf.specs.Inner.{is_inner};
+ghost use Rattle.op_leaf.specs.Lanes.{IsLane};
 ghost use Rattle.op_leaf.specs.Readers.{after_cell, begun, missing, read_by, Reader, reader_slot, wants};
 
 use cell_ring::CellRing;
@@ -107,6 +108,17 @@ impl ReaderState {
             return 0;
         }
         self.ring.inner(most)
+    }
+
+    /// Gives as many cells as the slices are long, which begin no track, and goes on behind them.
+    pub fn run(&mut self, left: &mut [i16], right: &mut [i16])
+        requires same { length right.old ≡ length left.old }
+        requires some { 0 < length left.old }
+        requires inner { (j : ℕ) → j < length left.old → is_inner (reader_slot (read_by j self.old)) ≡ true }
+        ensures read { self.new ≡ read_by (length left.old) self.old }
+        ensures lane { IsLane (λ j. reader_slot (read_by j self.old)) (length left.old) left.new right.new }
+    {
+        self.ring.take_into(left, right);
     }
 
     /// Goes on by the cell that it offers. Where it offers nothing it stays.

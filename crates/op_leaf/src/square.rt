@@ -84,6 +84,30 @@ impl Square {
     }
 }
 
+impl Square {
+    ghost use Rattle.std.specs.Prelude.{◌+◌, length, Some};
+    ghost use Rattle.op_leaf.specs.Inner.{lefts_of, rights_of};
+    ghost use Rattle.op_leaf.specs.Standing.{SquareStandsAt};
+
+    /// Gives as many samples as the slices are long.
+    pub fn run(&mut self, left: &mut [i16], right: &mut [i16])
+        requires same { length right.old ≡ length left.old }
+        ensures pitch { self.new.pitch ≡ self.old.pitch }
+        ensures rate { self.new.rate ≡ self.old.rate }
+        ensures kind { self.new.kind ≡ self.old.kind }
+        ensures stands { (p : ℕ) → SquareStandsAt self.old p → SquareStandsAt self.new (p + length left.old) }
+        ensures left { (p : ℕ) → SquareStandsAt self.old p → left.new ≡ lefts_of (λ q. Some (square_cell self.old.pitch self.old.rate self.old.kind q)) p (length left.old) }
+        ensures right { (p : ℕ) → SquareStandsAt self.old p → right.new ≡ rights_of (λ q. Some (square_cell self.old.pitch self.old.rate self.old.kind q)) p (length left.old) }
+    {
+        for at in 0..left.len() {
+            let cell = self.offer();
+            left[at] = cell.left;
+            right[at] = cell.right;
+            self.advance();
+        }
+    }
+}
+
 // How much of a period goes by with each sample, where the rate in millions is a whole one.
 fn step_of(pitch: Decimal) -> u64
     ensures step { result ≡ unsigned_abs pitch.millionths }

@@ -53,7 +53,7 @@ slot_is parts (c ∷ children) zero child at = (let same : c ≡ child = cc in a
 slot_is parts (c ∷ children) (suc place) child at = slot_is parts children place child at
 
 -- a place of a child that offers
-place_is : (parts : List Part) (children : List ℕ) (place : ℕ) → is_some (slot_at (slots_at parts children) place) ≡ true → (child : ℕ) × (slice_get children place ≡ Some child)
+pub place_is : (parts : List Part) (children : List ℕ) (place : ℕ) → is_some (slot_at (slots_at parts children) place) ≡ true → (child : ℕ) × (slice_get children place ≡ Some child)
 place_is parts [] place is = absurd (false≢true is)
 place_is parts (c ∷ children) zero is = (c, refl)
 place_is parts (c ∷ children) (suc place) is = place_is parts children place is
@@ -110,13 +110,13 @@ and_left : (a b : Bool) → (a && b) ≡ true → a ≡ true
 and_left true b e = refl
 and_left false b e = e
 
-at_place : (children : List ℕ) (place child : ℕ) → slice_get children place ≡ Some child → child_at children (Some place) ≡ child ∷ []
+pub at_place : (children : List ℕ) (place child : ℕ) → slice_get children place ≡ Some child → child_at children (Some place) ≡ child ∷ []
 at_place children place child at = rw at refl
 
-one_used : (child : ℕ) → list_any (nat_eq child) (child ∷ []) ≡ true
+pub one_used : (child : ℕ) → list_any (nat_eq child) (child ∷ []) ≡ true
 one_used child = ap (λ b. b || false) (eq-eqb child child refl)
 
-pick_offers_there : (rule : Rule) (slots : List Slot) (eligible : List Bool) (last : Option ℕ) (place : ℕ) → (picked_part (picked slots last (pick_of rule slots eligible last))).pick ≡ Some place
+pub pick_offers_there : (rule : Rule) (slots : List Slot) (eligible : List Bool) (last : Option ℕ) (place : ℕ) → (picked_part (picked slots last (pick_of rule slots eligible last))).pick ≡ Some place
     → is_some (slot_at slots place) ≡ true
 pick_offers_there rule slots eligible last place e = pick_offers rule slots eligible last place (named slots last (pick_of rule slots eligible last) place e)
 

@@ -1,10 +1,10 @@
-mod Staying
-mod Demanding
+pub mod Staying
+pub mod Demanding
 pub mod Parts
-mod Works
+pub mod Works
 pub mod Following
 pub mod Stretching
-mod Laning
+pub mod Laning
 mod Feeding
 pub mod Reaching
 pub mod Quiet

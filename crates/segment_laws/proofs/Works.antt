@@ -133,7 +133,7 @@ named slots last (Some at) child e = by (slot_at slots at) refl e
     by None is e = absurd (none-some child (sym (ap (λ (found : Option Picked). (picked_part found).pick) (picked-none slots last at is)) ∙ e))
     by (Some cell) is e = sym (ap (λ (found : Option Picked). (picked_part found).pick) (picked-some slots last at cell is)) ∙ e
 
-some_pick : (found : Option Picked) → is_some (picked_part found).slot ≡ true → (child : ℕ) × ((picked_part found).pick ≡ Some child)
+pub some_pick : (found : Option Picked) → is_some (picked_part found).slot ≡ true → (child : ℕ) × ((picked_part found).pick ≡ Some child)
 some_pick None e = absurd (false≢true e)
 some_pick (Some p) e = (p.child, refl)
 

@@ -22,6 +22,7 @@ returns-clause-lanes c =
       chains = c.requires.lanes.chains;
       latest = c.requires.lanes.latest;
       room = c.requires.lanes.room;
+      runs = c.requires.lanes.runs;
       rates = λ j time stored. elim (same_or_other c.args.k j) [
         | inl same ↦ (let put : Some c.next.result ≡ Some time = sym (slice_get-set_same c.args.lanes.now.times.items c.args.k c.next.result in_times)
             ∙ ap (slice_get (set c.args.lanes.now.times.items c.args.k c.next.result)) same ∙ stored in

@@ -20,3 +20,16 @@ returns-clause-stand c setting sub past fed at long stands settled roots =
     c.mark_roots.ensures.roots j (omega (arith, high, many, c.requires.in_clocks))
     ∙ own_root (lies_in S c.args.clock j) _ _ (lies_in S c.args.clock j) refl (λ inside. roots.each j (omega (arith, high, many)) inside))
     ∙ ap (λ ps. demands_from (λ j. lies_in S c.args.clock j && is_root S c.args.clock j) 0 (uses_from S ps 0 c.args.shape.now.plan.now.nodes)) parts))
+
+pub returns-clause-marks : goal.returns-clause-marks
+returns-clause-marks c setting sub past roots parts =
+    let S = over c.args.shape.now.plan.now c.args.shape.now.library.now c.args.shape.now.clocks.now setting in
+    let picks : PicksOffer c.args.shape.now.plan.now.nodes c.make_parts.new.parts =
+    subst (λ ps. PicksOffer c.args.shape.now.plan.now.nodes ps) (sym parts) (picks_offer (over c.args.shape.now.plan.now c.args.shape.now.library.now c.args.shape.now.clocks.now setting) sub c.args.clock past) in
+    c.mark_demanded.ensures.demands c.args.shape.now.library.now c.args.shape.now.clocks.now setting picks
+    ∙ demands_from-same (λ j. get_or c.mark_roots.new.marks j false) (λ j. lies_in S c.args.clock j && is_root S c.args.clock j) 0 _
+    (λ j low high.
+    let many = length-uses S c.make_parts.new.parts 0 c.args.shape.now.plan.now.nodes in
+    c.mark_roots.ensures.roots j (omega (arith, high, many, c.requires.in_clocks))
+    ∙ own_root (lies_in S c.args.clock j) _ _ (lies_in S c.args.clock j) refl (λ inside. roots.each j (omega (arith, high, many)) inside))
+    ∙ ap (λ ps. demands_from (λ j. lies_in S c.args.clock j && is_root S c.args.clock j) 0 (uses_from S ps 0 c.args.shape.now.plan.now.nodes)) parts

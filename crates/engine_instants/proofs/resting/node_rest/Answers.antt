@@ -7,6 +7,8 @@ use Rattle.stream_meaning.specs.Instants.{gives, moment_after, offer, part_at, s
 use Rattle.stream_meaning.specs.declared.part.Part.{Part}
 use Rattle.stream_meaning.specs.Operators.{work_of}
 use Rattle.node_states.specs.States.{StateStands}
+use Rattle.node_states.proofs.Running.{fed_none}
+use Rattle.node_states.proofs.Ahead.{lies_less}
 use Rattle.engine_instants.specs.Resting.{begins_at}
 use Rattle.engine_instants.specs.States.{over}
 use Rattle.engine_instants.proofs.Stretched.{node_stretches}
@@ -18,8 +20,15 @@ rest-rest-requires c =
     slice_get_read _ _ _ _ refl c.requires.within (c.index-as_slice-i.is ∙ ap (λ nodes. get_or nodes c.args.i c.index-as_slice-i.result) c.as_slice.ensures) in
     record { fits = (length c.index-as_slice-i.result.children, c.requires.fits c.index-as_slice-i.result found) }
 
+pub returns-clause-ahead : goal.returns-clause-ahead
+returns-clause-ahead c = λ gave.
+    let in_parts : c.args.i < length c.args.parts.now = omega (arith, c.requires.in_parts, c.requires.within) in
+    lies_less c.args.shape.now.library.now c.args.state.now c.rest-rest.result c.min.result (omega (arith, c.min.ensures))
+    (c.rest-rest.ensures.ahead refl
+    (c.gives-gave.ensures ∙ ap (λ (p : Part). c.args.marked && is_some p.slot) (sym (get_or_default _ _ silent _ in_parts)) ∙ gave))
+
 pub returns-clause-goes : goal.returns-clause-goes
-returns-clause-goes c = λ other sub clock past fed node long is stands parts mark begun are same within.
+returns-clause-goes c = λ other sub clock past fed node long is stands parts mark begun same within.
     let setting = over c.args.shape.now.plan.now c.args.shape.now.library.now c.args.shape.now.clocks.now other in
     let found : slice_get c.args.shape.now.plan.now.nodes c.args.i ≡ Some c.index-as_slice-i.result =
     slice_get_read _ _ _ _ refl c.requires.within (c.index-as_slice-i.is ∙ ap (λ nodes. get_or nodes c.args.i c.index-as_slice-i.result) c.as_slice.ensures) in
@@ -33,7 +42,7 @@ returns-clause-goes c = λ other sub clock past fed node long is stands parts ma
     ap (λ d. d && is_some (offer first c.args.i)) mark ∙ ap (λ (p : Part). c.args.marked && is_some p.slot) part_is ∙ sym c.gives-gave.ensures in
     node_stretches setting sub clock past c.args.i node c.requires.nodes is c.begins-begins.result c.last.result c.min.result c.rest-rest.result c.args.second c.args.tick
     (omega (arith, c.min.ensures))
-    (c.rest-rest.ensures.goes setting sub past first fed c.args.i (work_at setting c.args.i node) refl long stands begun part_is gave_is are)
+    (c.rest-rest.ensures.goes setting sub past first fed c.args.i (work_at setting c.args.i node) refl long stands begun part_is gave_is (fed_none setting sub c.args.i fed))
     (λ rule eligible at apart.
     let is_second = c.border.ensures.second setting.plan.rate c.args.i c.index-as_slice-i.result.kind rule eligible (ap (λ (n : Node). work_of setting.plan.rate c.args.i n.kind n.op) read ∙ at) apart in
     omega (arith, c.min.ensures, is_second))

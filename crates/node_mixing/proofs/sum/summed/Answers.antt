@@ -2,7 +2,7 @@ use Rattle.std.proofs.lemmas.Int.{to_z-of_z}
 use Rattle.std.proofs.Common.{◌≡◌, ◌<◌, Some, None, length, get_or, take, take_all, sym, arith, rules, w16, w32, FitsSigned}
 use Rattle.stream_meaning.specs.Arithmetic.{cells_of}
 use Rattle.node_mixing.specs.Mixings.{front_of}
-use Rattle.node_mixing.proofs.Sums.{Summed-more, after_cell, after_none, none_of, room_for_more, some_parts, summed_by}
+use Rattle.node_mixing.proofs.CellSums.{Summed-more, after_cell, after_none, none_of, room_for_more, some_parts, summed_by}
 use Rattle.node_mixing.proofs.sum.summed.Goals as goal
 
 pub loop-slot-preserved-in_default : goal.loop-slot-preserved-in_default

@@ -1,23 +1,19 @@
 use Rattle.std.proofs.Common.{◌≡◌, ◌<◌, Some, sym, subst, arith}
 use Rattle.op_leaf.specs.Inner.{stretch_from}
 use Rattle.op_leaf.specs.Leaves.{blank_cell}
-use Rattle.op_leaf.proofs.Stretching.{below_track, blank_ends, blank_inner, endless_inner, stretch_is}
-use Rattle.op_leaf.proofs.blank.Blank.stretch.Goals.{then-self-eq0-via-then-self-eq0, then-self-eq0-via-else-self-eq0+then-self}
+use Rattle.op_leaf.proofs.Stretching.{blank_ends, blank_inner, endless_inner, stretch_is}
 use Rattle.op_leaf.proofs.blank.Blank.stretch.Goals as goal
 
 pub returns-then-self-eq0-clause-stretch : goal.returns-then-self-eq0-clause-stretch
-returns-then-self-eq0-clause-stretch c = λ p stands. elim c.then-self-eq0.branch [
-  | then-self-eq0-via-then-self-eq0 w ↦ subst (λ track. c.args.most ≡ stretch_from (λ q. Some (blank_cell track q)) p c.args.most) (sym w.if-self-eq0.true)
-      (stretch_is (λ q. Some (blank_cell 0 q)) p c.args.most c.args.most c.requires (omega arith) (λ i some less. endless_inner p i some) (λ less. absurd (omega (arith, less))))
-  | then-self-eq0-via-else-self-eq0+then-self w ↦ (let some : 0 < c.args.self.now.track = omega (arith, w.if-self-eq0.false) in
-      let low = below_track c.args.self.now p some stands in absurd (omega (arith, low, w.if-self.true)))
-]
+returns-then-self-eq0-clause-stretch c = λ p stands.
+    subst (λ track. c.args.most ≡ stretch_from (λ q. Some (blank_cell track q)) p c.args.most) (sym c.if-self-eq0.true)
+    (stretch_is (λ q. Some (blank_cell 0 q)) p c.args.most c.args.most c.requires.some (omega arith) (λ i some less. endless_inner p i some) (λ less. absurd (omega (arith, less))))
 
 pub returns-clause-stretch : goal.returns-clause-stretch
 returns-clause-stretch c = λ p stands.
     let some : 0 < c.args.self.now.track = omega (arith, c.if-self-eq0.false) in
-    let low = below_track c.args.self.now p some stands in
+    let low = c.requires.placed.within some in
     stretch_is (λ q. Some (blank_cell c.args.self.now.track q)) p c.args.most c.min.result
-    (omega (arith, c.requires, c.min.ensures, c.from.ensures, low)) (omega (arith, c.min.ensures, c.from.ensures))
+    (omega (arith, c.requires.some, c.min.ensures, c.from.ensures, low)) (omega (arith, c.min.ensures, c.from.ensures))
     (λ i more less. blank_inner c.args.self.now p i some stands more (omega (arith, less, c.min.ensures, low)))
-    (λ less. blank_ends c.args.self.now p c.min.result some stands (omega (arith, c.requires, c.min.ensures, c.from.ensures, low)) (omega (arith, less, c.min.ensures, c.from.ensures, low)))
+    (λ less. blank_ends c.args.self.now p c.min.result some stands (omega (arith, c.requires.some, c.min.ensures, c.from.ensures, low)) (omega (arith, less, c.min.ensures, c.from.ensures, low)))

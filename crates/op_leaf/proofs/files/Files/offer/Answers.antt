@@ -3,12 +3,12 @@ use Rattle.frame_core.specs.Library.{tracks_of}
 use Rattle.op_leaf.proofs.Cursors.{files-here, files-over}
 use Rattle.op_leaf.proofs.files.Files.offer.Goals as goal
 
-pub returns-then-self-tracks : goal.returns-then-self-tracks
-returns-then-self-tracks c p stands =
+pub returns-then-self-tracks-clause-offered : goal.returns-then-self-tracks-clause-offered
+returns-then-self-tracks-clause-offered c p stands =
     let there : c.args.self.now.track < length (tracks_of c.args.library.now c.args.self.now.node) = omega (arith, c.if-self-tracks.true, c.tracks.ensures.count) in
     ap Some c.cell.ensures ∙ sym (files-here c.args.library.now c.args.self.now p c.requires stands there)
 
-pub returns-else-self-tracks : goal.returns-else-self-tracks
-returns-else-self-tracks c p stands =
+pub returns-else-self-tracks-clause-offered : goal.returns-else-self-tracks-clause-offered
+returns-else-self-tracks-clause-offered c p stands =
     let over : length (tracks_of c.args.library.now c.args.self.now.node) ≤ c.args.self.now.track = omega (arith, c.if-self-tracks.false, c.tracks.ensures.count) in
     sym (files-over c.args.library.now c.args.self.now p stands over)

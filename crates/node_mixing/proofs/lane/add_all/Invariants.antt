@@ -1,0 +1,10 @@
+use Rattle.std.proofs.Common.{◌≡◌, length, take}
+use Rattle.node_mixing.specs.Runs.{offers_in, samples_of}
+use Rattle.node_mixing.proofs.Summing.{Added}
+use Rattle.node_mixing.proofs.lane.add_all.Given as goal
+
+abbrev pub invariant-loop-child : goal.invariant-loop-child
+invariant-loop-child l = record {
+  long : length l.sums ≡ length l.fn.sums;
+  added : Added (offers_in l.parts) (λ child. samples_of l.before child (length l.fn.sums)) (length l.fn.sums) (take l.child-index l.children) l.count l.sums;
+}

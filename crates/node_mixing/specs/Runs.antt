@@ -1,0 +1,67 @@
+-- What a node makes of the lanes of its children over a run.
+use Rattle.std.specs.Prelude.{◌≡◌, ◌<◌, ◌*◌, ◌+ℤ◌, Bool, true, false, Option, Some, None, List, [], ◌∷◌, ℕ, suc, ℤ, pos, is_some, length, map, replicate, take, drop, if◌then◌else◌}
+use Rattle.std.specs.List.{range_with_len}
+use Rattle.std.specs.Simd.Lanes.{zip2}
+use Rattle.frame_core.specs.declared.cell.Cell.{Cell}
+use Rattle.frame_core.specs.Slots.{Slot}
+use Rattle.op_leaf.specs.Lanes.{IsLane}
+use Rattle.sample_kernels.specs.Samples.{clamped, half_of, mean_of, scaled}
+use Rattle.stream_meaning.specs.declared.part.Part.{Part}
+use Rattle.stream_meaning.specs.Instants.{part_at}
+use Rattle.stream_meaning.specs.Arithmetic.{Mixing, Adds, Scales, Halves, Doubles, Passes, cells_of, sum_of}
+
+-- the samples of node i over so many instants, where each node has room for 1024 of them
+abbrev pub samples_of : List ℤ → (i count : ℕ) → List ℤ
+samples_of samples i count = take count (drop (i * 1024) samples)
+
+-- whether a node offers a cell
+abbrev pub offers_in : List Part → ℕ → Bool
+offers_in parts i = is_some (part_at parts i).slot
+
+-- over a run a child either gives, and these are its lane, or offers nothing: `slots j` are the slots of all nodes at instant j
+pub record IsHeard (slots : ℕ → ℕ → Slot) (gives : ℕ → Bool) (lefts rights : ℕ → List ℤ) (count child : ℕ) : Type 0 where
+  pub given : gives child ≡ true → IsLane (λ j. slots j child) count (lefts child) (rights child)
+  pub silent : gives child ≡ false → (j : ℕ) → j < count → slots j child ≡ None
+
+abbrev pub AreHeard : (slots : ℕ → ℕ → Slot) → (gives : ℕ → Bool) → (lefts rights : ℕ → List ℤ) → (count : ℕ) → (children : List ℕ) → Type 0
+AreHeard slots gives lefts rights count [] = Unit {0}
+AreHeard slots gives lefts rights count (child ∷ children) = IsHeard slots gives lefts rights count child × AreHeard slots gives lefts rights count children
+
+-- the sum of one side at each instant
+abbrev pub sums_of : (Cell → ℤ) → (slots : ℕ → ℕ → Slot) → (count : ℕ) → (children : List ℕ) → List ℤ
+sums_of side slots count children = map (λ j. sum_of side (cells_of (map (slots j) children))) (range_with_len 0 count)
+
+-- these sums and the lanes of the children that give
+abbrev pub summed_lanes : (gives : ℕ → Bool) → (lanes : ℕ → List ℤ) → (sums : List ℤ) → (children : List ℕ) → List ℤ
+summed_lanes gives lanes sums [] = sums
+summed_lanes gives lanes sums (child ∷ children) = summed_lanes gives lanes (if gives child then zip2 ◌+ℤ◌ sums (lanes child) else sums) children
+
+-- how many children give
+abbrev pub many_give : (ℕ → Bool) → List ℕ → ℕ
+many_give gives [] = 0
+many_give gives (child ∷ children) = if gives child then suc (many_give gives children) else many_give gives children
+
+-- the first child that gives
+abbrev pub first_that_gives : (ℕ → Bool) → List ℕ → Option ℕ
+first_that_gives gives [] = None
+first_that_gives gives (child ∷ children) = if gives child then Some child else first_that_gives gives children
+
+-- the lane of a sum: its mean, or the sum cut to the range of a sample
+abbrev pub levels_of : Bool → ℕ → List ℤ → List ℤ
+levels_of true parts sums = zip2 mean_of sums (replicate (length sums) parts)
+levels_of false parts sums = map clamped sums
+
+-- the lane of the first child, changed
+abbrev pub changed_left : Mixing → List ℤ → List ℤ → List ℤ
+changed_left (Adds normalize) left right = left
+changed_left (Scales millionths) left right = map (scaled millionths) left
+changed_left Halves left right = zip2 half_of left right
+changed_left Doubles left right = left
+changed_left Passes left right = left
+
+abbrev pub changed_right : Mixing → List ℤ → List ℤ → List ℤ
+changed_right (Adds normalize) left right = right
+changed_right (Scales millionths) left right = map (scaled millionths) right
+changed_right Halves left right = replicate (length left) (pos 0)
+changed_right Doubles left right = left
+changed_right Passes left right = right

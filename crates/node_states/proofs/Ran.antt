@@ -1,0 +1,225 @@
+-- A node behind a run: what its state stands for, and what lies in its samples.
+use Rattle.std.proofs.Common.{◌≡◌, ◌<◌, ◌≤◌, ◌+◌, ◌∙◌, ℕ, ℤ, suc, Bool, true, Some, Option, List, ◌∷◌, length, map, take, drop, slice_get, nat_eq, arith, refl, ap, sym, subst}
+use Rattle.std.specs.List.{list_any}
+use Rattle.plan_core.specs.declared.node.Node.{Node}
+use Rattle.clock_infer.specs.declared.clock_map.NodeClock.{NodeClock}
+use Rattle.frame_core.specs.Library.{Sounds}
+use Rattle.frame_core.specs.Slots.{Slot, slot_at}
+use Rattle.op_leaf.specs.declared.leaf.LeafState.{LeafState}
+use Rattle.op_leaf.specs.Inner.{lefts_of, rights_of}
+use Rattle.op_leaf.specs.Lanes.{IsLane}
+use Rattle.op_leaf.specs.Leaves.{leaf_slot}
+use Rattle.op_leaf.specs.Readers.{Reader, after_cell, read_by, reader_slot}
+use Rattle.op_leaf.specs.Standing.{StandsAt, leaf_of}
+use Rattle.op_cross.specs.Crossfade.{cross}
+use Rattle.op_cross.specs.Runs.{item_of}
+use Rattle.op_cross.specs.States.{Crossing, StandsFor}
+use Rattle.op_cross.specs.Stretches.{left_of, right_of}
+use Rattle.op_cross.proofs.LeastRuns.{item_of-is}
+use Rattle.op_select.specs.Selection.{Selection}
+use Rattle.node_mixing.specs.declared.mixer.Mixer.{Mixer}
+use Rattle.node_mixing.specs.Mixings.{mixing_of}
+use Rattle.node_mixing.specs.Runs.{AreHeard, many_give, offers_in, samples_of}
+use Rattle.stream_meaning.specs.declared.part.Part.{Part}
+use Rattle.stream_meaning.specs.Arithmetic.{mix_slot}
+use Rattle.stream_meaning.specs.Operators.{Work, Plays, Picks, Mixes, Fades, Reads}
+use Rattle.stream_meaning.specs.Instants.{Setting, Moment, Reading, count, gives, last_pick, moment_after, part_at, position, read_on, reading_after, reading_at, work_at}
+use Rattle.segment_laws.specs.Stretches.{going_on, lane}
+use Rattle.node_states.specs.declared.state.NodeState.{NodeState}
+use Rattle.node_states.specs.declared.state.NodeState.TheVariants.{Leaf, Select, Mix, Cross, Read, Idle}
+use Rattle.node_states.specs.Runs.{GoesOn, fed_on}
+use Rattle.node_states.specs.States.{CrossStands, SelectStands, StateStands, reading_by, reads}
+use Rattle.node_states.proofs.Chunks.{reading_closed}
+use Rattle.node_states.proofs.Hearing.{are_heard, fade_run, leaf_run, mix_run, pick_run, read_run, some_offer, the_child}
+use Rattle.node_states.proofs.Rested.{gave_count, gave_position}
+use Rattle.node_states.proofs.Running.{count_later, picked_same, position_later, read_stands}
+
+module _ (setting : Setting) (sub : ℕ → ℕ → List Slot) (clock : NodeClock) (past : List Moment) (many i fed : ℕ) (node : Node) (goes : GoesOn setting sub clock past many i node) where
+  abbrev First : Moment
+  First = moment_after setting sub clock past
+
+  abbrev Past : List Moment
+  Past = First ∷ past
+
+  abbrev Later : List Moment
+  Later = going_on setting sub clock (suc many) past
+
+  abbrev Lane : ℕ → ℕ → Slot
+  Lane j c = lane setting sub clock past (suc j) c
+
+  -- what the samples of the nodes before it hold
+  abbrev pub Before : List ℤ → List ℤ → Type 0
+  Before lefts rights = (c : ℕ) → list_any (nat_eq c) node.children ≡ true → gives First c ≡ true
+      → IsLane (λ j. Lane j c) many (samples_of lefts c many) (samples_of rights c many)
+
+  e : 1 + many ≡ suc many
+  e = omega arith
+
+  -- ---- a leaf
+
+  pub leaf_stands : (some : 0 < many) (library : Sounds) (old new : LeafState) → setting.library ≡ library → leaf_of new ≡ leaf_of old
+      → ((p : ℕ) → StandsAt library old p → StandsAt library new (p + many)) → (work : Work) → StateStands setting sub Past fed i work (Leaf old)
+      → StateStands setting sub Later (fed_on (reads work) many fed) i work (Leaf new)
+  leaf_stands some library old new same leaf_is on (Plays leaf) s = record {
+    plays = leaf_is ∙ s.plays;
+    stands = subst (λ n. StandsAt setting.library new n) (sym on_count)
+        (subst (λ l. StandsAt l new (count Past i + many)) (sym same) (on (count Past i) (subst (λ l. StandsAt l old (count Past i)) same s.stands)));
+  }
+    where
+      on_count : count Later i ≡ count Past i + many
+      on_count = subst (λ n. count (going_on setting sub clock n past) i ≡ count Past i + many) e
+          (count_later setting sub clock past (suc many) 1 many goes.nodes goes.stretch (omega arith) (omega arith) some i node goes.is goes.gave)
+  leaf_stands some library old new same leaf_is on (Picks rule eligible) s = absurd s
+  leaf_stands some library old new same leaf_is on (Mixes mixing) s = absurd s
+  leaf_stands some library old new same leaf_is on (Fades overlap) s = absurd s
+  leaf_stands some library old new same leaf_is on (Reads buffer) s = absurd s
+
+  pub leaf_lane : (library : Sounds) (old : LeafState) (left right : List ℤ) → setting.library ≡ library
+      → ((p : ℕ) → StandsAt library old p → left ≡ lefts_of (leaf_slot library (leaf_of old)) p many)
+      → ((p : ℕ) → StandsAt library old p → right ≡ rights_of (leaf_slot library (leaf_of old)) p many)
+      → (work : Work) → work_at setting i node ≡ work → StateStands setting sub Past fed i work (Leaf old) → IsLane (λ j. Lane j i) many left right
+  leaf_lane library old left right same left_is right_is (Plays leaf) at s =
+      let stands : StandsAt library old (count Past i) = subst (λ l. StandsAt l old (count Past i)) same s.stands in
+      let gone : count Past i ≡ suc (count past i) = gave_count past First i goes.gave in
+      leaf_run setting sub clock past many i node goes leaf at left right
+      (left_is (count Past i) stands ∙ ap (λ n. lefts_of (leaf_slot library (leaf_of old)) n many) gone
+      ∙ ap (λ l. lefts_of (leaf_slot library l) (suc (count past i)) many) s.plays ∙ ap (λ l. lefts_of (leaf_slot l leaf) (suc (count past i)) many) (sym same))
+      (right_is (count Past i) stands ∙ ap (λ n. rights_of (leaf_slot library (leaf_of old)) n many) gone
+      ∙ ap (λ l. rights_of (leaf_slot library l) (suc (count past i)) many) s.plays ∙ ap (λ l. rights_of (leaf_slot l leaf) (suc (count past i)) many) (sym same))
+  leaf_lane library old left right same left_is right_is (Picks rule eligible) at s = absurd s
+  leaf_lane library old left right same left_is right_is (Mixes mixing) at s = absurd s
+  leaf_lane library old left right same left_is right_is (Fades overlap) at s = absurd s
+  leaf_lane library old left right same left_is right_is (Reads buffer) at s = absurd s
+
+  -- ---- a selection
+
+  pub pick_stands : (some : 0 < many) (state : Selection) (work : Work) → StateStands setting sub Past fed i work (Select state)
+      → StateStands setting sub Later (fed_on (reads work) many fed) i work (Select state)
+  pick_stands some state (Plays leaf) s = absurd s
+  pick_stands some state (Picks rule eligible) s = subst (λ last. SelectStands rule last state) (sym same) s
+    where
+      same : last_pick Later i ≡ last_pick Past i
+      same = subst (λ n. last_pick (going_on setting sub clock n past) i ≡ last_pick Past i) e
+          (picked_same setting sub clock past (suc many) 1 many goes.nodes goes.stretch (omega arith) (omega arith) some i node goes.is goes.gave)
+  pick_stands some state (Mixes mixing) s = absurd s
+  pick_stands some state (Fades overlap) s = absurd s
+  pick_stands some state (Reads buffer) s = absurd s
+
+  pub pick_lane : (state : Selection) (parts : List Part) (pick : Option ℕ) (lefts rights left right : List ℤ) → parts ≡ First.parts → pick ≡ (part_at parts i).pick
+      → ((place child : ℕ) → pick ≡ Some place → slice_get node.children place ≡ Some child → left ≡ samples_of lefts child many)
+      → ((place child : ℕ) → pick ≡ Some place → slice_get node.children place ≡ Some child → right ≡ samples_of rights child many)
+      → Before lefts rights → (work : Work) → work_at setting i node ≡ work → StateStands setting sub Past fed i work (Select state) → IsLane (λ j. Lane j i) many left right
+  pick_lane state parts pick lefts rights left right same pick_is left_is right_is before (Plays leaf) at s = absurd s
+  pick_lane state parts pick lefts rights left right same pick_is left_is right_is before (Picks rule eligible) at s =
+      let one = the_child setting sub clock past many i node goes rule eligible at in
+      let picks : pick ≡ Some one.place = pick_is ∙ ap (λ p. (part_at p i).pick) same ∙ one.pick_is in
+      let own = before one.child one.among one.gave in
+      pick_run setting sub clock past many i node goes rule eligible at left right
+      (record {
+        left_is = left_is one.place one.child picks one.there ∙ own.left_is;
+        right_is = right_is one.place one.child picks one.there ∙ own.right_is;
+        inner = own.inner;
+      })
+  pick_lane state parts pick lefts rights left right same pick_is left_is right_is before (Mixes mixing) at s = absurd s
+  pick_lane state parts pick lefts rights left right same pick_is left_is right_is before (Fades overlap) at s = absurd s
+  pick_lane state parts pick lefts rights left right same pick_is left_is right_is before (Reads buffer) at s = absurd s
+
+  -- ---- a mix
+
+  pub mix_stands : (mixer : Mixer) (work : Work) → StateStands setting sub Past fed i work (Mix mixer)
+      → StateStands setting sub Later (fed_on (reads work) many fed) i work (Mix mixer)
+  mix_stands mixer (Plays leaf) s = absurd s
+  mix_stands mixer (Picks rule eligible) s = absurd s
+  mix_stands mixer (Mixes mixing) s = s
+  mix_stands mixer (Fades overlap) s = absurd s
+  mix_stands mixer (Reads buffer) s = absurd s
+
+  pub mix_lane : (mixer : Mixer) (parts : List Part) (lefts rights left right : List ℤ) → parts ≡ First.parts
+      → ((slots : ℕ → ℕ → Slot) → AreHeard slots (offers_in parts) (λ child. samples_of lefts child many) (λ child. samples_of rights child many) many node.children
+      → 0 < many_give (offers_in parts) node.children → IsLane (λ j. mix_slot (mixing_of mixer) (map (slots j) node.children)) many left right)
+      → Before lefts rights → (work : Work) → work_at setting i node ≡ work → StateStands setting sub Past fed i work (Mix mixer) → IsLane (λ j. Lane j i) many left right
+  mix_lane mixer parts lefts rights left right same made before (Plays leaf) at s = absurd s
+  mix_lane mixer parts lefts rights left right same made before (Picks rule eligible) at s = absurd s
+  mix_lane mixer parts lefts rights left right same made before (Mixes mixing) at s =
+      mix_run setting sub clock past many i node goes mixing at left right
+      (subst (λ m. IsLane (λ j. mix_slot m (map (Lane j) node.children)) many left right) s
+      (made Lane
+      (subst (λ p. AreHeard Lane (offers_in p) (λ child. samples_of lefts child many) (λ child. samples_of rights child many) many node.children) (sym same)
+      (are_heard setting sub clock past many i node goes mixing at (λ child. samples_of lefts child many) (λ child. samples_of rights child many) before))
+      (subst (λ p. 0 < many_give (offers_in p) node.children) (sym same) (some_offer setting sub clock past many i node goes mixing at))))
+  mix_lane mixer parts lefts rights left right same made before (Fades overlap) at s = absurd s
+  mix_lane mixer parts lefts rights left right same made before (Reads buffer) at s = absurd s
+
+  -- ---- a crossfade
+
+  pub cross_stands : (some : 0 < many) (old new : Crossing) → new.overlap ≡ old.overlap → ((slots : List Slot) (p : ℕ) → StandsFor old slots p → StandsFor new slots (p + many))
+      → (work : Work) → StateStands setting sub Past fed i work (Cross old) → StateStands setting sub Later (fed_on (reads work) many fed) i work (Cross new)
+  cross_stands some old new same on (Plays leaf) s = absurd s
+  cross_stands some old new same on (Picks rule eligible) s = absurd s
+  cross_stands some old new same on (Mixes mixing) s = absurd s
+  cross_stands some old new same on (Fades overlap) s = record {
+    overlap_is = same ∙ s.overlap_is;
+    stands = subst (λ p. StandsFor new (sub i fed) p) (sym on_position) (on (sub i fed) (position Past i) s.stands);
+    least = λ m less. (let l = s.least m less in let p = on_position in omega (arith, l, p));
+  }
+    where
+      on_position : position Later i ≡ position Past i + many
+      on_position = subst (λ n. position (going_on setting sub clock n past) i ≡ position Past i + many) e
+          (position_later setting sub clock past (suc many) 1 many goes.nodes goes.stretch (omega arith) (omega arith) some i node goes.is goes.gave)
+  cross_stands some old new same on (Reads buffer) s = absurd s
+
+  pub cross_lane : (old : Crossing) (left right : List ℤ) → ((slots : List Slot) (p : ℕ) → StandsFor old slots p → p + many ≤ length (cross old.overlap slots))
+      → ((slots : List Slot) (p : ℕ) → StandsFor old slots p → left ≡ map left_of (take many (drop p (cross old.overlap slots))))
+      → ((slots : List Slot) (p : ℕ) → StandsFor old slots p → right ≡ map right_of (take many (drop p (cross old.overlap slots))))
+      → (work : Work) → work_at setting i node ≡ work → StateStands setting sub Past fed i work (Cross old) → IsLane (λ j. Lane j i) many left right
+  cross_lane old left right settled left_is right_is (Plays leaf) at s = absurd s
+  cross_lane old left right settled left_is right_is (Picks rule eligible) at s = absurd s
+  cross_lane old left right settled left_is right_is (Mixes mixing) at s = absurd s
+  cross_lane old left right settled left_is right_is (Fades overlap) at s =
+      let gone : position Past i ≡ suc (position past i) = gave_position past First i goes.gave in
+      let stands : StandsFor old (sub i fed) (suc (position past i)) = subst (λ p. StandsFor old (sub i fed) p) gone s.stands in
+      let there : suc (position past i) + many ≤ length (cross old.overlap (sub i fed)) = settled (sub i fed) (suc (position past i)) stands in
+      fade_run setting sub clock past many i node goes overlap at left right (cross old.overlap (sub i fed))
+      (λ j less. subst (λ most. item_of most (sub i) (suc (position past i) + j) ≡ slot_at (cross old.overlap (sub i fed)) (suc (position past i) + j)) s.overlap_is
+      (item_of-is old.overlap (sub i) (suc (position past i) + j) fed (goes.long.each i) (omega (arith, there, less))
+      (λ m low. let l : length (cross old.overlap (sub i m)) ≤ position Past i = subst (λ most. length (cross most (sub i m)) ≤ position Past i) (sym s.overlap_is) (s.least m low) in omega (arith, l, gone))))
+      there (left_is (sub i fed) (suc (position past i)) stands) (right_is (sub i fed) (suc (position past i)) stands)
+  cross_lane old left right settled left_is right_is (Reads buffer) at s = absurd s
+
+  -- ---- a reader
+
+  -- what it holds behind the instant before the run
+  holds : (reader : Reader) (buffer : ℕ) → fed ≡ suc (length past) → StateStands setting sub Past fed i (Reads buffer) (Read reader)
+      → reader ≡ after_cell (reading_at setting buffer (length past) (reading_after setting i buffer past)).reader
+  holds reader buffer closed s =
+      let now : Reading = reading_at setting buffer (length past) (reading_after setting i buffer past) in
+      s ∙ ap (λ (n : ℕ). (reading_by setting i buffer Past n).reader) closed
+      ∙ ap (λ (r : Reading). r.reader) (reading_closed setting i buffer Past) ∙ ap (λ (on : Bool). (read_on on now).reader) goes.gave
+
+  pub reader_stands : (some : 0 < many) (old new : Reader) → new ≡ read_by many old → (work : Work) → work_at setting i node ≡ work → (reads work ≡ true → fed ≡ suc (length past))
+      → StateStands setting sub Past fed i work (Read old) → StateStands setting sub Later (fed_on (reads work) many fed) i work (Read new)
+  reader_stands some old new on (Plays leaf) at closed s = absurd s
+  reader_stands some old new on (Picks rule eligible) at closed s = absurd s
+  reader_stands some old new on (Mixes mixing) at closed s = absurd s
+  reader_stands some old new on (Fades overlap) at closed s = absurd s
+  reader_stands some old new on (Reads buffer) at closed s =
+      subst (λ n. StateStands setting sub (going_on setting sub clock n past) (fed + many) i (Reads buffer) (Read new)) e
+      (read_stands setting sub clock past (suc many) 1 many goes.nodes goes.stretch (omega arith) (omega arith) some i node goes.is fed buffer old new at goes.gave (closed refl) on s)
+
+  pub reader_lane : (old : Reader) (left right : List ℤ) → IsLane (λ j. reader_slot (read_by j old)) many left right → (work : Work) → work_at setting i node ≡ work
+      → (reads work ≡ true → fed ≡ suc (length past)) → StateStands setting sub Past fed i work (Read old) → IsLane (λ j. Lane j i) many left right
+  reader_lane old left right made (Plays leaf) at closed s = absurd s
+  reader_lane old left right made (Picks rule eligible) at closed s = absurd s
+  reader_lane old left right made (Mixes mixing) at closed s = absurd s
+  reader_lane old left right made (Fades overlap) at closed s = absurd s
+  reader_lane old left right made (Reads buffer) at closed s =
+      read_run setting sub clock past many i node goes buffer at left right old (holds old buffer (closed refl) s) made
+
+  -- ---- an idle state stands for no past
+
+  pub none_idle : (work : Work) → StateStands setting sub Past fed i work Idle → ⊥
+  none_idle (Plays leaf) s = s
+  none_idle (Picks rule eligible) s = s
+  none_idle (Mixes mixing) s = s
+  none_idle (Fades overlap) s = s
+  none_idle (Reads buffer) s = s

@@ -1,0 +1,107 @@
+// A run of a node.
+ghost use Rattle.std.specs.Prelude.{◌≡◌, ◌<◌, ◌≤◌, ◌+◌, ◌*◌, ◌∷◌, ℕ, List, Some, true, length, slice_get, suc, nat_eq, All};
+ghost use Rattle.std.specs.List.{list_any};
+ghost use Rattle.liq_base.specs.declared.limits.TheConstants.{MAX_CHILDREN};
+ghost use Rattle.clock_infer.specs.declared.clock_map.NodeClock.{NodeClock as Clock};
+ghost use Rattle.frame_core.specs.Slots.{Slot as TheSlot};
+ghost use Rattle.op_leaf.specs.Lanes.{IsLane};
+ghost use Rattle.stream_meaning.specs.Instants.{Setting, Moment, gives, moment_after, part_at, work_at};
+ghost use Rattle.segment_laws.specs.Stretches.{going_on, lane};
+ghost use Rattle.node_mixing.specs.Runs.{samples_of};
+ghost use Rattle.node_states.specs.Runs.{GoesOn, LiesAhead, fed_on};
+ghost use Rattle.node_states.specs.States.{Fits, StateStands, reads};
+
+use crate::NodeState;
+use frame_core::Library;
+use node_mixing::{Sums, samples_of};
+use plan_core::Node;
+use stream_meaning::Part;
+
+impl NodeState {
+    /// Makes as many instants as the slices are long of a node that gave at the latest one, with which they go on: its samples
+    /// are laid, over those of the nodes before it, and its state goes on behind them. `pick` is the child that it used at the
+    /// latest instant, and `parts` are what all nodes did there. It takes no memory.
+    pub fn run(
+        &mut self,
+        node: &Node,
+        pick: Option<u32>,
+        parts: &[Part],
+        library: &Library,
+        before_left: &[i16],
+        before_right: &[i16],
+        sums: &mut Sums,
+        left: &mut [i16],
+        right: &mut [i16],
+    )
+        requires fits { Fits library.now (length node.now.children) self.old }
+        requires few { length node.now.children ≤ MAX_CHILDREN }
+        requires same { length right.old ≡ length left.old }
+        requires some { 0 < length left.old }
+        requires short { length left.old ≤ 1024 }
+        requires ahead { LiesAhead library.now self.old (length left.old) }
+        requires before { length before_right.now ≡ length before_left.now }
+        requires below { All (λ child. (child + 1) * 1024 ≤ length before_left.now) node.now.children }
+        ensures fits { Fits library.now (length node.now.children) self.new }
+        ensures stands { (setting : Setting) (sub : ℕ → ℕ → List TheSlot) (clock : Clock) (past : List Moment) (fed i : ℕ)
+            → setting.library ≡ library.now → GoesOn setting sub clock past (length left.old) i node.now
+            → (reads (work_at setting i node.now) ≡ true → fed ≡ suc (length past))
+            → StateStands setting sub (moment_after setting sub clock past ∷ past) fed i (work_at setting i node.now) self.old
+            → StateStands setting sub (going_on setting sub clock (suc (length left.old)) past) (fed_on (reads (work_at setting i node.now)) (length left.old) fed) i (work_at setting i node.now) self.new }
+        ensures lane { (setting : Setting) (sub : ℕ → ℕ → List TheSlot) (clock : Clock) (past : List Moment) (fed i : ℕ)
+            → setting.library ≡ library.now → GoesOn setting sub clock past (length left.old) i node.now
+            → parts.now ≡ (moment_after setting sub clock past).parts → pick ≡ (part_at parts.now i).pick
+            → (reads (work_at setting i node.now) ≡ true → fed ≡ suc (length past))
+            → StateStands setting sub (moment_after setting sub clock past ∷ past) fed i (work_at setting i node.now) self.old
+            → ((c : ℕ) → list_any (nat_eq c) node.now.children ≡ true → gives (moment_after setting sub clock past) c ≡ true
+            → IsLane (λ j. lane setting sub clock past (suc j) c) (length left.old) (samples_of before_left.now c (length left.old)) (samples_of before_right.now c (length left.old)))
+            → IsLane (λ j. lane setting sub clock past (suc j) i) (length left.old) left.new right.new }
+    {
+        let children = node.children.as_slice();
+        match self {
+            NodeState::Leaf(state) => state.run(library, left, right),
+            NodeState::Select(_) => {
+                copy_picked(children, pick, before_left, before_right, left, right);
+            }
+            NodeState::Mix(mixer) => {
+                mixer.run(
+                    children,
+                    parts,
+                    before_left,
+                    before_right,
+                    sums,
+                    left,
+                    right,
+                );
+            }
+            NodeState::Cross(state) => state.copy(left, right),
+            NodeState::Read(state) => state.run(left, right),
+            NodeState::Idle => {}
+        }
+    }
+}
+
+// Lays the samples of the child that a selection used; nothing where it used none.
+fn copy_picked(
+    children: &[u32],
+    pick: Option<u32>,
+    before_left: &[i16],
+    before_right: &[i16],
+    left: &mut [i16],
+    right: &mut [i16],
+)
+    requires same { length right.old ≡ length left.old }
+    requires short { length left.old ≤ 1024 }
+    requires before { length before_right.now ≡ length before_left.now }
+    requires below { All (λ child. (child + 1) * 1024 ≤ length before_left.now) children.now }
+    ensures left { (place child : ℕ) → pick ≡ Some place → slice_get children.now place ≡ Some child → left.new ≡ samples_of before_left.now child (length left.old) }
+    ensures right { (place child : ℕ) → pick ≡ Some place → slice_get children.now place ≡ Some child → right.new ≡ samples_of before_right.now child (length left.old) }
+{
+    let Some(place) = pick else {
+        return;
+    };
+    let Some(child) = children.get(place as usize) else {
+        return;
+    };
+    left.copy_from_slice(samples_of(before_left, *child, left.len()));
+    right.copy_from_slice(samples_of(before_right, *child, right.len()));
+}
