@@ -1,5 +1,5 @@
 -- Sums of so many samples each.
-use Rattle.std.proofs.Common.{◌≡◌, ◌<◌, ℕ, ℤ, suc, zero, List, [], ◌∷◌, All, length, replicate, arith}
+use Rattle.std.proofs.Common.{◌≡◌, ℕ, ℤ, suc, zero, List, [], ◌∷◌, All, length, replicate, arith}
 use Rattle.std.specs.Simd.Lanes.{Each2}
 use Rattle.sample_kernels.specs.Samples.{IsSumOf}
 

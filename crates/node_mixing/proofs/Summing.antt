@@ -1,5 +1,5 @@
 -- The sums of lanes, one child at a time.
-use Rattle.std.proofs.Common.{◌≡◌, ◌<◌, ◌≤◌, ◌+◌, ◌*◌, ◌∙◌, ◌++◌, ℕ, ℤ, zero, suc, Bool, true, false, pos, ◌+ℤ◌, Some, None, List, [], ◌∷◌, All, cond, length, map, replicate, drop, arith, refl, ap, sym, subst, append_assoc}
+use Rattle.std.proofs.Common.{◌≡◌, ◌<◌, ◌≤◌, ◌+◌, ◌*◌, ◌∙◌, ◌++◌, ℕ, ℤ, zero, suc, Bool, true, false, pos, ◌+ℤ◌, Some, List, [], ◌∷◌, All, cond, length, map, replicate, drop, arith, refl, ap, sym, subst, append_assoc}
 use Rattle.std.specs.List.{range_with_len}
 use Rattle.std.specs.Simd.Lanes.{zip2}
 use Rattle.std.proofs.lemmas.Int.{ints}
@@ -9,7 +9,7 @@ use Rattle.frame_core.specs.Slots.{Slot}
 use Rattle.op_leaf.specs.Lanes.{IsLane}
 use Rattle.op_leaf.proofs.Laid.{lane_of_same}
 use Rattle.sample_kernels.specs.Samples.{IsSumOf}
-use Rattle.stream_meaning.specs.Arithmetic.{Mixing, Adds, cells_of, changed_slot, mix_slot, sum_of}
+use Rattle.stream_meaning.specs.Arithmetic.{Adds, cells_of, changed_slot, mix_slot, sum_of}
 use Rattle.node_mixing.specs.declared.mixer.Mixer.{Mixer}
 use Rattle.node_mixing.specs.declared.mixer.Mixer.TheVariants as variant
 use Rattle.node_mixing.specs.Mixings.{mixing_of}

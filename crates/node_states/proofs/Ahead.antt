@@ -1,7 +1,6 @@
 -- What lies ahead of a node also does so for fewer instants.
-use Rattle.std.proofs.Common.{◌<◌, ◌≤◌, ◌+◌, ℕ, length, arith}
-use Rattle.frame_core.specs.Library.{Sounds, sound_at}
-use Rattle.frame_core.specs.Sounds.{length_of}
+use Rattle.std.proofs.Common.{◌≤◌, ℕ, arith}
+use Rattle.frame_core.specs.Library.{Sounds}
 use Rattle.op_leaf.specs.declared.leaf.Cursor.{Cursor}
 use Rattle.op_leaf.specs.declared.leaf.Cursor.TheVariants.{Track, Silence, Wave, Nothing}
 use Rattle.op_leaf.specs.Inner.{CursorLiesAhead}

@@ -25,10 +25,9 @@ use Rattle.stream_meaning.specs.Arithmetic.{mix_slot}
 use Rattle.stream_meaning.specs.Operators.{Work, Plays, Picks, Mixes, Fades, Reads}
 use Rattle.stream_meaning.specs.Instants.{Setting, Moment, Reading, count, gives, last_pick, moment_after, part_at, position, read_on, reading_after, reading_at, work_at}
 use Rattle.segment_laws.specs.Stretches.{going_on, lane}
-use Rattle.node_states.specs.declared.state.NodeState.{NodeState}
 use Rattle.node_states.specs.declared.state.NodeState.TheVariants.{Leaf, Select, Mix, Cross, Read, Idle}
 use Rattle.node_states.specs.Runs.{GoesOn, fed_on}
-use Rattle.node_states.specs.States.{CrossStands, SelectStands, StateStands, reading_by, reads}
+use Rattle.node_states.specs.States.{SelectStands, StateStands, reading_by, reads}
 use Rattle.node_states.proofs.Chunks.{reading_closed}
 use Rattle.node_states.proofs.Hearing.{are_heard, fade_run, leaf_run, mix_run, pick_run, read_run, some_offer, the_child}
 use Rattle.node_states.proofs.Rested.{gave_count, gave_position}

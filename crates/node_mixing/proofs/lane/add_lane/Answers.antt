@@ -1,4 +1,4 @@
-use Rattle.std.proofs.Common.{rules, ◌≡◌, ◌<◌, ◌+◌, ◌∙◌, ◌+ℤ◌, ℕ, pos, get_or, set, length, w16, w32, FitsSigned, to_z, of_z, arith, inl, inr, ap, sym, subst}
+use Rattle.std.proofs.Common.{rules, ◌≡◌, ◌<◌, ◌+◌, ◌∙◌, ◌+ℤ◌, pos, get_or, set, length, w16, w32, FitsSigned, to_z, of_z, arith, inl, inr, ap, sym, subst}
 use Rattle.std.proofs.lemmas.Bool.{cases_lt}
 use Rattle.std.proofs.lemmas.Int.{to_z-of_z}
 use Rattle.std.proofs.lemmas.List.{drop-set-lt, get_or-set_other, get_or-set_same, get_or_default}
