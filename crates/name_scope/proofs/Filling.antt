@@ -9,10 +9,10 @@ use Rattle.typing_rules.specs.declared.form.Form.{Form}
 use Rattle.typing_rules.specs.declared.form.Form.TheVariants.{InPlace, ByLabel, Perhaps}
 use Rattle.typing_rules.specs.Arguments.{Given, Parameter, after, argument, first_missing, label_of, left_over, missing_or, others}
 use Rattle.typing_rules.specs.Scoping.{tokens_given}
-use Rattle.name_scope.specs.declared.parameter.Parameter.{Parameter as AParameter}
+use Rattle.typing_rules.specs.declared.parameter.Parameter.{Parameter as AParameter}
 use Rattle.name_scope.specs.InPlace.{has_label, left_behind, left_by}
 use Rattle.name_scope.specs.Seen.{seen_parameter}
-use Rattle.name_scope.proofs.Searches.{search_default, search_next, search_none, search_there}
+use Rattle.typing_rules.proofs.Searches.{search_default, search_next, search_none, search_there}
 
 abbrev Taken : Type 0
 Taken = Option (ℕ × List (Given ℕ))

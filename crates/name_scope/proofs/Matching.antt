@@ -11,14 +11,14 @@ use Rattle.script_grammar.specs.declared.tree.Arg.{Arg}
 use Rattle.script_grammar.specs.declared.tree.Param.{Param}
 use Rattle.script_grammar.specs.declared.tree.ParamForm.{ParamForm}
 use Rattle.script_grammar.specs.declared.tree.ParamForm.TheVariants as form
-use Rattle.name_scope.specs.declared.parameter.Parameter.{Parameter as AParameter}
+use Rattle.typing_rules.specs.declared.parameter.Parameter.{Parameter as AParameter}
 use Rattle.name_scope.specs.declared.parameter.Given.{Given as AGiven}
 use Rattle.typing_rules.specs.declared.fault.NameFault.{NameFault}
 use Rattle.typing_rules.specs.declared.fault.NameFault.TheVariants.{Extra}
 use Rattle.typing_rules.specs.NameFaults.{is_among, missing_at, name_of, repeated_at, repeats, token_of}
 use Rattle.name_scope.specs.Noted.{all_sooner, mismatches, missing_with, sooner}
 use Rattle.name_scope.specs.Seen.{form_seen, seen_given, seen_parameter}
-use Rattle.name_scope.proofs.Searches.{search_default}
+use Rattle.typing_rules.proofs.Searches.{search_default}
 
 abbrev Taken : Type 0
 Taken = Option (ℕ × List (Given ℕ))

@@ -1,13 +1,12 @@
 -- What the program's values stand for.
 use Rattle.std.specs.Prelude.{ℕ, List, [], ◌∷◌, ◌++◌, Option, map, option_map}
-use Rattle.typing_rules.specs.declared.uses.Builtin.{Builtin}
-use Rattle.typing_rules.specs.Arguments.{Parameter, Given}
+use Rattle.typing_rules.specs.Arguments.{Given}
+pub use Rattle.typing_rules.specs.Rows.{seen_parameter}
 use Rattle.typing_rules.specs.Scoping.{Bound, Scope, value, function}
 use Rattle.typing_rules.specs.declared.form.Form.{Form}
 use Rattle.typing_rules.specs.declared.form.Form.TheVariants.{InPlace, ByLabel, Perhaps}
 use Rattle.script_grammar.specs.declared.tree.ParamForm.{ParamForm}
 use Rattle.script_grammar.specs.declared.tree.ParamForm.TheVariants as form
-use Rattle.name_scope.specs.declared.parameter.Parameter.{Parameter as AParameter}
 use Rattle.name_scope.specs.declared.parameter.Given.{Given as AGiven}
 use Rattle.name_scope.specs.declared.scope.Bound.{Bound as ABound}
 use Rattle.name_scope.specs.declared.scope.Bound.TheVariants as bound
@@ -15,9 +14,6 @@ use Rattle.name_scope.specs.declared.scope.Binding.{Binding}
 use Rattle.name_scope.specs.declared.scope.Scope.{Scope as AScope}
 use Rattle.name_scope.specs.declared.scope.Scopes.{Scopes}
 use Rattle.std.specs.Borrow.{Bor}
-
-abbrev pub seen_parameter : AParameter → Parameter
-seen_parameter p = record { name = p.name.now; form = p.form }
 
 abbrev pub seen_label : Option (Bor (List ℕ)) → Option (List ℕ)
 seen_label l = option_map (λ s. s.now) l
@@ -28,10 +24,6 @@ seen_given g = (seen_label g.label, g.at)
 abbrev pub seen_bound : ABound → Bound
 seen_bound (bound.Value t) = value t
 seen_bound (bound.Function t ps) = function t (map seen_parameter ps.items)
-
--- a row of the table of builtins
-abbrev pub seen_row : Bor (List ℕ) × Builtin → List ℕ × Builtin
-seen_row r = (r.0.now, r.1)
 
 -- the newest binding first
 abbrev pub newest_first : List Binding → Scope

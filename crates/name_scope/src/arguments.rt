@@ -1,6 +1,5 @@
 // Which parameter takes which argument.
 ghost use Rattle.std.specs.Prelude.{◌≡◌, [], None, true, map, is_some, IfOk};
-ghost use Rattle.std.specs.Str.{bytes_eq};
 ghost use Rattle.script_grammar.specs.View.{listed, view_arg, view_param};
 ghost use Rattle.typing_rules.specs.Arguments.{argument, first_missing, is_label as the_same_label, is_needed as is_wanted, label_of as the_label_of, left_over, others as the_others, parameters_of};
 ghost use Rattle.typing_rules.specs.Scoping.{tokens_given};
@@ -8,12 +7,12 @@ ghost use Rattle.name_scope.specs.InPlace.{has_label as has_a_label, left_behind
 ghost use Rattle.name_scope.specs.Noted.{missing_with};
 ghost use Rattle.name_scope.specs.Seen.{form_seen, seen_given, seen_label, seen_parameter};
 
-use crate::parameter::{Given, Parameter};
+use crate::parameter::Given;
 use liq_base::Memory;
 use script_grammar::tree::{Arg, Param, ParamForm};
 use smallvec::SmallVec;
 use std::alloc::Global;
-use typing_rules::Form;
+use typing_rules::{Form, Parameter, is_same_name};
 
 /// The arguments of one call that no parameter has taken yet. Up to four of them take no memory.
 pub(crate) type Untaken<'a> = SmallVec<Given<'a>, 4>;
@@ -79,13 +78,6 @@ pub fn is_label(wanted: Option<&str>, label: Option<&str>) -> bool
         (Some(_), None) => false,
         (Some(name), Some(other)) => is_same_name(name, other),
     }
-}
-
-/// Whether two names are the same. Only those of one length are compared further.
-pub(crate) fn is_same_name(name: &str, other: &str) -> bool
-    ensures same { result ≡ bytes_eq name.now other.now }
-{
-    name.len() == other.len() && name == other
 }
 
 /// Whether no argument has a label, and there is just one for each parameter that is given in its place, and none must be

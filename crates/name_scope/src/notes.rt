@@ -7,14 +7,14 @@ ghost use Rattle.typing_rules.specs.declared.fault.NameFault.TheVariants.{Extra}
 ghost use Rattle.name_scope.specs.Seen.{both_scopes, seen_label, seen_parameter};
 ghost use Rattle.name_scope.specs.Noted.{all_sooner, mismatches, noted, sooner, with_name};
 
-use crate::arguments::{are_filled, given_arguments, is_same_name, match_arguments};
-use crate::builtins::{builtin_named, builtin_params};
-use crate::parameter::{Given, Parameter};
+use crate::arguments::{are_filled, given_arguments, match_arguments};
+use crate::builtins::builtin_params;
+use crate::parameter::Given;
 use crate::scope::{Bound, Scopes};
 use liq_base::{Memory, Text};
 use script_grammar::tree::{Arg, Param};
 use std::alloc::Global;
-use typing_rules::{NameFault, Target};
+use typing_rules::{NameFault, Parameter, Target, builtin_named, is_same_name};
 
 /// A name that a script uses, by its token, and what it stands for.
 #[derive(Clone, Copy, Debug, PartialEq, Eq)]

@@ -5,10 +5,10 @@ ghost use Rattle.std.proofs.Props.{props};
 ghost use Rattle.indexmap.specs.IndexMap.{get_by};
 ghost use Rattle.name_scope.specs.Places.{last_place};
 
-use crate::parameter::Parameter;
 use indexmap::IndexMap;
 use liq_base::Memory;
 use std::alloc::Global;
+use typing_rules::Parameter;
 
 /// What a name is bound to, by the token of the name that is bound: a value, or a def with its parameters.
 #[derive(Drop)]

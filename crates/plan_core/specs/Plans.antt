@@ -1,5 +1,5 @@
 -- Well-formed plans.
-use Rattle.std.specs.Prelude.{◌≡◌, ◌≢◌, ℕ, ◌+◌, ◌^◌, ◌<◌, ◌≤◌, ◌<ℤ◌, pos, ⊤, Some, List, [], ◌∷◌, ◌++◌, length, map, take, max, slice_get, slice_index, Bool, All, Contains}
+use Rattle.std.specs.Prelude.{◌≡◌, ◌≢◌, ℕ, ◌+◌, ◌^◌, ◌<◌, ◌≤◌, ◌<ℤ◌, pos, ⊤, Option, Some, None, List, [], ◌∷◌, ◌++◌, length, map, take, max, slice_get, slice_index, Bool, true, false, All, Contains}
 use Rattle.std.specs.Option.{option_map_or}
 use Rattle.liq_base.specs.declared.limits.TheConstants.{MIN_RATE, MAX_RATE, MAX_FRAME, MAX_NODES, MAX_CHILDREN, MAX_CROSSFADES, MAX_OVERLAP, MAX_PREFILL, MAX_CAPACITY}
 use Rattle.liq_base.specs.declared.memory.Kind.{Kind}
@@ -33,61 +33,34 @@ HasChildren (Clock id) n = n ≡ 1
 -- the kind of a node of this operator, over children of a kind: the children's, but a mean is mono over stereo, and a
 -- stereo is stereo over mono
 abbrev pub HasKind : Op → (children : Kind) → Kind → Type 0
-HasKind (Single file) children kind = kind ≡ children
-HasKind (Playlist file again) children kind = kind ≡ children
-HasKind (Blank track) children kind = kind ≡ children
-HasKind (Square pitch) children kind = kind ≡ children
-HasKind Fail children kind = kind ≡ children
-HasKind (Fallback sensitive) children kind = kind ≡ children
-HasKind (Switch sensitive preds) children kind = kind ≡ children
-HasKind Sequence children kind = kind ≡ children
-HasKind (Add normalize) children kind = kind ≡ children
-HasKind (Amplify factor) children kind = kind ≡ children
 HasKind Mean children kind = (children ≡ Both) × (kind ≡ Mono)
 HasKind Stereo children kind = (children ≡ Mono) × (kind ≡ Both)
-HasKind (Crossfade overlap) children kind = kind ≡ children
-HasKind (Buffer number) children kind = kind ≡ children
-HasKind (Clock id) children kind = kind ≡ children
+HasKind _ children kind = kind ≡ children
 
 -- a pitch is above 0, and an overlap has at least a sample
 abbrev pub IsInRange : Op → Type 0
-IsInRange (Single file) = ⊤
-IsInRange (Playlist file again) = ⊤
-IsInRange (Blank track) = ⊤
 IsInRange (Square pitch) = pos 0 <ℤ pitch.millionths
-IsInRange Fail = ⊤
-IsInRange (Fallback sensitive) = ⊤
-IsInRange (Switch sensitive preds) = ⊤
-IsInRange Sequence = ⊤
-IsInRange (Add normalize) = ⊤
-IsInRange (Amplify factor) = ⊤
-IsInRange Mean = ⊤
-IsInRange Stereo = ⊤
 IsInRange (Crossfade overlap) = (1 ≤ overlap) × (overlap ≤ MAX_OVERLAP)
-IsInRange (Buffer number) = ⊤
-IsInRange (Clock id) = ⊤
+IsInRange _ = ⊤
 
 -- 1 for a crossfade, 0 for any other node
 abbrev pub own_crossfades : Op → ℕ
-own_crossfades (Single file) = 0
-own_crossfades (Playlist file again) = 0
-own_crossfades (Blank track) = 0
-own_crossfades (Square pitch) = 0
-own_crossfades Fail = 0
-own_crossfades (Fallback sensitive) = 0
-own_crossfades (Switch sensitive preds) = 0
-own_crossfades Sequence = 0
-own_crossfades (Add normalize) = 0
-own_crossfades (Amplify factor) = 0
-own_crossfades Mean = 0
-own_crossfades Stereo = 0
 own_crossfades (Crossfade overlap) = 1
-own_crossfades (Buffer number) = 0
-own_crossfades (Clock id) = 0
+own_crossfades _ = 0
+
+-- the buffer that a node of this operator reads: only a reader reads one
+abbrev pub buffer_read : Op → Option ℕ
+buffer_read (Buffer number) = Some number
+buffer_read _ = None
 
 -- this is no reader of a buffer
 abbrev pub IsNoReader : Op → Type 0
 IsNoReader op = (buffer : ℕ) → op ≢ Buffer buffer
+
+-- this is an output, and no feed
+abbrev pub is_output : SinkPlan → Bool
+is_output (Output name node fallible) = true
+is_output (Feed buffer node) = false
 
 -- the node of a sink
 abbrev pub sink_node : SinkPlan → ℕ

@@ -156,8 +156,8 @@ impl Draft {
     }
 
     /// Adds a buffer, its feed from the node `source`, and its reader, which is of this kind, and answers the reader's
-    /// number. `TooManySources` comes exactly where 4096 nodes are there. After that, and where there is no room for it,
-    /// which is memory or the 2^32nd sink or buffer, the plan is as it was.
+    /// number. `TooManySources` comes exactly where `MAX_NODES` nodes are there. After that, and where there is no room for
+    /// it, which is memory or the 2^32nd sink or buffer, the plan is as it was.
     pub fn push_buffer(
         &mut self,
         alloc: Global,

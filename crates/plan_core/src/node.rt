@@ -1,4 +1,7 @@
 // A node of a plan, and what it does.
+ghost use Rattle.std.specs.Prelude.{◌≡◌, IfSome, IsNone};
+ghost use Rattle.plan_core.specs.Plans.{buffer_read, IsNoReader};
+
 use crate::{Items, Preds};
 use fixed_text::Decimal;
 use liq_base::{Kind, Text};
@@ -42,7 +45,7 @@ pub enum Op {
     /// A mono child on both sides.
     Stereo,
 
-    /// The child, each track mixed into the one before over so many samples: 1 to 4194304.
+    /// The child, each track mixed into the one before over so many samples: 1 to `MAX_OVERLAP`.
     Crossfade { overlap: u32 },
 
     /// What is read from the buffer of this number.
@@ -50,6 +53,20 @@ pub enum Op {
 
     /// The child, in the clock of this id; without one it has a clock of its own.
     Clock(Text),
+}
+
+impl Op {
+    /// The buffer that a node of this operator reads; none where it is no reader.
+    pub fn buffer_read(&self) -> Option<u32>
+        ensures same { result ≡ buffer_read self.now }
+        ensures reader { IfSome result (λ buffer. self.now ≡ Op.Buffer buffer) }
+        ensures none { IsNone result → IsNoReader self.now }
+    {
+        match self {
+            Op::Buffer(buffer) => Some(*buffer),
+            _ => None,
+        }
+    }
 }
 
 /// A node of a plan: what it does, how many channels it has, and its children by their numbers, which are smaller

@@ -5,18 +5,18 @@ ghost use Rattle.plan_core.specs.Plans.{crossfades_from, AreNodes, IsNodeOver, I
 use crate::{BufferPlan, Items, Node, SinkPlan};
 use liq_base::Memory;
 use liq_base::limits::{MAX_CHILDREN, MAX_CROSSFADES, MAX_NODES};
-use std::fmt;
+use thiserror::Error;
 
 /// What a script stands for: nodes, of which each has smaller numbers below it, sinks and buffers, each counted from 0.
 #[derive(Debug, Drop)]
 pub struct Plan {
-    /// Samples a second, from 8000 to 192000.
+    /// Samples a second, from `MIN_RATE` to `MAX_RATE`.
     pub rate: u32,
 
-    /// Samples of a tick, from 1 to 65536.
+    /// Samples of a tick, from 1 to `MAX_FRAME`.
     pub frame: u32,
 
-    /// The nodes, at most 4096.
+    /// The nodes, at most `MAX_NODES`.
     pub nodes: Items<Node>,
 
     /// The outputs and the feeds, in the order of the script.
@@ -27,25 +27,16 @@ pub struct Plan {
 }
 
 /// Why a node was not added.
-#[derive(Clone, Copy, Debug, PartialEq, Eq, Hash)]
+#[derive(Clone, Copy, Debug, PartialEq, Eq, Hash, Error)]
 pub enum PlanFault {
     /// As many nodes as a plan may have are there.
+    #[error("too many sources")]
     TooManySources,
 
     /// Memory was refused.
+    #[error("out of memory")]
     Memory,
 }
-
-impl fmt::Display for PlanFault {
-    fn fmt<W: fmt::Write>(&self, f: &mut fmt::Formatter<W>) -> fmt::Result {
-        match self {
-            PlanFault::TooManySources => write!(f, "too many sources"),
-            PlanFault::Memory => Memory.fmt(f),
-        }
-    }
-}
-
-impl std::error::Error for PlanFault {}
 
 impl From<Memory> for PlanFault {
     ghost use Rattle.plan_core.specs.declared.plan.PlanFault.TheVariants as fault;
@@ -58,9 +49,9 @@ impl From<Memory> for PlanFault {
 }
 
 impl Plan {
-    /// Adds a node, whose children are nodes of the plan, at most 65535 of them, and answers its number. No path down
-    /// from it may have more than 4 crossfades. `TooManySources` comes exactly where 4096 nodes are there. The plan is
-    /// unchanged after that, and where memory is refused.
+    /// Adds a node, whose children are nodes of the plan, at most `MAX_CHILDREN` of them, and answers its number. No path
+    /// down from it may have more than `MAX_CROSSFADES` crossfades. `TooManySources` comes exactly where `MAX_NODES` nodes
+    /// are there. The plan is unchanged after that, and where memory is refused.
     pub fn push_node(&mut self, node: Node) -> Result<u32, PlanFault>
         requires children { All (λ child. child < length self.old.nodes) node.children }
         requires few { length node.children ≤ MAX_CHILDREN }

@@ -1,4 +1,7 @@
 // What a plan writes, and the buffers between its clocks.
+ghost use Rattle.std.specs.Prelude.{◌≡◌};
+ghost use Rattle.plan_core.specs.Plans.{is_output};
+
 use liq_base::Text;
 
 /// A sink of a plan.
@@ -18,12 +21,24 @@ pub enum SinkPlan {
     },
 }
 
+impl SinkPlan {
+    /// Whether this is an output, and no feed.
+    pub fn is_output(&self) -> bool
+        ensures { result ≡ is_output self.now }
+    {
+        match self {
+            SinkPlan::Output { .. } => true,
+            SinkPlan::Feed { .. } => false,
+        }
+    }
+}
+
 /// A buffer of a plan.
 #[derive(Clone, Copy, Debug, PartialEq, Eq)]
 pub struct BufferPlan {
-    /// How many samples its reader holds before it plays, at most 4194304; 0 counts as 1.
+    /// How many samples its reader holds before it plays, at most `MAX_PREFILL`; 0 counts as 1.
     pub pre: u64,
 
-    /// How many chunks it holds, from 1 to 65536.
+    /// How many chunks it holds, from 1 to `MAX_CAPACITY`.
     pub capacity: u32,
 }

@@ -85,3 +85,9 @@ parameter_of (Optional at name default) = record { name = name; form = Perhaps }
 abbrev pub parameters_of : Tree (Many AParam) → List Parameter
 parameters_of none = []
 parameters_of (more p ps) = parameter_of p ∷ parameters_of ps
+
+-- the token of a parameter's name
+abbrev pub token_of : Tree AParam → ℕ
+token_of (Param at name) = at
+token_of (Labelled at name) = at
+token_of (Optional at name d) = at

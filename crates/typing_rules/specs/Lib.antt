@@ -1,6 +1,7 @@
 pub mod Uses
 pub mod Arguments
 pub mod Table
+pub mod Rows
 pub mod Scoping
 pub mod NameFaults
 pub mod Typing

@@ -7,6 +7,7 @@ use Rattle.typing_rules.specs.declared.fault.NameFault.TheVariants.{Unknown, Mis
 use Rattle.typing_rules.specs.declared.fault.TypeFault.{TypeFault}
 use Rattle.typing_rules.specs.declared.fault.TypeFault.TheVariants as fault
 use Rattle.typing_rules.specs.Arguments.{Parameter, Given, left_over, first_missing}
+pub use Rattle.typing_rules.specs.Arguments.{token_of}
 use Rattle.typing_rules.specs.Scoping.{Name, Scope, names, with_statement}
 
 -- what orders the faults of a statement
@@ -40,11 +41,6 @@ abbrev pub name_of : Tree AParam → List ℕ
 name_of (Param at name) = name
 name_of (Labelled at name) = name
 name_of (Optional at name d) = name
-
-abbrev pub token_of : Tree AParam → ℕ
-token_of (Param at name) = at
-token_of (Labelled at name) = at
-token_of (Optional at name d) = at
 
 abbrev pub is_among : List ℕ → List (List ℕ) → Bool
 is_among name [] = false

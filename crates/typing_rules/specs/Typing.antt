@@ -10,6 +10,7 @@ use Rattle.type_terms.specs.declared.ty.Base.TheVariants as base
 use Rattle.typing_rules.specs.declared.uses.Target.{Target}
 use Rattle.typing_rules.specs.declared.uses.Target.TheVariants as target
 use Rattle.typing_rules.specs.Arguments.{Given}
+pub use Rattle.typing_rules.specs.Arguments.{token_of}
 use Rattle.typing_rules.specs.Table.{IsCallOf}
 
 -- types of bindings by their tokens
@@ -103,11 +104,6 @@ abbrev pub within : Types → Sight → Sight
 within us s = record s { types = us ++ s.types }
 
 -- the parameters' types by their tokens
-abbrev pub token_of : Tree AParam → ℕ
-token_of (Param at name) = at
-token_of (Labelled at name) = at
-token_of (Optional at name d) = at
-
 abbrev pub typed_params : Tree (Many AParam) → List Ground → Types
 typed_params none ts = []
 typed_params (more p ps) [] = []

@@ -38,6 +38,20 @@ impl UseKinds {
         })
     }
 
+    /// The kinds of a `Vec`. It takes no memory.
+    pub fn from_vec(kinds: Vec<KindOf>) -> UseKinds
+        ensures { result ≡ kinds.items }
+    {
+        UseKinds { kinds }
+    }
+
+    /// The `Vec` of the kinds. It takes no memory.
+    pub fn into_vec(self) -> Vec<KindOf>
+        ensures { result.items ≡ self }
+    {
+        self.kinds
+    }
+
     /// The kinds, to be read.
     pub fn as_slice(&self) -> &[KindOf]
         ensures { result.now ≡ self.now }

@@ -1,6 +1,6 @@
 use Rattle.std.proofs.Common.{sym, ◌∙◌}
-use Rattle.name_scope.proofs.Searches.{row_there, row_next, row_none}
-use Rattle.name_scope.proofs.builtins.named_in.Goals as goal
+use Rattle.typing_rules.proofs.Searches.{row_there, row_next, row_none}
+use Rattle.typing_rules.proofs.builtins.named_in.Goals as goal
 
 pub returns-then-is_same_name : goal.returns-then-is_same_name
 returns-then-is_same_name c = record { same = row_there c.args.name.now c.args.rows.now c.loop-row.row-index _ _ c.loop-row.invariant c.loop-row-test.true (sym c.is_same_name.ensures.same ∙ c.if-is_same_name.true) }
