@@ -2,9 +2,9 @@
 ghost use Rattle.std.specs.Prelude.{◌≡◌, ◌<◌, ◌≤◌, length, slice_get, IfOk, Some};
 ghost use Rattle.frame_core.specs.Frames.{chunk_of};
 
-use crate::frame::MAX_FRAME;
 use crate::{Cell, Frame};
 use liq_base::Memory;
+use liq_base::limits::MAX_FRAME;
 use std::alloc::Global;
 use std::marker::Model;
 
@@ -17,7 +17,7 @@ pub struct Chunk {
 impl Model for Chunk {
     ghost use Rattle.std.specs.Prelude.{◌<◌, ◌≤◌, List, length};
     ghost use Rattle.frame_core.specs.declared.cell.Cell.{Cell};
-    ghost use Rattle.frame_core.specs.declared.frame.TheConstants.{MAX_FRAME};
+    ghost use Rattle.liq_base.specs.declared.limits.TheConstants.{MAX_FRAME};
 
     ghost Value = { List Cell };
 

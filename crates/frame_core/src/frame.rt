@@ -5,11 +5,9 @@ ghost use Rattle.frame_core.specs.Frames.{slot_of, slots_in};
 
 use crate::Cell;
 use liq_base::Memory;
+use liq_base::limits::MAX_FRAME;
 use std::alloc::Global;
 use std::marker::Model;
-
-/// The most instants that a tick has.
-pub const MAX_FRAME: u32 = 65_536;
 
 // What stands at an instant: nothing, a cell within its track, or a track's first cell.
 #[derive(Clone, Copy, Debug, PartialEq, Eq, Hash)]
@@ -54,7 +52,7 @@ pub struct Frame {
 
 impl Model for Frame {
     ghost use Rattle.std.specs.Prelude.{◌≡◌, ◌≤◌, List, length};
-    ghost use Rattle.frame_core.specs.declared.frame.TheConstants.{MAX_FRAME};
+    ghost use Rattle.liq_base.specs.declared.limits.TheConstants.{MAX_FRAME};
     ghost use Rattle.frame_core.specs.Slots.{Slot};
     ghost use Rattle.frame_core.specs.Frames.{slots_in};
 

@@ -10,7 +10,7 @@ mod track;
 
 pub use cell::Cell;
 pub use chunk::{Chunk, Gave};
-pub use frame::{Frame, MAX_FRAME};
+pub use frame::Frame;
 pub use library::Library;
 pub use taps::Taps;
 pub use track::Track;

@@ -1,5 +1,6 @@
 -- What a crossfade's state holds, and for which slots and which item it stands.
 use Rattle.std.specs.Prelude.{◌≡◌, ◌<◌, ◌≤◌, ◌+◌, ◌-◌, ◌*◌, Bool, true, false, not, ◌&&◌, Some, None, List, [], ◌∷◌, ◌++◌, ℕ, zero, suc, length, take, drop, map, nat_eq, nat_lt, if◌then◌else◌}
+use Rattle.liq_base.specs.declared.limits.TheConstants.{MAX_OVERLAP}
 use Rattle.frame_core.specs.declared.cell.Cell.{Cell}
 use Rattle.frame_core.specs.Slots.{Slot}
 use Rattle.op_cross.specs.Crossfade.{mixed_cells, cross}
@@ -81,7 +82,7 @@ left state = if wants state then 2 * state.overlap - length state.cells - length
 
 -- what is true of each state
 pub record IsCrossing (state : Crossing) : Type 0 where
-  pub overlap : (0 < state.overlap) × (state.overlap ≤ 4194304)
+  pub overlap : (0 < state.overlap) × (state.overlap ≤ MAX_OVERLAP)
   pub ready : state.ready ≤ length state.cells
   pub held : length state.cells ≤ state.ready + state.overlap
   pub growing : state.ready ≡ 0 → 0 < length state.next → length state.next < length state.cells

@@ -8,6 +8,7 @@ ghost use Rattle.op_cross.specs.Stretches.{is_inner, stretch, left_of, right_of}
 
 use cell_ring::CellRing;
 use frame_core::Cell;
+use liq_base::limits::MAX_OVERLAP;
 use liq_base::{Kind, Memory};
 use sample_kernels::mixed_sample;
 use std::alloc::Global;
@@ -40,11 +41,11 @@ impl Model for CrossState {
 }
 
 impl CrossState {
-    /// The state of a crossfade that was fed nothing, whose tracks overlap by at most so many samples, from 1 to 4194304.
+    /// The state of a crossfade that was fed nothing, whose tracks overlap by at most so many samples, from 1 to `MAX_OVERLAP`.
     /// It reserves room for twice as many cells and one; no other call takes memory. The kind changes nothing, since a
     /// mono cell has 0 on its right, and so has a mix of such cells.
     pub fn new(alloc: Global, overlap: u32, _kind: Kind) -> Result<CrossState, Memory>
-        requires { (0 < overlap) × (overlap ≤ 4194304) }
+        requires { (0 < overlap) × (overlap ≤ MAX_OVERLAP) }
         ensures overlap { IfOk result (λ state. state.overlap ≡ overlap) }
         ensures stands { IfOk result (λ state. StandsFor state [] 0) }
     {

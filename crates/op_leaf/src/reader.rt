@@ -6,8 +6,9 @@ ghost use Rattle.op_leaf.specs.Lanes.{IsLane};
 ghost use Rattle.op_leaf.specs.Readers.{after_cell, begun, missing, read_by, Reader, reader_slot, wants};
 
 use cell_ring::CellRing;
-use frame_core::{Cell, Chunk, MAX_FRAME};
+use frame_core::{Cell, Chunk};
 use liq_base::Memory;
+use liq_base::limits::MAX_FRAME;
 use std::alloc::Global;
 use std::marker::Model;
 

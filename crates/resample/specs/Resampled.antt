@@ -2,14 +2,15 @@
 use Rattle.std.specs.Prelude.{◌≡◌, ◌<◌, ◌≤◌, ◌≤ℤ◌, ℕ, ℤ, pos, ◌+◌, ◌-◌, ◌*◌, ◌/◌, ◌%◌, ◌+ℤ◌, ◌*ℤ◌, int_div, max, min, List, length, map, slice_index_or}
 use Rattle.std.specs.Int.{int_max, int_min}
 use Rattle.std.specs.List.{range_with_len}
+use Rattle.liq_base.specs.declared.limits.TheConstants.{MAX_RATE, MIN_RATE}
 use Rattle.liq_base.specs.Kinds.{channels_of}
 use Rattle.liq_base.specs.declared.memory.Kind.{Kind}
 
 -- the rate of a file, and that of a script, in samples a second
 pub record AreRates (from to : ℕ) : Type 0 where
   pub some : 0 < from
-  pub least : 8000 ≤ to
-  pub most : to ≤ 192000
+  pub least : MIN_RATE ≤ to
+  pub most : to ≤ MAX_RATE
 
 -- how many samples each channel has
 abbrev pub blocks_of : Kind → List ℤ → ℕ

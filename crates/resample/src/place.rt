@@ -2,6 +2,8 @@
 ghost use Rattle.std.specs.Prelude.{◌≡◌, ◌<◌, ◌≤◌, ◌+◌, ◌^◌};
 ghost use Rattle.resample.specs.Places.{reached};
 
+use liq_base::limits::MAX_RATE;
+
 /// A place in the file. The way from a block to the next one has as many parts as a second has samples at the new rate.
 #[derive(Clone, Copy)]
 pub struct Place {
@@ -29,7 +31,7 @@ pub fn step_of(from: u32, to: u32) -> Place
 pub fn moved(place: Place, step: Place, to: u32) -> Place
     requires part { place.part < to }
     requires step { step.part < to }
-    requires rate { to ≤ 192000 }
+    requires rate { to ≤ MAX_RATE }
     requires room { place.block + step.block + 1 < 2 ^ 64 }
     ensures whole { reached to result ≡ reached to place + reached to step }
     ensures part { result.part < to }

@@ -8,7 +8,7 @@ use crate::place::{Place, moved, step_of};
 use liq_base::Kind;
 
 /// How many samples each channel of a file has at another rate: at least 1. The file has `count`, from 1 to 134217728.
-/// Rates are in samples a second, and `to` is from 8000 to 192000.
+/// Rates are in samples a second, and `to` is from `MIN_RATE` to `MAX_RATE`.
 pub fn length(count: u64, from: u32, to: u32) -> u64
     requires some { 1 ≤ count }
     requires most { count ≤ 134217728 }

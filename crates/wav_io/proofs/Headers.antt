@@ -1,6 +1,7 @@
 -- What stands in a header of ours.
 use Rattle.std.proofs.Common.{◌≡◌, ◌≤◌, ℕ, ◌+◌, ◌*◌, ◌^◌, ◌++◌, List, length, drop, Bool, true, false, cond, refl, ◌∙◌, arith}
 use Rattle.std.specs.Prelude.{Some, None, nat_lt}
+use Rattle.liq_base.specs.declared.limits.TheConstants.{MAX_RATE}
 use Rattle.byteorder.specs.Endian.{little_number}
 use Rattle.byteorder.specs.Numbers.{little_from-bytes}
 use Rattle.liq_base.specs.declared.memory.Kind.{Kind}
@@ -19,7 +20,7 @@ unfolding header_bytes
 length_header kind rate samples = refl
 
 -- the rate stands in the header
-pub rate_behind : (kind : Kind) (rate samples : ℕ) (body : List ℕ) → rate ≤ 192000 → little_number 4 (drop 24 (header_bytes kind rate samples ++ body)) ≡ rate
+pub rate_behind : (kind : Kind) (rate samples : ℕ) (body : List ℕ) → rate ≤ MAX_RATE → little_number 4 (drop 24 (header_bytes kind rate samples ++ body)) ≡ rate
 unfolding header_bytes
 rate_behind kind rate samples body small =
     little_from-bytes 4 0 rate (drop 28 (header_bytes kind rate samples) ++ body) ∙ (omega arith)

@@ -4,6 +4,7 @@ use Rattle.std.specs.Prelude.{Some, None, Ok, Err, codes, nat_eq, ◌&&◌}
 use Rattle.std.proofs.lemmas.Bool.{ltb-true, lt-ltb, le-leb}
 use Rattle.std.proofs.lemmas.Bool.Decides.{nat_tests}
 use Rattle.std.proofs.lemmas.List.{take_all}
+use Rattle.liq_base.specs.declared.limits.TheConstants.{MAX_RATE}
 use Rattle.byteorder.specs.Numbers.{little_from-bytes}
 use Rattle.liq_base.specs.declared.memory.Kind.{Kind}
 use Rattle.liq_base.specs.declared.memory.Kind.TheVariants.{Mono, Stereo}
@@ -52,7 +53,7 @@ module _ (kind : Kind) (rate samples : ℕ) (body : List ℕ) where
   unfolding header_bytes
   size_behind small = little_from-bytes 4 0 (samples * block_size kind) body ∙ (omega arith)
 
-own_format : (kind : Kind) (rate samples : ℕ) (body : List ℕ) → 0 < rate → rate ≤ 192000
+own_format : (kind : Kind) (rate samples : ℕ) (body : List ℕ) → 0 < rate → rate ≤ MAX_RATE
     → format_in (body_of (header_bytes kind rate samples ++ body) (chunk_at (header_bytes kind rate samples ++ body) 12)) (chunk_at (header_bytes kind rate samples ++ body) 12).size ≡ Ok (record { kind = kind; rate = rate })
 unfolding header_bytes
 own_format Mono rate samples body some small =
@@ -71,7 +72,7 @@ some_bytes : (kind : Kind) (samples size : ℕ) → 0 < samples → size ≡ sam
 some_bytes Mono samples size some is = grind (arith, nat_tests)
 some_bytes Stereo samples size some is = grind (arith, nat_tests)
 
-pub own_is_read : (kind : Kind) (rate samples : ℕ) (header body : List ℕ) → 0 < rate → rate ≤ 192000 → 0 < samples
+pub own_is_read : (kind : Kind) (rate samples : ℕ) (header body : List ℕ) → 0 < rate → rate ≤ MAX_RATE → 0 < samples
     → header_of kind rate samples ≡ Some header → length body ≡ samples * block_size kind
     → read_of (header ++ body) ≡ Ok (record { kind = kind; rate = rate; body = body })
 own_is_read kind rate samples header body some small many is whole =

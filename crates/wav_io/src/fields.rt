@@ -6,12 +6,13 @@ ghost use Rattle.wav_io.specs.Header.{header_of, block_size, four_bytes, two_byt
 
 use byteorder::{ByteOrder, LittleEndian};
 use liq_base::Kind;
+use liq_base::limits::MAX_RATE;
 
 /// The header before so many samples of each channel, at `rate` samples a second, of at most
 /// 192000. `None` exactly where the file's size no longer fits in its field. The fields stand in
 /// `docs/formats.md`.
 pub fn header(kind: Kind, rate: u32, samples: u64) -> Option<[u8; 44]>
-    requires { rate ≤ 192000 }
+    requires { rate ≤ MAX_RATE }
     ensures header { result ≡ header_of kind rate samples }
 {
     let size = data_len(kind, samples)?;
@@ -37,7 +38,7 @@ fn data_len(kind: Kind, samples: u64) -> Option<u32>
 /// The header of so many channels, samples a second and bytes of samples.
 fn field_bytes(channels: u16, rate: u32, size: u32) -> [u8; 44]
     requires channels { channels ≤ 2 }
-    requires rate { rate ≤ 192000 }
+    requires rate { rate ≤ MAX_RATE }
     requires size { 36 + size < 2 ^ 32 }
     ensures { result ≡ codes "RIFF" ++ four_bytes (36 + size) ++ codes "WAVE"
         ++ codes "fmt " ++ four_bytes 16 ++ two_bytes 1 ++ two_bytes channels

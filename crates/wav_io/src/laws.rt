@@ -5,6 +5,8 @@ ghost use Rattle.wav_io.specs.Chunks.{AreChunks, chunks_of};
 ghost use Rattle.wav_io.specs.Header.{block_size, header_of};
 ghost use Rattle.wav_io.specs.Reading.{read_of};
 
+use liq_base::limits::MAX_RATE;
+
 /// The chunks of a file are all those that stand in it, one behind the other.
 pub fn chunks_are_all()
     ensures { (bytes : List ℕ) → AreChunks bytes 12 (chunks_of bytes) }
@@ -12,7 +14,7 @@ pub fn chunks_are_all()
 
 /// A header of ours for a rate above 0 and at least one sample, and its data, are read as what they were written for.
 pub fn own_files_are_read()
-    ensures { (kind : Kind) (rate samples : ℕ) (header data_bytes : List ℕ) → 0 < rate → rate ≤ 192000 → 0 < samples
+    ensures { (kind : Kind) (rate samples : ℕ) (header data_bytes : List ℕ) → 0 < rate → rate ≤ MAX_RATE → 0 < samples
         → header_of kind rate samples ≡ Some header → length data_bytes ≡ samples * block_size kind
         → read_of (header ++ data_bytes) ≡ Ok (record { kind = kind; rate = rate; body = data_bytes }) }
 {}
