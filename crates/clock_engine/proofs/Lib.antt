@@ -4,6 +4,7 @@ pub mod Numbered
 pub mod Holding
 pub mod Ticking
 pub mod Feeding
+pub mod Rooted
 pub mod Made
 pub mod Beginning
 pub mod Driving

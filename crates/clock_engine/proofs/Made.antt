@@ -1,5 +1,5 @@
 -- An engine after a tick.
-use Rattle.std.proofs.Common.{◌≡◌, ◌++◌, drop, append_assoc, Bool, ◌<◌, ◌≤◌, ◌+◌, ◌*◌, ◌∙◌, ℕ, zero, suc, Some, Option, List, [], ◌∷◌, flat_map, All, length, get_or, map, slice_get, true, arith, refl, ap, sym, subst, ◌-◌, None, add-one}
+use Rattle.std.proofs.Common.{◌≡◌, ◌++◌, drop, append_assoc, Bool, ◌<◌, ◌≤◌, ◌+◌, ◌*◌, ◌∙◌, ℕ, zero, suc, Some, Option, List, [], ◌∷◌, flat_map, All, length, get_or, map, slice_get, true, false, arith, refl, ap, sym, subst, ◌-◌, None, add-one}
 use mathlib.Core.Path.{fun_ext}
 use Rattle.std.proofs.Math.Nat.{suc-mul}
 use Rattle.std.proofs.lemmas.List.{append-nil, get_or_default, get_or-map, length-map}
@@ -30,20 +30,13 @@ use Rattle.clock_engine.specs.Engines.{AreWorks, EngineStands, EngineStopped, af
 use Rattle.clock_engine.specs.Ticks.{HaveTickRoom, RoomsFell, HaveTicksRoom}
 use Rattle.clock_engine.proofs.Giving.{gives_are, gives_flat}
 use Rattle.clock_engine.proofs.Filling.{filled_before, filled_kind, filled_long, filled_room, filled_sink}
-use Rattle.clock_engine.proofs.Numbered.{from_mapped, got_mapped, no_item, port_inside, port_node}
+use Rattle.clock_engine.proofs.Numbered.{all_at, from_mapped, got_mapped, port_inside, port_node}
 use Rattle.clock_engine.proofs.Holding.{held_grew, held_part, held_same}
 use Rattle.clock_engine.proofs.Mapped.{goes_down, meaning_of}
 use Rattle.clock_engine.proofs.Feeding.{feed_inside, own_buffers, own_readers}
+use Rattle.clock_engine.proofs.Rooted.{feed_root, port_root}
 use Rattle.clock_engine.proofs.Ticking.{bytes_are, gaps_more, tick_heard}
 use Rattle.engine_ticks.proofs.Hearing.{after_slots-node}
-
-item_is : {A : Type 0} (xs : List A) (k : ℕ) (d x : A) → slice_get xs k ≡ Some x → get_or xs k d ≡ x
-item_is [] k d x e = absurd (no_item k x e)
-item_is (y ∷ xs) zero d x e = (let same : y ≡ x = cc in same)
-item_is (y ∷ xs) (suc k) d x e = item_is xs k d x e
-
-pub all_at : {A : Type 0} (P : A → Type 0) (xs : List A) → All P xs → (k : ℕ) (x : A) → slice_get xs k ≡ Some x → P x
-all_at P xs all k x e = subst P (item_is xs k x x e) (all k x (slice_get_within xs k x e))
 
 -- the room for one piece fewer, after one was taken
 room_less : (room : Option ℕ) (ticks size : ℕ) → HasRoom room ((ticks + 1) * size) → HasRoom (narrowed size room) (ticks * size)
@@ -235,11 +228,16 @@ module _ (works other : Works) (parts : AreWorks works) {T : Type 0} (stands_for
     abbrev S : Setting
     S = with_rest (setting_of works) answers rest
 
-    ran : HasRun S (sub_of S) (Main works.clock) (t * works.shape.plan.now.frame) works.shape.plan.now.frame heard.slots answers heard.more other.lanes
+    ran : HasRun S (sub_of S) works.own.items (Main works.clock) (t * works.shape.plan.now.frame) works.shape.plan.now.frame heard.slots answers heard.more other.lanes
     ran = heard.run S (sub_of S) (t * works.shape.plan.now.frame) answers (meant_by works parts answers rest) has (stands.lanes rest)
 
-    slots_are : (i : ℕ) → clock_of S i ≡ Main works.clock → heard.slots i ≡ tick_slots S i t
-    slots_are i inside = tick_heard S works.clock t i (heard.slots i) inside (ran.slots_are i)
+    slots_are : (i : ℕ) → clock_of S i ≡ Main works.clock → get_or works.own.items i false ≡ true → heard.slots i ≡ tick_slots S i t
+    slots_are i inside root = tick_heard S works.clock t i (heard.slots i) inside (ran.slots_are i root)
+
+    -- of the node of an output
+    output_slots : (k : ℕ) (port : Port) → slice_get works.ports.items k ≡ Some port → heard.slots port.node ≡ tick_slots S port.node t
+    output_slots k port at =
+        slots_are port.node (port_inside (setting_of works) works.clock works.ports.items parts.outputs k port at) (port_root works parts k port at).1
 
     -- an output after the tick
     port_after : (k : ℕ) (port : Port) → slice_get other.ports.items k ≡ Some port
@@ -253,7 +251,7 @@ module _ (works other : Works) (parts : AreWorks works) {T : Type 0} (stands_for
         let found = port_after k port at in
         let small : t < 1000000000 = (let made = stands.made in omega (arith, made, few)) in
         sym (ap (λ p. p.gaps) found.2)
-        ∙ gaps_more S t found.0 (heard.slots found.0.node) small parts.frame (stands.gaps_are rest k found.0 found.1) (slots_are found.0.node found.3)
+        ∙ gaps_more S t found.0 (heard.slots found.0.node) small parts.frame (stands.gaps_are rest k found.0 found.1) (output_slots k found.0 found.1)
         ∙ ap (λ i. gaps S i (suc t)) (sym (after_slots-node (emptied found.0) (heard.slots found.0.node)) ∙ ap (λ p. p.node) found.2)
 
     pub bytes_after : (sink node : ℕ) → IsOutput (setting_of works) works.clock sink node → (k : ℕ) (port : Port) → slice_get other.ports.items k ≡ Some port → port.sink ≡ sink
@@ -263,7 +261,7 @@ module _ (works other : Works) (parts : AreWorks works) {T : Type 0} (stands_for
         let number : found.0.sink ≡ sink = sym (filled_sink (emptied found.0) (heard.slots found.0.node)) ∙ ap (λ p. p.sink) found.2 ∙ same in
         let its = port_node (setting_of works) works.clock works.ports.items parts.outputs sink node output k found.0 found.1 number in
         sym (ap (λ p. p.piece.bytes) found.2)
-        ∙ bytes_are S t found.0 (heard.slots found.0.node) (all_at (λ p. p.kind ≡ kind_of (setting_of works) p.node) works.ports.items parts.kinds k found.0 found.1) (slots_are found.0.node found.3)
+        ∙ bytes_are S t found.0 (heard.slots found.0.node) (all_at (λ p. p.kind ≡ kind_of (setting_of works) p.node) works.ports.items parts.kinds k found.0 found.1) (output_slots k found.0 found.1)
         ∙ ap (λ i. tick_bytes S i t) its
 
     pub lanes_after : LanesStand S (sub_of S) (Main works.clock) (suc t * works.shape.plan.now.frame) (after_calls answers heard.more) other.lanes
@@ -279,7 +277,7 @@ module _ (works other : Works) (parts : AreWorks works) {T : Type 0} (stands_for
         let inside = feed_inside (setting_of works) works.clock works.feeds.items parts.feeds k found.0 found.1 in
         let size = all_at (λ f. length f.frame ≡ works.shape.plan.now.frame) works.feeds.items parts.frames k found.0 found.1 in
         ap (λ f. cells_of f.frame) (sym found.2)
-        ∙ ap cells_of (filled_whole (heard.slots found.0.node) found.0.frame (heard.long found.0.node ∙ sym size) ∙ slots_are found.0.node inside)
+        ∙ ap cells_of (filled_whole (heard.slots found.0.node) found.0.frame (heard.long found.0.node ∙ sym size) ∙ slots_are found.0.node inside (feed_root works parts k found.0 found.1).1)
         ∙ ap (λ i. feed_cells S i t) (ap (λ f. f.node) found.2)
 
     same_feeds : map feed_of other.feeds.items ≡ feeds_of (setting_of works) works.clock

@@ -1,7 +1,7 @@
 -- The outputs of a clock, among the sinks of its plan.
-use Rattle.std.proofs.Common.{◌≡◌, ◌+◌, ◌∙◌, ℕ, zero, suc, Bool, true, false, Some, List, [], ◌∷◌, map, slice_get, cond, arith, refl, ap, sym, subst}
+use Rattle.std.proofs.Common.{◌≡◌, ◌+◌, ◌∙◌, ℕ, zero, suc, Bool, true, false, Some, List, [], ◌∷◌, All, get_or, map, slice_get, cond, arith, refl, ap, sym, subst}
 use Rattle.std.proofs.lemmas.Bool.{eq-eqb, true≢false}
-use Rattle.std.proofs.lemmas.Option.{none-some}
+use Rattle.std.proofs.lemmas.Option.{none-some, slice_get_within}
 use Rattle.plan_core.specs.declared.sink.SinkPlan.{SinkPlan}
 use Rattle.plan_core.specs.declared.sink.SinkPlan.TheVariants.{Output, Feed}
 use Rattle.plan_core.specs.Plans.{sink_node}
@@ -16,6 +16,14 @@ use Rattle.clock_engine.specs.Engines.{output_of, outputs_from, outputs_of}
 pub no_item : {A : Type 0} (k : ℕ) (x : A) → slice_get [] k ≡ Some x → ⊥
 no_item zero x e = none-some x e
 no_item (suc k) x e = none-some x e
+
+pub item_is : {A : Type 0} (xs : List A) (k : ℕ) (d x : A) → slice_get xs k ≡ Some x → get_or xs k d ≡ x
+item_is [] k d x e = absurd (no_item k x e)
+item_is (y ∷ xs) zero d x e = (let same : y ≡ x = cc in same)
+item_is (y ∷ xs) (suc k) d x e = item_is xs k d x e
+
+pub all_at : {A : Type 0} (P : A → Type 0) (xs : List A) → All P xs → (k : ℕ) (x : A) → slice_get xs k ≡ Some x → P x
+all_at P xs all k x e = subst P (item_is xs k x x e) (all k x (slice_get_within xs k x e))
 
 -- where a pair of the outputs stands among the sinks
 pub record IsThere (setting : Setting) (m i : ℕ) (sinks : List SinkPlan) (pair : ℕ × ℕ) : Type 0 where
@@ -99,7 +107,7 @@ same_main : (m : ℕ) → same_clock (Main m) (Main m) ≡ true
 same_main m = eq-eqb m m refl
 
 module _ (setting : Setting) (m : ℕ) (ports : List Port) (outputs : map output_of ports ≡ outputs_of setting m) where
-  port_there : (k : ℕ) (port : Port) → slice_get ports k ≡ Some port → IsThere setting m 0 setting.plan.sinks (output_of port)
+  pub port_there : (k : ℕ) (port : Port) → slice_get ports k ≡ Some port → IsThere setting m 0 setting.plan.sinks (output_of port)
   port_there k port at = are_there setting m 0 setting.plan.sinks k (output_of port) (sym (ap (λ xs. slice_get xs k) outputs) ∙ got_mapped output_of ports k port at)
 
   -- each port has a node of the clock

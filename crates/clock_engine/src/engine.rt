@@ -25,7 +25,7 @@ use crate::parts::{most_children, own_roots, states_of, times_of};
 use clock_infer::{ClockMap, NodeClock};
 use clock_outputs::{FeedPort, Port, append_all, give_all};
 use engine_clocks::ClockLanes;
-use engine_instants::{ClockNodes, Latest, Shape};
+use engine_instants::{ClockNodes, Latest, Runs, Shape};
 use engine_ticks::{Lanes, run_tick};
 use fixed_text::WeekSecond;
 use frame_core::{Library, Taps};
@@ -93,6 +93,7 @@ fn make_works<'a>(
     let marks = vec![in alloc; false; states.len()]?;
     let nodes = ClockNodes::new(alloc, shape.clocks)?;
     let desk = Desk::new(alloc, most_children(shape.plan))?;
+    let runs = Runs::new(alloc, states.len())?;
     let own = own_roots(alloc, &shape)?;
     let ports = ports_of(alloc, &shape, clock)?;
     let feeds = feeds_of(alloc, &shape, clock)?;
@@ -112,8 +113,10 @@ fn make_works<'a>(
                 },
                 nodes,
                 desk,
+                runs,
             },
             time,
+            segments: 0,
         },
         ports,
         feeds,
@@ -318,6 +321,14 @@ impl<'a, O: Sink> ClockEngine<'a, O> {
         ensures stopped { (ticks : ℕ) (answers : ℕ → List Answer) (made : List Call) → EngineStopped self.now.works ticks answers made → result ≡ ticks }
     {
         self.works.ticks
+    }
+
+    /// How many segments were made: an instant of the clock each, and behind it a run of instants that were made at once, as they
+    /// go on as it did.
+    pub fn segments(&self) -> u64
+        ensures { result ≡ self.now.works.lanes.segments }
+    {
+        self.works.lanes.segments
     }
 
     /// The sinks of its outputs, in sink order.

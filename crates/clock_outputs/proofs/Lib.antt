@@ -1,4 +1,5 @@
 pub mod Places
 pub mod Mapped
+pub mod Pieces
 pub mod Taken
 pub mod Gives

@@ -1,14 +1,15 @@
 -- What a feed takes of its node in a tick, and gives at the tick's end.
-use Rattle.std.specs.Prelude.{◌≡◌, ℕ, Bool, Option, Some, None, List, [], slice_get, slice_set, length}
+use Rattle.std.specs.Prelude.{◌≡◌, ℕ, Bool, Option, Some, None, List, [], slice_get, length}
+use Rattle.std.specs.Simd.Lanes.{put_chunk}
 use Rattle.frame_core.specs.Slots.{Slot}
 use Rattle.frame_core.specs.Calls.{Adds, Call}
 use Rattle.stream_meaning.specs.Arithmetic.{cells_of}
 use Rattle.stream_meaning.specs.Calls.{IsBegin, given, joined_upto}
 use Rattle.clock_outputs.specs.declared.feed.FeedPort.{FeedPort}
 
--- after the slot of one instant
-abbrev pub with_slot : ℕ → Slot → FeedPort → FeedPort
-with_slot at slot feed = record { buffer = feed.buffer; node = feed.node; frame = slice_set feed.frame at slot }
+-- after slots from a place of the tick on
+abbrev pub with_slots_from : ℕ → List Slot → FeedPort → FeedPort
+with_slots_from at slots feed = record { buffer = feed.buffer; node = feed.node; frame = put_chunk at feed.frame slots }
 
 -- the give of a feed, where `accepted b` is what buffer b answers
 abbrev pub given_by : (accepted : ℕ → Bool) → Option FeedPort → List Call

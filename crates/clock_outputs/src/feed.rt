@@ -1,15 +1,13 @@
 // A feed of a clock.
-ghost use Rattle.std.specs.Prelude.{◌≡◌, ◌<◌, All, length, map, OnOk, OnErr};
-ghost use Rattle.stream_meaning.specs.Instants.{part_at};
-ghost use Rattle.frame_core.specs.Slots.{Slot};
+ghost use Rattle.std.specs.Prelude.{◌≡◌, ◌<◌, ◌≤◌, ◌+◌, ◌^◌, suc, [], All, None, Some, length, map, replicate, OnOk, OnErr};
 ghost use Rattle.frame_core.specs.Calls.{Adds};
-ghost use Rattle.std.specs.Prelude.{[]};
-ghost use Rattle.clock_outputs.specs.Feeds.{HasGiven, HaveGiven, HaveGivenSome, with_slot};
+ghost use Rattle.cell_ring.specs.Rings.{inner_cells};
+ghost use Rattle.clock_outputs.specs.Feeds.{HasGiven, HaveGiven, HaveGivenSome, with_slots_from};
+ghost use Rattle.clock_outputs.specs.Segments.{segment_slots};
 
 use frame_core::{Cell, Chunk, Frame, Gave, Taps};
 use liq_base::Memory;
 use std::alloc::Global;
-use stream_meaning::{Part, slot_of};
 
 /// A feed of a clock: its buffer, its node, and the slots of its node in the tick.
 #[derive(Debug, Drop)]
@@ -19,24 +17,48 @@ pub struct FeedPort {
     pub frame: Frame,
 }
 
-/// Takes the instant at a place of the tick: each feed takes the slot of its node.
-pub fn fill_all(feeds: &mut Vec<FeedPort>, at: u32, parts: &[Part])
-    requires { All (λ feed. at < length feed.frame) feeds.old.items }
-    ensures { feeds.new.items ≡ map (λ feed. with_slot at (part_at parts.now feed.node).slot feed) feeds.old.items }
-{
-    for k in 0..feeds.len() {
-        let slot = slot_of(parts, feeds[k].node);
-        feeds[k].fill(at, slot);
-    }
-}
-
 impl FeedPort {
-    // Takes one slot of its node.
-    fn fill(&mut self, at: u32, slot: Option<Cell>)
-        requires { at < length self.old.frame }
-        ensures { self.new ≡ with_slot at slot self.old }
+    /// Takes the slots of its node in a segment that begins at a place of the tick: that of its first instant, and behind it
+    /// the cells of these samples, which begin no track; or as many slots without a cell where the first one has none.
+    pub fn hear(&mut self, at: u32, slot: Option<Cell>, left: &[i16], right: &[i16])
+        requires same { length right.now ≡ length left.now }
+        requires there { at + suc (length left.now) ≤ length self.old.frame }
+        requires fits { at + suc (length left.now) < 2 ^ 32 }
+        ensures { self.new ≡ with_slots_from at (segment_slots slot (length left.now) left.now right.now) self.old }
     {
         self.frame.set(at, slot);
+        match slot {
+            Some(_) => self.hear_cells(at + 1, left, right),
+            None => self.hear_gaps(at + 1, left.len() as u32),
+        }
+    }
+
+    // Takes cells with these samples, from a place of the tick on.
+    fn hear_cells(&mut self, at: u32, left: &[i16], right: &[i16])
+        requires same { length right.now ≡ length left.now }
+        requires there { at + length left.now ≤ length self.old.frame }
+        requires fits { at + length left.now < 2 ^ 32 }
+        ensures { self.new ≡ with_slots_from at (map Some (inner_cells left.now right.now)) self.old }
+    {
+        for j in 0..left.len() {
+            let cell = Cell {
+                left: left[j],
+                right: right[j],
+                first: false,
+            };
+            self.frame.set(at + j as u32, Some(cell));
+        }
+    }
+
+    // Takes so many slots without a cell, from a place of the tick on.
+    fn hear_gaps(&mut self, at: u32, count: u32)
+        requires there { at + count ≤ length self.old.frame }
+        requires fits { at + count < 2 ^ 32 }
+        ensures { self.new ≡ with_slots_from at (replicate count None) self.old }
+    {
+        for j in 0..count {
+            self.frame.set(at + j, None);
+        }
     }
 }
 

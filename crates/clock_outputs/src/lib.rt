@@ -7,6 +7,6 @@ mod piece;
 mod port;
 
 pub use appends::append_all;
-pub use feed::{FeedPort, fill_all, give_all};
+pub use feed::{FeedPort, give_all};
 pub use piece::Piece;
-pub use port::{Port, begin_tick, hear_all};
+pub use port::{Port, begin_tick};

@@ -1,11 +1,12 @@
 // The bytes of an output in a tick.
-ghost use Rattle.std.specs.Prelude.{◌≡◌, ◌+◌, ◌*◌, ◌≤◌, ◌++◌, [], length, IfOk};
+ghost use Rattle.std.specs.Prelude.{◌≡◌, ◌+◌, ◌*◌, ◌≤◌, ◌++◌, [], length, replicate, IfOk, None};
+ghost use Rattle.std.specs.List.{flat_map};
 ghost use Rattle.liq_base.specs.Kinds.{channels_of};
-ghost use Rattle.frame_core.specs.Bytes.{sample_bytes};
+ghost use Rattle.sample_kernels.specs.Encoded.{encoded};
 ghost use Rattle.stream_meaning.specs.Sinks.{slot_block};
 
-use frame_core::Cell;
 use liq_base::{Kind, Memory};
+use sample_kernels::encode;
 use std::alloc::Global;
 use std::marker::Model;
 
@@ -13,18 +14,20 @@ use std::marker::Model;
 #[derive(Debug, Drop)]
 pub struct Piece {
     bytes: Vec<u8>,
-    room: usize,
+
+    // How many of them are the tick's. The others are room.
+    filled: usize,
 }
 
 impl Model for Piece {
-    ghost use Rattle.std.specs.Prelude.{◌≤◌, vec_len, vec_capacity};
+    ghost use Rattle.std.specs.Prelude.{◌≤◌, length, take};
     ghost use Rattle.clock_outputs.specs.Filled.{Filled};
 
     ghost Value = { Filled };
 
-    ghost view = { λ p. record { bytes = p.bytes.items; room = p.room } };
+    ghost view = { λ p. record { bytes = take p.filled p.bytes.items; room = length p.bytes.items } };
 
-    ghost invariant = { λ p. (vec_len p.bytes ≤ p.room) × (p.room ≤ vec_capacity p.bytes) };
+    ghost invariant = { λ p. p.filled ≤ length p.bytes.items };
 }
 
 impl Piece {
@@ -32,44 +35,51 @@ impl Piece {
     pub fn new(alloc: Global, room: usize) -> Result<Piece, Memory>
         ensures { IfOk result (λ piece. piece ≡ record { bytes = []; room = room }) }
     {
-        let bytes = Vec::with_capacity(alloc, room)?;
-        Ok(Piece { bytes, room })
+        let bytes = vec![in alloc; 0; room]?;
+        Ok(Piece { bytes, filled: 0 })
     }
 
     /// Begins anew.
     pub fn clear(&mut self)
         ensures { self.new ≡ record { bytes = []; room = self.old.room } }
     {
-        self.bytes.clear();
+        self.filled = 0;
     }
 
-    /// Adds the block of a slot in an output of this kind: zeros where there is no cell.
-    pub fn add(&mut self, kind: Kind, slot: Option<Cell>)
-        requires { length self.old.bytes + 2 * channels_of kind ≤ self.old.room }
-        ensures { self.new ≡ record { bytes = self.old.bytes ++ slot_block kind slot; room = self.old.room } }
+    /// Adds the blocks of cells with these samples, in an output of this kind.
+    pub fn add_cells(&mut self, kind: Kind, left: &[i16], right: &[i16])
+        requires same { length right.now ≡ length left.now }
+        requires room { length self.old.bytes + length left.now * (2 * channels_of kind) ≤ self.old.room }
+        ensures { self.new ≡ record { bytes = self.old.bytes ++ encoded kind left.now right.now; room = self.old.room } }
     {
-        let (left, right) = match slot {
-            Some(cell) => (cell.left, cell.right),
-            None => (0, 0),
-        };
-        self.add_sample(left);
-        if kind == Kind::Stereo {
-            self.add_sample(right);
-        }
+        let start = self.filled;
+        let end = start + left.len() * block_size(kind);
+        encode(left, right, kind, &mut self.bytes[start..end]);
+        self.filled = end;
     }
 
-    // Adds the two bytes of a sample.
-    fn add_sample(&mut self, sample: i16)
-        requires { length self.old.bytes + 2 ≤ self.old.room }
-        ensures { self.new ≡ record { bytes = self.old.bytes ++ sample_bytes sample; room = self.old.room } }
+    /// Adds the blocks of so many slots without a cell, which are zeros, in an output of this kind.
+    pub fn add_gaps(&mut self, kind: Kind, count: usize)
+        requires { length self.old.bytes + count * (2 * channels_of kind) ≤ self.old.room }
+        ensures { self.new ≡ record { bytes = self.old.bytes ++ flat_map (slot_block kind) (replicate count None); room = self.old.room } }
     {
-        self.bytes.extend_from_slice(&sample.to_le_bytes()).unwrap();
+        let start = self.filled;
+        let end = start + count * block_size(kind);
+        self.bytes[start..end].fill(0);
+        self.filled = end;
     }
 
     /// The bytes.
     pub fn bytes(&self) -> &[u8]
         ensures { result.now ≡ self.now.bytes }
     {
-        &self.bytes
+        &self.bytes[..self.filled]
     }
+}
+
+// How many bytes the block of a slot has.
+fn block_size(kind: Kind) -> usize
+    ensures { result ≡ 2 * channels_of kind }
+{
+    2 * usize::from(kind.channels())
 }

@@ -1,12 +1,12 @@
 // An output of a clock.
-ghost use Rattle.std.specs.Prelude.{◌≡◌, ℕ, suc, length, map};
-ghost use Rattle.stream_meaning.specs.Instants.{part_at};
-ghost use Rattle.clock_outputs.specs.Ports.{AllHaveRoomLeft, HasRoomLeft, after_slot, emptied};
+ghost use Rattle.std.specs.Prelude.{◌≡◌, ◌<◌, suc, Some, None, length, map, replicate};
+ghost use Rattle.cell_ring.specs.Rings.{inner_cells};
+ghost use Rattle.clock_outputs.specs.Segments.{segment_slots};
+ghost use Rattle.clock_outputs.specs.Ports.{HasRoomLeft, after_slots, emptied};
 
 use crate::Piece;
 use frame_core::Cell;
 use liq_base::Kind;
-use stream_meaning::{Part, slot_of};
 
 /// An output of a clock: its number among the sinks of the plan, its node, and the bytes of the tick so far.
 #[derive(Debug, Drop)]
@@ -32,15 +32,39 @@ impl Port {
         self.gaps_before = self.gaps;
     }
 
-    // Takes one more slot of its node.
-    fn hear(&mut self, slot: Option<Cell>)
-        requires { HasRoomLeft 1 self.old }
-        ensures { self.new ≡ after_slot self.old slot }
+    /// Takes the slots of its node in a segment: that of its first instant, and behind it the cells of these samples, which
+    /// begin no track; or as many slots without a cell where the first one has none.
+    pub fn hear(&mut self, slot: Option<Cell>, left: &[i16], right: &[i16])
+        requires same { length right.now ≡ length left.now }
+        requires room { HasRoomLeft (suc (length left.now)) self.old }
+        ensures { self.new ≡ after_slots self.old (segment_slots slot (length left.now) left.now right.now) }
     {
-        self.piece.add(self.kind, slot);
-        if slot.is_none() {
-            self.gaps = self.gaps.saturating_add(1);
+        match slot {
+            Some(cell) => {
+                self.hear_cells(&[cell.left], &[cell.right]);
+                self.hear_cells(left, right);
+            }
+            None => self.hear_gaps(1 + left.len()),
         }
+    }
+
+    // Takes cells with these samples.
+    fn hear_cells(&mut self, left: &[i16], right: &[i16])
+        requires same { length right.now ≡ length left.now }
+        requires room { HasRoomLeft (length left.now) self.old }
+        ensures { self.new ≡ after_slots self.old (map Some (inner_cells left.now right.now)) }
+    {
+        self.piece.add_cells(self.kind, left, right);
+    }
+
+    // Takes so many slots without a cell, at least one.
+    fn hear_gaps(&mut self, count: usize)
+        requires some { 0 < count }
+        requires room { HasRoomLeft count self.old }
+        ensures { self.new ≡ after_slots self.old (replicate count None) }
+    {
+        self.piece.add_gaps(self.kind, count);
+        self.gaps = self.gaps.saturating_add(count as u64);
     }
 }
 
@@ -50,16 +74,5 @@ pub fn begin_tick(ports: &mut Vec<Port>)
 {
     for k in 0..ports.len() {
         ports[k].begin();
-    }
-}
-
-/// Takes one instant: each output takes the slot of its node.
-pub fn hear_all(ports: &mut Vec<Port>, parts: &[Part])
-    requires { AllHaveRoomLeft 1 ports.old.items }
-    ensures { ports.new.items ≡ map (λ port. after_slot port (part_at parts.now port.node).slot) ports.old.items }
-{
-    for k in 0..ports.len() {
-        let slot = slot_of(parts, ports[k].node);
-        ports[k].hear(slot);
     }
 }

@@ -1,6 +1,6 @@
-//! Ticks of the engine of one clock, from the rules of `docs/streams.md`: three ticks of two samples each. The file has
-//! the samples 1, 2 and 3; each is written as two bytes, the low one first.
-ghost use Rattle.std.specs.Prelude.{◌≡◌, ◌∷◌, [], Some, length, slice_get, false, true, IfOk};
+//! Ticks of the engine of one clock, from the rules of `docs/streams.md`: three ticks of two samples each, and one of eight.
+//! The file has the samples 1, 2 and 3; each is written as two bytes, the low one first.
+ghost use Rattle.std.specs.Prelude.{◌≡◌, ◌≤◌, ◌∷◌, [], Some, length, slice_get, false, true, IfOk};
 ghost use Rattle.plan_core.specs.Plans.{IsWellFormed};
 ghost use Rattle.clock_infer.specs.Answers.{IsClockMap};
 ghost use Rattle.frame_core.specs.Library.{IsLibrary};
@@ -57,8 +57,10 @@ fn looped(alloc: Global) -> Result<Plan, AllocError>
     })
 }
 
-// The file played once, and zeros after it.
-fn once(alloc: Global) -> Result<Plan, AllocError>
+// The file played once, and zeros after it, with so many samples a tick.
+fn once(alloc: Global, frame: u32) -> Result<Plan, AllocError>
+    requires some { 1 ≤ frame }
+    requires few { frame ≤ 65536 }
     ensures well_formed { IfOk result IsWellFormed }
     ensures size { IfOk result (λ plan. length plan.nodes ≡ 3) }
     ensures sinks { IfOk result (λ plan. plan.sinks ≡ SinkPlan.Output [] 2 false ∷ []) }
@@ -71,7 +73,7 @@ fn once(alloc: Global) -> Result<Plan, AllocError>
     let choice = mono(Op::Fallback { sensitive: true }, both);
     Ok(Plan {
         rate: 8000,
-        frame: 2,
+        frame,
         nodes: Items::from_vec(vec![in alloc; list, blank, choice]?),
         sinks,
         buffers: Items::new(alloc),
@@ -277,6 +279,68 @@ fn check_looped(
     check(rt, alloc, plan, 0, &library, fails, ending, held)
 }
 
+// A tick of the clock 0 over these clocks has so many segments, and writes these bytes.
+fn check_segments(
+    rt: &impl Abort,
+    alloc: Global,
+    plan: &Plan,
+    clocks: &ClockMap,
+    node: u32,
+    library: &Library,
+    taps: &mut LocalTaps,
+    segments: u64,
+    held: &[u8],
+) -> Result<(), Fail>
+    requires plan { IsWellFormed plan.now }
+    requires clocks { IsClockMap plan.now clocks.now }
+    requires library { IsLibrary library.now }
+    requires leaves { length library.now.leaves ≡ length plan.now.nodes }
+    requires sinks { plan.now.sinks ≡ SinkPlan.Output [] node false ∷ [] }
+    requires clock { slice_get clocks.now.of node ≡ Some (NodeClock.Main 0) }
+    requires buffers { length taps.old ≡ length plan.now.buffers }
+{
+    let outs = one_sink(alloc, Vec::new(alloc))?;
+    let start = WeekSecond { second: 0 };
+    match begun(alloc, plan, clocks, node, library, outs, start) {
+        Ok(mut engine) => {
+            assert_eq!(rt; tick(rt, alloc, &mut engine, taps), Ok(()));
+            assert_eq!(rt; engine.segments(), segments);
+            check_held(rt, &engine.into_outs(), held);
+            Ok(())
+        }
+        Err((_, refused)) => Err(Fail::from(refused)),
+    }
+}
+
+// The same of a plan of three nodes.
+fn check_once(
+    rt: &impl Abort,
+    alloc: Global,
+    plan: &Plan,
+    segments: u64,
+    held: &[u8],
+) -> Result<(), Fail>
+    requires plan { IsWellFormed plan.now }
+    requires size { length plan.now.nodes ≡ 3 }
+    requires sinks { plan.now.sinks ≡ SinkPlan.Output [] 2 false ∷ [] }
+{
+    let library = one_of_three(alloc)?;
+    let clocks = assign(alloc, plan)?;
+    assert!(rt; lies_in_first(&clocks, 2));
+    let mut taps = LocalTaps::new(alloc, plan)?;
+    check_segments(
+        rt, alloc, plan, &clocks, 2, &library, &mut taps, segments, held,
+    )
+}
+
+#[test]
+fn a_file_and_the_zeros_behind_it_are_two_segments(rt: HostRuntime) -> Result<(), Fail> {
+    let alloc = rt.alloc();
+    let plan = once(alloc, 8)?;
+    let held = [1, 0, 2, 0, 3, 0, 0, 0, 0, 0, 0, 0, 0, 0, 0, 0];
+    check_once(&rt, alloc, &plan, 2, &held)
+}
+
 #[test]
 fn a_file_is_played_again_and_again(rt: HostRuntime) -> Result<(), Fail> {
     let alloc = rt.alloc();
@@ -289,7 +353,7 @@ fn a_file_is_played_again_and_again(rt: HostRuntime) -> Result<(), Fail> {
 fn a_fallback_goes_on_behind_a_file(rt: HostRuntime) -> Result<(), Fail> {
     let alloc = rt.alloc();
     let library = one_of_three(alloc)?;
-    let plan = once(alloc)?;
+    let plan = once(alloc, 2)?;
     let fails = Vec::new(alloc);
     let held = [1, 0, 2, 0, 3, 0, 0, 0, 0, 0, 0, 0];
     check(&rt, alloc, &plan, 2, &library, fails, Ok(()), &held)

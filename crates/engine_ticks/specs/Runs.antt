@@ -1,5 +1,5 @@
 -- What the outputs and feeds of a clock hear in a tick.
-use Rattle.std.specs.Prelude.{◌≡◌, ℕ, suc, ◌+◌, Bool, List, ◌++◌, drop, length, map}
+use Rattle.std.specs.Prelude.{◌≡◌, ℕ, suc, ◌+◌, Bool, true, false, List, ◌++◌, drop, length, map, slice_index_or}
 use Rattle.std.specs.List.{range_with_len}
 use Rattle.plan_core.specs.declared.plan.Plan.{Plan}
 use Rattle.clock_infer.specs.declared.clock_map.NodeClock.{NodeClock}
@@ -7,14 +7,17 @@ use Rattle.frame_core.specs.Slots.{Slot}
 use Rattle.frame_core.specs.Library.{Sounds}
 use Rattle.frame_core.specs.Calls.{Adds, Call}
 use Rattle.op_leaf.specs.Readers.{Answer}
-use Rattle.stream_meaning.specs.Instants.{Setting, IsMeaning, history, moment_after, offer}
+use Rattle.stream_meaning.specs.Instants.{Setting, IsMeaning, history, moment_after, offer, part_at}
 use Rattle.stream_meaning.specs.Calls.{GoDown, HasAnswers, IsBegin, after_calls, calls_of, joined_upto}
 use Rattle.clock_outputs.specs.declared.port.Port.{Port}
 use Rattle.clock_outputs.specs.declared.feed.FeedPort.{FeedPort}
 use Rattle.clock_outputs.specs.Ports.{after_slots, emptied}
+use Rattle.clock_outputs.specs.Segments.{segment_slots}
 use Rattle.engine_instants.specs.States.{over}
 use Rattle.engine_instants.specs.Takes.{HasOwnReaders}
+use Rattle.node_mixing.specs.Runs.{samples_of}
 use Rattle.engine_clocks.specs.Clocks.{AreOwnRoots}
+use Rattle.engine_clocks.specs.declared.lanes.ClockLanes.{ClockLanes}
 use Rattle.engine_ticks.specs.declared.lanes.Lanes.{Lanes}
 use Rattle.engine_ticks.specs.Lanes.{LanesStand}
 
@@ -41,11 +44,12 @@ feed_key feed = (feed.buffer, feed.node)
 abbrev pub with_slots : FeedPort → List Slot → FeedPort
 with_slots feed slots = record { buffer = feed.buffer; node = feed.node; frame = slots ++ drop (length slots) feed.frame }
 
--- what lanes stand for after so many instants more, where these were the slots and the calls
-pub record HasRun (setting : Setting) (sub : ℕ → ℕ → List Slot) (clock : NodeClock) (n count : ℕ) (slots : ℕ → List Slot) (front : ℕ → List Answer) (more : List Call)
-    (lanes : Lanes) : Type 0 where
+-- what lanes stand for after so many instants more, where these were the calls, and the slots of the nodes that their own clock demands of
+-- itself
+pub record HasRun (setting : Setting) (sub : ℕ → ℕ → List Slot) (own : List Bool) (clock : NodeClock) (n count : ℕ) (slots : ℕ → List Slot) (front : ℕ → List Answer)
+    (more : List Call) (lanes : Lanes) : Type 0 where
   pub lanes_stand : LanesStand setting sub clock (n + count) (after_calls front more) lanes
-  pub slots_are : (i : ℕ) → slots i ≡ map (slot_in setting sub clock i) (range_with_len n count)
+  pub slots_are : (i : ℕ) → slice_index_or own i false ≡ true → slots i ≡ map (slot_in setting sub clock i) (range_with_len n count)
   pub calls : more ≡ calls_from setting sub clock n count
 
 -- the lanes, the outputs and the feeds of a clock, and its taps
@@ -67,7 +71,7 @@ pub record Heard {T : Type 0} (stands : T → List Call → Type 0) (plan : Plan
   pub taps : Adds stands before.taps after.taps more
   pub run : (other : Setting) (sub : ℕ → ℕ → List Slot) (n : ℕ) (front : ℕ → List Answer) → IsMeant (over plan library clocks other) sub own
       → HasAnswers (over plan library clocks other) (after_calls front more) → LanesStand (over plan library clocks other) sub clock n front before.lanes
-      → HasRun (over plan library clocks other) sub clock n count slots front more after.lanes
+      → HasRun (over plan library clocks other) sub own clock n count slots front more after.lanes
 
 -- memory was refused within a tick of so many instants: these are its first calls
 pub record HeardSome {T : Type 0} (stands : T → List Call → Type 0) (plan : Plan) (library : Sounds) (clocks : List NodeClock) (clock : NodeClock) (own : List Bool) (total : ℕ)
@@ -80,23 +84,22 @@ pub record HeardSome {T : Type 0} (stands : T → List Call → Type 0) (plan : 
       → HasAnswers (over plan library clocks other) (after_calls front made) → LanesStand (over plan library clocks other) sub clock n front before.lanes
       → IsBegin made (calls_from (over plan library clocks other) sub clock n total)
 
--- what lanes stand for after one instant more
-pub record InstantDone (setting : Setting) (sub : ℕ → ℕ → List Slot) (clock : NodeClock) (n : ℕ) (front : ℕ → List Answer) (more : List Call) (lanes : Lanes) : Type 0 where
-  pub lanes_stand : LanesStand setting sub clock (suc n) (after_calls front more) lanes
-  pub parts : lanes.clocks.latest.parts.items ≡ (moment_after setting sub clock (history setting sub clock n)).parts
-  pub calls : more ≡ calls_of setting sub clock (history setting sub clock n)
+-- the slots of node i in the latest segment, which had so many instants behind its first one
+abbrev pub segment_of : ClockLanes → (many i : ℕ) → List Slot
+segment_of lanes many i =
+    segment_slots (part_at lanes.latest.parts.items i).slot many (samples_of lanes.runs.left.items i many) (samples_of lanes.runs.right.items i many)
 
--- one instant more
-pub record InstantRun {T : Type 0} (stands : T → List Call → Type 0) (plan : Plan) (library : Sounds) (clocks : List NodeClock) (clock : NodeClock) (own : List Bool)
-    (old new : Lanes) (taps_old taps_new : T) : Type 0 where
+-- a segment was made: an instant, and so many that go on as it did
+pub record SegmentRun {T : Type 0} (stands : T → List Call → Type 0) (plan : Plan) (library : Sounds) (clocks : List NodeClock) (clock : NodeClock) (own : List Bool)
+    (many : ℕ) (old new : Lanes) (taps_old taps_new : T) : Type 0 where
   pub more : List Call
   pub taps : Adds stands taps_old taps_new more
-  pub stand : (other : Setting) (sub : ℕ → ℕ → List Slot) (n : ℕ) (front : ℕ → List Answer) → IsMeant (over plan library clocks other) sub own
+  pub run : (other : Setting) (sub : ℕ → ℕ → List Slot) (n : ℕ) (front : ℕ → List Answer) → IsMeant (over plan library clocks other) sub own
       → HasAnswers (over plan library clocks other) (after_calls front more) → LanesStand (over plan library clocks other) sub clock n front old
-      → InstantDone (over plan library clocks other) sub clock n front more new
+      → HasRun (over plan library clocks other) sub own clock n (suc many) (segment_of new.clocks many) front more new
 
--- memory was refused in it
-pub record InstantBroken {T : Type 0} (stands : T → List Call → Type 0) (plan : Plan) (library : Sounds) (clocks : List NodeClock) (clock : NodeClock) (own : List Bool)
+-- memory was refused in its first instant
+pub record SegmentBroken {T : Type 0} (stands : T → List Call → Type 0) (plan : Plan) (library : Sounds) (clocks : List NodeClock) (clock : NodeClock) (own : List Bool)
     (old : Lanes) (taps_old taps_new : T) : Type 0 where
   pub made : List Call
   pub taps : Adds stands taps_old taps_new made

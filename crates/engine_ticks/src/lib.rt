@@ -1,6 +1,7 @@
 //! The instants of a tick of one clock, and what its outputs hear.
 #![tactic(auto)]
 
+mod heard;
 mod lanes;
 mod run;
 

@@ -1,5 +1,5 @@
-// The instants of a tick.
-ghost use Rattle.std.specs.Prelude.{◌≡◌, ◌≤◌, All, length, map, OnOk, OnErr};
+// The segments of a tick.
+ghost use Rattle.std.specs.Prelude.{◌≡◌, ◌<◌, ◌≤◌, All, length, map, OnOk, OnErr};
 ghost use Rattle.liq_base.specs.declared.limits.TheConstants.{MAX_NODES};
 ghost use Rattle.plan_core.specs.Plans.{AreNodes};
 ghost use Rattle.clock_outputs.specs.Ports.{AllHaveRoomLeft, emptied};
@@ -9,14 +9,16 @@ ghost use Rattle.engine_ticks.specs.Lanes.{AreLanes};
 ghost use Rattle.engine_ticks.specs.Runs.{Heard, HeardSome, feed_key};
 
 use crate::Lanes;
-use crate::lanes::make_instant;
+use crate::heard::{feed_all, hear_all};
+use crate::lanes::make_segment;
 use clock_infer::NodeClock;
-use clock_outputs::{FeedPort, Port, begin_tick, fill_all, hear_all};
+use clock_outputs::{FeedPort, Port, begin_tick};
 use engine_instants::Shape;
 use frame_core::Taps;
 use liq_base::Memory;
+use node_mixing::MAX_RUN;
 
-/// Makes the instants of a tick of a clock, and lets its outputs and feeds hear their nodes. Where memory is refused some of
+/// Makes the instants of a tick of a clock, segment by segment, and lets its outputs and feeds hear their nodes. Where memory is refused some of
 /// the takes of the tick were made, from the first on.
 pub fn run_tick<T: Taps>(
     shape: &Shape<'_>,
@@ -33,6 +35,8 @@ pub fn run_tick<T: Taps>(
     requires in_own { length own.now ≡ length shape.now.plan.now.nodes }
     requires levels { HasLevels shape.now.clocks.now clock (length shape.now.plan.now.nodes) }
     requires lanes { AreLanes shape.now.plan.now shape.now.library.now shape.now.clocks.now lanes.old }
+    requires heard { All (λ port. port.node < length shape.now.plan.now.nodes) ports.old.items }
+    requires fed { All (λ feed. feed.node < length shape.now.plan.now.nodes) feeds.old.items }
     requires room { AllHaveRoomLeft shape.now.plan.now.frame (map emptied ports.old.items) }
     requires frames { All (λ feed. length feed.frame ≡ shape.now.plan.now.frame) feeds.old.items }
     requires readers { ReadersAreIn shape.now.plan.now (T.buffers taps.old) }
@@ -49,11 +53,16 @@ pub fn run_tick<T: Taps>(
         (record { lanes = lanes.new; ports = ports.new.items; feeds = feeds.new.items; taps = taps.new })) }
     ensures reads { OnErr result (HasReader shape.now.plan.now shape.now.clocks.now clock) }
 {
+    let frame = shape.plan.frame;
+    let nodes = shape.plan.nodes.len();
     begin_tick(ports);
-    for instant in 0..shape.plan.frame {
-        make_instant(shape, clock, own, lanes, taps)?;
-        hear_all(ports, &lanes.clocks.latest.parts);
-        fill_all(feeds, instant, &lanes.clocks.latest.parts);
+    let mut instant = 0;
+    while instant < frame {
+        let most = (frame - instant - 1).min(MAX_RUN);
+        let many = make_segment(shape, clock, own, lanes, most, taps)?;
+        hear_all(ports, &lanes.clocks, many, nodes);
+        feed_all(feeds, instant, &lanes.clocks, many, nodes);
+        instant += 1 + many;
     }
     Ok(())
 }

@@ -1,9 +1,9 @@
-use Rattle.std.proofs.Common.{◌∙◌, rules, [], length, ap, arith, refl}
+use Rattle.std.proofs.Common.{◌≡◌, ◌*◌, ◌∙◌, rules, [], length, ap, arith, refl}
 use Rattle.std.proofs.lemmas.Option.{slice_get_within}
 use Rattle.stream_meaning.specs.Instants.{Setting}
 use Rattle.node_states.specs.Ticks.{with_rest}
 use Rattle.clock_engine.specs.Beginnings.{IsNewPort}
-use Rattle.clock_engine.proofs.Made.{all_at}
+use Rattle.clock_engine.proofs.Numbered.{all_at}
 use Rattle.clock_engine.proofs.Mapped.{has_ranks, rank_low}
 use Rattle.clock_engine.proofs.Starting.{all_alike, new_stand}
 use Rattle.clock_engine.proofs.engine.make_works.Goals as goal
@@ -11,6 +11,7 @@ use Rattle.clock_engine.proofs.engine.make_works.Goals as goal
 pub returns-clause-works : goal.returns-clause-works
 returns-clause-works c =
     let S : Setting = record { plan = c.args.shape.plan.now; library = c.args.shape.library.now; clocks = c.args.shape.clocks.now; start = c.args.start.second; answers = λ buffer. [] } in
+    let nodes : c.len-4.result ≡ length c.args.shape.plan.now.nodes = c.len-4.ensures ∙ c.in_ok-states.states.ok.0 ∙ c.in_ok-states.ensures.size in
     record {
       plan = c.requires.plan;
       nodes = c.requires.plan.nodes;
@@ -34,6 +35,7 @@ returns-clause-works c =
             marks = λ j outside. all_alike _ _ _ (c.in_ok-marks.ensures.items_if_clones_equal (λ y e. e)) j;
           };
           room = search rules;
+          runs = record { in_left = c.in_ok-runs.ensures.in_left ∙ ap (λ n. n * 1024) nodes; in_right = c.in_ok-runs.ensures.in_right ∙ ap (λ n. n * 1024) nodes };
           rates = λ k time at. ap (λ t. t.rate) (c.in_ok-times.ensures.each k time at) ∙ c.new-time.ensures.rate;
           frames = λ k time at. ap (λ t. t.frame) (c.in_ok-times.ensures.each k time at) ∙ c.new-time.ensures.frame;
         };

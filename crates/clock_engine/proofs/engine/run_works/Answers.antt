@@ -2,6 +2,7 @@ use Rattle.std.proofs.Common.{◌<◌, length, arith, sym, subst}
 use Rattle.std.proofs.lemmas.List.{get_or-map, length-map}
 use Rattle.clock_outputs.specs.Ports.{HasRoomLeft, emptied}
 use Rattle.clock_engine.proofs.Mapped.{has_levels}
+use Rattle.clock_engine.proofs.Rooted.{feeds_low, ports_low}
 use Rattle.clock_engine.proofs.engine.run_works.Goals as goal
 
 pub run_tick-requires-clause-room : goal.run_tick-requires-clause-room
@@ -17,3 +18,9 @@ pub run_tick-requires-clause-readers : goal.run_tick-requires-clause-readers
 run_tick-requires-clause-readers g c = record {
   each = λ i buffer node found op. (let low = c.requires.works.plan.read buffer i (node, found, op) in omega (arith, low, c.requires.buffers));
 }
+
+pub run_tick-requires-clause-heard : goal.run_tick-requires-clause-heard
+run_tick-requires-clause-heard g c = ports_low c.args.works.now c.requires.works
+
+pub run_tick-requires-clause-fed : goal.run_tick-requires-clause-fed
+run_tick-requires-clause-fed g c = feeds_low c.args.works.now c.requires.works

@@ -1,0 +1,140 @@
+-- The bytes of a tick, and the slots that they are the blocks of.
+use Rattle.std.proofs.Common.{◌≡◌, ◌<◌, ◌≤◌, ◌+◌, ◌*◌, ◌^◌, ◌-◌, ◌∙◌, ◌++◌, min, ℕ, zero, suc, ℤ, false, Some, None, List, [], ◌∷◌, length, get_or, map, take, drop, pos, replicate, set, arith, refl, ap, sym, append_assoc, append-nil, length-append}
+use Rattle.std.specs.List.{flat_map}
+use Rattle.std.specs.Simd.Lanes.{put_chunk}
+use Rattle.std.proofs.lemmas.List.{length-map, length-take, map_push}
+use Rattle.std.proofs.lemmas.Simd.{length-put_chunk, put_chunk_is, take_more_put_chunk}
+use Rattle.std.proofs.Math.Nat.{suc-mul}
+use Rattle.liq_base.specs.Kinds.{channels_of}
+use Rattle.liq_base.specs.declared.memory.Kind.{Kind}
+use Rattle.liq_base.specs.declared.memory.Kind.TheVariants.{Mono, Stereo}
+use Rattle.cell_ring.specs.Rings.{inner_cell, inner_cells}
+use Rattle.cell_ring.proofs.Runs.{long_run, one_more}
+use borrow.Rule.Slice.PartMut.{put_mid}
+use Rattle.sample_kernels.specs.Encoded.{block_of, encoded}
+use Rattle.stream_meaning.specs.Sinks.{slot_block}
+use Rattle.clock_outputs.specs.Filled.{Filled}
+use Rattle.clock_outputs.specs.declared.port.Port.{Port}
+use Rattle.clock_outputs.specs.Ports.{after_slot, after_slots, with_bytes}
+
+block_long : (kind : Kind) (left right : ℤ) → length (block_of kind left right) ≡ 2 * channels_of kind
+block_long Mono left right = refl
+block_long Stereo left right = refl
+
+pub encoded_long : (kind : Kind) (left right : List ℤ) → length right ≡ length left → length (encoded kind left right) ≡ length left * (2 * channels_of kind)
+encoded_long kind [] right same = (let none : 0 ≡ 0 * (2 * channels_of kind) = omega arith in none)
+encoded_long kind (l ∷ left) [] same = absurd (omega (arith, same))
+encoded_long kind (l ∷ left) (r ∷ right) same =
+    let rest = encoded_long kind left right (omega (arith, same)) in
+    let one = block_long kind l r in
+    let both = length-append (block_of kind l r) (encoded kind left right) in
+    let more = suc-mul (length left) (2 * channels_of kind) in
+    omega (arith, rest, one, both, more)
+
+-- the blocks of slots without a cell are zeros
+pub zeros_are : (kind : Kind) (count : ℕ) → replicate (count * (2 * channels_of kind)) 0 ≡ flat_map (slot_block kind) (replicate count None)
+zeros_are Mono zero = refl
+zeros_are Stereo zero = refl
+zeros_are Mono (suc count) =
+    let more : suc count * 2 ≡ suc (suc (count * 2)) = omega arith in
+    ap (λ n. replicate n 0) more ∙ ap (λ (bytes : List ℕ). 0 ∷ 0 ∷ bytes) (zeros_are Mono count)
+zeros_are Stereo (suc count) =
+    let more : suc count * 4 ≡ suc (suc (suc (suc (count * 4)))) = omega arith in
+    ap (λ n. replicate n 0) more ∙ ap (λ (bytes : List ℕ). 0 ∷ 0 ∷ 0 ∷ 0 ∷ bytes) (zeros_are Stereo count)
+
+-- bytes, and room for so many
+abbrev pub filled_as : List ℕ → ℕ → Filled
+filled_as bytes room = record { bytes = bytes; room = room }
+
+-- more bytes were laid behind those that were there
+pub more_filled : (items now more : List ℕ) (start end : ℕ) (was : Filled) → now ≡ put_chunk start items more → end ≡ start + length more → end ≤ length items
+    → filled_as (take start items) (length items) ≡ was → filled_as (take end now) (length now) ≡ filled_as (was.bytes ++ more) was.room
+more_filled items now more start end was is long fits view =
+    ap (λ ns. filled_as (take end ns) (length ns)) is
+    ∙ ap (λ bytes. filled_as bytes (length (put_chunk start items more))) (take_more_put_chunk start items more end long fits)
+    ∙ ap (λ n. filled_as (take start items ++ more) n) (length-put_chunk start items more)
+    ∙ ap (λ (f : Filled). filled_as (f.bytes ++ more) f.room) view
+
+-- an output after cells that begin no track
+pub after_cells : (port : Port) (left right : List ℤ) → length right ≡ length left
+    → with_bytes port (port.piece.bytes ++ encoded port.kind left right) port.gaps ≡ after_slots port (map Some (inner_cells left right))
+after_cells port [] right same = ap (λ bytes. with_bytes port bytes port.gaps) (append-nil port.piece.bytes)
+after_cells port (l ∷ left) [] same = absurd (omega (arith, same))
+after_cells port (l ∷ left) (r ∷ right) same =
+    ap (λ bytes. with_bytes port bytes port.gaps) (sym (append_assoc port.piece.bytes (block_of port.kind l r) (encoded port.kind left right)))
+    ∙ after_cells (after_slot port (Some (inner_cell l r))) left right (omega (arith, same))
+
+-- an output after slots without a cell
+after_more : (port : Port) (count : ℕ) → port.gaps ≤ 2 ^ 64 - 1
+    → with_bytes port (port.piece.bytes ++ flat_map (slot_block port.kind) (replicate count None)) (min (port.gaps + count) (2 ^ 64 - 1)) ≡ after_slots port (replicate count None)
+after_more port zero few =
+    let same : min (port.gaps + 0) (2 ^ 64 - 1) ≡ port.gaps = omega (arith, few) in
+    ap (λ bytes. with_bytes port bytes (min (port.gaps + 0) (2 ^ 64 - 1))) (append-nil port.piece.bytes) ∙ ap (λ n. with_bytes port port.piece.bytes n) same
+after_more port (suc count) few =
+    let blocks = flat_map (slot_block port.kind) (replicate count None) in
+    let same : min (port.gaps + suc count) (2 ^ 64 - 1) ≡ min (min (port.gaps + 1) (2 ^ 64 - 1) + count) (2 ^ 64 - 1) = omega (arith, few) in
+    let less : min (port.gaps + 1) (2 ^ 64 - 1) ≤ 2 ^ 64 - 1 = omega arith in
+    ap (λ bytes. with_bytes port bytes (min (port.gaps + suc count) (2 ^ 64 - 1))) (sym (append_assoc port.piece.bytes (slot_block port.kind None) blocks))
+    ∙ ap (λ n. with_bytes port ((port.piece.bytes ++ slot_block port.kind None) ++ blocks) n) same
+    ∙ after_more (after_slot port None) count less
+
+pub after_gaps : (port : Port) (count : ℕ) → 0 < count
+    → with_bytes port (port.piece.bytes ++ flat_map (slot_block port.kind) (replicate count None)) (min (port.gaps + count) (2 ^ 64 - 1)) ≡ after_slots port (replicate count None)
+after_gaps port zero some = absurd (omega (arith, some))
+after_gaps port (suc count) some =
+    let blocks = flat_map (slot_block port.kind) (replicate count None) in
+    let same : min (port.gaps + suc count) (2 ^ 64 - 1) ≡ min (min (port.gaps + 1) (2 ^ 64 - 1) + count) (2 ^ 64 - 1) = omega arith in
+    let less : min (port.gaps + 1) (2 ^ 64 - 1) ≤ 2 ^ 64 - 1 = omega arith in
+    ap (λ bytes. with_bytes port bytes (min (port.gaps + suc count) (2 ^ 64 - 1))) (sym (append_assoc port.piece.bytes (slot_block port.kind None) blocks))
+    ∙ ap (λ n. with_bytes port ((port.piece.bytes ++ slot_block port.kind None) ++ blocks) n) same
+    ∙ after_more (after_slot port None) count less
+
+-- a run has as many slots as samples
+pub cells_long : (left right : List ℤ) → length right ≡ length left → length (map Some (inner_cells left right)) ≡ length left
+cells_long left right same = length-map (inner_cells left right) Some ∙ long_run left right same
+
+-- one slot is changed, and those behind it
+put_behind : {X : Type 0} (xs more : List X) (at : ℕ) (x : X) → at < length xs → put_chunk (suc at) (set xs at x) more ≡ put_chunk at xs (x ∷ more)
+put_behind [] more at x fits = absurd (omega (arith, fits))
+put_behind (y ∷ xs) more zero x fits = refl
+put_behind (y ∷ xs) more (suc at) x fits = ap (λ ys. y ∷ ys) (put_behind xs more at x (omega (arith, fits)))
+
+pub set_then_put : {X : Type 0} (xs more : List X) (at : ℕ) (x : X) → at + suc (length more) ≤ length xs → put_chunk (at + 1) (set xs at x) more ≡ put_chunk at xs (x ∷ more)
+set_then_put xs more at x fits =
+    let next : at + 1 ≡ suc at = omega arith in
+    ap (λ n. put_chunk n (set xs at x) more) next ∙ put_behind xs more at x (omega (arith, fits))
+
+pub put_nothing : {X : Type 0} (at : ℕ) (xs : List X) → put_chunk at xs [] ≡ xs
+put_nothing at [] = refl
+put_nothing zero (x ∷ xs) = refl
+put_nothing (suc at) (x ∷ xs) = ap (λ zs. x ∷ zs) (put_nothing at xs)
+
+-- one slot more is laid behind those that were
+pub put_more : {X : Type 0} (xs ys : List X) (at place : ℕ) (y : X) → place ≡ at + length ys → place < length xs → set (put_chunk at xs ys) place y ≡ put_chunk at xs (ys ++ y ∷ [])
+put_more [] ys at place y is fits = absurd (omega (arith, fits))
+put_more (x ∷ xs) [] zero zero y is fits = ap (λ zs. y ∷ zs) (sym (put_nothing 0 xs))
+put_more (x ∷ xs) [] zero (suc place) y is fits = absurd (omega (arith, is))
+put_more (x ∷ xs) (z ∷ ys) zero zero y is fits = absurd (omega (arith, is))
+put_more (x ∷ xs) (z ∷ ys) zero (suc place) y is fits = ap (λ zs. z ∷ zs) (put_more xs ys zero place y (omega (arith, is)) (omega (arith, fits)))
+put_more (x ∷ xs) ys (suc at) zero y is fits = absurd (omega (arith, is))
+put_more (x ∷ xs) ys (suc at) (suc place) y is fits = ap (λ zs. x ∷ zs) (put_more xs ys at place y (omega (arith, is)) (omega (arith, fits)))
+
+-- the slots of one sample more
+pub cells_more : (left right : List ℤ) (j : ℕ) → j < length left → length right ≡ length left
+    → map Some (inner_cells (take j left) (take j right)) ++ Some (inner_cell (get_or left j (pos 0)) (get_or right j (pos 0))) ∷ [] ≡ map Some (inner_cells (take (j + 1) left) (take (j + 1) right))
+cells_more left right j within same =
+    sym (map_push Some (inner_cells (take j left) (take j right)) (inner_cell (get_or left j (pos 0)) (get_or right j (pos 0))))
+    ∙ ap (map Some) (one_more [] left right j within same)
+
+pub cells_count : (left right : List ℤ) (j : ℕ) → j ≤ length left → length right ≡ length left → length (map Some (inner_cells (take j left) (take j right))) ≡ j
+cells_count left right j within same =
+    let lefts = length-take j left in
+    let rights = length-take j right in
+    cells_long (take j left) (take j right) (omega (arith, lefts, rights, same)) ∙ omega (arith, lefts, within)
+
+-- a write to a part of a list
+pub part_put : {X : Type 0} (at k n : ℕ) (xs whole ys zs : List X) → k ≡ n → whole ≡ xs → ys ≡ zs → length zs ≡ n → at + n ≤ length xs → put_mid at k whole ys ≡ put_chunk at xs zs
+part_put at k n xs whole ys zs many is part long fits =
+    ap (λ ws. put_mid at k ws ys) is ∙ ap (λ ps. put_mid at k xs ps) part
+    ∙ ap (λ m. take at xs ++ (zs ++ drop m (drop at xs))) (many ∙ sym long)
+    ∙ sym (put_chunk_is at xs zs (omega (arith, long, fits)))
