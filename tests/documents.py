@@ -151,14 +151,74 @@ def example_differs(program, call, script, report, samples):
         return "" if played == samples else f"plays {played}"
 
 
+# How the page of builtins writes the types of the table.
+TYPE_WORDS = {"Text": "text", "Bool": "bool", "Decimal": "decimal", "Format": "a format", "Anything": "of any type", "Source": "source",
+              "MonoSource": "source, mono", "StereoSource": "source, stereo", "Sources": "list of sources", "Pairs": "list of (predicate, source)"}
+
+
+def rows_of_builtins():
+    """The rows of the table of builtins: the name of each, its parameters as (form, label, type), and the type of a call."""
+    text = text_of("crates/typing_rules/src/builtins.rt")
+    for name, params, result in re.findall(r'row!\(\s*\w+,\s*"([\w.]+)",\s*\((.*?)\)\s*->\s*(\w+)\s*\)', text, flags=re.S):
+        yield name, re.findall(r'(\w+) "(\w+)": (\w+)', params), result
+
+
+def decimal(millionths):
+    """A decimal as a script writes it."""
+    return f"{millionths // 10 ** 6}." + f"{millionths % 10 ** 6:06}".rstrip("0")
+
+
+def defaults_of_builtins():
+    """For each definition of a call, the defaults of its labels as a script writes them."""
+    text = text_of("crates/builtin_calls/specs/Builtins.antt")
+    bodies = dict(re.findall(r"^unfoldable pub (\w+) :[^\n]*\n(.*?)(?=\n\n|\Z)", text, flags=re.S | re.M))
+    found = {}
+    for name, body in bodies.items():
+        body = body.replace("sensitive_or given", bodies["sensitive_or"])
+        found[name] = dict(re.findall(r'bool_or \(codes "(\w+)"\) (\w+)', body))
+        found[name] |= {label: f'"{value}"' for label, value in re.findall(r'text_or \(codes "(\w+)"\) (?:\(codes "(\w*)"\)|\[\])', body)}
+        found[name] |= {label: decimal(int(number)) for label, number in re.findall(r'decimal_or \(codes "(\w+)"\) \(some_millionths (\d+) tt\)', body)}
+    return found
+
+
+def types_on_page(cell):
+    """The words behind each label of a cell of parameters."""
+    found = {}
+    for labels, words in re.findall(r"((?:`\w+`(?: and )?)+) ([^`]*)", cell):
+        found |= {label: words for label in re.findall(r"`(\w+)`", labels)}
+    return found
+
+
+def rows_that_differ(page):
+    """The page has the rows of the table, each with its parameters, their defaults and their types; `id` stands in that of `clock` alone."""
+    found, defaults = [], defaults_of_builtins()
+    written = [cells for cells in map(cells_of, section(page, "The calls")) if len(cells) == 6 and cells[0].startswith("`")]
+    table = list(rows_of_builtins())
+    if len(written) != len(table):
+        return [f"the page has {len(written)} calls, the table {len(table)}"]
+    for cells, (name, params, _) in zip(written, table):
+        shown = [param for param in params if param[1] != "id" or name == "clock"]
+        own = defaults[{"output.file": "output_file", "add": "sum"}.get(name, name)]
+        call = f"{name}({', '.join(f'{label}={own.get(label)}' if form == 'Perhaps' else label for form, label, _ in shown)})"
+        if cells[0].strip("`") != call:
+            found.append(f"the page has {cells[0]}, the table {call}")
+        words = types_on_page(cells[1])
+        if list(words) != [label for _, label, _ in shown]:
+            found.append(f"{name} has the parameters {list(words)} on the page")
+        for _, label, kind in shown:
+            told = words.get(label, "").split(";")[0].strip(" ,")
+            if not (told == TYPE_WORDS[kind] or kind == "Decimal" and told.split(",")[0] == "decimal"):
+                found.append(f"{label} of {name} is called {told!r}, and is {kind}")
+    return found
+
+
 def builtins_that_differ(program):
-    """The page of builtins has a row and an example for each builtin, and each example answers and plays what it says."""
+    """The page of builtins has the rows of the table, and an example for each, which answers and plays what it says."""
     page = text_of("docs/builtins.md")
+    names = [name for name, _, _ in rows_of_builtins()]
     table = text_of("crates/typing_rules/specs/Table.antt").split("builtin_names =", 1)[1].split("\n\n", 1)[0]
-    names = re.findall(r'codes "([\w.]+)"', table)
-    rows = [re.match(r"`([\w.]+)\(", cells[0])[1] for cells in map(cells_of, section(page, "The calls"))
-            if len(cells) == 6 and cells[0].startswith("`")]
-    found = [] if rows == names else [f"the rows are {rows}, the builtins {names}"]
+    found = [] if names == re.findall(r'codes "([\w.]+)"', table) else ["the table has other names than the definitions"]
+    found += rows_that_differ(page)
     examples = [cells for cells in map(cells_of, section(page, "An example of each")) if len(cells) == 4 and cells[0].startswith("`")]
     if [cells[0].strip("`") for cells in examples] != names:
         found.append("the examples are not those of the builtins")

@@ -1,6 +1,5 @@
 // What the outputs and feeds of a clock hear in a segment.
 ghost use Rattle.std.specs.Prelude.{◌≡◌, ◌<◌, ◌≤◌, ◌+◌, ◌^◌, suc, All, length, map};
-ghost use Rattle.stream_meaning.specs.Instants.{part_at};
 ghost use Rattle.engine_instants.specs.Runs.{HasRunRoom};
 ghost use Rattle.clock_outputs.specs.Feeds.{with_slots_from};
 ghost use Rattle.clock_outputs.specs.Ports.{AllHaveRoomLeft, HasRoomLeft, after_slots};
@@ -8,8 +7,7 @@ ghost use Rattle.engine_ticks.specs.Runs.{segment_of};
 
 use clock_outputs::{FeedPort, Port};
 use engine_clocks::ClockLanes;
-use frame_core::Cell;
-use stream_meaning::Part;
+use stream_meaning::slot_of;
 
 /// Each output takes the slots of its node in the latest segment, which had so many instants behind its first one. There are
 /// `nodes` nodes.
@@ -74,14 +72,4 @@ fn feed_one(feed: &mut FeedPort, at: u32, lanes: &ClockLanes, many: u32, nodes: 
         lanes.runs.left_of(feed.node, count),
         lanes.runs.right_of(feed.node, count),
     );
-}
-
-// What a node offered at the latest instant, by what the nodes did.
-fn slot_of(parts: &[Part], node: u32) -> Option<Cell>
-    ensures { result ≡ (part_at parts.now node).slot }
-{
-    match parts.get(node as usize) {
-        Some(part) => part.slot,
-        None => None,
-    }
 }

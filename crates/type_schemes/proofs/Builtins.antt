@@ -9,16 +9,17 @@ use Rattle.type_terms.specs.declared.ty.KindTerm.{KindTerm}
 use Rattle.type_terms.specs.declared.ty.KindTerm.TheVariants.{Var}
 use Rattle.typing_rules.specs.declared.uses.Builtin.{Builtin}
 use Rattle.typing_rules.specs.declared.uses.Builtin.TheVariants as builtin
+use Rattle.typing_rules.specs.declared.builtins.RowType.{RowType}
+use Rattle.typing_rules.specs.Rows.{row_term}
 use Rattle.typing_rules.specs.Arguments.{Given, Matched}
 use Rattle.typing_rules.specs.Table.{IsCallOf, TypedParameter, first_kinds, params_of, signature}
 use Rattle.type_schemes.specs.declared.general.TypeParameter.{TypeParameter}
 use Rattle.type_schemes.specs.declared.general.TypeParameter.TheVariants.{Any, Outer as OuterType}
 use Rattle.type_schemes.specs.declared.general.KindParameter.{KindParameter}
 use Rattle.type_schemes.specs.declared.general.KindParameter.TheVariants.{Open, Outer as OuterKind}
-use Rattle.type_schemes.specs.declared.builtin_types.RowType.{RowType}
 use Rattle.type_schemes.specs.Instances.{Instantiates}
 use Rattle.type_schemes.specs.NewVariables.{AreNewKinds, AreNewTypes, open_terms}
-use Rattle.type_schemes.specs.Rows.{numbered_row, row_term}
+use Rattle.type_schemes.specs.Rows.{numbered_row}
 use Rattle.type_schemes.specs.Schemes.{AreAmong, IsInstance, IsSchemeOver, KindMayBe, MayBe, builtin_scheme, open_numbers}
 use Rattle.type_schemes.proofs.Instancing.{instantiates, open_terms_counted}
 use Rattle.type_schemes.proofs.Reading.{none_is, some_is}

@@ -1,4 +1,4 @@
-// The types of the builtins as the program knows them, a copy of the table of the definitions, and calls of them.
+// The types of calls of builtins, by their rows.
 ghost use Rattle.std.specs.Prelude.{◌≡◌, ◌∷◌, [], cond, length, map, replicate, IfOk};
 ghost use Rattle.liq_base.specs.declared.memory.Kind.TheVariants.{Mono, Stereo};
 ghost use Rattle.type_terms.specs.Naming.{instance};
@@ -8,46 +8,14 @@ ghost use Rattle.type_terms.specs.declared.ty.KindTerm.TheVariants.{Var};
 ghost use Rattle.typing_rules.specs.Table.{signature};
 ghost use Rattle.type_schemes.specs.Instances.{Grows, Instantiates, instance_params};
 ghost use Rattle.type_schemes.specs.NewVariables.{AreNewKinds, AreNewTypes};
-ghost use Rattle.type_schemes.specs.Rows.{numbered_row, row_term};
+ghost use Rattle.type_schemes.specs.Rows.{numbered_row};
 ghost use Rattle.type_schemes.specs.Schemes.{builtin_scheme, open_numbers};
 
 use crate::instances::{Instance, fresh_kind_number, fresh_number};
 use liq_base::{Kind, Memory};
 use std::alloc::Global;
 use type_terms::{KindTerm, Subst, Ty};
-use typing_rules::Builtin;
-
-/// The types that stand in the table of the builtins. A row has at most one variable of each sort.
-#[derive(Clone, Copy)]
-enum RowType {
-    Text,
-    Bool,
-    Decimal,
-    Unit,
-    Format,
-    Anything,
-    Source,
-    MonoSource,
-    StereoSource,
-    Sources,
-    Pairs,
-}
-
-/// The type of a call of a builtin, and of each parameter.
-#[derive(Clone, Copy)]
-struct Row {
-    params: &'static [RowType],
-    result: RowType,
-}
-
-macro_rules! source_row {
-    ($($param:ident),*) => {
-        Row {
-            params: &[RowType::Text, $(RowType::$param),*],
-            result: RowType::Source,
-        }
-    };
-}
+use typing_rules::{Builtin, RowType, builtin_row};
 
 /// The type of a builtin, as the table of the builtins says it, with new variables for those of its row.
 ///
@@ -98,7 +66,7 @@ fn row_instance(alloc: Global, builtin: Builtin, any: u64, kind: u64) -> Result<
     ensures kinds { IfOk result (λ i. i.kinds.items ≡ replicate (signature builtin).kinds (Var kind)) }
 {
     let row = builtin_row(builtin);
-    let params = row_types(alloc, row.params, any, kind)?;
+    let params = row_types(alloc, row.types, any, kind)?;
     let call = row_type(alloc, row.result, any, kind)?;
     let kinds = row_kinds(alloc, builtin, kind)?;
     Ok(Instance {
@@ -106,51 +74,6 @@ fn row_instance(alloc: Global, builtin: Builtin, any: u64, kind: u64) -> Result<
         result: call,
         kinds,
     })
-}
-
-/// The row of a builtin.
-fn builtin_row(builtin: Builtin) -> Row
-    ensures params { map row_term result.params.now ≡ map (λ p. p.1) (signature builtin).params }
-    ensures call { row_term result.result ≡ (signature builtin).result }
-{
-    match builtin {
-        Builtin::OutputFile => Row {
-            params: &[
-                RowType::Text,
-                RowType::Bool,
-                RowType::Format,
-                RowType::Text,
-                RowType::Source,
-            ],
-            result: RowType::Unit,
-        },
-        Builtin::Set => Row {
-            params: &[RowType::Text, RowType::Anything],
-            result: RowType::Unit,
-        },
-        Builtin::Single => source_row!(Text),
-        Builtin::Playlist => source_row!(Bool, Text, Text),
-        Builtin::Blank => source_row!(Decimal),
-        Builtin::Square => source_row!(Decimal),
-        Builtin::Fail => source_row!(),
-        Builtin::Fallback => source_row!(Bool, Sources),
-        Builtin::Switch => source_row!(Bool, Pairs),
-        Builtin::Sequence => source_row!(Sources),
-        Builtin::Add => source_row!(Bool, Sources),
-        Builtin::Amplify => source_row!(Decimal, Source),
-        Builtin::Mean => Row {
-            params: &[RowType::Text, RowType::StereoSource],
-            result: RowType::MonoSource,
-        },
-        Builtin::Stereo => Row {
-            params: &[RowType::Text, RowType::MonoSource],
-            result: RowType::StereoSource,
-        },
-        Builtin::Crossfade => source_row!(Decimal, Source),
-        Builtin::Mksafe => source_row!(Source),
-        Builtin::Buffer => source_row!(Decimal, Decimal, Source),
-        Builtin::Clock => source_row!(Source),
-    }
 }
 
 /// Whether the row of a builtin has a type variable.
