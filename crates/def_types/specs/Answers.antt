@@ -6,6 +6,7 @@ use Rattle.type_terms.specs.Agrees.{Follows}
 use Rattle.type_terms.specs.Ground.{Assignment}
 use Rattle.type_terms.specs.Table.{Solves, Table}
 use Rattle.typing_rules.specs.Scripts.{Targets, def_token, params_of}
+use Rattle.type_schemes.specs.Holding.{HeldVariables}
 use Rattle.type_schemes.specs.Schemes.{scheme_of}
 use Rattle.name_scope.specs.Seen.{seen_parameter}
 use Rattle.type_steps.specs.Environment.{Known, TextUse, function}
@@ -15,7 +16,6 @@ use Rattle.type_scope.specs.declared.environment.Names.{Names}
 use Rattle.expression_types.specs.Order.{Said, said_at}
 use Rattle.type_steps.specs.Counts.{scheme_count, text_count}
 use Rattle.type_steps.specs.Defs.{HasNoTyping, HoldsBefore, IsTypingOf, KeepsTypings}
-use Rattle.def_types.specs.declared.defs.TypedDef.{TypedDef}
 
 -- the uses in the text of a def
 abbrev pub text_of : KnownDef → List TextUse
@@ -29,21 +29,21 @@ said_in u = (u.at, Some u.target, Some (length u.kinds))
 abbrev pub AreSaidAs : Names → List ℕ → List TextUse → Type 0
 AreSaidAs ns ts us = map said_in us ≡ map (said_at ns) ts
 
--- From s to s' a def was typed: its general type and the uses in its text give its typings, and no typing of what stands before it is lost but where the def has none.
-pub record IsTypedDef (s s' : Table) (targets : Targets) (before : List Known) (d : Def) (t : TypedDef) : Type 0 where
-  pub def : t.known.def.now ≡ d
-  pub at : t.known.at ≡ def_token (view_def d)
-  pub params : map seen_parameter t.known.params.items ≡ params_of (view_def d)
+-- From s to s' a def was typed: its general type and the uses in its text give its typings, and no typing of what stands before it is lost but where the def has none. The types of the values hold the variables h now.
+pub record IsTypedDef (s s' : Table) (targets : Targets) (before : List Known) (d : Def) (h : HeldVariables) (t : KnownDef) : Type 0 where
+  pub def : t.def.now ≡ d
+  pub at : t.at ≡ def_token (view_def d)
+  pub params : map seen_parameter t.params.items ≡ params_of (view_def d)
   pub follows : Follows s s'
   pub complete : KeepsTypings s s' targets before (view_def d)
-  pub typing : IsTypingOf s' targets before (view_def d) (scheme_of t.known.general) (text_of t.known)
-  pub held : HoldsBefore s' (function (view_def d) (text_of t.known) ∷ before) t.held
+  pub typing : IsTypingOf s' targets before (view_def d) (scheme_of t.general) (text_of t)
+  pub held : HoldsBefore s' (function (view_def d) (text_of t) ∷ before) h
 
 -- There is a solution, and the open kinds of the text have the numbers from 0 in the order of first mention and are as many as the general type has.
 pub record IsNumberedDef (s : Table) (d : KnownDef) : Type 0 where
   pub some : (a : Assignment) × Solves a s
   pub numbered : text_count (text_of d) ≡ Some (scheme_count (scheme_of d.general))
 
-abbrev pub IsDefTyped : Table → Table → Targets → List Known → Def → Option TypedDef → Type 0
-IsDefTyped s s' targets before d None = HasNoTyping s targets before (view_def d)
-IsDefTyped s s' targets before d (Some t) = IsTypedDef s s' targets before d t
+abbrev pub IsDefTyped : Table → Table → Targets → List Known → Def → HeldVariables → Option KnownDef → Type 0
+IsDefTyped s s' targets before d h None = HasNoTyping s targets before (view_def d)
+IsDefTyped s s' targets before d h (Some t) = IsTypedDef s s' targets before d h t

@@ -16,12 +16,12 @@ use Rattle.type_schemes.specs.Schemes.{IsSchemeOver, scheme_of}
 use Rattle.name_scope.specs.Seen.{seen_parameter}
 use Rattle.type_steps.specs.Environment.{AreFound, AreUsesOver, Env, Found, Known, sight_under, types_under}
 use Rattle.type_steps.specs.Flow.{Reached}
+use Rattle.type_scope.specs.declared.environment.KnownDef.{KnownDef}
 use Rattle.type_scope.specs.declared.environment.TypedName.{TypedName}
 use Rattle.type_steps.specs.Defs.{outside}
 use Rattle.def_types.specs.Answers.{text_of}
 use Rattle.def_types.specs.PartsOf.{HasNoDef, HaveNoInners, HaveNoParams, InfersDef, InfersInners, InfersParams}
 use Rattle.def_types.specs.TextUses.{kinds_in, text_uses}
-use Rattle.def_types.specs.declared.defs.TypedDef.{TypedDef}
 use Rattle.def_types.specs.declared.parts.TypedParts.{TypedParts}
 
 -- the tokens of parameters
@@ -73,16 +73,16 @@ abbrev pub ArePartsOf : Table → Table → Targets → List Known → Tree ADef
 ArePartsOf s s' targets before d new None = HasNoDef s (outside targets before) d
 ArePartsOf s s' targets before d new (Some p) = InfersDef s s' (outside targets before) d p.params.items p.result new
 
--- a def whose parts have these variables and uses was made general in all that is not held
-pub record IsGeneralDef (s : Table) (h : HeldVariables) (d : Def) (p : TypedParts) (fs : List Found) (t : TypedDef) : Type 0 where
-  pub def : t.known.def.now ≡ d
-  pub at : t.known.at ≡ def_token (view_def d)
-  pub params : map seen_parameter t.known.params.items ≡ params_of (view_def d)
+-- A def whose parts have these variables and uses was made general in all that is not held. The first variables were held at an earlier substitution, and the second ones are held now.
+pub record IsGeneralDef (s : Table) (h h' : HeldVariables) (d : Def) (p : TypedParts) (fs : List Found) (t : KnownDef) : Type 0 where
+  pub def : t.def.now ≡ d
+  pub at : t.at ≡ def_token (view_def d)
+  pub params : map seen_parameter t.params.items ≡ params_of (view_def d)
   pub text : List TextKind
-  pub text_is : text_of t.known ≡ text_uses fs text
-  pub numbered : IsNumberedText (scheme_of t.known.general) text
+  pub text_is : text_of t ≡ text_uses fs text
+  pub numbered : IsNumberedText (scheme_of t.general) text
   pub solution : (a : Assignment) × Solves a s
-  pub held : (s0 : Table) (names : List Term) → Follows s0 s → IsHeldBy s0 names h → IsHeldBy s names t.held
-  pub over : (names : List Term) → IsHeldBy s names t.held → IsSchemeOver s (scheme_of t.known.general)
-  pub text_over : (names : List Term) → IsHeldBy s names t.held → AreTextKindsOver s text
-  pub general : (names : List Term) → IsHeldBy s names t.held → IsGeneral s names (map variable p.params.items) (variable p.result) (kinds_in fs) (scheme_of t.known.general) text
+  pub held : (s0 : Table) (names : List Term) → Follows s0 s → IsHeldBy s0 names h → IsHeldBy s names h'
+  pub over : (names : List Term) → IsHeldBy s names h' → IsSchemeOver s (scheme_of t.general)
+  pub text_over : (names : List Term) → IsHeldBy s names h' → AreTextKindsOver s text
+  pub general : (names : List Term) → IsHeldBy s names h' → IsGeneral s names (map variable p.params.items) (variable p.result) (kinds_in fs) (scheme_of t.general) text

@@ -21,31 +21,24 @@ use type_schemes::{Held, generalise};
 use type_scope::{FoundUse, KnownDef, Names};
 use type_terms::{Subst, Ty};
 
-/// A def with its general type and the uses in its text, and the variables that the types of earlier values hold behind it.
-#[derive(Drop)]
-pub struct TypedDef<'a> {
-    pub known: KnownDef<'a>,
-    pub held: Held,
-}
-
 /// The general type of a def and the uses in its text; `None` where it has no typing. It fails only where memory is refused.
 ///
-/// `seen` is what is seen outside of defs, and `held` what the types of earlier values hold.
+/// `seen` is what is seen outside of defs, and `held` what the types of earlier values hold, before the def and then behind it.
 /// Where the def has a typing, its text has one use for each of its names, in the order of the tokens. Its open kinds are
 /// numbered as the text names them first, and are all that the general type has.
 pub fn type_def<'a>(
     alloc: Global,
     subst: &mut Subst,
     seen: Names<'_, '_>,
-    held: &Held,
+    held: &mut Held,
     def: &'a Def,
-) -> Result<Option<TypedDef<'a>>, Memory>
+) -> Result<Option<KnownDef<'a>>, Memory>
     requires seen { IsSeen subst.old seen [] }
     requires outside { seen.inner.now ≡ [] }
-    requires held { HoldsBefore subst.old (env_of seen).before held.now }
-    ensures typed { IfOk result (λ r. IsDefTyped subst.old subst.new (env_of seen.entry).targets (env_of seen.entry).before def.entry.now r) }
-    ensures order { IfOk result (λ r. IfSome r (λ t. AreSaidAs seen.entry (tokens_used (view_def def.entry.now)) (text_of t.known))) }
-    ensures numbered { IfOk result (λ r. IfSome r (λ t. IsNumberedDef subst.new t.known)) }
+    requires held { HoldsBefore subst.old (env_of seen).before held.old }
+    ensures typed { IfOk result (λ r. IsDefTyped subst.old subst.new (env_of seen.entry).targets (env_of seen.entry).before def.entry.now held.new r) }
+    ensures order { IfOk result (λ r. IfSome r (λ t. AreSaidAs seen.entry (tokens_used (view_def def.entry.now)) (text_of t))) }
+    ensures numbered { IfOk result (λ r. IfSome r (λ t. IsNumberedDef subst.new t)) }
 {
     let mut uses = Vec::new(alloc);
     match type_parts(alloc, subst, seen, &mut uses, def)? {
@@ -64,35 +57,34 @@ fn answer_of(parts: &TypedParts) -> Ty
     Ty::Var(parts.result)
 }
 
-/// The general type of a def whose parts were typed, and the uses of its text.
+/// The general type of a def whose parts were typed, and the uses of its text. What is held is as it was before the def.
 fn general_def<'a>(
     alloc: Global,
     subst: &Subst,
-    held: &Held,
+    held: &mut Held,
     def: &'a Def,
     parts: &TypedParts,
     uses: &[FoundUse],
-) -> Result<TypedDef<'a>, Memory>
-    requires there { AreThere subst.now held.now }
+) -> Result<KnownDef<'a>, Memory>
+    requires there { AreThere subst.now held.old }
     requires params { AreVars subst.now parts.now.params.items }
     requires result { parts.now.result < length subst.now.types }
     requires uses { AreUsesOver subst.now (founds uses.now) }
-    ensures general { IfOk result (λ t. IsGeneralDef subst.now held.now def.entry.now parts.now (founds uses.now) t) }
+    ensures general { IfOk result (λ t. IsGeneralDef subst.now held.old held.new def.entry.now parts.now (founds uses.now) t) }
 {
     subst.has_defaults();
-    let held = held.renewed(alloc, subst)?;
+    held.renew(alloc, subst)?;
     let params = variables(alloc, &parts.params)?;
     let answer = answer_of(parts);
     let kinds = all_kinds(alloc, uses)?;
-    let general = generalise(alloc, subst, &held, &params, &answer, &kinds)?;
+    let general = generalise(alloc, subst, held, &params, &answer, &kinds)?;
     let text = text_of_uses(alloc, uses, general.text.as_slice())?;
     let named = parameters(alloc, &def.params)?;
-    let known = KnownDef {
+    Ok(KnownDef {
         at: def.at,
         def,
         params: named,
         general: general.general,
         uses: text,
-    };
-    Ok(TypedDef { known, held })
+    })
 }

@@ -5,4 +5,4 @@ mod defs;
 mod parts;
 mod texts;
 
-pub use defs::{TypedDef, type_def};
+pub use defs::type_def;

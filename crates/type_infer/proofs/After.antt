@@ -31,7 +31,6 @@ use Rattle.type_scope.specs.declared.environment.TypedName.{TypedName}
 use Rattle.expression_types.specs.Order.{AreAdded, said_at, said_of, tokens_used}
 use Rattle.def_types.specs.Answers.{AreSaidAs, IsNumberedDef, IsTypedDef, text_of}
 use Rattle.def_types.specs.Scope.{AreSeenDefs}
-use Rattle.def_types.specs.declared.defs.TypedDef.{TypedDef}
 use Rattle.type_infer.specs.Later.{HoldsLater, IsRenewed}
 use Rattle.type_infer.specs.Matches.{AreNumberedDefs, HaveCountsIn, IsTextCountedIn, aimed, opens_of}
 use Rattle.type_infer.specs.States.{IsAfter, IsDefKept, IsMore, IsNext, IsNoMore, IsNoted, IsReady, IsRunKept, IsSameTyping, IsTypedSo, IsTypedWith, IsValueKept, knowns}
@@ -192,41 +191,41 @@ if_stops s h p bs ds xs targets script c semicolon st none =
 
 -- ---- a def
 
-def_state : (s s' : Table) (h : HeldVariables) (p : List ℕ) (bs : List AKnown) (ds : List KnownDef) (xs : List Step) (targets : Targets) (script : Script) (d : Def) (semicolon : Bool) (t : TypedDef) →
-    State s h p bs ds xs targets script → IsTypedDef s s' targets (newest_first ds bs) d t → IsNumberedDef s' t.known → map text_said (text_of t.known) ≡ map (aimed targets) (tokens_used (view_def d)) → IsTextCountedIn ds (text_of t.known) → IsNext targets script (Stmt (DefPart (view_def d)) semicolon) →
-    State s' t.held [] (bs ++ known.Function (length ds) ∷ []) (ds ++ t.known ∷ []) (xs ++ step.Defined (length ds) ∷ []) targets (with_last script (Stmt (DefPart (view_def d)) semicolon))
-def_state s s' h p bs ds xs targets script d semicolon t st td check named few next =
-    let us = text_of t.known in
+def_state : (s s' : Table) (h : HeldVariables) (p : List ℕ) (bs : List AKnown) (ds : List KnownDef) (xs : List Step) (targets : Targets) (script : Script) (d : Def) (semicolon : Bool) (h' : HeldVariables) (t : KnownDef) →
+    State s h p bs ds xs targets script → IsTypedDef s s' targets (newest_first ds bs) d h' t → IsNumberedDef s' t → map text_said (text_of t) ≡ map (aimed targets) (tokens_used (view_def d)) → IsTextCountedIn ds (text_of t) → IsNext targets script (Stmt (DefPart (view_def d)) semicolon) →
+    State s' h' [] (bs ++ known.Function (length ds) ∷ []) (ds ++ t ∷ []) (xs ++ step.Defined (length ds) ∷ []) targets (with_last script (Stmt (DefPart (view_def d)) semicolon))
+def_state s s' h p bs ds xs targets script d semicolon h' t st td check named few next =
+    let us = text_of t in
     let ys = dones_in ds xs in
     let ks = newest_first ds bs in
     let q = Stmt (DefPart (view_def d)) semicolon in
     let x = defined (view_def d) us in
-    let ds' = ds ++ t.known ∷ [] in
+    let ds' = ds ++ t ∷ [] in
     let xs' = xs ++ step.Defined (length ds) ∷ [] in
-    let last : done_in ds' (step.Defined (length ds)) ≡ x ∷ [] = done_last ds t.known ∙ ap (λ (y : Def). defined (view_def y) us ∷ []) td.def in
+    let last : done_in ds' (step.Defined (length ds)) ≡ x ∷ [] = done_last ds t ∙ ap (λ (y : Def). defined (view_def y) us ∷ []) td.def in
     let all : dones_in ds' xs' ≡ ys ++ x ∷ [] =
-    dones_more ds' xs (step.Defined (length ds)) ∙ ap (λ (zs : List Done). zs ++ done_in ds' (step.Defined (length ds))) (dones_kept ds t.known xs st.there) ∙ ap (λ (zs : List Done). ys ++ zs) last in
-    let more : newest_first ds' (bs ++ known.Function (length ds) ∷ []) ≡ function (view_def d) us ∷ ks = newest_def ds bs t.known st.seen.here ∙ ap (λ (y : Def). function (view_def y) us ∷ ks) td.def in
+    dones_more ds' xs (step.Defined (length ds)) ∙ ap (λ (zs : List Done). zs ++ done_in ds' (step.Defined (length ds))) (dones_kept ds t xs st.there) ∙ ap (λ (zs : List Done). ys ++ zs) last in
+    let more : newest_first ds' (bs ++ known.Function (length ds) ∷ []) ≡ function (view_def d) us ∷ ks = newest_def ds bs t st.seen.here ∙ ap (λ (y : Def). function (view_def y) us ∷ ks) td.def in
     let counts : IsTextCounted (known_of ys) us = subst (λ (l : List Known). IsTextCounted l us) st.known (text_counted ds ks st.numbered us few) in
-    let counted : IsDoneCounted (known_of ys) x = ((opens_of t.known, check.numbered), counts) in
+    let counted : IsDoneCounted (known_of ys) x = ((opens_of t, check.numbered), counts) in
     let whole = whole_more script ys q x next.placed st.whole (refl, named ∙ tokens_named targets (scope_after [] script) (view_def d) next.aimed) counted in
-    let typing : IsTypingOf s' targets (known_of ys) (view_def d) (scheme_of t.known.general) us = subst (λ (l : List Known). IsTypingOf s' targets l (view_def d) (scheme_of t.known.general) us) st.known td.typing in
+    let typing : IsTypingOf s' targets (known_of ys) (view_def d) (scheme_of t.general) us = subst (λ (l : List Known). IsTypingOf s' targets l (view_def d) (scheme_of t.general) us) st.known td.typing in
     let keeps : KeepsTypings s s' targets (known_of ys) (view_def d) = subst (λ (l : List Known). KeepsTypings s s' targets l (view_def d)) st.known td.complete in
-    let typings = typings_def s s' targets script ys st.typings check.some (view_def d) semicolon us (scheme_of t.known.general) st.whole whole counted td.follows keeps typing check.numbered in
+    let typings = typings_def s s' targets script ys st.typings check.some (view_def d) semicolon us (scheme_of t.general) st.whole whole counted td.follows keeps typing check.numbered in
     let apart : AreApart (function (view_def d) us ∷ known_of ys) = subst AreApart (known_more ys x) (whole_apart (with_last script q) (ys ++ x ∷ []) whole) in
     let new : IsNewDef ks (view_def d) = subst (λ (l : List Known). IsNewDef l (view_def d)) (sym st.known) apart.0 in
-    let known_def : IsNewKnown s' targets bs ds t.known (view_def d) = record {
+    let known_def : IsNewKnown s' targets bs ds t (view_def d) = record {
       def = ap view_def td.def;
       at = td.at;
       params = td.params;
       typing = td.typing;
       new = no_def_there ds ks (view_def d) st.numbered new;
     } in
-    let long = length_push ds t.known in
+    let long = length_push ds t in
     record {
-      seen = with_def s' targets bs ds t.known (view_def d) known_def (defs_later s s' targets bs ds td.follows st.seen);
-      holds = later_now s' (newest_first ds' (bs ++ known.Function (length ds) ∷ [])) t.held (subst (λ (l : List Known). HoldsBefore s' l t.held) (sym more) td.held);
-      numbered = subst (AreNumberedDefs ds') (sym more) (numbered_more ds ks t.known (view_def d) us st.numbered new td.at check.numbered);
+      seen = with_def s' targets bs ds t (view_def d) known_def (defs_later s s' targets bs ds td.follows st.seen);
+      holds = later_now s' (newest_first ds' (bs ++ known.Function (length ds) ∷ [])) h' (subst (λ (l : List Known). HoldsBefore s' l h') (sym more) td.held);
+      numbered = subst (AreNumberedDefs ds') (sym more) (numbered_more ds ks t (view_def d) us st.numbered new td.at check.numbered);
       there = there_bound (length ds') xs (step.Defined (length ds)) (there_more (length ds) (length ds') xs (omega (arith, long)) st.there) (omega (arith, long), tt);
       known = more ∙ ap (λ (l : List Known). function (view_def d) us ∷ l) st.known ∙ sym (known_more ys x) ∙ ap known_of (sym all);
       typings = subst (AreTypings s' targets (with_last script q)) (sym all) typings;
@@ -323,22 +322,23 @@ pub if_no_more : (targets : Targets) (b : Tree AnIf) (old : Typing) (names : Nam
 if_no_more targets b old names ready env none script semicolon so =
     if_stops old.subst old.held old.pending.items old.before old.defs.items old.steps.items targets script b semicolon (state_of targets script old ready so) (subst (λ (y : Env). HasNoType old.subst y b []) env none)
 
-pub def_more : (targets : Targets) (d : Def) (old mid new : Typing) (names : Names) (t : TypedDef) → IsReady targets old → GoesOn old mid → mid.pending.items ≡ [] → env_of names ≡ outside targets (knowns old) → names.defs.now ≡ old.defs.items →
-    IsTypedDef old.subst mid.subst (env_of names).targets (env_of names).before d t → IsNumberedDef mid.subst t.known → AreSaidAs names (tokens_used (view_def d)) (text_of t.known) → IsDefKept t mid new → IsMore targets (DefPart (view_def d)) old new
+pub def_more : (targets : Targets) (d : Def) (old mid new : Typing) (names : Names) (t : KnownDef) → IsReady targets old → GoesOn old mid → mid.pending.items ≡ [] → env_of names ≡ outside targets (knowns old) → names.defs.now ≡ old.defs.items →
+    IsTypedDef old.subst mid.subst (env_of names).targets (env_of names).before d mid.held t → IsNumberedDef mid.subst t → AreSaidAs names (tokens_used (view_def d)) (text_of t) → IsDefKept t mid new → IsMore targets (DefPart (view_def d)) old new
 def_more targets d old mid new names t ready on none env ed typed check said kept script semicolon so next =
     let bs = old.before in
     let ds = old.defs.items in
     let xs = old.steps.items in
-    let td : IsTypedDef old.subst mid.subst targets (knowns old) d t = subst (λ (y : Env). IsTypedDef old.subst mid.subst y.targets y.before d t) env typed in
-    let us = text_of t.known in
+    let there : IsTypedDef old.subst mid.subst targets (knowns old) d mid.held t = subst (λ (y : Env). IsTypedDef old.subst mid.subst y.targets y.before d mid.held t) env typed in
+    let td : IsTypedDef old.subst mid.subst targets (knowns old) d new.held t = subst (λ (y : HeldVariables). IsTypedDef old.subst mid.subst targets (knowns old) d y t) (sym kept.held) there in
+    let us = text_of t in
     let named : map text_said us ≡ map (aimed targets) (tokens_used (view_def d)) = subst (λ (y : Env). map text_said us ≡ map (aimed y.targets) (tokens_used (view_def d))) env (text_named names (tokens_used (view_def d)) us said) in
     let few : IsTextCountedIn ds us = subst (λ (y : List KnownDef). IsTextCountedIn y us) ed (text_counted_in names (tokens_used (view_def d)) us said) in
     let same : mid.defs.items ≡ ds = ap (λ v. v.items) on.defs in
-    let st = def_state old.subst mid.subst old.held old.pending.items bs ds xs targets script d semicolon t (state_of targets script old ready so) td check named few next in
-    state_as new mid.subst t.held [] (bs ++ known.Function (length ds) ∷ []) (ds ++ t.known ∷ []) (xs ++ step.Defined (length ds) ∷ []) targets (with_last script (Stmt (DefPart (view_def d)) semicolon))
-    kept.subst kept.held (kept.pending ∙ none)
+    let st = def_state old.subst mid.subst old.held old.pending.items bs ds xs targets script d semicolon new.held t (state_of targets script old ready so) td check named few next in
+    state_as new mid.subst new.held [] (bs ++ known.Function (length ds) ∷ []) (ds ++ t ∷ []) (xs ++ step.Defined (length ds) ∷ []) targets (with_last script (Stmt (DefPart (view_def d)) semicolon))
+    kept.subst refl (kept.pending ∙ none)
     (kept.before ∙ ap (λ (v : List AKnown). v ++ known.Function (length mid.defs.items) ∷ []) on.before ∙ ap (λ (y : List KnownDef). bs ++ known.Function (length y) ∷ []) same)
-    (kept.defs ∙ ap (λ (y : List KnownDef). y ++ t.known ∷ []) same)
+    (kept.defs ∙ ap (λ (y : List KnownDef). y ++ t ∷ []) same)
     (kept.steps ∙ ap (λ v. v.items ++ step.Defined (length mid.defs.items) ∷ []) on.steps ∙ ap (λ (y : List KnownDef). xs ++ step.Defined (length y) ∷ []) same) st
 
 pub def_no_more : (targets : Targets) (d : Tree ADef) (old : Typing) (names : Names) → IsReady targets old → env_of names ≡ outside targets (knowns old) → HasNoTyping old.subst (env_of names).targets (env_of names).before d → IsNoMore targets (DefPart d) old

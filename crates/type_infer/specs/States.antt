@@ -20,7 +20,6 @@ use Rattle.type_scope.specs.declared.environment.Known.TheVariants as known
 use Rattle.type_scope.specs.declared.environment.KnownDef.{KnownDef}
 use Rattle.expression_types.specs.Order.{tokens_used}
 use Rattle.def_types.specs.Scope.{AreSeenDefs}
-use Rattle.def_types.specs.declared.defs.TypedDef.{TypedDef}
 use Rattle.type_infer.specs.Later.{HoldsLater}
 use Rattle.type_infer.specs.Matches.{AreAimed, AreNumberedDefs, HaveCountsIn, aimed}
 use Rattle.type_infer.specs.Steps.{AreThere, dones_in}
@@ -120,12 +119,12 @@ pub record IsRunKept (e : TypedExpr) (old new : Typing) : Type 0 where
   pub pending : new.pending.items ≡ old.pending.items
 
 -- a def
-pub record IsDefKept (d : TypedDef) (old new : Typing) : Type 0 where
+pub record IsDefKept (d : KnownDef) (old new : Typing) : Type 0 where
   pub subst : new.subst ≡ old.subst
   pub before : new.before ≡ old.before ++ known.Function (length old.defs.items) ∷ []
-  pub defs : new.defs.items ≡ old.defs.items ++ d.known ∷ []
+  pub defs : new.defs.items ≡ old.defs.items ++ d ∷ []
   pub steps : new.steps.items ≡ old.steps.items ++ step.Defined (length old.defs.items) ∷ []
-  pub held : new.held ≡ d.held
+  pub held : new.held ≡ old.held
   pub pending : new.pending.items ≡ old.pending.items
 
 -- the uses of the statements under the default solution, where no fault of names is told

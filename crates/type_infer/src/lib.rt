@@ -9,3 +9,4 @@ mod steps;
 mod values;
 
 pub use script::{Typed, infer};
+pub use typing_rules::{Builtin, KindOf, Target, TypeFault, Use, UseKinds};

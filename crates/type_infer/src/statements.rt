@@ -9,7 +9,7 @@ ghost use Rattle.type_infer.specs.States.{IsDefKept, IsReady, IsRunKept, IsStepp
 
 use crate::steps::{Step, TypedExpr, Typing};
 use crate::values::{choice_type, run_type, value_type};
-use def_types::{TypedDef, type_def};
+use def_types::type_def;
 use liq_base::Memory;
 use script_grammar::tree::{Bind, Call, Def, If, StmtPart};
 use std::alloc::Global;
@@ -80,7 +80,7 @@ fn catch_up(
     ensures held { OnOk result (IsRenewed subst.now pending.old.items held.old held.new) }
     ensures pending { OnOk result (pending.new.items ≡ []) }
 {
-    *held = held.renewed(alloc, subst)?;
+    held.renew(alloc, subst)?;
     add_values(alloc, subst, held, pending)?;
     pending.clear();
     Ok(())
@@ -106,13 +106,11 @@ fn keep_run(typing: &mut Typing<'_>, typed: TypedExpr) -> Result<(), Memory>
 }
 
 /// Keeps a def. Where memory runs out, some of it may have been kept.
-fn keep_def<'a>(typing: &mut Typing<'a>, def: TypedDef<'a>) -> Result<(), Memory>
+fn keep_def<'a>(typing: &mut Typing<'a>, def: KnownDef<'a>) -> Result<(), Memory>
     ensures { OnOk result (IsDefKept def.entry typing.old typing.new) }
 {
     let place = typing.defs.len();
-    let TypedDef { known, held } = def;
-    typing.held = held;
-    typing.defs.push(known)?;
+    typing.defs.push(def)?;
     typing.steps.push(Step::Defined(place))?;
     typing.before.push(Known::Function(place))?;
     Ok(())
@@ -190,7 +188,7 @@ fn type_function<'a>(
 {
     catch_up(alloc, &typing.subst, &mut typing.held, &mut typing.pending)?;
     let seen = outside(targets, &typing.before, &typing.defs);
-    match type_def(alloc, &mut typing.subst, seen, &typing.held, def)? {
+    match type_def(alloc, &mut typing.subst, seen, &mut typing.held, def)? {
         None => Ok(false),
         Some(typed) => {
             keep_def(typing, typed)?;
