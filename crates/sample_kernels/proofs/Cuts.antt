@@ -51,7 +51,7 @@ scaled_by_cut (negsuc k) sample =
       | inr most ↦ (let same : cut (negsuc k) ≡ negsuc 32767999999 = omega (arith, ints, clamps, most) in ap (λ m. scaled m sample) same ∙ sym (low sample k most))
     ]
 
-clamped_fits : (number : ℤ) → FitsSigned w16 (clamped number)
+pub clamped_fits : (number : ℤ) → FitsSigned w16 (clamped number)
 clamped_fits number = omega (arith, ints, clamps)
 
 cut_abs : (millionths : ℤ) → negsuc 32767999999 ≤ℤ millionths → millionths ≤ℤ pos 32768000000 → unsigned_abs millionths ≤ 32768000000

@@ -1,3 +1,5 @@
+pub mod Woven
+pub mod Lanes
 pub mod Bounds
 pub mod Mixes
 pub mod Places

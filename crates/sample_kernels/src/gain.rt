@@ -1,9 +1,11 @@
 // Samples times a factor, and the mean of two sides.
-ghost use Rattle.std.specs.Prelude.{◌≡◌, ◌≤ℤ◌, pos, negsuc, length, map};
-ghost use Rattle.std.specs.Simd.Lanes.{zip2};
+ghost use Rattle.std.specs.Prelude.{◌≡◌, ◌≤◌, ◌+◌, ◌≤ℤ◌, pos, negsuc, length, map};
+ghost use Rattle.std.specs.Simd.Lanes.{zip2, chunk, put_chunk};
 ghost use Rattle.sample_kernels.specs.Samples.{clamped, scaled, half_of};
 
+use crate::loading::load_samples;
 use fixed_text::Decimal;
+use std::simd::prelude::*;
 
 /// Multiplies each sample by a factor, rounded toward zero and cut to the range of a sample.
 pub fn scale(factor: Decimal, from: &[i16], into: &mut [i16])
@@ -22,8 +24,13 @@ pub fn halves(left: &[i16], right: &[i16], into: &mut [i16])
     requires same { (length right.now ≡ length left.now) × (length into.old ≡ length left.now) }
     ensures { into.new ≡ zip2 half_of left.now right.now }
 {
-    for (at, sample) in into.iter_mut().enumerate() {
-        *sample = half_of(left[at], right[at]);
+    let mut done = 0;
+    while into.len() - done >= 8 {
+        halve_eight(left, right, into, done);
+        done += 8;
+    }
+    for at in done..into.len() {
+        into[at] = half_of(left[at], right[at]);
     }
 }
 
@@ -35,6 +42,17 @@ fn scaled(sample: i16, millionths: i64) -> i16
 {
     let product = i64::from(sample) * millionths;
     (product / 1_000_000).clamp(-32768, 32767) as i16
+}
+
+// Half the sum of eight left and right samples.
+fn halve_eight(left: &[i16], right: &[i16], into: &mut [i16], at: usize)
+    requires within { (at + 8 ≤ length into.old) × (length right.now ≡ length left.now) × (length into.old ≡ length left.now) }
+    ensures { into.new ≡ put_chunk at into.old (zip2 half_of (chunk at 8 left.now) (chunk at 8 right.now)) }
+{
+    let lefts = load_samples(left, at).cast::<i32>();
+    let rights = load_samples(right, at).cast::<i32>();
+    let halves = (lefts + rights) / i32x8::splat(2);
+    halves.cast::<i16>().copy_to_slice(&mut into[at..]);
 }
 
 // Half the sum of two samples.

@@ -1,12 +1,13 @@
-//! Arithmetic on samples: plain loops over slices. `docs/streams.md` has the rules.
+//! Arithmetic on samples, eight at a time by lanes and the rest one by one. `docs/streams.md` has the rules.
 #![tactic(auto)]
 
 mod bytes;
 mod gain;
+mod loading;
 mod mixing;
 mod sums;
 
-pub use bytes::encode;
+pub use bytes::{decode, encode};
 pub use gain::{halves, scale};
 pub use mixing::{mix, mixed_sample};
 pub use sums::{add_into, clamp_all, divide};

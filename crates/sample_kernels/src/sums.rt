@@ -1,7 +1,10 @@
 // Sums of samples, one for each instant.
-ghost use Rattle.std.specs.Prelude.{◌≡◌, ◌<◌, ◌+ℤ◌, ℤ, length, map, All};
-ghost use Rattle.std.specs.Simd.Lanes.{zip2, Each2};
+ghost use Rattle.std.specs.Prelude.{◌≡◌, ◌<◌, ◌≤◌, ◌+◌, ◌+ℤ◌, ℤ, length, map, All};
+ghost use Rattle.std.specs.Simd.Lanes.{zip2, chunk, put_chunk, Each1, Each2};
 ghost use Rattle.sample_kernels.specs.Samples.{IsSumOf, clamped, mean_of};
+
+use crate::loading::{load_samples, load_sums};
+use std::simd::prelude::*;
 
 /// Adds a sample to each sum. A sum of up to 65535 samples has room for one more.
 pub fn add_into(sum: &mut [i32], part: &[i16])
@@ -9,8 +12,13 @@ pub fn add_into(sum: &mut [i32], part: &[i16])
     requires room { All (IsSumOf 65535) sum.old }
     ensures { sum.new ≡ zip2 ◌+ℤ◌ sum.old part.now }
 {
-    for (at, sum) in sum.iter_mut().enumerate() {
-        *sum += i32::from(part[at]);
+    let mut done = 0;
+    while sum.len() - done >= 8 {
+        add_eight(sum, part, done);
+        done += 8;
+    }
+    for at in done..sum.len() {
+        sum[at] += i32::from(part[at]);
     }
 }
 
@@ -21,8 +29,13 @@ pub fn divide(sum: &[i32], by: &[u16], into: &mut [i16])
     requires sums { Each2 IsSumOf by.now sum.now }
     ensures { into.new ≡ zip2 mean_of sum.now by.now }
 {
-    for (at, sample) in into.iter_mut().enumerate() {
-        *sample = mean_of(sum[at], by[at]);
+    let mut done = 0;
+    while into.len() - done >= 8 {
+        divide_eight(sum, by, into, done);
+        done += 8;
+    }
+    for at in done..into.len() {
+        into[at] = mean_of(sum[at], by[at]);
     }
 }
 
@@ -31,9 +44,49 @@ pub fn clamp_all(sum: &[i32], into: &mut [i16])
     requires same { length into.old ≡ length sum.now }
     ensures { into.new ≡ map clamped sum.now }
 {
-    for (at, sample) in into.iter_mut().enumerate() {
-        *sample = clamped(sum[at]);
+    let mut done = 0;
+    while into.len() - done >= 8 {
+        clamp_eight(sum, into, done);
+        done += 8;
     }
+    for at in done..into.len() {
+        into[at] = clamped(sum[at]);
+    }
+}
+
+// Adds a sample to each of eight sums.
+fn add_eight(sum: &mut [i32], part: &[i16], at: usize)
+    requires within { (at + 8 ≤ length sum.old) × (length part.now ≡ length sum.old) }
+    requires room { Each1 (IsSumOf 65535) (chunk at 8 sum.old) }
+    ensures { sum.new ≡ put_chunk at sum.old (zip2 ◌+ℤ◌ (chunk at 8 sum.old) (chunk at 8 part.now)) }
+{
+    let sums = load_sums(sum, at);
+    let parts = load_samples(part, at);
+    (sums + parts.cast::<i32>()).copy_to_slice(&mut sum[at..]);
+}
+
+// Divides eight sums.
+fn divide_eight(sum: &[i32], by: &[u16], into: &mut [i16], at: usize)
+    requires within { (at + 8 ≤ length into.old) × (length by.now ≡ length sum.now) × (length into.old ≡ length sum.now) }
+    requires some { Each1 (λ parts. 0 < parts) (chunk at 8 by.now) }
+    requires sums { Each2 IsSumOf (chunk at 8 by.now) (chunk at 8 sum.now) }
+    ensures { into.new ≡ put_chunk at into.old (zip2 mean_of (chunk at 8 sum.now) (chunk at 8 by.now)) }
+{
+    let sums = load_sums(sum, at);
+    let parts = u16x8::from_slice(&by[at..]);
+    (sums / parts.cast::<i32>())
+        .cast::<i16>()
+        .copy_to_slice(&mut into[at..]);
+}
+
+// Cuts eight sums.
+fn clamp_eight(sum: &[i32], into: &mut [i16], at: usize)
+    requires within { (at + 8 ≤ length into.old) × (length into.old ≡ length sum.now) }
+    ensures { into.new ≡ put_chunk at into.old (map clamped (chunk at 8 sum.now)) }
+{
+    let sums = load_sums(sum, at);
+    let cut = sums.simd_clamp(i32x8::splat(-32768), i32x8::splat(32767));
+    cut.cast::<i16>().copy_to_slice(&mut into[at..]);
 }
 
 // The mean of so many samples, by their sum.

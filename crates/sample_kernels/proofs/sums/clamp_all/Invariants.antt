@@ -1,6 +1,12 @@
-use Rattle.std.proofs.Common.{◌≡◌, take, map}
+use Rattle.std.proofs.Common.{◌≡◌, ◌≤◌, ◌-◌, length, take, map}
 use Rattle.sample_kernels.specs.Samples.{clamped}
 use Rattle.sample_kernels.proofs.sums.clamp_all.Given as goal
 
+abbrev pub invariant-loop-into : goal.invariant-loop-into
+invariant-loop-into l = (length l.into ≡ length l.fn.into) × (l.done ≤ length l.into) × (take l.done l.into ≡ map clamped (take l.done l.sum))
+
+abbrev pub decreases-loop-into : goal.decreases-loop-into
+decreases-loop-into l = length l.into - l.done
+
 abbrev pub invariant-loop-at : goal.invariant-loop-at
-invariant-loop-at l = take l.at l.into ≡ map clamped (take l.at l.sum)
+invariant-loop-at l = (length l.into ≡ length l.fn.into) × (take l.at l.into ≡ map clamped (take l.at l.sum))
