@@ -3,7 +3,7 @@ use Rattle.std.specs.Prelude.{string_bytes}
 use Rattle.std.proofs.lemmas.List.{drop_more}
 use Rattle.liq_cli.specs.Read.{options_of}
 use Rattle.liq_cli.specs.Words.{AreOptions, IsOption, Options, texts}
-use Rattle.liq_cli.proofs.words.read_options.Goals as goal
+use Rattle.liq_cli.proofs.options.read_options.Goals as goal
 
 pub returns-in_err-options-clause-only : goal.returns-in_err-options-clause-only
 returns-in_err-options-clause-only c = λ all are.

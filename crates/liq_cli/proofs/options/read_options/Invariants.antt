@@ -1,7 +1,7 @@
 use Rattle.std.proofs.Common.{drop}
 use Rattle.liq_cli.specs.Read.{options_of}
 use Rattle.liq_cli.specs.Words.{AreOptions, Options, no_options, texts}
-use Rattle.liq_cli.proofs.words.read_options.Given as goal
+use Rattle.liq_cli.proofs.options.read_options.Given as goal
 
 -- all words say what those that are left say beside the options so far
 abbrev pub invariant-loop-word : goal.invariant-loop-word
