@@ -1,7 +1,7 @@
 // The forms of the words.
 use crate::ticks::Ticks;
 use crate::window::Window;
-use crate::workload::Size;
+use crate::size::Size;
 use fixed_text::WeekSecond;
 
 /// What words ask for.

@@ -1,4 +1,4 @@
-// The workload of a seed and a size.
+// The size of a workload.
 ghost use Rattle.std.specs.Prelude.{◌≡◌, ◌≤◌, ◌<◌, ◌^◌, ℕ, decimal, IfSome, IsSomeAnd};
 
 use fixed_text::read_u64;
