@@ -1,5 +1,5 @@
 -- What rounds and threads leave, as one record of a run.
-use Rattle.std.proofs.Common.{◌≡◌, ◌+◌, ◌∙◌, ◌++◌, true, ℕ, Bool, List, [], ◌∷◌, length, map, flat_map, slice_get, slice_index_or, arith, refl, ap, sym, subst}
+use Rattle.std.proofs.Common.{◌≡◌, ◌+◌, ◌∙◌, ◌++◌, true, ℕ, suc, Bool, List, [], ◌∷◌, length, map, flat_map, slice_get, slice_index_or, arith, refl, ap, sym, subst}
 use Rattle.std.specs.Prelude.{Option, Some, None, count_by, is_none, is_some, not}
 use Rattle.std.proofs.lemmas.List.{map-append}
 use native.Mathlib.Nat.{min-le_left}
@@ -10,7 +10,7 @@ use Rattle.stream_meaning.specs.Sinks.{ticks_bytes}
 use Rattle.stream_meaning.proofs.Answering.{begin_none}
 use Rattle.node_states.specs.Ticks.{IsOutput, with_rest}
 use Rattle.clock_outputs.specs.Appends.{RoseAt}
-use Rattle.run_records.specs.Records.{AreRoundsBegun, IsRounds, Run, Window, setting_then}
+use Rattle.run_records.specs.Records.{AreRoundsBegun, IsRounds, Run, Window, setting_then, start}
 use Rattle.clock_engine.specs.declared.engine.ClockEngine.{ClockEngine}
 use Rattle.clock_engine.specs.Engines.{setting_of}
 use Rattle.buffer_queue.specs.Window.{is_chunk}
@@ -24,6 +24,7 @@ use Rattle.rounds_run.proofs.Fronts.{front_of, ticks_front}
 use Rattle.rounds_run.proofs.Lawful.{none_counted, some_counted}
 use Rattle.rounds_run.proofs.Records.{run_of, window_at, windows_many}
 use Rattle.clock_windows.specs.Wires.{told}
+use Rattle.clock_windows.proofs.Starts.{start_most}
 use Rattle.clock_threads.specs.Logs.{counts_in}
 use Rattle.clock_threads.specs.Runs as threads
 use Rattle.stations.specs.Stations.{IsBegunIn, IsLawfulIn}
@@ -178,14 +179,20 @@ module _ {S : Type 0} {held name : S → Option (List ℕ)} {faults : S → ℕ}
       size = ran.many;
       each = λ k before after was is.
           let fresh = at.each k before was in
-          let made = subst (λ (z : ClockEngine S × ClockEngine S). threads.HasMadePart held name faults setting ran.run ticks k z.0 z.1) (both_are old new k before after was is) (ran.engines k before (within old k before was)) in
+          let made = subst (λ (z : ClockEngine S × ClockEngine S). threads.HasMadePart held name faults setting ran.run window ticks ran.begun.closed k z.0 z.1) (both_are old new k before after was is) (ran.engines k before (within old k before was)) in
           record {
             works = made.whole.works;
             setting = made.same.setting;
             clock = made.same.clock;
             part = λ rest sink node out.
                 let some = made.part rest sink node (output_in setting k before fresh sink node out) in
-                (some.0, record { rest = some.0; whole_is = refl }, some.1, some.2);
+                let world : Setting = setting_then setting ran.run rest in
+                let most = start window ticks (suc ran.begun.closed) in (
+                  some.0,
+                  record { rest = some.0; whole_is = refl },
+                  front_of some.0 (ticks_bytes world node most) (ticks_bytes world node ticks) some.2 (ticks_front world node most ticks (start_most window ticks (suc ran.begun.closed))),
+                  some.3,
+                );
             none_fell = made.same.none_fell;
             outs = made.same.outs;
             kept = made.same.kept;
