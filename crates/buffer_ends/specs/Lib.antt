@@ -3,3 +3,4 @@ pub mod Local
 pub mod Same
 pub mod Sides
 pub mod Borders
+pub mod Told

@@ -30,17 +30,23 @@ counts_from run buffer (plan ∷ plans) = counts_of_windows (windows_of run buff
 abbrev pub counts_of : Station → Run → List Counts
 counts_of station run = counts_from run 0 station.plan.buffers
 
--- this is told of a run: the gaps of each output, in sink order, and the counts of each buffer
+-- the station of a plan that is rendered so by threads
+abbrev pub station_by : Plan → Ready → (start ticks : ℕ) → Threading → Station
+station_by plan ready start ticks threading =
+    station_of plan ready start ticks (Some threading.window) (option_map (λ (name : Bor (List ℕ)). name.now) threading.trace)
+
+-- this is told of a run: the gaps of each output, in sink order, and of each buffer its counts and which answers each window had
 pub record IsTold (station : Station) (run : Run) (rendered : Rendered) : Type 0 where
   pub gaps_are : rendered.gaps.items ≡ gaps_in_order station run
   pub counts_are : rendered.counts.items ≡ counts_of station run
+  pub logs_are : rendered.logs.items ≡ map (map told) run.buffers
 
--- a run of the station wrote all files of its outputs, and this is told of it
+-- a run of the station wrote all its files, and this is told of it
 pub record IsRendered (station : Station) (before after : Option Files) (rendered : Rendered) : Type 0 where
   pub run : Run
   pub lawful : IsLawful station run
   pub told : IsTold station run rendered
-  pub all_written : ForSome before (λ files. after ≡ Some (with_outputs files (outputs_of station run)))
+  pub all_written : ForSome before (λ files. after ≡ Some (with_outputs files (files_of station run)))
 
 -- a run of the station wrote all bytes of its outputs into their sinks, and this is told of it
 pub record RanWhole {S : Type 0} (name held : S → Option (List ℕ)) (files : Option Files) (station : Station) (order : List ℕ) (groups : List (List S)) (rendered : Rendered) : Type 0 where

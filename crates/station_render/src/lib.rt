@@ -12,8 +12,10 @@ mod rendered;
 mod rendering;
 mod reports;
 mod sinks;
+mod threading;
 
 pub use fault::RenderFault;
 pub use rendered::Rendered;
 pub use rendering::{render, render_alone};
 pub use reports::report;
+pub use threading::Threading;

@@ -25,9 +25,11 @@ use std::thread::Threads;
 
 /// Renders so many ticks of a plan, from a second of the week on, into the files of its outputs, and answers the gaps of
 /// each output in sink order, and how each buffer answered. The outputs are created in sink order, each with room for
-/// exactly its bytes and with its header as one piece; then each clock makes its ticks on a thread of its own, in windows
-/// of so many ticks, at least one, and enters the gate before each; then all outputs are closed in sink order, whatever
-/// happened. The rules stand in `docs/streams.md`, `docs/buffers.md` and `docs/outside.md`.
+/// exactly its bytes and with its header as one piece; then each clock makes its ticks on a thread of its own, in windows,
+/// and enters the gate before each; then all outputs are closed in sink order, whatever happened. After a run that ended
+/// well the trace, where one is wanted, is created with room for exactly its text, gets it as one piece and is closed,
+/// whatever the piece came to. The rules stand in `docs/streams.md`, `docs/buffers.md`, `docs/formats.md` and
+/// `docs/outside.md`.
 pub fn render<S: Shelf, G: Gate + Sync, R: Threads + Wait + Sync>(
     rt: &R,
     alloc: Global,
@@ -35,14 +37,13 @@ pub fn render<S: Shelf, G: Gate + Sync, R: Threads + Wait + Sync>(
     ready: &Ready,
     start: WeekSecond,
     ticks: u64,
-    window: u64,
+    threading: Threading<'_>,
     shelf: &mut S,
     gate: &G,
 ) -> Result<Rendered, RenderFault>
     requires fit { IsFit plan.now ready.now.library ready.now.clocks ticks }
-    requires window { 0 < window }
-    ensures done { IfOk result (IsRendered (station_of plan.now ready.now start.second ticks (Some window)) (S.files shelf.old) (S.files shelf.new)) }
-    ensures part { ForSome (S.files shelf.old) (λ files. WrotePart (station_of plan.now ready.now start.second ticks (Some window))
+    ensures done { IfOk result (IsRendered (station_by plan.now ready.now start.second ticks threading.entry) (S.files shelf.old) (S.files shelf.new)) }
+    ensures part { ForSome (S.files shelf.old) (λ files. WrotePart (station_by plan.now ready.now start.second ticks threading.entry)
         (Rose (S.write_count shelf.old) (S.write_count shelf.new)) files (S.files shelf.new)) }
     ensures cause { IsErrOf result RenderFault.Write → Rose (S.write_count shelf.old) (S.write_count shelf.new) }
     ensures reads { S.read_count shelf.old ≤ S.read_count shelf.new }
@@ -76,8 +77,8 @@ pub fn render_alone<S: Shelf>(
     shelf: &mut S,
 ) -> Result<Rendered, RenderFault>
     requires fit { IsFit plan.now ready.now.library ready.now.clocks ticks }
-    ensures done { IfOk result (IsRendered (station_of plan.now ready.now start.second ticks None) (S.files shelf.old) (S.files shelf.new)) }
-    ensures part { ForSome (S.files shelf.old) (λ files. WrotePart (station_of plan.now ready.now start.second ticks None)
+    ensures done { IfOk result (IsRendered (station_of plan.now ready.now start.second ticks None None) (S.files shelf.old) (S.files shelf.new)) }
+    ensures part { ForSome (S.files shelf.old) (λ files. WrotePart (station_of plan.now ready.now start.second ticks None None)
         (Rose (S.write_count shelf.old) (S.write_count shelf.new)) files (S.files shelf.new)) }
     ensures cause { IsErrOf result RenderFault.Write → Rose (S.write_count shelf.old) (S.write_count shelf.new) }
     ensures reads { S.read_count shelf.old ≤ S.read_count shelf.new }
@@ -143,8 +144,8 @@ fn write_alone<S: Shelf>(
     requires fit { IsFit plan.now ready.now.library ready.now.clocks ticks }
     requires none { order.old.items ≡ [] }
     requires empty { AreEmpty ready.now.clocks.running (lists_of groups.old.items) }
-    ensures done { IfOk result (RanWhole S.Out.name S.Out.held (S.files shelf.old) (station_of plan.now ready.now start.second ticks None) order.new.items (lists_of groups.new.items)) }
-    ensures part { RanPart S.Out.name S.Out.held (S.files shelf.old) (station_of plan.now ready.now start.second ticks None) order.new.items (lists_of groups.new.items) }
+    ensures done { IfOk result (RanWhole S.Out.name S.Out.held (S.files shelf.old) (station_of plan.now ready.now start.second ticks None None) order.new.items (lists_of groups.new.items)) }
+    ensures part { RanPart S.Out.name S.Out.held (S.files shelf.old) (station_of plan.now ready.now start.second ticks None None) order.new.items (lists_of groups.new.items) }
     ensures cause { IsErrOf result RenderFault.Write → Rose (S.write_count shelf.old) (S.write_count shelf.new) ⊎ HasFailed S.Out.faults (lists_of groups.new.items) }
     ensures files { S.files shelf.new ≡ S.files shelf.old }
     ensures reads { S.read_count shelf.old ≤ S.read_count shelf.new }

@@ -3,4 +3,5 @@ pub mod Stations
 pub mod Streams
 pub mod Reports
 pub mod Findings
+pub mod Traces
 pub mod Renderings

@@ -1,16 +1,16 @@
 -- What an accepted script renders.
-use Rattle.std.specs.Prelude.{ℕ, List, [], Option, Some, None}
+use Rattle.std.specs.Prelude.{ℕ, suc, List, [], Option, Some, None}
 use Rattle.frame_core.specs.Library.{Sounds}
 use Rattle.plan_core.specs.declared.plan.Plan.{Plan}
 use Rattle.clock_infer.specs.declared.clock_map.ClockMap.{ClockMap}
 use Rattle.stream_meaning.specs.Instants.{Setting}
 use Rattle.op_leaf.specs.Readers.{Answer}
-use Rattle.run_records.specs.Records.{AreRoundsBegun, AreWindowsBegun, IsLawful as AreWindows, IsRounds, Run, setting_in, setting_then}
+use Rattle.run_records.specs.Records.{AreRoundsBegun, AreWindowsBegun, IsLawful as AreWindows, IsRounds, Run, setting_in, setting_then, start}
 use Rattle.stations.specs.declared.ready.Ready.{Ready}
 
--- a plan with its audio files and its clocks, the second of the week at which it begins, how many ticks are rendered, and how many
--- of them a window of threads has: nothing where all clocks run on one thread, in rounds; a `check` is that of no tick from second
--- 0 on, on one thread
+-- a plan with its audio files and its clocks, the second of the week at which it begins, how many ticks are rendered, how many of them
+-- a window of threads has: nothing where all clocks run on one thread, in rounds; and the name of the file that gets the trace, if one
+-- is wanted, which one thread writes never. A `check` is that of no tick from second 0 on, on one thread, without a trace
 pub record Station : Type 0 where
   pub plan : Plan
   pub library : Sounds
@@ -18,6 +18,7 @@ pub record Station : Type 0 where
   pub start : ℕ
   pub ticks : ℕ
   pub window : Option ℕ
+  pub trace : Option (List ℕ)
 
 -- what the streams of a station rest on, but for the answers of its buffers
 abbrev pub bare : Station → Setting
@@ -53,7 +54,23 @@ IsLawful station run = IsLawfulIn (bare station) station.clocks.running station.
 abbrev pub IsBegun : Station → Run → Type 0
 IsBegun station run = IsBegunIn (bare station) station.clocks.running station.ticks station.window run
 
+-- how many ticks a clock has made at most, where a run came so far: by threads none is past the window that follows those that were
+-- closed
+abbrev pub most_in : (setting : Setting) (clocks ticks : ℕ) (window : Option ℕ) (run : Run) → IsBegunIn setting clocks ticks window run → ℕ
+most_in setting clocks ticks None run begun = ticks
+most_in setting clocks ticks (Some window) run begun = start window ticks (suc begun.closed)
+
+abbrev pub most_of : (station : Station) (run : Run) → IsBegun station run → ℕ
+most_of station run begun = most_in (bare station) station.clocks.running station.ticks station.window run begun
+
 -- the station of a plan with these files and clocks
-abbrev pub station_of : Plan → Ready → (start ticks : ℕ) → (window : Option ℕ) → Station
-station_of plan ready start ticks window =
-    record { plan = plan; library = ready.library; clocks = ready.clocks; start = start; ticks = ticks; window = window }
+abbrev pub station_of : Plan → Ready → (start ticks : ℕ) → (window : Option ℕ) → (trace : Option (List ℕ)) → Station
+station_of plan ready start ticks window trace = record {
+  plan = plan;
+  library = ready.library;
+  clocks = ready.clocks;
+  start = start;
+  ticks = ticks;
+  window = window;
+  trace = trace;
+}

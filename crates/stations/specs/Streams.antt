@@ -19,12 +19,23 @@ header_for setting ticks node = header_bytes (kind_of setting node) setting.plan
 abbrev pub output_bytes : Setting → (ticks node : ℕ) → List ℕ
 output_bytes setting ticks node = header_for setting ticks node ++ ticks_bytes setting node ticks
 
+-- the first bytes of an output of a node: its header, and what the node offers in the first ticks, as many as were made
+abbrev pub front_bytes : Setting → (ticks made node : ℕ) → List ℕ
+front_bytes setting ticks made node = header_for setting ticks node ++ ticks_bytes setting node made
+
 -- the files of the outputs among these sinks, in their order
 abbrev pub outputs_in : Setting → (ticks : ℕ) → List SinkPlan → List OutputFile
 outputs_in setting ticks [] = []
 outputs_in setting ticks (Output name node fallible ∷ sinks) =
     record { name = name; bytes = output_bytes setting ticks node } ∷ outputs_in setting ticks sinks
 outputs_in setting ticks (Feed buffer node ∷ sinks) = outputs_in setting ticks sinks
+
+-- their fronts
+abbrev pub fronts_in : Setting → (ticks made : ℕ) → List SinkPlan → List OutputFile
+fronts_in setting ticks made [] = []
+fronts_in setting ticks made (Output name node fallible ∷ sinks) =
+    record { name = name; bytes = front_bytes setting ticks made node } ∷ fronts_in setting ticks made sinks
+fronts_in setting ticks made (Feed buffer node ∷ sinks) = fronts_in setting ticks made sinks
 
 -- the gaps of the outputs among these sinks, in their order
 abbrev pub counts_in : Setting → (ticks : ℕ) → List SinkPlan → List ℕ
@@ -40,13 +51,13 @@ bytes_of station run node = output_bytes (setting_of station run) station.ticks 
 abbrev pub gaps_of : Station → Run → (node : ℕ) → ℕ
 gaps_of station run node = gaps (setting_of station run) node station.ticks
 
--- the files that a run writes, and their gaps, in sink order
+-- the files of the outputs that a run writes, and their gaps, in sink order
 abbrev pub outputs_of : Station → Run → List OutputFile
 outputs_of station run = outputs_in (setting_of station run) station.ticks station.plan.sinks
 
--- the files that a run which was broken off would have written, if these answers had followed
-abbrev pub outputs_with : Station → Run → (rest : ℕ → List Answer) → List OutputFile
-outputs_with station run rest = outputs_in (setting_with station run rest) station.ticks station.plan.sinks
+-- what a run which was broken off would have written in the first ticks, if these answers had followed
+abbrev pub fronts_with : Station → Run → (made : ℕ) → (rest : ℕ → List Answer) → List OutputFile
+fronts_with station run made rest = fronts_in (setting_with station run rest) station.ticks made station.plan.sinks
 
 abbrev pub gaps_in_order : Station → Run → List ℕ
 gaps_in_order station run = counts_in (setting_of station run) station.ticks station.plan.sinks
