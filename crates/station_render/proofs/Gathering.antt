@@ -1,5 +1,5 @@
 -- What rounds and threads leave, as one record of a run.
-use Rattle.std.proofs.Common.{◌≡◌, ◌+◌, ◌∙◌, ◌++◌, true, ℕ, suc, Bool, List, [], ◌∷◌, length, map, flat_map, slice_get, slice_index_or, arith, refl, ap, sym, subst}
+use Rattle.std.proofs.Common.{◌≡◌, ◌+◌, ◌∙◌, ◌++◌, true, ℕ, Bool, List, [], ◌∷◌, length, map, flat_map, slice_get, slice_index_or, arith, refl, ap, sym, subst}
 use Rattle.std.specs.Prelude.{Option, Some, None, count_by, is_none, is_some, not}
 use Rattle.std.proofs.lemmas.List.{map-append}
 use native.Mathlib.Nat.{min-le_left}
@@ -10,7 +10,7 @@ use Rattle.stream_meaning.specs.Sinks.{ticks_bytes}
 use Rattle.stream_meaning.proofs.Answering.{begin_none}
 use Rattle.node_states.specs.Ticks.{IsOutput, with_rest}
 use Rattle.clock_outputs.specs.Appends.{RoseAt}
-use Rattle.run_records.specs.Records.{AreRoundsBegun, IsRounds, Run, Window, setting_then, start}
+use Rattle.run_records.specs.Records.{AreRoundsBegun, IsRounds, Run, Window, setting_then}
 use Rattle.clock_engine.specs.declared.engine.ClockEngine.{ClockEngine}
 use Rattle.clock_engine.specs.Engines.{setting_of}
 use Rattle.buffer_queue.specs.Window.{is_chunk}
@@ -23,8 +23,7 @@ use Rattle.rounds_run.specs.Runs as rounds
 use Rattle.rounds_run.proofs.Fronts.{front_of, ticks_front}
 use Rattle.rounds_run.proofs.Lawful.{none_counted, some_counted}
 use Rattle.rounds_run.proofs.Records.{run_of, window_at, windows_many}
-use Rattle.clock_windows.specs.Wires.{told}
-use Rattle.clock_windows.proofs.Starts.{start_most}
+use Rattle.buffer_ends.specs.Told.{told}
 use Rattle.clock_threads.specs.Logs.{counts_in}
 use Rattle.clock_threads.specs.Runs as threads
 use Rattle.stations.specs.Stations.{IsBegunIn, IsLawfulIn}
@@ -97,12 +96,13 @@ counts_told (windows ∷ buffers) = λ i. count_told windows i ∷ counts_told b
 
 -- the records of rounds
 module _ {S : Type 0} {held name : S → Option (List ℕ)} {faults : S → ℕ} {setting : Setting} {clocks ticks : ℕ} {old new : List (ClockEngine S)} (all : length old ≡ clocks) where
-  pub rounds_all : {counts : List Counts} {logs : List (List Answers)} → rounds.HasRunAll held name faults setting ticks old new counts logs → RanAll held name faults setting clocks ticks None old new counts
+  pub rounds_all : {counts : List Counts} {logs : List (List Answers)} → rounds.HasRunAll held name faults setting ticks old new counts logs → RanAll held name faults setting clocks ticks None old new counts logs
   rounds_all ran = record {
     run = ran.run;
     lawful = subst (λ n. IsRounds setting n ticks ran.run) all ran.rounds;
     engines = ran.engines;
     counts_are = ran.counts_are;
+    logs_are = ran.logs_are;
   }
 
   pub rounds_some : {end : End} → rounds.HasRunSome held name faults setting ticks old new end → RanSome held name faults setting clocks ticks None old new end
@@ -144,7 +144,7 @@ both_are old new k before after was is = λ i. (got_is old k before before was i
 -- the records of threads
 module _ {S : Type 0} {held name : S → Option (List ℕ)} {faults : S → ℕ} {setting : Setting} {clocks : ClockMap} {window ticks : ℕ} {old new : List (ClockEngine S)} (at : AreAt setting old) where
   pub threads_all : {counts : List Counts} {logs : List (List Answers)} → threads.HasRunAll held name faults setting clocks window ticks old new counts logs
-      → RanAll held name faults setting clocks.running ticks (Some window) old new counts
+      → RanAll held name faults setting clocks.running ticks (Some window) old new counts logs
   threads_all ran = record {
     run = ran.run;
     lawful = ran.has_run.lawful;
@@ -169,6 +169,7 @@ module _ {S : Type 0} {held name : S → Option (List ℕ)} {faults : S → ℕ}
           };
     };
     counts_are = ran.tells.counts_are ∙ ap (map counts_in) ran.tells.logs_are ∙ counts_told ran.run.buffers;
+    logs_are = ran.tells.logs_are;
   }
 
   pub threads_some : {end : End} → threads.HasRunSome held name faults setting clocks window ticks old new end → RanSome held name faults setting clocks.running ticks (Some window) old new end
@@ -186,13 +187,7 @@ module _ {S : Type 0} {held name : S → Option (List ℕ)} {faults : S → ℕ}
             clock = made.same.clock;
             part = λ rest sink node out.
                 let some = made.part rest sink node (output_in setting k before fresh sink node out) in
-                let world : Setting = setting_then setting ran.run rest in
-                let most = start window ticks (suc ran.begun.closed) in (
-                  some.0,
-                  record { rest = some.0; whole_is = refl },
-                  front_of some.0 (ticks_bytes world node most) (ticks_bytes world node ticks) some.2 (ticks_front world node most ticks (start_most window ticks (suc ran.begun.closed))),
-                  some.3,
-                );
+                (some.0, record { rest = some.0; whole_is = refl }, some.2, some.3);
             none_fell = made.same.none_fell;
             outs = made.same.outs;
             kept = made.same.kept;

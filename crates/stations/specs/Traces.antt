@@ -12,14 +12,18 @@ use Rattle.stations.specs.Streams.{outputs_of}
 abbrev pub trace_of : Station → (window : ℕ) → Run → TraceValue
 trace_of station window run = record { ticks = station.ticks; window = window; buffers = map (map told) run.buffers }
 
+-- the file of a trace, where it has a name
+abbrev pub traced : (name : Option (List ℕ)) → TraceValue → List OutputFile
+traced None trace = []
+traced (Some name) trace = record { name = name; bytes = trace_text trace } ∷ []
+
 -- the file of the trace, where a run by threads is to leave one
-abbrev pub traces_in : (window : Option ℕ) (trace : Option (List ℕ)) → Station → Run → List OutputFile
-traces_in None trace station run = []
-traces_in (Some window) None station run = []
-traces_in (Some window) (Some name) station run = record { name = name; bytes = trace_text (trace_of station window run) } ∷ []
+abbrev pub traces_in : (window : Option ℕ) → Station → Run → List OutputFile
+traces_in None station run = []
+traces_in (Some window) station run = traced station.trace (trace_of station window run)
 
 abbrev pub traces_of : Station → Run → List OutputFile
-traces_of station run = traces_in station.window station.trace station run
+traces_of station run = traces_in station.window station run
 
 -- all files that a run writes: the outputs in sink order, and then the trace
 abbrev pub files_of : Station → Run → List OutputFile
