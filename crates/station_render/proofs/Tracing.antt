@@ -1,8 +1,7 @@
 -- The trace behind the outputs: what it leaves, and that a run's logs are one.
-use Rattle.std.proofs.Common.{◌≡◌, ◌<◌, ◌≤◌, ◌+◌, ◌*◌, ◌-◌, ◌/◌, ◌∙◌, ◌++◌, ◌⊎◌, ℕ, zero, suc, min, List, [], ◌∷◌, length, map, slice_get, slice_index_or, append-nil, arith, refl, ap, sym, subst, inl, inr}
+use Rattle.std.proofs.Common.{◌≡◌, ◌<◌, ◌≤◌, ◌+◌, ◌*◌, ◌-◌, ◌/◌, ◌∙◌, ◌++◌, ◌⊎◌, ℕ, zero, suc, min, Bool, List, [], ◌∷◌, length, map, slice_get, slice_index_or, append-nil, arith, refl, ap, sym, subst, inl, inr}
 use Rattle.std.specs.Prelude.{Option, Some, None, Result, Ok, Err, OnOk, OnErr, IfOk, IsSome, IsSomeAnd, is_some}
 use Rattle.std.specs.Option.{ForSome}
-use Rattle.std.proofs.lemmas.List.{length-append}
 use Rattle.std.proofs.lemmas.Nat.{div-mul-add}
 use Rattle.std.proofs.Math.Nat.{min-eq_left, min-eq_right, suc-mul}
 use Rattle.liq_base.specs.Counts.{Rose}
@@ -20,6 +19,7 @@ use Rattle.run_records.specs.Records.{IsLawful as AreWindows, Run, Window, start
 use Rattle.buffer_ends.specs.Local.{Answers}
 use Rattle.buffer_ends.specs.Told.{told}
 use Rattle.clock_windows.proofs.Meeting.{low_or_high}
+use Rattle.clock_windows.proofs.Starts.{start_zero}
 use Rattle.trace_log.specs.Texts.{IsTrace, trace_text, windows_of}
 use Rattle.trace_log.specs.Values.{TraceValue}
 use Rattle.stations.specs.Outputs.{HoldsSome, OutputFile, with_outputs}
@@ -190,7 +190,7 @@ places_fit (suc n) (suc m) At each one = let rest = places_fit n m Moved moved_e
     moved_one a b i a_below b_below (inr x) (inl y) = absurd (not_m b b_below (subst (At b) x.1 y))
     moved_one a b i a_below b_below (inr x) (inr y) = one a b n (omega (arith, a_below)) (omega (arith, b_below)) x.0 y.0
 
-same_buffer : (a b : ℕ) → Buffer a ≡ Buffer b → a ≡ b
+same_buffer : (a b : ℕ) → ◌≡◌ {A = Op} (Buffer a) (Buffer b) → a ≡ b
 same_buffer a b e = cc
 
 same_reader : (one other : Node) → Some one ≡ Some other → one ≡ other
@@ -210,8 +210,8 @@ few_buffers plan well =
 -- so many windows there are
 windows_counted : (W N count : ℕ) → 0 < W → start W N count ≡ N → ((j : ℕ) → j < count → start W N j < N) → count ≡ windows_of N W
 windows_counted W N zero some whole tight =
-    let none : N ≡ 0 = (let z : 0 * W ≡ 0 = grind arith in let e = min-eq_right {n = 0 * W} {m = N} (omega (arith, z)) in omega (arith, e, whole, z)) in
-    sym (ap (λ n. (n + (W - 1)) / W) none ∙ div-mul-add 0 W (W - 1) (omega (arith, some)))
+    let z : 0 * W ≡ 0 = grind arith in
+    sym (ap (λ n. (n + (W - 1)) / W) (sym whole ∙ start_zero W N ∙ sym z) ∙ div-mul-add 0 W (W - 1) (omega (arith, some)))
 windows_counted W N (suc c) some whole tight =
     let m = suc-mul c W in
     let above : c * W < N = (let low = tight c (omega arith) in elim (low_or_high N (c * W)) [
@@ -226,11 +226,14 @@ windows_counted W N (suc c) some whole tight =
     let split : N + (W - 1) ≡ suc c * W + rest = omega (arith, m, above, some) in
     sym (ap (λ n. n / W) split ∙ div-mul-add (suc c) W rest (omega (arith, most, some)))
 
-windows_long : (setting : Setting) (clocks : ℕ) (accepted : ℕ → ℕ → ℕ → _) (buffer W N count : ℕ) → length (windows_in setting clocks accepted buffer W N count) ≡ count
+snoc_long : {A : Type 0} (xs : List A) (x : A) → length (xs ++ x ∷ []) ≡ suc (length xs)
+snoc_long [] x = refl
+snoc_long (y ∷ xs) x = ap suc (snoc_long xs x)
+
+windows_long : (setting : Setting) (clocks : ℕ) (accepted : ℕ → ℕ → ℕ → Bool) (buffer W N count : ℕ) → length (windows_in setting clocks accepted buffer W N count) ≡ count
 windows_long setting clocks accepted buffer W N zero = refl
 windows_long setting clocks accepted buffer W N (suc j) =
-    let before = windows_long setting clocks accepted buffer W N j in
-    length-append (windows_in setting clocks accepted buffer W N j) (_ ∷ []) ∙ omega (arith, before)
+    snoc_long (windows_in setting clocks accepted buffer W N j) _ ∙ ap suc (windows_long setting clocks accepted buffer W N j)
 
 logs_at : (buffers : List (List Window)) (b : ℕ) → slice_index_or (map (map told) buffers) b [] ≡ map told (slice_index_or buffers b [])
 logs_at [] b = refl

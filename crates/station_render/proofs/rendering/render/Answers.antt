@@ -10,7 +10,7 @@ pub leave_trace-requires : goal.leave_trace-requires
 leave_trace-requires g c =
     λ κs lives.
     let wrote = c.in_ok-rendered.ensures.done in
-    is_trace _ _ c.args.threading.window c.args.ticks wrote.run _ c.requires.plan_is c.requires.few c.args.threading.some c.args.threading.few wrote.lawful wrote.told.logs_are
+    is_trace _ _ c.args.threading.window c.args.ticks wrote.run _ c.requires.fit.plan_is c.requires.fit.few c.args.threading.some c.args.threading.few wrote.lawful wrote.told.logs_are
 
 pub returns-clause-done : goal.returns-clause-done
 returns-clause-done g c =
