@@ -10,8 +10,7 @@ use Rattle.buffer_ends.specs.Borders.{HasEnd, WasClosed}
 use Rattle.buffer_ends.specs.declared.thread_taps.ThreadTaps.{ThreadTaps}
 use Rattle.clock_tasks.specs.declared.task.Task.{Task}
 use Rattle.clock_windows.specs.declared.wires.Wire.{Wire}
-use Rattle.buffer_ends.specs.Told.{told}
-use Rattle.clock_windows.specs.Wires.{wire_at}
+use Rattle.clock_windows.specs.Wires.{wire_at, told}
 
 abbrev pub puts_of : {S R : Type 0} → Task S (ThreadTaps R) → List Side
 puts_of task = task.taps.puts.items

@@ -14,8 +14,7 @@ use Rattle.clock_tasks.specs.Histories.{History, joined_from}
 use Rattle.stream_meaning.specs.Calls.{joined_upto}
 use Rattle.clock_tasks.specs.Tasks.{EngineGone, IsWhole, IsSameClock, held_of}
 use Rattle.clock_windows.specs.declared.wires.Wire.{Wire}
-use Rattle.buffer_ends.specs.Told.{told}
-use Rattle.clock_windows.specs.Wires.{wire_at, kept}
+use Rattle.clock_windows.specs.Wires.{wire_at, kept, told}
 use Rattle.clock_windows.specs.Ends.{puts_of as put_ends, takes_of as take_ends, JoinOpen}
 
 -- the puts and the takes of a buffer in so many ticks from one on

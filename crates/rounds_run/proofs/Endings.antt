@@ -23,12 +23,11 @@ use Rattle.clock_engine.specs.declared.engine.ClockEngine.{ClockEngine}
 use Rattle.clock_engine.specs.Engines.{setting_of}
 use Rattle.buffer_ends.specs.Ends.{LocalStands}
 use Rattle.buffer_ends.specs.Local.{Answers, Leads, LocalBuffer, all_answers, closed, closed_windows, counts_of, empty_list, held as list_held, on, planned}
-use Rattle.buffer_ends.specs.Told.{told as told_of}
 use Rattle.buffer_ends.specs.Same.{SameBuffers}
 use Rattle.buffer_ends.specs.declared.run_end.End.{End}
 use Rattle.buffer_ends.specs.declared.run_end.End.TheVariants.{Done, Write, Memory as NoMemory}
 use Rattle.rounds_run.specs.Rounds.{AreTurnsBegun, HasRun, HasRunPart, HaveRunPart, IsWriteEnd, RoundsMade, RoundsStopped, held_of, made_by, nothing, ticks_by, world}
-use Rattle.rounds_run.specs.Runs.{AreOver, HasRunAll, HasRunSome, HasRunTicks, counts_of_windows}
+use Rattle.rounds_run.specs.Runs.{AreOver, HasRunAll, HasRunSome, HasRunTicks, counts_of_windows, log_of_window}
 use Rattle.rounds_run.proofs.Fronts.{read}
 use Rattle.rounds_run.proofs.Worlds.{meets, meets_is}
 use Rattle.rounds_run.proofs.Going.{none_read, run_none, run_part}
@@ -108,12 +107,12 @@ module _ (plan : Plan) (calls : List Call) (lists : List LocalBuffer) (same : Sa
   logs_of_lists [] = refl
   logs_of_lists (x ∷ xs) = ap (λ (rest : List (List Answers)). closed_windows (closed x) ∷ rest) (logs_of_lists xs)
 
-  logs_told : map closed_windows (map closed lists) ≡ map (map told_of) (windows_from calls 0 (length plan.buffers))
+  logs_told : map closed_windows (map closed lists) ≡ map (λ (windows : List Window). map log_of_window windows) (windows_from calls 0 (length plan.buffers))
   logs_told =
       logs_of_lists lists
-      ∙ windows_mapped (λ (list : LocalBuffer). closed_windows (closed list)) (map told_of) calls 0 lists
-      (λ k list at. let same_place : k ≡ 0 + k = omega arith in logged k calls list (planned_at k list at).3 (led k list at) ∙ ap (λ (b : ℕ). map told_of (window_of b calls ∷ [])) same_place)
-      ∙ ap (λ (n : ℕ). map (map told_of) (windows_from calls 0 n)) many_lists
+      ∙ windows_mapped (λ (list : LocalBuffer). closed_windows (closed list)) (λ (windows : List Window). map log_of_window windows) calls 0 lists
+      (λ k list at. let same_place : k ≡ 0 + k = omega arith in logged k calls list (planned_at k list at).3 (led k list at) ∙ ap (λ (b : ℕ). map log_of_window (window_of b calls ∷ [])) same_place)
+      ∙ ap (λ (n : ℕ). map (λ (windows : List Window). map log_of_window windows) (windows_from calls 0 n)) many_lists
 
 module _ {S : Type 0} (held name : S → Option (List ℕ)) (room : S → Option ℕ) (faults : S → ℕ) (plan : Plan) (ticks : ℕ) (setting : Setting) (first now : List (ClockEngine S)) (over : AreOver room plan ticks setting first) where
   abbrev many : ℕ
@@ -197,7 +196,7 @@ module _ {S : Type 0} (held name : S → Option (List ℕ)) (room : S → Option
               each = λ k before after was at. ticks_told made.calls (setting_in setting (run_of many made.calls)) (in_is setting well (length first) (ticks * length first) made.calls begun) ticks before after (over.are.over k before was) (made.run.each k before after was at);
             };
             counts_are = counts_told plan made.calls taps_now same_here told ∙ ap (λ (n : ℕ). map counts_of_windows (windows_from made.calls 0 n)) buffers;
-            logs_are = logs_told plan made.calls taps_now same_here told ∙ ap (λ (n : ℕ). map (map told_of) (windows_from made.calls 0 n)) buffers;
+            logs_are = logs_told plan made.calls taps_now same_here told ∙ ap (λ (n : ℕ). map (λ (windows : List Window). map log_of_window windows) (windows_from made.calls 0 n)) buffers;
           }
 
 -- no tick

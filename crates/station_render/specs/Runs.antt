@@ -14,10 +14,9 @@ use Rattle.stations.specs.Outputs.{OutputFile, with_outputs}
 use Rattle.stations.specs.Reports.{answers_line}
 use Rattle.stations.specs.Stations.{IsBegun, IsBegunIn, IsLawful, IsLawfulIn, Station, bare, most_in, most_of, setting_of, station_of}
 use Rattle.stations.specs.Streams.{gaps_in_order, outputs_of}
-use Rattle.stations.specs.Traces.{files_of, traced}
+use Rattle.stations.specs.Traces.{files_of, told, traced}
 use Rattle.stations.specs.declared.ready.Ready.{Ready}
 use Rattle.buffer_ends.specs.Local.{Answers}
-use Rattle.buffer_ends.specs.Told.{told}
 use Rattle.buffer_ends.specs.declared.counts.Counts.{Counts}
 use Rattle.buffer_ends.specs.declared.run_end.End.{End}
 use Rattle.buffer_ends.specs.declared.run_end.End.TheVariants.{Write}
