@@ -3,4 +3,3 @@ pub mod Local
 pub mod Same
 pub mod Sides
 pub mod Borders
-pub mod Told

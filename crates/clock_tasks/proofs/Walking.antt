@@ -116,6 +116,7 @@ module _ {E : Type 0} (setting : Setting) (stands : E → ℕ → (ℕ → List 
           let old : held e sink ≡ grown (ticks_bytes all node t) (first sink) =
           gone.holds (behind (answers_by h t) made rest) sink node output ∙ ap (λ (s : Setting). grown (ticks_bytes s node t) (first sink)) (later setting (answers_by h t) made rest) in (
             ticks_bytes all node t ++ p.0,
+            record { rest = p.0; whole_is = refl },
             record { rest = p.1.rest; whole_is = ap (λ l. ticks_bytes all node t ++ l) p.1.whole_is ∙ sym (append_assoc (ticks_bytes all node t) p.0 p.1.rest) },
             p.2 ∙ ap (λ o. grown p.0 o) old ∙ grown_twice (ticks_bytes all node t) p.0 (first sink),
           );

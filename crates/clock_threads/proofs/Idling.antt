@@ -1,5 +1,5 @@
 -- Runs in which no clock made a tick: memory was refused before the first, or no clock runs.
-use Rattle.std.proofs.Common.{◌≡◌, ◌⊎◌, ◌<◌, ◌≤◌, ℕ, zero, suc, ◌-◌, true, Option, List, [], ◌∷◌, length, min, slice_index_or, arith, refl, sym, subst, inl, inr}
+use Rattle.std.proofs.Common.{◌≡◌, ◌⊎◌, ◌<◌, ◌≤◌, ℕ, zero, suc, ◌-◌, true, Option, List, [], ◌∷◌, ◌++◌, length, min, slice_index_or, arith, refl, ap, sym, subst, inl, inr}
 use Rattle.plan_core.specs.declared.plan.Plan.{Plan}
 use Rattle.clock_infer.specs.declared.clock_map.ClockMap.{ClockMap}
 use Rattle.buffer_ends.specs.Local.{Answers}
@@ -15,7 +15,7 @@ use Rattle.clock_engine.specs.declared.engine.ClockEngine.{ClockEngine}
 use Rattle.clock_tasks.specs.Tasks.{held_of}
 use Rattle.clock_windows.specs.Listed.{listed}
 use Rattle.clock_windows.proofs.Meeting.{low_or_high}
-use Rattle.clock_windows.proofs.Starts.{start_most, start_next}
+use Rattle.clock_windows.proofs.Starts.{start_most, start_next, start_zero}
 use Rattle.clock_windows.proofs.Breaking.{begin_none}
 use Rattle.clock_windows.proofs.Recording.{listed_at, listed_long}
 use Rattle.clock_windows.proofs.Sets.{same_or_other}
@@ -29,7 +29,7 @@ idle_windows b = ([], []) ∷ []
 abbrev idle_run : Setting → Run
 idle_run setting = record { buffers = listed (length setting.plan.buffers) idle_windows }
 
-idle_begun : (setting : Setting) (clocks W N : ℕ) → AreWindowsBegun setting clocks W N (idle_run setting)
+abbrev idle_begun : (setting : Setting) (clocks W N : ℕ) → AreWindowsBegun setting clocks W N (idle_run setting)
 idle_begun setting clocks W N = record {
   buffers = listed_long (length setting.plan.buffers) idle_windows;
   accepted = λ m t b. true;
@@ -60,7 +60,8 @@ none_made held name room faults plan setting clocks W N engines end other are = 
         same = same_not name faults engine;
         part = λ rest sink node out. (
           [],
-          record { rest = ticks_bytes (setting_then setting (idle_run setting) rest) node N; whole_is = refl },
+          record { rest = []; whole_is = sym (ap (λ n. ticks_bytes (setting_then setting (idle_run setting) rest) node n ++ []) (start_zero W N)) },
+          record { rest = ticks_bytes (setting_then setting (idle_run setting) rest) node (start W N 1); whole_is = refl },
           grown_none (held_of held engine sink),
         );
       });

@@ -202,7 +202,7 @@ module _ {S R : Type 0} (held name : S → Option (List ℕ)) (room : S → Opti
     abbrev begun_run : Run
     begun_run = part_run held name faults wires W N joined now d p setting map_of fresh.engines_are.is fresh.wires_are long (shared d)
 
-    made_part : (k : ℕ) → k < length joined → HasMadePart held name faults setting begun_run N k (slice_index_or joined k d).engine (slice_index_or now k d).engine
+    made_part : (k : ℕ) → k < length joined → HasMadePart held name faults setting begun_run W N p.closed k (slice_index_or joined k d).engine (slice_index_or now k d).engine
     made_part k h = record {
       whole = (p.clocks k h).whole;
       same = (p.clocks k h).same;
@@ -234,13 +234,13 @@ module _ {S R : Type 0} (held name : S → Option (List ℕ)) (room : S → Opti
 
     some_run : (end : End) → ((clock sink : ℕ) → end ≡ Write clock sink → IsWriteAt faults clock sink joined now)
         → HasRunSome held name faults setting map_of W N (map engine_of bare) (map engine_of now) end
-    some_run end write = record {
+    some_run end write = let begun = part_begun held name faults wires W N joined now d p setting map_of fresh.engines_are.is fresh.wires_are long (shared d) in record {
       run = begun_run;
-      begun = part_begun held name faults wires W N joined now d p setting map_of fresh.engines_are.is fresh.wires_are long (shared d);
+      begun = begun.0;
       many = map_long engine_of now ∙ p.many ∙ j.many ∙ sym (map_long engine_of bare);
       engines = λ k e h. (let low : k < length bare = (let n = map_long (engine_of {S = S} {R = R}) bare in omega (arith, h, n)) in let m = j.many in let n = p.many in
-          subst (λ (z : ClockEngine S × ClockEngine S). HasMadePart held name faults setting begun_run N k z.0 z.1)
-          (λ i. ((engine_is k d low ∙ sym (map_get engine_of bare k d e low)) i, sym (map_get engine_of now k d e (omega (arith, low, m, n))) i)) (made_part k (omega (arith, low, m))));
+          subst (λ (z : ClockEngine S × ClockEngine S × ℕ). HasMadePart held name faults setting begun_run W N z.2 k z.0 z.1)
+          (λ i. ((engine_is k d low ∙ sym (map_get engine_of bare k d e low)) i, sym (map_get engine_of now k d e (omega (arith, low, m, n))) i, sym begun.1 i)) (made_part k (omega (arith, low, m))));
       write = λ clock sink e. write_end clock sink (write clock sink e);
     }
 

@@ -1,5 +1,5 @@
 -- Runs of the engines of all clocks by threads, in windows of ticks.
-use Rattle.std.specs.Prelude.{◌≡◌, ◌<◌, ℕ, Option, Some, None, List, [], length, map, slice_get, slice_index_or}
+use Rattle.std.specs.Prelude.{◌≡◌, ◌<◌, ℕ, suc, Option, Some, None, List, [], length, map, slice_get, slice_index_or}
 use Rattle.liq_base.specs.Pieces.{IsPrefix, grown}
 use Rattle.plan_core.specs.declared.plan.Plan.{Plan}
 use Rattle.clock_infer.specs.declared.clock_map.ClockMap.{ClockMap}
@@ -12,7 +12,7 @@ use Rattle.stream_meaning.specs.Instants.{Setting}
 use Rattle.stream_meaning.specs.Settings.{IsSetting}
 use Rattle.stream_meaning.specs.Sinks.{ticks_bytes}
 use Rattle.node_states.specs.Ticks.{IsOutput, with_rest}
-use Rattle.run_records.specs.Records.{AreWindowsBegun, IsLawful, Run, setting_in, setting_then}
+use Rattle.run_records.specs.Records.{AreWindowsBegun, IsLawful, Run, setting_in, setting_then, start}
 use Rattle.clock_outputs.specs.Appends.{RoseAt}
 use Rattle.clock_engine.specs.Engines.{EngineStands, outputs_of, setting_of}
 use Rattle.clock_engine.specs.Ticks.{HaveTicksRoom}
@@ -70,13 +70,16 @@ pub record HasRunAll {S : Type 0} (held name : S → Option (List ℕ)) (faults 
   pub has_run : HasRun held name faults setting clocks W N run old new
   pub tells : AreTold run counts logs
 
--- An engine has made a part of its ticks of a run: each output has grown by a front of its bytes, whatever answers follow those that
--- the run got.
-pub record HasMadePart {S : Type 0} (held name : S → Option (List ℕ)) (faults : S → ℕ) (setting : Setting) (run : Run) (N k : ℕ) (old new : ClockEngine S) : Type 0 where
+-- An engine came into the window that follows so many: each output has grown by its bytes of the windows before, and then by a front of
+-- those of this one, whatever answers follow those that the run got.
+pub record HasMadePart {S : Type 0} (held name : S → Option (List ℕ)) (faults : S → ℕ) (setting : Setting) (run : Run) (W N closed k : ℕ) (old new : ClockEngine S) : Type 0 where
   pub whole : IsWhole new
   pub same : IsSameClock name faults old new
   pub part : (rest : ℕ → List Answer) (sink node : ℕ) → IsOutput setting k sink node
-      → (front : List ℕ) × IsPrefix front (ticks_bytes (setting_then setting run rest) node N) × (held_of held new sink ≡ grown front (held_of held old sink))
+      → (bytes : List ℕ)
+      × IsPrefix (ticks_bytes (setting_then setting run rest) node (start W N closed)) bytes
+      × IsPrefix bytes (ticks_bytes (setting_then setting run rest) node (start W N (suc closed)))
+      × (held_of held new sink ≡ grown bytes (held_of held old sink))
 
 -- The end names an output of this clock, the lowest that stopped, and the count of faults of its sink rose.
 pub record IsWriteEnd {S : Type 0} (faults : S → ℕ) (setting : Setting) (clock sink : ℕ) (old new : List (ClockEngine S)) : Type 0 where
@@ -91,10 +94,11 @@ pub record IsWriteEnd {S : Type 0} (faults : S → ℕ) (setting : Setting) (clo
   pub there : slice_get (outputs_of setting clock) place ≡ Some (sink, node)
   pub rose : RoseAt faults place before.outs.items after.outs.items
 
--- A run came so far, and this is its record; no clock is past the window that follows those that were closed.
+-- A run came so far, and this is its record: each clock made the windows that were closed whole, and none is past the one that follows
+-- them.
 pub record HasRunSome {S : Type 0} (held name : S → Option (List ℕ)) (faults : S → ℕ) (setting : Setting) (clocks : ClockMap) (W N : ℕ) (old new : List (ClockEngine S)) (end : End) : Type 0 where
   pub run : Run
   pub begun : AreWindowsBegun setting clocks.running W N run
   pub many : length new ≡ length old
-  pub engines : (k : ℕ) (d : ClockEngine S) → k < length old → HasMadePart held name faults setting run N k (slice_index_or old k d) (slice_index_or new k d)
+  pub engines : (k : ℕ) (d : ClockEngine S) → k < length old → HasMadePart held name faults setting run W N begun.closed k (slice_index_or old k d) (slice_index_or new k d)
   pub write : (clock sink : ℕ) → end ≡ Write clock sink → IsWriteEnd faults setting clock sink old new

@@ -40,6 +40,15 @@ front_none (x ∷ xs) ys e = absurd cc
 pub begin_none : (calls : List Call) → IsBegin [] calls
 begin_none calls = record { rest = calls; are = refl }
 
+pub itself : (bytes : List ℕ) → IsPrefix bytes bytes
+itself bytes = record { rest = []; whole_is = sym (append-nil bytes) }
+
+pub front_of : (a b c : List ℕ) → IsPrefix a b → IsPrefix b c → IsPrefix a c
+front_of a b c first next = record {
+  rest = first.rest ++ next.rest;
+  whole_is = next.whole_is ∙ ap (λ l. l ++ next.rest) first.whole_is ∙ append_assoc a first.rest next.rest;
+}
+
 -- the bytes of more ticks begin with those of fewer
 ticks_more : (setting : Setting) (node t k : ℕ) → (rest : List ℕ) × (ticks_bytes setting node (t + k) ≡ ticks_bytes setting node t ++ rest)
 ticks_more setting node t zero = (let e : t + 0 ≡ t = omega arith in ([], ap (ticks_bytes setting node) e ∙ sym (append-nil (ticks_bytes setting node t))))
@@ -57,28 +66,29 @@ front_more setting node t n front most is =
       whole_is = ap (ticks_bytes setting node) e ∙ more.1 ∙ ap (λ l. l ++ more.0) is.whole_is ∙ append_assoc front is.rest more.0;
     }
 
--- A clock has made so many ticks from the last border on, and then these calls of the next one; each output has grown by a front of
--- its bytes of N ticks.
-pub record Came (setting : Setting) (m s e N : ℕ) (history : History) (ticks : ℕ) (made : List Call) (accepted : ℕ → Bool) (old new : ℕ → Option (List ℕ)) : Type 0 where
+-- A clock has made so many ticks from the last border on, and then these calls of the next one; each output has grown by its bytes up to
+-- that border, and by a front of those up to the next one.
+pub record Came (setting : Setting) (m s e : ℕ) (history : History) (ticks : ℕ) (made : List Call) (accepted : ℕ → Bool) (old new : ℕ → Option (List ℕ)) : Type 0 where
   pub least : s ≤ ticks
   pub inside : ((ticks ≤ e) × (made ≡ [])) ⊎ (ticks < e)
   pub ticks_are : AreTicks setting m ticks history
   pub begun : (rest : Answers) → IsBegin made (calls_of_tick (with_rest setting (after_calls (answers_by history ticks) made) rest) accepted m ticks)
   pub front : (rest : Answers) (sink node : ℕ) → IsOutput setting m sink node
-      → (bytes : List ℕ) × IsPrefix bytes (ticks_bytes (with_rest setting (after_calls (answers_by history ticks) made) rest) node N) × (new sink ≡ grown bytes (old sink))
+      → (bytes : List ℕ) × IsPrefix (ticks_bytes (with_rest setting (after_calls (answers_by history ticks) made) rest) node s) bytes
+      × IsPrefix bytes (ticks_bytes (with_rest setting (after_calls (answers_by history ticks) made) rest) node e) × (new sink ≡ grown bytes (old sink))
 
 -- what a clock called since the last border; one that does not run called nothing
-pub record Reach (setting : Setting) (running m s e N : ℕ) (history : History) (old new : ℕ → Option (List ℕ)) : Type 0 where
+pub record Reach (setting : Setting) (running m s e : ℕ) (history : History) (old new : ℕ → Option (List ℕ)) : Type 0 where
   pub ticks : ℕ
   pub made : List Call
   pub accepted : ℕ → Bool
   pub since : List Call
   pub since_is : m < running → since ≡ joined_from history.calls s (ticks - s) ++ made
-  pub came : m < running → Came setting m s e N history ticks made accepted old new
+  pub came : m < running → Came setting m s e history ticks made accepted old new
   pub rests : running ≤ m → since ≡ []
 
 module _ (setting : Setting) (map : ClockMap) (is : IsSetting setting map) (wires : List Wire) (are : AreWires setting map.running wires) (W N closed : ℕ) (hs : ℕ → History) (old new : ℕ → ℕ → Option (List ℕ))
-    (reach : (m : ℕ) → Reach setting map.running m (start W N closed) (start W N (suc closed)) N (hs m) (old m) (new m)) where
+    (reach : (m : ℕ) → Reach setting map.running m (start W N closed) (start W N (suc closed)) (hs m) (old m) (new m)) where
   abbrev s : ℕ
   s = start W N closed
 
@@ -123,7 +133,7 @@ module _ (setting : Setting) (map : ClockMap) (is : IsSetting setting map) (wire
   silent m answers accepted t b (inr past) = (take_own setting map is wires are).none answers accepted m t b past
 
   module _ (m : ℕ) (runs : m < map.running) where
-    abbrev came : Came setting m s e N (hs m) (ticks m) (made m) (reach m).accepted (old m) (new m)
+    abbrev came : Came setting m s e (hs m) (ticks m) (made m) (reach m).accepted (old m) (new m)
     came = (reach m).came runs
 
     tick_quiet : (b : ℕ) → (reader setting b ≢ m) ⊎ (length wires ≤ b) → (i : ℕ) → i < ticks m → takes_of b ((hs m).calls i) ≡ []
@@ -232,11 +242,12 @@ module _ (setting : Setting) (map : ClockMap) (is : IsSetting setting map) (wire
     since_begins : (rest : Answers) → IsBegin (since m) (joined_between (calls_in (world rest) map.running accepts m) s e)
     since_begins rest = begins_by rest came.inside
 
-    -- each output of the clock has grown by a front of its bytes
-    pub fronts : (rest : Answers) (sink node : ℕ) → IsOutput setting m sink node → (bytes : List ℕ) × IsPrefix bytes (ticks_bytes (world rest) node N) × (new m sink ≡ grown bytes (old m sink))
+    -- each output of the clock has grown by its bytes up to the last border, and by a front of those up to the next one
+    pub fronts : (rest : Answers) (sink node : ℕ) → IsOutput setting m sink node
+        → (bytes : List ℕ) × IsPrefix (ticks_bytes (world rest) node s) bytes × IsPrefix bytes (ticks_bytes (world rest) node e) × (new m sink ≡ grown bytes (old m sink))
     fronts rest sink node out =
         let f = came.front (whole_later rest) sink node out in
-        (f.0, subst (λ (w : Setting). IsPrefix f.0 (ticks_bytes w node N)) (whole_world rest) f.1, f.2)
+        (f.0, subst (λ (w : Setting). IsPrefix (ticks_bytes w node s) f.0) (whole_world rest) f.1, subst (λ (w : Setting). IsPrefix f.0 (ticks_bytes w node e)) (whole_world rest) f.2, f.3)
 
   in_plan : (b : ℕ) → b < length wires → b < length setting.plan.buffers
   in_plan b less = let n = are.many in omega (arith, less, n)
@@ -280,9 +291,8 @@ module _ (setting : Setting) (map : ClockMap) (is : IsSetting setting map) (wire
   in_wires : (b : ℕ) → b < length setting.plan.buffers → b < length wires
   in_wires b known = let n = are.many in omega (arith, known, n)
 
-  -- the record of the run
-  pub windows_begun : ((b : ℕ) → b < length wires → (chunks : List (List Cell)) × IsRun (wire_at wires b).capacity [] (windows_upto (wire_at wires b) hs b W N closed) chunks) → AreWindowsBegun setting map.running W N broken_run
-  windows_begun legal = record {
+  abbrev begun_by : ((b : ℕ) → b < length wires → (chunks : List (List Cell)) × IsRun (wire_at wires b).capacity [] (windows_upto (wire_at wires b) hs b W N closed) chunks) → AreWindowsBegun setting map.running W N broken_run
+  begun_by legal = record {
     buffers = listed_long (length wires) windows ∙ are.many;
     accepted = accepts;
     closed = closed;
@@ -296,3 +306,8 @@ module _ (setting : Setting) (map : ClockMap) (is : IsSetting setting map) (wire
     legal = λ rest b known. (let less = in_wires b known in let l = legal b less in
         (l.0, subst (λ (z : ℕ × List Window). IsRun z.0 [] z.1 l.0) (λ i. ((are.each b less).capacity_is i, windows_same rest b less closed (omega arith) i)) l.1));
   }
+
+  -- the record of the run, with as many closed windows
+  pub windows_begun : ((b : ℕ) → b < length wires → (chunks : List (List Cell)) × IsRun (wire_at wires b).capacity [] (windows_upto (wire_at wires b) hs b W N closed) chunks)
+      → (begun : AreWindowsBegun setting map.running W N broken_run) × (begun.closed ≡ closed)
+  windows_begun legal = (begun_by legal, refl)

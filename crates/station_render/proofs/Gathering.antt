@@ -1,10 +1,11 @@
 -- What rounds and threads leave, as one record of a run.
-use Rattle.std.proofs.Common.{◌≡◌, ◌+◌, ◌∙◌, ◌++◌, true, ℕ, Bool, List, [], ◌∷◌, length, map, flat_map, slice_get, slice_index_or, arith, refl, ap, sym, subst}
+use Rattle.std.proofs.Common.{◌≡◌, ◌+◌, ◌∙◌, ◌++◌, true, false, ℕ, Bool, List, [], ◌∷◌, length, map, flat_map, slice_get, slice_index_or, arith, refl, ap, sym, subst}
 use Rattle.std.specs.Prelude.{Option, Some, None, count_by, is_none, is_some, not}
 use Rattle.std.proofs.lemmas.List.{map-append}
 use native.Mathlib.Nat.{min-le_left}
 use Rattle.liq_base.specs.Counts.{Rose}
 use Rattle.clock_infer.specs.declared.clock_map.ClockMap.{ClockMap}
+use Rattle.frame_core.specs.declared.cell.Cell.{Cell}
 use Rattle.stream_meaning.specs.Instants.{Setting}
 use Rattle.stream_meaning.specs.Sinks.{ticks_bytes}
 use Rattle.stream_meaning.proofs.Answering.{begin_none}
@@ -27,6 +28,7 @@ use Rattle.clock_windows.specs.Wires.{told}
 use Rattle.clock_threads.specs.Logs.{counts_in}
 use Rattle.clock_threads.specs.Runs as threads
 use Rattle.stations.specs.Stations.{IsBegunIn, IsLawfulIn}
+use Rattle.stations.specs.Traces.{told as told_of}
 use Rattle.station_render.specs.Sinks.{HasFailed}
 use Rattle.station_render.specs.Engines.{AreAt, IsAt, outs_of}
 use Rattle.station_render.specs.Runs.{RanAll, RanSome}
@@ -94,14 +96,29 @@ counts_told : (buffers : List (List Window)) → map counts_in (map (map told) b
 counts_told [] = refl
 counts_told (windows ∷ buffers) = λ i. count_told windows i ∷ counts_told buffers i
 
+-- so are the logs
+chunks_are : (xs : List (Option (List Cell))) → map is_chunk xs ≡ map is_some xs
+chunks_are [] = refl
+chunks_are (None ∷ xs) = ap (λ (bs : List Bool). false ∷ bs) (chunks_are xs)
+chunks_are (Some chunk ∷ xs) = ap (λ (bs : List Bool). true ∷ bs) (chunks_are xs)
+
+windows_told : (windows : List Window) → map told windows ≡ map told_of windows
+windows_told [] = refl
+windows_told (window ∷ windows) = λ i. (record { puts = chunks_are window.0 i; takes = chunks_are window.1 i }) ∷ windows_told windows i
+
+logs_told : (buffers : List (List Window)) → map (map told) buffers ≡ map (map told_of) buffers
+logs_told [] = refl
+logs_told (windows ∷ buffers) = λ i. windows_told windows i ∷ logs_told buffers i
+
 -- the records of rounds
 module _ {S : Type 0} {held name : S → Option (List ℕ)} {faults : S → ℕ} {setting : Setting} {clocks ticks : ℕ} {old new : List (ClockEngine S)} (all : length old ≡ clocks) where
-  pub rounds_all : {counts : List Counts} {logs : List (List Answers)} → rounds.HasRunAll held name faults setting ticks old new counts logs → RanAll held name faults setting clocks ticks None old new counts
+  pub rounds_all : {counts : List Counts} {logs : List (List Answers)} → rounds.HasRunAll held name faults setting ticks old new counts logs → RanAll held name faults setting clocks ticks None old new counts logs
   rounds_all ran = record {
     run = ran.run;
     lawful = subst (λ n. IsRounds setting n ticks ran.run) all ran.rounds;
     engines = ran.engines;
     counts_are = ran.counts_are;
+    logs_are = ran.logs_are;
   }
 
   pub rounds_some : {end : End} → rounds.HasRunSome held name faults setting ticks old new end → RanSome held name faults setting clocks ticks None old new end
@@ -143,7 +160,7 @@ both_are old new k before after was is = λ i. (got_is old k before before was i
 -- the records of threads
 module _ {S : Type 0} {held name : S → Option (List ℕ)} {faults : S → ℕ} {setting : Setting} {clocks : ClockMap} {window ticks : ℕ} {old new : List (ClockEngine S)} (at : AreAt setting old) where
   pub threads_all : {counts : List Counts} {logs : List (List Answers)} → threads.HasRunAll held name faults setting clocks window ticks old new counts logs
-      → RanAll held name faults setting clocks.running ticks (Some window) old new counts
+      → RanAll held name faults setting clocks.running ticks (Some window) old new counts logs
   threads_all ran = record {
     run = ran.run;
     lawful = ran.has_run.lawful;
@@ -168,6 +185,7 @@ module _ {S : Type 0} {held name : S → Option (List ℕ)} {faults : S → ℕ}
           };
     };
     counts_are = ran.tells.counts_are ∙ ap (map counts_in) ran.tells.logs_are ∙ counts_told ran.run.buffers;
+    logs_are = ran.tells.logs_are ∙ logs_told ran.run.buffers;
   }
 
   pub threads_some : {end : End} → threads.HasRunSome held name faults setting clocks window ticks old new end → RanSome held name faults setting clocks.running ticks (Some window) old new end
@@ -178,14 +196,14 @@ module _ {S : Type 0} {held name : S → Option (List ℕ)} {faults : S → ℕ}
       size = ran.many;
       each = λ k before after was is.
           let fresh = at.each k before was in
-          let made = subst (λ (z : ClockEngine S × ClockEngine S). threads.HasMadePart held name faults setting ran.run ticks k z.0 z.1) (both_are old new k before after was is) (ran.engines k before (within old k before was)) in
+          let made = subst (λ (z : ClockEngine S × ClockEngine S). threads.HasMadePart held name faults setting ran.run window ticks ran.begun.closed k z.0 z.1) (both_are old new k before after was is) (ran.engines k before (within old k before was)) in
           record {
             works = made.whole.works;
             setting = made.same.setting;
             clock = made.same.clock;
             part = λ rest sink node out.
                 let some = made.part rest sink node (output_in setting k before fresh sink node out) in
-                (some.0, record { rest = some.0; whole_is = refl }, some.1, some.2);
+                (some.0, record { rest = some.0; whole_is = refl }, some.2, some.3);
             none_fell = made.same.none_fell;
             outs = made.same.outs;
             kept = made.same.kept;

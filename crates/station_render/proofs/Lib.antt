@@ -10,3 +10,4 @@ pub mod Running
 pub mod Ending
 pub mod Gathering
 pub mod Returning
+pub mod Tracing

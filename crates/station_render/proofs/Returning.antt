@@ -11,6 +11,7 @@ use Rattle.frame_core.specs.Library.{Sounds}
 use Rattle.stream_meaning.specs.Instants.{Setting}
 use Rattle.run_records.specs.Records.{Run, Window, answers_of, setting_in, setting_then}
 use Rattle.clock_engine.specs.declared.engine.ClockEngine.{ClockEngine}
+use Rattle.buffer_ends.specs.Local.{Answers}
 use Rattle.buffer_ends.specs.declared.counts.Counts.{Counts}
 use Rattle.buffer_ends.specs.declared.run_end.End.{End}
 use Rattle.buffer_ends.specs.declared.run_end.End.TheVariants.{Write}
@@ -18,7 +19,7 @@ use Rattle.rounds_run.specs.Runs.{AreOver, counts_of_windows}
 use Rattle.rounds_run.proofs.Records.{run_of}
 use Rattle.clock_threads.specs.Runs as threads
 use Rattle.stations.specs.Findings.{IsFit}
-use Rattle.stations.specs.Stations.{Station}
+use Rattle.stations.specs.Stations.{Station, most_in}
 use Rattle.stations.specs.Streams.{counts_in}
 use Rattle.station_render.specs.Sinks.{AreCreated, HasFailed}
 use Rattle.station_render.specs.Engines.{AreEmptyBelow, ArePast, outs_of}
@@ -48,22 +49,22 @@ module _ (plan : Plan) (library : Sounds) (clocks : ClockMap) (start ticks : ℕ
   abbrev setting : Setting
   setting = setting_for plan library clocks start
 
-  abbrev station : (window : Option ℕ) → Station
-  station window = record { plan = plan; library = library; clocks = clocks; start = start; ticks = ticks; window = window }
+  abbrev station : (window : Option ℕ) → (trace : Option (List ℕ)) → Station
+  station window trace = record { plan = plan; library = library; clocks = clocks; start = start; ticks = ticks; window = window; trace = trace }
 
   pub in_main : AreMain plan clocks → LieInMain setting plan.sinks
   in_main main k name node fallible at = let found = main k name node fallible at in (found.0, got_is clocks.of node (Main found.0) (Main 0) found.2)
 
   -- no engine was made, and the sinks are as they were
-  pub starved : {S : Type 0} (name held : S → Option (List ℕ)) (left : S → Option ℕ) (faults : S → ℕ) (groups : List (List S)) (files : Option Files) (window : Option ℕ)
+  pub starved : {S : Type 0} (name held : S → Option (List ℕ)) (left : S → Option ℕ) (faults : S → ℕ) (groups : List (List S)) (files : Option Files) (window : Option ℕ) (trace : Option (List ℕ))
       → AreCreated (IsReady name held left files setting ticks) (written plan.sinks) (order_of setting (written plan.sinks)) groups
-      → RanPart name held files (station window) (order_of setting (written plan.sinks)) groups
-  starved name held left faults groups files window ready = record {
+      → RanPart name held files (station window trace) (order_of setting (written plan.sinks)) groups
+  starved name held left faults groups files window trace ready = let made = most_in setting clocks.running ticks window (run_of (length plan.buffers) []) (not_begun setting clocks.running ticks window) in record {
     run = run_of (length plan.buffers) [];
     begun = not_begun setting clocks.running ticks window;
-    parts = begun_all name held files setting (run_of (length plan.buffers) []) ticks (order_of setting (written plan.sinks)) groups
-        (λ rest. created_as (IsReady name held left files setting ticks) (IsPart name held files (setting_then setting (run_of (length plan.buffers) []) rest) ticks)
-        (part_of_ready name held left faults files setting ticks (λ buffer. answers_of (run_of (length plan.buffers) []) buffer ++ rest buffer))
+    parts = begun_all name held files setting (run_of (length plan.buffers) []) ticks made (order_of setting (written plan.sinks)) groups
+        (λ rest. created_as (IsReady name held left files setting ticks) (IsPart name held files (setting_then setting (run_of (length plan.buffers) []) rest) ticks made)
+        (part_of_ready name held left faults files setting ticks made (λ buffer. answers_of (run_of (length plan.buffers) []) buffer ++ rest buffer))
         (written plan.sinks) (order_of setting (written plan.sinks)) groups ready);
   }
 
@@ -130,46 +131,48 @@ module _ {plan : Plan} {library : Sounds} {clocks : ClockMap} {start ticks : ℕ
 
     module _ {faults : S → ℕ} {window : Option ℕ} where
       -- they stand for all ticks
-      stand : {counts : List Counts} (ran : RanAll held name faults world clocks.running ticks window old new counts) → ArePast world (setting_in world ran.run) ticks last
+      stand : {counts : List Counts} {logs : List (List Answers)} (ran : RanAll held name faults world clocks.running ticks window old new counts logs) → ArePast world (setting_in world ran.run) ticks last
       stand ran =
           subst (λ es. ArePast world (setting_in world ran.run) ticks es) (sym last_is) (stand_after held name faults world (setting_in world ran.run) ticks old new opened.at ran.engines)
 
-      pub stand_so : {counts : List Counts} → RanAll held name faults world clocks.running ticks window old new counts
+      pub stand_so : {counts : List Counts} {logs : List (List Answers)} → RanAll held name faults world clocks.running ticks window old new counts logs
           → (other : Setting) × (meant : Setting) × (t : ℕ) × (other.plan ≡ plan) × (other.clocks ≡ clocks.of) × ArePast other meant t last
       stand_so ran = (world, setting_in world ran.run, ticks, refl, refl, stand ran)
 
       module _ {groups_new : List (List S)} (back : groups_new ≡ outs_of last) where
-        pub part_back : {end : End} → RanSome held name faults world clocks.running ticks window old new end → RanPart name held files (record { plan = plan; library = library; clocks = clocks; start = start; ticks = ticks; window = window }) order groups_new
+        pub part_back : {trace : Option (List ℕ)} {end : End} → RanSome held name faults world clocks.running ticks window old new end → RanPart name held files (record { plan = plan; library = library; clocks = clocks; start = start; ticks = ticks; window = window; trace = trace }) order groups_new
         part_back some = record {
           run = some.run;
           begun = some.begun;
-          parts = begun_all name held files world some.run ticks order groups_new
-              (λ rest. subst (λ (z : List ℕ × List (List S)). AreCreated (IsPart name held files (setting_then world some.run rest) ticks) (written plan.sinks) z.0 z.1) (λ i. (sym opened.order_is i, sym (groups_are groups_new back) i))
-              (all_part world ticks mains name held left faults files old new opened.at opened.ready some.run (λ k. 0) (λ k. ticks) (λ k. omega arith) some.part rest));
+          parts = begun_all name held files world some.run ticks (most_in world clocks.running ticks window some.run some.begun) order groups_new
+              (λ rest. subst (λ (z : List ℕ × List (List S)). AreCreated (IsPart name held files (setting_then world some.run rest) ticks (most_in world clocks.running ticks window some.run some.begun)) (written plan.sinks) z.0 z.1) (λ i. (sym opened.order_is i, sym (groups_are groups_new back) i))
+              (all_part world ticks mains name held left faults files old new opened.at opened.ready some.run (λ k. 0) (most_in world clocks.running ticks window some.run some.begun) some.part rest));
         }
 
         pub failed_back : {end : End} → RanSome held name faults world clocks.running ticks window old new end → (clock sink : ℕ) → end ≡ Write clock sink → HasFailed faults groups_new
         failed_back some clock sink is = subst (λ gs. HasFailed faults gs) (sym (groups_are groups_new back)) (some.failed clock sink is)
 
         -- where all ticks were made, this is told of them
-        whole_back : {counts : List Counts} (ran : RanAll held name faults world clocks.running ticks window old new counts) (rendered : Rendered)
-            → rendered.counts.items ≡ counts → rendered.gaps.items ≡ counts_in (setting_in world ran.run) ticks plan.sinks → RanWhole name held files (record { plan = plan; library = library; clocks = clocks; start = start; ticks = ticks; window = window }) order groups_new rendered
-        whole_back ran rendered counts_are gaps_are = record {
+        whole_back : {trace : Option (List ℕ)} {counts : List Counts} {logs : List (List Answers)} (ran : RanAll held name faults world clocks.running ticks window old new counts logs) (rendered : Rendered)
+            → rendered.counts.items ≡ counts → rendered.logs.items ≡ logs → rendered.gaps.items ≡ counts_in (setting_in world ran.run) ticks plan.sinks → RanWhole name held files (record { plan = plan; library = library; clocks = clocks; start = start; ticks = ticks; window = window; trace = trace }) order groups_new rendered
+        whole_back ran rendered counts_are logs_are gaps_are = record {
           run = ran.run;
           lawful = ran.lawful;
           told = record {
             gaps_are = gaps_are;
             counts_are = counts_are ∙ ran.counts_are
                 ∙ counts_at ran.run 0 ran.run.buffers plan.buffers (lawful_many world clocks.running ticks window ran.run ran.lawful) (λ k. let same : 0 + k ≡ k = omega arith in ap (λ n. slice_index_or ran.run.buffers n []) same);
+            logs_are = logs_are ∙ ran.logs_are;
           };
           whole = subst (λ (z : List ℕ × List (List S)). AreCreated (IsWhole name held files (setting_in world ran.run) ticks) (written plan.sinks) z.0 z.1) (λ i. (sym opened.order_is i, sym (groups_are groups_new back) i))
               (all_whole world ticks mains name held left faults files old new opened.at opened.ready (answers_of ran.run) ran.engines);
         }
 
-        pub whole_told : {counts : List Counts} {E Done : Type 0} (result : Result Rendered E) → (Done → RanAll held name faults world clocks.running ticks window old new counts) → OnOk result Done
+        pub whole_told : {trace : Option (List ℕ)} {counts : List Counts} {logs : List (List Answers)} {E Done : Type 0} (result : Result Rendered E)
+            → (Done → RanAll held name faults world clocks.running ticks window old new counts logs) → OnOk result Done
             → IfOk result (λ rendered. (other meant : Setting) (t : ℕ) → other.plan ≡ plan → other.clocks ≡ clocks.of → ArePast other meant t last → rendered.gaps.items ≡ counts_in meant t plan.sinks)
-            → IfOk result (λ rendered. rendered.counts.items ≡ counts) → IfOk result (RanWhole name held files (record { plan = plan; library = library; clocks = clocks; start = start; ticks = ticks; window = window }) order groups_new)
-        whole_told (Ok rendered) all done gaps counts_are =
+            → IfOk result (λ rendered. rendered.counts.items ≡ counts) → IfOk result (λ rendered. rendered.logs.items ≡ logs) → IfOk result (RanWhole name held files (record { plan = plan; library = library; clocks = clocks; start = start; ticks = ticks; window = window; trace = trace }) order groups_new)
+        whole_told (Ok rendered) all done gaps counts_are logs_are =
             let ran = all done in
-            whole_back ran rendered counts_are (gaps world (setting_in world ran.run) ticks refl refl (stand ran))
-        whole_told (Err fault) all done gaps counts_are = tt
+            whole_back ran rendered counts_are logs_are (gaps world (setting_in world ran.run) ticks refl refl (stand ran))
+        whole_told (Err fault) all done gaps counts_are logs_are = tt

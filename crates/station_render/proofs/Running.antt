@@ -23,7 +23,6 @@ use Rattle.clock_engine.specs.Ticks.{HaveTicksRoom}
 use Rattle.clock_engine.proofs.Numbered.{are_there, from_mapped}
 use Rattle.rounds_run.specs.Rounds.{AreEngines, HasRunPart, HaveRunPart, held_of}
 use Rattle.rounds_run.specs.Runs.{HasRunTicks, HaveRunTicks}
-use Rattle.rounds_run.proofs.Fronts.{front_of, ticks_front}
 use Rattle.run_records.specs.Records.{Run, setting_then}
 use Rattle.stations.specs.Streams.{header_for}
 use Rattle.station_render.specs.Sinks.{AreCreated, of_clock}
@@ -166,20 +165,13 @@ module _ {S : Type 0} (held name : S → Option (List ℕ)) (faults : S → ℕ)
       ((run.kept.each j before after was is).0, sym both.3 ∙ run.grew both.0 output.node both.1 ∙ ap (grown (ticks_bytes world output.node ticks)) both.2)
 
   -- after a part of them
-  pub part_at : (worlds : (ℕ → List Answer) → Setting) (least most : ℕ) → most ≤ ticks → HasRunPart held name faults worlds least most old new → (rest : ℕ → List Answer) (j : ℕ) (output : Written) (before after : S)
+  pub part_at : (worlds : (ℕ → List Answer) → Setting) (least most : ℕ) → HasRunPart held name faults worlds least most old new → (rest : ℕ → List Answer) (j : ℕ) (output : Written) (before after : S)
       → slice_get mine j ≡ Some output → slice_get old.outs.items j ≡ Some before → slice_get new.outs.items j ≡ Some after
-      → (name after ≡ name before) × ((bytes : List ℕ) × IsPrefix bytes (ticks_bytes (worlds rest) output.node ticks) × (held after ≡ grown bytes (held before)))
-  part_at worlds least most low run rest j output before after at was is =
+      → (name after ≡ name before) × ((bytes : List ℕ) × IsPrefix bytes (ticks_bytes (worlds rest) output.node most) × (held after ≡ grown bytes (held before)))
+  part_at worlds least most run rest j output before after at was is =
       let both = held_both run.works run.setting run.clock j output before after at was is in
       let part = run.part rest both.0 output.node both.1 in
-      let W = worlds rest in (
-        (run.kept.each j before after was is).0,
-        (
-          part.0,
-          front_of part.0 (ticks_bytes W output.node most) (ticks_bytes W output.node ticks) part.2 (ticks_front W output.node most ticks low),
-          sym both.3 ∙ part.3 ∙ ap (grown part.0) both.2,
-        ),
-      )
+      ((run.kept.each j before after was is).0, (part.0, part.2, sym both.3 ∙ part.3 ∙ ap (grown part.0) both.2))
 
   -- the room of each sink is that of its port
   pub rooms_at : (left : S → Option ℕ) → ((j : ℕ) (output : Written) (out : S) → slice_get mine j ≡ Some output → slice_get old.outs.items j ≡ Some out → HasRoom (left out) (body_size here ticks output.node))
@@ -277,9 +269,9 @@ module _ {S : Type 0} (setting : Setting) (ticks : ℕ) (main : LieInMain settin
           }));
     }
 
-    pub all_part : (run : Run) (least most : ℕ → ℕ) → ((k : ℕ) → most k ≤ ticks) → HaveRunPart held name faults (setting_then setting run) least most old new → (rest : ℕ → List Answer)
-        → AreCreated (IsPart name held files (setting_then setting run rest) ticks) (written setting.plan.sinks) (order_of setting (written setting.plan.sinks)) (outs_of new)
-    all_part record_of least most few run rest = record {
+    pub all_part : (run : Run) (least : ℕ → ℕ) (made : ℕ) → HaveRunPart held name faults (setting_then setting run) least (λ k. made) old new → (rest : ℕ → List Answer)
+        → AreCreated (IsPart name held files (setting_then setting run rest) ticks made) (written setting.plan.sinks) (order_of setting (written setting.plan.sinks)) (outs_of new)
+    all_part record_of least made run rest = record {
       size = ready.size;
       below = λ k clock there. subst (λ n. clock < n) (sym (same_many run.size)) (ready.below k clock there);
       each = λ m group there.
@@ -288,15 +280,15 @@ module _ {S : Type 0} (setting : Setting) (ticks : ℕ) (main : LieInMain settin
           let is = at.each m found.0 found.2 in
           let ran = run.each m found.0 found.1 found.2 found.3 in
           let zip = ready.each m found.0.outs.items (mapped (λ (e : ClockEngine S). e.outs.items) old m found.0 found.2) in
-          subst (λ g. AllZip (IsPart name held files world ticks) (of_clock m (order_of setting (written setting.plan.sinks)) (written setting.plan.sinks)) g) found.4
-          (zip_from (IsPart name held files world ticks) (of_clock m (order_of setting (written setting.plan.sinks)) (written setting.plan.sinks)) found.1.outs.items
+          subst (λ g. AllZip (IsPart name held files world ticks made) (of_clock m (order_of setting (written setting.plan.sinks)) (written setting.plan.sinks)) g) found.4
+          (zip_from (IsPart name held files world ticks made) (of_clock m (order_of setting (written setting.plan.sinks)) (written setting.plan.sinks)) found.1.outs.items
           (ran.outs ∙ zip_size (IsReady name held left files setting ticks) (of_clock m (order_of setting (written setting.plan.sinks)) (written setting.plan.sinks)) found.0.outs.items zip)
           (λ j output after mine_at after_at.
           let low = within found.1.outs.items j after after_at in
           let size = ran.outs in
           let before = in_list found.0.outs.items j (omega (arith, low, size)) in
           let told = zip_at (IsReady name held left files setting ticks) (of_clock m (order_of setting (written setting.plan.sinks)) (written setting.plan.sinks)) found.0.outs.items j output before.0 zip mine_at before.1 in
-          let did = part_at held name faults ticks found.0 found.1 is.works (main_here found.0 is.over) (setting_then setting record_of) (least m) (most m) (few m) ran rest j output before.0 after
+          let did = part_at held name faults ticks found.0 found.1 is.works (main_here found.0 is.over) (setting_then setting record_of) (least m) made ran rest j output before.0 after
           (ap (λ ws. slice_get ws j) (mine_is found.0 m is) ∙ mine_at) before.1 after_at in
           let front = did.1.1 in
           λ all here. record {
@@ -305,7 +297,7 @@ module _ {S : Type 0} (setting : Setting) (ticks : ℕ) (main : LieInMain settin
             holds = did.1.2 ∙ ap (grown did.1.0) (told.told all here).holds;
             front = record {
               rest = front.rest;
-              whole_is = headed (header_for setting ticks output.node) did.1.0 front.rest (ticks_bytes world output.node ticks) front.whole_is;
+              whole_is = headed (header_for setting ticks output.node) did.1.0 front.rest (ticks_bytes world output.node made) front.whole_is;
             };
           }));
     }

@@ -1,15 +1,22 @@
 -- What a run of a station leaves in its sinks, and what is told of it.
-use Rattle.std.specs.Prelude.{◌≡◌, ℕ, suc, List, [], ◌∷◌, ◌++◌, Option, Some, length}
+use Rattle.std.specs.Borrow.{Bor}
+use Rattle.std.specs.Prelude.{◌≡◌, ℕ, suc, List, [], ◌∷◌, ◌++◌, Option, Some, IsSomeAnd, length, map, option_map}
 use Rattle.std.specs.Option.{ForSome}
 use Rattle.liq_base.specs.Files.{Files}
+use Rattle.liq_base.specs.Kept.{HoldsPartOr}
+use Rattle.plan_core.specs.declared.plan.Plan.{Plan}
 use Rattle.plan_core.specs.declared.sink.BufferPlan.{BufferPlan}
 use Rattle.clock_infer.specs.declared.clock_map.ClockMap.{ClockMap}
 use Rattle.stream_meaning.specs.Instants.{Setting}
 use Rattle.run_records.specs.Records.{Run, setting_in, setting_then, windows_of}
-use Rattle.stations.specs.Outputs.{with_outputs}
+use Rattle.trace_log.specs.Values.{TraceValue}
+use Rattle.stations.specs.Outputs.{OutputFile, with_outputs}
 use Rattle.stations.specs.Reports.{answers_line}
-use Rattle.stations.specs.Stations.{IsBegun, IsBegunIn, IsLawful, IsLawfulIn, Station, bare, setting_of}
+use Rattle.stations.specs.Stations.{IsBegun, IsBegunIn, IsLawful, IsLawfulIn, Station, bare, most_in, most_of, setting_of, station_of}
 use Rattle.stations.specs.Streams.{gaps_in_order, outputs_of}
+use Rattle.stations.specs.Traces.{files_of, told, traced}
+use Rattle.stations.specs.declared.ready.Ready.{Ready}
+use Rattle.buffer_ends.specs.Local.{Answers}
 use Rattle.buffer_ends.specs.declared.counts.Counts.{Counts}
 use Rattle.buffer_ends.specs.declared.run_end.End.{End}
 use Rattle.buffer_ends.specs.declared.run_end.End.TheVariants.{Write}
@@ -20,6 +27,7 @@ use Rattle.station_render.specs.Engines.{AreAt, AreEmptyBelow, outs_of}
 use Rattle.station_render.specs.Sinks.{AreCreated, HasFailed}
 use Rattle.station_render.specs.Renders.{AreBegun, IsReady, IsWhole, order_of, written}
 use Rattle.station_render.specs.declared.rendered.Rendered.{Rendered}
+use Rattle.station_render.specs.declared.threading.Threading.{Threading}
 
 -- the counts of these buffers in a run, of which the first has this number
 abbrev pub counts_from : Run → (buffer : ℕ) → List BufferPlan → List Counts
@@ -30,16 +38,32 @@ counts_from run buffer (plan ∷ plans) = counts_of_windows (windows_of run buff
 abbrev pub counts_of : Station → Run → List Counts
 counts_of station run = counts_from run 0 station.plan.buffers
 
+-- the name of the trace, if one is wanted
+abbrev pub name_in : Threading → Option (List ℕ)
+name_in threading = option_map (λ (name : Bor (List ℕ)). name.now) threading.trace
+
 -- the station of a plan that is rendered so by threads
 abbrev pub station_by : Plan → Ready → (start ticks : ℕ) → Threading → Station
-station_by plan ready start ticks threading =
-    station_of plan ready start ticks (Some threading.window) (option_map (λ (name : Bor (List ℕ)). name.now) threading.trace)
+station_by plan ready start ticks threading = station_of plan ready start ticks (Some threading.window) (name_in threading)
 
 -- this is told of a run: the gaps of each output, in sink order, and of each buffer its counts and which answers each window had
 pub record IsTold (station : Station) (run : Run) (rendered : Rendered) : Type 0 where
   pub gaps_are : rendered.gaps.items ≡ gaps_in_order station run
   pub counts_are : rendered.counts.items ≡ counts_of station run
   pub logs_are : rendered.logs.items ≡ map (map told) run.buffers
+
+-- a run of the station wrote all its outputs, and this is told of it
+pub record WroteOutputs (station : Station) (before after : Option Files) (rendered : Rendered) : Type 0 where
+  pub run : Run
+  pub lawful : IsLawful station run
+  pub told : IsTold station run rendered
+  pub outputs_written : ForSome before (λ files. after ≡ Some (with_outputs files (outputs_of station run)))
+
+-- the file of this trace holds a prefix of its text, or, for this cause, what its name held
+pub record LeftPart (name : Option (List ℕ)) (trace : TraceValue) (cause : Type 0) (before after : Option Files) : Type 0 where
+  pub file : OutputFile
+  pub wanted : traced name trace ≡ file ∷ []
+  pub part : ForSome before (λ files. IsSomeAnd after (HoldsPartOr cause files file.name file.bytes))
 
 -- a run of the station wrote all its files, and this is told of it
 pub record IsRendered (station : Station) (before after : Option Files) (rendered : Rendered) : Type 0 where
@@ -59,7 +83,7 @@ pub record RanWhole {S : Type 0} (name held : S → Option (List ℕ)) (files : 
 pub record RanPart {S : Type 0} (name held : S → Option (List ℕ)) (files : Option Files) (station : Station) (order : List ℕ) (groups : List (List S)) : Type 0 where
   pub run : Run
   pub begun : IsBegun station run
-  pub parts : AreBegun name held files (bare station) run station.ticks order groups
+  pub parts : AreBegun name held files (bare station) run station.ticks (most_of station run begun) order groups
 
 -- The outputs of a plan were created, in this order of their clocks, and the engines of all clocks took the sinks, each of which holds
 -- its header and has room for its samples. No tick was made.
@@ -73,21 +97,22 @@ pub record AreOpened {S : Type 0} (name held : S → Option (List ℕ)) (left : 
   pub taken : AreEmptyBelow (length engines) groups
 
 -- The engines of so many clocks made all ticks, and this is their record: each stands for its ticks and has written their bytes, given
--- what the record's takes got, and these are the record's counts.
+-- what the record's takes got, and these are the record's counts and logs.
 pub record RanAll {S : Type 0} (held name : S → Option (List ℕ)) (faults : S → ℕ) (setting : Setting) (clocks ticks : ℕ) (window : Option ℕ)
-    (old new : List (ClockEngine S)) (counts : List Counts) : Type 0 where
+    (old new : List (ClockEngine S)) (counts : List Counts) (logs : List (List Answers)) : Type 0 where
   pub run : Run
   pub lawful : IsLawfulIn setting clocks ticks window run
   pub engines : HaveRunTicks held name faults (setting_in setting run) ticks old new
   pub counts_are : counts ≡ counts_of_run run
+  pub logs_are : logs ≡ map (map told) run.buffers
 
--- The engines came so far, and this is their record: each has written a front of its bytes, whatever answers follow. A write that ended
--- the run is one of a sink that failed.
+-- The engines came so far, and this is their record: each has written a front of its bytes of as many ticks as a clock can have made,
+-- whatever answers follow. A write that ended the run is one of a sink that failed.
 pub record RanSome {S : Type 0} (held name : S → Option (List ℕ)) (faults : S → ℕ) (setting : Setting) (clocks ticks : ℕ) (window : Option ℕ)
     (old new : List (ClockEngine S)) (end : End) : Type 0 where
   pub run : Run
   pub begun : IsBegunIn setting clocks ticks window run
-  pub part : HaveRunPart held name faults (setting_then setting run) (λ k. 0) (λ k. ticks) old new
+  pub part : HaveRunPart held name faults (setting_then setting run) (λ k. 0) (λ k. most_in setting clocks ticks window run begun) old new
   pub failed : (clock sink : ℕ) → end ≡ Write clock sink → HasFailed faults (outs_of new)
 
 -- the lines of these counts, of which the first is that of this buffer

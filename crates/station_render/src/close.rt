@@ -4,9 +4,9 @@ ghost use Rattle.std.specs.Option.{ForSome};
 ghost use Rattle.liq_base.specs.Counts.{Rose};
 ghost use Rattle.liq_base.specs.Files.{Files};
 ghost use Rattle.stations.specs.Outputs.{OutputFile, with_outputs, HoldsParts};
-ghost use Rattle.stations.specs.Renderings.{WrotePart};
+ghost use Rattle.stations.specs.Renderings.{WroteOutputsPart};
 ghost use Rattle.stations.specs.Stations.{Station};
-ghost use Rattle.station_render.specs.Runs.{IsRendered, RanPart, RanWhole};
+ghost use Rattle.station_render.specs.Runs.{RanPart, RanWhole, WroteOutputs};
 ghost use Rattle.station_render.specs.Sinks.{AreCreated, HasFailed, HaveSizes, HoldsWhole, HoldsPart, AreAllEmpty, WasTaken, lists_of};
 
 use crate::{RenderFault, Rendered};
@@ -22,10 +22,10 @@ pub(crate) fn close_all<S: Shelf>(
     requires sizes { HaveSizes order.now (lists_of groups.items) }
     ensures done { (station : Station) (before : Option Files) → S.files shelf.old ≡ before
         → IfOk wrote (RanWhole S.Out.name S.Out.held before station order.now (lists_of groups.items))
-        → IfOk result (IsRendered station before (S.files shelf.new)) }
+        → IfOk result (WroteOutputs station before (S.files shelf.new)) }
     ensures part { (station : Station) (before : Option Files) (count : ℕ) → S.files shelf.old ≡ before → count ≤ S.write_count shelf.old
         → RanPart S.Out.name S.Out.held before station order.now (lists_of groups.items)
-        → ForSome before (λ files. WrotePart station (Rose count (S.write_count shelf.new)) files (S.files shelf.new)) }
+        → ForSome before (λ files. WroteOutputsPart station (Rose count (S.write_count shelf.new)) files (S.files shelf.new)) }
     ensures cause { IsErrOf result RenderFault.Write → IsErrOf wrote RenderFault.Write ⊎ Rose (S.write_count shelf.old) (S.write_count shelf.new) }
     ensures failed { HasFailed S.Out.faults (lists_of groups.items) → Rose (S.write_count shelf.old) (S.write_count shelf.new) }
     ensures reads { S.read_count shelf.old ≤ S.read_count shelf.new }

@@ -162,14 +162,14 @@ fn tell<O: Sink>(
     ensures gaps { IfOk result (λ rendered. (setting world : Setting) (ticks : ℕ) → setting.plan ≡ plan.now → setting.clocks ≡ clocks.now.of → ArePast setting world ticks engines.now
         → rendered.gaps.items ≡ counts_in world ticks plan.now.sinks) }
     ensures counts { IfOk result (λ rendered. rendered.counts.items ≡ run.counts.items) }
+    ensures logs { IfOk result (λ rendered. rendered.logs.items ≡ run.logs.items) }
     ensures write { IsErrOf result RenderFault.Write → (clock : ℕ) × (sink : ℕ) × (run.end ≡ WriteEnd clock sink) }
 {
     let RunEnd { counts, logs, end } = run;
-    drop(logs);
     match end {
         End::Done => {
             let gaps = gaps_of(alloc, plan, clocks, engines)?;
-            Ok(Rendered { gaps, counts })
+            Ok(Rendered { gaps, counts, logs })
         }
         End::Write { .. } => Err(RenderFault::Write),
         End::Memory => Err(RenderFault::Memory),
@@ -196,6 +196,7 @@ pub(crate) fn take_back<O: Sink>(
     ensures gaps { IfOk result (λ rendered. (setting world : Setting) (ticks : ℕ) → setting.plan ≡ plan.now → setting.clocks ≡ clocks.now.of → ArePast setting world ticks engines.entry.items
         → rendered.gaps.items ≡ counts_in world ticks plan.now.sinks) }
     ensures counts { IfOk result (λ rendered. rendered.counts.items ≡ run.counts.items) }
+    ensures logs { IfOk result (λ rendered. rendered.logs.items ≡ run.logs.items) }
     ensures write { IsErrOf result RenderFault.Write → (clock : ℕ) × (sink : ℕ) × (run.end ≡ WriteEnd clock sink) }
 {
     let told = tell(alloc, plan, clocks, &engines, run);

@@ -1,5 +1,6 @@
 //! A station is rendered into its files: outputs are created in sink order, the clocks' ticks are made by threads in
-//! windows, or in rounds on one thread, and all outputs are closed, also after a fault.
+//! windows, or in rounds on one thread, and all outputs are closed, also after a fault; then a trace is left, where one is
+//! wanted.
 #![tactic(auto)]
 
 mod close;
@@ -13,6 +14,7 @@ mod rendering;
 mod reports;
 mod sinks;
 mod threading;
+mod traces;
 
 pub use fault::RenderFault;
 pub use rendered::Rendered;

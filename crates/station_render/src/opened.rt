@@ -1,5 +1,5 @@
 // The outputs of a plan are opened, with the engines that write into them.
-ghost use Rattle.std.specs.Prelude.{◌≡◌, ◌≤◌, ◌⊎◌, [], Option, ℕ, IfOk, IsErrOf, OnErr};
+ghost use Rattle.std.specs.Prelude.{◌≡◌, ◌≤◌, ◌⊎◌, [], List, Option, ℕ, IfOk, IsErrOf, OnErr};
 ghost use Rattle.liq_base.specs.Counts.{Rose};
 ghost use Rattle.stations.specs.Findings.{IsFit};
 ghost use Rattle.stations.specs.Stations.{station_of};
@@ -34,7 +34,7 @@ pub(crate) fn open_all<'a, S: Shelf>(
     requires empty { AreEmpty ready.now.clocks.running (lists_of groups.old.items) }
     ensures opened { IfOk result (λ engines. AreOpened S.Out.name S.Out.held S.Out.room (S.files shelf.old) (setting_for plan.now ready.now.library ready.now.clocks start.second) ready.now.clocks ticks
         order.new.items engines.items (lists_of groups.new.items)) }
-    ensures part { OnErr result ((window : Option ℕ) → RanPart S.Out.name S.Out.held (S.files shelf.old) (station_of plan.now ready.now start.second ticks window) order.new.items (lists_of groups.new.items)) }
+    ensures part { OnErr result ((window : Option ℕ) (trace : Option (List ℕ)) → RanPart S.Out.name S.Out.held (S.files shelf.old) (station_of plan.now ready.now start.second ticks window trace) order.new.items (lists_of groups.new.items)) }
     ensures cause { IsErrOf result RenderFault.Write → Rose (S.write_count shelf.old) (S.write_count shelf.new) ⊎ HasFailed S.Out.faults (lists_of groups.new.items) }
     ensures files { S.files shelf.new ≡ S.files shelf.old }
     ensures reads { S.read_count shelf.old ≤ S.read_count shelf.new }

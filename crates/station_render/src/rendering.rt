@@ -1,18 +1,19 @@
 // A station is rendered.
-ghost use Rattle.std.specs.Prelude.{◌≡◌, ◌<◌, ◌≤◌, ◌⊎◌, [], None, Some, IfOk, IsErrOf};
+ghost use Rattle.std.specs.Prelude.{◌≡◌, ◌≤◌, ◌⊎◌, [], None, IfOk, IsErrOf};
 ghost use Rattle.std.specs.Option.{ForSome};
 ghost use Rattle.liq_base.specs.Counts.{Rose};
 ghost use Rattle.stations.specs.Findings.{IsFit};
-ghost use Rattle.stations.specs.Renderings.{WrotePart};
+ghost use Rattle.stations.specs.Renderings.{WroteOutputsPart, WrotePart};
 ghost use Rattle.stations.specs.Stations.{station_of};
 ghost use Rattle.station_render.specs.Sinks.{AreEmpty, HasFailed, lists_of};
-ghost use Rattle.station_render.specs.Runs.{IsRendered, RanPart, RanWhole};
+ghost use Rattle.station_render.specs.Runs.{IsRendered, RanPart, RanWhole, WroteOutputs, station_by};
 
 use crate::close::close_all;
 use crate::engines::take_back;
 use crate::opened::open_all;
 use crate::sinks::no_sinks;
-use crate::{RenderFault, Rendered};
+use crate::traces::leave_trace;
+use crate::{RenderFault, Rendered, Threading};
 use clock_threads::run_threads;
 use fixed_text::WeekSecond;
 use liq_base::{Gate, Shelf};
@@ -49,22 +50,10 @@ pub fn render<S: Shelf, G: Gate + Sync, R: Threads + Wait + Sync>(
     ensures reads { S.read_count shelf.old ≤ S.read_count shelf.new }
     ensures writes { S.write_count shelf.old ≤ S.write_count shelf.new }
 {
-    let mut order = Vec::new(alloc);
-    let mut groups = no_sinks(alloc, ready.clocks.running)?;
-    let wrote = write_by_threads(
-        rt,
-        alloc,
-        plan,
-        ready,
-        start,
-        ticks,
-        window,
-        shelf,
-        gate,
-        &mut order,
-        &mut groups,
-    );
-    close_all(shelf, &order, groups, wrote)
+    let rendered = render_outputs(
+        rt, alloc, plan, ready, start, ticks, threading, shelf, gate,
+    )?;
+    leave_trace(alloc, ticks, threading, shelf, rendered)
 }
 
 /// The same on one thread: between the creations and the closings every clock makes its ticks, in rounds.
@@ -99,6 +88,44 @@ pub fn render_alone<S: Shelf>(
     close_all(shelf, &order, groups, wrote)
 }
 
+// The outputs of a rendering by threads: they are created, rendered into, and closed.
+fn render_outputs<S: Shelf, G: Gate + Sync, R: Threads + Wait + Sync>(
+    rt: &R,
+    alloc: Global,
+    plan: &Plan,
+    ready: &Ready,
+    start: WeekSecond,
+    ticks: u64,
+    threading: Threading<'_>,
+    shelf: &mut S,
+    gate: &G,
+) -> Result<Rendered, RenderFault>
+    requires fit { IsFit plan.now ready.now.library ready.now.clocks ticks }
+    ensures done { IfOk result (WroteOutputs (station_by plan.now ready.now start.second ticks threading.entry) (S.files shelf.old) (S.files shelf.new)) }
+    ensures part { ForSome (S.files shelf.old) (λ files. WroteOutputsPart (station_by plan.now ready.now start.second ticks threading.entry)
+        (Rose (S.write_count shelf.old) (S.write_count shelf.new)) files (S.files shelf.new)) }
+    ensures cause { IsErrOf result RenderFault.Write → Rose (S.write_count shelf.old) (S.write_count shelf.new) }
+    ensures reads { S.read_count shelf.old ≤ S.read_count shelf.new }
+    ensures writes { S.write_count shelf.old ≤ S.write_count shelf.new }
+{
+    let mut order = Vec::new(alloc);
+    let mut groups = no_sinks(alloc, ready.clocks.running)?;
+    let wrote = write_by_threads(
+        rt,
+        alloc,
+        plan,
+        ready,
+        start,
+        ticks,
+        threading,
+        shelf,
+        gate,
+        &mut order,
+        &mut groups,
+    );
+    close_all(shelf, &order, groups, wrote)
+}
+
 // Creates the outputs and renders into them by threads. `order` and `groups` get the clock of each sink that is created,
 // and the sinks of each clock.
 fn write_by_threads<S: Shelf, G: Gate + Sync, R: Threads + Wait + Sync>(
@@ -108,25 +135,33 @@ fn write_by_threads<S: Shelf, G: Gate + Sync, R: Threads + Wait + Sync>(
     ready: &Ready,
     start: WeekSecond,
     ticks: u64,
-    window: u64,
+    threading: Threading<'_>,
     shelf: &mut S,
     gate: &G,
     order: &mut Vec<u32>,
     groups: &mut Vec<Vec<S::Out>>,
 ) -> Result<Rendered, RenderFault>
     requires fit { IsFit plan.now ready.now.library ready.now.clocks ticks }
-    requires window { 0 < window }
     requires none { order.old.items ≡ [] }
     requires empty { AreEmpty ready.now.clocks.running (lists_of groups.old.items) }
-    ensures done { IfOk result (RanWhole S.Out.name S.Out.held (S.files shelf.old) (station_of plan.now ready.now start.second ticks (Some window)) order.new.items (lists_of groups.new.items)) }
-    ensures part { RanPart S.Out.name S.Out.held (S.files shelf.old) (station_of plan.now ready.now start.second ticks (Some window)) order.new.items (lists_of groups.new.items) }
+    ensures done { IfOk result (RanWhole S.Out.name S.Out.held (S.files shelf.old) (station_by plan.now ready.now start.second ticks threading.entry) order.new.items (lists_of groups.new.items)) }
+    ensures part { RanPart S.Out.name S.Out.held (S.files shelf.old) (station_by plan.now ready.now start.second ticks threading.entry) order.new.items (lists_of groups.new.items) }
     ensures cause { IsErrOf result RenderFault.Write → Rose (S.write_count shelf.old) (S.write_count shelf.new) ⊎ HasFailed S.Out.faults (lists_of groups.new.items) }
     ensures files { S.files shelf.new ≡ S.files shelf.old }
     ensures reads { S.read_count shelf.old ≤ S.read_count shelf.new }
     ensures writes { S.write_count shelf.old ≤ S.write_count shelf.new }
 {
     let engines = open_all(alloc, plan, ready, start, ticks, shelf, order, groups)?;
-    let (engines, run) = run_threads(rt, alloc, plan, &ready.clocks, engines, ticks, window, gate);
+    let (engines, run) = run_threads(
+        rt,
+        alloc,
+        plan,
+        &ready.clocks,
+        engines,
+        ticks,
+        threading.window,
+        gate,
+    );
     take_back(alloc, plan, &ready.clocks, engines, run, groups)
 }
 

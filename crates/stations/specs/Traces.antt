@@ -1,25 +1,33 @@
 -- What a run leaves as a trace.
-use Rattle.std.specs.Prelude.{ℕ, List, [], ◌∷◌, ◌++◌, Option, Some, None, map}
-use Rattle.buffer_ends.specs.Told.{told}
-use Rattle.run_records.specs.Records.{Run}
+use Rattle.std.specs.Prelude.{ℕ, List, [], ◌∷◌, ◌++◌, Option, Some, None, is_some, map}
+use Rattle.buffer_ends.specs.Local.{Answers}
+use Rattle.run_records.specs.Records.{Run, Window}
 use Rattle.trace_log.specs.Texts.{trace_text}
 use Rattle.trace_log.specs.Values.{TraceValue}
 use Rattle.stations.specs.Outputs.{OutputFile}
 use Rattle.stations.specs.Stations.{Station}
 use Rattle.stations.specs.Streams.{outputs_of}
 
+-- the answers of a window: of its puts, true for a chunk that was accepted, and of its takes, true for a chunk that was got
+abbrev pub told : Window → Answers
+told window = record { puts = map is_some window.0; takes = map is_some window.1 }
+
 -- the trace of a run, in windows of so many ticks: for each buffer and window, which puts were accepted and which takes got a chunk
 abbrev pub trace_of : Station → (window : ℕ) → Run → TraceValue
 trace_of station window run = record { ticks = station.ticks; window = window; buffers = map (map told) run.buffers }
 
+-- the file of a trace, where it has a name
+abbrev pub traced : (name : Option (List ℕ)) → TraceValue → List OutputFile
+traced None trace = []
+traced (Some name) trace = record { name = name; bytes = trace_text trace } ∷ []
+
 -- the file of the trace, where a run by threads is to leave one
-abbrev pub traces_in : (window : Option ℕ) (trace : Option (List ℕ)) → Station → Run → List OutputFile
-traces_in None trace station run = []
-traces_in (Some window) None station run = []
-traces_in (Some window) (Some name) station run = record { name = name; bytes = trace_text (trace_of station window run) } ∷ []
+abbrev pub traces_in : (window : Option ℕ) → Station → Run → List OutputFile
+traces_in None station run = []
+traces_in (Some window) station run = traced station.trace (trace_of station window run)
 
 abbrev pub traces_of : Station → Run → List OutputFile
-traces_of station run = traces_in station.window station.trace station run
+traces_of station run = traces_in station.window station run
 
 -- all files that a run writes: the outputs in sink order, and then the trace
 abbrev pub files_of : Station → Run → List OutputFile

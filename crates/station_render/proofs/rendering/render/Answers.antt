@@ -1,39 +1,25 @@
-use Rattle.std.proofs.Common.{[], length, refl, sym, subst}
-use Rattle.std.specs.Prelude.{Some, IfOk}
-use Rattle.rounds_run.proofs.Records.{run_of}
-use Rattle.stations.specs.Stations.{setting_with, station_of}
-use Rattle.station_render.specs.Sinks.{HaveSizes, lists_of}
-use Rattle.station_render.specs.Renders.{IsPart, setting_for}
-use Rattle.station_render.specs.Runs.{RanPart, RanWhole}
-use Rattle.station_render.proofs.Dealing.{sizes}
-use Rattle.station_render.proofs.Ending.{cause_of, none_begun}
-use Rattle.station_render.proofs.Gathering.{not_begun}
+use Rattle.std.proofs.Common.{inl, refl}
+use Rattle.station_render.specs.Runs.{station_by}
+use Rattle.station_render.proofs.Tracing.{files_written, is_trace, part_written}
 use Rattle.station_render.proofs.rendering.render.Goals as goal
 
-pub returns-in_err-groups-clause-part : goal.returns-in_err-groups-clause-part
-returns-in_err-groups-clause-part g c =
-    none_begun (station_of c.args.plan.now c.args.ready.now c.args.start.second c.args.ticks (Some c.args.window)) (run_of (length c.args.plan.now.buffers) [])
-    (not_begun (setting_for c.args.plan.now c.args.ready.now.library c.args.ready.now.clocks c.args.start.second) c.args.ready.now.clocks.running c.args.ticks (Some c.args.window)) _ _ _ refl
+pub returns-in_err-rendered-clause-part : goal.returns-in_err-rendered-clause-part
+returns-in_err-rendered-clause-part g c = λ files at. inl (c.render_outputs.ensures.part files at)
 
-pub close_all-requires-clause-sizes : goal.close_all-requires-clause-sizes
-close_all-requires-clause-sizes g c κs lives =
-    let part = c.write_by_threads-wrote.ensures.part in
-    subst (λ o. HaveSizes o (lists_of c.write_by_threads-wrote.new.groups.items)) (sym c.deref.ensures.value)
-    (sizes (IsPart g.S.Out.Sink.name g.S.Out.Sink.held (g.S.Shelf.files c.args.shelf.now) (setting_with (station_of c.args.plan.now c.args.ready.now c.args.start.second c.args.ticks (Some c.args.window)) part.run (λ buffer. [])) c.args.ticks)
-    part.parts.created c.write_by_threads-wrote.new.order.items (lists_of c.write_by_threads-wrote.new.groups.items) (part.parts.parts (λ buffer. [])))
-
-pub returns-clause-part : goal.returns-clause-part
-returns-clause-part g c =
-    let station = station_of c.args.plan.now c.args.ready.now c.args.start.second c.args.ticks (Some c.args.window) in
-    c.close_all.ensures.part station (g.S.Shelf.files c.args.shelf.now) _ c.write_by_threads-wrote.ensures.files c.write_by_threads-wrote.ensures.writes
-    (subst (λ o. RanPart g.S.Out.Sink.name g.S.Out.Sink.held (g.S.Shelf.files c.args.shelf.now) station o (lists_of c.write_by_threads-wrote.new.groups.items)) (sym c.deref.ensures.value) c.write_by_threads-wrote.ensures.part)
+pub leave_trace-requires : goal.leave_trace-requires
+leave_trace-requires g c =
+    λ κs lives.
+    let wrote = c.in_ok-rendered.ensures.done in
+    is_trace _ _ c.args.threading.window c.args.ticks wrote.run _ c.requires.fit.plan_is c.requires.fit.few c.args.threading.some c.args.threading.few wrote.lawful wrote.told.logs_are
 
 pub returns-clause-done : goal.returns-clause-done
 returns-clause-done g c =
-    let station = station_of c.args.plan.now c.args.ready.now c.args.start.second c.args.ticks (Some c.args.window) in
-    c.close_all.ensures.done station (g.S.Shelf.files c.args.shelf.now) c.write_by_threads-wrote.ensures.files
-    (subst (λ o. IfOk c.write_by_threads-wrote.result (RanWhole g.S.Out.Sink.name g.S.Out.Sink.held (g.S.Shelf.files c.args.shelf.now) station o (lists_of c.write_by_threads-wrote.new.groups.items))) (sym c.deref.ensures.value) c.write_by_threads-wrote.ensures.done)
+    let station = station_by c.args.plan.now c.args.ready.now c.args.start.second c.args.ticks c.args.threading in
+    files_written station c.args.threading.window refl _ _ c.in_ok-rendered.rendered c.in_ok-rendered.ensures.done
+    c.leave_trace.result _ c.leave_trace.ensures.gaps c.leave_trace.ensures.counts c.leave_trace.ensures.logs c.leave_trace.ensures.written
 
-pub returns-clause-cause : goal.returns-clause-cause
-returns-clause-cause g c = λ e.
-    cause_of (g.S.Shelf.write_count c.args.shelf.now) _ _ _ _ c.write_by_threads-wrote.ensures.writes c.close_all.ensures.writes (c.close_all.ensures.cause e) c.write_by_threads-wrote.ensures.cause c.close_all.ensures.failed
+pub returns-clause-part : goal.returns-clause-part
+returns-clause-part g c =
+    let station = station_by c.args.plan.now c.args.ready.now c.args.start.second c.args.ticks c.args.threading in
+    part_written station c.args.threading.window refl _ _ c.in_ok-rendered.rendered c.in_ok-rendered.ensures.done
+    _ _ _ c.render_outputs.ensures.writes c.leave_trace.ensures.writes _ c.render_outputs.ensures.part c.leave_trace.ensures.part

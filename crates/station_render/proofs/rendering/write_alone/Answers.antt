@@ -8,7 +8,7 @@ use Rattle.station_render.proofs.rendering.write_alone.Goals as goal
 
 pub returns-in_err-engines-clause-part : goal.returns-in_err-engines-clause-part
 returns-in_err-engines-clause-part g c =
-    c.in_err-engines.ensures.part None
+    c.in_err-engines.ensures.part None None
 
 pub run_rounds-run-requires-clause-engines : goal.run_rounds-run-requires-clause-engines
 run_rounds-run-requires-clause-engines g c =
@@ -64,7 +64,7 @@ returns-clause-done g c =
     let len : vec_len c.in_ok-engines.engines ≡ length c.run_rounds-run.new.engines = c.in_ok-engines.engines.ok.0 ∙ ap length (sym c.deref_mut.ensures.value) ∙ sym some.part.size in
     let last = written_back _ c.run_rounds-run.new.engines _ len in
     whole_told c.requires.fit opened last c.take_back.ensures.back c.take_back.result (λ done. rounds_all opened.all (c.run_rounds-run.ensures.done done _ over))
-    c.take_back.ensures.done c.take_back.ensures.gaps c.take_back.ensures.counts
+    c.take_back.ensures.done c.take_back.ensures.gaps c.take_back.ensures.counts c.take_back.ensures.logs
 
 pub returns-clause-part : goal.returns-clause-part
 returns-clause-part g c =

@@ -7,7 +7,7 @@ use Rattle.station_render.proofs.rendering.write_by_threads.Goals as goal
 
 pub returns-in_err-engines-clause-part : goal.returns-in_err-engines-clause-part
 returns-in_err-engines-clause-part g c =
-    c.in_err-engines.ensures.part (Some c.args.window)
+    c.in_err-engines.ensures.part (Some c.args.threading.window) _
 
 pub run_threads-engines-requires-clause-engines : goal.run_threads-engines-requires-clause-engines
 run_threads-engines-requires-clause-engines g c =
@@ -54,7 +54,7 @@ returns-clause-done g c =
     let are = engines_are c.requires.fit opened c.args.start.in_week in
     let some = threads_some opened.at (c.run_threads-engines.ensures.part _ are) in
     whole_told c.requires.fit opened refl c.take_back.ensures.back c.take_back.result (λ done. threads_all opened.at (c.run_threads-engines.ensures.done done _ are))
-    c.take_back.ensures.done c.take_back.ensures.gaps c.take_back.ensures.counts
+    c.take_back.ensures.done c.take_back.ensures.gaps c.take_back.ensures.counts c.take_back.ensures.logs
 
 pub returns-clause-part : goal.returns-clause-part
 returns-clause-part g c =

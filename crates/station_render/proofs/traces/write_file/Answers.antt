@@ -1,0 +1,38 @@
+use Rattle.std.proofs.Common.{rules, arith, ◌<◌, inl, inr}
+use Rattle.liq_base.specs.Kept.{rose_within}
+use Rattle.station_render.proofs.Tracing.{part_left, took_whole, whole_left}
+use Rattle.station_render.proofs.traces.write_file.Goals as goal
+
+pub returns-in_err-sink-clause-part : goal.returns-in_err-sink-clause-part
+returns-in_err-sink-clause-part g c = inl c.create.ensures.files
+
+pub returns-in_err-wrote-clause-part : goal.returns-in_err-wrote-clause-part
+returns-in_err-wrote-clause-part g c =
+    inr (part_left c.in_ok-sink.sink c.append-wrote.new.self _ _ _ c.args.name.now c.args.text.now c.create.ensures.files
+    c.in_ok-sink.ensures.tells c.in_ok-sink.ensures.name c.in_ok-sink.ensures.held c.append-wrote.ensures.name
+    c.close-closed.result _ _ _ c.create.ensures.writes c.in_err-wrote.ensures.part c.close-closed.ensures.closed c.close-closed.ensures.part c.close-closed.ensures.cause)
+
+pub returns-in_err-wrote-clause-cause : goal.returns-in_err-wrote-clause-cause
+returns-in_err-wrote-clause-cause g c =
+    let failed : 0 < g.S.Out.Sink.faults c.append-wrote.new.self = search (rules, arith) in
+    λ e. rose_within _ _ _ _ c.create.ensures.writes (omega arith) (c.close-closed.ensures.failed_sink failed)
+
+pub returns-in_err-closed-clause-part : goal.returns-in_err-closed-clause-part
+returns-in_err-closed-clause-part g c =
+    inr (part_left c.in_ok-sink.sink c.append-wrote.new.self _ _ _ c.args.name.now c.args.text.now c.create.ensures.files
+    c.in_ok-sink.ensures.tells c.in_ok-sink.ensures.name c.in_ok-sink.ensures.held c.append-wrote.ensures.name
+    c.close-closed.result _ _ _ c.create.ensures.writes (took_whole _ _ _ c.in_ok-wrote.ensures.took) c.close-closed.ensures.closed c.close-closed.ensures.part c.close-closed.ensures.cause)
+
+pub returns-in_err-closed-clause-cause : goal.returns-in_err-closed-clause-cause
+returns-in_err-closed-clause-cause g c = λ e. rose_within _ _ _ _ c.create.ensures.writes (omega arith) c.in_err-closed.ensures.cause
+
+pub returns-clause-part : goal.returns-clause-part
+returns-clause-part g c =
+    inr (part_left c.in_ok-sink.sink c.append-wrote.new.self _ _ _ c.args.name.now c.args.text.now c.create.ensures.files
+    c.in_ok-sink.ensures.tells c.in_ok-sink.ensures.name c.in_ok-sink.ensures.held c.append-wrote.ensures.name
+    c.close-closed.result _ _ _ c.create.ensures.writes (took_whole _ _ _ c.in_ok-wrote.ensures.took) c.close-closed.ensures.closed c.close-closed.ensures.part c.close-closed.ensures.cause)
+
+pub returns-clause-written : goal.returns-clause-written
+returns-clause-written g c =
+    whole_left c.in_ok-sink.sink c.append-wrote.new.self _ _ _ c.args.name.now c.args.text.now c.create.ensures.files
+    c.in_ok-sink.ensures.tells c.in_ok-sink.ensures.name c.in_ok-sink.ensures.held c.append-wrote.ensures.name c.in_ok-wrote.ensures.took c.in_ok-closed.ensures.closed
