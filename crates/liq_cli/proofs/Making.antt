@@ -1,6 +1,7 @@
 -- What a workload leaves, by the way that it ends.
 use Rattle.std.proofs.Common.{◌≡◌, ◌++◌, ◌∙◌, ℕ, List, [], refl, sym, ap, subst, append-nil, arith}
 use Rattle.std.specs.Prelude.{Option, Some, None, Result, Ok, Err, IfOk, String, string_bytes}
+use Rattle.std.specs.FinMap.{from_entries}
 use Rattle.std.specs.Option.{ForSome}
 use Rattle.std.specs.declared.alloc.Global.{Global}
 use Rattle.liq_base.specs.Counts.{Rose}
@@ -25,6 +26,10 @@ use Rattle.liq_cli.specs.Prepared.{EndsFor, ForOne, Found, IsOneOutcome, Lost, O
 use Rattle.liq_cli.specs.Summary.{SumsAsOneThread, summary_of, summed_lines}
 use Rattle.liq_cli.proofs.Leavings.{kept_starved, stopped_for_memory}
 use Rattle.liq_cli.proofs.Outcomes.{for_one}
+
+-- a shelf of these files, which are others
+pub made_of : (entries others : List (List ℕ × List ℕ)) (shelf : Files) → shelf ≡ from_entries entries → entries ≡ others → shelf ≡ from_entries others
+made_of entries others shelf is same = subst (λ (es : List (List ℕ × List ℕ)). shelf ≡ from_entries es) same is
 
 -- a shelf that never fails has no count that rose
 never_rose : Rose 0 0 → ⊥
@@ -60,10 +65,10 @@ pub summed : (seed size : ℕ) (plan : Plan) (library : Sounds) (clocks : ClockM
     → (shelf after : Files) (report : List ℕ) (value : Shown) → shelf ≡ files_made seed size
     → IsRendered (station_for (Make seed size) plan library clocks) (Some shelf) (Some after) value
     → ((run : Run) → IsTold (station_for (Make seed size) plan library clocks) run value
-      → report ≡ summed_lines (station_for (Make seed size) plan library clocks) run after plan.sinks)
+    → report ≡ summed_lines (station_for (Make seed size) plan library clocks) run after plan.sinks)
     → ((run : Run) → HasNoGaps (station_for (Make seed size) plan library clocks) run)
     → ((run : Run) → IsLawful (station_for (Make seed size) plan library clocks) run → HasNoJoin (bare (station_for (Make seed size) plan library clocks))
-      → SumsAsOneThread (files_made seed size) (station_for (Make seed size) plan library clocks) (summary_of (files_made seed size) (station_for (Make seed size) plan library clocks) run))
+    → SumsAsOneThread (files_made seed size) (station_for (Make seed size) plan library clocks) (summary_of (files_made seed size) (station_for (Make seed size) plan library clocks) run))
     → (files : Files) → ForOne (Make seed size) files (λ a. Rendered a files (Some files) report)
 summed seed size plan library clocks one shelf after report value shelf_is is report_is gapless alike files =
     let station = station_for (Make seed size) plan library clocks in

@@ -23,7 +23,7 @@ lines_both station run files (Feed buffer node ∷ xs) ys = lines_both station r
 
 lines_next : (station : Station) (run : Run) (files : Files) (sinks : List SinkPlan) (k : ℕ) (name : List ℕ) (node : ℕ) (fallible : Bool) → slice_get sinks k ≡ Some (Output name node fallible)
     → summed_lines station run files (take (k + 1) sinks)
-      ≡ summed_lines station run files (take k sinks) ++ summed_line name (station.ticks * station.plan.frame) (gaps_of station run node) (sum_at files name)
+    ≡ summed_lines station run files (take k sinks) ++ summed_line name (station.ticks * station.plan.frame) (gaps_of station run node) (sum_at files name)
 lines_next station run files sinks k name node fallible at =
     ap (λ n. summed_lines station run files (take n sinks)) (add-one k) ∙ ap (summed_lines station run files) (take_more sinks k (Output name node fallible) at)
     ∙ lines_both station run files (take k sinks) (Output name node fallible ∷ [])

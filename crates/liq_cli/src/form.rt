@@ -1,7 +1,7 @@
 // The forms of the words.
+use crate::size::Size;
 use crate::ticks::Ticks;
 use crate::window::Window;
-use crate::size::Size;
 use fixed_text::WeekSecond;
 
 /// What words ask for.
@@ -36,10 +36,7 @@ pub enum Threaded<'a> {
     Render(Rendering<'a>),
 
     /// `make SEED SIZE`
-    Make {
-        seed: u64,
-        size: Size,
-    },
+    Make { seed: u64, size: Size },
 }
 
 /// A rendering by threads.

@@ -5,8 +5,8 @@ ghost use Rattle.liq_cli.specs.Words.{Asked, AreApart, IsAsked, IsCheck, IsMake,
 
 use crate::form::{Form, Rendering, Threaded};
 use crate::options::{Options, read_options, start_of, window_of};
-use crate::ticks::{Ticks, read_ticks};
 use crate::size::read_size;
+use crate::ticks::{Ticks, read_ticks};
 use fixed_text::read_u64;
 
 /// The form of the words, or nothing where they have none.

@@ -40,9 +40,9 @@ returns-in-Make-clause-made g c = λ asks_to.
     let asks : AsksOne (texts c.args.words.now) (asked_by_threads c.read_threaded.result) = record { is = c.read_threaded.ensures.found; only = c.read_threaded.ensures.only } in
     let asked = Make c.in-Make.seed c.in-Make.size.files in
     let ends = λ (files : Files).
-        finished {S = Files} (λ f. Some f) (λ f. 0) (λ f. 0) g.O.Sink.held g.O.Sink.faults g.E.Sink.held g.E.Sink.faults (texts c.args.words.now)
-        asked (rw c.in-Make.is at asks) files files c.args.out.now c.finish.new.out c.args.err.now c.finish.new.err c.make_job-job.result c.finish.result
-        (told_of asked (Some files) c.make_job-job.result c.make_job-job.ensures.done) (c.make_job-job.ensures.stops (Some files) 0 0) c.finish.ensures in
+    finished {S = Files} (λ f. Some f) (λ f. 0) (λ f. 0) g.O.Sink.held g.O.Sink.faults g.E.Sink.held g.E.Sink.faults (texts c.args.words.now)
+    asked (rw c.in-Make.is at asks) files files c.args.out.now c.finish.new.out c.args.err.now c.finish.new.err c.make_job-job.result c.finish.result
+    (told_of asked (Some files) c.make_job-job.result c.make_job-job.ensures.done) (c.make_job-job.ensures.stops (Some files) 0 0) c.finish.ensures in
     record { ends = ends; complete = λ files. completes _ _ _ _ (ends files) }
 
 pub returns-in-Make-clause-untouched : goal.returns-in-Make-clause-untouched
