@@ -8,7 +8,7 @@ mod Parts
 mod Uncalled
 mod Leavings
 mod AsOne
-mod Making
+mod Workloads
 mod Summing
 mod Ended
 mod Finished

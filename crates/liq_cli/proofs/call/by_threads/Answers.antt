@@ -5,7 +5,7 @@ use Rattle.liq_cli.specs.Read.{asked_by_threads, asked_to_render}
 use Rattle.liq_cli.specs.Words.{Asked, Make, texts}
 use Rattle.liq_cli.proofs.Complete.{completes}
 use Rattle.liq_cli.proofs.Finished.{finished}
-use Rattle.liq_cli.proofs.Making.{told_of}
+use Rattle.liq_cli.proofs.Workloads.{told_of}
 use Rattle.liq_cli.proofs.Asking.{AsksOne}
 use Rattle.liq_cli.proofs.call.by_threads.Goals as goal
 

@@ -8,7 +8,7 @@ use Rattle.liq_cli.specs.Prepared.{Found, IsOneOutcome, station_for}
 use Rattle.liq_cli.specs.Words.{Make, made_script}
 use Rattle.liq_cli.proofs.Counted.{as_many}
 use Rattle.liq_cli.proofs.Leavings.{ended_kept, of_report}
-use Rattle.liq_cli.proofs.Making.{broke_made, one_made, stopped_made, summed}
+use Rattle.liq_cli.proofs.Workloads.{broke_made, one_made, stopped_made, summed}
 use Rattle.liq_cli.proofs.making.sum_workload.Goals as goal
 
 pub returns-in_err-work-clause-stops : goal.returns-in_err-work-clause-stops

@@ -2,7 +2,7 @@ use Rattle.std.proofs.Common.{◌≡◌, ◌+◌, ◌-◌, arith}
 use Rattle.liq_base.specs.Entries.{given_entries}
 use Rattle.workload_gen.specs.Files.{workload}
 use Rattle.liq_cli.specs.Answer.{files_made}
-use Rattle.liq_cli.proofs.Making.{made_of}
+use Rattle.liq_cli.proofs.Workloads.{made_of}
 use Rattle.liq_cli.proofs.making.workload_shelf.Goals as goal
 
 pub returns : goal.returns
