@@ -1,4 +1,5 @@
-use Rattle.std.proofs.Common.{inl, refl}
+use Rattle.std.proofs.Common.{arith, inl, refl}
+use Rattle.liq_base.specs.Kept.{rose_within}
 use Rattle.station_render.specs.Runs.{station_by}
 use Rattle.station_render.proofs.Tracing.{files_written, is_trace, part_written}
 use Rattle.station_render.proofs.rendering.render.Goals as goal
@@ -23,3 +24,6 @@ returns-clause-part g c =
     let station = station_by c.args.plan.now c.args.ready.now c.args.start.second c.args.ticks c.args.threading in
     part_written station c.args.threading.window refl _ _ c.in_ok-rendered.rendered c.in_ok-rendered.ensures.done
     _ _ _ c.render_outputs.ensures.writes c.leave_trace.ensures.writes _ c.render_outputs.ensures.part c.leave_trace.ensures.part
+
+pub returns-clause-cause : goal.returns-clause-cause
+returns-clause-cause g c = λ e. rose_within _ _ _ _ c.render_outputs.ensures.writes (omega arith) (c.leave_trace.ensures.cause e)
