@@ -30,7 +30,7 @@ pub(crate) fn leave_trace<S: Shelf>(
         ≡ Some (with_outputs files (traced (name_in threading.entry) (record { ticks = ticks; window = threading.entry.window; buffers = rendered.logs.items }))))) }
     ensures part { (S.files shelf.new ≡ S.files shelf.old)
         ⊎ LeftPart (name_in threading.entry) (record { ticks = ticks; window = threading.entry.window; buffers = rendered.logs.items })
-            (Rose (S.write_count shelf.old) (S.write_count shelf.new)) (S.files shelf.old) (S.files shelf.new) }
+        (Rose (S.write_count shelf.old) (S.write_count shelf.new)) (S.files shelf.old) (S.files shelf.new) }
     ensures cause { IsErrOf result RenderFault.Write → Rose (S.write_count shelf.old) (S.write_count shelf.new) }
     ensures reads { S.read_count shelf.old ≤ S.read_count shelf.new }
     ensures writes { S.write_count shelf.old ≤ S.write_count shelf.new }
