@@ -22,7 +22,7 @@ pub(crate) fn leave_trace<S: Shelf>(
     shelf: &mut S,
     rendered: Rendered,
 ) -> Result<Rendered, RenderFault>
-    requires { IsTrace (record { ticks = ticks; window = threading.window; buffers = rendered.logs.items }) }
+    requires trace { IsTrace (record { ticks = ticks; window = threading.window; buffers = rendered.logs.items }) }
     ensures gaps { IfOk result (λ told. told.gaps.items ≡ rendered.gaps.items) }
     ensures counts { IfOk result (λ told. told.counts.items ≡ rendered.counts.items) }
     ensures logs { IfOk result (λ told. told.logs.items ≡ rendered.logs.items) }

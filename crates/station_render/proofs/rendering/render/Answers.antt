@@ -7,8 +7,8 @@ use Rattle.station_render.proofs.rendering.render.Goals as goal
 pub returns-in_err-rendered-clause-part : goal.returns-in_err-rendered-clause-part
 returns-in_err-rendered-clause-part g c = λ files at. inl (c.render_outputs.ensures.part files at)
 
-pub leave_trace-requires : goal.leave_trace-requires
-leave_trace-requires g c =
+pub leave_trace-requires-clause-trace : goal.leave_trace-requires-clause-trace
+leave_trace-requires-clause-trace g c =
     let wrote = c.in_ok-rendered.ensures.done in
     is_trace _ _ c.args.threading.window c.args.ticks wrote.run _ c.requires.fit.plan_is c.requires.fit.few c.args.threading.some c.args.threading.few wrote.lawful wrote.told.logs_are
 
