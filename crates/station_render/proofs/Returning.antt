@@ -168,11 +168,11 @@ module _ {plan : Plan} {library : Sounds} {clocks : ClockMap} {start ticks : ℕ
               (all_whole world ticks mains name held left faults files old new opened.at opened.ready (answers_of ran.run) ran.engines);
         }
 
-        pub whole_told : {trace : Option (List ℕ)} {counts : List Counts} {logs : List (List Answers)} {E Done : Type 0} (result : Result Rendered E)
+        pub whole_told : (trace : Option (List ℕ)) {counts : List Counts} {logs : List (List Answers)} {E Done : Type 0} (result : Result Rendered E)
             → (Done → RanAll held name faults world clocks.running ticks window old new counts logs) → OnOk result Done
             → IfOk result (λ rendered. (other meant : Setting) (t : ℕ) → other.plan ≡ plan → other.clocks ≡ clocks.of → ArePast other meant t last → rendered.gaps.items ≡ counts_in meant t plan.sinks)
             → IfOk result (λ rendered. rendered.counts.items ≡ counts) → IfOk result (λ rendered. rendered.logs.items ≡ logs) → IfOk result (RanWhole name held files (record { plan = plan; library = library; clocks = clocks; start = start; ticks = ticks; window = window; trace = trace }) order groups_new)
-        whole_told (Ok rendered) all done gaps counts_are logs_are =
+        whole_told trace (Ok rendered) all done gaps counts_are logs_are =
             let ran = all done in
             whole_back ran rendered counts_are logs_are (gaps world (setting_in world ran.run) ticks refl refl (stand ran))
-        whole_told (Err fault) all done gaps counts_are logs_are = tt
+        whole_told trace (Err fault) all done gaps counts_are logs_are = tt

@@ -15,7 +15,7 @@ use Rattle.plan_core.specs.declared.node.Op.{Op}
 use Rattle.plan_core.specs.declared.node.Op.TheVariants.{Buffer}
 use Rattle.plan_core.specs.declared.plan.Plan.{Plan}
 use Rattle.stream_meaning.specs.Instants.{Setting}
-use Rattle.run_records.specs.Records.{IsLawful as AreWindows, Run, Window, start, windows_in}
+use Rattle.run_records.specs.Records.{IsLawful as AreWindows, Run, Window, setting_in, start, windows_in}
 use Rattle.buffer_ends.specs.Local.{Answers}
 use Rattle.clock_windows.proofs.Meeting.{low_or_high}
 use Rattle.clock_windows.proofs.Starts.{start_zero}
@@ -40,7 +40,7 @@ on_err (Ok x) P Q f p = tt
 on_err (Err e) P Q f p = f p
 
 -- a file that was created, took its bytes, wholly or in part, and was closed
-module _ {S : Type 0} {held name : S → Option (List ℕ)} {room : S → Option ℕ} (old new : S) (before created after : Option Files) (n bytes : List ℕ) (same : created ≡ before)
+module _ {S : Type 0} (held name : S → Option (List ℕ)) {room : S → Option ℕ} (old new : S) (before created after : Option Files) (n bytes : List ℕ) (same : created ≡ before)
     (tells : IsSome before → IsSome (name old) × IsSome (held old)) (named : ForSome (name old) (λ said. said ≡ n)) (empty : ForSome (held old) (λ said. said ≡ [])) (kept : name new ≡ name old) where
   pub whole_left : Took held room bytes old new → Closed created (name new) (held new) after → ForSome before (λ files. after ≡ Some (with_file files n bytes))
   whole_left took closed = λ files at.
@@ -253,6 +253,6 @@ is_trace setting clocks W N run buffers well ticks some few lawful are =
       };
       logs = λ b below.
           ap (λ (bs : List (List Answers)). length (slice_index_or bs b [])) are ∙ ap length (logs_at run.buffers b) ∙ many_mapped told (slice_index_or run.buffers b [])
-          ∙ ap length (lawful.are b (omega (arith, below, many))) ∙ windows_long _ clocks lawful.accepted b W N lawful.count
+          ∙ ap length (lawful.are b (omega (arith, below, many))) ∙ windows_long (setting_in setting run) clocks lawful.accepted b W N lawful.count
           ∙ windows_counted W N lawful.count some lawful.whole lawful.tight;
     }

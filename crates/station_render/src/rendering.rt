@@ -50,9 +50,7 @@ pub fn render<S: Shelf, G: Gate + Sync, R: Threads + Wait + Sync>(
     ensures reads { S.read_count shelf.old ≤ S.read_count shelf.new }
     ensures writes { S.write_count shelf.old ≤ S.write_count shelf.new }
 {
-    let rendered = render_outputs(
-        rt, alloc, plan, ready, start, ticks, threading, shelf, gate,
-    )?;
+    let rendered = render_outputs(rt, alloc, plan, ready, start, ticks, threading, shelf, gate)?;
     leave_trace(alloc, ticks, threading, shelf, rendered)
 }
 

@@ -22,7 +22,7 @@ pub(crate) fn leave_trace<S: Shelf>(
     shelf: &mut S,
     rendered: Rendered,
 ) -> Result<Rendered, RenderFault>
-    requires { IsTrace (record { ticks = ticks; window = threading.window; buffers = rendered.logs.items }) }
+    requires trace { IsTrace (record { ticks = ticks; window = threading.window; buffers = rendered.logs.items }) }
     ensures gaps { IfOk result (λ told. told.gaps.items ≡ rendered.gaps.items) }
     ensures counts { IfOk result (λ told. told.counts.items ≡ rendered.counts.items) }
     ensures logs { IfOk result (λ told. told.logs.items ≡ rendered.logs.items) }
@@ -30,7 +30,7 @@ pub(crate) fn leave_trace<S: Shelf>(
         ≡ Some (with_outputs files (traced (name_in threading.entry) (record { ticks = ticks; window = threading.entry.window; buffers = rendered.logs.items }))))) }
     ensures part { (S.files shelf.new ≡ S.files shelf.old)
         ⊎ LeftPart (name_in threading.entry) (record { ticks = ticks; window = threading.entry.window; buffers = rendered.logs.items })
-            (Rose (S.write_count shelf.old) (S.write_count shelf.new)) (S.files shelf.old) (S.files shelf.new) }
+        (Rose (S.write_count shelf.old) (S.write_count shelf.new)) (S.files shelf.old) (S.files shelf.new) }
     ensures cause { IsErrOf result RenderFault.Write → Rose (S.write_count shelf.old) (S.write_count shelf.new) }
     ensures reads { S.read_count shelf.old ≤ S.read_count shelf.new }
     ensures writes { S.write_count shelf.old ≤ S.write_count shelf.new }

@@ -1,4 +1,5 @@
-use Rattle.std.proofs.Common.{inl, refl}
+use Rattle.std.proofs.Common.{arith, inl, refl}
+use Rattle.liq_base.specs.Kept.{rose_within}
 use Rattle.station_render.specs.Runs.{station_by}
 use Rattle.station_render.proofs.Tracing.{files_written, is_trace, part_written}
 use Rattle.station_render.proofs.rendering.render.Goals as goal
@@ -6,9 +7,8 @@ use Rattle.station_render.proofs.rendering.render.Goals as goal
 pub returns-in_err-rendered-clause-part : goal.returns-in_err-rendered-clause-part
 returns-in_err-rendered-clause-part g c = λ files at. inl (c.render_outputs.ensures.part files at)
 
-pub leave_trace-requires : goal.leave_trace-requires
-leave_trace-requires g c =
-    λ κs lives.
+pub leave_trace-requires-clause-trace : goal.leave_trace-requires-clause-trace
+leave_trace-requires-clause-trace g c =
     let wrote = c.in_ok-rendered.ensures.done in
     is_trace _ _ c.args.threading.window c.args.ticks wrote.run _ c.requires.fit.plan_is c.requires.fit.few c.args.threading.some c.args.threading.few wrote.lawful wrote.told.logs_are
 
@@ -23,3 +23,6 @@ returns-clause-part g c =
     let station = station_by c.args.plan.now c.args.ready.now c.args.start.second c.args.ticks c.args.threading in
     part_written station c.args.threading.window refl _ _ c.in_ok-rendered.rendered c.in_ok-rendered.ensures.done
     _ _ _ c.render_outputs.ensures.writes c.leave_trace.ensures.writes _ c.render_outputs.ensures.part c.leave_trace.ensures.part
+
+pub returns-clause-cause : goal.returns-clause-cause
+returns-clause-cause g c = λ e. rose_within _ _ _ _ c.render_outputs.ensures.writes (omega arith) (c.leave_trace.ensures.cause e)

@@ -63,7 +63,7 @@ returns-clause-done g c =
     let some = rounds_some opened.all (c.run_rounds-run.ensures.part _ over) in
     let len : vec_len c.in_ok-engines.engines ≡ length c.run_rounds-run.new.engines = c.in_ok-engines.engines.ok.0 ∙ ap length (sym c.deref_mut.ensures.value) ∙ sym some.part.size in
     let last = written_back _ c.run_rounds-run.new.engines _ len in
-    whole_told c.requires.fit opened last c.take_back.ensures.back c.take_back.result (λ done. rounds_all opened.all (c.run_rounds-run.ensures.done done _ over))
+    whole_told c.requires.fit opened last c.take_back.ensures.back None c.take_back.result (λ done. rounds_all opened.all (c.run_rounds-run.ensures.done done _ over))
     c.take_back.ensures.done c.take_back.ensures.gaps c.take_back.ensures.counts c.take_back.ensures.logs
 
 pub returns-clause-part : goal.returns-clause-part

@@ -53,7 +53,7 @@ returns-clause-done g c =
     let opened = c.in_ok-engines.ensures.opened in
     let are = engines_are c.requires.fit opened c.args.start.in_week in
     let some = threads_some opened.at (c.run_threads-engines.ensures.part _ are) in
-    whole_told c.requires.fit opened refl c.take_back.ensures.back c.take_back.result (λ done. threads_all opened.at (c.run_threads-engines.ensures.done done _ are))
+    whole_told c.requires.fit opened refl c.take_back.ensures.back _ c.take_back.result (λ done. threads_all opened.at (c.run_threads-engines.ensures.done done _ are))
     c.take_back.ensures.done c.take_back.ensures.gaps c.take_back.ensures.counts c.take_back.ensures.logs
 
 pub returns-clause-part : goal.returns-clause-part

@@ -8,7 +8,7 @@ returns-in_err-sink-clause-part g c = inl c.create.ensures.files
 
 pub returns-in_err-wrote-clause-part : goal.returns-in_err-wrote-clause-part
 returns-in_err-wrote-clause-part g c =
-    inr (part_left c.in_ok-sink.sink c.append-wrote.new.self _ _ _ c.args.name.now c.args.text.now c.create.ensures.files
+    inr (part_left g.S.Out.Sink.held g.S.Out.Sink.name c.in_ok-sink.sink c.append-wrote.new.self _ _ _ c.args.name.now c.args.text.now c.create.ensures.files
     c.in_ok-sink.ensures.tells c.in_ok-sink.ensures.name c.in_ok-sink.ensures.held c.append-wrote.ensures.name
     c.close-closed.result _ _ _ c.create.ensures.writes c.in_err-wrote.ensures.part c.close-closed.ensures.closed c.close-closed.ensures.part c.close-closed.ensures.cause)
 
@@ -19,7 +19,7 @@ returns-in_err-wrote-clause-cause g c =
 
 pub returns-in_err-closed-clause-part : goal.returns-in_err-closed-clause-part
 returns-in_err-closed-clause-part g c =
-    inr (part_left c.in_ok-sink.sink c.append-wrote.new.self _ _ _ c.args.name.now c.args.text.now c.create.ensures.files
+    inr (part_left g.S.Out.Sink.held g.S.Out.Sink.name c.in_ok-sink.sink c.append-wrote.new.self _ _ _ c.args.name.now c.args.text.now c.create.ensures.files
     c.in_ok-sink.ensures.tells c.in_ok-sink.ensures.name c.in_ok-sink.ensures.held c.append-wrote.ensures.name
     c.close-closed.result _ _ _ c.create.ensures.writes (took_whole _ _ _ c.in_ok-wrote.ensures.took) c.close-closed.ensures.closed c.close-closed.ensures.part c.close-closed.ensures.cause)
 
@@ -28,11 +28,11 @@ returns-in_err-closed-clause-cause g c = λ e. rose_within _ _ _ _ c.create.ensu
 
 pub returns-clause-part : goal.returns-clause-part
 returns-clause-part g c =
-    inr (part_left c.in_ok-sink.sink c.append-wrote.new.self _ _ _ c.args.name.now c.args.text.now c.create.ensures.files
+    inr (part_left g.S.Out.Sink.held g.S.Out.Sink.name c.in_ok-sink.sink c.append-wrote.new.self _ _ _ c.args.name.now c.args.text.now c.create.ensures.files
     c.in_ok-sink.ensures.tells c.in_ok-sink.ensures.name c.in_ok-sink.ensures.held c.append-wrote.ensures.name
     c.close-closed.result _ _ _ c.create.ensures.writes (took_whole _ _ _ c.in_ok-wrote.ensures.took) c.close-closed.ensures.closed c.close-closed.ensures.part c.close-closed.ensures.cause)
 
 pub returns-clause-written : goal.returns-clause-written
 returns-clause-written g c =
-    whole_left c.in_ok-sink.sink c.append-wrote.new.self _ _ _ c.args.name.now c.args.text.now c.create.ensures.files
+    whole_left g.S.Out.Sink.held g.S.Out.Sink.name c.in_ok-sink.sink c.append-wrote.new.self _ _ _ c.args.name.now c.args.text.now c.create.ensures.files
     c.in_ok-sink.ensures.tells c.in_ok-sink.ensures.name c.in_ok-sink.ensures.held c.append-wrote.ensures.name c.in_ok-wrote.ensures.took c.in_ok-closed.ensures.closed
