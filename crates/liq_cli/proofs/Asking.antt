@@ -3,9 +3,10 @@ use Rattle.std.proofs.Common.{◌≡◌, ℕ, List, refl, sym, subst}
 use Rattle.std.specs.Prelude.{Some, option_map}
 use Rattle.liq_base.specs.Files.{Files}
 use Rattle.liq_cli.specs.Words.{Asked, IsAsked, HasNoForm}
-use Rattle.liq_cli.specs.Answer.{Answer, Usage, Refused, Checked, Accepted, ForAnswer, ForEachAnswer, IsAnswer, IsAnswerTo, IsFormed}
-use Rattle.liq_cli.specs.Prepared.{ForEach, ForOne, asked_of}
-use Rattle.liq_cli.specs.declared.words.Form.{Form}
+use Rattle.liq_cli.specs.Answer.{Answer, Usage, Refused, Checked, Accepted, Made, ForAnswer, ForEachAnswer, IsAnswer, IsAnswerTo, IsFormed}
+use Rattle.liq_cli.specs.Prepared.{ForEach, ForOne}
+use Rattle.liq_cli.specs.Read.{asked_of}
+use Rattle.liq_cli.specs.declared.form.Form.{Form}
 
 -- the words ask for this, and for nothing else
 pub record AsksOne (words : List (List ℕ)) (asked : Asked) : Type 0 where
@@ -25,6 +26,7 @@ formed words asked files Usage asks is = absurd is
 formed words asked files (Refused fault) asks is = record { asked = asked; is_asked = asks.is; is_answer = is }
 formed words asked files (Checked station) asks is = record { asked = asked; is_asked = asks.is; is_answer = is }
 formed words asked files (Accepted station) asks is = record { asked = asked; is_asked = asks.is; is_answer = is }
+formed words asked files (Made made station) asks is = record { asked = asked; is_asked = asks.is; is_answer = is }
 
 of_form : (words : List (List ℕ)) (asked : Asked) (files : Files) (answer : Answer) → AsksOne words asked → IsFormed words files answer → IsAnswerTo asked files answer
 of_form words asked files answer asks is = subst (λ a. IsAnswerTo a files answer) (asks.only is.asked is.is_asked) is.is_answer
@@ -34,6 +36,7 @@ unformed words asked files Usage asks none = absurd (none asked asks.is)
 unformed words asked files (Refused fault) asks is = of_form words asked files (Refused fault) asks is
 unformed words asked files (Checked station) asks is = of_form words asked files (Checked station) asks is
 unformed words asked files (Accepted station) asks is = of_form words asked files (Accepted station) asks is
+unformed words asked files (Made made station) asks is = of_form words asked files (Made made station) asks is
 
 pub for_answer : (words : List (List ℕ)) (asked : Asked) (files : Files) (P : Answer → Type 0) → AsksOne words asked → ForOne asked files P → ForAnswer words files P
 for_answer words asked files P asks one = record {
@@ -52,6 +55,7 @@ no_other words files Usage none is = refl
 no_other words files (Refused fault) none is = absurd (none is.asked is.is_asked)
 no_other words files (Checked station) none is = absurd (none is.asked is.is_asked)
 no_other words files (Accepted station) none is = absurd (none is.asked is.is_asked)
+no_other words files (Made made station) none is = absurd (none is.asked is.is_asked)
 
 pub for_usage : (words : List (List ℕ)) (files : Files) (P : Answer → Type 0) → HasNoForm words → P Usage → ForAnswer words files P
 for_usage words files P none p = record {

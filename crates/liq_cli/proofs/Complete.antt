@@ -3,7 +3,7 @@ use Rattle.std.proofs.Common.{ℕ, zero, suc, List, refl, inl, inr, arith}
 use Rattle.std.specs.Prelude.{Option}
 use Rattle.liq_base.specs.Files.{Files}
 use Rattle.liq_base.specs.Counts.{Rose}
-use Rattle.liq_cli.specs.Answer.{Answer, Usage, Refused, Checked, Accepted, ForAnswer}
+use Rattle.liq_cli.specs.Answer.{Answer, Usage, Refused, Checked, Accepted, Made, ForAnswer}
 use Rattle.liq_cli.proofs.Asking.{each_of_one, for_usage}
 use Rattle.liq_cli.specs.Call.{Moment, Ends, IsDone, IsRefused, Calm, Completes, HasAnswer, IsComplete, Starved, WriteFailed}
 
@@ -15,18 +15,21 @@ no_write old new calm (inr (inr w)) = calm.writes w
 done_is_accepted : (a : Answer) (files : Files) (old new : Moment) → IsDone a files old new → Completes a 0
 done_is_accepted (Accepted station) files old new done = inl refl
 done_is_accepted (Checked station) files old new done = inl refl
+done_is_accepted (Made made station) files old new done = inl refl
 done_is_accepted (Refused fault) files old new done = absurd done.rendered
 done_is_accepted Usage files old new done = absurd done.rendered
 
 told_is_refused : (a : Answer) (old new : Moment) → IsRefused a old new → Completes a 1
 told_is_refused (Accepted station) old new told = absurd told
 told_is_refused (Checked station) old new told = absurd told
+told_is_refused (Made made station) old new told = absurd told
 told_is_refused (Refused fault) old new told = inl refl
 told_is_refused Usage old new told = absurd told
 
 starved_is_free : (a : Answer) (cause : Type 0) (files : Files) (after : Option Files) → Starved a cause files after → Completes a 5
 starved_is_free (Accepted station) cause files after starved = inr refl
 starved_is_free (Checked station) cause files after starved = inr refl
+starved_is_free (Made made station) cause files after starved = inr refl
 starved_is_free (Refused fault) cause files after starved = inr refl
 starved_is_free Usage cause files after starved = absurd starved
 

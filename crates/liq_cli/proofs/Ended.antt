@@ -8,7 +8,7 @@ use Rattle.liq_base.specs.Files.{Files}
 use Rattle.refusal_lines.specs.declared.fault.Fault.{Fault}
 use Rattle.refusal_lines.specs.Lines.{line_of}
 use Rattle.liq_cli.specs.Words.{Asked, HasNoForm}
-use Rattle.liq_cli.specs.Answer.{Answer, Usage, Refused, Checked, Accepted, usage_line}
+use Rattle.liq_cli.specs.Answer.{Answer, Usage, Refused, Checked, Accepted, Made, usage_line}
 use Rattle.liq_cli.specs.Call.{Moment, GrewPart, Rendered, Broken, Starved, IsDone, ReportBroke, OutputBroke, IsRefused, LineBroke, Broke, WriteFailed, Ends}
 use Rattle.liq_cli.specs.Prepared.{ForEach, ForOne}
 use Rattle.liq_cli.proofs.Asking.{AsksOne, each_one, for_answer, for_each_answer, for_usage, one_more}
@@ -21,12 +21,14 @@ grew_part held room piece line old new is part = record { part = part.taken; is_
 broke_report : (a : Answer) (files : Files) (old new : Moment) → ReportBroke a files old new → new.err ≡ old.err → Broke a files old new
 broke_report (Accepted station) files old new broke same = (inl broke, same)
 broke_report (Checked station) files old new broke same = (broke, same)
+broke_report (Made made station) files old new broke same = (broke, same)
 broke_report (Refused fault) files old new broke same = absurd broke.rendered
 broke_report Usage files old new broke same = absurd broke.rendered
 
 broke_output : (a : Answer) (files : Files) (old new : Moment) → OutputBroke a files old new → new.err ≡ old.err → Broke a files old new
 broke_output (Accepted station) files old new broke same = (inr broke, same)
 broke_output (Checked station) files old new broke same = absurd broke.broken
+broke_output (Made made station) files old new broke same = absurd broke.broken
 broke_output (Refused fault) files old new broke same = absurd broke.broken
 broke_output Usage files old new broke same = absurd broke.broken
 

@@ -5,7 +5,7 @@ use Rattle.std.specs.Option.{ForSome}
 use Rattle.std.specs.declared.alloc.Global.{Global}
 use Rattle.liq_base.specs.Files.{Files}
 use Rattle.liq_cli.specs.Words.{Asked}
-use Rattle.liq_cli.specs.Call.{Ends, Moment, Rendered, moment_of}
+use Rattle.liq_cli.specs.Call.{Ends, EndsApart, Moment, Rendered, moment_of}
 use Rattle.liq_cli.specs.Prepared.{ForOne, Stops}
 use Rattle.liq_cli.specs.Telling.{Finishes}
 use Rattle.liq_cli.specs.declared.halt.Halt.{Halt}
@@ -44,3 +44,9 @@ pub ended_from : {S O E : Type 0} (files : S → Option Files) (reads writes : S
     → Ends words (moment_of files reads writes out_held out_faults err_held err_faults between out' err') after status
     → Ends words (moment_of files reads writes out_held out_faults err_held err_faults shelf out err) after status
 ended_from files reads writes out_held out_faults err_held err_faults words shelf between out out' err err' after status same ends = rw (sym same.0, sym same.1, sym same.2) ends
+
+pub apart_from : {S O E : Type 0} (files : S → Option Files) (reads writes : S → ℕ) (out_held : O → Option (List ℕ)) (out_faults : O → ℕ) (err_held : E → Option (List ℕ)) (err_faults : E → ℕ)
+    (words : List (List ℕ)) (shelf between : S) (out out' : O) (err err' : E) (after : Moment) (status : ℕ) → (between ≡ shelf) × (out' ≡ out) × (err' ≡ err)
+    → EndsApart words (moment_of files reads writes out_held out_faults err_held err_faults between out' err') after status
+    → EndsApart words (moment_of files reads writes out_held out_faults err_held err_faults shelf out err) after status
+apart_from files reads writes out_held out_faults err_held err_faults words shelf between out out' err err' after status same ends = rw (sym same.0, sym same.1, sym same.2) ends

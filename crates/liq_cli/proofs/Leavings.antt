@@ -1,6 +1,6 @@
 -- What a job leaves, by the way that it ends.
-use Rattle.std.proofs.Common.{◌≡◌, ◌≤◌, ℕ, Bool, List, refl, sym, subst, ◌∙◌, arith}
-use Rattle.std.specs.Prelude.{Option, Some, Result, Ok, Err, IfOk, IfErr}
+use Rattle.std.proofs.Common.{◌≡◌, ◌≤◌, ℕ, Bool, List, refl, sym, subst, ◌∙◌, inl, inr, arith}
+use Rattle.std.specs.Prelude.{Option, Some, None, Result, Ok, Err, IfOk, IfErr}
 use Rattle.std.specs.Option.{ForSome}
 use Rattle.liq_base.specs.Counts.{Rose}
 use Rattle.liq_base.specs.Files.{Files}
@@ -11,8 +11,9 @@ use Rattle.fallible_infer.specs.Infallible.{IsMarking}
 use Rattle.run_records.specs.Records.{Run}
 use Rattle.run_records.specs.Rounds.{HasNoJoin}
 use Rattle.stations.specs.Renderings.{RendersAsOneThread, WrotePart}
-use Rattle.stations.specs.Stations.{IsLawful, Station, bare}
-use Rattle.stations.specs.Streams.{HasNoGaps, outputs_with}
+use Rattle.stations.specs.Outputs.{with_outputs}
+use Rattle.stations.specs.Stations.{IsLawful, Station, bare, most_of}
+use Rattle.stations.specs.Streams.{HasNoGaps, fronts_with, outputs_of}
 use Rattle.stations.specs.Reports.{check_report_of, report_of}
 use Rattle.station_render.specs.declared.fault.RenderFault.{RenderFault}
 use Rattle.station_render.specs.declared.fault.RenderFault.TheVariants.{Write as render_write, Memory as render_memory}
@@ -20,33 +21,36 @@ use Rattle.station_render.specs.Runs.{IsRendered, IsTold}
 use Rattle.station_render.specs.declared.rendered.Rendered.{Rendered as Shown}
 use Rattle.liq_cli.specs.declared.halt.Halt.{Halt}
 use Rattle.liq_cli.specs.declared.halt.Halt.TheVariants.{Memory as no_memory}
-use Rattle.liq_cli.specs.Words.{Asked, Check, Render, file_of, ticks_of}
-use Rattle.liq_cli.specs.Answer.{Answer, Usage, Refused, Checked, Accepted, IsAnswerTo}
+use Rattle.liq_cli.specs.Words.{Asked, Check, Render, file_of, ticks_of, trace_of}
+use Rattle.liq_cli.specs.Answer.{Answer, Usage, Refused, Checked, Accepted, Made, IsAnswerTo, files_for}
 use Rattle.liq_cli.specs.Call.{Broken, Rendered, Starved}
 use Rattle.liq_cli.specs.Prepared.{EndsFor, ForOne, Found, IsOneOutcome, Lost, Stops, halt_of_render, station_for}
 use Rattle.liq_cli.proofs.Outcomes.{for_each, for_one}
-use Rattle.liq_cli.proofs.Parts.{none_created, some_later}
+use Rattle.liq_cli.proofs.Parts.{none_created, part_later, some_later}
 use Rattle.liq_cli.proofs.Uncalled.{uncalled, uncalled_begun}
 
 -- where nothing was created, each answer has what it may
-kept_starved : (asked : Asked) (files : Files) (answer : Answer) (cause : Type 0) (before after : Option Files) → IsAnswerTo asked files answer
+pub kept_starved : (asked : Asked) (files : Files) (answer : Answer) (cause : Type 0) (before after : Option Files) → IsAnswerTo asked files answer
     → before ≡ Some files → after ≡ before → Starved answer cause files after
 kept_starved asked files Usage cause before after is told same = absurd is
 kept_starved asked files (Refused fault) cause before after is told same = same ∙ told
 kept_starved asked files (Checked station) cause before after is told same = same ∙ told
+kept_starved asked files (Made made station) cause before after is told same = same ∙ told
 kept_starved asked files (Accepted station) cause before after is told same =
-    record {
+    inl (record {
       run = uncalled station;
       begun = uncalled_begun station;
-      parts = λ rest. none_created cause (outputs_with station (uncalled station) rest) before after same files told;
-    }
+      parts = λ rest. none_created cause (fronts_with station (uncalled station) (most_of station (uncalled station) (uncalled_begun station)) rest) before after same files told;
+    })
 
--- a job ends as the steps before the rendering do
-pub stopped_early : {T U : Type 0} (asked : Asked) (told left : Option Files) (reads_before reads_after writes_before writes_after : ℕ) (e : Halt)
-    → EndsFor {T = T} told (file_of asked) (ticks_of asked) reads_before reads_after (Err e) → left ≡ told
+-- a job over the files of the shelf ends as the steps before the rendering do
+pub stopped_early : {T U : Type 0} (asked : Asked) → ((files : Files) → files_for asked files ≡ files)
+    → (told left : Option Files) (reads_before reads_after writes_before writes_after : ℕ) (e : Halt)
+    → EndsFor {T = T} told (file_of asked) (trace_of asked) (ticks_of asked) reads_before reads_after (Err e) → left ≡ told
     → Stops {T = U} asked told left reads_before reads_after writes_before writes_after (Err e)
-stopped_early asked told left reads_before reads_after writes_before writes_after e ends same = record {
-  fault = λ fault at files t. for_one asked files (Lost fault) (λ a. a ≡ Refused fault) (ends.fault fault (cc) files t) refl;
+stopped_early asked own told left reads_before reads_after writes_before writes_after e ends same = record {
+  fault = λ fault at files t. for_one asked files (Lost fault) (λ a. a ≡ Refused fault)
+      (subst (λ fs. IsOneOutcome fs (file_of asked) (trace_of asked) (ticks_of asked) (Lost fault)) (sym (own files)) (ends.fault fault (cc) files t)) refl;
   fault_kept = λ fault at. same;
   read = λ at. ends.read (cc);
   read_kept = λ at. same;
@@ -56,7 +60,7 @@ stopped_early asked told left reads_before reads_after writes_before writes_afte
 }
 
 -- memory was refused where nothing was created
-stopped_for_memory : {U : Type 0} (asked : Asked) (told left : Option Files) (reads_before reads_after writes_before writes_after : ℕ) → left ≡ told
+pub stopped_for_memory : {U : Type 0} (asked : Asked) (told left : Option Files) (reads_before reads_after writes_before writes_after : ℕ) → left ≡ told
     → Stops {T = U} asked told left reads_before reads_after writes_before writes_after (Err no_memory)
 stopped_for_memory asked told left reads_before reads_after writes_before writes_after same = record {
   fault = λ fault at. absurd (cc);
@@ -69,7 +73,7 @@ stopped_for_memory asked told left reads_before reads_after writes_before writes
 }
 
 -- a job that has its report did not stop
-went_on : {U : Type 0} (asked : Asked) (told left : Option Files) (reads_before reads_after writes_before writes_after : ℕ) (v : U)
+pub went_on : {U : Type 0} (asked : Asked) (told left : Option Files) (reads_before reads_after writes_before writes_after : ℕ) (v : U)
     → Stops {T = U} asked told left reads_before reads_after writes_before writes_after (Ok v)
 went_on asked told left reads_before reads_after writes_before writes_after v = record {
   fault = λ fault at. absurd (cc);
@@ -96,38 +100,46 @@ of_report (Err e) s P Q is holds on = tt
 
 -- the report of a check
 pub checked : (file : List ℕ) (told left : Option Files) (plan : Plan) (library : Sounds) (clocks : ClockMap) (report : List ℕ)
-    → ForSome told (λ files. IsOneOutcome files file 0 (Found plan library clocks)) → left ≡ told
+    → ForSome told (λ files. IsOneOutcome files file None 0 (Found plan library clocks)) → left ≡ told
     → (mark : ℕ → Bool) × IsMarking plan.nodes mark × ((station : Station) → station.plan ≡ plan → station.clocks ≡ clocks → report ≡ check_report_of station mark)
     → ForSome told (λ files. ForOne (Check file) files (λ a. Rendered a files left report))
 checked file told left plan library clocks report one same tells files t =
     for_one (Check file) files (Found plan library clocks) (λ a. Rendered a files left report) (one files t)
     (record { kept = same ∙ t; mark = tells.0; marking = tells.1; report_is = tells.2 (station_for (Check file) plan library clocks) refl refl })
 
-module _ (file : List ℕ) (start ticks : ℕ) (window : Option ℕ) (told left : Option Files) (plan : Plan) (library : Sounds) (clocks : ClockMap)
-    (one : ForSome told (λ files. IsOneOutcome files file ticks (Found plan library clocks))) where
+module _ (file : List ℕ) (start ticks : ℕ) (window : Option ℕ) (trace : Option (List ℕ)) (told left : Option Files) (plan : Plan) (library : Sounds) (clocks : ClockMap)
+    (one : ForSome told (λ files. IsOneOutcome files file trace ticks (Found plan library clocks))) where
   abbrev station : Station
-  station = station_for (Render file start ticks window) plan library clocks
+  station = station_for (Render file start ticks window trace) plan library clocks
 
   -- a part that was written may be told of a wider cause
   wrote_later : (writes_before writes_between writes_after : ℕ) → writes_before ≤ writes_between → (files : Files) → WrotePart station (Rose writes_between writes_after) files left → WrotePart station (Rose writes_before writes_after) files left
-  wrote_later writes_before writes_between writes_after le files wrote = record {
+  wrote_later writes_before writes_between writes_after le files (inl wrote) = inl (record {
     run = wrote.run;
     begun = wrote.begun;
-    parts = λ rest. some_later (Rose writes_between writes_after) (Rose writes_before writes_after) (λ rose. omega arith) files (outputs_with station wrote.run rest) left (wrote.parts rest);
-  }
+    parts = λ rest. some_later (Rose writes_between writes_after) (Rose writes_before writes_after) (λ rose. omega arith) files
+        (fronts_with station wrote.run (most_of station wrote.run wrote.begun) rest) left (wrote.parts rest);
+  })
+  wrote_later writes_before writes_between writes_after le files (inr wrote) = inr (record {
+    run = wrote.run;
+    lawful = wrote.lawful;
+    trace = wrote.trace;
+    wanted = wrote.wanted;
+    part = part_later (Rose writes_between writes_after) (Rose writes_before writes_after) (λ rose. omega arith) (with_outputs files (outputs_of station wrote.run)) wrote.trace left wrote.part;
+  })
 
   -- a rendering broke off
   pub broke_off : {U : Type 0} (reads_before reads_after writes_before writes_between writes_after : ℕ) (e : RenderFault) → writes_before ≤ writes_between
       → ForSome told (λ files. WrotePart station (Rose writes_between writes_after) files left)
       → (e ≡ render_write → Rose writes_between writes_after)
-      → Stops {T = U} (Render file start ticks window) told left reads_before reads_after writes_before writes_after (Err (halt_of_render e))
+      → Stops {T = U} (Render file start ticks window trace) told left reads_before reads_after writes_before writes_after (Err (halt_of_render e))
   broke_off reads_before reads_after writes_before writes_between writes_after render_write le parts cause = record {
     fault = λ fault at. absurd (cc);
     fault_kept = λ fault at. absurd (cc);
     read = λ at. absurd (cc);
     read_kept = λ at. absurd (cc);
     write = λ at. let rose = cause refl in omega arith;
-    broken = λ at files t. for_one (Render file start ticks window) files (Found plan library clocks) (λ a. Broken a (Rose writes_before writes_after) files left) (one files t)
+    broken = λ at files t. for_one (Render file start ticks window trace) files (Found plan library clocks) (λ a. Broken a (Rose writes_before writes_after) files left) (one files t)
         (wrote_later writes_before writes_between writes_after le files (parts files t));
     memory = λ at. absurd (cc);
   }
@@ -138,25 +150,25 @@ module _ (file : List ℕ) (start ticks : ℕ) (window : Option ℕ) (told left 
     read_kept = λ at. absurd (cc);
     write = λ at. absurd (cc);
     broken = λ at. absurd (cc);
-    memory = λ at files t. for_each (Render file start ticks window) files (Found plan library clocks) (λ a. Starved a (Rose writes_before writes_after) files left) (one files t)
+    memory = λ at files t. for_each (Render file start ticks window trace) files (Found plan library clocks) (λ a. Starved a (Rose writes_before writes_after) files left) (one files t)
         (wrote_later writes_before writes_between writes_after le files (parts files t));
   }
 
   -- a rendering whose last step is its report: memory may be refused for that
   pub ended_written : {U : Type 0} (r : Result U Halt) (reads_before reads_after writes_before writes_between writes_after : ℕ) → IfErr r (λ e. e ≡ no_memory) → writes_before ≤ writes_between
       → ForSome told (λ files. WrotePart station (Rose writes_between writes_after) files left)
-      → Stops {T = U} (Render file start ticks window) told left reads_before reads_after writes_before writes_after r
-  ended_written {U} (Ok v) reads_before reads_after writes_before writes_between writes_after starved le parts = went_on (Render file start ticks window) told left reads_before reads_after writes_before writes_after v
+      → Stops {T = U} (Render file start ticks window trace) told left reads_before reads_after writes_before writes_after r
+  ended_written {U} (Ok v) reads_before reads_after writes_before writes_between writes_after starved le parts = went_on (Render file start ticks window trace) told left reads_before reads_after writes_before writes_after v
   ended_written {U} (Err e) reads_before reads_after writes_before writes_between writes_after starved le parts =
-      subst (λ x. Stops {T = U} (Render file start ticks window) told left reads_before reads_after writes_before writes_after (Err x)) (sym starved)
+      subst (λ x. Stops {T = U} (Render file start ticks window trace) told left reads_before reads_after writes_before writes_after (Err x)) (sym starved)
       (broke_off reads_before reads_after writes_before writes_between writes_after render_memory le parts (λ at. absurd (cc)))
 
   -- the report of a rendering
   pub rendered : (before : Option Files) (report : List ℕ) (value : Shown) → before ≡ told → IsRendered station before left value
       → ((run : Run) → IsTold station run value → report ≡ report_of station run)
-      → ((files : Files) (run : Run) → IsOneOutcome files file ticks (Found plan library clocks) → HasNoGaps station run)
-      → ((files : Files) (run : Run) → IsOneOutcome files file ticks (Found plan library clocks) → IsLawful station run → HasNoJoin (bare station) → RendersAsOneThread station run)
-      → ForSome told (λ files. ForOne (Render file start ticks window) files (λ a. Rendered a files left report))
+      → ((files : Files) (run : Run) → IsOneOutcome files file trace ticks (Found plan library clocks) → HasNoGaps station run)
+      → ((files : Files) (run : Run) → IsOneOutcome files file trace ticks (Found plan library clocks) → IsLawful station run → HasNoJoin (bare station) → RendersAsOneThread station run)
+      → ForSome told (λ files. ForOne (Render file start ticks window trace) files (λ a. Rendered a files left report))
   rendered before report value kept is report_is gapless alike files t =
-      for_one (Render file start ticks window) files (Found plan library clocks) (λ a. Rendered a files left report) (one files t)
+      for_one (Render file start ticks window trace) files (Found plan library clocks) (λ a. Rendered a files left report) (one files t)
       (record { run = is.run; lawful = is.lawful; written = is.all_written files (kept ∙ t); report_is = report_is is.run is.told; no_gaps = gapless files is.run (one files t); as_one_thread = alike files is.run (one files t) is.lawful })

@@ -1,11 +1,15 @@
 mod Reading
 mod Asking
+mod Threading
 mod Outcomes
 mod Found
 mod Endings
 mod Parts
 mod Uncalled
 mod Leavings
+mod AsOne
+mod Workloads
+mod Summing
 mod Ended
 mod Finished
 mod Complete

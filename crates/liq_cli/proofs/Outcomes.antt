@@ -1,46 +1,78 @@
 -- The answers to what is asked for are those of outcomes.
-use Rattle.std.proofs.Common.{◌≡◌, ℕ, refl, sym, ap, ◌∙◌, subst}
-use Rattle.std.specs.Prelude.{Option, None}
+use Rattle.std.proofs.Common.{◌≡◌, ℕ, List, refl, sym, ap, ◌∙◌, subst}
+use Rattle.std.specs.Prelude.{Option}
 use Rattle.liq_base.specs.Files.{Files}
+use Rattle.frame_core.specs.Library.{Sounds}
+use Rattle.plan_core.specs.declared.plan.Plan.{Plan}
+use Rattle.clock_infer.specs.declared.clock_map.ClockMap.{ClockMap}
 use Rattle.stations.specs.Stations.{Station}
-use Rattle.liq_cli.specs.Words.{Asked, Check, Render, file_of, ticks_of}
-use Rattle.liq_cli.specs.Answer.{Answer, Usage, Refused, Checked, Accepted, IsAnswerTo}
-use Rattle.liq_cli.specs.Prepared.{ForEach, ForOne, Found, IsOneOutcome, IsOutcome, Lost, Outcome, answer_of}
+use Rattle.liq_cli.specs.Words.{Asked, Check, Make, Render, file_of, start_of, ticks_of, trace_of, window_of}
+use Rattle.liq_cli.specs.Answer.{Answer, Usage, Refused, Checked, Accepted, Made, IsAnswerTo, IsStation, files_for, files_made}
+use Rattle.liq_cli.specs.Prepared.{ForEach, ForOne, Found, IsOneFor, IsOutcome, IsPrepared, Lost, Outcome, answer_of, station_for}
+
+-- an outcome of what is asked for
+abbrev IsOutcomeFor : Asked → Files → Outcome → Type 0
+IsOutcomeFor asked files outcome = IsOutcome (files_for asked files) (file_of asked) (trace_of asked) (ticks_of asked) outcome
+
+-- what is found is a station, and a station was found
+stationed : (asked : Asked) (files : Files) (plan : Plan) (library : Sounds) (clocks : ClockMap) → IsPrepared files (file_of asked) (trace_of asked) (ticks_of asked) plan library clocks
+    → IsStation asked files (station_for asked plan library clocks)
+stationed asked files plan library clocks is =
+    record { has_plan = is.has_plan; apart = is.apart; accepted = is.accepted; start_is = refl; ticks_are = refl; window_is = refl; trace_is = refl }
+
+prepared : (asked : Asked) (files : Files) (station : Station) → IsStation asked files station
+    → IsPrepared files (file_of asked) (trace_of asked) (ticks_of asked) station.plan station.library station.clocks
+prepared asked files station is = record { has_plan = is.has_plan; apart = is.apart; accepted = is.accepted }
+
+same_station : (station : Station) (start ticks : ℕ) (window : Option ℕ) (trace : Option (List ℕ)) → station.start ≡ start → station.ticks ≡ ticks → station.window ≡ window → station.trace ≡ trace
+    → station ≡ record { plan = station.plan; library = station.library; clocks = station.clocks; start = start; ticks = ticks; window = window; trace = trace }
+same_station station start ticks window trace s t w r = rw (sym s, sym t, sym w, sym r) refl
 
 -- an outcome's answer is one
-pub answered : (asked : Asked) (files : Files) (outcome : Outcome) → IsOutcome files (file_of asked) (ticks_of asked) outcome → IsAnswerTo asked files (answer_of asked outcome)
+pub answered : (asked : Asked) (files : Files) (outcome : Outcome) → IsOutcomeFor asked files outcome → IsAnswerTo asked files (answer_of asked outcome)
 answered asked files (Lost fault) is = is
-answered (Check file) files (Found plan library clocks) is = record { has_plan = is.has_plan; accepted = is.accepted; start_is = refl; ticks_are = refl; window_is = refl }
-answered (Render file start ticks window) files (Found plan library clocks) is = record { has_plan = is.has_plan; accepted = is.accepted; start_is = refl; ticks_are = refl; window_is = refl }
+answered (Check file) files (Found plan library clocks) is = stationed (Check file) files plan library clocks is
+answered (Render file start ticks window trace) files (Found plan library clocks) is = stationed (Render file start ticks window trace) files plan library clocks is
+answered (Make seed size) files (Found plan library clocks) is = (refl, stationed (Make seed size) (files_made seed size) plan library clocks is)
 
 -- an answer is that of an outcome
 record Comes (asked : Asked) (files : Files) (answer : Answer) : Type 0 where
   outcome : Outcome
-  is : IsOutcome files (file_of asked) (ticks_of asked) outcome
+  is : IsOutcomeFor asked files outcome
   same : answer ≡ answer_of asked outcome
 
-same_station : (station : Station) (start ticks : ℕ) (window : Option ℕ) → station.start ≡ start → station.ticks ≡ ticks → station.window ≡ window
-    → station ≡ record { plan = station.plan; library = station.library; clocks = station.clocks; start = start; ticks = ticks; window = window }
-same_station station start ticks window s t w = rw (sym s, sym t, sym w) refl
+-- a station is that of what was found
+its_own : (asked : Asked) (files : Files) (station : Station) → IsStation asked files station → station ≡ station_for asked station.plan station.library station.clocks
+its_own asked files station is =
+    same_station station (start_of asked) (ticks_of asked) (window_of asked) (trace_of asked) is.start_is is.ticks_are is.window_is is.trace_is
 
 comes : (asked : Asked) (files : Files) (answer : Answer) → IsAnswerTo asked files answer → Comes asked files answer
 comes asked files Usage is = absurd is
 comes asked files (Refused fault) is = record { outcome = Lost fault; is = is; same = refl }
 comes (Check file) files (Checked station) is = record {
   outcome = Found station.plan station.library station.clocks;
-  is = record { has_plan = is.has_plan; accepted = is.accepted };
-  same = ap Checked (same_station station 0 0 None is.start_is is.ticks_are is.window_is);
+  is = prepared (Check file) files station is;
+  same = ap Checked (its_own (Check file) files station is);
 }
 comes (Check file) files (Accepted station) is = absurd is
-comes (Render file start ticks window) files (Checked station) is = absurd is
-comes (Render file start ticks window) files (Accepted station) is = record {
+comes (Check file) files (Made made station) is = absurd is
+comes (Render file start ticks window trace) files (Checked station) is = absurd is
+comes (Render file start ticks window trace) files (Accepted station) is = record {
   outcome = Found station.plan station.library station.clocks;
-  is = record { has_plan = is.has_plan; accepted = is.accepted };
-  same = ap Accepted (same_station station start ticks window is.start_is is.ticks_are is.window_is);
+  is = prepared (Render file start ticks window trace) files station is;
+  same = ap Accepted (its_own (Render file start ticks window trace) files station is);
+}
+comes (Render file start ticks window trace) files (Made made station) is = absurd is
+comes (Make seed size) files (Checked station) is = absurd is
+comes (Make seed size) files (Accepted station) is = absurd is
+comes (Make seed size) files (Made made station) is = record {
+  outcome = Found station.plan station.library station.clocks;
+  is = prepared (Make seed size) (files_made seed size) station (subst (λ fs. IsStation (Make seed size) fs station) is.0 is.1);
+  same = ap (λ fs. Made fs station) is.0 ∙ ap (Made (files_made seed size)) (its_own (Make seed size) made station is.1);
 }
 
 -- so one outcome is one answer
-pub for_one : (asked : Asked) (files : Files) (outcome : Outcome) (P : Answer → Type 0) → IsOneOutcome files (file_of asked) (ticks_of asked) outcome
+pub for_one : (asked : Asked) (files : Files) (outcome : Outcome) (P : Answer → Type 0) → IsOneFor asked files outcome
     → P (answer_of asked outcome) → ForOne asked files P
 for_one asked files outcome P one p = record {
   answer = answer_of asked outcome;
@@ -50,7 +82,7 @@ for_one asked files outcome P one p = record {
 }
 
 -- what holds of the one answer holds of each
-pub for_each : (asked : Asked) (files : Files) (outcome : Outcome) (P : Answer → Type 0) → IsOneOutcome files (file_of asked) (ticks_of asked) outcome
+pub for_each : (asked : Asked) (files : Files) (outcome : Outcome) (P : Answer → Type 0) → IsOneFor asked files outcome
     → P (answer_of asked outcome) → ForEach asked files P
 for_each asked files outcome P one p answer is =
     let c = comes asked files answer is in subst P (sym (c.same ∙ ap (answer_of asked) (one.only c.outcome c.is))) p

@@ -3,7 +3,7 @@ use Rattle.std.proofs.Common.{◌∙◌, ◌≡◌, List, [], ◌∷◌, sym, re
 use Rattle.std.specs.Prelude.{Option, Some, None, IsSomeAnd}
 use Rattle.std.specs.Option.{ForSome}
 use Rattle.liq_base.specs.Files.{Files}
-use Rattle.liq_base.specs.Kept.{later_cause}
+use Rattle.liq_base.specs.Kept.{HoldsPartOr, later_cause, some_and}
 use Rattle.stations.specs.Outputs.{OutputFile, HoldsParts, HoldsSome}
 
 -- nothing was created
@@ -26,3 +26,8 @@ some_later cause more f files outputs (Some after) parts = record {
   outputs_are = parts.outputs_are;
   parts = parts_later cause more f files parts.created after parts.parts;
 }
+
+pub part_later : (cause more : Type 0) → (cause → more) → (files : Files) (output : OutputFile) (after : Option Files)
+    → IsSomeAnd after (HoldsPartOr cause files output.name output.bytes) → IsSomeAnd after (HoldsPartOr more files output.name output.bytes)
+part_later cause more f files output after part =
+    some_and after (HoldsPartOr cause files output.name output.bytes) (HoldsPartOr more files output.name output.bytes) (λ a. later_cause cause more files output.name output.bytes a f) part

@@ -1,22 +1,21 @@
--- What the word of a window says.
+-- What the words of options say.
 use Rattle.std.proofs.Common.{◌≡◌, ◌∙◌, ℕ, List, refl, sym, ap, arith}
 use Rattle.std.specs.Prelude.{◌++◌, Option, Some, None, codes, is_some, option_map, slice_index_or, if◌then◌else◌}
-use Rattle.liq_cli.specs.Read.{options_of}
-use Rattle.liq_cli.specs.declared.window.Window.{Window}
-use Rattle.liq_cli.specs.declared.words.Options.{Options as ReadOptions}
-use Rattle.liq_cli.specs.Words.{Options}
 
--- a window is no start
+-- a window, a start and a trace are three words: they differ at the third byte
 pub window_or_start : (word window start : List ℕ) → word ≡ codes "--window=" ++ window → word ≡ codes "--start=" ++ start → ⊥
 window_or_start word window start one other =
     let third : ◌≡◌ {A = ℕ} 119 115 = ap (λ (w : List ℕ). slice_index_or w 2 0) (sym one ∙ other) in absurd (omega (arith, third))
 
-unmapped : (window : Option Window) → option_map (λ w. w.ticks) window ≡ None → window ≡ None
-unmapped None none = refl
-unmapped (Some window) none = absurd (cc)
+pub window_or_trace : (word window trace : List ℕ) → word ≡ codes "--window=" ++ window → word ≡ codes "--trace=" ++ trace → ⊥
+window_or_trace word window trace one other =
+    let third : ◌≡◌ {A = ℕ} 119 116 = ap (λ (w : List ℕ). slice_index_or w 2 0) (sym one ∙ other) in absurd (omega (arith, third))
 
--- a window that was read is all that its word says
-pub says_window : (before : ReadOptions) (window : Window) (said : ℕ) (after : Options) → window.ticks ≡ said → (options_of before).window ≡ None → after ≡ record (options_of before) { window = Some said }
-    → option_map options_of (if is_some before.window then None else Some (record before { window = Some window })) ≡ Some after
-says_window before window said after same once after_is =
-    rw (unmapped before.window once) (ap Some ((λ i. record (options_of before) { window = Some (same i) }) ∙ sym after_is))
+pub start_or_trace : (word start trace : List ℕ) → word ≡ codes "--start=" ++ start → word ≡ codes "--trace=" ++ trace → ⊥
+start_or_trace word start trace one other =
+    let third : ◌≡◌ {A = ℕ} 115 116 = ap (λ (w : List ℕ). slice_index_or w 2 0) (sym one ∙ other) in absurd (omega (arith, third))
+
+-- what was not said before is said once
+pub said_once : {A B C : Type 0} (f : A → B) (before : Option A) (after : C) → option_map f before ≡ None → ◌≡◌ {A = Option C} (if is_some before then None else Some after) (Some after)
+said_once f None after none = refl
+said_once f (Some a) after none = absurd (cc)

@@ -10,11 +10,13 @@ use Rattle.run_records.specs.Rounds.{HasNoJoin}
 use Rattle.stations.specs.Outputs.{with_outputs}
 use Rattle.stations.specs.Renderings.{RendersAsOneThread, WrotePart}
 use Rattle.stations.specs.Stations.{Station, IsLawful, bare}
-use Rattle.stations.specs.Streams.{outputs_of, HasNoGaps}
+use Rattle.stations.specs.Streams.{HasNoGaps}
+use Rattle.stations.specs.Traces.{files_of}
 use Rattle.stations.specs.Reports.{report_of, check_report_of}
 use Rattle.refusal_lines.specs.Lines.{line_of}
+use Rattle.liq_cli.specs.Summary.{SumsAsOneThread, summary_of}
 use Rattle.liq_cli.specs.Words.{HasNoForm}
-use Rattle.liq_cli.specs.Answer.{Answer, Usage, Refused, Checked, Accepted, ForAnswer, ForEachAnswer, IsAnswer, usage_line}
+use Rattle.liq_cli.specs.Answer.{Answer, Usage, Refused, Checked, Accepted, Made, ForAnswer, ForEachAnswer, IsAnswer, usage_line}
 
 -- what the shelf, `out` and `err` tell at one moment, and how often they failed
 pub record Moment : Type 0 where
@@ -31,17 +33,22 @@ abbrev pub moment_of : {S O E : Type 0} → (S → Option Files) → (S → ℕ)
 moment_of files reads writes out_held out_faults err_held err_faults shelf out err =
     record { files = files shelf; out = out_held out; err = err_held err; reads = reads shelf; writes = writes shelf; out_faults = out_faults out; err_faults = err_faults err }
 
+-- the same moment, if the shelf held these files and never failed
+abbrev pub over : Files → Moment → Moment
+over files moment = record moment { files = Some files; reads = 0; writes = 0 }
+
 -- a prefix of the line was written
 pub record GrewPart (line : List ℕ) (old new : Option (List ℕ)) : Type 0 where
   pub part : List ℕ
   pub is_front : IsPrefix part line
   pub grew : new ≡ grown part old
 
--- A run wrote all outputs, and this is its report. Where no buffer joins two clocks, one thread writes and tells the same.
+-- A run wrote all outputs and then its trace, if one is wanted, and this is its report. Where no buffer joins two clocks, one thread
+-- writes the same outputs and tells the same.
 pub record Wrote (station : Station) (files : Files) (after : Option Files) (report : List ℕ) : Type 0 where
   pub run : Run
   pub lawful : IsLawful station run
-  pub written : after ≡ Some (with_outputs files (outputs_of station run))
+  pub written : after ≡ Some (with_outputs files (files_of station run))
   pub report_is : report ≡ report_of station run
   pub no_gaps : HasNoGaps station run
   pub as_one_thread : HasNoJoin (bare station) → RendersAsOneThread station run
@@ -53,13 +60,25 @@ pub record Told (station : Station) (files : Files) (after : Option Files) (repo
   pub marking : IsMarking station.plan.nodes mark
   pub report_is : report ≡ check_report_of station mark
 
+-- No file changed, and this is the summary of a run over the files of a workload. Where no buffer joins two clocks, it is that of the one
+-- record that rounds on one thread have.
+pub record Summed (made : Files) (station : Station) (files : Files) (after : Option Files) (report : List ℕ) : Type 0 where
+  pub kept : after ≡ Some files
+  pub run : Run
+  pub lawful : IsLawful station run
+  pub report_is : report ≡ summary_of made station run
+  pub no_gaps : HasNoGaps station run
+  pub as_one_thread : HasNoJoin (bare station) → SumsAsOneThread made station report
+
 abbrev pub Rendered : Answer → Files → Option Files → List ℕ → Type 0
+Rendered (Made made station) files after report = Summed made station files after report
 Rendered (Accepted station) files after report = Wrote station files after report
 Rendered (Checked station) files after report = Told station files after report
 Rendered (Refused fault) files after report = ⊥
 Rendered Usage files after report = ⊥
 
 abbrev pub Broken : Answer → Type 0 → Files → Option Files → Type 0
+Broken (Made made station) cause files after = ⊥
 Broken (Accepted station) cause files after = WrotePart station cause files after
 Broken (Checked station) cause files after = ⊥
 Broken (Refused fault) cause files after = ⊥
@@ -67,6 +86,7 @@ Broken Usage cause files after = ⊥
 
 -- memory was refused, maybe before anything was created
 abbrev pub Starved : Answer → Type 0 → Files → Option Files → Type 0
+Starved (Made made station) cause files after = after ≡ Some files
 Starved (Accepted station) cause files after = WrotePart station cause files after
 Starved (Checked station) cause files after = after ≡ Some files
 Starved (Refused fault) cause files after = after ≡ Some files
@@ -84,7 +104,7 @@ pub record ReportBroke (answer : Answer) (files : Files) (old new : Moment) : Ty
   pub reported : GrewPart report old.out new.out
   pub cause : Rose old.out_faults new.out_faults
 
--- a creation, an output or a closing failed
+-- a creation, an output, the trace or a closing failed
 pub record OutputBroke (answer : Answer) (files : Files) (old new : Moment) : Type 0 where
   pub broken : Broken answer (Rose old.writes new.writes) files new.files
   pub out_kept : new.out ≡ old.out
@@ -100,11 +120,13 @@ pub record LineBroke (line : List ℕ) (old new : Moment) : Type 0 where
 -- what status 1 and 4 say, by the answer
 abbrev pub IsRefused : Answer → Moment → Moment → Type 0
 IsRefused (Refused fault) old new = new.err ≡ grown (line_of fault) old.err
+IsRefused (Made made station) old new = ⊥
 IsRefused (Accepted station) old new = ⊥
 IsRefused (Checked station) old new = ⊥
 IsRefused Usage old new = ⊥
 
 abbrev pub Broke : Answer → Files → Moment → Moment → Type 0
+Broke (Made made station) files old new = ReportBroke (Made made station) files old new × (new.err ≡ old.err)
 Broke (Accepted station) files old new = (ReportBroke (Accepted station) files old new ⊎ OutputBroke (Accepted station) files old new) × (new.err ≡ old.err)
 Broke (Checked station) files old new = ReportBroke (Checked station) files old new × (new.err ≡ old.err)
 Broke (Refused fault) files old new = LineBroke (line_of fault) old new
@@ -132,6 +154,7 @@ pub record Calm (old new : Moment) : Type 0 where
   pub err : Rose old.err_faults new.err_faults → ⊥
 
 abbrev pub Completes : Answer → ℕ → Type 0
+Completes (Made made station) status = (status ≡ 0) ⊎ (status ≡ 5)
 Completes (Accepted station) status = (status ≡ 0) ⊎ (status ≡ 5)
 Completes (Checked station) status = (status ≡ 0) ⊎ (status ≡ 5)
 Completes (Refused fault) status = (status ≡ 1) ⊎ (status ≡ 5)
@@ -145,3 +168,9 @@ HasAnswer words files = (answer : Answer) × IsAnswer words files answer
 abbrev pub IsComplete : List (List ℕ) → Moment → Moment → ℕ → Type 0
 IsComplete words old new status = Calm old new → ForSome old.files (λ files.
     ((status ≡ 5) ⊎ HasAnswer words files) × ForEachAnswer words files (λ answer. Completes answer status))
+
+-- A call that rests on no file and no device of the shelf: it ends as over any files and a shelf that never fails. So it never ends with 3,
+-- and with 4 only where `out` or `err` failed.
+pub record EndsApart (words : List (List ℕ)) (old new : Moment) (status : ℕ) : Type 0 where
+  pub ends : (files : Files) → Ends words (over files old) (over files new) status
+  pub complete : (files : Files) → IsComplete words (over files old) (over files new) status

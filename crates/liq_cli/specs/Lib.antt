@@ -1,6 +1,7 @@
 pub mod Read
 pub mod Words
 pub mod Answer
+pub mod Summary
 pub mod Call
 pub mod Prepared
 pub mod Telling

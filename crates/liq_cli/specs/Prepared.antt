@@ -1,5 +1,5 @@
 -- What is found of a script before anything is rendered. Only what is private cites this.
-use Rattle.std.specs.Prelude.{◌≡◌, ◌≤◌, ℕ, List, Result, Err, Option, None, Some, IsErrOf}
+use Rattle.std.specs.Prelude.{◌≡◌, ◌≤◌, ℕ, List, Result, Err, Option, Some, IsErrOf, true, false}
 use Rattle.std.specs.Option.{ForSome}
 use Rattle.liq_base.specs.Counts.{Rose}
 use Rattle.liq_base.specs.Files.{Files}
@@ -15,58 +15,54 @@ use Rattle.station_check.specs.declared.halt.Halt.TheVariants.{Refused as check_
 use Rattle.station_render.specs.declared.fault.RenderFault.{RenderFault}
 use Rattle.station_render.specs.declared.fault.RenderFault.TheVariants.{Write as render_write, Memory as render_memory}
 use Rattle.refusal_lines.specs.declared.fault.Fault.{Fault}
-use Rattle.refusal_lines.specs.declared.fault.Fault.TheVariants.{Script, Station as Unfit}
-use Rattle.liq_cli.specs.Words.{Asked, Check, Render, start_of, ticks_of, window_of}
-use Rattle.liq_cli.specs.Answer.{Answer, Refused, Checked, Accepted, HasPlan, IsFault, IsAnswerTo}
+use Rattle.refusal_lines.specs.declared.fault.Fault.TheVariants.{SameTrace, Script, Station as Unfit}
+use Rattle.liq_cli.specs.Words.{Asked, Check, Make, Render, file_of, start_of, ticks_of, trace_of, window_of}
+use Rattle.liq_cli.specs.Answer.{Answer, Refused, Checked, Accepted, Made, HasPlan, IsFault, IsAnswerTo, clashes, files_for, files_made}
 use Rattle.liq_cli.specs.Call.{Broken, Starved}
 use Rattle.liq_cli.specs.declared.halt.Halt.{Halt}
 use Rattle.liq_cli.specs.declared.halt.Halt.TheVariants.{Read, Write, Memory, Refused as refused_for}
-use Rattle.liq_cli.specs.declared.words.Task.{Task}
-use Rattle.liq_cli.specs.declared.words.Task.TheVariants.{Check as checks, Alone as alone, Threads as by_threads}
-use Rattle.liq_cli.specs.declared.words.Form.{Form}
 use Rattle.liq_cli.specs.declared.prepare.Work.{Work}
-
--- what a form asks for
-abbrev pub asked_for : List ℕ → Task → Asked
-asked_for file checks = Check file
-asked_for file (alone start ticks) = Render file start.second ticks None
-asked_for file (by_threads start ticks window) = Render file start.second ticks (Some window.ticks)
-
-abbrev pub ticks_in : Task → ℕ
-ticks_in checks = 0
-ticks_in (alone start ticks) = ticks
-ticks_in (by_threads start ticks window) = ticks
-
-abbrev pub asked_of : Form → Asked
-asked_of form = asked_for form.file.now form.task
 
 -- a script has a plan with its audio files and clocks, or a fault
 pub data Outcome : Type 0 where
   Found : Plan → Sounds → ClockMap → Outcome
   Lost : Fault → Outcome
 
-pub record IsPrepared (files : Files) (file : List ℕ) (ticks : ℕ) (plan : Plan) (library : Sounds) (clocks : ClockMap) : Type 0 where
+pub record IsPrepared (files : Files) (file : List ℕ) (trace : Option (List ℕ)) (ticks : ℕ) (plan : Plan) (library : Sounds) (clocks : ClockMap) : Type 0 where
   pub has_plan : HasPlan files file plan
+  pub apart : clashes plan trace ≡ false
   pub accepted : IsAccepted files plan ticks library clocks
 
-abbrev pub IsOutcome : Files → (file : List ℕ) (ticks : ℕ) → Outcome → Type 0
-IsOutcome files file ticks (Found plan library clocks) = IsPrepared files file ticks plan library clocks
-IsOutcome files file ticks (Lost fault) = IsFault files file ticks fault
+abbrev pub IsOutcome : Files → (file : List ℕ) (trace : Option (List ℕ)) (ticks : ℕ) → Outcome → Type 0
+IsOutcome files file trace ticks (Found plan library clocks) = IsPrepared files file trace ticks plan library clocks
+IsOutcome files file trace ticks (Lost fault) = IsFault files file trace ticks fault
 
 -- the station of an outcome, and the answer
 abbrev pub station_for : Asked → Plan → Sounds → ClockMap → Station
-station_for asked plan library clocks =
-    record { plan = plan; library = library; clocks = clocks; start = start_of asked; ticks = ticks_of asked; window = window_of asked }
+station_for asked plan library clocks = record {
+  plan = plan;
+  library = library;
+  clocks = clocks;
+  start = start_of asked;
+  ticks = ticks_of asked;
+  window = window_of asked;
+  trace = trace_of asked;
+}
 
 abbrev pub answer_of : Asked → Outcome → Answer
 answer_of asked (Lost fault) = Refused fault
 answer_of (Check file) (Found plan library clocks) = Checked (station_for (Check file) plan library clocks)
-answer_of (Render file start ticks window) (Found plan library clocks) = Accepted (station_for (Render file start ticks window) plan library clocks)
+answer_of (Render file start ticks window trace) (Found plan library clocks) = Accepted (station_for (Render file start ticks window trace) plan library clocks)
+answer_of (Make seed size) (Found plan library clocks) = Made (files_made seed size) (station_for (Make seed size) plan library clocks)
 
 -- this is the outcome, and there is no other
-pub record IsOneOutcome (files : Files) (file : List ℕ) (ticks : ℕ) (outcome : Outcome) : Type 0 where
-  pub holds : IsOutcome files file ticks outcome
-  pub only : (other : Outcome) → IsOutcome files file ticks other → other ≡ outcome
+pub record IsOneOutcome (files : Files) (file : List ℕ) (trace : Option (List ℕ)) (ticks : ℕ) (outcome : Outcome) : Type 0 where
+  pub holds : IsOutcome files file trace ticks outcome
+  pub only : (other : Outcome) → IsOutcome files file trace ticks other → other ≡ outcome
+
+-- it is that of what is asked for, over the files that are its
+abbrev pub IsOneFor : Asked → Files → Outcome → Type 0
+IsOneFor asked files outcome = IsOneOutcome (files_for asked files) (file_of asked) (trace_of asked) (ticks_of asked) outcome
 
 abbrev pub outcome_of : Work → Outcome
 outcome_of work = Found work.plan work.ready.library work.ready.clocks
@@ -78,9 +74,15 @@ pub record OnlyRead {S : Type 0} (files : S → Option Files) (reads writes : S 
   pub writes_grew : writes old ≤ writes new
 
 -- why a step that reads ended: a fault only where it is the outcome, and a read fault only where a read failed
-pub record EndsFor {T : Type 0} (told : Option Files) (file : List ℕ) (ticks reads_before reads_after : ℕ) (result : Result T Halt) : Type 0 where
-  pub fault : (fault : Fault) → result ≡ Err (refused_for fault) → ForSome told (λ files. IsOneOutcome files file ticks (Lost fault))
+pub record EndsFor {T : Type 0} (told : Option Files) (file : List ℕ) (trace : Option (List ℕ)) (ticks reads_before reads_after : ℕ) (result : Result T Halt) : Type 0 where
+  pub fault : (fault : Fault) → result ≡ Err (refused_for fault) → ForSome told (λ files. IsOneOutcome files file trace ticks (Lost fault))
   pub read : IsErrOf result Read → Rose reads_before reads_after
+  pub no_write : IsErrOf result Write → ⊥
+
+-- why the test of a trace's name ended: the name is that of an output
+pub record ClashEnds {T : Type 0} (plan : Plan) (trace : Option (List ℕ)) (result : Result T Halt) : Type 0 where
+  pub fault : (fault : Fault) → result ≡ Err (refused_for fault) → (name : List ℕ) × (fault ≡ SameTrace name) × (trace ≡ Some name) × (clashes plan trace ≡ true)
+  pub no_read : IsErrOf result Read → ⊥
   pub no_write : IsErrOf result Write → ⊥
 
 -- what is asked for has one answer and no other, and this holds of it

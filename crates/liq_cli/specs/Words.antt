@@ -1,44 +1,61 @@
 -- The forms of the words of a call.
-use Rattle.std.specs.Prelude.{◌≡◌, ◌≤◌, ◌<◌, ◌⊎◌, ℕ, ◌^◌, Bool, true, false, Option, Some, None, List, [], ◌∷◌, ◌++◌, map, codes, decimal, string_bytes, unwrap_or, if◌then◌else◌, String}
+use Rattle.std.specs.Prelude.{◌≡◌, ◌≢◌, ◌≤◌, ◌<◌, ◌⊎◌, ℕ, ◌^◌, Bool, true, false, Option, Some, None, List, [], ◌∷◌, ◌++◌, map, codes, decimal, string_bytes, unwrap_or, if◌then◌else◌, ⊤, String}
 use Rattle.std.specs.declared.alloc.Global.{Global}
 use Rattle.fixed_text.specs.Texts.{IsStartText}
 
--- what the words of a form ask for: that the script in a file is checked; or that it is rendered, from a second of the week
--- on and for so many ticks: by threads in windows of so many, or, where no window is there, on one thread
+-- What the words of a form ask for: that the script in a file is checked; that it is rendered, from a second of the week on and for so
+-- many ticks: by threads in windows of so many, or, where no window is there, on one thread; the trace of its buffers goes to the file
+-- of this name, if one is there; or that the workload of a seed and of so many audio files is rendered and told.
 pub data Asked : Type 0 where
   Check : (file : List ℕ) → Asked
-  Render : (file : List ℕ) (start ticks : ℕ) (window : Option ℕ) → Asked
+  Render : (file : List ℕ) (start ticks : ℕ) (window : Option ℕ) (trace : Option (List ℕ)) → Asked
+  Make : (seed size : ℕ) → Asked
+
+-- the name of a workload's script
+unfoldable pub made_script : List ℕ
+made_script = codes "make.liq"
 
 -- the file of the script
 abbrev pub file_of : Asked → List ℕ
 file_of (Check file) = file
-file_of (Render file start ticks window) = file
+file_of (Render file start ticks window trace) = file
+file_of (Make seed size) = made_script
 
--- the first second, the ticks and the window; a check renders no tick, on one thread
+-- the first second, the ticks, the window and the trace: a check renders no tick, on one thread; a workload is rendered for 500 ticks,
+-- by threads in windows of 16
 abbrev pub start_of : Asked → ℕ
 start_of (Check file) = 0
-start_of (Render file start ticks window) = start
+start_of (Render file start ticks window trace) = start
+start_of (Make seed size) = 0
 
 abbrev pub ticks_of : Asked → ℕ
 ticks_of (Check file) = 0
-ticks_of (Render file start ticks window) = ticks
+ticks_of (Render file start ticks window trace) = ticks
+ticks_of (Make seed size) = 500
 
 abbrev pub window_of : Asked → Option ℕ
 window_of (Check file) = None
-window_of (Render file start ticks window) = window
+window_of (Render file start ticks window trace) = window
+window_of (Make seed size) = Some 16
+
+abbrev pub trace_of : Asked → Option (List ℕ)
+trace_of (Check file) = None
+trace_of (Render file start ticks window trace) = trace
+trace_of (Make seed size) = None
 
 abbrev pub texts : List (String Global) → List (List ℕ)
 texts words = map string_bytes words
 
--- the options of a rendering: whether it runs on one thread; and how many ticks a window has, and the second of the week at which
--- it begins, where these are said
+-- the options of a rendering: whether it runs on one thread; and how many ticks a window has, the second of the week at which it
+-- begins, and the name of its trace, where these are said
 pub record Options : Type 0 where
   pub one_thread : Bool
   pub window : Option ℕ
   pub start : Option ℕ
+  pub trace : Option (List ℕ)
 
 abbrev pub no_options : Options
-no_options = record { one_thread = false; window = None; start = None }
+no_options = record { one_thread = false; window = None; start = None; trace = None }
 
 -- where it is not said, it begins with the week
 abbrev pub start_in : Options → ℕ
@@ -66,7 +83,12 @@ pub record IsStart (word : List ℕ) (start : ℕ) : Type 0 where
   pub word_is : word ≡ codes "--start=" ++ text
   pub means : IsStartText text start
 
--- a word that is an option which none before it was: `--one-thread`, a window, or a start
+-- `--trace=NAME`, where the name is not empty
+pub record IsTraceName (word name : List ℕ) : Type 0 where
+  pub word_is : word ≡ codes "--trace=" ++ name
+  pub some : name ≢ []
+
+-- a word that is an option which none before it was: `--one-thread`, a window, a start, or a trace
 pub record SaysOneThread (word : List ℕ) (before after : Options) : Type 0 where
   pub word_is : word ≡ codes "--one-thread"
   pub once : before.one_thread ≡ false
@@ -84,23 +106,29 @@ pub record SaysStart (word : List ℕ) (before after : Options) : Type 0 where
   pub once : before.start ≡ None
   pub after_is : after ≡ record before { start = Some start }
 
+pub record SaysTrace (word : List ℕ) (before after : Options) : Type 0 where
+  pub name : List ℕ
+  pub word_is : IsTraceName word name
+  pub once : before.trace ≡ None
+  pub after_is : after ≡ record before { trace = Some name }
+
 abbrev pub IsOption : (word : List ℕ) (before after : Options) → Type 0
-IsOption word before after = SaysOneThread word before after ⊎ SaysWindow word before after ⊎ SaysStart word before after
+IsOption word before after = SaysOneThread word before after ⊎ SaysWindow word before after ⊎ SaysStart word before after ⊎ SaysTrace word before after
 
 -- with these words, in any order and each option at most once, the options `before` become `all`
 abbrev pub AreOptions : (before : Options) → List (List ℕ) → (all : Options) → Type 0
 AreOptions before [] all = all ≡ before
 AreOptions before (word ∷ words) all = (after : Options) × IsOption word before after × AreOptions after words all
 
--- a window does not stand beside `--one-thread`
+-- neither a window nor a trace stands beside `--one-thread`
 abbrev pub AreApart : Options → Type 0
-AreApart options = options.one_thread ≡ true → options.window ≡ None
+AreApart options = options.one_thread ≡ true → (options.window ≡ None) × (options.trace ≡ None)
 
 -- `FILE N` and options
 pub record IsRendering (file number : List ℕ) (words : List (List ℕ)) (asked : Asked) : Type 0 where
   pub options : Options
   pub ticks : ℕ
-  pub asked_is : asked ≡ Render file (start_in options) ticks (window_in options)
+  pub asked_is : asked ≡ Render file (start_in options) ticks (window_in options) options.trace
   pub number_is : number ≡ decimal ticks
   pub few : ticks ≤ 10 ^ 9
   pub options_are : AreOptions no_options words options
@@ -118,19 +146,49 @@ IsCheck [] asked = ⊥
 IsCheck (file ∷ []) asked = asked ≡ Check file
 IsCheck (file ∷ more ∷ words) asked = ⊥
 
+-- `SEED SIZE`: a number of 64 bits, and one from 1 to 100
+pub record IsWorkload (seed_word size_word : List ℕ) (asked : Asked) : Type 0 where
+  pub seed : ℕ
+  pub size : ℕ
+  pub asked_is : asked ≡ Make seed size
+  pub seed_is : seed_word ≡ decimal seed
+  pub fits : seed < 2 ^ 64
+  pub size_is : size_word ≡ decimal size
+  pub some : 1 ≤ size
+  pub few : size ≤ 100
+
+-- what may stand behind `make`
+abbrev pub IsMake : List (List ℕ) → Asked → Type 0
+IsMake [] asked = ⊥
+IsMake (seed ∷ []) asked = ⊥
+IsMake (seed ∷ size ∷ []) asked = IsWorkload seed size asked
+IsMake (seed ∷ size ∷ more ∷ words) asked = ⊥
+
 -- the words have a form, and ask for this
 abbrev pub IsAsked : List (List ℕ) → Asked → Type 0
 IsAsked [] asked = ⊥
-IsAsked (verb ∷ words) asked = (verb ≡ codes "check") × IsCheck words asked ⊎ (verb ≡ codes "render") × IsRender words asked
+IsAsked (verb ∷ words) asked =
+    (verb ≡ codes "check") × IsCheck words asked ⊎ (verb ≡ codes "render") × IsRender words asked ⊎ (verb ≡ codes "make") × IsMake words asked
 
 -- the words have no form
 abbrev pub HasNoForm : List (List ℕ) → Type 0
 HasNoForm words = (asked : Asked) → IsAsked words asked → ⊥
 
--- the words ask for a rendering by threads
+-- this takes threads: a rendering in windows, and a workload
+abbrev pub TakesThreads : Asked → Type 0
+TakesThreads (Check file) = ⊥
+TakesThreads (Render file start ticks None trace) = ⊥
+TakesThreads (Render file start ticks (Some window) trace) = ⊤
+TakesThreads (Make seed size) = ⊤
+
+-- the words ask for what takes threads
 pub record NeedsThreads (words : List (List ℕ)) : Type 0 where
-  pub file : List ℕ
-  pub start : ℕ
-  pub ticks : ℕ
-  pub window : ℕ
-  pub is_asked : IsAsked words (Render file start ticks (Some window))
+  pub asked : Asked
+  pub is_asked : IsAsked words asked
+  pub takes : TakesThreads asked
+
+-- the words ask for a workload
+pub record AsksToMake (words : List (List ℕ)) : Type 0 where
+  pub seed : ℕ
+  pub size : ℕ
+  pub is_asked : IsAsked words (Make seed size)

@@ -1,13 +1,15 @@
 // The top call.
 ghost use Rattle.std.specs.Prelude.{◌≡◌, ◌↔◌, None, IfSome, IsNone};
-ghost use Rattle.liq_cli.specs.Call.{Ends, IsComplete, moment_of};
+ghost use Rattle.liq_cli.specs.Call.{Ends, EndsApart, IsComplete, moment_of};
 ghost use Rattle.liq_cli.specs.Telling.{Finishes, MayTell, Tells};
-ghost use Rattle.liq_cli.specs.Words.{NeedsThreads, texts};
+ghost use Rattle.liq_cli.specs.Words.{AsksToMake, NeedsThreads, texts};
 ghost use Rattle.refusal_lines.specs.Lines.{line_of};
 
+use crate::form::{Form, Threaded};
 use crate::halt::Halt;
 use crate::jobs::{alone_job, check_job, threads_job};
-use crate::words::{Task, read_threaded, read_words};
+use crate::making::make_job;
+use crate::words::{read_threaded, read_words};
 use liq_base::{Failed, Gate, Memory, Shelf, Sink};
 use refusal_lines::Fault;
 use std::alloc::Global;
@@ -36,8 +38,9 @@ const WRITE_FAILED: u8 = 4;
 const NO_MEMORY: u8 = 5;
 
 /// Does what the words ask for, and answers the status, from 0 to 5. `docs/promises.md` says what each leaves.
-/// `out` gets the report and `err` the line of a refusal; both tell no room left. A rendering without `--one-thread` runs each
-/// clock on a thread of its own, which enters the gate before each tick.
+/// `out` gets the report and `err` the line of a refusal; both tell no room left. A rendering without `--one-thread`, and that of
+/// a workload, runs each clock on a thread of its own, which enters the gate before each tick. A workload is rendered into a
+/// shelf of its own, and the one that was handed in stays as it was.
 pub fn liq<S: Shelf, O: Sink, E: Sink, G: Gate + Sync, R: Threads + Wait + Sync>(
     rt: &R,
     alloc: Global,
@@ -57,6 +60,12 @@ pub fn liq<S: Shelf, O: Sink, E: Sink, G: Gate + Sync, R: Threads + Wait + Sync>
         (moment_of S.files S.read_count S.write_count O.held O.faults E.held E.faults shelf.old out.old err.old)
         (moment_of S.files S.read_count S.write_count O.held O.faults E.held E.faults shelf.new out.new err.new)
         result }
+    // A workload rests on no file and no device of the shelf.
+    ensures made { AsksToMake (texts words.now) → EndsApart (texts words.now)
+        (moment_of S.files S.read_count S.write_count O.held O.faults E.held E.faults shelf.old out.old err.old)
+        (moment_of S.files S.read_count S.write_count O.held O.faults E.held E.faults shelf.new out.new err.new)
+        result }
+    ensures untouched { AsksToMake (texts words.now) → shelf.new ≡ shelf.old }
 {
     match liq_alone(alloc, words, shelf, out, err) {
         Some(status) => status,
@@ -65,7 +74,7 @@ pub fn liq<S: Shelf, O: Sink, E: Sink, G: Gate + Sync, R: Threads + Wait + Sync>
 }
 
 /// Does what the words ask for where it takes no threads, and answers the status. It answers nothing exactly where they ask
-/// for a rendering by threads, and then nothing was done. It waits for nobody.
+/// for a rendering by threads or for a workload, and then nothing was done. It waits for nobody.
 pub fn liq_alone<S: Shelf, O: Sink, E: Sink>(
     alloc: Global,
     words: &[String],
@@ -87,15 +96,15 @@ pub fn liq_alone<S: Shelf, O: Sink, E: Sink>(
     let Some(form) = read_words(words) else {
         return Some(tell(err, USAGE, NO_FORM));
     };
-    let job = match form.task {
-        Task::Check => check_job(alloc, form.file, shelf),
-        Task::Alone { start, ticks } => alone_job(alloc, form.file, start, ticks, shelf),
-        Task::Threads { .. } => return None,
+    let job = match form {
+        Form::Check { file } => check_job(alloc, file, shelf),
+        Form::Alone { file, start, ticks } => alone_job(alloc, file, start, ticks, shelf),
+        Form::Threaded(_) => return None,
     };
     Some(finish(alloc, job, out, err))
 }
 
-// A rendering by threads.
+// What takes threads.
 fn by_threads<S: Shelf, O: Sink, E: Sink, G: Gate + Sync, R: Threads + Wait + Sync>(
     rt: &R,
     alloc: Global,
@@ -108,23 +117,26 @@ fn by_threads<S: Shelf, O: Sink, E: Sink, G: Gate + Sync, R: Threads + Wait + Sy
     requires out_room { O.room out.old ≡ None }
     requires err_room { E.room err.old ≡ None }
     requires threads { NeedsThreads (texts words.now) }
-    ensures { Ends (texts words.now)
+    ensures ends { Ends (texts words.now)
         (moment_of S.files S.read_count S.write_count O.held O.faults E.held E.faults shelf.old out.old err.old)
         (moment_of S.files S.read_count S.write_count O.held O.faults E.held E.faults shelf.new out.new err.new)
         result }
+    ensures made { AsksToMake (texts words.now) → EndsApart (texts words.now)
+        (moment_of S.files S.read_count S.write_count O.held O.faults E.held E.faults shelf.old out.old err.old)
+        (moment_of S.files S.read_count S.write_count O.held O.faults E.held E.faults shelf.new out.new err.new)
+        result }
+    ensures untouched { AsksToMake (texts words.now) → shelf.new ≡ shelf.old }
 {
-    let asked = read_threaded(words);
-    let job = threads_job(
-        rt,
-        alloc,
-        asked.file,
-        asked.start,
-        asked.ticks,
-        asked.window,
-        shelf,
-        gate,
-    );
-    finish(alloc, job, out, err)
+    match read_threaded(words) {
+        Threaded::Render(asked) => {
+            let job = threads_job(rt, alloc, &asked, shelf, gate);
+            finish(alloc, job, out, err)
+        }
+        Threaded::Make { seed, size } => {
+            let job = make_job(rt, alloc, seed, size, gate);
+            finish(alloc, job, out, err)
+        }
+    }
 }
 
 // Writes the one text of a call whose job ended so: the report, or the line of a refusal.

@@ -1,18 +1,20 @@
 // What is done before the last text is written.
-ghost use Rattle.std.specs.Prelude.{◌≡◌, ◌≤◌, ◌<◌, ◌^◌, IfOk, IfErr, None, Ok, Some, string_bytes};
+ghost use Rattle.std.specs.Prelude.{◌≡◌, IfOk, IfErr, None, Ok, string_bytes};
 ghost use Rattle.std.specs.Option.{ForSome};
 ghost use Rattle.liq_cli.specs.declared.halt.Halt.TheVariants.{Memory as no_memory};
 ghost use Rattle.liq_cli.specs.Call.{Rendered};
 ghost use Rattle.liq_cli.specs.Prepared.{ForOne, Stops};
+ghost use Rattle.liq_cli.specs.Read.{asked_to_render};
 ghost use Rattle.liq_cli.specs.Words.{Check, Render};
 
+use crate::form::Rendering;
 use crate::halt::Halt;
 use crate::prepare::prepare;
-use crate::window::Window;
+use crate::ticks::Ticks;
 use fixed_text::WeekSecond;
 use liq_base::{Gate, Memory, Shelf};
 use station_check::check_report;
-use station_render::{render, render_alone, report};
+use station_render::{Threading, render, render_alone, report};
 use stations::{infallible_outputs_have_no_gaps, threads_render_as_one_thread};
 use std::alloc::Global;
 use std::sync::Wait;
@@ -25,7 +27,7 @@ pub fn check_job<S: Shelf>(alloc: Global, file: &str, shelf: &mut S) -> Result<S
     ensures stops { Stops (Check file.now) (S.files shelf.old) (S.files shelf.new) (S.read_count shelf.old) (S.read_count shelf.new)
         (S.write_count shelf.old) (S.write_count shelf.new) result }
 {
-    let work = prepare(alloc, file, 0, shelf)?;
+    let work = prepare(alloc, file, None, 0, shelf)?;
     report_or_halt(check_report(alloc, &work.plan, &work.ready))
 }
 
@@ -34,58 +36,58 @@ pub fn alone_job<S: Shelf>(
     alloc: Global,
     file: &str,
     start: WeekSecond,
-    ticks: u64,
+    ticks: Ticks,
     shelf: &mut S,
 ) -> Result<String, Halt>
-    requires { ticks ≤ 10 ^ 9 }
     ensures done { IfOk result (λ report. ForSome (S.files shelf.old) (λ files.
-        ForOne (Render file.now start.second ticks None) files (λ answer. Rendered answer files (S.files shelf.new) (string_bytes report)))) }
-    ensures stops { Stops (Render file.now start.second ticks None) (S.files shelf.old) (S.files shelf.new) (S.read_count shelf.old) (S.read_count shelf.new)
+        ForOne (Render file.now start.second ticks.count None None) files (λ answer. Rendered answer files (S.files shelf.new) (string_bytes report)))) }
+    ensures stops { Stops (Render file.now start.second ticks.count None None) (S.files shelf.old) (S.files shelf.new) (S.read_count shelf.old) (S.read_count shelf.new)
         (S.write_count shelf.old) (S.write_count shelf.new) result }
 {
-    let work = prepare(alloc, file, ticks, shelf)?;
+    let work = prepare(alloc, file, None, ticks.count, shelf)?;
     infallible_outputs_have_no_gaps();
     threads_render_as_one_thread();
-    let rendered = render_alone(alloc, &work.plan, &work.ready, start, ticks, shelf)?;
-    report_or_halt(report(alloc, &work.plan, ticks, &rendered))
+    let rendered = render_alone(alloc, &work.plan, &work.ready, start, ticks.count, shelf)?;
+    report_or_halt(report(alloc, &work.plan, ticks.count, &rendered))
 }
 
-/// The report of a rendering by threads, whose outputs are written.
+/// The report of a rendering by threads, whose outputs and then its trace, if one is wanted, are written.
 pub fn threads_job<S: Shelf, G: Gate + Sync, R: Threads + Wait + Sync>(
     rt: &R,
     alloc: Global,
-    file: &str,
-    start: WeekSecond,
-    ticks: u64,
-    window: Window,
+    asked: &Rendering<'_>,
     shelf: &mut S,
     gate: &G,
 ) -> Result<String, Halt>
-    requires { ticks ≤ 10 ^ 9 }
     ensures done { IfOk result (λ report. ForSome (S.files shelf.old) (λ files.
-        ForOne (Render file.now start.second ticks (Some window.ticks)) files (λ answer. Rendered answer files (S.files shelf.new) (string_bytes report)))) }
-    ensures stops { Stops (Render file.now start.second ticks (Some window.ticks)) (S.files shelf.old) (S.files shelf.new) (S.read_count shelf.old) (S.read_count shelf.new)
+        ForOne (asked_to_render asked.now) files (λ answer. Rendered answer files (S.files shelf.new) (string_bytes report)))) }
+    ensures stops { Stops (asked_to_render asked.now) (S.files shelf.old) (S.files shelf.new) (S.read_count shelf.old) (S.read_count shelf.new)
         (S.write_count shelf.old) (S.write_count shelf.new) result }
 {
-    let work = prepare(alloc, file, ticks, shelf)?;
+    let ticks = asked.ticks.count;
+    let work = prepare(alloc, asked.file, asked.trace, ticks, shelf)?;
     infallible_outputs_have_no_gaps();
     threads_render_as_one_thread();
+    let threading = Threading {
+        window: asked.window.ticks,
+        trace: asked.trace,
+    };
     let rendered = render(
         rt,
         alloc,
         &work.plan,
         &work.ready,
-        start,
+        asked.start,
         ticks,
-        window.ticks,
+        threading,
         shelf,
         gate,
     )?;
     report_or_halt(report(alloc, &work.plan, ticks, &rendered))
 }
 
-// The report, or that memory was refused for it. Where a plan is alive, a `?` would be one more place at which it ends.
-fn report_or_halt(report: Result<String, Memory>) -> Result<String, Halt>
+/// The report, or that memory was refused for it. Where a plan is alive, a `?` would be one more place at which it ends.
+pub(crate) fn report_or_halt(report: Result<String, Memory>) -> Result<String, Halt>
     ensures told { IfOk result (λ text. report ≡ Ok text) }
     ensures starved { IfErr result (λ halt. halt ≡ no_memory) }
 {

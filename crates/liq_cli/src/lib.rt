@@ -2,9 +2,18 @@
 #![tactic(auto)]
 
 mod call;
+mod clash;
+mod form;
 mod halt;
 mod jobs;
+mod laws;
+mod making;
+mod options;
 mod prepare;
+mod samples;
+mod size;
+mod summary;
+mod ticks;
 mod window;
 mod words;
 

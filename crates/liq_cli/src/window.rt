@@ -1,5 +1,5 @@
 // The windows of a rendering by threads.
-ghost use Rattle.std.specs.Prelude.{◌≡◌, ◌<◌, ◌≤◌, ℕ, Some, IfSome, IsSomeAnd};
+ghost use Rattle.std.specs.Prelude.{◌≡◌, ◌<◌, ◌≤◌, ◌^◌, ℕ, Some, IfSome, IsSomeAnd};
 ghost use Rattle.liq_cli.specs.Words.{IsWindow, IsWindowText};
 
 use fixed_text::read_u64;
@@ -10,9 +10,10 @@ const MAX_WINDOW: u64 = 1_000_000;
 /// How many ticks a window of threads has.
 #[derive(Clone, Copy)]
 pub struct Window {
-    /// Ticks, from 1 on.
+    /// Ticks, from 1 to 1000000.
     pub ticks: u64,
     ghost some: { 0 < ticks },
+    ghost few: { ticks ≤ 10 ^ 6 },
 }
 
 /// The window that a word `--window=W` gives.

@@ -9,4 +9,6 @@ mod real_files_tests;
 #[cfg(test)]
 mod threads_tests;
 #[cfg(test)]
+mod traces_tests;
+#[cfg(test)]
 mod workload_tests;

@@ -28,8 +28,8 @@ const SHARED: &str =
 const APART: &str =
     "set(\"frame.audio.samplerate\", 8000)\nset(\"frame.duration\", 0.001)\ns = single(\"B\")\noutput.file(%wav, \"A\", mksafe(buffer(buffer=0.002, max=0.002, s)))\nt = single(\"B\")\noutput.file(%wav, \"C\", clock(id=\"b\", fallback([t, buffer(buffer=0., max=0., t)])))\n";
 
-// A script, and the audio file that it names.
-fn shelf(alloc: Global, script: &str) -> Result<MemShelf, AllocError> {
+/// A script, and the audio file that it names.
+pub fn shelf(alloc: Global, script: &str) -> Result<MemShelf, AllocError> {
     let script = (
         String::from_str(alloc, "f")?,
         script.as_bytes().to_vec(alloc)?,
@@ -47,8 +47,8 @@ fn words_of(alloc: Global, line: &str) -> Result<Vec<String>, Fail> {
     Ok(words)
 }
 
-// A sink with room for a report.
-fn sink(alloc: Global) -> Result<MemSink, Fail> {
+/// A sink with room for a report.
+pub fn sink(alloc: Global) -> Result<MemSink, Fail> {
     Ok(MemSink::new(alloc, 1000, Vec::new(alloc))?)
 }
 
@@ -111,8 +111,8 @@ fn check_output(rt: &impl Abort, output: &[u8], cycles: usize) {
     }
 }
 
-// The status of a call of these words.
-fn call<R: Threads + Wait + Sync, G: Gate + Sync>(
+/// The status of a call of these words.
+pub fn call<R: Threads + Wait + Sync, G: Gate + Sync>(
     rt: &R,
     alloc: Global,
     line: &str,
@@ -221,8 +221,20 @@ const ALONE: &[(&str, Option<u8>)] = &[
     ("render f 1 --one-thread --window=2", Some(2)),
     ("render f 1 --window=2 --one-thread", Some(2)),
     ("check f --window=2", Some(2)),
-    ("render f 1 --trace=t", Some(2)),
-    ("make 1 1", Some(2)),
+    ("render f 1 --trace=t", None),
+    ("render g 1 --window=3 --trace=A", None),
+    ("render f 1 --trace=", Some(2)),
+    ("render f 1 --trace=t --trace=t", Some(2)),
+    ("render f 1 --trace=t --one-thread", Some(2)),
+    ("check f --trace=t", Some(2)),
+    ("make 0 1", None),
+    ("make 18446744073709551615 100", None),
+    ("make 18446744073709551616 1", Some(2)),
+    ("make 01 1", Some(2)),
+    ("make 1 0", Some(2)),
+    ("make 1 101", Some(2)),
+    ("make 1", Some(2)),
+    ("make 1 1 1", Some(2)),
     ("render", Some(2)),
 ];
 

@@ -8,7 +8,7 @@ use crate::forms::{of_name, plain};
 use crate::plan_lines::plan_line;
 use crate::text_lines::{syntax_line, token_line};
 use crate::type_lines::type_line;
-use liq_base::Memory;
+use liq_base::{Memory, Text};
 use script_plan::ScriptFault;
 use stations::StationFault;
 use std::alloc::Global;
@@ -21,6 +21,9 @@ pub enum Fault {
 
     /// The script has no plan.
     Script(ScriptFault),
+
+    /// The trace that is wanted has the name of this output.
+    SameTrace(Text),
 
     /// Its plan is not rendered.
     Station(StationFault),
@@ -35,6 +38,7 @@ impl Fault {
         match self {
             Fault::NoScript => plain(alloc, "E01 no script"),
             Fault::Script(fault) => script_line(alloc, fault),
+            Fault::SameTrace(name) => of_name(alloc, "E18 two outputs", name.as_str()),
             Fault::Station(fault) => station_line(alloc, fault),
         }
     }

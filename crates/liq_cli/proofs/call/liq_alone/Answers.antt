@@ -1,19 +1,43 @@
+use Rattle.std.proofs.Common.{refl, sym, subst}
 use Rattle.std.specs.Prelude.{None}
-use Rattle.liq_cli.specs.Words.{Check, Render, texts}
+use Rattle.liq_cli.specs.Read.{asked_of}
+use Rattle.liq_cli.specs.Words.{Check, Render, TakesThreads, texts}
 use Rattle.liq_cli.proofs.Asking.{asks_one}
 use Rattle.liq_cli.proofs.Complete.{completes}
 use Rattle.liq_cli.proofs.Finished.{finished}
+use Rattle.liq_cli.proofs.Threading.{read_takes, takes_threads}
 use Rattle.liq_cli.proofs.call.liq_alone.Goals as goal
 use Rattle.liq_cli.proofs.call.liq_alone.Goals.{in-Check, in-Alone}
+
+pub returns-in-Threaded-clause-none : goal.returns-in-Threaded-clause-none
+returns-in-Threaded-clause-none g c = (
+  λ at. record {
+    asked = asked_of c.in-Some.form;
+    is_asked = c.in-Some.ensures.found;
+    takes = subst (λ f. TakesThreads (asked_of f)) (sym c.in-Threaded.is) (takes_threads c.in-Threaded.field-0);
+  },
+  λ needs. refl,
+)
+
+pub returns-clause-none : goal.returns-clause-none
+returns-clause-none g c = (
+  λ at. absurd (cc),
+  λ needs.
+      let takes = read_takes (texts c.args.words.now) c.in-Some.form c.in-Some.ensures.only needs in
+      absurd (elim c.match-form.branch [
+        | in-Check w ↦ (rw w.in-Check.is at takes)
+        | in-Alone w ↦ (rw w.in-Alone.is at takes)
+      ]),
+)
 
 pub returns-clause-ends : goal.returns-clause-ends
 returns-clause-ends g c =
     let asks = asks_one _ c.in-Some.form c.in-Some.ensures.found c.in-Some.ensures.only in
     elim c.match-form.branch [
-      | in-Check w ↦ rw w.shelf-is (finished g.S.Shelf.files g.S.Shelf.read_count g.S.Shelf.write_count g.O.Sink.held g.O.Sink.faults g.E.Sink.held g.E.Sink.faults (texts c.args.words.now) (Check c.in-Some.form.file.now) (rw w.in-Check.is at asks)
+      | in-Check w ↦ rw w.shelf-is (finished g.S.Shelf.files g.S.Shelf.read_count g.S.Shelf.write_count g.O.Sink.held g.O.Sink.faults g.E.Sink.held g.E.Sink.faults (texts c.args.words.now) (Check w.in-Check.file.now) (rw w.in-Check.is at asks)
           c.args.shelf.now w.check_job-job.new.shelf c.args.out.now c.finish.new.out c.args.err.now c.finish.new.err w.check_job-job.result c.finish.result
           w.check_job-job.ensures.done w.check_job-job.ensures.stops (rw w.job-is at c.finish.ensures))
-      | in-Alone w ↦ rw w.shelf-is (finished g.S.Shelf.files g.S.Shelf.read_count g.S.Shelf.write_count g.O.Sink.held g.O.Sink.faults g.E.Sink.held g.E.Sink.faults (texts c.args.words.now) (Render c.in-Some.form.file.now w.in-Alone.start.second w.in-Alone.ticks None) (rw w.in-Alone.is at asks)
+      | in-Alone w ↦ rw w.shelf-is (finished g.S.Shelf.files g.S.Shelf.read_count g.S.Shelf.write_count g.O.Sink.held g.O.Sink.faults g.E.Sink.held g.E.Sink.faults (texts c.args.words.now) (Render w.in-Alone.file.now w.in-Alone.start.second w.in-Alone.ticks.count None None) (rw w.in-Alone.is at asks)
           c.args.shelf.now w.alone_job-job.new.shelf c.args.out.now c.finish.new.out c.args.err.now c.finish.new.err w.alone_job-job.result c.finish.result
           w.alone_job-job.ensures.done w.alone_job-job.ensures.stops (rw w.job-is at c.finish.ensures))
     ]

@@ -1,3 +1,4 @@
+use Rattle.std.proofs.Common.{refl}
 use Rattle.std.proofs.lemmas.Result.{err_from_is_err_and}
 use Rattle.liq_cli.specs.Words.{Check}
 use Rattle.liq_cli.proofs.Leavings.{checked, ended_kept, of_report, stopped_early}
@@ -6,7 +7,7 @@ use Rattle.liq_cli.proofs.jobs.check_job.Goals as goal
 pub returns-in_err-work-clause-stops : goal.returns-in_err-work-clause-stops
 returns-in_err-work-clause-stops g c =
     let p = err_from_is_err_and c.from_residual.result c.from_residual.ensures.1 in rw (p.1, p.2)
-    (stopped_early (Check c.args.file.now) _ _ _ _ _ _ _ c.in_err-work.ensures.ends c.prepare.ensures.shelf.files_kept)
+    (stopped_early (Check c.args.file.now) (λ files. refl) _ _ _ _ _ _ _ c.in_err-work.ensures.ends c.prepare.ensures.shelf.files_kept)
 
 pub returns-clause-done : goal.returns-clause-done
 returns-clause-done g c =

@@ -1,0 +1,66 @@
+-- What is told of a workload where no buffer joins two clocks.
+use Rattle.std.proofs.Common.{◌≡◌, ◌<◌, ◌*◌, ◌++◌, ◌∙◌, ℕ, List, [], ◌∷◌, ap, refl, sym}
+use Rattle.std.specs.Prelude.{Option, Some, None}
+use Rattle.liq_base.specs.Files.{Files}
+use Rattle.clock_infer.specs.declared.clock_map.ClockMap.{ClockMap}
+use Rattle.plan_core.specs.declared.sink.SinkPlan.{SinkPlan}
+use Rattle.plan_core.specs.declared.sink.SinkPlan.TheVariants.{Output, Feed}
+use Rattle.stream_meaning.specs.Instants.{Setting}
+use Rattle.stream_meaning.specs.Settings.{IsSetting}
+use Rattle.stream_meaning.specs.Sinks.{gaps}
+use Rattle.run_records.specs.Records.{IsLawful as AreWindows, IsRounds, Run}
+use Rattle.run_records.specs.Rounds.{HasNoJoin, merged}
+use Rattle.run_records.proofs.Alone.{merged_setting}
+use Rattle.stations.specs.Findings.{IsFit}
+use Rattle.stations.specs.Outputs.{with_outputs}
+use Rattle.stations.specs.Stations.{IsLawful, IsLawfulIn, Station, bare, setting_of}
+use Rattle.stations.specs.Streams.{outputs_in}
+use Rattle.liq_cli.specs.Summary.{SumsAsOneThread, sum_at, summary_of, summed_line, summed_lines}
+
+-- a summary rests on the setting alone
+same_lines : (station : Station) (run other : Run) → setting_of station run ≡ setting_of station other → (files : Files) (sinks : List SinkPlan)
+    → summed_lines station run files sinks ≡ summed_lines station other files sinks
+same_lines station run other same files [] = refl
+same_lines station run other same files (Output name node fallible ∷ sinks) =
+    let rest = same_lines station run other same files sinks in
+    λ i. summed_line name (station.ticks * station.plan.frame) (gaps (same i) node station.ticks) (sum_at files name) ++ rest i
+same_lines station run other same files (Feed buffer node ∷ sinks) = same_lines station run other same files sinks
+
+same_summary : (made : Files) (station : Station) (run other : Run) → setting_of station run ≡ setting_of station other → summary_of made station run ≡ summary_of made station other
+same_summary made station run other same =
+    same_lines station run other same (with_outputs made (outputs_in (setting_of station run) station.ticks station.plan.sinks)) station.plan.sinks
+    ∙ ap (λ (s : Setting). summed_lines station other (with_outputs made (outputs_in s station.ticks station.plan.sinks)) station.plan.sinks) same
+
+-- the laws of records that are needed here
+abbrev AreOne : Type 0
+AreOne = (setting : Setting) (clocks : ClockMap) → IsSetting setting clocks → (running N : ℕ) (run other : Run) → IsRounds setting running N run → IsRounds setting running N other → run ≡ other
+
+abbrev AreRounds : Type 0
+AreRounds = (setting : Setting) (clocks : ClockMap) → IsSetting setting clocks → (W N : ℕ) (run : Run) → HasNoJoin setting → AreWindows setting clocks.running W N run → IsRounds setting clocks.running N (merged run)
+
+-- a plan that fits has a meaning
+fit_setting : (station : Station) → IsFit station.plan station.library station.clocks station.ticks → station.start < 604800 → IsSetting (bare station) station.clocks
+fit_setting station fit start =
+    record { plan = fit.plan_is; map = fit.map; each = refl; library = fit.sounds; leaves = fit.leaves; singles = fit.singles; start = start }
+
+sums_in : AreRounds → AreOne → (made : Files) (station : Station) (run : Run) → IsSetting (bare station) station.clocks → (window : Option ℕ)
+    → IsLawfulIn (bare station) station.clocks.running station.ticks window run → HasNoJoin (bare station) → SumsAsOneThread made station (summary_of made station run)
+sums_in are_rounds are_one made station run is None lawful local = record {
+  alone = run;
+  rounds = lawful;
+  one = λ other rounds. are_one (bare station) station.clocks is station.clocks.running station.ticks other run rounds lawful;
+  summary_is = refl;
+}
+sums_in are_rounds are_one made station run is (Some window) lawful local =
+    let rounds = are_rounds (bare station) station.clocks is window station.ticks run local lawful in
+    record {
+      alone = merged run;
+      rounds = rounds;
+      one = λ other more. are_one (bare station) station.clocks is station.clocks.running station.ticks other (merged run) more rounds;
+      summary_is = same_summary made station run (merged run) (sym (merged_setting (bare station) run));
+    }
+
+pub sums_as_one : AreRounds → AreOne → (made : Files) (station : Station) (run : Run) → IsFit station.plan station.library station.clocks station.ticks → station.start < 604800
+    → IsLawful station run → HasNoJoin (bare station) → SumsAsOneThread made station (summary_of made station run)
+sums_as_one are_rounds are_one made station run fit start lawful local =
+    sums_in are_rounds are_one made station run (fit_setting station fit start) station.window lawful local

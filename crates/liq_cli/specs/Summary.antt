@@ -1,0 +1,42 @@
+-- What is told of a workload.
+use Rattle.std.specs.Prelude.{◌≡◌, ℕ, ℤ, pos, ◌+ℤ◌, ◌*◌, List, [], ◌∷◌, ◌++◌, codes, decimal, drop, fold, unwrap_or}
+use Rattle.std.specs.Fmt.{signed_decimal}
+use Rattle.liq_base.specs.Files.{Files, file_at}
+use Rattle.frame_core.specs.Bytes.{samples_in}
+use Rattle.plan_core.specs.declared.sink.SinkPlan.{SinkPlan}
+use Rattle.plan_core.specs.declared.sink.SinkPlan.TheVariants.{Output, Feed}
+use Rattle.run_records.specs.Records.{IsRounds, Run}
+use Rattle.stations.specs.Outputs.{with_outputs}
+use Rattle.stations.specs.Stations.{Station, bare}
+use Rattle.stations.specs.Streams.{gaps_of, outputs_of}
+
+-- the sum of the samples behind the header of a WAV file, of both sides
+abbrev pub sum_of : List ℕ → ℤ
+sum_of bytes = fold ◌+ℤ◌ (pos 0) (samples_in (drop 44 bytes))
+
+-- the sum of the samples in the file of this name
+abbrev pub sum_at : Files → (name : List ℕ) → ℤ
+sum_at files name = sum_of (unwrap_or (file_at files name) [])
+
+-- the line of an output that was rendered, with the sum of its samples
+abbrev pub summed_line : (name : List ℕ) (samples gaps : ℕ) (sum : ℤ) → List ℕ
+summed_line name samples gaps sum =
+    codes "output " ++ name ++ codes " samples " ++ decimal samples ++ codes " gaps " ++ decimal gaps ++ codes " sum " ++ signed_decimal sum ++ codes "\n"
+
+-- the lines of the outputs among these sinks, whose files these are
+abbrev pub summed_lines : Station → Run → Files → List SinkPlan → List ℕ
+summed_lines station run files [] = []
+summed_lines station run files (Output name node fallible ∷ sinks) =
+    summed_line name (station.ticks * station.plan.frame) (gaps_of station run node) (sum_at files name) ++ summed_lines station run files sinks
+summed_lines station run files (Feed buffer node ∷ sinks) = summed_lines station run files sinks
+
+-- the summary of a run that wrote its outputs beside these files
+abbrev pub summary_of : Files → Station → Run → List ℕ
+summary_of files station run = summed_lines station run (with_outputs files (outputs_of station run)) station.plan.sinks
+
+-- the summary is that of rounds on one thread, which have one record
+pub record SumsAsOneThread (files : Files) (station : Station) (summary : List ℕ) : Type 0 where
+  pub alone : Run
+  pub rounds : IsRounds (bare station) station.clocks.running station.ticks alone
+  pub one : (other : Run) → IsRounds (bare station) station.clocks.running station.ticks other → other ≡ alone
+  pub summary_is : summary ≡ summary_of files station alone

@@ -1,0 +1,91 @@
+// A workload is made, rendered and told.
+ghost use Rattle.std.specs.Prelude.{◌≡◌, ℕ, Option, Some, IfOk, string_bytes};
+ghost use Rattle.liq_base.specs.Files.{Files};
+ghost use Rattle.liq_cli.specs.Answer.{files_made};
+ghost use Rattle.liq_cli.specs.Call.{Rendered};
+ghost use Rattle.liq_cli.specs.Prepared.{ForOne, Stops};
+ghost use Rattle.liq_cli.specs.Words.{Make, made_script};
+
+use crate::halt::Halt;
+use crate::jobs::report_or_halt;
+use crate::laws::sums_are_as_on_one_thread;
+use crate::prepare::prepare;
+use crate::size::Size;
+use crate::summary::summary;
+use fixed_text::WeekSecond;
+use liq_base::{Gate, Memory, SureShelf};
+use station_render::{Threading, render};
+use stations::infallible_outputs_have_no_gaps;
+use std::alloc::Global;
+use std::sync::Wait;
+use std::thread::Threads;
+use workload_gen::make;
+
+/// Ticks of a workload.
+const TICKS: u64 = 500;
+
+/// Ticks of its windows.
+const WINDOW: u64 = 16;
+
+/// The summary of the workload of a seed and a size. Its files and its outputs stand in a shelf of its own.
+pub fn make_job<G: Gate + Sync, R: Threads + Wait + Sync>(
+    rt: &R,
+    alloc: Global,
+    seed: u64,
+    size: Size,
+    gate: &G,
+) -> Result<String, Halt>
+    ensures done { IfOk result (λ report. (files : Files) → ForOne (Make seed size.files) files (λ answer. Rendered answer files (Some files) (string_bytes report))) }
+    ensures stops { (told : Option Files) (reads writes : ℕ) → Stops (Make seed size.files) told told reads reads writes writes result }
+{
+    let mut shelf = workload_shelf(alloc, seed, size)?;
+    sum_workload(rt, alloc, seed, size, &mut shelf, gate)
+}
+
+// The same over the shelf that holds its files.
+fn sum_workload<G: Gate + Sync, R: Threads + Wait + Sync>(
+    rt: &R,
+    alloc: Global,
+    seed: u64,
+    size: Size,
+    shelf: &mut SureShelf,
+    gate: &G,
+) -> Result<String, Halt>
+    requires { shelf.old ≡ files_made seed size.files }
+    ensures done { IfOk result (λ report. (files : Files) → ForOne (Make seed size.files) files (λ answer. Rendered answer files (Some files) (string_bytes report))) }
+    ensures stops { (told : Option Files) (reads writes : ℕ) → Stops (Make seed size.files) told told reads reads writes writes result }
+{
+    let work = prepare(alloc, script_name(), None, TICKS, shelf)?;
+    infallible_outputs_have_no_gaps();
+    sums_are_as_on_one_thread();
+    let rendered = render(
+        rt,
+        alloc,
+        &work.plan,
+        &work.ready,
+        WeekSecond { second: 0 },
+        TICKS,
+        Threading {
+            window: WINDOW,
+            trace: None,
+        },
+        shelf,
+        gate,
+    )?;
+    report_or_halt(summary(alloc, &work.plan, TICKS, &rendered.gaps, shelf))
+}
+
+// A shelf with the files of a workload.
+fn workload_shelf(alloc: Global, seed: u64, size: Size) -> Result<SureShelf, Memory>
+    ensures { IfOk result (λ shelf. shelf ≡ files_made seed size.files) }
+{
+    let files = make(alloc, seed, size.files)?;
+    Ok(SureShelf::new(alloc, files))
+}
+
+// The name of the script of a workload.
+fn script_name() -> &'static str
+    ensures { result.now ≡ made_script }
+{
+    "make.liq"
+}
