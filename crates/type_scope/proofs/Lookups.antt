@@ -8,7 +8,7 @@ use Rattle.typing_rules.specs.Scripts.{Targets}
 use Rattle.typing_rules.specs.Scoping.{target_in}
 use Rattle.name_scope.specs.Noted.{resolved}
 use Rattle.name_scope.specs.declared.notes.Resolved.{Resolved}
-use Rattle.name_scope.proofs.Searches.{search_there, search_next}
+use Rattle.typing_rules.proofs.Searches.{search_there, search_next}
 use Rattle.type_terms.specs.Term.{Term, variable}
 use Rattle.type_steps.specs.Environment.{Known, value, function, term_at, term_before, or_else}
 use Rattle.type_scope.specs.declared.environment.TypedName.{TypedName}
