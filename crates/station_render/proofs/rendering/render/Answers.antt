@@ -9,6 +9,7 @@ returns-in_err-rendered-clause-part g c = λ files at. inl (c.render_outputs.ens
 
 pub leave_trace-requires-clause-trace : goal.leave_trace-requires-clause-trace
 leave_trace-requires-clause-trace g c =
+    λ κs lives.
     let wrote = c.in_ok-rendered.ensures.done in
     is_trace _ _ c.args.threading.window c.args.ticks wrote.run _ c.requires.fit.plan_is c.requires.fit.few c.args.threading.some c.args.threading.few wrote.lawful wrote.told.logs_are
 
