@@ -90,5 +90,5 @@ summed seed size plan library clocks one shelf after report value shelf_is is re
 pub told_of : (asked : Asked) (told : Option Files) (job : Result (String Global) Halt)
     → IfOk job (λ report. (files : Files) → ForOne asked files (λ a. Rendered a files (Some files) (string_bytes report)))
     → IfOk job (λ report. ForSome told (λ files. ForOne asked files (λ a. Rendered a files told (string_bytes report))))
-told_of asked told (Ok report) done files t = subst (λ (o : Option Files). ForOne asked files (λ a. Rendered a files o (string_bytes report))) (sym t) (done files)
+told_of asked told (Ok report) done = λ files t. subst (λ (o : Option Files). ForOne asked files (λ a. Rendered a files o (string_bytes report))) (sym t) (done files)
 told_of asked told (Err e) done = tt

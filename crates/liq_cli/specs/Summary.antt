@@ -18,10 +18,15 @@ sum_of bytes = fold ◌+ℤ◌ (pos 0) (samples_in (drop 44 bytes))
 abbrev pub sum_at : Files → (name : List ℕ) → ℤ
 sum_at files name = sum_of (unwrap_or (file_at files name) [])
 
--- the line of an output that was rendered, with the sum of its samples
+-- the line of an output that was rendered, but for its end, and the sum of its samples behind it
+abbrev pub counted_part : (name : List ℕ) (samples gaps : ℕ) → List ℕ
+counted_part name samples gaps = codes "output " ++ name ++ codes " samples " ++ decimal samples ++ codes " gaps " ++ decimal gaps
+
+abbrev pub sum_part : (sum : ℤ) → List ℕ
+sum_part sum = codes " sum " ++ signed_decimal sum ++ codes "\n"
+
 abbrev pub summed_line : (name : List ℕ) (samples gaps : ℕ) (sum : ℤ) → List ℕ
-summed_line name samples gaps sum =
-    codes "output " ++ name ++ codes " samples " ++ decimal samples ++ codes " gaps " ++ decimal gaps ++ codes " sum " ++ signed_decimal sum ++ codes "\n"
+summed_line name samples gaps sum = counted_part name samples gaps ++ sum_part sum
 
 -- the lines of the outputs among these sinks, whose files these are
 abbrev pub summed_lines : Station → Run → Files → List SinkPlan → List ℕ

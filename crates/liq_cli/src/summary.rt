@@ -4,7 +4,7 @@ ghost use Rattle.run_records.specs.Records.{Run};
 ghost use Rattle.stations.specs.Stations.{Station};
 ghost use Rattle.stations.specs.Streams.{gaps_in_order};
 ghost use Rattle.station_render.specs.Renders.{written};
-ghost use Rattle.liq_cli.specs.Summary.{summed_line, summed_lines};
+ghost use Rattle.liq_cli.specs.Summary.{counted_part, sum_at, sum_part, summed_lines};
 
 use crate::samples::sum_at;
 use liq_base::{Memory, SureShelf};
@@ -33,31 +33,38 @@ pub fn summary(
             continue;
         };
         let name = name.as_str();
-        let sum = sum_at(alloc, shelf, name)?;
-        push_line(alloc, &mut text, name, samples, gaps[place], sum)?;
+        push_counts(alloc, &mut text, name, samples, gaps[place])?;
+        push_sum(alloc, &mut text, shelf, name)?;
         place += 1;
     }
     Ok(text)
 }
 
-// The line of an output.
-fn push_line(
+// The line of an output, but for its end.
+fn push_counts(
     alloc: Global,
     text: &mut String,
     name: &str,
     samples: u64,
     gaps: u64,
-    sum: i128,
 ) -> Result<(), AllocError>
-    ensures { OnOk result (string_bytes text.new ≡ string_bytes text.old ++ summed_line name.now samples gaps sum) }
+    ensures { OnOk result (string_bytes text.new ≡ string_bytes text.old ++ counted_part name.now samples gaps) }
 {
     text.push_str("output ")?;
     text.push_str(name)?;
     text.push_str(" samples ")?;
     text.push_str(&samples.to_string(alloc)?)?;
     text.push_str(" gaps ")?;
-    text.push_str(&gaps.to_string(alloc)?)?;
+    text.push_str(&gaps.to_string(alloc)?)
+}
+
+// Its end: the sum of the samples in the file of this name.
+fn push_sum(alloc: Global, text: &mut String, shelf: &SureShelf, name: &str) -> Result<(), Memory>
+    ensures { OnOk result (string_bytes text.new ≡ string_bytes text.old ++ sum_part (sum_at shelf.now name.now)) }
+{
+    let sum = sum_at(alloc, shelf, name)?;
     text.push_str(" sum ")?;
     text.push_str(&sum.to_string(alloc)?)?;
-    text.push_str("\n")
+    text.push_str("\n")?;
+    Ok(())
 }

@@ -31,9 +31,9 @@ returns-in-Make-clause-ends g c =
     let asked = Make c.in-Make.seed c.in-Make.size.files in
     let shelf = c.args.shelf.now in
     finished g.S.Shelf.files g.S.Shelf.read_count g.S.Shelf.write_count g.O.Sink.held g.O.Sink.faults g.E.Sink.held g.E.Sink.faults (texts c.args.words.now)
-    asked (rw c.in-Make.is at asks) shelf shelf c.args.out.now c.finish.new.out c.args.err.now c.finish.new.err c.make_job-job.result c.finish.result
+    asked (rw c.in-Make.is at asks) shelf shelf c.args.out.now c.finish-in-Make.new.out c.args.err.now c.finish-in-Make.new.err c.make_job-job.result c.finish-in-Make.result
     (told_of asked (g.S.Shelf.files shelf) c.make_job-job.result c.make_job-job.ensures.done)
-    (c.make_job-job.ensures.stops (g.S.Shelf.files shelf) (g.S.Shelf.read_count shelf) (g.S.Shelf.write_count shelf)) c.finish.ensures
+    (c.make_job-job.ensures.stops (g.S.Shelf.files shelf) (g.S.Shelf.read_count shelf) (g.S.Shelf.write_count shelf)) c.finish-in-Make.ensures
 
 pub returns-in-Make-clause-made : goal.returns-in-Make-clause-made
 returns-in-Make-clause-made g c = λ asks_to.
@@ -41,8 +41,8 @@ returns-in-Make-clause-made g c = λ asks_to.
     let asked = Make c.in-Make.seed c.in-Make.size.files in
     let ends = λ (files : Files).
     finished {S = Files} (λ f. Some f) (λ f. 0) (λ f. 0) g.O.Sink.held g.O.Sink.faults g.E.Sink.held g.E.Sink.faults (texts c.args.words.now)
-    asked (rw c.in-Make.is at asks) files files c.args.out.now c.finish.new.out c.args.err.now c.finish.new.err c.make_job-job.result c.finish.result
-    (told_of asked (Some files) c.make_job-job.result c.make_job-job.ensures.done) (c.make_job-job.ensures.stops (Some files) 0 0) c.finish.ensures in
+    asked (rw c.in-Make.is at asks) files files c.args.out.now c.finish-in-Make.new.out c.args.err.now c.finish-in-Make.new.err c.make_job-job.result c.finish-in-Make.result
+    (told_of asked (Some files) c.make_job-job.result c.make_job-job.ensures.done) (c.make_job-job.ensures.stops (Some files) 0 0) c.finish-in-Make.ensures in
     record { ends = ends; complete = λ files. completes _ _ _ _ (ends files) }
 
 pub returns-in-Make-clause-untouched : goal.returns-in-Make-clause-untouched

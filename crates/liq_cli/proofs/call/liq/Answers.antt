@@ -1,4 +1,6 @@
-use Rattle.std.proofs.Common.{◌≡◌, ◌∙◌, Option, Some, None, ℕ, refl, sym}
+use Rattle.std.proofs.Common.{◌∙◌, ap, refl, sym}
+use Rattle.std.specs.Prelude.{is_some}
+use Rattle.std.proofs.lemmas.Bool.{true≢false}
 use Rattle.liq_cli.specs.Words.{texts}
 use Rattle.liq_cli.proofs.Complete.{completes}
 use Rattle.liq_cli.proofs.Finished.{apart_from, ended_from}
@@ -8,12 +10,12 @@ use Rattle.liq_cli.proofs.call.liq.Goals as goal
 pub returns-in-Some-clause-made : goal.returns-in-Some-clause-made
 returns-in-Some-clause-made g c = λ asks.
     let none = c.liq_alone.ensures.none.1 (make_needs (texts c.args.words.now) asks) in
-    absurd (let e : ◌≡◌ {A = Option ℕ} None (Some c.in-Some.status) = sym none ∙ c.in-Some.is in cc)
+    absurd (true≢false (sym (ap is_some c.in-Some.is) ∙ none))
 
 pub returns-in-Some-clause-untouched : goal.returns-in-Some-clause-untouched
 returns-in-Some-clause-untouched g c = λ asks.
     let none = c.liq_alone.ensures.none.1 (make_needs (texts c.args.words.now) asks) in
-    absurd (let e : ◌≡◌ {A = Option ℕ} None (Some c.in-Some.status) = sym none ∙ c.in-Some.is in cc)
+    absurd (true≢false (sym (ap is_some c.in-Some.is) ∙ none))
 
 pub returns-in-None-clause-ends : goal.returns-in-None-clause-ends
 returns-in-None-clause-ends g c =

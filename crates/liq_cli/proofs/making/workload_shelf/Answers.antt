@@ -10,4 +10,4 @@ unfolding files_made
 returns c =
     let size = c.args.size.files in
     let more : size ≡ size - 1 + 1 = omega (arith, c.args.size.some) in
-    made_of (given_entries c.in_ok-files.files.items) (workload c.args.seed (size - 1)) c.new.result c.new.ensures (c.in_ok-files.ensures (size - 1) more)
+    made_of (given_entries c.in_ok-files.files.items) (workload c.args.seed (size - 1)) c.new.result c.new.ensures.files (c.in_ok-files.ensures (size - 1) more)

@@ -59,6 +59,6 @@ loop-sink-preserved c =
       place = ap (λ n. n + 1) c.loop-sink.invariant.place ∙ sym (one_place c.args.plan.now.sinks c.loop-sink.sink-index c.in-Output.name c.in-Output.node c.in-Output.fallible at);
       told = λ station run plan_is ticks_is counts.
           line_more station run c.args.plan.now c.args.shelf.now c.args.ticks c.args.gaps.now c.loop-sink.sink-index c.in-Output.name c.in-Output.node c.in-Output.fallible c.loop-sink.place at c.loop-sink.invariant.place
-          plan_is ticks_is counts (string_bytes c.loop-sink.text) (string_bytes c.push_line.new.text) _ _ _ c.in_ok-sum.sum c.as_str-name.ensures.same c.as_str-name.ensures.same (ap (λ n. c.args.ticks * n) c.from.ensures)
-          c.in_ok-sum.ensures c.in_ok-push_line.ensures (c.loop-sink.invariant.told station run plan_is ticks_is counts);
+          plan_is ticks_is counts (string_bytes c.loop-sink.text) (string_bytes c.push_counts.new.text) (string_bytes c.push_sum.new.text) c.as_str-name.result.now _ c.as_str-name.ensures.same
+          (ap (λ n. c.args.ticks * n) c.from.ensures) c.in_ok-push_counts.ensures c.in_ok-push_sum.ensures (c.loop-sink.invariant.told station run plan_is ticks_is counts);
     }
