@@ -1,6 +1,7 @@
 use Rattle.std.proofs.Common.{◌≡◌, ◌∙◌, ap, refl, Err, lit<}
 use Rattle.std.specs.Prelude.{None, Some, string_bytes}
 use Rattle.std.proofs.lemmas.Result.{err_from_is_err_and}
+use Rattle.liq_base.specs.Files.{Files}
 use Rattle.stations.specs.Stations.{Station}
 use Rattle.liq_cli.specs.Answer.{files_made}
 use Rattle.liq_cli.specs.Prepared.{Found, IsOneOutcome, station_for}

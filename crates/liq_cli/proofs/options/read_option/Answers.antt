@@ -4,7 +4,7 @@ use Rattle.std.specs.Str.{bytes_eq}
 use Rattle.std.proofs.lemmas.Bool.{true≢false}
 use Rattle.liq_cli.specs.Read.{options_of}
 use Rattle.liq_cli.specs.Words.{SaysOneThread, SaysStart, SaysTrace, SaysWindow}
-use Rattle.liq_cli.proofs.Reading.{said_once, window_or_start, window_or_trace}
+use Rattle.liq_cli.proofs.Reading.{said_once, start_or_trace, window_or_start, window_or_trace}
 use Rattle.liq_cli.proofs.options.read_option.Goals as goal
 
 pub returns-in-Some-clause-only : goal.returns-in-Some-clause-only
