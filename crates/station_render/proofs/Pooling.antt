@@ -8,7 +8,7 @@ use Rattle.stream_meaning.specs.Instants.{Setting}
 use Rattle.station_render.specs.Sinks.{lists_of}
 use Rattle.station_render.specs.Engines.{AreAt, AreEmptyBelow, IsAt, outs_of, pooled}
 use Rattle.station_render.proofs.Lists.{here_is, many_mapped, set_many, set_other, within}
-use Rattle.station_render.proofs.Pools.{empty_below_fewer, empty_below_more, pool_back, pool_more}
+use Rattle.station_render.proofs.Pools.{empty_below_fewer, empty_below_more, empty_last, pool_back, pool_more}
 
 module _ {S : Type 0} where
   -- an empty place has no sinks
@@ -57,6 +57,14 @@ module _ {S : Type 0} where
         subst (λ n. IsAt setting n other) (from_0 m)
         (at_place setting engines engine m other 0 (λ k e found. subst (λ n. IsAt setting n e) (sym (from_0 k)) (at.each k e found)) (subst (λ n. IsAt setting n engine) (sym (from_0 (length engines))) is) there);
   }
+
+  -- the place of the last engine is empty
+  pub giving_here : (engines front : List (ClockEngine S)) (engine : ClockEngine S) (lists : List (List S)) (n : ℕ) → engines ≡ front ++ engine ∷ [] → n ≡ length front
+      → length engines ≤ length lists → AreEmptyBelow (length engines) lists → slice_get lists n ≡ Some []
+  giving_here engines front engine lists n is n_is few empty =
+      let one : length engines ≡ length front + 1 = ap length is ∙ length-append front (engine ∷ []) in
+      let one_more : length engines ≡ suc n = omega (arith, one, n_is) in
+      empty_last n lists (omega (arith, one_more, few)) (subst (λ k. AreEmptyBelow k lists) one_more empty)
 
   -- the last engine gives its sinks back
   module _ (engines front : List (ClockEngine S)) (engine : ClockEngine S) (lists lists_new : List (List S)) (outs : List S) (n : ℕ) (is : engines ≡ front ++ engine ∷ []) (same : outs ≡ engine.outs.items)

@@ -1,8 +1,8 @@
 -- Lists of sinks that engines took, and give back.
-use Rattle.std.proofs.Common.{◌≡◌, ◌<◌, ◌∙◌, ◌++◌, ℕ, zero, suc, Some, List, [], ◌∷◌, length, set, slice_get, arith, refl, ap, sym, inl, inr, nat_eq}
+use Rattle.std.proofs.Common.{◌≡◌, ◌<◌, ◌∙◌, ◌++◌, ℕ, zero, suc, Some, List, [], ◌∷◌, length, get_or, set, slice_get, arith, refl, ap, sym, inl, inr, nat_eq}
 use Rattle.std.proofs.lemmas.Bool.{cases_Bool, eqb-true, eqb-false}
 use Rattle.station_render.specs.Engines.{AreEmptyBelow, pooled}
-use Rattle.station_render.proofs.Lists.{set_here, set_other}
+use Rattle.station_render.proofs.Lists.{got, set_here, set_other}
 
 module _ {S : Type 0} where
   -- one more list was taken
@@ -42,3 +42,9 @@ module _ {S : Type 0} where
   pub empty_below_fewer : (n : ℕ) (lists : List (List S)) (out : List S) → AreEmptyBelow (suc n) lists → AreEmptyBelow n (set lists n out)
   empty_below_fewer n lists out all m list below at =
       all m list (omega (arith, below)) (sym (set_other lists n m out (λ e. omega (arith, below, e))) ∙ at)
+
+  -- the last of the empty lists
+  pub empty_last : (n : ℕ) (lists : List (List S)) → n < length lists → AreEmptyBelow (suc n) lists → slice_get lists n ≡ Some []
+  empty_last n lists low all =
+      let there : slice_get lists n ≡ Some (get_or lists n []) = got lists n [] low in
+      there ∙ ap Some (all n (get_or lists n []) (omega arith) there)
