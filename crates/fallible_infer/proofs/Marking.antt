@@ -13,7 +13,7 @@ use Rattle.std.proofs.Math.Seq.{get_or-append_seam}
 use Rattle.time_pred.specs.Predicates.{Predicate, is_always}
 use Rattle.plan_core.specs.declared.node.Node.{Node}
 use Rattle.plan_core.specs.declared.node.Op.{Op}
-use Rattle.plan_core.specs.declared.node.Op.TheVariants.{Single, Playlist, Blank, Square, Fail, Fallback, Switch, Sequence, Add, Amplify, Mean, Stereo, Crossfade, Buffer, Clock}
+use Rattle.plan_core.specs.declared.node.Op.TheVariants.{Single, Playlist, Blank, Square, Fail, Fallback, Switch, Sequence, Rotate, Random, Add, Amplify, Mean, Stereo, Crossfade, Buffer, Clock}
 use Rattle.plan_core.specs.Plans.{AreNodes, HasChildren}
 use Rattle.fallible_infer.specs.Infallible.{mark_at, last_of, infallible_by, IsMarking}
 
@@ -61,6 +61,8 @@ by_same mark other n same Fail cs each = refl
 by_same mark other n same (Fallback sensitive) cs each = any_same mark other n same cs each
 by_same mark other n same (Switch sensitive preds) cs each = zip_same mark other n same preds cs each
 by_same mark other n same Sequence cs each = last_same mark other n same cs each
+by_same mark other n same Rotate cs each = any_same mark other n same cs each
+by_same mark other n same (Random seed) cs each = any_same mark other n same cs each
 by_same mark other n same (Add normalize) cs each = any_same mark other n same cs each
 by_same mark other n same (Amplify factor) cs each = any_same mark other n same cs each
 by_same mark other n same Mean cs each = any_same mark other n same cs each

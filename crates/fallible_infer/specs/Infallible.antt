@@ -4,7 +4,7 @@ use Rattle.std.specs.List.{list_any, zip}
 use Rattle.std.specs.Option.{option_map_or}
 use Rattle.plan_core.specs.declared.node.Node.{Node}
 use Rattle.plan_core.specs.declared.node.Op.{Op}
-use Rattle.plan_core.specs.declared.node.Op.TheVariants.{Single, Playlist, Blank, Square, Fail, Fallback, Switch, Sequence, Add, Amplify, Mean, Stereo, Crossfade, Buffer, Clock}
+use Rattle.plan_core.specs.declared.node.Op.TheVariants.{Single, Playlist, Blank, Square, Fail, Fallback, Switch, Sequence, Rotate, Random, Add, Amplify, Mean, Stereo, Crossfade, Buffer, Clock}
 use Rattle.plan_core.specs.declared.sink.SinkPlan.{SinkPlan}
 use Rattle.plan_core.specs.declared.sink.SinkPlan.TheVariants.{Output, Feed}
 use Rattle.time_pred.specs.Predicates.{is_always}
@@ -18,7 +18,7 @@ abbrev pub last_of : List ℕ → Option ℕ
 last_of children = slice_get children (length children - 1)
 
 -- whether a node of this operator over these children is infallible, where the mark of a child says whether it is: a file
--- that is repeated, zeros and a square wave are; a choice and a sum are where some child is; a switch is where some child
+-- that is repeated, zeros and a square wave are; a fallback, a rotate, a random and a sum are where some child is; a switch is where some child
 -- is whose predicate is always true by its form; a sequence is where it has a last child that is; and what has one child
 -- is where that child is
 abbrev pub infallible_by : (mark : ℕ → Bool) → Op → List ℕ → Bool
@@ -30,6 +30,8 @@ infallible_by mark Fail children = false
 infallible_by mark (Fallback sensitive) children = list_any mark children
 infallible_by mark (Switch sensitive preds) children = list_any (λ pair. is_always pair.0 && mark pair.1) (zip preds children)
 infallible_by mark Sequence children = option_map_or mark (last_of children) false
+infallible_by mark Rotate children = list_any mark children
+infallible_by mark (Random seed) children = list_any mark children
 infallible_by mark (Add normalize) children = list_any mark children
 infallible_by mark (Amplify factor) children = list_any mark children
 infallible_by mark Mean children = list_any mark children

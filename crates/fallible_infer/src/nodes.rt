@@ -82,6 +82,8 @@ fn follows(node: &Node, marks: &[bool]) -> bool
         Op::Fallback { .. } => some_child(children, marks),
         Op::Switch { preds, .. } => some_always(preds.as_slice(), children, marks),
         Op::Sequence => last_child(children, marks),
+        Op::Rotate => some_child(children, marks),
+        Op::Random { .. } => some_child(children, marks),
         Op::Add { .. } => some_child(children, marks),
         Op::Amplify { .. } => some_child(children, marks),
         Op::Mean => some_child(children, marks),

@@ -6,7 +6,7 @@ use Rattle.liq_base.specs.declared.memory.Kind.{Kind}
 use Rattle.liq_base.specs.declared.memory.Kind.TheVariants.{Mono, Stereo as Both}
 use Rattle.plan_core.specs.declared.node.Node.{Node}
 use Rattle.plan_core.specs.declared.node.Op.{Op}
-use Rattle.plan_core.specs.declared.node.Op.TheVariants.{Single, Playlist, Blank, Square, Fail, Fallback, Switch, Sequence, Add, Amplify, Mean, Stereo, Crossfade, Buffer, Clock}
+use Rattle.plan_core.specs.declared.node.Op.TheVariants.{Single, Playlist, Blank, Square, Fail, Fallback, Switch, Sequence, Rotate, Random, Add, Amplify, Mean, Stereo, Crossfade, Buffer, Clock}
 use Rattle.plan_core.specs.declared.plan.Plan.{Plan}
 use Rattle.plan_core.specs.declared.sink.BufferPlan.{BufferPlan}
 use Rattle.plan_core.specs.declared.sink.SinkPlan.{SinkPlan}
@@ -22,6 +22,8 @@ HasChildren Fail n = n ≡ 0
 HasChildren (Fallback sensitive) n = ⊤
 HasChildren (Switch sensitive preds) n = n ≡ length preds
 HasChildren Sequence n = ⊤
+HasChildren Rotate n = ⊤
+HasChildren (Random seed) n = ⊤
 HasChildren (Add normalize) n = ⊤
 HasChildren (Amplify factor) n = n ≡ 1
 HasChildren Mean n = n ≡ 1

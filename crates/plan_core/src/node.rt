@@ -33,6 +33,12 @@ pub enum Op {
     /// The children in order, each for one track, and then the last one.
     Sequence,
 
+    /// A child that is ready, for one track each: the children in a ring, in their order.
+    Rotate,
+
+    /// A child that is ready, for one track each: chosen by chance, which the words of this seed decide.
+    Random { seed: u64 },
+
     /// The mean of the children that are ready, or with no `normalize` their sum, cut to the range of a sample.
     Add { normalize: bool },
 

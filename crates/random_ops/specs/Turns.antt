@@ -2,9 +2,9 @@
 -- A child is a place of the list of children, so that a node at two places is two.
 use Rattle.std.specs.Prelude.{Bool, false, ◌≡◌, ◌++◌, ◌%◌, Option, Some, None, List, [], ◌∷◌, ℕ, suc, is_some, length, take, drop, slice_get, if◌then◌else◌}
 use Rattle.frame_core.specs.Slots.{Slot, slot_at}
-use Rattle.op_select.specs.Selection.{goes_on, picked_cell}
+use Rattle.op_select.specs.declared.rule.Picked.{Picked}
+use Rattle.op_select.specs.Selection.{goes_on, picked}
 use Rattle.seed_words.specs.Words.{Unread, word, words_from}
-use Rattle.random_ops.specs.declared.turn.Pick.{Pick}
 use Rattle.random_ops.specs.declared.turn.Turn.{Turn}
 use Rattle.random_ops.specs.declared.turn.Turn.TheVariants.{Random, Rotate}
 
@@ -57,22 +57,12 @@ abbrev pub past_of : Turn → (gave : List (List Slot)) → Past
 past_of turn [] = record { last = None; choices = 0 }
 past_of turn (slots ∷ gave) = past_behind turn (past_of turn gave) slots
 
--- the cell of a used child, flagged as a selection flags it; nothing where the child offers nothing
-abbrev pub pick_with : (last : Option ℕ) → (child : ℕ) → Slot → Option Pick
-pick_with last child None = None
-pick_with last child (Some cell) = Some (record { child = child; cell = picked_cell last child cell })
-
--- what is offered with the used child; nothing without one
-abbrev pub picked : (last : Option ℕ) → List Slot → (used : Option ℕ) → Option Pick
-picked last slots None = None
-picked last slots (Some child) = pick_with last child (slot_at slots child)
-
--- what the node offers
-abbrev pub offered : Turn → Past → List Slot → Option Pick
-offered turn past slots = picked past.last slots (used_child turn past slots)
+-- what the node offers: the cell of the child that is used, marked as a selection marks it
+abbrev pub offered : Turn → Past → List Slot → Option Picked
+offered turn past slots = picked slots past.last (used_child turn past slots)
 
 -- the past behind one instant more, by what the node gave there: a cell is flagged where a choice found its child
-abbrev pub past_given : Past → Pick → Past
+abbrev pub past_given : Past → Picked → Past
 past_given past pick = record {
   last = Some pick.child;
   choices = if pick.cell.first then suc past.choices else past.choices;

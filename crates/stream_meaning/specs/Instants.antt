@@ -9,15 +9,15 @@ use Rattle.plan_core.specs.declared.plan.Plan.{Plan}
 use Rattle.plan_core.specs.Plans.{sink_node}
 use Rattle.clock_infer.specs.declared.clock_map.NodeClock.{NodeClock}
 use Rattle.clock_infer.specs.declared.clock_map.NodeClock.TheVariants.{Main, Sub}
-use Rattle.frame_core.specs.Slots.{Slot}
+use Rattle.frame_core.specs.Slots.{Slot, is_first}
 use Rattle.op_cross.specs.Runs.{item_of}
 use Rattle.op_leaf.specs.Leaves.{leaf_slot}
 use Rattle.op_leaf.specs.Readers.{Answer, Reader, after_cell, at_start, reader_slot, takes_of}
 use Rattle.op_select.specs.declared.rule.Picked.{Picked}
-use Rattle.op_select.specs.Selection.{pick_of, picked}
+use Rattle.op_select.specs.Selection.{picked}
 use Rattle.stream_meaning.specs.declared.part.Part.{Part}
 use Rattle.stream_meaning.specs.Arithmetic.{mix_slot}
-use Rattle.stream_meaning.specs.Operators.{Work, Plays, Picks, Mixes, Fades, Reads, work_of, marks_at}
+use Rattle.stream_meaning.specs.Operators.{Work, Plays, Picks, Mixes, Fades, Reads, child_used, work_of, marks_at}
 
 -- what is the same at all instants: the plan, its audio files, the clock of each node, the start second, and the answers
 -- that are given for each buffer
@@ -84,10 +84,16 @@ abbrev pub count : List Moment → ℕ → ℕ
 count [] i = 0
 count (moment ∷ past) i = if gives moment i then suc (count past i) else count past i
 
--- the child that a selection used when it last gave
+-- the child that a node used when it last gave
 abbrev pub last_pick : List Moment → ℕ → Option ℕ
 last_pick [] i = None
 last_pick (moment ∷ past) i = if gives moment i then (part_at moment.parts i).pick else last_pick past i
+
+-- at how many of these instants node i gave a cell that begins a track: so many choices a rotate or a random has made, since it
+-- marks a cell exactly where its child was found by a choice
+abbrev pub choices : List Moment → ℕ → ℕ
+choices [] i = 0
+choices (moment ∷ past) i = if gives moment i && is_first (offer moment i) then suc (choices past i) else choices past i
 
 -- the item of crossfade i: it has gone on where it gave, and where its item was empty
 abbrev pub position : List Moment → ℕ → ℕ
@@ -133,7 +139,7 @@ slots_at parts children = map (λ child. (part_at parts child).slot) children
 abbrev pub unpicked : Slot → Part
 unpicked slot = record { slot = slot; pick = None }
 
--- the cell that a selection picked, and its child
+-- the cell that was picked, and its child
 abbrev pub picked_part : Option Picked → Part
 picked_part None = silent
 picked_part (Some picked) = record { slot = Some picked.cell; pick = Some picked.child }
@@ -141,9 +147,9 @@ picked_part (Some picked) = record { slot = Some picked.cell; pick = Some picked
 -- what node i offers and picks, over its children's slots; `sub k m` are the first m slots of crossfade k's child
 abbrev pub part_by : Setting → (sub : ℕ → ℕ → List Slot) → List Moment → ℕ → Work → List Slot → Part
 part_by setting sub past i (Plays leaf) slots = unpicked (leaf_slot setting.library leaf (count past i))
-part_by setting sub past i (Picks rule eligible) slots =
+part_by setting sub past i (Picks choice eligible) slots =
     picked_part (picked slots (last_pick past i)
-    (pick_of rule slots (marks_at eligible (second_at setting (length past)) (length slots)) (last_pick past i)))
+    (child_used choice slots (marks_at eligible (second_at setting (length past)) (length slots)) (last_pick past i) (choices past i)))
 part_by setting sub past i (Mixes mixing) slots = unpicked (mix_slot mixing slots)
 part_by setting sub past i (Fades overlap) slots = unpicked (item_of overlap (sub i) (position past i))
 part_by setting sub past i (Reads buffer) slots =
@@ -179,7 +185,7 @@ offering parts (child ∷ children) =
 -- the children that a node uses
 abbrev pub uses_by : List Part → Work → List ℕ → (pick : Option ℕ) → List ℕ
 uses_by parts (Plays leaf) children pick = []
-uses_by parts (Picks rule eligible) children pick = child_at children pick
+uses_by parts (Picks choice eligible) children pick = child_at children pick
 uses_by parts (Mixes mixing) children pick = offering parts children
 uses_by parts (Fades overlap) children pick = []
 uses_by parts (Reads buffer) children pick = []

@@ -1,13 +1,19 @@
--- What a node does, sorted: a leaf, a selection, a mix of children, a crossfade or a reader. Nothing else tells operators apart.
-use Rattle.std.specs.Prelude.{Bool, true, List, ℕ, map, replicate}
+-- What a node does, sorted: a leaf, a choice among its children, a mix of them, a crossfade or a reader. Nothing else tells operators
+-- apart.
+use Rattle.std.specs.Prelude.{Bool, true, Option, List, ℕ, map, replicate}
 use Rattle.liq_base.specs.declared.memory.Kind.{Kind}
 use Rattle.time_pred.specs.Predicates.{Predicate, holds}
 use Rattle.plan_core.specs.declared.node.Op.{Op}
-use Rattle.plan_core.specs.declared.node.Op.TheVariants.{Single, Playlist, Blank, Square, Fail, Fallback, Switch, Sequence, Add, Amplify, Mean, Stereo, Crossfade, Buffer, Clock}
+use Rattle.plan_core.specs.declared.node.Op.TheVariants.{Single, Playlist, Blank, Square, Fail, Fallback, Switch, Sequence, Rotate, Random, Add, Amplify, Mean, Stereo, Crossfade, Buffer, Clock}
 use Rattle.op_leaf.specs.declared.leaf.Leaf.{Leaf}
 use Rattle.op_leaf.specs.declared.leaf.Leaf.TheVariants.{Files, Blank as Blanks, Square as Squares, Never}
 use Rattle.op_select.specs.declared.rule.Rule.{Rule}
 use Rattle.op_select.specs.declared.rule.Rule.TheVariants.{First, Turns}
+use Rattle.op_select.specs.Selection.{pick_of}
+use Rattle.frame_core.specs.Slots.{Slot}
+use Rattle.random_ops.specs.declared.turn.Turn.{Turn}
+use Rattle.random_ops.specs.declared.turn.Turn.TheVariants.{Rotate as Rotates, Random as Draws}
+use Rattle.random_ops.specs.Turns.{Past, used_child}
 use Rattle.stream_meaning.specs.Arithmetic.{Mixing, Adds, Scales, Halves, Doubles, Passes}
 
 -- which children are eligible: every one, or those whose predicates hold
@@ -19,9 +25,20 @@ abbrev pub marks_at : Eligible → (second children : ℕ) → List Bool
 marks_at Every second children = replicate children true
 marks_at (Where preds) second children = map (λ pred. holds pred second) preds
 
+-- how a node chooses among its children: by a selection's rule, or by turns
+pub data Choice : Type 0 where
+  Selects : Rule → Choice
+  TakesTurns : Turn → Choice
+
+-- the child that is used, over the children's slots and which are eligible, by the child that was used last and the number of
+-- choices that gave
+abbrev pub child_used : Choice → List Slot → List Bool → (last : Option ℕ) → (choices : ℕ) → Option ℕ
+child_used (Selects rule) slots eligible last choices = pick_of rule slots eligible last
+child_used (TakesTurns turn) slots eligible last choices = used_child turn (record { last = last; choices = choices }) slots
+
 pub data Work : Type 0 where
   Plays : Leaf → Work
-  Picks : Rule → Eligible → Work
+  Picks : Choice → Eligible → Work
   Mixes : Mixing → Work
   Fades : ℕ → Work
   Reads : ℕ → Work
@@ -33,9 +50,11 @@ work_of rate i kind (Playlist file again) = Plays (Files i again kind)
 work_of rate i kind (Blank track) = Plays (Blanks track)
 work_of rate i kind (Square pitch) = Plays (Squares pitch rate kind)
 work_of rate i kind Fail = Plays Never
-work_of rate i kind (Fallback sensitive) = Picks (First sensitive) Every
-work_of rate i kind (Switch sensitive preds) = Picks (First sensitive) (Where preds)
-work_of rate i kind Sequence = Picks Turns Every
+work_of rate i kind (Fallback sensitive) = Picks (Selects (First sensitive)) Every
+work_of rate i kind (Switch sensitive preds) = Picks (Selects (First sensitive)) (Where preds)
+work_of rate i kind Sequence = Picks (Selects Turns) Every
+work_of rate i kind Rotate = Picks (TakesTurns Rotates) Every
+work_of rate i kind (Random seed) = Picks (TakesTurns (Draws seed)) Every
 work_of rate i kind (Add normalize) = Mixes (Adds normalize)
 work_of rate i kind (Amplify factor) = Mixes (Scales factor.millionths)
 work_of rate i kind Mean = Mixes Halves

@@ -3,7 +3,7 @@ use Rattle.std.specs.Prelude.{◌≡◌, ◌⊎◌, ℕ, List, [], ◌∷◌, No
 use Rattle.liq_base.specs.Files.{Files}
 use Rattle.plan_core.specs.declared.node.Node.{Node}
 use Rattle.plan_core.specs.declared.node.Op.{Op}
-use Rattle.plan_core.specs.declared.node.Op.TheVariants.{Single, Playlist, Blank, Square, Fail, Fallback, Switch, Sequence, Add, Amplify, Mean, Stereo, Crossfade, Buffer, Clock}
+use Rattle.plan_core.specs.declared.node.Op.TheVariants.{Single, Playlist, Blank, Square, Fail, Fallback, Switch, Sequence, Rotate, Random, Add, Amplify, Mean, Stereo, Crossfade, Buffer, Clock}
 use Rattle.track_library.specs.declared.rules.Rules.{Rules}
 use Rattle.track_library.specs.declared.fault.LoadFault.{LoadFault}
 use Rattle.track_library.specs.Walk.{Heard, Walked, entry_next, node_next, nothing_met, use_list, value_of}
@@ -34,6 +34,8 @@ LeafReads rules files Fail walked read = ⊥
 LeafReads rules files (Fallback sensitive) walked read = ⊥
 LeafReads rules files (Switch sensitive preds) walked read = ⊥
 LeafReads rules files Sequence walked read = ⊥
+LeafReads rules files Rotate walked read = ⊥
+LeafReads rules files (Random seed) walked read = ⊥
 LeafReads rules files (Add normalize) walked read = ⊥
 LeafReads rules files (Amplify factor) walked read = ⊥
 LeafReads rules files Mean walked read = ⊥

@@ -7,7 +7,7 @@ use Rattle.liq_base.specs.Counts.{Rose}
 use Rattle.liq_base.specs.Files.{Files, file_at}
 use Rattle.plan_core.specs.declared.node.Node.{Node}
 use Rattle.plan_core.specs.declared.node.Op.{Op}
-use Rattle.plan_core.specs.declared.node.Op.TheVariants.{Single, Playlist, Blank, Square, Fail, Fallback, Switch, Sequence, Add, Amplify, Mean, Stereo, Crossfade, Buffer, Clock}
+use Rattle.plan_core.specs.declared.node.Op.TheVariants.{Single, Playlist, Blank, Square, Fail, Fallback, Switch, Sequence, Rotate, Random, Add, Amplify, Mean, Stereo, Crossfade, Buffer, Clock}
 use Rattle.wav_io.specs.Reading.{Wav, read_of}
 use Rattle.resample.specs.Resampled.{resampled}
 use Rattle.frame_core.specs.Bytes.{samples_in}
@@ -160,6 +160,8 @@ leaf_of rules files Fail walked = Ok (walked, [])
 leaf_of rules files (Fallback sensitive) walked = Ok (walked, [])
 leaf_of rules files (Switch sensitive preds) walked = Ok (walked, [])
 leaf_of rules files Sequence walked = Ok (walked, [])
+leaf_of rules files Rotate walked = Ok (walked, [])
+leaf_of rules files (Random seed) walked = Ok (walked, [])
 leaf_of rules files (Add normalize) walked = Ok (walked, [])
 leaf_of rules files (Amplify factor) walked = Ok (walked, [])
 leaf_of rules files Mean walked = Ok (walked, [])
