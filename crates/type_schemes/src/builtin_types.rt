@@ -142,6 +142,7 @@ fn row_type(alloc: Global, ty: RowType, any: u64, kind: u64) -> Result<Ty, Memor
     ensures { IfOk result (λ t. term_of t ≡ numbered_row any kind ty) }
 {
     match ty {
+        RowType::Int => Ok(Ty::Int),
         RowType::Text => Ok(Ty::Text),
         RowType::Bool => Ok(Ty::Bool),
         RowType::Decimal => Ok(Ty::Decimal),

@@ -20,6 +20,7 @@ seen_row r = (r.name.now, r.builtin)
 
 -- a type over the variables of its row, which are 0 of each sort
 abbrev pub row_term : RowType → Term
+row_term row.Int = base_term base.Int
 row_term row.Text = base_term base.Text
 row_term row.Bool = base_term base.Bool
 row_term row.Decimal = base_term base.Decimal

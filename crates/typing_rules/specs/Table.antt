@@ -34,6 +34,9 @@ text = base_term base.Text
 abbrev pub bool : Term
 bool = base_term base.Bool
 
+abbrev pub int : Term
+int = base_term base.Int
+
 abbrev pub decimal : Term
 decimal = base_term base.Decimal
 
@@ -71,6 +74,8 @@ signature builtin.Fail = source_call []
 signature builtin.Fallback = source_call (labelled (codes "track_sensitive") bool ∷ sources_param ∷ [])
 signature builtin.Switch = source_call (labelled (codes "track_sensitive") bool ∷ plain (codes "pairs") (list_term (pair (base_term base.Pred) source_k)) ∷ [])
 signature builtin.Sequence = source_call (sources_param ∷ [])
+signature builtin.Rotate = source_call (sources_param ∷ [])
+signature builtin.Random = source_call (labelled (codes "seed") int ∷ sources_param ∷ [])
 signature builtin.Add = source_call (labelled (codes "normalize") bool ∷ sources_param ∷ [])
 signature builtin.Amplify = source_call (plain (codes "k") decimal ∷ source_param ∷ [])
 signature builtin.Mean = record { params = id_param ∷ plain (codes "s") (source_term (Fixed Stereo)) ∷ []; result = source_term (Fixed Mono); types = 0; kinds = 0 }
@@ -86,7 +91,8 @@ builtin_names =
     (codes "output.file", builtin.OutputFile) ∷ (codes "set", builtin.Set) ∷ (codes "single", builtin.Single)
     ∷ (codes "playlist", builtin.Playlist) ∷ (codes "blank", builtin.Blank) ∷ (codes "square", builtin.Square)
     ∷ (codes "fail", builtin.Fail) ∷ (codes "fallback", builtin.Fallback) ∷ (codes "switch", builtin.Switch)
-    ∷ (codes "sequence", builtin.Sequence) ∷ (codes "add", builtin.Add) ∷ (codes "amplify", builtin.Amplify)
+    ∷ (codes "sequence", builtin.Sequence) ∷ (codes "rotate", builtin.Rotate) ∷ (codes "random", builtin.Random)
+    ∷ (codes "add", builtin.Add) ∷ (codes "amplify", builtin.Amplify)
     ∷ (codes "mean", builtin.Mean) ∷ (codes "stereo", builtin.Stereo) ∷ (codes "crossfade", builtin.Crossfade)
     ∷ (codes "mksafe", builtin.Mksafe) ∷ (codes "buffer", builtin.Buffer) ∷ (codes "clock", builtin.Clock) ∷ []
 

@@ -11,6 +11,7 @@ use crate::uses::Builtin;
 /// The types that stand in the table. A row has at most one variable of each sort.
 #[derive(Clone, Copy, Debug, PartialEq, Eq)]
 pub enum RowType {
+    Int,
     Text,
     Bool,
     Decimal,
@@ -47,7 +48,7 @@ macro_rules! row {
 }
 
 /// The rows, in the order of the builtins.
-const ROWS: [Row; 18] = [
+const ROWS: [Row; 20] = [
     row!(OutputFile, "output.file", (Perhaps "id": Text, Perhaps "fallible": Bool, InPlace "format": Format, InPlace "name": Text, InPlace "s": Source) -> Unit),
     row!(Set, "set", (InPlace "key": Text, InPlace "value": Anything) -> Unit),
     row!(Single, "single", (Perhaps "id": Text, InPlace "file": Text) -> Source),
@@ -58,6 +59,8 @@ const ROWS: [Row; 18] = [
     row!(Fallback, "fallback", (Perhaps "id": Text, Perhaps "track_sensitive": Bool, InPlace "sources": Sources) -> Source),
     row!(Switch, "switch", (Perhaps "id": Text, Perhaps "track_sensitive": Bool, InPlace "pairs": Pairs) -> Source),
     row!(Sequence, "sequence", (Perhaps "id": Text, InPlace "sources": Sources) -> Source),
+    row!(Rotate, "rotate", (Perhaps "id": Text, InPlace "sources": Sources) -> Source),
+    row!(Random, "random", (Perhaps "id": Text, Perhaps "seed": Int, InPlace "sources": Sources) -> Source),
     row!(Add, "add", (Perhaps "id": Text, Perhaps "normalize": Bool, InPlace "sources": Sources) -> Source),
     row!(Amplify, "amplify", (Perhaps "id": Text, InPlace "k": Decimal, InPlace "s": Source) -> Source),
     row!(Mean, "mean", (Perhaps "id": Text, InPlace "s": StereoSource) -> MonoSource),

@@ -39,6 +39,8 @@ pub enum Builtin {
     Fallback,
     Switch,
     Sequence,
+    Rotate,
+    Random,
     Add,
     Amplify,
     Mean,
