@@ -16,7 +16,7 @@ use Rattle.random_ops.specs.Turns.{offering, plays_on, rotated}
 abbrev pub Offers : List Slot → ℕ → Type 0
 Offers slots child = is_some (slot_at slots child) ≡ true
 
-some_offers : (slots : List Slot) (child : ℕ) → Offers slots child → list_any is_some slots ≡ true
+pub some_offers : (slots : List Slot) (child : ℕ) → Offers slots child → list_any is_some slots ≡ true
 some_offers [] child offers = absurd cc
 some_offers (None ∷ slots) zero offers = absurd cc
 some_offers (None ∷ slots) (suc child) offers = some_offers slots child offers
