@@ -30,7 +30,7 @@ pub fn stretches_stay_alike()
 {}
 
 /// What a node that gives offers over a stretch: a leaf its next cells, a crossfade its next items, a reader its next cells, a
-/// selection the cells of one child, and a mix what it makes of those of its children.
+/// node that chooses the cells of one child, and a mix what it makes of those of its children.
 pub fn stretches_have_lanes()
     ensures played { (setting : Setting) (sub : ℕ → ℕ → List TheSlot) (clock : Clock) (past : List Moment) (instants i j : ℕ) (node : TheNode) (leaf : TheLeaf)
         → AreNodes setting.plan.nodes → IsStretch setting sub clock past instants → IsNode setting clock i node → work_at setting i node ≡ Plays leaf
