@@ -5,7 +5,7 @@ use Rattle.op_leaf.specs.declared.leaf.Cursor.{Cursor}
 use Rattle.op_leaf.specs.declared.leaf.Cursor.TheVariants.{Track, Silence, Wave, Nothing}
 use Rattle.op_leaf.specs.Inner.{CursorLiesAhead}
 use Rattle.node_states.specs.declared.state.NodeState.{NodeState}
-use Rattle.node_states.specs.declared.state.NodeState.TheVariants.{Leaf, Select, Mix, Cross, Read, Idle}
+use Rattle.node_states.specs.declared.state.NodeState.TheVariants.{Leaf, Select, Turn, Mix, Cross, Read, Idle}
 use Rattle.node_states.specs.Runs.{LiesAhead}
 
 cursor_less : (library : Sounds) (cursor : Cursor) (count few : ℕ) → few ≤ count → CursorLiesAhead library cursor count → CursorLiesAhead library cursor few
@@ -20,6 +20,7 @@ cursor_less library Nothing count few less lies = lies
 pub lies_less : (library : Sounds) (state : NodeState) (count few : ℕ) → few ≤ count → LiesAhead library state count → LiesAhead library state few
 lies_less library (Leaf state) count few less lies = λ some. cursor_less library state.cursor count few less (lies (omega (arith, some, less)))
 lies_less library (Select state) count few less lies = lies
+lies_less library (Turn state) count few less lies = lies
 lies_less library (Mix mixer) count few less lies = lies
 lies_less library (Cross state) count few less lies = omega (arith, lies, less)
 lies_less library (Read reader) count few less lies = λ j low. lies j (omega (arith, low, less))

@@ -19,19 +19,18 @@ use Rattle.op_leaf.proofs.Laid.{lane_from, lane_of_same}
 use Rattle.op_leaf.proofs.Onward.{one_before}
 use Rattle.op_cross.specs.Runs.{item_of}
 use Rattle.op_cross.specs.Stretches.{left_of, right_of}
-use Rattle.op_select.specs.declared.rule.Rule.{Rule}
-use Rattle.op_select.specs.Selection.{pick_of, picked}
+use Rattle.op_select.specs.Selection.{picked}
 use Rattle.stream_meaning.specs.declared.part.Part.{Part}
 use Rattle.stream_meaning.specs.Arithmetic.{Mixing, Adds, Scales, Halves, Doubles, Passes, cells_of, changed_slot, mix_slot, summed_slot}
-use Rattle.stream_meaning.specs.Operators.{Eligible, Plays, Picks, Mixes, Fades, Reads, marks_at}
-use Rattle.stream_meaning.specs.Instants.{Setting, Moment, child_at, count, demanded, gives, is_root, last_pick, lies_in, moment_after, offer, offering, part_at, part_by, parts_upto, picked_part, position, reading_after, reading_at, second_at, slots_at, uses_by, uses_from, work_at}
+use Rattle.stream_meaning.specs.Operators.{Choice, Eligible, Plays, Picks, Mixes, Fades, Reads, child_used, marks_at}
+use Rattle.stream_meaning.specs.Instants.{Setting, Moment, child_at, choices, count, demanded, gives, is_root, last_pick, lies_in, moment_after, offer, offering, part_at, part_by, parts_upto, picked_part, position, reading_after, reading_at, second_at, slots_at, uses_by, uses_from, work_at}
 use Rattle.segment_laws.specs.Stretches.{lane}
 use Rattle.segment_laws.proofs.Demanding.{used_demanded}
-use Rattle.segment_laws.proofs.Following.{AreBelow, at_place, below_from, child_is_below, one_used, pick_offers_there, place_is, slot_is}
+use Rattle.segment_laws.proofs.Following.{AreBelow, at_place, below_from, child_is_below, one_used, place_is, slot_is}
 use Rattle.segment_laws.proofs.Parts.{own_part, part_stays, uses_at}
 use Rattle.segment_laws.proofs.Stretching.{alike_all}
 use Rattle.segment_laws.proofs.Laning.{chosen, faded, mixed, played, read}
-use Rattle.segment_laws.proofs.Works.{some_pick}
+use Rattle.segment_laws.proofs.Works.{pick_offers_there, some_pick}
 use Rattle.node_mixing.specs.Runs.{AreHeard, IsHeard, many_give, offers_in}
 use Rattle.node_states.specs.Runs.{GoesOn}
 
@@ -91,7 +90,7 @@ and_second : (a b : Bool) → (a && b) ≡ true → b ≡ true
 and_second true b e = e
 and_second false b e = absurd (false≢true e)
 
--- the child that a selection picked, which gives
+-- the child that a node picked, which gives
 pub record IsPicked (first : Moment) (i : ℕ) (children : List ℕ) : Type 0 where
   pub place : ℕ
   pub child : ℕ
@@ -234,18 +233,19 @@ module _ (setting : Setting) (sub : ℕ → ℕ → List Slot) (clock : NodeCloc
   mix_run mixing at left right made = lane_of_same (λ j. mix_slot mixing (map (Lane j) node.children)) (λ j. Lane j i) many left right
       (λ j less. mixed setting sub clock past (suc many) goes.nodes goes.stretch i node goes.is mixing (suc j) at) made
 
-  -- the child that a selection picked
-  pub the_child : (rule : Rule) (eligible : Eligible) → work_at setting i node ≡ Picks rule eligible → IsPicked First i node.children
-  the_child rule eligible at =
+  -- the child that a selection or a node that takes turns picked
+  pub the_child : (choice : Choice) (eligible : Eligible) → work_at setting i node ≡ Picks choice eligible → IsPicked First i node.children
+  the_child choice eligible at =
       let slots : List Slot = slots_at Before node.children in
       let last : Option ℕ = last_pick past i in
       let marks : List Bool = marks_at eligible (second_at setting (length past)) (length slots) in
-      let same : part_at Parts i ≡ picked_part (picked slots last (pick_of rule slots marks last)) =
+      let used_by : Option ℕ = child_used choice slots marks last (choices past i) in
+      let same : part_at Parts i ≡ picked_part (picked slots last used_by) =
       own_part setting sub clock past (length setting.plan.nodes) i node low goes.is ∙ ap (λ work. part_by setting sub past i work slots) at in
-      let there : is_some (picked_part (picked slots last (pick_of rule slots marks last))).slot ≡ true =
+      let there : is_some (picked_part (picked slots last used_by)).slot ≡ true =
       sym (ap (λ (p : Part). is_some p.slot) same) ∙ and_second (demanded First i) (is_some (offer First i)) goes.gave in
-      let found = some_pick (picked slots last (pick_of rule slots marks last)) there in
-      let offers : is_some (slot_at slots found.0) ≡ true = pick_offers_there rule slots marks last found.0 found.1 in
+      let found = some_pick (picked slots last used_by) there in
+      let offers : is_some (slot_at slots found.0) ≡ true = pick_offers_there slots last used_by found.0 found.1 in
       let child = place_is Before node.children found.0 offers in
       let under : child.0 < i = child_is_below i node.children found.0 child.0 are_below child.1 in
       let shown : is_some (offer First child.0) ≡ true =
@@ -263,13 +263,13 @@ module _ (setting : Setting) (sub : ℕ → ℕ → List Slot) (clock : NodeCloc
         gave = both (demanded First child.0) (is_some (offer First child.0)) (used child.0 under (ap (list_any (nat_eq child.0)) uses ∙ one_used child.0)) shown;
       }
 
-  -- a selection
-  pub pick_run : (rule : Rule) (eligible : Eligible) → (at : work_at setting i node ≡ Picks rule eligible) → (left right : List ℤ)
-      → IsLane (λ j. Lane j (the_child rule eligible at).child) many left right → IsLane (λ j. Lane j i) many left right
-  pick_run rule eligible at left right own =
-      let one = the_child rule eligible at in
+  -- a node that chooses
+  pub pick_run : (choice : Choice) (eligible : Eligible) → (at : work_at setting i node ≡ Picks choice eligible) → (left right : List ℤ)
+      → IsLane (λ j. Lane j (the_child choice eligible at).child) many left right → IsLane (λ j. Lane j i) many left right
+  pick_run choice eligible at left right own =
+      let one = the_child choice eligible at in
       lane_of_same (λ j. Lane j one.child) (λ j. Lane j i) many left right
-      (λ j less. chosen setting sub clock past (suc many) goes.nodes goes.stretch i node goes.is rule eligible one.place one.child (suc j) at (omega arith) (omega (arith, less)) goes.gave one.pick_is one.there) own
+      (λ j less. chosen setting sub clock past (suc many) goes.nodes goes.stretch i node goes.is choice eligible one.place one.child (suc j) at (omega arith) (omega (arith, less)) goes.gave one.pick_is one.there) own
 
   -- a leaf
   pub leaf_run : (leaf : Leaf) → work_at setting i node ≡ Plays leaf → (left right : List ℤ) → left ≡ lefts_of (leaf_slot setting.library leaf) (suc (count past i)) many

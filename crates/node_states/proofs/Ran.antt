@@ -17,21 +17,22 @@ use Rattle.op_cross.specs.States.{Crossing, StandsFor}
 use Rattle.op_cross.specs.Stretches.{left_of, right_of}
 use Rattle.op_cross.proofs.LeastRuns.{item_of-is}
 use Rattle.op_select.specs.Selection.{Selection}
+use Rattle.random_ops.specs.Turns.{Turning}
 use Rattle.node_mixing.specs.declared.mixer.Mixer.{Mixer}
 use Rattle.node_mixing.specs.Mixings.{mixing_of}
 use Rattle.node_mixing.specs.Runs.{AreHeard, many_give, offers_in, samples_of}
 use Rattle.stream_meaning.specs.declared.part.Part.{Part}
 use Rattle.stream_meaning.specs.Arithmetic.{mix_slot}
-use Rattle.stream_meaning.specs.Operators.{Work, Plays, Picks, Mixes, Fades, Reads}
-use Rattle.stream_meaning.specs.Instants.{Setting, Moment, Reading, count, gives, last_pick, moment_after, part_at, position, read_on, reading_after, reading_at, work_at}
+use Rattle.stream_meaning.specs.Operators.{Choice, Eligible, Work, Plays, Picks, Mixes, Fades, Reads}
+use Rattle.stream_meaning.specs.Instants.{Setting, Moment, Reading, choices, count, gives, last_pick, moment_after, part_at, position, read_on, reading_after, reading_at, work_at}
 use Rattle.segment_laws.specs.Stretches.{going_on, lane}
-use Rattle.node_states.specs.declared.state.NodeState.TheVariants.{Leaf, Select, Mix, Cross, Read, Idle}
+use Rattle.node_states.specs.declared.state.NodeState.TheVariants.{Leaf, Select, Turn, Mix, Cross, Read, Idle}
 use Rattle.node_states.specs.Runs.{GoesOn, fed_on}
-use Rattle.node_states.specs.States.{SelectStands, StateStands, reading_by, reads}
+use Rattle.node_states.specs.States.{HasSelected, HasTurned, StateStands, reading_by, reads}
 use Rattle.node_states.proofs.Chunks.{reading_closed}
 use Rattle.node_states.proofs.Hearing.{are_heard, fade_run, leaf_run, mix_run, pick_run, read_run, some_offer, the_child}
 use Rattle.node_states.proofs.Rested.{gave_count, gave_position}
-use Rattle.node_states.proofs.Running.{count_later, picked_same, position_later, read_stands}
+use Rattle.node_states.proofs.Running.{chosen_same, count_later, picked_same, position_later, read_stands}
 
 module _ (setting : Setting) (sub : ℕ → ℕ → List Slot) (clock : NodeClock) (past : List Moment) (many i fed : ℕ) (node : Node) (goes : GoesOn setting sub clock past many i node) where
   abbrev First : Moment
@@ -90,38 +91,63 @@ module _ (setting : Setting) (sub : ℕ → ℕ → List Slot) (clock : NodeCloc
   leaf_lane library old left right same left_is right_is (Fades overlap) at s = absurd s
   leaf_lane library old left right same left_is right_is (Reads buffer) at s = absurd s
 
-  -- ---- a selection
+  -- ---- a selection, and a node that takes turns
+
+  same_pick : (some : 0 < many) → last_pick Later i ≡ last_pick Past i
+  same_pick some = subst (λ n. last_pick (going_on setting sub clock n past) i ≡ last_pick Past i) e
+      (picked_same setting sub clock past (suc many) 1 many goes.nodes goes.stretch (omega arith) (omega arith) some i node goes.is goes.gave)
+
+  same_choices : (some : 0 < many) → choices Later i ≡ choices Past i
+  same_choices some = subst (λ n. choices (going_on setting sub clock n past) i ≡ choices Past i) e
+      (chosen_same setting sub clock past (suc many) 1 many goes.nodes goes.stretch (omega arith) (omega arith) some i node goes.is goes.gave)
 
   pub pick_stands : (some : 0 < many) (state : Selection) (work : Work) → StateStands setting sub Past fed i work (Select state)
       → StateStands setting sub Later (fed_on (reads work) many fed) i work (Select state)
   pick_stands some state (Plays leaf) s = absurd s
-  pick_stands some state (Picks rule eligible) s = subst (λ last. SelectStands rule last state) (sym same) s
-    where
-      same : last_pick Later i ≡ last_pick Past i
-      same = subst (λ n. last_pick (going_on setting sub clock n past) i ≡ last_pick Past i) e
-          (picked_same setting sub clock past (suc many) 1 many goes.nodes goes.stretch (omega arith) (omega arith) some i node goes.is goes.gave)
+  pick_stands some state (Picks choice eligible) s = subst (λ last. HasSelected choice last state) (sym (same_pick some)) s
   pick_stands some state (Mixes mixing) s = absurd s
   pick_stands some state (Fades overlap) s = absurd s
   pick_stands some state (Reads buffer) s = absurd s
 
-  pub pick_lane : (state : Selection) (parts : List Part) (pick : Option ℕ) (lefts rights left right : List ℤ) → parts ≡ First.parts → pick ≡ (part_at parts i).pick
-      → ((place child : ℕ) → pick ≡ Some place → slice_get node.children place ≡ Some child → left ≡ samples_of lefts child many)
-      → ((place child : ℕ) → pick ≡ Some place → slice_get node.children place ≡ Some child → right ≡ samples_of rights child many)
-      → Before lefts rights → (work : Work) → work_at setting i node ≡ work → StateStands setting sub Past fed i work (Select state) → IsLane (λ j. Lane j i) many left right
-  pick_lane state parts pick lefts rights left right same pick_is left_is right_is before (Plays leaf) at s = absurd s
-  pick_lane state parts pick lefts rights left right same pick_is left_is right_is before (Picks rule eligible) at s =
-      let one = the_child setting sub clock past many i node goes rule eligible at in
-      let picks : pick ≡ Some one.place = pick_is ∙ ap (λ p. (part_at p i).pick) same ∙ one.pick_is in
-      let own = before one.child one.among one.gave in
-      pick_run setting sub clock past many i node goes rule eligible at left right
-      (record {
-        left_is = left_is one.place one.child picks one.there ∙ own.left_is;
-        right_is = right_is one.place one.child picks one.there ∙ own.right_is;
-        inner = own.inner;
-      })
-  pick_lane state parts pick lefts rights left right same pick_is left_is right_is before (Mixes mixing) at s = absurd s
-  pick_lane state parts pick lefts rights left right same pick_is left_is right_is before (Fades overlap) at s = absurd s
-  pick_lane state parts pick lefts rights left right same pick_is left_is right_is before (Reads buffer) at s = absurd s
+  pub turn_stands : (some : 0 < many) (state : Turning) (work : Work) → StateStands setting sub Past fed i work (Turn state)
+      → StateStands setting sub Later (fed_on (reads work) many fed) i work (Turn state)
+  turn_stands some state (Plays leaf) s = absurd s
+  turn_stands some state (Picks choice eligible) s =
+      subst (λ n. HasTurned choice (last_pick Later i) n state) (sym (same_choices some)) (subst (λ last. HasTurned choice last (choices Past i) state) (sym (same_pick some)) s)
+  turn_stands some state (Mixes mixing) s = absurd s
+  turn_stands some state (Fades overlap) s = absurd s
+  turn_stands some state (Reads buffer) s = absurd s
+
+  -- the samples of the child that was picked were laid
+  module _ (parts : List Part) (pick : Option ℕ) (lefts rights left right : List ℤ) (same : parts ≡ First.parts) (pick_is : pick ≡ (part_at parts i).pick)
+      (left_is : (place child : ℕ) → pick ≡ Some place → slice_get node.children place ≡ Some child → left ≡ samples_of lefts child many)
+      (right_is : (place child : ℕ) → pick ≡ Some place → slice_get node.children place ≡ Some child → right ≡ samples_of rights child many)
+      (before : Before lefts rights) where
+    laid : (choice : Choice) (eligible : Eligible) → work_at setting i node ≡ Picks choice eligible → IsLane (λ j. Lane j i) many left right
+    laid choice eligible at =
+        let one = the_child setting sub clock past many i node goes choice eligible at in
+        let picks : pick ≡ Some one.place = pick_is ∙ ap (λ p. (part_at p i).pick) same ∙ one.pick_is in
+        let own = before one.child one.among one.gave in
+        pick_run setting sub clock past many i node goes choice eligible at left right
+        (record {
+          left_is = left_is one.place one.child picks one.there ∙ own.left_is;
+          right_is = right_is one.place one.child picks one.there ∙ own.right_is;
+          inner = own.inner;
+        })
+
+    pub pick_lane : (state : Selection) (work : Work) → work_at setting i node ≡ work → StateStands setting sub Past fed i work (Select state) → IsLane (λ j. Lane j i) many left right
+    pick_lane state (Plays leaf) at s = absurd s
+    pick_lane state (Picks choice eligible) at s = laid choice eligible at
+    pick_lane state (Mixes mixing) at s = absurd s
+    pick_lane state (Fades overlap) at s = absurd s
+    pick_lane state (Reads buffer) at s = absurd s
+
+    pub turn_lane : (state : Turning) (work : Work) → work_at setting i node ≡ work → StateStands setting sub Past fed i work (Turn state) → IsLane (λ j. Lane j i) many left right
+    turn_lane state (Plays leaf) at s = absurd s
+    turn_lane state (Picks choice eligible) at s = laid choice eligible at
+    turn_lane state (Mixes mixing) at s = absurd s
+    turn_lane state (Fades overlap) at s = absurd s
+    turn_lane state (Reads buffer) at s = absurd s
 
   -- ---- a mix
 

@@ -15,21 +15,21 @@ use Rattle.op_cross.proofs.LeastRuns.{run_of-is}
 use Rattle.op_cross.proofs.Running.{passing}
 use Rattle.stream_meaning.specs.Operators.{Work, Plays, Picks, Mixes, Fades, Reads}
 use Rattle.op_leaf.specs.Readers.{Reader, after_cell, read_by}
-use Rattle.stream_meaning.specs.Instants.{Setting, Moment, Reading, count, gives, last_pick, moment_after, offer, position, reading_after, reading_at, work_at}
+use Rattle.stream_meaning.specs.Instants.{Setting, Moment, Reading, choices, count, gives, last_pick, moment_after, offer, position, reading_after, reading_at, work_at}
 use Rattle.stream_meaning.specs.Calls.{ran_by}
 use Rattle.segment_laws.specs.Stretches.{AreFed, IsNode, IsOn, IsStretch, going_on}
 use Rattle.segment_laws.proofs.Stretching.{on_all}
 use Rattle.segment_laws.proofs.Reaching.{run_more}
 use Rattle.node_states.specs.declared.state.NodeState.{NodeState}
-use Rattle.node_states.specs.declared.state.NodeState.TheVariants.{Leaf, Select, Mix, Cross, Read}
-use Rattle.node_states.specs.States.{AreLong, CrossStands, LeafStands, SelectStands, StateStands, reading_by, reads}
+use Rattle.node_states.specs.declared.state.NodeState.TheVariants.{Leaf, Select, Turn, Mix, Cross, Read}
+use Rattle.node_states.specs.States.{AreLong, CrossStands, HasSelected, HasTurned, LeafStands, StateStands, reading_by, reads}
 use Rattle.node_states.specs.Runs.{fed_on}
 use Rattle.node_states.proofs.Chunks.{reading_closed}
 
 -- two pasts are the same to a node of this work
 abbrev pub SamePast : Setting → Work → ℕ → List Moment → List Moment → Type 0
 SamePast setting (Plays leaf) i past later = count later i ≡ count past i
-SamePast setting (Picks rule eligible) i past later = last_pick later i ≡ last_pick past i
+SamePast setting (Picks choice eligible) i past later = (last_pick later i ≡ last_pick past i) × (choices later i ≡ choices past i)
 SamePast setting (Mixes mixing) i past later = Unit {0}
 SamePast setting (Fades overlap) i past later = position later i ≡ position past i
 SamePast setting (Reads buffer) i past later = (reading_after setting i buffer later).reader ≡ (reading_after setting i buffer past).reader
@@ -43,7 +43,9 @@ pub stands_same : (setting : Setting) (sub : ℕ → ℕ → List Slot) (past la
     → length later ≡ length past + many → (reads work ≡ true → fed ≡ length past)
     → StateStands setting sub past fed i work state → StateStands setting sub later (fed_on (reads work) many fed) i work state
 stands_same setting sub past later many fed i (Plays leaf) (Leaf state) same long closed s = subst (λ n. LeafStands setting.library leaf n state) (sym same) s
-stands_same setting sub past later many fed i (Picks rule eligible) (Select state) same long closed s = subst (λ last. SelectStands rule last state) (sym same) s
+stands_same setting sub past later many fed i (Picks choice eligible) (Select state) same long closed s = subst (λ last. HasSelected choice last state) (sym same.0) s
+stands_same setting sub past later many fed i (Picks choice eligible) (Turn state) same long closed s =
+    subst (λ n. HasTurned choice (last_pick later i) n state) (sym same.1) (subst (λ last. HasTurned choice last (choices past i) state) (sym same.0) s)
 stands_same setting sub past later many fed i (Mixes mixing) (Mix mixer) same long closed s = s
 stands_same setting sub past later many fed i (Fades overlap) (Cross state) same long closed s = subst (λ p. CrossStands (sub i) fed p overlap state) (sym same) s
 stands_same setting sub past later many fed i (Reads buffer) (Read reader) same long closed s =
@@ -86,7 +88,7 @@ module _ (setting : Setting) (sub : ℕ → ℕ → List Slot) (clock : NodeCloc
 
   same_by : (work : Work) → work_at setting i node ≡ work → gives First i ≡ false → SamePast setting work i Past Later
   same_by (Plays leaf) at not = on_later.kept i not ∙ sym (on_now.kept i not)
-  same_by (Picks rule eligible) at not = on_later.stayed i not ∙ sym (on_now.stayed i not)
+  same_by (Picks choice eligible) at not = (on_later.stayed i not ∙ sym (on_now.stayed i not), on_later.unchosen i not ∙ sym (on_now.unchosen i not))
   same_by (Mixes mixing) at not = tt
   same_by (Fades overlap) at not =
       let there = stretch.items i node overlap 1 is at (omega arith) (omega (arith, begun, within, some)) in
@@ -113,6 +115,10 @@ module _ (setting : Setting) (sub : ℕ → ℕ → List Slot) (clock : NodeCloc
   -- so do a selection and a mix that give
   pub picked_same : gives First i ≡ true → last_pick Later i ≡ last_pick Past i
   picked_same gave = on_later.picked i gave (omega (arith, begun)) ∙ sym (on_now.picked i gave begun)
+
+  -- a node that takes turns and gives has made its choice at the first of these instants
+  pub chosen_same : gives First i ≡ true → choices Later i ≡ choices Past i
+  chosen_same gave = on_later.chosen i gave (omega (arith, begun)) ∙ sym (on_now.chosen i gave begun)
 
   -- and the others have gone on by as many cells or items
   pub count_later : gives First i ≡ true → count Later i ≡ count Past i + many

@@ -2,17 +2,19 @@
 use Rattle.std.proofs.Common.{◌≡◌, ◌∙◌, ◌<◌, ◌≤◌, ◌&&◌, ◌||◌, ℕ, suc, Some, None, Option, List, ◌∷◌, length, Bool, true, false, not, cond, refl, ap, sym, subst, arith}
 use Rattle.std.specs.Prelude.{is_some}
 use Rattle.std.proofs.lemmas.Bool.{false≢true}
-use Rattle.frame_core.specs.Slots.{Slot, slot_at}
+use Rattle.frame_core.specs.Slots.{Slot, is_first, slot_at}
 use Rattle.op_select.specs.declared.rule.Picked.{Picked}
 use Rattle.op_select.specs.Selection.{Selection, pick_of, picked}
+use Rattle.random_ops.specs.declared.turn.Turn.{Turn as TheTurn}
+use Rattle.random_ops.specs.Turns.{Past, Turning, StandsFor as TurnStandsFor, past_given, used_child, words_left}
 use Rattle.op_cross.specs.Crossfade.{cross}
 use Rattle.op_cross.specs.States.{Crossing, StandsFor, position_after}
 use Rattle.op_cross.proofs.LeastRuns.{item_of-is}
 use Rattle.stream_meaning.specs.declared.part.Part.{Part}
-use Rattle.stream_meaning.specs.Operators.{Work, Plays, Picks, Mixes, Fades, Reads, marks_at}
-use Rattle.stream_meaning.specs.Instants.{Setting, Moment, Reading, reading_after, reading_at, read_on, demanded, gives, last_pick, part_at, part_by, picked_part, position, second_at}
+use Rattle.stream_meaning.specs.Operators.{Work, Plays, Picks, Mixes, Fades, Reads, Selects, TakesTurns, marks_at}
+use Rattle.stream_meaning.specs.Instants.{Setting, Moment, Reading, reading_after, reading_at, read_on, choices, demanded, gives, last_pick, offer, part_at, part_by, picked_part, position, second_at}
 use Rattle.stream_meaning.proofs.Choosing.{picked_within}
-use Rattle.node_states.specs.declared.state.NodeState.TheVariants.{Select, Cross, Read}
+use Rattle.node_states.specs.declared.state.NodeState.TheVariants.{Select, Turn, Cross, Read}
 use Rattle.node_states.specs.States.{AreLong, IsSettled, StateStands, reading_by}
 use Rattle.op_leaf.specs.Readers.{Reader, after_cell}
 use Rattle.node_states.proofs.Chunks.{reading_closed, reading_open}
@@ -48,7 +50,8 @@ pub select_step : (setting : Setting) (sub : ℕ → ℕ → List Slot) (past : 
     → StateStands setting sub past fed i work (Select old) → part ≡ part_by setting sub past i work slots → HasPart moment i part mark
     → StateStands setting sub (moment ∷ past) fed i work (Select new)
 select_step setting sub past moment fed i (Plays leaf) slots children old new part mark gave long gave_is same_rule used unused stands is had = absurd stands
-select_step setting sub past moment fed i (Picks rule eligible) slots children old new part mark gave long gave_is same_rule used unused stands is had = record {
+select_step setting sub past moment fed i (Picks (TakesTurns turn) eligible) slots children old new part mark gave long gave_is same_rule used unused stands is had = absurd stands
+select_step setting sub past moment fed i (Picks (Selects rule) eligible) slots children old new part mark gave long gave_is same_rule used unused stands is had = record {
   rule_is = same_rule ∙ stands.rule_is;
   last_is = last_by gave old new part.pick now unused
       ∙ ap (λ (l : Option ℕ). cond gave part.pick l) stands.last_is
@@ -66,6 +69,65 @@ select_step setting sub past moment fed i (Picks rule eligible) slots children o
 select_step setting sub past moment fed i (Mixes mixing) slots children old new part mark gave long gave_is same_rule used unused stands is had = absurd stands
 select_step setting sub past moment fed i (Fades overlap) slots children old new part mark gave long gave_is same_rule used unused stands is had = absurd stands
 select_step setting sub past moment fed i (Reads buffer) slots children old new part mark gave long gave_is same_rule used unused stands is had = absurd stands
+
+-- what a node that takes turns has behind it
+abbrev turned : List Moment → ℕ → Past
+turned past i = record { last = last_pick past i; choices = choices past i }
+
+some_found : (found : Option Picked) → is_some (picked_part found).slot ≡ true → (pick : Picked) × (found ≡ Some pick)
+some_found None is = absurd (false≢true is)
+some_found (Some one) is = (one, refl)
+
+-- it gave this
+turn_gave : (turn : TheTurn) (past : List Moment) (moment : Moment) (i : ℕ) (pick : Picked) (state : Turning) → gives moment i ≡ true → part_at moment.parts i ≡ picked_part (Some pick)
+    → TurnStandsFor turn (past_given (turned past i) pick) state → TurnStandsFor turn (turned (moment ∷ past) i) state
+turn_gave turn past moment i pick state gave part s = record {
+  last = s.last ∙ sym (ap (λ (g : Bool). cond g (part_at moment.parts i).pick (last_pick past i)) gave ∙ ap (λ (p : Part). p.pick) part);
+  words = s.words ∙ ap (words_left turn) (sym (
+      ap (λ (g : Bool). cond (g && is_first (offer moment i)) (suc (choices past i)) (choices past i)) gave
+      ∙ ap (λ (p : Part). cond (is_first p.slot) (suc (choices past i)) (choices past i)) part));
+}
+
+-- it did not give
+turn_kept : (turn : TheTurn) (past : List Moment) (moment : Moment) (i : ℕ) (state : Turning) → gives moment i ≡ false
+    → TurnStandsFor turn (turned past i) state → TurnStandsFor turn (turned (moment ∷ past) i) state
+turn_kept turn past moment i state gave s = record {
+  last = s.last ∙ sym (ap (λ (g : Bool). cond g (part_at moment.parts i).pick (last_pick past i)) gave);
+  words = s.words ∙ ap (words_left turn) (sym (ap (λ (g : Bool). cond (g && is_first (offer moment i)) (suc (choices past i)) (choices past i)) gave));
+}
+
+pub turn_step : (setting : Setting) (sub : ℕ → ℕ → List Slot) (past : List Moment) (moment : Moment) (fed i : ℕ) (work : Work) (slots : List Slot)
+    (children : ℕ) (old new : Turning) (part : Part) (mark gave : Bool) → length slots ≡ children → gave ≡ (mark && is_some part.slot)
+    → ((turn : TheTurn) (behind : Past) (pick : Picked) → gave ≡ true → part.pick ≡ Some pick.child → part.slot ≡ Some pick.cell → pick.child < children
+    → TurnStandsFor turn behind old → TurnStandsFor turn (past_given behind pick) new)
+    → (gave ≡ false → new ≡ old)
+    → StateStands setting sub past fed i work (Turn old) → part ≡ part_by setting sub past i work slots → HasPart moment i part mark
+    → StateStands setting sub (moment ∷ past) fed i work (Turn new)
+turn_step setting sub past moment fed i (Plays leaf) slots children old new part mark gave long gave_is goes stays stands is had = absurd stands
+turn_step setting sub past moment fed i (Picks (Selects rule) eligible) slots children old new part mark gave long gave_is goes stays stands is had = absurd stands
+turn_step setting sub past moment fed i (Picks (TakesTurns turn) eligible) slots children old new part mark gave long gave_is goes stays stands is had = by gave refl
+  where
+    last : Option ℕ
+    last = last_pick past i
+
+    used : Option ℕ
+    used = used_child turn (turned past i) slots
+
+    now : gives moment i ≡ gave
+    now = given moment i part mark had ∙ sym gave_is
+
+    by : (g : Bool) → gave ≡ g → TurnStandsFor turn (turned (moment ∷ past) i) new
+    by true e =
+        let found : is_some (picked_part (picked slots last used)).slot ≡ true = ap (λ (p : Part). is_some p.slot) (sym is) ∙ second_of mark (is_some part.slot) (sym gave_is ∙ e) in
+        let one = some_found (picked slots last used) found in
+        let whole : part ≡ picked_part (Some one.0) = is ∙ ap picked_part one.1 in
+        let few : one.0.child < children = subst (λ (n : ℕ). one.0.child < n) long (picked_within slots last used one.0.child (ap (λ (f : Option Picked). (picked_part f).pick) one.1)) in
+        turn_gave turn past moment i one.0 new (now ∙ e) (had.part_is ∙ whole)
+        (goes turn (turned past i) one.0 e (ap (λ (p : Part). p.pick) whole) (ap (λ (p : Part). p.slot) whole) few stands)
+    by false e = turn_kept turn past moment i new (now ∙ e) (subst (λ (s : Turning). TurnStandsFor turn (turned past i) s) (sym (stays e)) stands)
+turn_step setting sub past moment fed i (Mixes mixing) slots children old new part mark gave long gave_is goes stays stands is had = absurd stands
+turn_step setting sub past moment fed i (Fades overlap) slots children old new part mark gave long gave_is goes stays stands is had = absurd stands
+turn_step setting sub past moment fed i (Reads buffer) slots children old new part mark gave long gave_is goes stays stands is had = absurd stands
 
 -- the next item, by whether the node gave
 next_item : (gave : Bool) (mark : Bool) (slot : Slot) (p : ℕ) → gave ≡ (mark && is_some slot)

@@ -11,13 +11,14 @@ use Rattle.op_leaf.specs.Readers.{read_by, reader_slot}
 use Rattle.stream_meaning.specs.Instants.{Setting, Moment, gives, moment_after}
 use Rattle.segment_laws.specs.Stretches.{IsNode, IsStretch}
 use Rattle.node_states.specs.declared.state.NodeState.{NodeState}
-use Rattle.node_states.specs.declared.state.NodeState.TheVariants.{Leaf, Select, Mix, Cross, Read, Idle}
+use Rattle.node_states.specs.declared.state.NodeState.TheVariants.{Leaf, Select, Turn, Mix, Cross, Read, Idle}
 use Rattle.node_states.specs.States.{AreLong}
 
 -- so many of its next cells or items are there, and none of them begins a track: what a run asks of a node that gives
 abbrev pub LiesAhead : Sounds → NodeState → (count : ℕ) → Type 0
 LiesAhead library (Leaf state) count = 0 < count → LeafLiesAhead library state count
 LiesAhead library (Select state) count = ⊤
+LiesAhead library (Turn state) count = ⊤
 LiesAhead library (Mix mixer) count = ⊤
 LiesAhead library (Cross state) count = count ≤ ready_stretch state
 LiesAhead library (Read reader) count = (j : ℕ) → j < count → is_inner (reader_slot (read_by j reader)) ≡ true

@@ -8,15 +8,16 @@ use Rattle.op_leaf.specs.declared.leaf.LeafState.{LeafState}
 use Rattle.op_leaf.specs.Standing.{leaf_of, IsPlacedIn, StandsAt}
 use Rattle.op_select.specs.declared.rule.Rule.{Rule}
 use Rattle.op_select.specs.Selection.{Selection}
+use Rattle.random_ops.specs.Turns.{Turning, StandsFor as TurnStandsFor}
 use Rattle.op_cross.specs.Crossfade.{cross}
 use Rattle.op_cross.specs.Runs.{run_of}
 use Rattle.op_cross.specs.States.{Crossing, StandsFor, wants as crossing_wants, left as crossing_left}
-use Rattle.stream_meaning.specs.Operators.{Work, Plays, Picks, Mixes, Fades, Reads}
+use Rattle.stream_meaning.specs.Operators.{Choice, Selects, TakesTurns, Work, Plays, Picks, Mixes, Fades, Reads}
 use Rattle.plan_core.specs.declared.node.Node.{Node}
-use Rattle.stream_meaning.specs.Instants.{Setting, Moment, Reading, count, last_pick, position, reading_after, reading_at, work_at}
+use Rattle.stream_meaning.specs.Instants.{Setting, Moment, Reading, choices, count, last_pick, position, reading_after, reading_at, work_at}
 use Rattle.node_mixing.specs.Mixings.{mixing_of}
 use Rattle.node_states.specs.declared.state.NodeState.{NodeState}
-use Rattle.node_states.specs.declared.state.NodeState.TheVariants.{Leaf, Select, Mix, Cross, Read, Idle}
+use Rattle.node_states.specs.declared.state.NodeState.TheVariants.{Leaf, Select, Turn, Mix, Cross, Read, Idle}
 
 -- a leaf gave so many cells
 pub record LeafStands (library : Sounds) (leaf : TheLeaf) (given : ℕ) (state : LeafState) : Type 0 where
@@ -27,6 +28,16 @@ pub record LeafStands (library : Sounds) (leaf : TheLeaf) (given : ℕ) (state :
 pub record SelectStands (rule : Rule) (last : Option ℕ) (state : Selection) : Type 0 where
   pub rule_is : state.rule ≡ rule
   pub last_is : state.last ≡ last
+
+-- a node that chooses so is a selection that used this child when it last gave
+abbrev pub HasSelected : Choice → (last : Option ℕ) → Selection → Type 0
+HasSelected (Selects rule) last state = SelectStands rule last state
+HasSelected (TakesTurns turn) last state = ⊥
+
+-- a node that chooses so takes turns: it used this child when it last gave, by so many choices
+abbrev pub HasTurned : Choice → (last : Option ℕ) → (choices : ℕ) → Turning → Type 0
+HasTurned (Selects rule) last choices state = ⊥
+HasTurned (TakesTurns turn) last choices state = TurnStandsFor turn (record { last = last; choices = choices }) state
 
 -- a crossfade was fed the first slots of its child, and no fewer of them settle item p
 pub record CrossStands (slots : ℕ → List Slot) (fed p overlap : ℕ) (state : Crossing) : Type 0 where
@@ -44,7 +55,8 @@ reading_by setting i buffer past begun =
 -- reader has begun so many instants; an idle state stands for no past
 abbrev pub StateStands : Setting → (sub : ℕ → ℕ → List Slot) → List Moment → (fed i : ℕ) → Work → NodeState → Type 0
 StateStands setting sub past fed i (Plays leaf) (Leaf state) = LeafStands setting.library leaf (count past i) state
-StateStands setting sub past fed i (Picks rule eligible) (Select state) = SelectStands rule (last_pick past i) state
+StateStands setting sub past fed i (Picks choice eligible) (Select state) = HasSelected choice (last_pick past i) state
+StateStands setting sub past fed i (Picks choice eligible) (Turn state) = HasTurned choice (last_pick past i) (choices past i) state
 StateStands setting sub past fed i (Mixes mixing) (Mix mixer) = mixing_of mixer ≡ mixing
 StateStands setting sub past fed i (Fades overlap) (Cross state) = CrossStands (sub i) fed (position past i) overlap state
 StateStands setting sub past fed i (Reads buffer) (Read reader) = reader ≡ (reading_by setting i buffer past fed).reader
@@ -53,7 +65,7 @@ StateStands setting sub past fed i work state = ⊥
 -- the item of a crossfade with this past is settled by so many slots of its child; a reader has begun the next instant
 abbrev pub IsSettled : (sub : ℕ → ℕ → List Slot) → List Moment → (fed i : ℕ) → Work → Type 0
 IsSettled sub past fed i (Plays leaf) = ⊤
-IsSettled sub past fed i (Picks rule eligible) = ⊤
+IsSettled sub past fed i (Picks choice eligible) = ⊤
 IsSettled sub past fed i (Mixes mixing) = ⊤
 IsSettled sub past fed i (Fades overlap) = position past i < length (cross overlap (sub i fed))
 IsSettled sub past fed i (Reads buffer) = fed ≡ suc (length past)
@@ -61,7 +73,7 @@ IsSettled sub past fed i (Reads buffer) = fed ≡ suc (length past)
 -- it is the work of a crossfade whose item with this past asks for more slots than these
 abbrev pub FadesOn : (sub : ℕ → ℕ → List Slot) → List Moment → (fed i : ℕ) → Work → Type 0
 FadesOn sub past fed i (Plays leaf) = ⊥
-FadesOn sub past fed i (Picks rule eligible) = ⊥
+FadesOn sub past fed i (Picks choice eligible) = ⊥
 FadesOn sub past fed i (Mixes mixing) = ⊥
 FadesOn sub past fed i (Fades overlap) = fed < run_of overlap (sub i) (position past i)
 FadesOn sub past fed i (Reads buffer) = ⊥
@@ -74,6 +86,7 @@ pub record AreLong (sub : ℕ → ℕ → List Slot) : Type 0 where
 abbrev pub Fits : Sounds → (children : ℕ) → NodeState → Type 0
 Fits library children (Leaf state) = IsPlacedIn library state
 Fits library children (Select state) = state.children ≡ children
+Fits library children (Turn state) = state.children ≡ children
 Fits library children (Mix mixer) = ⊤
 Fits library children (Cross state) = ⊤
 Fits library children (Read reader) = ⊤
@@ -83,6 +96,7 @@ Fits library children Idle = ⊤
 abbrev pub wants : NodeState → Bool
 wants (Leaf state) = false
 wants (Select state) = false
+wants (Turn state) = false
 wants (Mix mixer) = false
 wants (Cross state) = crossing_wants state
 wants (Read reader) = false
@@ -92,6 +106,7 @@ wants Idle = false
 abbrev pub left : NodeState → ℕ
 left (Leaf state) = 0
 left (Select state) = 0
+left (Turn state) = 0
 left (Mix mixer) = 0
 left (Cross state) = crossing_left state
 left (Read reader) = 0
@@ -100,7 +115,7 @@ left Idle = 0
 -- whether a node's work is to read a buffer
 abbrev pub reads : Work → Bool
 reads (Plays leaf) = false
-reads (Picks rule eligible) = false
+reads (Picks choice eligible) = false
 reads (Mixes mixing) = false
 reads (Fades overlap) = false
 reads (Reads buffer) = true

@@ -62,6 +62,9 @@ impl NodeState {
             NodeState::Select(_) => {
                 copy_picked(children, pick, before_left, before_right, left, right);
             }
+            NodeState::Turn(_) => {
+                copy_picked(children, pick, before_left, before_right, left, right);
+            }
             NodeState::Mix(mixer) => {
                 mixer.run(
                     children,
@@ -80,7 +83,7 @@ impl NodeState {
     }
 }
 
-// Lays the samples of the child that a selection used; nothing where it used none.
+// Lays the samples of the child that a node used; nothing where it used none.
 fn copy_picked(
     children: &[u32],
     pick: Option<u32>,

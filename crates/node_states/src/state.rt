@@ -6,7 +6,7 @@ ghost use Rattle.frame_core.specs.Slots.{Slot as TheSlot};
 ghost use Rattle.op_cross.specs.Runs.{run_of};
 ghost use Rattle.plan_core.specs.Plans.{HasChildren, IsInRange};
 ghost use Rattle.op_select.specs.declared.rule.Rule.{Rule as TheRule};
-ghost use Rattle.stream_meaning.specs.Operators.{Work, Eligible, Fades, Picks, Reads};
+ghost use Rattle.stream_meaning.specs.Operators.{Work, Eligible, Fades, Picks, Reads, Selects};
 ghost use Rattle.segment_laws.specs.Stretches.{AreFed, NodeGoes};
 ghost use Rattle.stream_meaning.specs.Instants.{Setting, Moment, demanded, gives, last_pick, part_at, part_by, position, second_at, work_at};
 ghost use Rattle.node_states.specs.Runs.{LiesAhead};
@@ -14,7 +14,8 @@ ghost use Rattle.node_states.specs.States.{AreLong, FadesOn, Fits, IsSettled, le
 
 use crate::marks::mark_eligible;
 use crate::steps::{
-    gives, item, picked, step_crossfade, step_leaf, step_reader, step_selection, unpicked,
+    gives, item, picked, step_crossfade, step_leaf, step_reader, step_selection, step_turn,
+    unpicked,
 };
 use crate::task::{Task, prefill_of, task_of};
 use fixed_text::WeekSecond;
@@ -25,6 +26,7 @@ use op_cross::CrossState;
 use op_leaf::{LeafState, ReaderState};
 use op_select::SelectState;
 use plan_core::{Node, Plan};
+use random_ops::TurnState;
 use std::alloc::Global;
 use stream_meaning::Part;
 
@@ -36,6 +38,9 @@ pub enum NodeState {
 
     /// A fallback, a switch or a sequence.
     Select(SelectState),
+
+    /// A rotate or a random.
+    Turn(TurnState),
 
     /// A sum, a gain, a mean, a stereo or a clock, which keeps nothing from instant to instant.
     Mix(Mixer),
@@ -66,6 +71,10 @@ impl NodeState {
             Task::Pick(rule) => {
                 let children = node.children.len() as u32;
                 Ok(NodeState::Select(SelectState::new(rule, children)))
+            }
+            Task::Turn(turn) => {
+                let children = node.children.len() as u32;
+                Ok(NodeState::Turn(TurnState::new(turn, children)))
             }
             Task::Mix(mixer) => Ok(NodeState::Mix(mixer)),
             Task::Fade(overlap) => {
@@ -116,7 +125,7 @@ impl NodeState {
     }
 
     /// What the node offers over the slots of its children, at an instant whose second is this, and which child it uses,
-    /// where it selects. `marks` is room for a mark a child; what stands there does not matter.
+    /// where it chooses. `marks` is room for a mark a child; what stands there does not matter.
     pub fn offer(
         &self,
         node: &Node,
@@ -142,6 +151,7 @@ impl NodeState {
                 mark_eligible(&node.op, at, marks);
                 picked(state.offer(slots, marks))
             }
+            NodeState::Turn(state) => picked(state.offer(slots)),
             NodeState::Mix(mixer) => unpicked(mixer.slot(slots)),
             NodeState::Cross(state) => unpicked(item(state)),
             NodeState::Read(state) => unpicked(state.offer()),
@@ -152,7 +162,7 @@ impl NodeState {
     /// The child that a selection used when it last gave.
     pub fn last(&self) -> Option<u32>
         ensures { (setting : Setting) (sub : ℕ → ℕ → List TheSlot) (past : List Moment) (fed i : ℕ) (rule : TheRule) (eligible : Eligible)
-            → StateStands setting sub past fed i (Picks rule eligible) self.now → result ≡ last_pick past i }
+            → StateStands setting sub past fed i (Picks (Selects rule) eligible) self.now → result ≡ last_pick past i }
     {
         match self {
             NodeState::Select(state) => state.last(),
@@ -196,6 +206,7 @@ impl NodeState {
                     most
                 }
             }
+            NodeState::Turn(_) => most,
             NodeState::Mix(_) => most,
             NodeState::Cross(state) => {
                 if part.slot.is_none() {
@@ -226,6 +237,7 @@ impl NodeState {
         match self {
             NodeState::Leaf(state) => step_leaf(state, gave, library),
             NodeState::Select(state) => step_selection(state, gave, part.pick, children),
+            NodeState::Turn(state) => step_turn(state, gave, part, children),
             NodeState::Mix(_) => {}
             NodeState::Cross(state) => step_crossfade(state, gave),
             NodeState::Read(state) => step_reader(state, gave),

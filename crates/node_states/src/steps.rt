@@ -7,6 +7,9 @@ ghost use Rattle.op_leaf.specs.declared.leaf.Leaf.{Leaf};
 ghost use Rattle.op_leaf.specs.Leaves.{leaf_slot};
 ghost use Rattle.op_leaf.specs.Standing.{IsPlacedIn};
 ghost use Rattle.op_leaf.specs.Readers.{after_cell};
+ghost use Rattle.op_select.specs.declared.rule.Picked.{Picked as ThePicked};
+ghost use Rattle.random_ops.specs.declared.turn.Turn.{Turn};
+ghost use Rattle.random_ops.specs.Turns.{Past, past_given, StandsFor as TurnStandsFor};
 ghost use Rattle.stream_meaning.specs.Instants.{picked_part, unpicked};
 ghost use Rattle.node_states.specs.States.{LeafStands};
 
@@ -14,16 +17,17 @@ use frame_core::{Cell, Library};
 use op_cross::CrossState;
 use op_leaf::{LeafState, ReaderState};
 use op_select::{Picked, SelectState};
+use random_ops::TurnState;
 use stream_meaning::Part;
 
-/// The part of a node that does not select.
+/// The part of a node that does not choose.
 pub fn unpicked(slot: Option<Cell>) -> Part
     ensures { result ≡ unpicked slot }
 {
     Part { slot, pick: None }
 }
 
-/// The part of a selection.
+/// The part of a node that chooses.
 pub fn picked(picked: Option<Picked>) -> Part
     ensures { result ≡ picked_part picked }
 {
@@ -83,6 +87,23 @@ pub fn step_selection(state: &mut SelectState, gave: bool, pick: Option<u32>, ch
         && (child as usize) < children
     {
         state.advance(child);
+    }
+}
+
+/// Takes a rotate or a random on by what it gave, where it gave.
+pub fn step_turn(state: &mut TurnState, gave: bool, part: Part, children: usize)
+    requires { state.old.children ≡ children }
+    ensures children { state.new.children ≡ state.old.children }
+    ensures given { (turn : Turn) (past : Past) (pick : ThePicked) → gave ≡ true → part.pick ≡ Some pick.child → part.slot ≡ Some pick.cell
+        → pick.child < children → TurnStandsFor turn past state.old → TurnStandsFor turn (past_given past pick) state.new }
+    ensures stayed { gave ≡ false → state.new ≡ state.old }
+{
+    if gave
+        && let Some(child) = part.pick
+        && (child as usize) < children
+        && let Some(cell) = part.slot
+    {
+        state.give(Picked { child, cell });
     }
 }
 

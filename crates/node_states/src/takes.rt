@@ -26,6 +26,7 @@ impl NodeState {
             }
             NodeState::Leaf(_) => Ok(()),
             NodeState::Select(_) => Ok(()),
+            NodeState::Turn(_) => Ok(()),
             NodeState::Mix(_) => Ok(()),
             NodeState::Cross(_) => Ok(()),
             NodeState::Idle => Ok(()),

@@ -10,12 +10,15 @@ use node_mixing::Mixer;
 use op_leaf::Leaf;
 use op_select::Rule;
 use plan_core::{Node, Op, Plan};
+use random_ops::Turn;
 
-/// What a node does: it plays, picks among its children, mixes them, fades its child's tracks or reads a buffer.
+/// What a node does: it plays, picks among its children by a rule or by turns, mixes them, fades its child's tracks or reads
+/// a buffer.
 #[derive(Clone, Copy, Debug)]
 pub enum Task {
     Play(Leaf),
     Pick(Rule),
+    Turn(Turn),
     Mix(Mixer),
     Fade(u32),
     Read(u32),
@@ -39,6 +42,8 @@ pub fn task_of(node: &Node, i: u32, rate: u32) -> Task
             sensitive: *sensitive,
         }),
         Op::Sequence => Task::Pick(Rule::Turns),
+        Op::Rotate => Task::Turn(Turn::Rotate),
+        Op::Random { seed } => Task::Turn(Turn::Random { seed: *seed }),
         Op::Add { normalize } => Task::Mix(Mixer::Adds {
             normalize: *normalize,
         }),

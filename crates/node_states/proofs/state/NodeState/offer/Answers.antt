@@ -3,7 +3,7 @@ use Rattle.node_states.specs.declared.state.NodeState.{NodeState}
 use Rattle.node_states.specs.States.{StateStands}
 use Rattle.stream_meaning.specs.Instants.{work_at}
 use Rattle.stream_meaning.specs.Operators.{marks_at}
-use Rattle.node_states.proofs.Offered.{cross_part, select_part}
+use Rattle.node_states.proofs.Offered.{cross_part, select_part, turn_part}
 use Rattle.node_states.proofs.state.NodeState.offer.Goals as goal
 
 pub returns-in-Cross : goal.returns-in-Cross
@@ -21,6 +21,14 @@ returns-in-Select c = record {
       c.picked.ensures
       ∙ select_part setting sub past fed i (work_at setting i c.args.node.now) c.args.slots.now c.in-Select.state c.mark_eligible.new.marks c.args.at.second
       c.offer-in-Select.result at (subst (λ (s : NodeState). StateStands setting sub past fed i (work_at setting i c.args.node.now) s) c.in-Select.is stands)
-      (λ rule eligible is. c.mark_eligible.ensures setting.plan.rate i c.args.node.now.kind rule eligible is ∙ ap (marks_at eligible c.args.at.second) many)
+      (λ choice eligible is. c.mark_eligible.ensures setting.plan.rate i c.args.node.now.kind choice eligible is ∙ ap (marks_at eligible c.args.at.second) many)
       c.offer-in-Select.ensures.offered;
+}
+
+pub returns-in-Turn : goal.returns-in-Turn
+returns-in-Turn c = record {
+  part = λ setting sub past fed i same at long stands settled.
+      c.picked-in-Turn.ensures
+      ∙ turn_part setting sub past fed i (work_at setting i c.args.node.now) c.args.slots.now c.in-Turn.state c.offer-in-Turn.result
+      (subst (λ (s : NodeState). StateStands setting sub past fed i (work_at setting i c.args.node.now) s) c.in-Turn.is stands) c.offer-in-Turn.ensures.offered;
 }

@@ -9,7 +9,7 @@ use Rattle.node_mixing.specs.Mixings.{mixing_of}
 use Rattle.node_mixing.specs.Runs.{AreHeard, many_give, offers_in, samples_of}
 use Rattle.node_states.specs.Runs.{fed_on}
 use Rattle.node_states.specs.States.{StateStands, reads}
-use Rattle.node_states.proofs.Ran.{cross_lane, cross_stands, leaf_lane, leaf_stands, mix_lane, mix_stands, none_idle, pick_lane, pick_stands, reader_lane, reader_stands}
+use Rattle.node_states.proofs.Ran.{cross_lane, cross_stands, leaf_lane, leaf_stands, mix_lane, mix_stands, none_idle, pick_lane, pick_stands, reader_lane, reader_stands, turn_lane, turn_stands}
 use Rattle.node_states.proofs.state.NodeState.run.Goals as goal
 
 pub returns-in-Leaf-clause-stands : goal.returns-in-Leaf-clause-stands
@@ -31,10 +31,24 @@ returns-in-Select-clause-stands c = λ setting sub clock past fed i library_is g
 pub returns-in-Select-clause-lane : goal.returns-in-Select-clause-lane
 returns-in-Select-clause-lane c = λ setting sub clock past fed i library_is goes parts pick closed stands before.
     let same : c.as_slice-children.result.now ≡ c.args.node.now.children = search rules in
-    pick_lane setting sub clock past (length c.args.left.now) i fed c.args.node.now goes c.in-Select.field-0 c.args.parts.now c.args.pick c.args.before_left.now c.args.before_right.now c.copy_picked.new.left c.copy_picked.new.right parts pick
+    pick_lane setting sub clock past (length c.args.left.now) i fed c.args.node.now goes c.args.parts.now c.args.pick c.args.before_left.now c.args.before_right.now c.copy_picked.new.left c.copy_picked.new.right parts pick
     (λ place child picks there. c.copy_picked.ensures.left place child picks (ap (λ xs. slice_get xs place) same ∙ there))
-    (λ place child picks there. c.copy_picked.ensures.right place child picks (ap (λ xs. slice_get xs place) same ∙ there)) before (work_at setting i c.args.node.now) refl
+    (λ place child picks there. c.copy_picked.ensures.right place child picks (ap (λ xs. slice_get xs place) same ∙ there)) before c.in-Select.field-0 (work_at setting i c.args.node.now) refl
     (subst (λ (s : NodeState). StateStands setting sub (moment_after setting sub clock past ∷ past) fed i (work_at setting i c.args.node.now) s) c.in-Select.is stands)
+
+pub returns-in-Turn-clause-stands : goal.returns-in-Turn-clause-stands
+returns-in-Turn-clause-stands c = λ setting sub clock past fed i library_is goes closed stands.
+    subst (λ (s : NodeState). StateStands setting sub (going_on setting sub clock (suc (length c.args.left.now)) past) (fed_on (reads (work_at setting i c.args.node.now)) (length c.args.left.now) fed) i (work_at setting i c.args.node.now) s) (sym c.in-Turn.is)
+    (turn_stands setting sub clock past (length c.args.left.now) i fed c.args.node.now goes c.requires.some c.in-Turn.field-0 (work_at setting i c.args.node.now)
+    (subst (λ (s : NodeState). StateStands setting sub (moment_after setting sub clock past ∷ past) fed i (work_at setting i c.args.node.now) s) c.in-Turn.is stands))
+
+pub returns-in-Turn-clause-lane : goal.returns-in-Turn-clause-lane
+returns-in-Turn-clause-lane c = λ setting sub clock past fed i library_is goes parts pick closed stands before.
+    let same : c.as_slice-children.result.now ≡ c.args.node.now.children = search rules in
+    turn_lane setting sub clock past (length c.args.left.now) i fed c.args.node.now goes c.args.parts.now c.args.pick c.args.before_left.now c.args.before_right.now c.copy_picked-in-Turn.new.left c.copy_picked-in-Turn.new.right parts pick
+    (λ place child picks there. c.copy_picked-in-Turn.ensures.left place child picks (ap (λ xs. slice_get xs place) same ∙ there))
+    (λ place child picks there. c.copy_picked-in-Turn.ensures.right place child picks (ap (λ xs. slice_get xs place) same ∙ there)) before c.in-Turn.field-0 (work_at setting i c.args.node.now) refl
+    (subst (λ (s : NodeState). StateStands setting sub (moment_after setting sub clock past ∷ past) fed i (work_at setting i c.args.node.now) s) c.in-Turn.is stands)
 
 pub returns-in-Mix-clause-stands : goal.returns-in-Mix-clause-stands
 returns-in-Mix-clause-stands c = λ setting sub clock past fed i library_is goes closed stands.

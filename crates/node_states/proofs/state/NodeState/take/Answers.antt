@@ -25,6 +25,10 @@ pub returns-in-Select-clause-took : goal.returns-in-Select-clause-took
 returns-in-Select-clause-took g c = begun_other g.T.Taps.stands c.args.buffer _ c.args.taps.now
     (λ setting sub past fed i buffer at. subst (λ (s : NodeState). StateStands setting sub past fed i (Reads buffer) s) c.in-Select.is at)
 
+pub returns-in-Turn-clause-took : goal.returns-in-Turn-clause-took
+returns-in-Turn-clause-took g c = begun_other g.T.Taps.stands c.args.buffer _ c.args.taps.now
+    (λ setting sub past fed i buffer at. subst (λ (s : NodeState). StateStands setting sub past fed i (Reads buffer) s) c.in-Turn.is at)
+
 pub returns-in-Mix-clause-took : goal.returns-in-Mix-clause-took
 returns-in-Mix-clause-took g c = begun_other g.T.Taps.stands c.args.buffer _ c.args.taps.now
     (λ setting sub past fed i buffer at. subst (λ (s : NodeState). StateStands setting sub past fed i (Reads buffer) s) c.in-Mix.is at)
