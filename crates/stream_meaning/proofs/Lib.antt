@@ -9,6 +9,7 @@ pub mod Choosing
 pub mod Crossed
 pub mod Offering
 pub mod Unfailing
+pub mod Turning
 mod Plans
 mod Rows
 mod CallRows

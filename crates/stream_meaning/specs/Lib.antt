@@ -1,6 +1,7 @@
 pub mod Arithmetic
 pub mod Operators
 pub mod Instants
+pub mod Choices
 pub mod Sinks
 pub mod Calls
 pub mod Settings

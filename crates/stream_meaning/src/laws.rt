@@ -1,13 +1,18 @@
 // Laws of the meaning. Each is a contract of a function that does nothing.
-ghost use Rattle.std.specs.Prelude.{◌≡◌, ℕ, ◌<◌, ◌++◌, Bool, List, [], true, IsSome, length, slice_get};
+ghost use Rattle.std.specs.Prelude.{◌≡◌, ℕ, ◌<◌, ◌++◌, Bool, List, [], Some, true, IsSome, length, slice_get};
 ghost use Rattle.clock_infer.specs.declared.clock_map.ClockMap.{ClockMap as Map};
 ghost use Rattle.clock_infer.specs.declared.clock_map.NodeClock.{NodeClock as Clock};
 ghost use Rattle.clock_infer.specs.declared.clock_map.NodeClock.TheVariants.{Sub as InSub};
-ghost use Rattle.plan_core.specs.Plans.{IsWellFormed};
+ghost use Rattle.plan_core.specs.Plans.{AreNodes, IsWellFormed};
+ghost use Rattle.plan_core.specs.declared.node.Node.{Node as TheNode};
 ghost use Rattle.plan_core.specs.declared.plan.Plan.{Plan as ThePlan};
 ghost use Rattle.fallible_infer.specs.Infallible.{IsMarking};
 ghost use Rattle.frame_core.specs.Slots.{Slot as TheSlot};
-ghost use Rattle.stream_meaning.specs.Instants.{Setting, Moment, IsMeaning, sub_of, stream_of, history, lies_in};
+ghost use Rattle.random_ops.specs.declared.turn.Turn.{Turn as TheTurn};
+ghost use Rattle.random_ops.specs.Turns.{past_of};
+ghost use Rattle.stream_meaning.specs.Choices.{gave_over, turned};
+ghost use Rattle.stream_meaning.specs.Operators.{Eligible, Picks, TakesTurns};
+ghost use Rattle.stream_meaning.specs.Instants.{Setting, Moment, IsMeaning, clock_of, sub_of, stream_of, history, lies_in, work_at};
 ghost use Rattle.stream_meaning.specs.Calls.{calls_of, calls_of_tick, fades_in, joined_upto, takes_at};
 ghost use Rattle.stream_meaning.specs.Settings.{IsSetting, HasNoBuffers};
 ghost use Rattle.stream_meaning.specs.Sinks.{gaps};
@@ -26,6 +31,14 @@ pub fn infallible_nodes_offer()
     ensures gaps { (setting : Setting) (clocks : Map) (mark : ℕ → Bool) (i ticks : ℕ) → IsSetting setting clocks
         → IsMarking setting.plan.nodes mark → i < length setting.plan.nodes → mark i ≡ true
         → gaps setting i ticks ≡ 0 }
+{}
+
+/// What a rotate or a random goes by at an instant is the past behind the instants at which it gave: the child that it used
+/// last, and the number of its choices.
+pub fn turns_go_by_choices()
+    ensures { (setting : Setting) (sub : ℕ → ℕ → List TheSlot) (i n : ℕ) (node : TheNode) (turn : TheTurn) (eligible : Eligible)
+        → AreNodes setting.plan.nodes → slice_get setting.plan.nodes i ≡ Some node → work_at setting i node ≡ Picks (TakesTurns turn) eligible
+        → turned (history setting sub (clock_of setting i) n) i ≡ past_of turn (gave_over (history setting sub (clock_of setting i) n) i node.children) }
 {}
 
 /// The calls of an instant are the takes of its clock's readers, and then those of the instants that its sub-clocks make.

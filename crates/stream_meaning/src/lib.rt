@@ -6,6 +6,8 @@ mod laws;
 mod part;
 mod slots;
 
-pub use laws::{calls_go_by_sub_clocks, infallible_nodes_offer, sub_clocks_have_slots};
+pub use laws::{
+    calls_go_by_sub_clocks, infallible_nodes_offer, sub_clocks_have_slots, turns_go_by_choices,
+};
 pub use part::Part;
 pub use slots::slot_of;

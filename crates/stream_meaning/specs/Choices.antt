@@ -1,0 +1,14 @@
+-- What lies behind a rotate or a random at an instant, by the instants at which it gave.
+use Rattle.std.specs.Prelude.{List, [], ◌∷◌, ℕ, if◌then◌else◌}
+use Rattle.frame_core.specs.Slots.{Slot}
+use Rattle.random_ops.specs.Turns.{Past}
+use Rattle.stream_meaning.specs.Instants.{Moment, choices, gives, last_pick, slots_at}
+
+-- what these children offered at those of these instants at which node i gave, the latest first
+abbrev pub gave_over : List Moment → (i : ℕ) → (children : List ℕ) → List (List Slot)
+gave_over [] i children = []
+gave_over (moment ∷ past) i children = if gives moment i then slots_at moment.parts children ∷ gave_over past i children else gave_over past i children
+
+-- what node i goes by behind these instants
+abbrev pub turned : List Moment → ℕ → Past
+turned past i = record { last = last_pick past i; choices = choices past i }
