@@ -152,7 +152,7 @@ def example_differs(program, call, script, report, samples):
 
 
 # How the page of builtins writes the types of the table.
-TYPE_WORDS = {"Text": "text", "Bool": "bool", "Decimal": "decimal", "Format": "a format", "Anything": "of any type", "Source": "source",
+TYPE_WORDS = {"Int": "int", "Text": "text", "Bool": "bool", "Decimal": "decimal", "Format": "a format", "Anything": "of any type", "Source": "source",
               "MonoSource": "source, mono", "StereoSource": "source, stereo", "Sources": "list of sources", "Pairs": "list of (predicate, source)"}
 
 

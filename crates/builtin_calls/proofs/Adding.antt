@@ -12,7 +12,7 @@ use Rattle.plan_core.specs.declared.node.Op.{Op}
 use Rattle.plan_core.specs.declared.sink.SinkPlan.{SinkPlan}
 use Rattle.plan_core.specs.declared.sink.SinkPlan.TheVariants.{Output, Feed}
 use Rattle.plan_core.specs.declared.sink.BufferPlan.{BufferPlan}
-use Rattle.plan_core.specs.Plans.{HasChildren, HasKind, IsInRange, IsNoReader, IsBuffer, IsWellFormed, crossfades_from, with_node, with_output, with_buffer, reader_of}
+use Rattle.plan_core.specs.Plans.{HasChildren, HasKind, IsInRange, IsNoReader, IsBuffer, IsWellFormed, crossfades_from, with_node, with_output, with_buffer, reader_of, is_output}
 use Rattle.plan_core.proofs.Grown.{node_keeps, output_keeps, buffer_keeps}
 use Rattle.plan_core.proofs.Lists.{some_same}
 use Rattle.script_values.specs.declared.fault.Fault.{Fault}
@@ -22,7 +22,7 @@ use Rattle.script_values.specs.declared.fault.Limit.TheVariants.{Crossfades, Out
 use Rattle.script_values.specs.declared.machine.Machine.{Machine}
 use Rattle.script_values.specs.Values.{Value, Source, Nothing}
 use Rattle.builtin_calls.specs.Nodes.{at_most, few, push, add, add_buffer}
-use Rattle.builtin_calls.specs.Sinks.{is_output, is_named, add_output}
+use Rattle.builtin_calls.specs.Sinks.{is_named, add_output}
 use Rattle.builtin_calls.specs.Builtins.{node}
 use Rattle.builtin_calls.specs.Sound.{IsSound, Keeps}
 use Rattle.builtin_calls.proofs.Reading.{after, ok_is, IsSource}

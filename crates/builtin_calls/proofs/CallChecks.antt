@@ -1,22 +1,24 @@
 -- Worked rows on the definitions, by computation.
-use Rattle.std.proofs.Common.{◌≡◌, ℕ, zero, suc, List, [], ◌∷◌, ◌++◌, pos, true, false, Some, None, Ok, Err, refl}
+use Rattle.std.proofs.Common.{◌≡◌, ℕ, zero, suc, List, [], ◌∷◌, ◌++◌, pos, negsuc, true, false, Some, None, Ok, Err, refl}
 use Rattle.std.specs.Prelude.{codes, replicate}
 use Rattle.liq_base.specs.declared.memory.Kind.TheVariants.{Mono, Stereo}
 use Rattle.plan_core.specs.declared.node.Node.{Node}
 use Rattle.plan_core.specs.declared.node.Op.TheVariants as op
 use Rattle.plan_core.specs.declared.sink.SinkPlan.TheVariants.{Output}
+use Rattle.typing_rules.specs.declared.uses.Builtin.TheVariants as builtins
 use Rattle.script_values.specs.declared.fault.Fault.TheVariants.{BadSetting, BadValue, SameOutput, TooLarge, Stuck}
 use Rattle.script_values.specs.declared.fault.Limit.TheVariants.{Children, Crossfades, Overlap, Outputs}
 use Rattle.script_values.specs.declared.machine.Machine.{Machine}
 use Rattle.script_values.specs.Machines.{some_millionths, first_machine}
 use Rattle.script_values.specs.Slots.{Given}
-use Rattle.script_values.specs.Values.{Value, Int, Number, Text, Nothing, Source}
-use Rattle.builtin_calls.specs.Nodes.{few}
-use Rattle.builtin_calls.specs.Parts.{text_of, decimal_of, source_of, plain, plain_text, plain_decimal, plain_source, bool_or, text_or, decimal_or}
+use Rattle.script_values.specs.Values.{Value, Int, Number, Text, Nothing, Source, Listed, none, more}
+use Rattle.plan_core.specs.Plans.{with_node}
+use Rattle.builtin_calls.specs.Nodes.{few, push, add}
+use Rattle.builtin_calls.specs.Parts.{int_of, text_of, decimal_of, source_of, sources_of, nodes_from, plain, plain_text, plain_decimal, plain_source, plain_sources, bool_or, int_or, text_or, decimal_or}
 use Rattle.builtin_calls.specs.Settings.{rate_of, set_rate, set_duration, setting}
 use Rattle.builtin_calls.specs.Sinks.{add_output}
 use Rattle.builtin_calls.specs.Times.{overlap_of, track_of, pitch_of, samples_of}
-use Rattle.builtin_calls.specs.Builtins.{node, blank, square, playlist, crossfade, short_overlap, buffer_plan}
+use Rattle.builtin_calls.specs.Builtins.{node, blank, square, playlist, random, over_sources, few_sources, builtin, crossfade, short_overlap, buffer_plan}
 
 -- 8000 samples a second
 abbrev slow : Machine
@@ -105,6 +107,29 @@ small_buffer = refl
 least_buffer : buffer_plan 7 (some_millionths 0 tt) (some_millionths 0 tt) slow.plan ≡ Ok (record { pre = 0; capacity = 1 })
 unfolding buffer_plan samples_of
 least_buffer = refl
+
+-- `[s]`, where s is the blank
+abbrev blanks : Given
+blanks = (None, Listed (more (Source 0) none))
+
+-- a seed below zero is bad
+negative_seed : random 7 (Mono ∷ []) (labelled (codes "seed") (Int (negsuc 0)) ∷ blanks ∷ []) (under 0) ≡ Err (BadValue 7)
+unfolding random int_or int_of plain_sources plain sources_of nodes_from source_of
+negative_seed = refl
+
+-- the seed is that of the argument, and 0 where none is given
+a_seed : random 7 (Mono ∷ []) (blanks ∷ labelled (codes "seed") (Int (pos 12)) ∷ []) (under 0) ≡ Ok (Source 1, record (under 0) { plan = with_node (under 0).plan (node (op.Random 12) Mono (0 ∷ [])) })
+unfolding random int_or int_of plain_sources plain sources_of nodes_from source_of add push
+a_seed = refl
+
+no_seed : random 7 (Mono ∷ []) (blanks ∷ []) (under 0) ≡ Ok (Source 1, record (under 0) { plan = with_node (under 0).plan (node (op.Random 0) Mono (0 ∷ [])) })
+unfolding random int_or plain_sources plain sources_of nodes_from source_of add push
+no_seed = refl
+
+-- `rotate` is no `sequence`
+by_turns : builtin builtins.Rotate 7 (Mono ∷ []) (blanks ∷ []) (under 0) ≡ Ok (Source 1, record (under 0) { plan = with_node (under 0).plan (node op.Rotate Mono (0 ∷ [])) })
+unfolding builtin over_sources few_sources plain_sources plain sources_of nodes_from source_of add push
+by_turns = refl
 
 many_children : few (replicate 65536 0) ≡ Err (TooLarge Children)
 many_children = refl

@@ -7,12 +7,13 @@ use Rattle.liq_base.specs.declared.memory.Kind.{Kind}
 use Rattle.liq_base.specs.declared.memory.Kind.TheVariants.{Mono, Stereo as Both}
 use Rattle.fixed_text.specs.declared.decimal.Decimal.{Decimal}
 use Rattle.fixed_text.specs.Texts.{samples_in}
+use Rattle.plan_core.specs.declared.node.Op.{Op}
 use Rattle.plan_core.specs.declared.node.Op.TheVariants as op
 use Rattle.plan_core.specs.declared.plan.Plan.{Plan}
 use Rattle.plan_core.specs.declared.sink.BufferPlan.{BufferPlan}
 use Rattle.time_pred.specs.Predicates.{Predicate}
 use Rattle.plan_core.specs.declared.node.Node.{Node}
-use Rattle.plan_core.specs.Plans.{IsBuffer, IsWellFormed}
+use Rattle.plan_core.specs.Plans.{HasChildren, HasKind, IsInRange, IsNoReader, IsBuffer, IsWellFormed, is_output}
 use Rattle.plan_core.proofs.Grown.{empty_keeps}
 use Rattle.typing_rules.specs.declared.uses.Builtin.{Builtin}
 use Rattle.typing_rules.specs.declared.uses.Builtin.TheVariants as builtins
@@ -24,12 +25,12 @@ use Rattle.script_values.specs.Machines.{some_millionths, first_machine, count}
 use Rattle.script_values.specs.Outcomes.{◌>>=◌}
 use Rattle.script_values.specs.Slots.{Given}
 use Rattle.script_values.specs.Values.{Value, Int, Number, Text, Truth, Nothing, Format, Pred, Source, Listed, Tuple}
-use Rattle.builtin_calls.specs.Parts.{one_kind, plain, plain_text, plain_decimal, plain_format, plain_source, plain_sources, plain_pairs, bool_or, text_or, decimal_or}
+use Rattle.builtin_calls.specs.Parts.{one_kind, plain, plain_text, plain_decimal, plain_format, plain_source, plain_sources, plain_pairs, bool_or, int_or, text_or, decimal_or}
 use Rattle.builtin_calls.specs.Nodes.{at_most, few, crossfades_with, add, push, add_buffer}
 use Rattle.builtin_calls.specs.Times.{some_samples, overlap_of, track_of, samples_of, pitch_of, chunks}
-use Rattle.builtin_calls.specs.Sinks.{add_output, is_output}
+use Rattle.builtin_calls.specs.Sinks.{add_output}
 use Rattle.builtin_calls.specs.Settings.{opened, rate_of, duration_of, set_rate, set_duration, setting}
-use Rattle.builtin_calls.specs.Builtins.{node, is_normal, builtin, sensitive_or, few_sources, few_pairs, buffer_plan, short_overlap, safe, output_file, set, single, playlist, blank, square, fail, fallback, switch, sequence, sum, amplify, mean, stereo, crossfade, mksafe, buffer, clock}
+use Rattle.builtin_calls.specs.Builtins.{node, is_normal, builtin, sensitive_or, few_sources, few_pairs, over_sources, seed_of, buffer_plan, short_overlap, safe, output_file, set, single, playlist, blank, square, fail, fallback, switch, random, sum, amplify, mean, stereo, crossfade, mksafe, buffer, clock}
 use Rattle.builtin_calls.specs.Sound.{IsSound, Keeps}
 use Rattle.builtin_calls.proofs.Reading.{after, ok_is, IsSource, ArePairs, a_source, some_sources, some_pairs}
 use Rattle.builtin_calls.proofs.Adding.{keeps_itself, then_keeps, within, few_are, leaf_over, one_over, two_over, list_over, pushed, added, pushed_source, kept_source, buffered, put_output}
@@ -266,17 +267,23 @@ fail_keeps kinds m x is =
     let k = step0.0 in
     added (node (op.Fail) k []) m x step0.2 (leaf_over m.plan.nodes (op.Fail) k refl refl tt) (λ b e. cc)
 
+-- a node of an operator that takes any number of sources of its own kind, over a list of sources
+over_sources_keep : (o : Op) → ((n : ℕ) → HasChildren o n) → ((k : Kind) → HasKind o k k) → IsInRange o → IsNoReader o
+    → (kinds : List Kind) (given : List Given) (m : Machine) (x : Value × Machine) → over_sources o kinds given m ≡ Ok x → Keeps m x.1
+unfolding over_sources
+over_sources_keep o number kind range reader kinds given m x is =
+    let step0 = after (one_kind kinds) (λ k. few_sources m.plan.nodes k given >>= λ children. add (node o k children) m) x is in
+    let k = step0.0 in
+    let step1 = after (few_sources m.plan.nodes k given) (λ children. add (node o k children) m) x step0.2 in
+    let children = step1.0 in
+    let are = few_sources_are m.plan.nodes k given children step1.1 in
+    added (node o k children) m x step1.2 (list_over m.plan.nodes o k k children are.0 are.1 (number (length children)) (kind k) range) reader
+
 fallback_keeps : (kinds : List Kind) (given : List Given) (m : Machine) (x : Value × Machine) → fallback kinds given m ≡ Ok x → Keeps m x.1
 unfolding fallback
 fallback_keeps kinds given m x is =
-    let step0 = after (sensitive_or given) (λ sensitive. one_kind kinds >>= λ k. few_sources m.plan.nodes k sensitive.1 >>= λ children. add (node (op.Fallback sensitive.0) k children) m) x is in
-    let sensitive = step0.0 in
-    let step1 = after (one_kind kinds) (λ k. few_sources m.plan.nodes k sensitive.1 >>= λ children. add (node (op.Fallback sensitive.0) k children) m) x step0.2 in
-    let k = step1.0 in
-    let step2 = after (few_sources m.plan.nodes k sensitive.1) (λ children. add (node (op.Fallback sensitive.0) k children) m) x step1.2 in
-    let children = step2.0 in
-    let are = few_sources_are m.plan.nodes k sensitive.1 children step2.1 in
-    added (node (op.Fallback sensitive.0) k children) m x step2.2 (list_over m.plan.nodes (op.Fallback sensitive.0) k k children are.0 are.1 tt refl tt) (λ b e. cc)
+    let step = after (sensitive_or given) (λ sensitive. over_sources (op.Fallback sensitive.0) kinds sensitive.1 m) x is in
+    over_sources_keep (op.Fallback step.0.0) (λ n. tt) (λ k. refl) tt (λ b e. cc) kinds step.0.1 m x step.2
 
 switch_keeps : (kinds : List Kind) (given : List Given) (m : Machine) (x : Value × Machine) → switch kinds given m ≡ Ok x → Keeps m x.1
 unfolding switch
@@ -290,27 +297,28 @@ switch_keeps kinds given m x is =
     let are = few_pairs_are m.plan.nodes k sensitive.1 pairs step2.1 in
     added (node (op.Switch sensitive.0 pairs.0) k pairs.1) m x step2.2 (list_over m.plan.nodes (op.Switch sensitive.0 pairs.0) k k pairs.1 are.0.sources are.1 are.0.many refl tt) (λ b e. cc)
 
-sequence_keeps : (kinds : List Kind) (given : List Given) (m : Machine) (x : Value × Machine) → sequence kinds given m ≡ Ok x → Keeps m x.1
-unfolding sequence
-sequence_keeps kinds given m x is =
-    let step0 = after (one_kind kinds) (λ k. few_sources m.plan.nodes k given >>= λ children. add (node op.Sequence k children) m) x is in
-    let k = step0.0 in
-    let step1 = after (few_sources m.plan.nodes k given) (λ children. add (node op.Sequence k children) m) x step0.2 in
-    let children = step1.0 in
-    let are = few_sources_are m.plan.nodes k given children step1.1 in
-    added (node (op.Sequence) k children) m x step1.2 (list_over m.plan.nodes (op.Sequence) k k children are.0 are.1 tt refl tt) (λ b e. cc)
+random_keeps : (at : ℕ) (kinds : List Kind) (given : List Given) (m : Machine) (x : Value × Machine) → random at kinds given m ≡ Ok x → Keeps m x.1
+unfolding random
+random_keeps at kinds given m x is =
+    let step0 = after (int_or (codes "seed") (pos 0) given) (λ number. one_kind kinds >>= λ k. plain_sources m.plan.nodes k number.1 >>= λ sources. seed_of at number.0 >>= λ seed. few sources.0 >>= λ children. add (node (op.Random seed) k children) m) x is in
+    let number = step0.0 in
+    let step1 = after (one_kind kinds) (λ k. plain_sources m.plan.nodes k number.1 >>= λ sources. seed_of at number.0 >>= λ seed. few sources.0 >>= λ children. add (node (op.Random seed) k children) m) x step0.2 in
+    let k = step1.0 in
+    let step2 = after (plain_sources m.plan.nodes k number.1) (λ sources. seed_of at number.0 >>= λ seed. few sources.0 >>= λ children. add (node (op.Random seed) k children) m) x step1.2 in
+    let sources = step2.0 in
+    let step3 = after (seed_of at number.0) (λ seed. few sources.0 >>= λ children. add (node (op.Random seed) k children) m) x step2.2 in
+    let seed = step3.0 in
+    let step4 = after (few sources.0) (λ children. add (node (op.Random seed) k children) m) x step3.2 in
+    let children = step4.0 in
+    let short = few_are sources.0 children step4.1 in
+    let are = subst (All (IsSource m.plan.nodes k)) short.0 (some_sources m.plan.nodes k number.1 sources step2.1) in
+    added (node (op.Random seed) k children) m x step4.2 (list_over m.plan.nodes (op.Random seed) k k children are short.1 tt refl tt) (λ b e. cc)
 
 sum_keeps : (kinds : List Kind) (given : List Given) (m : Machine) (x : Value × Machine) → sum kinds given m ≡ Ok x → Keeps m x.1
 unfolding sum
 sum_keeps kinds given m x is =
-    let step0 = after (bool_or (codes "normalize") true given) (λ normalize. one_kind kinds >>= λ k. few_sources m.plan.nodes k normalize.1 >>= λ children. add (node (op.Add normalize.0) k children) m) x is in
-    let normalize = step0.0 in
-    let step1 = after (one_kind kinds) (λ k. few_sources m.plan.nodes k normalize.1 >>= λ children. add (node (op.Add normalize.0) k children) m) x step0.2 in
-    let k = step1.0 in
-    let step2 = after (few_sources m.plan.nodes k normalize.1) (λ children. add (node (op.Add normalize.0) k children) m) x step1.2 in
-    let children = step2.0 in
-    let are = few_sources_are m.plan.nodes k normalize.1 children step2.1 in
-    added (node (op.Add normalize.0) k children) m x step2.2 (list_over m.plan.nodes (op.Add normalize.0) k k children are.0 are.1 tt refl tt) (λ b e. cc)
+    let step = after (bool_or (codes "normalize") true given) (λ normalize. over_sources (op.Add normalize.0) kinds normalize.1 m) x is in
+    over_sources_keep (op.Add step.0.0) (λ n. tt) (λ k. refl) tt (λ b e. cc) kinds step.0.1 m x step.2
 
 amplify_keeps : (kinds : List Kind) (given : List Given) (m : Machine) (x : Value × Machine) → amplify kinds given m ≡ Ok x → Keeps m x.1
 unfolding amplify
@@ -454,7 +462,9 @@ call_keeps builtins.Square at kinds given m x is = square_keeps at kinds given m
 call_keeps builtins.Fail at kinds given m x is = fail_keeps kinds m x is
 call_keeps builtins.Fallback at kinds given m x is = fallback_keeps kinds given m x is
 call_keeps builtins.Switch at kinds given m x is = switch_keeps kinds given m x is
-call_keeps builtins.Sequence at kinds given m x is = sequence_keeps kinds given m x is
+call_keeps builtins.Sequence at kinds given m x is = over_sources_keep op.Sequence (λ n. tt) (λ k. refl) tt (λ b e. cc) kinds given m x is
+call_keeps builtins.Rotate at kinds given m x is = over_sources_keep op.Rotate (λ n. tt) (λ k. refl) tt (λ b e. cc) kinds given m x is
+call_keeps builtins.Random at kinds given m x is = random_keeps at kinds given m x is
 call_keeps builtins.Add at kinds given m x is = sum_keeps kinds given m x is
 call_keeps builtins.Amplify at kinds given m x is = amplify_keeps kinds given m x is
 call_keeps builtins.Mean at kinds given m x is = mean_keeps given m x is

@@ -1,6 +1,6 @@
 -- The builtin calls: values out of the arguments, then bad values, then limits in their order, then what is added.
 -- `at` is the token of the call's name, and `kinds` are its open kinds.
-use Rattle.std.specs.Prelude.{ℕ, List, [], ◌∷◌, Bool, true, false, bytes_eq, codes, Result, Ok, Err}
+use Rattle.std.specs.Prelude.{ℕ, ℤ, pos, int_lt, unsigned_abs, List, [], ◌∷◌, Bool, true, false, bytes_eq, codes, Result, Ok, Err}
 use Rattle.liq_base.specs.declared.limits.TheConstants.{MAX_OVERLAP, MAX_PREFILL, MAX_CAPACITY, MAX_CROSSFADES}
 use Rattle.liq_base.specs.declared.memory.Kind.{Kind}
 use Rattle.liq_base.specs.declared.memory.Kind.TheVariants.{Mono, Stereo as Both}
@@ -20,7 +20,7 @@ use Rattle.script_values.specs.declared.machine.Machine.{Machine}
 use Rattle.script_values.specs.Machines.{some_millionths}
 use Rattle.script_values.specs.Outcomes.{◌>>=◌, Outcome}
 use Rattle.script_values.specs.Slots.{Given}
-use Rattle.builtin_calls.specs.Parts.{one_kind, plain, plain_text, plain_decimal, plain_format, plain_source, plain_sources, plain_pairs, bool_or, text_or, decimal_or}
+use Rattle.builtin_calls.specs.Parts.{one_kind, plain, plain_text, plain_decimal, plain_format, plain_source, plain_sources, plain_pairs, bool_or, int_or, text_or, decimal_or}
 use Rattle.builtin_calls.specs.Nodes.{at_most, few, crossfades_with, add, push, add_buffer}
 use Rattle.builtin_calls.specs.Times.{overlap_of, track_of, samples_of, pitch_of, chunks}
 use Rattle.builtin_calls.specs.Sinks.{add_output}
@@ -111,13 +111,18 @@ few_pairs nodes k given = do
 unfoldable pub sensitive_or : List Given → Result (Bool × List Given) Fault
 sensitive_or given = bool_or (codes "track_sensitive") true given
 
+-- a node of this operator over a list of sources
+unfoldable pub over_sources : Op → List Kind → List Given → Machine → Outcome
+over_sources o kinds given m = do
+  k ← one_kind kinds
+  children ← few_sources m.plan.nodes k given
+  add (node o k children) m
+
 -- fallback(track_sensitive=true, sources)
 unfoldable pub fallback : List Kind → List Given → Machine → Outcome
 fallback kinds given m = do
   sensitive ← sensitive_or given
-  k ← one_kind kinds
-  children ← few_sources m.plan.nodes k sensitive.1
-  add (node (op.Fallback sensitive.0) k children) m
+  over_sources (op.Fallback sensitive.0) kinds sensitive.1 m
 
 -- switch(track_sensitive=true, pairs)
 unfoldable pub switch : List Kind → List Given → Machine → Outcome
@@ -127,20 +132,29 @@ switch kinds given m = do
   pairs ← few_pairs m.plan.nodes k sensitive.1
   add (node (op.Switch sensitive.0 pairs.0) k pairs.1) m
 
--- sequence(sources)
-unfoldable pub sequence : List Kind → List Given → Machine → Outcome
-sequence kinds given m = do
+-- a seed, which is not below zero
+abbrev pub seed_of : ℕ → ℤ → Result ℕ Fault
+seed_of at n =
+    elim (int_lt n (pos 0)) [
+      | true ↦ Err (BadValue at)
+      | false ↦ Ok (unsigned_abs n)
+    ]
+
+-- random(seed=0, sources)
+unfoldable pub random : ℕ → List Kind → List Given → Machine → Outcome
+random at kinds given m = do
+  number ← int_or (codes "seed") (pos 0) given
   k ← one_kind kinds
-  children ← few_sources m.plan.nodes k given
-  add (node op.Sequence k children) m
+  sources ← plain_sources m.plan.nodes k number.1
+  seed ← seed_of at number.0
+  children ← few sources.0
+  add (node (op.Random seed) k children) m
 
 -- add(normalize=true, sources)
 unfoldable pub sum : List Kind → List Given → Machine → Outcome
 sum kinds given m = do
   normalize ← bool_or (codes "normalize") true given
-  k ← one_kind kinds
-  children ← few_sources m.plan.nodes k normalize.1
-  add (node (op.Add normalize.0) k children) m
+  over_sources (op.Add normalize.0) kinds normalize.1 m
 
 -- amplify(k, s)
 unfoldable pub amplify : List Kind → List Given → Machine → Outcome
@@ -228,7 +242,9 @@ builtin builtins.Square at kinds given m = square at kinds given m
 builtin builtins.Fail at kinds given m = fail kinds m
 builtin builtins.Fallback at kinds given m = fallback kinds given m
 builtin builtins.Switch at kinds given m = switch kinds given m
-builtin builtins.Sequence at kinds given m = sequence kinds given m
+builtin builtins.Sequence at kinds given m = over_sources op.Sequence kinds given m
+builtin builtins.Rotate at kinds given m = over_sources op.Rotate kinds given m
+builtin builtins.Random at kinds given m = random at kinds given m
 builtin builtins.Add at kinds given m = sum kinds given m
 builtin builtins.Amplify at kinds given m = amplify kinds given m
 builtin builtins.Mean at kinds given m = mean given m

@@ -1,5 +1,5 @@
 -- The values that a call's arguments give its parameters. A value of another type is stuck: typing refuses it.
-use Rattle.std.specs.Prelude.{ℕ, List, [], ◌∷◌, ◌++◌, Option, Some, None, Bool, true, false, slice_get, Result, Ok, Err}
+use Rattle.std.specs.Prelude.{ℕ, ℤ, List, [], ◌∷◌, ◌++◌, Option, Some, None, Bool, true, false, slice_get, Result, Ok, Err}
 use Rattle.liq_base.specs.declared.memory.Kind.{Kind}
 use Rattle.liq_base.specs.declared.memory.Kind.TheVariants.{Mono, Stereo}
 use Rattle.fixed_text.specs.declared.decimal.Decimal.{Decimal}
@@ -10,7 +10,7 @@ use Rattle.script_values.specs.declared.fault.Fault.{Fault}
 use Rattle.script_values.specs.declared.fault.Fault.TheVariants.{Stuck}
 use Rattle.script_values.specs.Outcomes.{◌>>=◌}
 use Rattle.script_values.specs.Slots.{Given}
-use Rattle.script_values.specs.Values.{Tree, Many, none, more, Value, Number, Text, Truth, Format, Pred, Source, Listed, Tuple}
+use Rattle.script_values.specs.Values.{Tree, Many, none, more, Value, Int, Number, Text, Truth, Format, Pred, Source, Listed, Tuple}
 
 -- the kind of a call with one open kind
 abbrev pub one_kind : List Kind → Result Kind Fault
@@ -25,6 +25,10 @@ text_of v = Err Stuck
 unfoldable pub decimal_of : Value → Result Decimal Fault
 decimal_of (Number d) = Ok d
 decimal_of v = Err Stuck
+
+unfoldable pub int_of : Value → Result ℤ Fault
+int_of (Int n) = Ok n
+int_of v = Err Stuck
 
 unfoldable pub bool_of : Value → Result Bool Fault
 bool_of (Truth b) = Ok b
@@ -140,6 +144,9 @@ bool_or label default given = or_default bool_of default given (argument (Some l
 
 unfoldable pub decimal_or : List ℕ → Decimal → List Given → Result (Decimal × List Given) Fault
 decimal_or label default given = or_default decimal_of default given (argument (Some label) given)
+
+unfoldable pub int_or : List ℕ → ℤ → List Given → Result (ℤ × List Given) Fault
+int_or label default given = or_default int_of default given (argument (Some label) given)
 
 unfoldable pub text_or : List ℕ → List ℕ → List Given → Result (List ℕ × List Given) Fault
 text_or label default given = or_default text_of default given (argument (Some label) given)

@@ -4,16 +4,12 @@ use Rattle.std.specs.List.{list_any}
 use Rattle.liq_base.specs.declared.limits.TheConstants.{MAX_OUTPUTS}
 use Rattle.plan_core.specs.declared.sink.SinkPlan.{SinkPlan}
 use Rattle.plan_core.specs.declared.sink.SinkPlan.TheVariants.{Output, Feed}
-use Rattle.plan_core.specs.Plans.{with_output}
+use Rattle.plan_core.specs.Plans.{is_output, with_output}
 use Rattle.script_values.specs.declared.fault.Fault.TheVariants.{SameOutput, TooLarge}
 use Rattle.script_values.specs.declared.fault.Limit.TheVariants.{Outputs}
 use Rattle.script_values.specs.declared.machine.Machine.{Machine}
 use Rattle.script_values.specs.Outcomes.{Outcome}
 use Rattle.script_values.specs.Values.{Nothing}
-
-abbrev pub is_output : SinkPlan → Bool
-is_output (Output name node fallible) = true
-is_output (Feed buffer node) = false
 
 abbrev pub is_named : List ℕ → SinkPlan → Bool
 is_named name (Output other node fallible) = bytes_eq name other

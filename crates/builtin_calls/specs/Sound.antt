@@ -2,9 +2,8 @@
 use Rattle.std.specs.Prelude.{◌≡◌, ℕ, ◌+◌, ◌≤◌, length, slice_get, Some, count_by}
 use Rattle.liq_base.specs.declared.limits.TheConstants.{MAX_OUTPUTS}
 use Rattle.plan_core.specs.declared.node.Node.{Node}
-use Rattle.plan_core.specs.Plans.{IsWellFormed}
+use Rattle.plan_core.specs.Plans.{IsWellFormed, is_output}
 use Rattle.script_values.specs.declared.machine.Machine.{Machine}
-use Rattle.builtin_calls.specs.Sinks.{is_output}
 
 -- The plan is well formed, and its sinks are at most 64 outputs and one feed for each node.
 pub record IsSound (m : Machine) : Type 0 where

@@ -5,12 +5,13 @@ ghost use Rattle.script_values.specs.View.{view_value};
 ghost use Rattle.script_values.specs.Views.{view_given};
 ghost use Rattle.builtin_calls.specs.Builtins.{builtin};
 
-use crate::children::{fallback, sequence, sum, switch};
+use crate::children::{fallback, over_sources, random, sum, switch};
 use crate::leaves::{blank, fail, playlist, single, square};
 use crate::outputs::output_file;
 use crate::settings::set;
 use crate::single_source::{amplify, buffer, clock, crossfade, mean, mksafe, stereo};
 use liq_base::Kind;
+use plan_core::Op;
 use script_values::{Fault, Given, Machine, Value};
 use std::alloc::Global;
 use typing_rules::Builtin;
@@ -53,7 +54,9 @@ fn call(
         Builtin::Fail => fail(alloc, kinds, machine),
         Builtin::Fallback => fallback(alloc, kinds, given, machine),
         Builtin::Switch => switch(alloc, kinds, given, machine),
-        Builtin::Sequence => sequence(alloc, kinds, given, machine),
+        Builtin::Sequence => over_sources(alloc, Op::Sequence, kinds, given, machine),
+        Builtin::Rotate => over_sources(alloc, Op::Rotate, kinds, given, machine),
+        Builtin::Random => random(alloc, at, kinds, given, machine),
         Builtin::Add => sum(alloc, kinds, given, machine),
         Builtin::Amplify => amplify(alloc, kinds, given, machine),
         Builtin::Mean => mean(alloc, given, machine),

@@ -1,14 +1,14 @@
-// The builtins over a list of sources: `fallback`, `switch`, `sequence` and `add`.
+// The builtins over a list of sources: `fallback`, `switch`, `sequence`, `rotate`, `random` and `add`.
 ghost use Rattle.std.specs.Prelude.{◌≡◌, ◌<◌, ◌≤◌, All, IfOk, length, map};
 ghost use Rattle.liq_base.specs.declared.limits.TheConstants.{MAX_CHILDREN};
 ghost use Rattle.time_pred.specs.View.{view_pred};
 ghost use Rattle.script_values.specs.Gives.{Gives};
 ghost use Rattle.script_values.specs.View.{view_value};
 ghost use Rattle.script_values.specs.Views.{view_given};
-ghost use Rattle.builtin_calls.specs.Builtins.{fallback, few_pairs, few_sources, sensitive_or, sequence, sum, switch};
+ghost use Rattle.builtin_calls.specs.Builtins.{fallback, few_pairs, few_sources, over_sources, random, seed_of, sensitive_or, sum, switch};
 
 use crate::nodes::{add, few};
-use crate::parts::{bool_or, one_kind};
+use crate::parts::{bool_or, int_or, one_kind};
 use crate::sources::{Pairs, plain_pairs, plain_sources};
 use liq_base::Kind;
 use plan_core::{Draft, Items, Op, Preds};
@@ -26,14 +26,7 @@ pub(crate) fn fallback(
     ensures { Gives (λ v. (view_value v, machine.new)) result (fallback kinds.now (map view_given given.old.items) machine.old) }
 {
     let sensitive = sensitive_or(given)?;
-    let kind = one_kind(kinds)?;
-    let children = few_sources(alloc, &machine.plan, kind, given)?;
-    add(
-        machine,
-        Op::Fallback { sensitive },
-        kind,
-        Items::from_vec(children),
-    )
+    over_sources(alloc, Op::Fallback { sensitive }, kinds, given, machine)
 }
 
 /// `switch(track_sensitive=true, pairs)`.
@@ -58,19 +51,23 @@ pub(crate) fn switch(
     )
 }
 
-/// `sequence(sources)`.
-#[tactic(auto, unfolding(crate::specs::Builtins::sequence))]
-pub(crate) fn sequence(
+/// `random(seed=0, sources)`.
+#[tactic(auto, unfolding(crate::specs::Builtins::random))]
+pub(crate) fn random(
     alloc: Global,
+    at: u32,
     kinds: &[Kind],
     given: &mut Vec<Given>,
     machine: &mut Machine,
 ) -> Result<Value, Fault>
-    ensures { Gives (λ v. (view_value v, machine.new)) result (sequence kinds.now (map view_given given.old.items) machine.old) }
+    ensures { Gives (λ v. (view_value v, machine.new)) result (random at kinds.now (map view_given given.old.items) machine.old) }
 {
+    let number = int_or(given, "seed", 0)?;
     let kind = one_kind(kinds)?;
-    let children = few_sources(alloc, &machine.plan, kind, given)?;
-    add(machine, Op::Sequence, kind, Items::from_vec(children))
+    let sources = plain_sources(alloc, &machine.plan, kind, given)?;
+    let seed = seed_of(at, number)?;
+    few(&sources)?;
+    add(machine, Op::Random { seed }, kind, Items::from_vec(sources))
 }
 
 /// `add(normalize=true, sources)`.
@@ -84,14 +81,33 @@ pub(crate) fn sum(
     ensures { Gives (λ v. (view_value v, machine.new)) result (sum kinds.now (map view_given given.old.items) machine.old) }
 {
     let normalize = bool_or(given, "normalize", true)?;
+    over_sources(alloc, Op::Add { normalize }, kinds, given, machine)
+}
+
+/// A node of this operator over a list of sources, as `sequence(sources)` and `rotate(sources)` add it.
+#[tactic(auto, unfolding(crate::specs::Builtins::over_sources))]
+pub(crate) fn over_sources(
+    alloc: Global,
+    op: Op,
+    kinds: &[Kind],
+    given: &mut Vec<Given>,
+    machine: &mut Machine,
+) -> Result<Value, Fault>
+    ensures { Gives (λ v. (view_value v, machine.new)) result (over_sources op kinds.now (map view_given given.old.items) machine.old) }
+{
     let kind = one_kind(kinds)?;
     let children = few_sources(alloc, &machine.plan, kind, given)?;
-    add(
-        machine,
-        Op::Add { normalize },
-        kind,
-        Items::from_vec(children),
-    )
+    add(machine, op, kind, Items::from_vec(children))
+}
+
+// A seed, which is not below zero.
+fn seed_of(at: u32, number: i64) -> Result<u64, Fault>
+    ensures { Gives (λ n. n) result (seed_of at number) }
+{
+    if number < 0 {
+        return Err(Fault::BadValue(at));
+    }
+    Ok(number as u64)
 }
 
 // The next plain parameter, a list of sources, not too many of them.

@@ -1,11 +1,12 @@
 // Outputs.
 ghost use Rattle.std.specs.Prelude.{◌≡◌, ◌<◌, count_by, length, map};
 ghost use Rattle.std.specs.List.{list_any};
+ghost use Rattle.plan_core.specs.Plans.{is_output};
 ghost use Rattle.script_values.specs.Gives.{Gives};
 ghost use Rattle.script_values.specs.View.{view_value};
 ghost use Rattle.script_values.specs.Views.{view_given};
 ghost use Rattle.builtin_calls.specs.Builtins.{output_file};
-ghost use Rattle.builtin_calls.specs.Sinks.{add_output, is_named, is_output};
+ghost use Rattle.builtin_calls.specs.Sinks.{add_output, is_named};
 
 use crate::parts::{bool_or, one_kind, plain_format, plain_text};
 use crate::sources::plain_source;
@@ -29,15 +30,6 @@ pub(crate) fn output_file(
     let kind = one_kind(kinds)?;
     let source = plain_source(&machine.plan, kind, given)?;
     add_output(machine, name, source, fallible)
-}
-
-fn is_output(sink: &SinkPlan) -> bool
-    ensures { result ≡ is_output sink.now }
-{
-    match sink {
-        SinkPlan::Output { .. } => true,
-        SinkPlan::Feed { .. } => false,
-    }
 }
 
 fn is_named(name: &str, sink: &SinkPlan) -> bool
@@ -67,7 +59,7 @@ fn outputs(sinks: &[SinkPlan]) -> usize
 {
     let mut count = 0;
     for sink in sinks {
-        if is_output(sink) {
+        if sink.is_output() {
             count += 1;
         }
     }

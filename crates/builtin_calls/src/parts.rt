@@ -3,7 +3,7 @@ ghost use Rattle.std.specs.Prelude.{◌≡◌, map};
 ghost use Rattle.script_values.specs.Gives.{Gives};
 ghost use Rattle.script_values.specs.View.{view_value};
 ghost use Rattle.script_values.specs.Views.{view_given};
-ghost use Rattle.builtin_calls.specs.Parts.{bool_of, bool_or, decimal_of, decimal_or, format_of, one_kind, plain, plain_decimal, plain_format, plain_text, text_of, text_or};
+ghost use Rattle.builtin_calls.specs.Parts.{bool_of, bool_or, decimal_of, decimal_or, format_of, int_of, int_or, one_kind, plain, plain_decimal, plain_format, plain_text, text_of, text_or};
 
 use fixed_text::Decimal;
 use liq_base::{Kind, Text};
@@ -92,6 +92,20 @@ pub(crate) fn decimal_or(
     }
 }
 
+/// A labelled int, or its default.
+#[tactic(auto, unfolding(crate::specs::Parts::int_or))]
+pub(crate) fn int_or(given: &mut Vec<Given>, label: &str, default: i64) -> Result<i64, Fault>
+    ensures { Gives (λ n. (n, map view_given given.new.items)) result (int_or label.now default (map view_given given.old.items)) }
+{
+    match argument(given, Some(label)) {
+        None => Ok(default),
+        Some(value) => {
+            let number = int_of(&value)?;
+            Ok(number)
+        }
+    }
+}
+
 /// A labelled text, or its default.
 #[tactic(auto, unfolding(crate::specs::Parts::text_or))]
 pub(crate) fn text_or(given: &mut Vec<Given>, label: &str, default: Text) -> Result<Text, Fault>
@@ -122,6 +136,16 @@ fn decimal_of(value: &Value) -> Result<Decimal, Fault>
 {
     match value {
         Value::Decimal(number) => Ok(*number),
+        _ => Err(Fault::Stuck),
+    }
+}
+
+#[tactic(auto, unfolding(crate::specs::Parts::int_of))]
+fn int_of(value: &Value) -> Result<i64, Fault>
+    ensures { Gives (λ n. n) result (int_of (view_value value.now)) }
+{
+    match value {
+        Value::Int(number) => Ok(*number),
         _ => Err(Fault::Stuck),
     }
 }

@@ -10,18 +10,6 @@ returns-in_err-normalize c =
     let p = err_from_is_err_and c.from_residual.result c.from_residual.ensures.1 in
     rw (p.1, p.2) (ends_with c.in_err-normalize.field-0.0 _ _ c.in_err-normalize.ensures (λ q. rw (q) refl))
 
-pub returns-in_err-kind : goal.returns-in_err-kind
-unfolding sum
-returns-in_err-kind c =
-    let p = err_from_is_err_and c.from_residual-in_err-kind.result c.from_residual-in_err-kind.ensures.1 in
-    rw (p.1, p.2) (ends_with c.in_err-kind.field-0.0 _ _ c.in_err-kind.ensures (λ q. rw (c.in_ok-normalize.ensures, q) refl))
-
-pub returns-in_err-children : goal.returns-in_err-children
-unfolding sum
-returns-in_err-children c =
-    let p = err_from_is_err_and c.from_residual-in_err-children.result c.from_residual-in_err-children.ensures.1 in
-    rw (p.1, p.2) (ends_with c.in_err-children.field-0.0 _ _ c.in_err-children.ensures.given (λ q. rw (c.in_ok-normalize.ensures, c.in_ok-kind.ensures, q) refl))
-
 pub returns : goal.returns
 unfolding sum
-returns c = rw (c.in_ok-normalize.ensures, c.in_ok-kind.ensures, c.in_ok-children.ensures.given) (rw c.from_vec.ensures at c.add.ensures)
+returns c = rw (c.in_ok-normalize.ensures) c.over_sources.ensures

@@ -1,6 +1,6 @@
 use Rattle.std.proofs.Common.{◌≡◌, take}
 use Rattle.std.specs.Prelude.{count_by}
-use Rattle.builtin_calls.specs.Sinks.{is_output}
+use Rattle.plan_core.specs.Plans.{is_output}
 use Rattle.builtin_calls.proofs.outputs.outputs.Given as goal
 
 abbrev pub invariant-loop-sink : goal.invariant-loop-sink
