@@ -7,10 +7,10 @@ use Rattle.plan_core.specs.declared.node.Node.{Node}
 use Rattle.clock_infer.specs.declared.clock_map.NodeClock.{NodeClock}
 use Rattle.frame_core.specs.declared.cell.Cell.{Cell}
 use Rattle.frame_core.specs.Slots.{Slot, slot_at}
-use Rattle.op_select.specs.Selection.{pick_of, picked, picked_cell}
+use Rattle.op_select.specs.Selection.{picked, picked_cell}
 use Rattle.stream_meaning.specs.declared.part.Part.{Part}
-use Rattle.stream_meaning.specs.Operators.{Work, Plays, Picks, Mixes, Fades, Reads, marks_at}
-use Rattle.stream_meaning.specs.Instants.{Setting, Moment, child_at, last_pick, lies_in, offering, part_at, part_by, parts_upto, picked_part, second_at, silent, slots_at, work_at}
+use Rattle.stream_meaning.specs.Operators.{Work, Plays, Picks, Mixes, Fades, Reads, child_used, marks_at}
+use Rattle.stream_meaning.specs.Instants.{Setting, Moment, child_at, choices, last_pick, lies_in, offering, part_at, part_by, parts_upto, picked_part, second_at, silent, slots_at, work_at}
 use Rattle.engine_instants.specs.Demands.{PicksOffer}
 use Rattle.engine_instants.specs.States.{IsIn}
 use Rattle.engine_instants.proofs.Parts.{part_in-inside, parts_are, parts_long}
@@ -36,8 +36,8 @@ pick_by slots last (Some place) P none some = by_slot (slot_at slots place) refl
 part_pick : (setting : Setting) (sub : ℕ → ℕ → List Slot) (past : List Moment) (i : ℕ) (work : Work) (slots : List Slot) (P : Option ℕ → Type 0) → P None
     → ((place : ℕ) (cell : Cell) → slot_at slots place ≡ Some cell → P (Some place)) → P (part_by setting sub past i work slots).pick
 part_pick setting sub past i (Plays leaf) slots P none some = none
-part_pick setting sub past i (Picks rule eligible) slots P none some =
-    pick_by slots (last_pick past i) (pick_of rule slots (marks_at eligible (second_at setting (length past)) (length slots)) (last_pick past i)) P none some
+part_pick setting sub past i (Picks choice eligible) slots P none some =
+    pick_by slots (last_pick past i) (child_used choice slots (marks_at eligible (second_at setting (length past)) (length slots)) (last_pick past i) (choices past i)) P none some
 part_pick setting sub past i (Mixes mixing) slots P none some = none
 part_pick setting sub past i (Fades overlap) slots P none some = none
 part_pick setting sub past i (Reads buffer) slots P none some = none

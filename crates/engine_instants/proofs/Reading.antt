@@ -4,7 +4,7 @@ use Rattle.std.proofs.lemmas.Bool.{true≢false, false≢true}
 use Rattle.liq_base.specs.declared.memory.Kind.{Kind}
 use Rattle.plan_core.specs.declared.node.Node.{Node}
 use Rattle.plan_core.specs.declared.node.Op.{Op}
-use Rattle.plan_core.specs.declared.node.Op.TheVariants.{Single, Playlist, Blank, Square, Fail, Fallback, Switch, Sequence, Add, Amplify, Mean, Stereo, Crossfade, Buffer, Clock}
+use Rattle.plan_core.specs.declared.node.Op.TheVariants.{Single, Playlist, Blank, Square, Fail, Fallback, Switch, Sequence, Rotate, Random, Add, Amplify, Mean, Stereo, Crossfade, Buffer, Clock}
 use Rattle.plan_core.specs.declared.plan.Plan.{Plan}
 use Rattle.plan_core.specs.Plans.{IsNoReader}
 use Rattle.clock_infer.specs.declared.clock_map.NodeClock.{NodeClock}
@@ -33,6 +33,8 @@ no_reads rate i kind Fail none = refl
 no_reads rate i kind (Fallback sensitive) none = refl
 no_reads rate i kind (Switch sensitive preds) none = refl
 no_reads rate i kind Sequence none = refl
+no_reads rate i kind Rotate none = refl
+no_reads rate i kind (Random seed) none = refl
 no_reads rate i kind (Add normalize) none = refl
 no_reads rate i kind (Amplify factor) none = refl
 no_reads rate i kind Mean none = refl
@@ -146,6 +148,8 @@ op_by rate i buffer kind Fail is = absurd (false≢true (ap reads is))
 op_by rate i buffer kind (Fallback sensitive) is = absurd (false≢true (ap reads is))
 op_by rate i buffer kind (Switch sensitive preds) is = absurd (false≢true (ap reads is))
 op_by rate i buffer kind Sequence is = absurd (false≢true (ap reads is))
+op_by rate i buffer kind Rotate is = absurd (false≢true (ap reads is))
+op_by rate i buffer kind (Random seed) is = absurd (false≢true (ap reads is))
 op_by rate i buffer kind (Add normalize) is = absurd (false≢true (ap reads is))
 op_by rate i buffer kind (Amplify factor) is = absurd (false≢true (ap reads is))
 op_by rate i buffer kind Mean is = absurd (false≢true (ap reads is))

@@ -14,7 +14,7 @@ use Rattle.op_leaf.specs.Readers.{read_by, reader_slot}
 use Rattle.op_select.specs.declared.rule.Rule.{Rule}
 use Rattle.op_select.specs.Selection.{pick_of, picked}
 use Rattle.stream_meaning.specs.declared.part.Part.{Part}
-use Rattle.stream_meaning.specs.Operators.{Work, Eligible, Every, Where, Plays, Picks, Fades, Reads, marks_at}
+use Rattle.stream_meaning.specs.Operators.{Work, Choice, Selects, TakesTurns, Eligible, Every, Where, Plays, Picks, Fades, Reads, marks_at}
 use Rattle.stream_meaning.specs.Instants.{Setting, Moment, count, demanded, gives, last_pick, moment_after, offer, part_at, part_by, parts_upto, picked_part, position, reading_after, reading_at, second_at, slots_at, work_at}
 use Rattle.segment_laws.specs.Steady.{IsFree, is_inner}
 use Rattle.segment_laws.specs.Stretches.{IsNode, IsStretch, NodeGoes}
@@ -46,9 +46,9 @@ slots_same before after i (c ∷ children) (here, below) same =
 
 module _ (setting : Setting) (sub : ℕ → ℕ → List Slot) (clock : NodeClock) (past : List Moment) (i : ℕ) (node : Node) (nodes : AreNodes setting.plan.nodes) (is : IsNode setting clock i node)
     (begins : Bool) (last : Option ℕ) (rest more second tick : ℕ) (few : rest ≤ more) (goes : NodeGoes setting sub past (moment_after setting sub clock past) i (work_at setting i node) begins more)
-    (steady : (rule : Rule) (eligible : Eligible) → work_at setting i node ≡ Picks rule eligible → (eligible ≡ Every → ⊥) → rest ≤ second)
+    (steady : (choice : Choice) (eligible : Eligible) → work_at setting i node ≡ Picks choice eligible → (eligible ≡ Every → ⊥) → rest ≤ second)
     (begun : begins ≡ begins_at (moment_after setting sub clock past).parts node.children last)
-    (last_is : (rule : Rule) (eligible : Eligible) → work_at setting i node ≡ Picks rule eligible → last ≡ last_pick (moment_after setting sub clock past ∷ past) i)
+    (last_is : (rule : Rule) (eligible : Eligible) → work_at setting i node ≡ Picks (Selects rule) eligible → last ≡ last_pick (moment_after setting sub clock past ∷ past) i)
     (border : (buffer : ℕ) → work_at setting i node ≡ Reads buffer → rest ≤ tick)
     (same : IsSameSecond setting (length past) second) (within : IsSameTick setting (length past) tick) where
   abbrev First : Moment
@@ -71,30 +71,31 @@ module _ (setting : Setting) (sub : ℕ → ℕ → List Slot) (clock : NodeCloc
       (below_from i node.children (λ child among. child_below setting.plan.nodes i child node nodes is.there among))
       (λ c under. part_stays setting sub clock past (length setting.plan.nodes) i c (let l = low in omega (arith, l, under)) under)
 
-  free_by : (rule : Rule) (eligible : Eligible) → work_at setting i node ≡ Picks rule eligible → 0 < rest → (used : Option ℕ) → last_pick past i ≡ used
-      → IsFree rule Slots (marks_at eligible (second_at setting (length past)) (length Slots)) used
-  free_by rule eligible at some None e = tt
-  free_by rule eligible at some (Some child) e = λ first. by_offer first (is_some (offer First i)) refl
+  free_by : (choice : Choice) (eligible : Eligible) → work_at setting i node ≡ Picks choice eligible → 0 < rest → (used : Option ℕ) → last_pick past i ≡ used
+      → IsFree choice Slots (marks_at eligible (second_at setting (length past)) (length Slots)) used
+  free_by (TakesTurns turn) eligible at some used e = tt
+  free_by (Selects rule) eligible at some None e = tt
+  free_by (Selects rule) eligible at some (Some child) e = λ first. by_offer first (is_some (offer First i)) refl
     where
       by_offer : is_first (slot_at Slots child) ≡ true → (present : Bool) → is_some (offer First i) ≡ present
           → is_some (pick_of rule Slots (marks_at eligible (second_at setting (length past)) (length Slots)) (Some child)) ≡ true
       by_offer first true p =
-          let part : part_at First.parts i ≡ part_by setting sub past i (Picks rule eligible) Slots =
+          let part : part_at First.parts i ≡ part_by setting sub past i (Picks (Selects rule) eligible) Slots =
           own_part setting sub clock past (length setting.plan.nodes) i node low is ∙ ap (λ w. part_by setting sub past i w Slots) at in
           ap (λ l. is_some (pick_of rule Slots (marks_at eligible (second_at setting (length past)) (length Slots)) l)) (sym e)
           ∙ pick_some Slots (last_pick past i) (pick_of rule Slots (marks_at eligible (second_at setting (length past)) (length Slots)) (last_pick past i))
           (ap (λ (q : Part). is_some q.slot) (sym part) ∙ p)
       by_offer first false p =
-          let none : begins ≡ false = goes_at (Picks rule eligible) at (omega (arith, some, few)) p in
+          let none : begins ≡ false = goes_at (Picks (Selects rule) eligible) at (omega (arith, some, few)) p in
           let used : last ≡ Some child = last_is rule eligible at ∙ stays (gives First i) (part_at First.parts i).pick (last_pick past i) (not_given (demanded First i) (is_some (offer First i)) p) ∙ e in
           let clash : begins ≡ true = begun ∙ ap (begins_at First.parts node.children) used ∙ ap (λ slots. is_first (slot_at slots child)) slots_all ∙ first in
           absurd (false≢true (sym none ∙ clash))
 
-  marks_by : (rule : Rule) (eligible : Eligible) (j children : ℕ) → work_at setting i node ≡ Picks rule eligible → 0 < j → j ≤ rest
+  marks_by : (choice : Choice) (eligible : Eligible) (j children : ℕ) → work_at setting i node ≡ Picks choice eligible → 0 < j → j ≤ rest
       → marks_at eligible (second_at setting (length past + j)) children ≡ marks_at eligible (second_at setting (length past)) children
-  marks_by rule Every j children at some low = refl
-  marks_by rule (Where preds) j children at some low =
-      let bound = steady rule (Where preds) at (λ e. cc) in
+  marks_by choice Every j children at some low = refl
+  marks_by choice (Where preds) j children at some low =
+      let bound = steady choice (Where preds) at (λ e. cc) in
       ap (λ s. marks_at (Where preds) s children) (same.each j (omega (arith, low, bound)))
 
   to_one : (j : ℕ) → 0 < j → suc (j - 1) ≡ j
@@ -112,7 +113,7 @@ module _ (setting : Setting) (sub : ℕ → ℕ → List Slot) (clock : NodeCloc
     settled = λ overlap j at some low g. ap (λ n. is_inner (item_of overlap (sub i) n)) (sym (from_one (position past i) j some))
         ∙ (goes_at (Fades overlap) at).1 g (j - 1) (omega (arith, some, low, few));
     marks = marks_by;
-    free = λ rule eligible at some. free_by rule eligible at some (last_pick past i) refl;
+    free = λ choice eligible at some. free_by choice eligible at some (last_pick past i) refl;
   }
 
 -- fewer instants
@@ -124,8 +125,8 @@ fewer setting sub clock past i node rest less few s = record {
   readers = λ buffer j at some within g. s.readers buffer j at some (omega (arith, within, few)) g;
   items = λ overlap at some. s.items overlap at (omega (arith, some, few));
   settled = λ overlap j at some within g. s.settled overlap j at some (omega (arith, within, few)) g;
-  marks = λ rule eligible j children at some within. s.marks rule eligible j children at some (omega (arith, within, few));
-  free = λ rule eligible at some. s.free rule eligible at (omega (arith, some, few));
+  marks = λ choice eligible j children at some within. s.marks choice eligible j children at some (omega (arith, within, few));
+  free = λ choice eligible at some. s.free choice eligible at (omega (arith, some, few));
 }
 
 -- the nodes of a clock below this one go on
@@ -161,8 +162,8 @@ on_all setting sub clock past n rest all go = record {
   readers = λ i node buffer j is at some within g. (at_node i node is).readers buffer j at some (omega (arith, within)) g;
   items = λ i node overlap j is at some within. (at_node i node is).items overlap at (omega (arith, some, within));
   settled = λ i node overlap j is at some within g. (at_node i node is).settled overlap j at some (omega (arith, within)) g;
-  marks = λ i node rule eligible j children is at some within. (at_node i node is).marks rule eligible j children at some (omega (arith, within));
-  free = λ i node rule eligible j is at some within. (at_node i node is).free rule eligible at (omega (arith, some, within));
+  marks = λ i node choice eligible j children is at some within. (at_node i node is).marks choice eligible j children at some (omega (arith, within));
+  free = λ i node choice eligible j is at some within. (at_node i node is).free choice eligible at (omega (arith, some, within));
 }
   where
     at_node : (i : ℕ) (node : Node) → IsNode setting clock i node → NodeStretches setting sub clock past i node rest

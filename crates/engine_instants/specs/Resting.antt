@@ -7,9 +7,8 @@ use Rattle.op_cross.specs.Runs.{item_of}
 use Rattle.op_leaf.specs.declared.leaf.Leaf.{Leaf}
 use Rattle.op_leaf.specs.Leaves.{leaf_slot}
 use Rattle.op_leaf.specs.Readers.{read_by, reader_slot}
-use Rattle.op_select.specs.declared.rule.Rule.{Rule}
 use Rattle.stream_meaning.specs.declared.part.Part.{Part}
-use Rattle.stream_meaning.specs.Operators.{Eligible, Plays, Picks, Fades, Reads, marks_at}
+use Rattle.stream_meaning.specs.Operators.{Choice, Eligible, Plays, Picks, Fades, Reads, marks_at}
 use Rattle.stream_meaning.specs.Instants.{Setting, Moment, count, gives, last_pick, moment_after, offer, parts_upto, position, reading_after, reading_at, second_at, slots_at, work_at}
 use Rattle.segment_laws.specs.Steady.{IsFree, is_inner}
 use Rattle.segment_laws.specs.Stretches.{IsNode}
@@ -29,10 +28,10 @@ pub record NodeStretches (setting : Setting) (sub : ℕ → ℕ → List Slot) (
   pub items : (overlap : ℕ) → work_at setting i node ≡ Fades overlap → 0 < rest → is_some (offer (moment_after setting sub clock past) i) ≡ true
   pub settled : (overlap j : ℕ) → work_at setting i node ≡ Fades overlap → 0 < j → j ≤ rest
       → gives (moment_after setting sub clock past) i ≡ true → is_inner (item_of overlap (sub i) (position past i + j)) ≡ true
-  pub marks : (rule : Rule) (eligible : Eligible) (j children : ℕ) → work_at setting i node ≡ Picks rule eligible → 0 < j → j ≤ rest
+  pub marks : (choice : Choice) (eligible : Eligible) (j children : ℕ) → work_at setting i node ≡ Picks choice eligible → 0 < j → j ≤ rest
       → marks_at eligible (second_at setting (length past + j)) children ≡ marks_at eligible (second_at setting (length past)) children
-  pub free : (rule : Rule) (eligible : Eligible) → work_at setting i node ≡ Picks rule eligible → 0 < rest
-      → IsFree rule (slots_at (parts_upto setting sub clock past i) node.children)
+  pub free : (choice : Choice) (eligible : Eligible) → work_at setting i node ≡ Picks choice eligible → 0 < rest
+      → IsFree choice (slots_at (parts_upto setting sub clock past i) node.children)
       (marks_at eligible (second_at setting (length past)) (length (slots_at (parts_upto setting sub clock past i) node.children))) (last_pick past i)
 
 -- the readers of a clock have begun so many instants

@@ -5,8 +5,7 @@ ghost use Rattle.plan_core.specs.declared.node.Node.{Node as PlanNode};
 ghost use Rattle.plan_core.specs.Plans.{AreNodes};
 ghost use Rattle.clock_infer.specs.declared.clock_map.NodeClock.{NodeClock as Clock};
 ghost use Rattle.frame_core.specs.Slots.{Slot as TheSlot};
-ghost use Rattle.op_select.specs.declared.rule.Rule.{Rule as TheRule};
-ghost use Rattle.stream_meaning.specs.Operators.{Eligible, Every, Picks, Reads, work_of};
+ghost use Rattle.stream_meaning.specs.Operators.{Choice, Eligible, Every, Picks, Reads, work_of};
 ghost use Rattle.stream_meaning.specs.Instants.{Setting, Moment, moment_after, part_at, work_at};
 ghost use Rattle.segment_laws.specs.Stretches.{IsNode, IsStretch};
 ghost use Rattle.node_states.specs.Runs.{LiesAhead};
@@ -103,7 +102,7 @@ pub fn gives(part: Part, marked: bool) -> bool
 
 // How many instants behind this one a node goes on without a new second or a new tick, where it has to do with one.
 fn border(op: &Op, second: u32, tick: u32, most: u32) -> u32
-    ensures second { (rate i : ℕ) (kind : TheKind) (rule : TheRule) (eligible : Eligible) → work_of rate i kind op.now ≡ Picks rule eligible
+    ensures second { (rate i : ℕ) (kind : TheKind) (choice : Choice) (eligible : Eligible) → work_of rate i kind op.now ≡ Picks choice eligible
         → (eligible ≡ Every → ⊥) → result ≡ second }
     ensures tick { (rate i buffer : ℕ) (kind : TheKind) → work_of rate i kind op.now ≡ Reads buffer → result ≡ tick }
 {

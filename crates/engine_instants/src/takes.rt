@@ -79,6 +79,7 @@ fn buffer_of(op: &Op) -> Option<u32>
             None
         }
         Op::Fallback { .. } | Op::Switch { .. } | Op::Sequence => None,
+        Op::Rotate | Op::Random { .. } => None,
         Op::Add { .. } | Op::Amplify { .. } | Op::Mean | Op::Stereo | Op::Clock(_) => None,
         Op::Crossfade { .. } => None,
         Op::Buffer(buffer) => Some(*buffer),

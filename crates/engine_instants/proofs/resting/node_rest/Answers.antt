@@ -43,8 +43,8 @@ returns-clause-goes c = λ other sub clock past fed node long is stands parts ma
     node_stretches setting sub clock past c.args.i node c.requires.nodes is c.begins-begins.result c.last.result c.min.result c.rest-rest.result c.args.second c.args.tick
     (omega (arith, c.min.ensures))
     (c.rest-rest.ensures.goes setting sub past first fed c.args.i (work_at setting c.args.i node) refl long stands begun part_is gave_is (fed_none setting sub c.args.i fed))
-    (λ rule eligible at apart.
-    let is_second = c.border.ensures.second setting.plan.rate c.args.i c.index-as_slice-i.result.kind rule eligible (ap (λ (n : Node). work_of setting.plan.rate c.args.i n.kind n.op) read ∙ at) apart in
+    (λ choice eligible at apart.
+    let is_second = c.border.ensures.second setting.plan.rate c.args.i c.index-as_slice-i.result.kind choice eligible (ap (λ (n : Node). work_of setting.plan.rate c.args.i n.kind n.op) read ∙ at) apart in
     omega (arith, c.min.ensures, is_second))
     (c.begins-begins.ensures ∙ ap (λ ps. begins_at ps c.as_slice-2.result.now c.last.result) parts ∙ ap (λ cs. begins_at first.parts cs c.last.result) children)
     (λ rule eligible at. c.last.ensures setting sub (first ∷ past) fed c.args.i rule eligible (subst (λ w. StateStands setting sub (first ∷ past) fed c.args.i w c.args.state.now) at stands))
