@@ -1,10 +1,11 @@
 -- Each builtin call with arguments of its types is not stuck.
 use Rattle.std.proofs.Common.{◌≡◌, ℕ, List, [], ◌∷◌, Bool, true, false, Some, None, refl, sym, subst}
-use Rattle.std.specs.Prelude.{slice_get, ⊤, codes, map}
+use Rattle.std.specs.Prelude.{ℤ, pos, slice_get, ⊤, codes, map}
 use Rattle.liq_base.specs.declared.memory.Kind.{Kind}
 use Rattle.liq_base.specs.declared.memory.Kind.TheVariants.{Mono, Stereo as Both}
 use Rattle.fixed_text.specs.declared.decimal.Decimal.{Decimal}
 use Rattle.plan_core.specs.declared.node.Node.{Node}
+use Rattle.plan_core.specs.declared.node.Op.{Op}
 use Rattle.plan_core.specs.declared.node.Op.TheVariants as op
 use Rattle.type_terms.specs.Ground.{Ground, base_type, list, tuple, source}
 use Rattle.type_terms.specs.Term.{meaning}
@@ -19,16 +20,16 @@ use Rattle.script_values.specs.Machines.{some_millionths}
 use Rattle.script_values.specs.Outcomes.{◌>>=◌}
 use Rattle.script_values.specs.Slots.{Given}
 use Rattle.script_values.specs.Values.{Value}
-use Rattle.builtin_calls.specs.Parts.{one_kind, plain, plain_text, plain_decimal, plain_format, plain_source, bool_or, text_or, decimal_or}
-use Rattle.builtin_calls.specs.Nodes.{add, push, add_buffer}
+use Rattle.builtin_calls.specs.Parts.{one_kind, plain, plain_text, plain_decimal, plain_format, plain_source, plain_sources, bool_or, int_or, text_or, decimal_or}
+use Rattle.builtin_calls.specs.Nodes.{few, add, push, add_buffer}
 use Rattle.builtin_calls.specs.Times.{track_of, pitch_of}
 use Rattle.builtin_calls.specs.Sinks.{add_output}
 use Rattle.builtin_calls.specs.Settings.{setting}
-use Rattle.builtin_calls.specs.Builtins.{node, is_normal, builtin, sensitive_or, few_sources, few_pairs, buffer_plan, short_overlap, safe, output_file, set, single, playlist, blank, square, fail, fallback, switch, sequence, sum, amplify, mean, stereo, crossfade, mksafe, buffer, clock}
+use Rattle.builtin_calls.specs.Builtins.{node, is_normal, builtin, sensitive_or, few_sources, few_pairs, over_sources, seed_of, buffer_plan, short_overlap, safe, output_file, set, single, playlist, blank, square, fail, fallback, switch, random, sum, amplify, mean, stereo, crossfade, mksafe, buffer, clock}
 use Rattle.eval_meaning.specs.BuiltinSafety.{AreA, Safe, Of, BuiltinsAreSafe}
 use Rattle.eval_meaning.proofs.BuiltinGrowth.{after, fixed}
 use Rattle.eval_meaning.proofs.BuiltinTaking.{Taking, all, all_commutes, strip, strip_commutes, plain_other, label_other, in_place, perhaps, behind_id}
-use Rattle.eval_meaning.proofs.BuiltinSteps.{pair_types, unit, text_step, decimal_step, format_step, source_step, value_step, text_or_step, bool_or_step, decimal_or_step, sensitive_step, few_sources_step, few_pairs_step, kind_step, normal_step, track_step, pitch_step, short_step, buffer_step, push_safe, add_safe, buffered_safe, output_safe, setting_safe}
+use Rattle.eval_meaning.proofs.BuiltinSteps.{pair_types, unit, text_step, decimal_step, format_step, source_step, value_step, text_or_step, bool_or_step, int_or_step, decimal_or_step, sensitive_step, sources_step, few_step, seed_step, few_sources_step, few_pairs_step, kind_step, normal_step, track_step, pitch_step, short_step, buffer_step, push_safe, add_safe, buffered_safe, output_safe, setting_safe}
 
 output_file_safe : (kinds : List Kind) (given : List Given) (m : Machine) (j : Kind) → j ∷ [] ≡ kinds → Taking all m.plan.nodes (perhaps (codes "id") ∷ perhaps (codes "fallible") ∷ in_place (codes "format") ∷ in_place (codes "name") ∷ in_place (codes "s") ∷ []) (base_type base.Text ∷ base_type base.Bool ∷ base_type base.Format ∷ base_type base.Text ∷ source j ∷ []) given → Safe m.plan.nodes (Of (unit)) (output_file kinds given m)
 unfolding output_file
@@ -85,14 +86,24 @@ fail_safe kinds m given j is_kinds whole =
     fixed m.plan.nodes (λ k. k ≡ j) (Of (source j)) (one_kind kinds) (λ k. add (node op.Fail k []) m) (kind_step kinds j is_kinds) (λ k is_k.
     subst (λ (i : Kind). Safe m.plan.nodes (Of (source i)) (add (node op.Fail k []) m)) is_k (add_safe (node op.Fail k []) m))
 
+-- a node of an operator over a list of sources
+over_sources_safe : (o : Op) (kinds : List Kind) (given : List Given) (m : Machine) (j : Kind) → j ∷ [] ≡ kinds → Taking strip m.plan.nodes (in_place (codes "sources") ∷ []) (list (source j) ∷ []) given → Safe m.plan.nodes (Of (source j)) (over_sources o kinds given m)
+unfolding over_sources
+over_sources_safe o kinds given m j is_kinds taking =
+    fixed m.plan.nodes (λ k. k ≡ j) (Of (source j)) (one_kind kinds) (λ k. few_sources m.plan.nodes k given >>= λ children. add (node o k children) m) (kind_step kinds j is_kinds) (λ k is_k.
+    fixed m.plan.nodes (λ _. ⊤) (Of (source j)) (few_sources m.plan.nodes k given) (λ children. add (node o k children) m) (few_sources_step strip m.plan.nodes k (codes "sources") [] [] given (strip_commutes None plain_other) (subst (λ (i : Kind). Taking strip m.plan.nodes (in_place (codes "sources") ∷ []) (list (source i) ∷ []) given) (sym is_k) taking)) (λ children _.
+    subst (λ (i : Kind). Safe m.plan.nodes (Of (source i)) (add (node o k children) m)) is_k (add_safe (node o k children) m)))
+
+-- the same where the call has only an `id` besides
+sources_safe : (o : Op) (kinds : List Kind) (given : List Given) (m : Machine) (j : Kind) → j ∷ [] ≡ kinds → Taking all m.plan.nodes (perhaps (codes "id") ∷ in_place (codes "sources") ∷ []) (base_type base.Text ∷ list (source j) ∷ []) given → Safe m.plan.nodes (Of (source j)) (over_sources o kinds given m)
+sources_safe o kinds given m j is_kinds whole = over_sources_safe o kinds given m j is_kinds (behind_id m.plan.nodes (in_place (codes "sources") ∷ []) (base_type base.Text) (list (source j) ∷ []) given whole)
+
 fallback_safe : (kinds : List Kind) (given : List Given) (m : Machine) (j : Kind) → j ∷ [] ≡ kinds → Taking all m.plan.nodes (perhaps (codes "id") ∷ perhaps (codes "track_sensitive") ∷ in_place (codes "sources") ∷ []) (base_type base.Text ∷ base_type base.Bool ∷ list (source j) ∷ []) given → Safe m.plan.nodes (Of (source j)) (fallback kinds given m)
 unfolding fallback
 fallback_safe kinds given m j is_kinds whole =
     let taking = behind_id m.plan.nodes (perhaps (codes "track_sensitive") ∷ in_place (codes "sources") ∷ []) (base_type base.Text) (base_type base.Bool ∷ list (source j) ∷ []) given whole in
-    fixed m.plan.nodes (λ (y : Bool × List Given). Taking strip m.plan.nodes (in_place (codes "sources") ∷ []) (list (source j) ∷ []) y.1) (Of (source j)) (sensitive_or given) (λ sensitive. one_kind kinds >>= λ k. few_sources m.plan.nodes k sensitive.1 >>= λ children. add (node (op.Fallback sensitive.0) k children) m) (sensitive_step strip m.plan.nodes (in_place (codes "sources") ∷ []) (list (source j) ∷ []) given (strip_commutes (Some (codes "track_sensitive")) (label_other (codes "track_sensitive") refl)) taking) (λ sensitive taking0.
-    fixed m.plan.nodes (λ k. k ≡ j) (Of (source j)) (one_kind kinds) (λ k. few_sources m.plan.nodes k sensitive.1 >>= λ children. add (node (op.Fallback sensitive.0) k children) m) (kind_step kinds j is_kinds) (λ k is_k.
-    fixed m.plan.nodes (λ _. ⊤) (Of (source j)) (few_sources m.plan.nodes k sensitive.1) (λ children. add (node (op.Fallback sensitive.0) k children) m) (few_sources_step strip m.plan.nodes k (codes "sources") [] [] sensitive.1 (strip_commutes None plain_other) (subst (λ (i : Kind). Taking strip m.plan.nodes (in_place (codes "sources") ∷ []) (list (source i) ∷ []) sensitive.1) (sym is_k) taking0)) (λ children _.
-    subst (λ (i : Kind). Safe m.plan.nodes (Of (source i)) (add (node (op.Fallback sensitive.0) k children) m)) is_k (add_safe (node (op.Fallback sensitive.0) k children) m))))
+    fixed m.plan.nodes (λ (y : Bool × List Given). Taking strip m.plan.nodes (in_place (codes "sources") ∷ []) (list (source j) ∷ []) y.1) (Of (source j)) (sensitive_or given) (λ sensitive. over_sources (op.Fallback sensitive.0) kinds sensitive.1 m) (sensitive_step strip m.plan.nodes (in_place (codes "sources") ∷ []) (list (source j) ∷ []) given (strip_commutes (Some (codes "track_sensitive")) (label_other (codes "track_sensitive") refl)) taking) (λ sensitive taking0.
+    over_sources_safe (op.Fallback sensitive.0) kinds sensitive.1 m j is_kinds taking0)
 
 switch_safe : (kinds : List Kind) (given : List Given) (m : Machine) (j : Kind) → j ∷ [] ≡ kinds → Taking all m.plan.nodes (perhaps (codes "id") ∷ perhaps (codes "track_sensitive") ∷ in_place (codes "pairs") ∷ []) (base_type base.Text ∷ base_type base.Bool ∷ list (tuple (pair_types j)) ∷ []) given → Safe m.plan.nodes (Of (source j)) (switch kinds given m)
 unfolding switch
@@ -103,22 +114,23 @@ switch_safe kinds given m j is_kinds whole =
     fixed m.plan.nodes (λ _. ⊤) (Of (source j)) (few_pairs m.plan.nodes k sensitive.1) (λ pairs. add (node (op.Switch sensitive.0 pairs.0) k pairs.1) m) (few_pairs_step strip m.plan.nodes k (codes "pairs") [] [] sensitive.1 (strip_commutes None plain_other) (subst (λ (i : Kind). Taking strip m.plan.nodes (in_place (codes "pairs") ∷ []) (list (tuple (pair_types i)) ∷ []) sensitive.1) (sym is_k) taking0)) (λ pairs _.
     subst (λ (i : Kind). Safe m.plan.nodes (Of (source i)) (add (node (op.Switch sensitive.0 pairs.0) k pairs.1) m)) is_k (add_safe (node (op.Switch sensitive.0 pairs.0) k pairs.1) m))))
 
-sequence_safe : (kinds : List Kind) (given : List Given) (m : Machine) (j : Kind) → j ∷ [] ≡ kinds → Taking all m.plan.nodes (perhaps (codes "id") ∷ in_place (codes "sources") ∷ []) (base_type base.Text ∷ list (source j) ∷ []) given → Safe m.plan.nodes (Of (source j)) (sequence kinds given m)
-unfolding sequence
-sequence_safe kinds given m j is_kinds whole =
-    let taking = behind_id m.plan.nodes (in_place (codes "sources") ∷ []) (base_type base.Text) (list (source j) ∷ []) given whole in
-    fixed m.plan.nodes (λ k. k ≡ j) (Of (source j)) (one_kind kinds) (λ k. few_sources m.plan.nodes k given >>= λ children. add (node op.Sequence k children) m) (kind_step kinds j is_kinds) (λ k is_k.
-    fixed m.plan.nodes (λ _. ⊤) (Of (source j)) (few_sources m.plan.nodes k given) (λ children. add (node op.Sequence k children) m) (few_sources_step strip m.plan.nodes k (codes "sources") [] [] given (strip_commutes None plain_other) (subst (λ (i : Kind). Taking strip m.plan.nodes (in_place (codes "sources") ∷ []) (list (source i) ∷ []) given) (sym is_k) taking)) (λ children _.
-    subst (λ (i : Kind). Safe m.plan.nodes (Of (source i)) (add (node op.Sequence k children) m)) is_k (add_safe (node op.Sequence k children) m)))
+random_safe : (at : ℕ) (kinds : List Kind) (given : List Given) (m : Machine) (j : Kind) → j ∷ [] ≡ kinds → Taking all m.plan.nodes (perhaps (codes "id") ∷ perhaps (codes "seed") ∷ in_place (codes "sources") ∷ []) (base_type base.Text ∷ base_type base.Int ∷ list (source j) ∷ []) given → Safe m.plan.nodes (Of (source j)) (random at kinds given m)
+unfolding random
+random_safe at kinds given m j is_kinds whole =
+    let taking = behind_id m.plan.nodes (perhaps (codes "seed") ∷ in_place (codes "sources") ∷ []) (base_type base.Text) (base_type base.Int ∷ list (source j) ∷ []) given whole in
+    fixed m.plan.nodes (λ (y : ℤ × List Given). Taking strip m.plan.nodes (in_place (codes "sources") ∷ []) (list (source j) ∷ []) y.1) (Of (source j)) (int_or (codes "seed") (pos 0) given) (λ number. one_kind kinds >>= λ k. plain_sources m.plan.nodes k number.1 >>= λ sources. seed_of at number.0 >>= λ seed. few sources.0 >>= λ children. add (node (op.Random seed) k children) m) (int_or_step strip m.plan.nodes (codes "seed") (in_place (codes "sources") ∷ []) (list (source j) ∷ []) given (pos 0) (strip_commutes (Some (codes "seed")) (label_other (codes "seed") refl)) taking) (λ number taking0.
+    fixed m.plan.nodes (λ k. k ≡ j) (Of (source j)) (one_kind kinds) (λ k. plain_sources m.plan.nodes k number.1 >>= λ sources. seed_of at number.0 >>= λ seed. few sources.0 >>= λ children. add (node (op.Random seed) k children) m) (kind_step kinds j is_kinds) (λ k is_k.
+    fixed m.plan.nodes (λ (y : List ℕ × List Given). Taking strip m.plan.nodes [] [] y.1) (Of (source j)) (plain_sources m.plan.nodes k number.1) (λ sources. seed_of at number.0 >>= λ seed. few sources.0 >>= λ children. add (node (op.Random seed) k children) m) (sources_step strip m.plan.nodes (codes "sources") [] [] number.1 k (strip_commutes None plain_other) (subst (λ (i : Kind). Taking strip m.plan.nodes (in_place (codes "sources") ∷ []) (list (source i) ∷ []) number.1) (sym is_k) taking0)) (λ sources _.
+    fixed m.plan.nodes (λ _. ⊤) (Of (source j)) (seed_of at number.0) (λ seed. few sources.0 >>= λ children. add (node (op.Random seed) k children) m) (seed_step at number.0) (λ seed _.
+    fixed m.plan.nodes (λ _. ⊤) (Of (source j)) (few sources.0) (λ children. add (node (op.Random seed) k children) m) (few_step sources.0) (λ children _.
+    subst (λ (i : Kind). Safe m.plan.nodes (Of (source i)) (add (node (op.Random seed) k children) m)) is_k (add_safe (node (op.Random seed) k children) m))))))
 
 sum_safe : (kinds : List Kind) (given : List Given) (m : Machine) (j : Kind) → j ∷ [] ≡ kinds → Taking all m.plan.nodes (perhaps (codes "id") ∷ perhaps (codes "normalize") ∷ in_place (codes "sources") ∷ []) (base_type base.Text ∷ base_type base.Bool ∷ list (source j) ∷ []) given → Safe m.plan.nodes (Of (source j)) (sum kinds given m)
 unfolding sum
 sum_safe kinds given m j is_kinds whole =
     let taking = behind_id m.plan.nodes (perhaps (codes "normalize") ∷ in_place (codes "sources") ∷ []) (base_type base.Text) (base_type base.Bool ∷ list (source j) ∷ []) given whole in
-    fixed m.plan.nodes (λ (y : Bool × List Given). Taking strip m.plan.nodes (in_place (codes "sources") ∷ []) (list (source j) ∷ []) y.1) (Of (source j)) (bool_or (codes "normalize") true given) (λ normalize. one_kind kinds >>= λ k. few_sources m.plan.nodes k normalize.1 >>= λ children. add (node (op.Add normalize.0) k children) m) (bool_or_step strip m.plan.nodes (codes "normalize") (in_place (codes "sources") ∷ []) (list (source j) ∷ []) given true (strip_commutes (Some (codes "normalize")) (label_other (codes "normalize") refl)) taking) (λ normalize taking0.
-    fixed m.plan.nodes (λ k. k ≡ j) (Of (source j)) (one_kind kinds) (λ k. few_sources m.plan.nodes k normalize.1 >>= λ children. add (node (op.Add normalize.0) k children) m) (kind_step kinds j is_kinds) (λ k is_k.
-    fixed m.plan.nodes (λ _. ⊤) (Of (source j)) (few_sources m.plan.nodes k normalize.1) (λ children. add (node (op.Add normalize.0) k children) m) (few_sources_step strip m.plan.nodes k (codes "sources") [] [] normalize.1 (strip_commutes None plain_other) (subst (λ (i : Kind). Taking strip m.plan.nodes (in_place (codes "sources") ∷ []) (list (source i) ∷ []) normalize.1) (sym is_k) taking0)) (λ children _.
-    subst (λ (i : Kind). Safe m.plan.nodes (Of (source i)) (add (node (op.Add normalize.0) k children) m)) is_k (add_safe (node (op.Add normalize.0) k children) m))))
+    fixed m.plan.nodes (λ (y : Bool × List Given). Taking strip m.plan.nodes (in_place (codes "sources") ∷ []) (list (source j) ∷ []) y.1) (Of (source j)) (bool_or (codes "normalize") true given) (λ normalize. over_sources (op.Add normalize.0) kinds normalize.1 m) (bool_or_step strip m.plan.nodes (codes "normalize") (in_place (codes "sources") ∷ []) (list (source j) ∷ []) given true (strip_commutes (Some (codes "normalize")) (label_other (codes "normalize") refl)) taking) (λ normalize taking0.
+    over_sources_safe (op.Add normalize.0) kinds normalize.1 m j is_kinds taking0)
 
 amplify_safe : (kinds : List Kind) (given : List Given) (m : Machine) (j : Kind) → j ∷ [] ≡ kinds → Taking all m.plan.nodes (perhaps (codes "id") ∷ in_place (codes "k") ∷ in_place (codes "s") ∷ []) (base_type base.Text ∷ base_type base.Decimal ∷ source j ∷ []) given → Safe m.plan.nodes (Of (source j)) (amplify kinds given m)
 unfolding amplify
@@ -208,7 +220,9 @@ builtins_are_safe builtins.Square at kinds gs g call given m are = subst (λ (h 
 builtins_are_safe builtins.Fail at kinds gs g call given m are = subst (λ (h : Ground). Safe m.plan.nodes (Of h) (fail kinds m)) call.result (fail_safe kinds m given (call.at.kind_of 0) call.kinds (taking_of builtins.Fail gs kinds g call m.plan.nodes given are))
 builtins_are_safe builtins.Fallback at kinds gs g call given m are = subst (λ (h : Ground). Safe m.plan.nodes (Of h) (fallback kinds given m)) call.result (fallback_safe kinds given m (call.at.kind_of 0) call.kinds (taking_of builtins.Fallback gs kinds g call m.plan.nodes given are))
 builtins_are_safe builtins.Switch at kinds gs g call given m are = subst (λ (h : Ground). Safe m.plan.nodes (Of h) (switch kinds given m)) call.result (switch_safe kinds given m (call.at.kind_of 0) call.kinds (taking_of builtins.Switch gs kinds g call m.plan.nodes given are))
-builtins_are_safe builtins.Sequence at kinds gs g call given m are = subst (λ (h : Ground). Safe m.plan.nodes (Of h) (sequence kinds given m)) call.result (sequence_safe kinds given m (call.at.kind_of 0) call.kinds (taking_of builtins.Sequence gs kinds g call m.plan.nodes given are))
+builtins_are_safe builtins.Sequence at kinds gs g call given m are = subst (λ (h : Ground). Safe m.plan.nodes (Of h) (over_sources op.Sequence kinds given m)) call.result (sources_safe op.Sequence kinds given m (call.at.kind_of 0) call.kinds (taking_of builtins.Sequence gs kinds g call m.plan.nodes given are))
+builtins_are_safe builtins.Rotate at kinds gs g call given m are = subst (λ (h : Ground). Safe m.plan.nodes (Of h) (over_sources op.Rotate kinds given m)) call.result (sources_safe op.Rotate kinds given m (call.at.kind_of 0) call.kinds (taking_of builtins.Rotate gs kinds g call m.plan.nodes given are))
+builtins_are_safe builtins.Random at kinds gs g call given m are = subst (λ (h : Ground). Safe m.plan.nodes (Of h) (random at kinds given m)) call.result (random_safe at kinds given m (call.at.kind_of 0) call.kinds (taking_of builtins.Random gs kinds g call m.plan.nodes given are))
 builtins_are_safe builtins.Add at kinds gs g call given m are = subst (λ (h : Ground). Safe m.plan.nodes (Of h) (sum kinds given m)) call.result (sum_safe kinds given m (call.at.kind_of 0) call.kinds (taking_of builtins.Add gs kinds g call m.plan.nodes given are))
 builtins_are_safe builtins.Amplify at kinds gs g call given m are = subst (λ (h : Ground). Safe m.plan.nodes (Of h) (amplify kinds given m)) call.result (amplify_safe kinds given m (call.at.kind_of 0) call.kinds (taking_of builtins.Amplify gs kinds g call m.plan.nodes given are))
 builtins_are_safe builtins.Mean at kinds gs g call given m are = subst (λ (h : Ground). Safe m.plan.nodes (Of h) (mean given m)) call.result (mean_safe given m (taking_of builtins.Mean gs kinds g call m.plan.nodes given are))

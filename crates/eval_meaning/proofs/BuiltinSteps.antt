@@ -1,6 +1,6 @@
 -- The steps of a builtin call at arguments of their types: none is stuck.
 use Rattle.std.proofs.Common.{◌≡◌, ℕ, List, [], ◌∷◌, ◌++◌, length, Bool, true, false, ◌&&◌, Option, Some, None, Result, Ok, Err, refl, sym, ap, subst, ◌∙◌, pos, nat_le, nat_lt, nat_eq}
-use Rattle.std.specs.Prelude.{slice_get, ⊤, codes, bytes_eq, int_le, int_lt, unsigned_abs, count_by}
+use Rattle.std.specs.Prelude.{ℤ, slice_get, ⊤, codes, bytes_eq, int_le, int_lt, unsigned_abs, count_by}
 use Rattle.std.specs.List.{list_any}
 use Rattle.liq_base.specs.declared.limits.TheConstants.{MAX_NODES, MAX_CHILDREN, MAX_CROSSFADES, MAX_OUTPUTS, MIN_RATE, MAX_RATE, MAX_OVERLAP, MAX_PREFILL, MAX_CAPACITY}
 use Rattle.liq_base.specs.declared.memory.Kind.{Kind}
@@ -11,7 +11,7 @@ use Rattle.time_pred.specs.Predicates.{Predicate}
 use Rattle.plan_core.specs.declared.node.Node.{Node}
 use Rattle.plan_core.specs.declared.plan.Plan.{Plan}
 use Rattle.plan_core.specs.declared.sink.BufferPlan.{BufferPlan}
-use Rattle.plan_core.specs.Plans.{crossfades_from, with_node, with_buffer, with_output, reader_of}
+use Rattle.plan_core.specs.Plans.{crossfades_from, with_node, with_buffer, with_output, reader_of, is_output}
 use Rattle.type_terms.specs.Ground.{Ground, Grounds, base_type, list, tuple, source}
 use Rattle.type_terms.specs.Ground as ground
 use Rattle.type_terms.specs.declared.ty.Base.TheVariants as base
@@ -25,12 +25,12 @@ use Rattle.script_values.specs.Outcomes.{◌>>=◌, Outcome}
 use Rattle.script_values.specs.Slots.{Given}
 use Rattle.script_values.specs.Values as value
 use Rattle.script_values.specs.Values.{Value}
-use Rattle.builtin_calls.specs.Parts.{one_kind, is_kind, of_kind, text_of, decimal_of, bool_of, format_of, source_of, nodes_from, sources_of, pred_of, pair_in, pair_of, pairs_from, pairs_of, needed, or_default, plain, plain_text, plain_decimal, plain_format, plain_source, plain_sources, plain_pairs, bool_or, decimal_or, text_or}
+use Rattle.builtin_calls.specs.Parts.{one_kind, is_kind, of_kind, text_of, decimal_of, int_of, bool_of, format_of, source_of, nodes_from, sources_of, pred_of, pair_in, pair_of, pairs_from, pairs_of, needed, or_default, plain, plain_text, plain_decimal, plain_format, plain_source, plain_sources, plain_pairs, bool_or, int_or, decimal_or, text_or}
 use Rattle.builtin_calls.specs.Nodes.{at_most, few, push, add, add_buffer, crossfades_with}
 use Rattle.builtin_calls.specs.Times.{some_samples, overlap_of, track_of, samples_of, pitch_of, chunks}
-use Rattle.builtin_calls.specs.Sinks.{is_named, is_output, add_output}
+use Rattle.builtin_calls.specs.Sinks.{is_named, add_output}
 use Rattle.builtin_calls.specs.Settings.{rate_of, duration_of, set_rate, set_duration, setting}
-use Rattle.builtin_calls.specs.Builtins.{is_normal, few_sources, few_pairs, short_overlap, buffer_plan, sensitive_or}
+use Rattle.builtin_calls.specs.Builtins.{is_normal, seed_of, few_sources, few_pairs, short_overlap, buffer_plan, sensitive_or}
 use Rattle.builtin_calls.proofs.Adding.{stays, last_is}
 use Rattle.eval_meaning.specs.BuiltinSafety.{IsA, AllAre, EachIs, IsTold, NotStuck, Safe, Of}
 use Rattle.eval_meaning.proofs.BuiltinGrowth.{fixed}
@@ -79,6 +79,19 @@ decimal_read ns (value.Pred p) is = absurd cc
 decimal_read ns (value.Source n) is = let e = is.2 in absurd cc
 decimal_read ns (value.Listed vs) is = let e = is.1 in absurd cc
 decimal_read ns (value.Tuple vs) is = let e = is.1 in absurd cc
+
+int_read : (ns : List Node) (v : Value) → IsA ns v (base_type base.Int) → NotStuck (λ _. ⊤) (int_of v)
+unfolding int_of
+int_read ns (value.Int n) is = tt
+int_read ns (value.Number d) is = absurd cc
+int_read ns (value.Text t) is = absurd cc
+int_read ns (value.Truth b) is = absurd cc
+int_read ns value.Nothing is = absurd cc
+int_read ns value.Format is = absurd cc
+int_read ns (value.Pred p) is = absurd cc
+int_read ns (value.Source n) is = let e = is.2 in absurd cc
+int_read ns (value.Listed vs) is = let e = is.1 in absurd cc
+int_read ns (value.Tuple vs) is = let e = is.1 in absurd cc
 
 bool_read : (ns : List Node) (v : Value) → IsA ns v (base_type base.Bool) → NotStuck (λ _. ⊤) (bool_of v)
 unfolding bool_of
@@ -278,6 +291,10 @@ module _ (S : List Given → List Given) (ns : List Node) (name : List ℕ) (ps 
   unfolding decimal_or
   decimal_or_step default commutes taking = optional_by (base_type base.Decimal) decimal_of default (decimal_read ns) (argument (Some name) given) (take_labelled S ns name ps (base_type base.Decimal) ts given commutes taking)
 
+  pub int_or_step : (default : ℤ) → Commutes S (Some name) → Taking S ns (perhaps name ∷ ps) (base_type base.Int ∷ ts) given → NotStuck (λ (y : ℤ × List Given). Taking S ns ps ts y.1) (int_or name default given)
+  unfolding int_or
+  int_or_step default commutes taking = optional_by (base_type base.Int) int_of default (int_read ns) (argument (Some name) given) (take_labelled S ns name ps (base_type base.Int) ts given commutes taking)
+
 -- ---- kinds, bad values and limits
 
 pub kind_step : (kinds : List Kind) (j : Kind) → j ∷ [] ≡ kinds → NotStuck (λ (k : Kind). k ≡ j) (one_kind kinds)
@@ -299,6 +316,9 @@ few_step ns = good_by (nat_le (length ns) MAX_CHILDREN) (TooLarge Children) ns t
 
 pub normal_step : (at : ℕ) (mode : List ℕ) → NotStuck (λ _. ⊤) (is_normal at mode)
 normal_step at mode = good_by (bytes_eq mode (codes "normal")) (BadValue at) tt tt
+
+pub seed_step : (at : ℕ) (n : ℤ) → NotStuck (λ _. ⊤) (seed_of at n)
+seed_step at n = told_by (int_lt n (pos 0)) (BadValue at) (Ok (unsigned_abs n)) tt tt
 
 some_step : (at n : ℕ) → NotStuck (λ _. ⊤) (some_samples at n)
 some_step at n = told_by (nat_eq n 0) (BadValue at) (Ok n) tt tt

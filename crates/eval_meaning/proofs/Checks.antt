@@ -1,15 +1,30 @@
 -- Small scripts, whose meaning is computed.
-use Rattle.std.proofs.Common.{◌≡◌, List, [], ◌∷◌, true, false, Some, None, Err, refl}
+use Rattle.std.proofs.Common.{◌≡◌, ℕ, zero, suc, ◌+◌, ◌*◌, List, [], ◌∷◌, true, false, Some, None, Ok, Err, refl}
 use Rattle.std.specs.Prelude.{pos, codes}
+use Rattle.liq_base.specs.declared.memory.Kind.TheVariants.{Mono, Stereo}
+use Rattle.plan_core.specs.declared.node.Op.TheVariants as node_op
+use Rattle.plan_core.specs.declared.sink.SinkPlan.TheVariants.{Output}
+use Rattle.fixed_text.specs.declared.decimal.Decimal.{Decimal}
 use Rattle.script_grammar.specs.declared.tree.Literal.TheVariants as literal
 use Rattle.script_grammar.specs.declared.tree.CompareOp.TheVariants as op
-use Rattle.script_grammar.specs.Tree.{Tree, Many, none, more, AFull, AnArg, Plain, Expr, And, Not, Alone, Compared, Sum, Product, Multiplied, Constant, Truth, Named, Called, Chosen, Call, Arg, If, Param, Optional, Bind, Def, Stmt, BindPart, DefPart, Script}
+use Rattle.script_grammar.specs.Tree.{Tree, Many, none, more, AFull, AnExpr, APrim, AnArg, AStmt, Plain, Expr, And, Not, Alone, Compared, Sum, Product, Multiplied, Constant, Quoted, Truth, Named, Called, Chosen, Listed, Format, Call, Arg, If, Param, Optional, Bind, Def, Stmt, BindPart, DefPart, CallPart, Script}
 use Rattle.typing_rules.specs.declared.uses.Use.{Use}
+use Rattle.typing_rules.specs.declared.uses.Builtin.TheVariants as builtins
+use Rattle.typing_rules.specs.declared.uses.KindOf.TheVariants as kind_of
+use Rattle.typing_rules.specs.declared.uses.Target.{Target}
 use Rattle.typing_rules.specs.declared.uses.Target.TheVariants as target
 use Rattle.script_values.specs.declared.fault.EvalFault.TheVariants as told
-use Rattle.script_values.specs.Machines.{count}
+use Rattle.script_values.specs.declared.fault.Limit.TheVariants.{Calls}
+use Rattle.script_values.specs.declared.machine.Machine.{Machine}
+use Rattle.script_values.specs.Machines.{count, first_machine, some_millionths}
 use Rattle.script_values.specs.Numbers.{multiplied, quotient, truth_of}
-use Rattle.eval_meaning.specs.Meaning.{full, expr, ors, conj, ands, nega, compare, sum, addeds, product, multiplieds, times, prim, choice, call, arguments, argued, applied, named, parameter, parameters, inners, body, call_by}
+use Rattle.builtin_calls.specs.Builtins.{builtin, set, blank, output_file}
+use Rattle.builtin_calls.specs.Nodes.{add, push}
+use Rattle.builtin_calls.specs.Parts.{bool_or, decimal_or, format_of, plain, plain_format, plain_source, plain_text, source_of, text_of}
+use Rattle.builtin_calls.specs.Settings.{duration_of, rate_of, set_duration, set_rate, setting}
+use Rattle.builtin_calls.specs.Sinks.{add_output}
+use Rattle.builtin_calls.specs.Times.{track_of}
+use Rattle.eval_meaning.specs.Meaning.{full, expr, ors, conj, ands, nega, compare, sum, addeds, product, multiplieds, times, prim, choice, fulls, call, arguments, argued, applied, named, parameter, parameters, inners, body, call_by}
 use Rattle.eval_meaning.specs.Scripts.{ended, evaluation, statement, statements, turned}
 
 abbrev only : Tree AFull → Script
@@ -57,3 +72,128 @@ default_unused :
     ≡ Err (Some told.NoOutput)
 unfolding statements turned statement full expr ors conj ands nega compare sum addeds product multiplieds prim named call arguments argued applied parameter parameters inners count ended body call_by
 default_unused = refl
+
+-- ---- shapes of more than one row
+
+abbrev alone : Tree APrim → Tree AnExpr
+alone p = Expr (And (Not false (Alone (Sum (Product p none) none))) none) none
+
+abbrev unlabelled : ℕ → Tree APrim → Tree AnArg
+unlabelled at p = Arg at None (Plain (alone p))
+
+-- a statement that binds the name at this token
+abbrev bound : ℕ → Tree APrim → Tree AStmt
+bound at p = Stmt (BindPart (Bind at (codes "x") (Plain (alone p)))) false
+
+abbrev use_of : ℕ → Target → Use
+use_of at t = record { at = at; target = t; kinds = [] }
+
+-- ---- the end of the settings
+
+-- set(key, n)
+abbrev set_to : ℕ → List ℕ → Tree APrim → Tree AStmt
+set_to at key p = Stmt (CallPart (Call at (codes "set") (more (unlabelled (at + 2) (Quoted (at + 2) key)) (more (unlabelled (at + 4) p) none)))) false
+
+abbrev seconds : ℕ → Decimal → Tree AStmt
+seconds at d = set_to at (codes "frame.duration") (Constant (at + 4) (literal.Number d))
+
+abbrev rate : ℕ → ℕ → Tree AStmt
+rate at n = set_to at (codes "frame.audio.samplerate") (Constant (at + 4) (literal.Int (pos n)))
+
+-- `set` at tokens 0, 10 and 20
+abbrev sets : List Use
+sets = use_of 0 (target.Builtin builtins.Set) ∷ use_of 10 (target.Builtin builtins.Set) ∷ use_of 20 (target.Builtin builtins.Set) ∷ []
+
+-- set("frame.duration", 0.)  set("log", 1)  x = true: a bad tick is blamed on the last statement that set one
+bad_tick : evaluation (more (seconds 0 (some_millionths 0 tt)) (more (set_to 10 (codes "log") (Constant 14 (literal.Int (pos 1)))) (more (bound 20 (Truth 22 true)) none))) sets ≡ Err (Some (told.BadSetting 1))
+unfolding statements turned statement full expr ors conj ands nega compare sum addeds product multiplieds prim call arguments argued applied builtin set plain_text plain text_of setting set_duration duration_of count ended
+bad_tick = refl
+
+-- set("frame.duration", 0.): the settings end with the script too
+last_setting : evaluation (more (seconds 0 (some_millionths 0 tt)) none) sets ≡ Err (Some (told.BadSetting 1))
+unfolding statements turned statement full expr ors conj ands nega compare sum addeds product multiplieds prim call arguments argued applied builtin set plain_text plain text_of setting set_duration duration_of count ended
+last_setting = refl
+
+-- set("frame.duration", 0.00001)  set("frame.audio.samplerate", 192000): no sample at 44100 samples a second, and one at 192000
+rate_in_force : evaluation (more (seconds 0 (some_millionths 10 tt)) (more (rate 10 192000) none)) sets ≡ Err (Some told.NoOutput)
+unfolding statements turned statement full expr ors conj ands nega compare sum addeds product multiplieds prim call arguments argued applied builtin set plain_text plain text_of setting set_duration duration_of set_rate rate_of count ended
+rate_in_force = refl
+
+-- x = true  set("frame.audio.samplerate", 8000)
+late_setting : evaluation (more (bound 0 (Truth 2 true)) (more (rate 10 8000) none)) sets ≡ Err (Some (told.BadSetting 2))
+unfolding statements turned statement full expr ors conj ands nega compare sum addeds product multiplieds prim call arguments argued applied builtin set plain_text plain text_of setting set_rate rate_of count ended
+late_setting = refl
+
+-- ---- the limit of the work
+
+abbrev worked : ℕ → Machine
+worked n = record first_machine { work = n }
+
+-- x = true  x = true, behind 999998 steps
+last_step : statements none [] (more (bound 0 (Truth 2 true)) (more (bound 10 (Truth 12 true)) none)) 0 [] (worked 999998) ≡ Err (Some (told.TooMuchWork 2))
+unfolding statements turned statement full expr ors conj ands nega compare sum addeds product multiplieds prim count ended
+last_step = refl
+
+-- x = [true, true]  x = x  x = true: the list takes 3 steps, and so does its name
+abbrev sizes : Script
+sizes = more (bound 0 (Listed 2 (more (Plain (alone (Truth 3 true))) (more (Plain (alone (Truth 5 true))) none)))) (more (bound 10 (Named 12 (codes "x"))) (more (bound 20 (Truth 22 true)) none))
+
+size_counts : statements sizes (use_of 12 (target.Slot 0) ∷ []) sizes 0 [] (worked 999993) ≡ Err (Some (told.TooMuchWork 3))
+unfolding statements turned statement full expr ors conj ands nega compare sum addeds product multiplieds prim fulls named count ended
+size_counts = refl
+
+size_passes : statements sizes (use_of 12 (target.Slot 0) ∷ []) sizes 0 [] (worked 999994) ≡ Err (Some (told.TooMuchWork 2))
+unfolding statements turned statement full expr ors conj ands nega compare sum addeds product multiplieds prim fulls named count ended
+size_passes = refl
+
+-- ---- calls that run
+
+-- def f() = 1 end, and then so many times def f() = f() end; the name of def i stands at token 10 * i, the call in it at 10 * i + 5
+abbrev body_of : ℕ → Tree AnExpr
+body_of zero = alone (Constant 5 (literal.Int (pos 1)))
+body_of (suc i) = alone (Called (Call (10 * suc i + 5) (codes "f") none))
+
+abbrev defs_from : ℕ → ℕ → Script → Script
+defs_from zero i rest = rest
+defs_from (suc n) i rest = more (Stmt (DefPart (Def (10 * i) (codes "f") none true none (body_of i))) false) (defs_from n (suc i) rest)
+
+abbrev calls_from : ℕ → ℕ → List Use
+calls_from zero i = []
+calls_from (suc n) i = use_of (10 * suc i + 5) (target.Def (10 * i)) ∷ calls_from n (suc i)
+
+-- so many defs, and x = f() behind them, whose call is that of one more
+abbrev nested : ℕ → Script
+nested n = defs_from n 0 (more (bound (10 * n) (Called (Call (10 * n + 5) (codes "f") none))) none)
+
+calls_16 : evaluation (nested 16) (calls_from 16 0) ≡ Err (Some told.NoOutput)
+unfolding statements turned statement full expr ors conj ands nega compare sum addeds product multiplieds prim call arguments applied parameters inners body call_by count ended
+calls_16 = refl
+
+calls_17 : evaluation (nested 17) (calls_from 17 0) ≡ Err (Some (told.TooLarge Calls))
+unfolding statements turned statement full expr ors conj ands nega compare sum addeds product multiplieds prim call arguments applied parameters inners body call_by count ended
+calls_17 = refl
+
+-- ---- kinds of a call
+
+-- def f() = blank() end  def g() = f() end  output.file(%wav, "A", g())  output.file(%wav, "B", g()), the first mono and the second stereo
+abbrev written : ℕ → List ℕ → Tree AStmt
+written at name = Stmt (CallPart (Call at (codes "output.file") (more (unlabelled (at + 2) (Format (at + 2) None)) (more (unlabelled (at + 4) (Quoted (at + 4) name)) (more (unlabelled (at + 6) (Called (Call (at + 6) (codes "g") none))) none))))) false
+
+abbrev two_kinds : Script
+two_kinds =
+    more (Stmt (DefPart (Def 1 (codes "f") none true none (alone (Called (Call 5 (codes "blank") none))))) false)
+    (more (Stmt (DefPart (Def 11 (codes "g") none true none (alone (Called (Call 15 (codes "f") none))))) false)
+    (more (written 20 (codes "A")) (more (written 30 (codes "B")) none)))
+
+abbrev uses_of_kinds : List Use
+uses_of_kinds =
+    record { at = 5; target = target.Builtin builtins.Blank; kinds = kind_of.Given 0 ∷ [] }
+    ∷ record { at = 15; target = target.Def 1; kinds = kind_of.Given 0 ∷ [] }
+    ∷ record { at = 20; target = target.Builtin builtins.OutputFile; kinds = kind_of.Fixed Mono ∷ [] }
+    ∷ record { at = 26; target = target.Def 11; kinds = kind_of.Fixed Mono ∷ [] }
+    ∷ record { at = 30; target = target.Builtin builtins.OutputFile; kinds = kind_of.Fixed Stereo ∷ [] }
+    ∷ record { at = 36; target = target.Def 11; kinds = kind_of.Fixed Stereo ∷ [] } ∷ []
+
+each_kind : evaluation two_kinds uses_of_kinds ≡ Ok (record { rate = 44100; frame = 1764; nodes = record { op = node_op.Blank 0; kind = Mono; children = [] } ∷ record { op = node_op.Blank 0; kind = Stereo; children = [] } ∷ []; sinks = Output (codes "A") 0 false ∷ Output (codes "B") 1 false ∷ []; buffers = [] })
+unfolding statements turned statement full expr ors conj ands nega compare sum addeds product multiplieds prim call arguments argued applied builtin blank output_file decimal_or bool_or plain plain_format plain_text plain_source format_of text_of source_of track_of add push add_output parameters inners body call_by count ended
+each_kind = refl

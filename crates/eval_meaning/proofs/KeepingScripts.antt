@@ -5,7 +5,7 @@ use Rattle.std.specs.List.{list_any}
 use Rattle.liq_base.specs.declared.limits.TheConstants.{MAX_FRAME, MAX_CALLS}
 use Rattle.fixed_text.specs.Texts.{samples_in}
 use Rattle.plan_core.specs.declared.plan.Plan.{Plan}
-use Rattle.plan_core.specs.Plans.{IsWellFormed}
+use Rattle.plan_core.specs.Plans.{IsWellFormed, is_output}
 use Rattle.script_grammar.specs.Tree.{Tree, Many, none, more, AStmt, APart, Stmt, Script}
 use Rattle.typing_rules.specs.declared.uses.Use.{Use}
 use Rattle.script_values.specs.declared.fault.Fault.{Fault}
@@ -18,15 +18,15 @@ use Rattle.builtin_calls.specs.Builtins.{builtin}
 use Rattle.builtin_calls.specs.Sound.{IsSound}
 use Rattle.builtin_calls.proofs.Keeping.{call_keeps, counting_keeps, first_sound}
 use Rattle.eval_meaning.specs.Calls.{is_setting}
-use Rattle.eval_meaning.specs.Keeping.{IsKept, Keeps, Leaves}
-use Rattle.eval_meaning.specs.Scripts.{Ending, and_then, closed, ended, evaluation, in_statement, is_output, numbered, plan_of, settled, statement, statements, tick_of, top_scope, turned}
+use Rattle.eval_meaning.specs.Keeping.{IsKept, HoldsBehind, Leaves}
+use Rattle.eval_meaning.specs.Scripts.{Ending, and_then, closed, ended, evaluation, in_statement, numbered, plan_of, settled, statement, statements, tick_of, top_scope, turned}
 use Rattle.eval_meaning.proofs.KeepingEvaluations.{calls_keep, statement_keeps}
 
 left_by : (r : Result Machine Fault) (m : Machine) → ((c : Machine) → r ≡ Ok c → IsSound m → IsSound c) → IsSound m → Leaves IsSound r
 left_by (Ok c) m each is = each c refl is
 left_by (Err e) m each is = tt
 
-kept_by : (r : Result (Value × Machine) Fault) (m : Machine) → ((x : Value × Machine) → r ≡ Ok x → IsSound m → IsSound x.1) → IsSound m → Keeps IsSound r
+kept_by : (r : Result (Value × Machine) Fault) (m : Machine) → ((x : Value × Machine) → r ≡ Ok x → IsSound m → IsSound x.1) → IsSound m → HoldsBehind IsSound r
 kept_by (Ok x) m each is = each x refl is
 kept_by (Err e) m each is = tt
 
@@ -91,19 +91,19 @@ numbered_sound n m is = record { well_formed = is.well_formed; outputs = is.outp
 
 -- ---- the statements
 
-then_keeps : {A : Type 0} (r : Result Machine Ending) (f : Machine → Result (A × Machine) Ending) → Leaves IsSound r → ((m : Machine) → IsSound m → Keeps IsSound (f m)) → Keeps IsSound (and_then r f)
+then_keeps : {A : Type 0} (r : Result Machine Ending) (f : Machine → Result (A × Machine) Ending) → Leaves IsSound r → ((m : Machine) → IsSound m → HoldsBehind IsSound (f m)) → HoldsBehind IsSound (and_then r f)
 then_keeps (Ok m) f is later = later m is
 then_keeps (Err e) f is later = tt
 
-then_leaves : {A : Type 0} (r : Result (A × Machine) Ending) (f : A × Machine → Result Machine Ending) → Keeps IsSound r → ((x : A × Machine) → IsSound x.1 → Leaves IsSound (f x)) → Leaves IsSound (and_then r f)
+then_leaves : {A : Type 0} (r : Result (A × Machine) Ending) (f : A × Machine → Result Machine Ending) → HoldsBehind IsSound r → ((x : A × Machine) → IsSound x.1 → Leaves IsSound (f x)) → Leaves IsSound (and_then r f)
 then_leaves (Ok x) f is later = later x is
 then_leaves (Err e) f is later = tt
 
-in_keeps : {A : Type 0} (n : ℕ) (r : Result (A × Machine) Fault) → Keeps IsSound r → Keeps IsSound (in_statement n r)
+in_keeps : {A : Type 0} (n : ℕ) (r : Result (A × Machine) Fault) → HoldsBehind IsSound r → HoldsBehind IsSound (in_statement n r)
 in_keeps n (Ok x) is = is
 in_keeps n (Err e) is = tt
 
-turned_sound : (script : Script) (uses : List Use) (part : Tree APart) (n : ℕ) (slots : List Slot) (m : Machine) → IsSound m → Keeps IsSound (turned script uses part n slots m)
+turned_sound : (script : Script) (uses : List Use) (part : Tree APart) (n : ℕ) (slots : List Slot) (m : Machine) → IsSound m → HoldsBehind IsSound (turned script uses part n slots m)
 unfolding turned
 turned_sound script uses part n slots m is =
     then_keeps (settled (is_setting uses part) m) (λ b. in_statement n (statement (top_scope script uses slots) part slots (numbered n b))) (settled_sound (is_setting uses part) m is) (λ b held.

@@ -16,9 +16,9 @@ use Rattle.script_values.specs.Outcomes.{◌>>=◌, Outcome}
 use Rattle.script_values.specs.Slots.{Given, Slot, slot_at}
 use Rattle.script_values.specs.Values.{Value}
 use Rattle.eval_meaning.specs.Meaning as meaning
-use Rattle.eval_meaning.specs.Meaning.{Scope, full, or_default, taken}
+use Rattle.eval_meaning.specs.Meaning.{Scope, full, slot_or_default, taken_slot}
 use Rattle.eval_meaning.specs.BuiltinSafety.{AreA, BuiltinsAreSafe, Grows, IsA, Of, Safe}
-use Rattle.eval_meaning.specs.Safety.{Fits, Knows}
+use Rattle.eval_meaning.specs.Safety.{HaveValues, Knows}
 use Rattle.eval_meaning.proofs.SafeGrowth.{after, are_later, is_later, knows_later, stays}
 use Rattle.eval_meaning.proofs.SafeExpressions.{safe_expr, safe_full}
 
@@ -49,7 +49,7 @@ first_or : (ns : List Node) (b : Bool) (v : Value) (h g : Ground) (o : Option Gr
 first_or ns true v h g o q held later is = let same : h ≡ g = cc in (v, refl, subst (λ (k : Ground). IsA ns v k) same held)
 first_or ns false v h g o q held later is = later is
 
-pub fits_within : (ns : List Node) (ss : List Slot) (us : Types) (globals : List Slot) (types : Types) → SlotsAre ns ss us → Fits ns types globals → Fits ns (us ++ types) (ss ++ globals)
+pub fits_within : (ns : List Node) (ss : List Slot) (us : Types) (globals : List Slot) (types : Types) → SlotsAre ns ss us → HaveValues ns types globals → HaveValues ns (us ++ types) (ss ++ globals)
 fits_within ns [] [] globals types held fits at g is = fits at g is
 fits_within ns [] (k ∷ us) globals types held fits at g is = absurd held
 fits_within ns (r ∷ ss) [] globals types held fits at g is = absurd held
@@ -122,14 +122,14 @@ abbrev Took : ℕ → Ground → List (arguments.Given Ground) → List Node →
 Took at u gs ks out = (out.0.0 ≡ at) × IsA ks out.0.1 u × AreA ks out.1 gs
 
 taken_safe : (at : ℕ) (u : Ground) (gs : List (arguments.Given Ground)) (q : Option (Value × List Given)) (o : Option (Ground × List (arguments.Given Ground))) (m : Machine) → (o ≡ None → ⊥) → Takes o u → Found m.plan.nodes q o
-    → Safe m.plan.nodes (Took at u (others gs o)) (taken at q m)
+    → Safe m.plan.nodes (Took at u (others gs o)) (taken_slot at q m)
 taken_safe at u gs None None m some takes found = absurd (some refl)
 taken_safe at u gs None (Some y) m some takes found = absurd found
 taken_safe at u gs (Some x) None m some takes found = absurd found
 taken_safe at u gs (Some x) (Some y) m some takes found = (stays m.plan.nodes, (refl, subst (λ (k : Ground). IsA m.plan.nodes x.0 k) takes found.0, found.1))
 
 default_safe : (at : ℕ) (u : Ground) (given : List Given) (gs : List (arguments.Given Ground)) (q : Option (Value × List Given)) (o : Option (Ground × List (arguments.Given Ground))) (default : Outcome) (m : Machine) → AreA m.plan.nodes given gs → Takes o u → Found m.plan.nodes q o
-    → Safe m.plan.nodes (Of u) default → Safe m.plan.nodes (Took at u (others gs o)) (or_default at q given default m)
+    → Safe m.plan.nodes (Of u) default → Safe m.plan.nodes (Took at u (others gs o)) (slot_or_default at q given default m)
 default_safe at u given gs None None default m held takes found safe = after m.plan.nodes (Of u) (Took at u gs) default (λ x. Ok (((at, x.0), given), x.1)) safe (λ x grows is. (stays x.1.plan.nodes, (refl, is, are_later m.plan.nodes x.1.plan.nodes grows given gs held)))
 default_safe at u given gs None (Some y) default m held takes found safe = absurd found
 default_safe at u given gs (Some x) None default m held takes found safe = absurd found

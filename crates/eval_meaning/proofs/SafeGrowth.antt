@@ -15,7 +15,7 @@ use Rattle.script_values.specs.Values as value
 use Rattle.script_values.specs.Values.{Value}
 use Rattle.eval_meaning.specs.Meaning.{Scope, joined}
 use Rattle.eval_meaning.specs.BuiltinSafety.{AllAre, AreA, EachIs, Grows, IsA, NotStuck, Of, Safe}
-use Rattle.eval_meaning.specs.Safety.{Fits, Knows}
+use Rattle.eval_meaning.specs.Safety.{HaveValues, Knows}
 
 pub stays : (ns : List Node) → Grows ns ns
 stays ns n node is = is
@@ -50,7 +50,7 @@ are_later a b grows [] (h ∷ hs) is = absurd is
 are_later a b grows (g ∷ given) [] is = absurd is
 are_later a b grows (g ∷ given) (h ∷ hs) is = (is.0, is_later a b grows g.1 h.1 is.1, are_later a b grows given hs is.2)
 
-pub fits_later : (a b : List Node) → Grows a b → (types : Types) (slots : List Slot) → Fits a types slots → Fits b types slots
+pub fits_later : (a b : List Node) → Grows a b → (types : Types) (slots : List Slot) → HaveValues a types slots → HaveValues b types slots
 fits_later a b grows types slots fits at g is =
     let held = fits at g is in
     (held.0, held.1, is_later a b grows held.0 g held.2)

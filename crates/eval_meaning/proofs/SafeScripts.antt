@@ -5,6 +5,7 @@ use Rattle.liq_base.specs.declared.limits.TheConstants.{MAX_CALLS}
 use Rattle.liq_base.specs.declared.memory.Kind.{Kind}
 use Rattle.plan_core.specs.declared.node.Node.{Node}
 use Rattle.plan_core.specs.declared.plan.Plan.{Plan}
+use Rattle.plan_core.specs.Plans.{is_output}
 use Rattle.script_grammar.specs.Placed.{IsPlaced}
 use Rattle.script_grammar.specs.Spelling.{spell}
 use Rattle.script_grammar.specs.Tree.{Tree, Many, ADef, AStmt, AFull, ACall, AnIf, none, more, Stmt, BindPart, DefPart, CallPart, IfPart, Bind, Script}
@@ -29,9 +30,9 @@ use Rattle.script_values.specs.Values.{Value}
 use Rattle.eval_meaning.specs.Calls.{is_setting}
 use Rattle.eval_meaning.specs.Meaning as meaning
 use Rattle.eval_meaning.specs.Meaning.{Scope, World, call_by, full, run}
-use Rattle.eval_meaning.specs.Scripts.{Ending, and_then, closed, ended, evaluation, in_statement, is_output, numbered, plan_of, settled, statement, statements, tick_of, top_scope, turned}
+use Rattle.eval_meaning.specs.Scripts.{Ending, and_then, closed, ended, evaluation, in_statement, numbered, plan_of, settled, statement, statements, tick_of, top_scope, turned}
 use Rattle.eval_meaning.specs.BuiltinSafety.{AreA, BuiltinsAreSafe, Grows, IsA, IsTold, Of, Safe}
-use Rattle.eval_meaning.specs.Safety.{Fits, IsNotStuck, Knows}
+use Rattle.eval_meaning.specs.Safety.{HaveValues, IsNotStuck, Knows}
 use Rattle.eval_meaning.proofs.SafeDefs.{IsFound, safe_body}
 use Rattle.eval_meaning.proofs.SafeExpressions.{safe_call, safe_choice, safe_full}
 use Rattle.eval_meaning.proofs.SafeGrowth.{after, fits_later, grows_on, stays}
@@ -76,17 +77,17 @@ below_push i k slots v lt below at w is = by_old (slot_at at slots) refl where
 -- ---- what the text of a statement sees
 
 abbrev Sees : List Node → List Slot → List Entry → Type 0
-Sees ns slots es = Fits ns (types_of es) slots × ((d : Tree ADef) (before : List Entry) → Stands es d before → Fits ns (types_of before) slots)
+Sees ns slots es = HaveValues ns (types_of es) slots × ((d : Tree ADef) (before : List Entry) → Stands es d before → HaveValues ns (types_of before) slots)
 
 sees_later : (a b : List Node) → Grows a b → (slots : List Slot) (es : List Entry) → Sees a slots es → Sees b slots es
 sees_later a b grows slots es sees = (fits_later a b grows (types_of es) slots sees.0, λ d before stands. fits_later a b grows (types_of before) slots (sees.1 d before stands))
 
-fits_push : (ns : List Node) (types : Types) (slots : List Slot) (more' : List Slot) → Fits ns types slots → Fits ns types (slots ++ more')
+fits_push : (ns : List Node) (types : Types) (slots : List Slot) (more' : List Slot) → HaveValues ns types slots → HaveValues ns types (slots ++ more')
 fits_push ns types slots more' fits at g is =
     let held = fits at g is in
     (held.0, slot_first at slots more' held.0 held.1, held.2)
 
-fits_value : (ns : List Node) (types : Types) (slots : List Slot) (at : ℕ) (v : Value) (g : Ground) → slot_at at slots ≡ None → IsA ns v g → Fits ns types slots → Fits ns ((at, g) ∷ types) (slots ++ (at, v) ∷ [])
+fits_value : (ns : List Node) (types : Types) (slots : List Slot) (at : ℕ) (v : Value) (g : Ground) → slot_at at slots ≡ None → IsA ns v g → HaveValues ns types slots → HaveValues ns ((at, g) ∷ types) (slots ++ (at, v) ∷ [])
 fits_value ns types slots at v g free held fits u h is = by_token (nat_eq at u) refl is where
   by_token : (b : Bool) → nat_eq at u ≡ b → cond b (Some g) (type_at u types) ≡ Some h → IsFound ns (slot_at u (slots ++ (at, v) ∷ [])) h
   by_token true same here =
@@ -100,14 +101,14 @@ fits_value ns types slots at v g free held fits u h is = by_token (nat_eq at u) 
 
 sees_value : (ns : List Node) (slots : List Slot) (es : List Entry) (at : ℕ) (v : Value) (g : Ground) → slot_at at slots ≡ None → IsA ns v g → Sees ns slots es → Sees ns (slots ++ (at, v) ∷ []) (value at g ∷ es)
 sees_value ns slots es at v g free held sees = (fits_value ns (types_of es) slots at v g free held sees.0, behind) where
-  behind : (d : Tree ADef) (before : List Entry) → Stands (value at g ∷ es) d before → Fits ns (types_of before) (slots ++ (at, v) ∷ [])
+  behind : (d : Tree ADef) (before : List Entry) → Stands (value at g ∷ es) d before → HaveValues ns (types_of before) (slots ++ (at, v) ∷ [])
   behind d before (inl here) = let e = here.0 in absurd cc
   behind d before (inr later) = fits_push ns (types_of before) slots ((at, v) ∷ []) (sees.1 d before later)
 
 sees_function : (ns : List Node) (slots : List Slot) (es : List Entry) (e : Tree ADef) → Sees ns slots es → Sees ns slots (function e ∷ es)
 sees_function ns slots es e sees = (sees.0, behind) where
-  behind : (d : Tree ADef) (before : List Entry) → Stands (function e ∷ es) d before → Fits ns (types_of before) slots
-  behind d before (inl here) = subst (λ (l : List Entry). Fits ns (types_of l) slots) here.1 sees.0
+  behind : (d : Tree ADef) (before : List Entry) → Stands (function e ∷ es) d before → HaveValues ns (types_of before) slots
+  behind d before (inl here) = subst (λ (l : List Entry). HaveValues ns (types_of l) slots) here.1 sees.0
   behind d before (inr later) = sees.1 d before later
 
 stands_on : (es : List Entry) (d : Tree ADef) (before : List Entry) (e : Tree ADef) (earlier : List Entry) → Stands es d before → Stands before e earlier → Stands es e earlier

@@ -22,7 +22,7 @@ use Rattle.script_values.specs.Slots.{Given, Slot, slot_at}
 use Rattle.script_values.specs.Values as value
 use Rattle.script_values.specs.Values.{Value, many, size}
 use Rattle.eval_meaning.specs.Meaning as meaning
-use Rattle.eval_meaning.specs.Meaning.{Scope, applied, applied_to, full, joined, or_default, taken, value_at, within}
+use Rattle.eval_meaning.specs.Meaning.{Scope, applied, applied_to, full, joined, slot_or_default, taken_slot, value_at, within}
 use Rattle.eval_meaning.specs.Scripts.{statement}
 
 -- They have the same bindings and targets, and a call by one of these names does the same.
@@ -415,7 +415,7 @@ parameter_same : (s r : Scope) (sc : scoping.Scope) (p : Tree AParam) (given : L
 unfolding meaning.parameter
 parameter_same s r sc (Param at name) given m alike = refl
 parameter_same s r sc (Labelled at name) given m alike = refl
-parameter_same s r sc (Optional at name d) given m alike = ap (λ (x : Outcome). or_default at (argument (Some name) given) given x m) (full_same s r sc d alike m)
+parameter_same s r sc (Optional at name d) given m alike = ap (λ (x : Outcome). slot_or_default at (argument (Some name) given) given x m) (full_same s r sc d alike m)
 
 parameters_same : (s r : Scope) (sc : scoping.Scope) (ps : Tree (Many AParam)) (given : List Given) (slots : List Slot) (m : Machine) → Alike s r (names sc ps) → meaning.parameters s ps given slots m ≡ meaning.parameters r ps given slots m
 unfolding meaning.parameters

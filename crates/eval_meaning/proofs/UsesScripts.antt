@@ -21,7 +21,6 @@ use Rattle.typing_rules.proofs.Reading.{same_kinds, same_target}
 use Rattle.script_values.specs.declared.machine.Machine.{Machine}
 use Rattle.script_values.specs.Machines.{first_machine}
 use Rattle.script_values.specs.Slots.{Given, Slot}
-use Rattle.eval_meaning.specs.Calls as calls
 use Rattle.eval_meaning.specs.Calls.{holds_call, is_setting, means_set}
 use Rattle.eval_meaning.specs.Meaning.{Scope, applied, applied_to, call_by, run}
 use Rattle.eval_meaning.specs.Scripts.{Ending, and_then, evaluation, in_statement, numbered, plan_of, settled, statement, statements, top_scope, turned}
@@ -206,14 +205,8 @@ statement_same script a b pair sc (CallPart c) semicolon slots m block = part_sa
 statement_same script a b pair sc (IfPart i) semicolon slots m block = part_same (top_scope script a slots) (top_scope script b slots) sc (IfPart i) slots m (top_alike script a b pair slots (names sc i) block)
 
 -- the same statements are settings
-set_same : (o p : Option Use) → target_said o ≡ target_said p → calls.target_of o ≡ calls.target_of p
-set_same None None same = refl
-set_same None (Some v) same = same
-set_same (Some u) None same = same
-set_same (Some u) (Some v) same = same
-
 setting_same : (script : Script) (a b : List Use) → Pair script a b → (part : Tree APart) → is_setting a part ≡ is_setting b part
-setting_same script a b pair (CallPart (Call at name args)) = ap (λ (o : Option Target). means_set o && not (holds_call args)) (set_same (use_at at a) (use_at at b) (same_targets script a b pair at))
+setting_same script a b pair (CallPart (Call at name args)) = ap (λ (o : Option Target). means_set o && not (holds_call args)) (same_targets script a b pair at)
 setting_same script a b pair (BindPart d) = refl
 setting_same script a b pair (DefPart d) = refl
 setting_same script a b pair (IfPart i) = refl

@@ -6,6 +6,7 @@ use Rattle.typing_rules.specs.declared.uses.Builtin.{Builtin}
 use Rattle.typing_rules.specs.declared.uses.Builtin.TheVariants as builtin
 use Rattle.typing_rules.specs.declared.uses.Target.{Target}
 use Rattle.typing_rules.specs.declared.uses.Target.TheVariants as target
+use Rattle.typing_rules.specs.Kinds.{target_said}
 use Rattle.typing_rules.specs.Uses.{use_at}
 
 -- whether an expression, or one of a list of them, has a call in it, evaluated or not
@@ -42,12 +43,8 @@ means_set (Some (target.Def t)) = false
 means_set (Some (target.Slot t)) = false
 means_set None = false
 
-abbrev pub target_of : Option Use → Option Target
-target_of None = None
-target_of (Some u) = Some u.target
-
 abbrev pub is_setting : List Use → Tree APart → Bool
-is_setting uses (CallPart (Call at name args)) = means_set (target_of (use_at at uses)) && not (holds_call args)
+is_setting uses (CallPart (Call at name args)) = means_set (target_said (use_at at uses)) && not (holds_call args)
 is_setting uses (BindPart b) = false
 is_setting uses (DefPart d) = false
 is_setting uses (IfPart i) = false

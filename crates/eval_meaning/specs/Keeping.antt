@@ -8,9 +8,9 @@ use Rattle.script_values.specs.Slots.{Given}
 use Rattle.builtin_calls.specs.Builtins.{builtin}
 
 -- the state behind what was evaluated, if there is one
-abbrev pub Keeps : {A E : Type 0} → (Machine → Type 0) → Result (A × Machine) E → Type 0
-Keeps P (Ok x) = P x.1
-Keeps P (Err e) = ⊤
+abbrev pub HoldsBehind : {A E : Type 0} → (Machine → Type 0) → Result (A × Machine) E → Type 0
+HoldsBehind P (Ok x) = P x.1
+HoldsBehind P (Err e) = ⊤
 
 abbrev pub Leaves : {E : Type 0} → (Machine → Type 0) → Result Machine E → Type 0
 Leaves P (Ok m) = P m
@@ -19,4 +19,4 @@ Leaves P (Err e) = ⊤
 -- counting keeps it, and so does each call of a builtin
 pub record IsKept (P : Machine → Type 0) : Type 0 where
   pub counts : (n : ℕ) (m : Machine) → P m → Leaves P (count n m)
-  pub builtins : (b : Builtin) (at : ℕ) (kinds : List Kind) (given : List Given) (m : Machine) → P m → Keeps P (builtin b at kinds given m)
+  pub builtins : (b : Builtin) (at : ℕ) (kinds : List Kind) (given : List Given) (m : Machine) → P m → HoldsBehind P (builtin b at kinds given m)

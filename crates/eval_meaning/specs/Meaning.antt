@@ -162,18 +162,18 @@ abbrev pub all_of : Scope → Tree (Many AFull) → Machine → Outcome
 all_of s parts m = fulls s parts [] m >>= λ z. Ok (value.Listed (many z.0), z.1)
 
 -- What a parameter takes of the arguments: its slot and the arguments that are left. A default is evaluated among the names before the def.
-abbrev pub taken : ℕ → Option (Value × List Given) → Machine → Result ((Slot × List Given) × Machine) Fault
-taken at None m = Err Stuck
-taken at (Some x) m = Ok (((at, x.0), x.1), m)
+abbrev pub taken_slot : ℕ → Option (Value × List Given) → Machine → Result ((Slot × List Given) × Machine) Fault
+taken_slot at None m = Err Stuck
+taken_slot at (Some x) m = Ok (((at, x.0), x.1), m)
 
-abbrev pub or_default : ℕ → Option (Value × List Given) → List Given → Outcome → Machine → Result ((Slot × List Given) × Machine) Fault
-or_default at None given default m = default >>= λ x. Ok (((at, x.0), given), x.1)
-or_default at (Some x) given default m = Ok (((at, x.0), x.1), m)
+abbrev pub slot_or_default : ℕ → Option (Value × List Given) → List Given → Outcome → Machine → Result ((Slot × List Given) × Machine) Fault
+slot_or_default at None given default m = default >>= λ x. Ok (((at, x.0), given), x.1)
+slot_or_default at (Some x) given default m = Ok (((at, x.0), x.1), m)
 
 unfoldable pub parameter : Scope → Tree AParam → List Given → Machine → Result ((Slot × List Given) × Machine) Fault
-parameter s (Param at name) given m = taken at (argument None given) m
-parameter s (Labelled at name) given m = taken at (argument (Some name) given) m
-parameter s (Optional at name d) given m = or_default at (argument (Some name) given) given (full s d m) m
+parameter s (Param at name) given m = taken_slot at (argument None given) m
+parameter s (Labelled at name) given m = taken_slot at (argument (Some name) given) m
+parameter s (Optional at name d) given m = slot_or_default at (argument (Some name) given) given (full s d m) m
 
 unfoldable pub parameters : Scope → Tree (Many AParam) → List Given → List Slot → Machine → Result (List Slot × Machine) Fault
 parameters s none given slots m = Ok (slots, m)

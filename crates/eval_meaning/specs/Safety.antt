@@ -15,14 +15,14 @@ use Rattle.eval_meaning.specs.Meaning.{Scope}
 use Rattle.eval_meaning.specs.Scripts.{Ending}
 
 -- each binding with a type has a value of it
-abbrev pub Fits : List Node → Types → List Slot → Type 0
-Fits ns types slots = (at : ℕ) (g : Ground) → type_at at types ≡ Some g → (v : Value) × (slot_at at slots ≡ Some v) × IsA ns v g
+abbrev pub HaveValues : List Node → Types → List Slot → Type 0
+HaveValues ns types slots = (at : ℕ) (g : Ground) → type_at at types ≡ Some g → (v : Value) × (slot_at at slots ≡ Some v) × IsA ns v g
 
 -- evaluation in a scope and typing in a sight look up the same
 pub record Knows (s : Scope) (t : Sight) (ns : List Node) : Type 0 where
   pub target : (at : ℕ) → target_said (use_at at s.uses) ≡ t.target at
   pub kinds : (at : ℕ) → t.kinds at ≡ kinds_in (use_at at s.uses) s.kinds
-  pub slots : Fits ns t.types s.slots
+  pub slots : HaveValues ns t.types s.slots
   pub calls : (at u : ℕ) (ks : List Kind) (gs : List (arguments.Given Ground)) (g : Ground) → t.kinds at ≡ Some ks → t.call at u gs g
       → (given : List Given) (m : Machine) → Grows ns m.plan.nodes → AreA m.plan.nodes given gs → Safe m.plan.nodes (Of g) (s.call u ks given m)
 

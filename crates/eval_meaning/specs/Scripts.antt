@@ -5,8 +5,7 @@ use Rattle.liq_base.specs.declared.limits.TheConstants.{MAX_FRAME, MAX_CALLS}
 use Rattle.fixed_text.specs.Texts.{samples_in}
 use Rattle.script_grammar.specs.Tree.{Tree, Many, none, more, AStmt, APart, Stmt, BindPart, DefPart, CallPart, IfPart, Bind, Script}
 use Rattle.plan_core.specs.declared.plan.Plan.{Plan}
-use Rattle.plan_core.specs.declared.sink.SinkPlan.{SinkPlan}
-use Rattle.plan_core.specs.declared.sink.SinkPlan.TheVariants.{Output, Feed}
+use Rattle.plan_core.specs.Plans.{is_output}
 use Rattle.typing_rules.specs.declared.uses.Use.{Use}
 use Rattle.script_values.specs.declared.fault.Fault.{Fault}
 use Rattle.script_values.specs.declared.fault.EvalFault.{EvalFault}
@@ -75,10 +74,6 @@ turned script uses part n slots m = and_then (settled (is_setting uses part) m) 
 unfoldable pub statements : Script → List Use → Tree (Many AStmt) → ℕ → List Slot → Machine → Result Machine Ending
 statements script uses none n slots m = settled false m
 statements script uses (more (Stmt part semicolon) rest) n slots m = and_then (turned script uses part (n + 1) slots m) (λ x. statements script uses rest (n + 1) x.0 x.1)
-
-abbrev pub is_output : SinkPlan → Bool
-is_output (Output name node fallible) = true
-is_output (Feed buffer node) = false
 
 -- a script without an output has no plan
 abbrev pub plan_of : Machine → Result Plan Ending
