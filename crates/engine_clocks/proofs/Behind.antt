@@ -27,7 +27,7 @@ use Rattle.segment_laws.proofs.Quiet.{no_calls}
 use Rattle.segment_laws.proofs.Stretching.{alike_all, on_all}
 use Rattle.node_mixing.specs.Runs.{samples_of}
 use Rattle.node_states.specs.declared.state.NodeState.{NodeState}
-use Rattle.node_states.specs.declared.state.NodeState.TheVariants.{Leaf, Select, Mix, Cross, Read, Idle}
+use Rattle.node_states.specs.declared.state.NodeState.TheVariants.{Leaf, Select, Turn, Mix, Cross, Read, Idle}
 use Rattle.node_states.specs.declared.time.WeekTime.{WeekTime}
 use Rattle.node_states.specs.Runs.{fed_on}
 use Rattle.node_states.specs.States.{AreLong, CrossStands, StateStands, reading_by, reads_at}
@@ -74,6 +74,7 @@ crosses : (setting : Setting) (sub : ℕ → ℕ → List Slot) (past : List Mom
     → (crossing : Crossing) × CrossStands (sub k) fed (position past k) overlap crossing
 crosses setting sub past fed k overlap (Leaf state) stands = absurd stands
 crosses setting sub past fed k overlap (Select state) stands = absurd stands
+crosses setting sub past fed k overlap (Turn state) stands = absurd stands
 crosses setting sub past fed k overlap (Mix mixer) stands = absurd stands
 crosses setting sub past fed k overlap (Cross state) stands = (state, stands)
 crosses setting sub past fed k overlap (Read reader) stands = absurd stands

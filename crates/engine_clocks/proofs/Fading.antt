@@ -3,7 +3,7 @@ use Rattle.std.proofs.Common.{◌≡◌, ◌<◌, ◌∙◌, ℕ, true, false, S
 use Rattle.std.proofs.lemmas.Bool.{false≢true}
 use Rattle.std.proofs.lemmas.Option.{slice_get_within}
 use Rattle.plan_core.specs.declared.node.Node.{Node}
-use Rattle.plan_core.specs.declared.node.Op.TheVariants.{Single, Playlist, Blank, Square, Fail, Fallback, Switch, Sequence, Add, Amplify, Mean, Stereo, Crossfade, Buffer, Clock}
+use Rattle.plan_core.specs.declared.node.Op.TheVariants.{Single, Playlist, Blank, Square, Fail, Fallback, Switch, Sequence, Rotate, Random, Add, Amplify, Mean, Stereo, Crossfade, Buffer, Clock}
 use Rattle.plan_core.specs.declared.node.Op.{Op}
 use Rattle.liq_base.specs.declared.memory.Kind.{Kind}
 use Rattle.frame_core.specs.Slots.{Slot}
@@ -85,6 +85,8 @@ op_by rate i overlap kind Fail is = absurd (false≢true (ap is_fade is))
 op_by rate i overlap kind (Fallback sensitive) is = absurd (false≢true (ap is_fade is))
 op_by rate i overlap kind (Switch sensitive preds) is = absurd (false≢true (ap is_fade is))
 op_by rate i overlap kind Sequence is = absurd (false≢true (ap is_fade is))
+op_by rate i overlap kind Rotate is = absurd (false≢true (ap is_fade is))
+op_by rate i overlap kind (Random seed) is = absurd (false≢true (ap is_fade is))
 op_by rate i overlap kind (Add normalize) is = absurd (false≢true (ap is_fade is))
 op_by rate i overlap kind (Amplify factor) is = absurd (false≢true (ap is_fade is))
 op_by rate i overlap kind Mean is = absurd (false≢true (ap is_fade is))

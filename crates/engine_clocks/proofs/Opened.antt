@@ -12,7 +12,7 @@ use Rattle.stream_meaning.specs.Instants.{Setting, Moment, clock_of, history, li
 use Rattle.stream_meaning.specs.Calls.{IsBegin, after_calls, answers_in, takes_at}
 use Rattle.stream_meaning.proofs.Existence.{same_clock-true}
 use Rattle.node_states.specs.declared.state.NodeState.{NodeState}
-use Rattle.node_states.specs.declared.state.NodeState.TheVariants.{Leaf, Select, Mix, Cross, Read, Idle}
+use Rattle.node_states.specs.declared.state.NodeState.TheVariants.{Leaf, Select, Turn, Mix, Cross, Read, Idle}
 use Rattle.node_states.specs.declared.time.WeekTime.{WeekTime}
 use Rattle.node_states.specs.States.{StateStands, reading_by, reads, reads_at, reads_in}
 use Rattle.node_states.specs.Ticks.{past_of}
@@ -46,6 +46,7 @@ stays setting sub past fed i (Mixes mixing) state within even stands = stands
 stays setting sub past fed i (Fades overlap) state within even stands = stands
 stays setting sub past fed i (Reads buffer) (Leaf state) within even stands = absurd stands
 stays setting sub past fed i (Reads buffer) (Select state) within even stands = absurd stands
+stays setting sub past fed i (Reads buffer) (Turn state) within even stands = absurd stands
 stays setting sub past fed i (Reads buffer) (Mix mixer) within even stands = absurd stands
 stays setting sub past fed i (Reads buffer) (Cross state) within even stands = absurd stands
 stays setting sub past fed i (Reads buffer) Idle within even stands = absurd stands
