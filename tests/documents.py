@@ -176,6 +176,7 @@ def defaults_of_builtins():
     for name, body in bodies.items():
         body = body.replace("sensitive_or given", bodies["sensitive_or"])
         found[name] = dict(re.findall(r'bool_or \(codes "(\w+)"\) (\w+)', body))
+        found[name] |= dict(re.findall(r'int_or \(codes "(\w+)"\) \(pos (\d+)\)', body))
         found[name] |= {label: f'"{value}"' for label, value in re.findall(r'text_or \(codes "(\w+)"\) (?:\(codes "(\w*)"\)|\[\])', body)}
         found[name] |= {label: decimal(int(number)) for label, number in re.findall(r'decimal_or \(codes "(\w+)"\) \(some_millionths (\d+) tt\)', body)}
     return found
@@ -198,7 +199,7 @@ def rows_that_differ(page):
         return [f"the page has {len(written)} calls, the table {len(table)}"]
     for cells, (name, params, _) in zip(written, table):
         shown = [param for param in params if param[1] != "id" or name == "clock"]
-        own = defaults[{"output.file": "output_file", "add": "sum"}.get(name, name)]
+        own = defaults[{"output.file": "output_file", "add": "sum", "sequence": "over_sources", "rotate": "over_sources"}.get(name, name)]
         call = f"{name}({', '.join(f'{label}={own.get(label)}' if form == 'Perhaps' else label for form, label, _ in shown)})"
         if cells[0].strip("`") != call:
             found.append(f"the page has {cells[0]}, the table {call}")
