@@ -11,7 +11,7 @@ use Rattle.frame_core.specs.Bytes.{sample_bytes}
 use Rattle.sample_kernels.specs.Encoded.{block_of, encoded}
 use Rattle.sample_kernels.proofs.Places.{zip2_more}
 
-put-none : {A : Type 0} (xs : List A) → put_chunk 0 xs [] ≡ xs
+pub put-none : {A : Type 0} (xs : List A) → put_chunk 0 xs [] ≡ xs
 put-none [] = refl
 put-none (x ∷ xs) = refl
 

@@ -93,7 +93,7 @@ back w [] fit = refl
 back w (x ∷ xs) fit = ap (λ y. y ∷ map (to_z w) (map (of_z w) xs)) (to_z-of_z w x fit.0) ∙ ap (λ l. x ∷ l) (back w xs fit.1)
 
 -- ---- sums and quotients
-one_added : (x y : ℤ) → FitsSigned w32 x → FitsSigned w32 y → FitsSigned w32 (x +ℤ y) → added (of_z w32 x) (of_z w32 y) ≡ of_z w32 (x +ℤ y)
+pub one_added : (x y : ℤ) → FitsSigned w32 x → FitsSigned w32 y → FitsSigned w32 (x +ℤ y) → added (of_z w32 x) (of_z w32 y) ≡ of_z w32 (x +ℤ y)
 one_added x y f g fits = omega (arith, ints, f, g, fits)
 
 pub added_is : (xs ys : List ℤ) → Each1 (FitsSigned w32) xs → Each1 (FitsSigned w32) ys → Each1 (FitsSigned w32) (zip2 ◌+ℤ◌ xs ys) →
@@ -243,6 +243,10 @@ pub each_of_all : {A : Type 0} (P : A → Type 0) (d : A) (i n : ℕ) (xs : List
 each_of_all P d i n xs room all =
     Each1-from_get_or P (chunk i n xs) d
     (λ k less. let long = length-chunk i n xs room in rw (get_or-chunk i n xs k d (omega (arith, less, long))) (All-get_or P xs (i + k) d (omega (arith, less, long, room)) all))
+
+pub each-append : {A : Type 0} (P : A → Type 0) (xs ys : List A) → Each1 P xs → Each1 P ys → Each1 P (xs ++ ys)
+each-append P [] ys here there = there
+each-append P (x ∷ xs) ys here there = (here.0, each-append P xs ys here.1 there)
 
 each_none : {A B : Type 0} (P : A → B → Type 0) (xs : List A) → Each2 P xs []
 each_none P [] = tt

@@ -1,11 +1,16 @@
 // Samples times a factor, and the mean of two sides.
-ghost use Rattle.std.specs.Prelude.{◌≡◌, ◌≤◌, ◌+◌, ◌≤ℤ◌, pos, negsuc, length, map};
+ghost use Rattle.std.specs.Prelude.{◌≡◌, ◌≤◌, ◌+◌, ◌/◌, ◌%◌, ◌≤ℤ◌, pos, negsuc, length, map, unsigned_abs};
 ghost use Rattle.std.specs.Simd.Lanes.{zip2, chunk, put_chunk};
 ghost use Rattle.sample_kernels.specs.Samples.{clamped, scaled, half_of};
+ghost use Rattle.sample_kernels.specs.Reciprocals.{per_sample, signed_as};
 
 use crate::loading::load_samples;
+use crate::signs::signed_as;
 use fixed_text::Decimal;
 use std::simd::prelude::*;
+
+// A factor of up to so many millionths either way goes by vectors.
+const MOST: u64 = 1_000_000_000;
 
 /// Multiplies each sample by a factor, rounded toward zero and cut to the range of a sample.
 pub fn scale(factor: Decimal, from: &[i16], into: &mut [i16])
@@ -14,8 +19,10 @@ pub fn scale(factor: Decimal, from: &[i16], into: &mut [i16])
 {
     // A larger factor gives the same samples: all but 0 are cut.
     let millionths = factor.millionths.clamp(-32_768_000_000, 32_768_000_000);
-    for (at, sample) in into.iter_mut().enumerate() {
-        *sample = scaled(from[at], millionths);
+    if millionths.unsigned_abs() <= MOST {
+        scale_by_eights(millionths, from, into);
+    } else {
+        scale_singly(millionths, from, into);
     }
 }
 
@@ -32,6 +39,67 @@ pub fn halves(left: &[i16], right: &[i16], into: &mut [i16])
     for at in done..into.len() {
         into[at] = half_of(left[at], right[at]);
     }
+}
+
+// A factor of at most 1000 units either way.
+fn scale_by_eights(millionths: i64, from: &[i16], into: &mut [i16])
+    requires same { length into.old ≡ length from.now }
+    requires small { unsigned_abs millionths ≤ 1000000000 }
+    ensures { into.new ≡ map (scaled millionths) from.now }
+{
+    let mut done = 0;
+    while into.len() - done >= 8 {
+        scale_eight(millionths, from, into, done);
+        done += 8;
+    }
+    for at in done..into.len() {
+        into[at] = scaled(from[at], millionths);
+    }
+}
+
+// A factor of any size up to 32768 units either way.
+fn scale_singly(millionths: i64, from: &[i16], into: &mut [i16])
+    requires same { length into.old ≡ length from.now }
+    requires low { negsuc 32767999999 ≤ℤ millionths }
+    requires high { millionths ≤ℤ pos 32768000000 }
+    ensures { into.new ≡ map (scaled millionths) from.now }
+{
+    for (at, sample) in into.iter_mut().enumerate() {
+        *sample = scaled(from[at], millionths);
+    }
+}
+
+// Eight samples times a factor. A vector has no division that fits: 2^35 times the factor, and up to 1 more, stands
+// in three digits, a product with each digit fits 32 bits, and what is above bit 35 of the sum of the three is the
+// quotient, rounded down.
+fn scale_eight(millionths: i64, from: &[i16], into: &mut [i16], at: usize)
+    requires small { unsigned_abs millionths ≤ 1000000000 }
+    requires within { (at + 8 ≤ length into.old) × (length into.old ≡ length from.now) }
+    ensures { into.new ≡ put_chunk at into.old (map (scaled millionths) (chunk at 8 from.now)) }
+{
+    let (low, middle, high) = digits(millionths);
+    let samples = load_samples(from, at).cast::<i32>();
+    let lowest = (samples * i32x8::splat(low)) >> i32x8::splat(15);
+    let lower = (samples * i32x8::splat(middle) + lowest) >> i32x8::splat(15);
+    let floors = (samples * i32x8::splat(high) + lower) >> i32x8::splat(5);
+    let quotients = floors - (floors >> i32x8::splat(31));
+    let cut = quotients.simd_clamp(i32x8::splat(-32768), i32x8::splat(32767));
+    cut.cast::<i16>().copy_to_slice(&mut into[at..]);
+}
+
+// The digits of 2^35 times a factor, and up to 1 more: two of 15 bits, the lower first, and what is above them. Each
+// has the factor's sign.
+fn digits(millionths: i64) -> (i32, i32, i32)
+    requires small { unsigned_abs millionths ≤ 1000000000 }
+    ensures low { result.0 ≡ signed_as millionths (per_sample (unsigned_abs millionths) % 32768) }
+    ensures middle { result.1 ≡ signed_as millionths (per_sample (unsigned_abs millionths) / 32768 % 32768) }
+    ensures high { result.2 ≡ signed_as millionths (per_sample (unsigned_abs millionths) / 1073741824) }
+{
+    let size = millionths.unsigned_abs() * 536_870_912 / 15_625 + 1;
+    let low = signed_as(millionths, size % 32_768);
+    let middle = signed_as(millionths, size / 32_768 % 32_768);
+    let high = signed_as(millionths, size / 1_073_741_824);
+    (low, middle, high)
 }
 
 // A sample times a factor in millionths, which is at most 32768 units either way.

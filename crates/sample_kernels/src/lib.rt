@@ -5,9 +5,12 @@ mod bytes;
 mod gain;
 mod loading;
 mod mixing;
+mod signs;
 mod sums;
+mod wide;
 
 pub use bytes::{decode, encode};
 pub use gain::{halves, scale};
 pub use mixing::{mix, mixed_sample};
 pub use sums::{add_into, clamp_all, divide};
+pub use wide::{decode_wide, encode_wide};

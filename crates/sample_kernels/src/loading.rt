@@ -5,8 +5,8 @@ ghost use Rattle.std.specs.Simd.Lanes.{chunk, Each1};
 
 use std::simd::prelude::*;
 
-/// Eight samples from a place on. They are read one by one, since a proof learns so that each is a sample; what is
-/// built is one load.
+/// Eight samples from a place on. They are read one by one, since a proof learns so that each is a sample; LLVM makes
+/// one load of them, or where they are widened at once two that widen (as in `halves` of `bench/kernels`).
 pub fn load_samples(samples: &[i16], at: usize) -> i16x8
     requires { at + 8 ≤ length samples.now }
     ensures lanes { result ≡ chunk at 8 samples.now }

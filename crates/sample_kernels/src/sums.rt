@@ -1,5 +1,6 @@
 // Sums of samples, one for each instant.
-ghost use Rattle.std.specs.Prelude.{◌≡◌, ◌<◌, ◌≤◌, ◌+◌, ◌+ℤ◌, ℤ, length, map, All};
+ghost use Rattle.std.specs.Prelude.{◌≡◌, ◌<◌, ◌≤◌, ◌+◌, ◌+ℤ◌, ℕ, ℤ, length, map, All, FitsSigned};
+ghost use Rattle.std.specs.Int.{w16};
 ghost use Rattle.std.specs.Simd.Lanes.{zip2, chunk, put_chunk, Each1, Each2};
 ghost use Rattle.sample_kernels.specs.Samples.{IsSumOf, clamped, mean_of};
 
@@ -10,7 +11,8 @@ use std::simd::prelude::*;
 pub fn add_into(sum: &mut [i32], part: &[i16])
     requires same { length part.now ≡ length sum.old }
     requires room { All (IsSumOf 65535) sum.old }
-    ensures { sum.new ≡ zip2 ◌+ℤ◌ sum.old part.now }
+    ensures added { sum.new ≡ zip2 ◌+ℤ◌ sum.old part.now }
+    ensures counted { (parts : ℕ) → All (IsSumOf parts) sum.old → All (IsSumOf (parts + 1)) sum.new }
 {
     let mut done = 0;
     while sum.len() - done >= 8 {
@@ -58,7 +60,8 @@ pub fn clamp_all(sum: &[i32], into: &mut [i16])
 fn add_eight(sum: &mut [i32], part: &[i16], at: usize)
     requires within { (at + 8 ≤ length sum.old) × (length part.now ≡ length sum.old) }
     requires room { Each1 (IsSumOf 65535) (chunk at 8 sum.old) }
-    ensures { sum.new ≡ put_chunk at sum.old (zip2 ◌+ℤ◌ (chunk at 8 sum.old) (chunk at 8 part.now)) }
+    ensures added { sum.new ≡ put_chunk at sum.old (zip2 ◌+ℤ◌ (chunk at 8 sum.old) (chunk at 8 part.now)) }
+    ensures fit { Each1 (FitsSigned w16) (chunk at 8 part.now) }
 {
     let sums = load_sums(sum, at);
     let parts = load_samples(part, at);

@@ -13,7 +13,10 @@ returns c =
     let sums_of = c.load_sums-sums.ensures.fit in
     let parts_of = c.load_samples-parts.ensures.fit in
     let whole = sums_fit sums parts c.requires.room parts_of in
-    rw (c.load_sums-sums.ensures.lanes, c.load_samples-parts.ensures.lanes)
-    (ap (λ l. put_chunk c.args.at c.args.sum.now (map (to_z w32) (zip2 added (map (of_z w32) sums) l))) (widened_is parts parts_of)
-    ∙ ap (λ l. put_chunk c.args.at c.args.sum.now (map (to_z w32) l)) (added_is sums parts sums_of (wider parts parts_of) whole)
-    ∙ ap (put_chunk c.args.at c.args.sum.now) (back w32 (zip2 ◌+ℤ◌ sums parts) whole))
+    record {
+      added = rw (c.load_sums-sums.ensures.lanes, c.load_samples-parts.ensures.lanes)
+          (ap (λ l. put_chunk c.args.at c.args.sum.now (map (to_z w32) (zip2 added (map (of_z w32) sums) l))) (widened_is parts parts_of)
+          ∙ ap (λ l. put_chunk c.args.at c.args.sum.now (map (to_z w32) l)) (added_is sums parts sums_of (wider parts parts_of) whole)
+          ∙ ap (put_chunk c.args.at c.args.sum.now) (back w32 (zip2 ◌+ℤ◌ sums parts) whole));
+      fit = parts_of;
+    }

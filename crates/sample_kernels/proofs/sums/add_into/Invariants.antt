@@ -1,5 +1,5 @@
-use Rattle.std.proofs.Common.{◌≡◌, ◌≤◌, ◌+ℤ◌, ◌-◌, length, take, drop}
-use Rattle.std.specs.Simd.Lanes.{zip2}
+use Rattle.std.proofs.Common.{◌≡◌, ◌≤◌, ◌+ℤ◌, ◌-◌, length, take, drop, w16, FitsSigned}
+use Rattle.std.specs.Simd.Lanes.{zip2, Each1}
 use Rattle.sample_kernels.proofs.sums.add_into.Given as goal
 
 abbrev pub invariant-loop-sum : goal.invariant-loop-sum
@@ -8,6 +8,7 @@ invariant-loop-sum l = record {
   within : l.done ≤ length l.sum;
   made : take l.done l.sum ≡ zip2 ◌+ℤ◌ (take l.done l.fn.sum) (take l.done l.part);
   rest : drop l.done l.sum ≡ drop l.done l.fn.sum;
+  fit : Each1 (FitsSigned w16) (take l.done l.part);
 }
 
 abbrev pub decreases-loop-sum : goal.decreases-loop-sum
@@ -18,4 +19,5 @@ invariant-loop-at l = record {
   long : length l.sum ≡ length l.fn.sum;
   made : take l.at l.sum ≡ zip2 ◌+ℤ◌ (take l.at l.fn.sum) (take l.at l.part);
   rest : drop l.at l.sum ≡ drop l.at l.fn.sum;
+  fit : Each1 (FitsSigned w16) (take l.at l.part);
 }

@@ -1,0 +1,6 @@
+use Rattle.std.proofs.Common.{◌≡◌, length, take}
+use Rattle.sample_kernels.specs.Mixing.{mixed}
+use Rattle.sample_kernels.proofs.mixing.mix_long.Given as goal
+
+abbrev pub invariant-loop-at : goal.invariant-loop-at
+invariant-loop-at l = (length l.into ≡ length l.from) × (take l.at l.into ≡ mixed (take l.at l.from) (take l.at l.to) l.start l.whole)

@@ -1,0 +1,6 @@
+use Rattle.std.proofs.Common.{◌≡◌, ◌*◌, length, take}
+use Rattle.sample_kernels.specs.Wide.{wide_samples_in}
+use Rattle.sample_kernels.proofs.wide.decode_wide.Given as goal
+
+abbrev pub invariant-loop-at : goal.invariant-loop-at
+invariant-loop-at l = (length l.into ≡ length l.fn.into) × (take l.at l.into ≡ wide_samples_in (take (3 * l.at) l.bytes))

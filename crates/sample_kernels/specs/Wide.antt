@@ -1,0 +1,27 @@
+-- Samples of three bytes: the lowest byte, and behind it the two of a sample.
+use Rattle.std.specs.Prelude.{ℕ, ℤ, List, [], ◌∷◌, ◌++◌}
+use Rattle.std.specs.List.{concat}
+use Rattle.std.specs.Simd.Lanes.{zip2}
+use Rattle.liq_base.specs.declared.memory.Kind.{Kind}
+use Rattle.liq_base.specs.declared.memory.Kind.TheVariants.{Mono, Stereo}
+use Rattle.frame_core.specs.Bytes.{sample_in, sample_bytes}
+
+-- the three bytes of a sample
+abbrev pub wide_bytes : ℤ → List ℕ
+wide_bytes sample = 0 ∷ sample_bytes sample
+
+-- the block of an instant: its left sample, and behind it the right one where there are two
+abbrev pub wide_block_of : Kind → ℤ → ℤ → List ℕ
+wide_block_of Mono left right = wide_bytes left
+wide_block_of Stereo left right = wide_bytes left ++ wide_bytes right
+
+-- the blocks, one behind another
+abbrev pub encoded_wide : Kind → List ℤ → List ℤ → List ℕ
+encoded_wide kind left right = concat (zip2 (wide_block_of kind) left right)
+
+-- the samples that bytes hold, three by three: the lowest byte of each is dropped
+abbrev pub wide_samples_in : List ℕ → List ℤ
+wide_samples_in (lowest ∷ low ∷ high ∷ bytes) = sample_in low high ∷ wide_samples_in bytes
+wide_samples_in (lowest ∷ low ∷ []) = []
+wide_samples_in (lowest ∷ []) = []
+wide_samples_in [] = []
