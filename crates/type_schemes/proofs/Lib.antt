@@ -15,5 +15,6 @@ pub mod Generality
 pub mod TextOver
 pub mod Opening
 pub mod Steps
+pub mod Counted
 pub mod Counting
 pub mod Laws

@@ -1,27 +1,34 @@
 -- What a further name holds, and what the same names hold later.
-use Rattle.std.proofs.Common.{◌≡◌, ◌∙◌, sym, ap, ap₂, subst, refl, arith, append-nil, ℕ, suc, ◌+◌, ◌<◌, ◌≤◌, ◌⊎◌, inl, inr, Bool, true, false, List, [], ◌∷◌, ◌++◌, length, take, take_all, get_or, None}
+use Rattle.std.proofs.Common.{◌≡◌, ◌∙◌, sym, ap, ap₂, subst, refl, arith, append-nil, ℕ, suc, ◌+◌, ◌<◌, ◌≤◌, inl, inr, Bool, true, false, List, [], ◌∷◌, ◌++◌, length, take, take_all, get_or, None}
 use Rattle.std.proofs.lemmas.List.{take_more}
 use Rattle.type_terms.specs.Agrees.{Follows}
 use Rattle.type_terms.specs.Ground.{Ground, Assignment, size, source}
 use Rattle.type_terms.specs.Table.{Table, Solves, bound_at, kind_at}
-use Rattle.type_terms.specs.Term.{Term, meaning, source_term, variable}
+use Rattle.type_terms.specs.Term.{Term, meaning, variable}
 use Rattle.type_terms.specs.declared.ty.KindTerm.TheVariants.{Var}
 use Rattle.type_schemes.specs.Holding.{HeldVariables, AgreeBelow, AgreeOn, AgreeOnPassed, AreThere, IsHeldBy, SameTypes, is_held}
-use Rattle.type_schemes.specs.Renewing.{FindsBut, HaveSame, IsFixedBy, IsLeft, Renews}
+use Rattle.type_schemes.specs.Renewing.{AreHeldBy, FindsBut, IsFixedBy, IsLeft, Renews}
 use Rattle.type_schemes.specs.Walks.{AddsKind, Every, IsSameBelow, Leads, held}
 use Rattle.type_schemes.proofs.Leads.{all_led, behind_led}
-use Rattle.type_schemes.proofs.Members.{Inserts, Removes, either, held_append, held_left, held_one, held_right, inserted_here, inserted_kept, inserted_only, one_held, removed_else, removed_only}
+use Rattle.type_schemes.proofs.Members.{Removes, either, held_append, held_one, removed_else, removed_only}
 
 none_held : (k : ℕ) → is_held [] k ≡ true → ⊥
 none_held k e = let g : ◌≡◌ {A = Bool} false true = e in cc
 
-pub held_none : (s : Table) (h : HeldVariables) → h.types ≡ [] → h.kinds ≡ [] → h.passed ≡ [] → IsHeldBy s [] h
-held_none s h e f g = record {
+pub held_none : (s : Table) (h : HeldVariables) → h.types ≡ [] → h.kinds ≡ [] → h.passed ≡ [] → h.type_count ≡ 0 → h.kind_count ≡ 0 → h.free_count ≡ 0 → IsHeldBy s [] h
+held_none s h e f g p q r = record {
   free_types = λ k i. absurd (none_held k (sym (ap (λ xs. is_held xs k) e) ∙ i));
   free_kinds = λ k i. absurd (none_held k (sym (ap (λ xs. is_held xs k) f) ∙ i));
   fixed = λ a b m n i. record { types = λ k x. absurd (none_held k (sym (ap (λ xs. is_held xs k) e) ∙ x)); kinds = λ k x. absurd (none_held k (sym (ap (λ xs. is_held xs k) f) ∙ x)) };
   enough = λ a b m n i. refl;
   behind = λ a b m n i j k x. absurd (none_held k (sym (ap (λ xs. is_held xs k) g) ∙ x));
+  counted = record {
+    enough_types = omega (arith, p);
+    enough_kinds = omega (arith, q);
+    types = λ k i. absurd (none_held k (sym (ap (λ xs. is_held xs k) e) ∙ i));
+    kinds = λ k i. absurd (none_held k (sym (ap (λ xs. is_held xs k) f) ∙ i));
+    free = rw (p, q, r) refl;
+  };
 }
 
 same_head : (a b : Assignment) (t : Term) (names : List Term) → SameTypes (t ∷ names) a b → meaning a t ≡ meaning b t
@@ -31,10 +38,10 @@ same_tail : (a b : Assignment) (t : Term) (names : List Term) → SameTypes (t �
 same_tail a b t names e = cc
 
 -- a further name
-module _ (s : Table) (names : List Term) (t : Term) (h h1 : HeldVariables) (l : Leads s (t ∷ []) [] h h1) (old : IsHeldBy s names h) where
+module _ (s : Table) (names : List Term) (t : Term) (h h1 : HeldVariables) (l : Leads s (t ∷ []) [] h h1) (old : AreHeldBy s names h) where
   new_fixed : (a b : Assignment) → Solves a s → Solves b s → SameTypes (t ∷ names) a b → AgreeOn h1 a b
   new_fixed a b m n e =
-      let before = old.fixed a b m n (same_tail a b t names e) in
+      let before = old.fixed_by.fixed a b m n (same_tail a b t names e) in
       let here : meaning a t ≡ meaning b t = same_head a b t names e in
       record {
         types = λ k f. either (λ g. before.types k g) (λ g. g.fixed a b m n (here, tt)) (l.types_only k f);
@@ -42,21 +49,23 @@ module _ (s : Table) (names : List Term) (t : Term) (h h1 : HeldVariables) (l : 
       }
 
   behind_before : (a b : Assignment) → Solves a s → Solves b s → (n : ℕ) → AgreeBelow h n a b → Every (IsSameBelow a b n) (t ∷ []) → AgreeOnPassed h (suc n) a b
-  behind_before a b m n i g e = old.behind a b m n i g
+  behind_before a b m n i g e = old.fixed_by.behind a b m n i g
 
   new_enough : (a b : Assignment) → Solves a s → Solves b s → AgreeOn h1 a b → SameTypes (t ∷ names) a b
   new_enough a b m n g =
-      let before : SameTypes names a b = old.enough a b m n (record { types = λ k f. g.types k (l.types_kept k f); kinds = λ k f. g.kinds k (l.kinds_kept k f) }) in
+      let before : SameTypes names a b = old.fixed_by.enough a b m n (record { types = λ k f. g.types k (l.types_kept k f); kinds = λ k f. g.kinds k (l.kinds_kept k f) }) in
       let here : meaning a t ≡ meaning b t = (all_led s (t ∷ []) h h1 l a b m n (behind_before a b m n) g).0 in
       ap₂ (λ (x : Ground) (xs : List Ground). x ∷ xs) here before
 
-  pub held_more : IsHeldBy s (t ∷ names) h1
+  pub held_more : AreHeldBy s (t ∷ names) h1
   held_more = record {
     free_types = λ k f. either (λ g. old.free_types k g) (λ g. g.free) (l.types_only k f);
     free_kinds = λ k f. either (λ g. old.free_kinds k g) (λ g. g.free) (l.kinds_only k f);
-    fixed = new_fixed;
-    enough = new_enough;
-    behind = λ a b m n. behind_led s (t ∷ []) h h1 l a b m n (behind_before a b m n);
+    fixed_by = record {
+      fixed = new_fixed;
+      enough = new_enough;
+      behind = λ a b m n. behind_led s (t ∷ []) h h1 l a b m n (behind_before a b m n);
+    };
   }
 
 -- ---- a held variable that is bound by now
@@ -197,55 +206,19 @@ renews_all s ts ks h h1 h2 l r = subst (λ zs. Renews s zs ks h h2) (append-nil 
 
 -- ---- what the same names hold later
 
-fixed_later : (s s1 : Table) (names : List Term) (h : HeldVariables) → Follows s s1 → IsHeldBy s names h → IsFixedBy s1 names h
+pub fixed_later : (s s1 : Table) (names : List Term) (h : HeldVariables) → Follows s s1 → IsFixedBy s names h → IsFixedBy s1 names h
 fixed_later s s1 names h f o = record {
   fixed = λ a b m n e. o.fixed a b (f.solves a m) (f.solves b n) e;
   enough = λ a b m n g. o.enough a b (f.solves a m) (f.solves b n) g;
   behind = λ a b m n i g. o.behind a b (f.solves a m) (f.solves b n) i g;
 }
 
-pub held_later : (s s1 : Table) (names : List Term) (h h1 : HeldVariables) (ts ks : List ℕ) → AreThere s1 h → FindsBut (λ k. bound_at s1.types k ≡ None) h.types ts → FindsBut (λ k. kind_at s1.kinds k ≡ None) h.kinds ks → Renews s1 ts ks h h1 → Follows s s1 → IsHeldBy s names h → IsHeldBy s1 names h1
-held_later s s1 names h h1 ts ks there ft fk r f o =
-    let new = r.fixed names (fixed_later s s1 names h f o) in
-    record {
-      free_types = λ k e. either (λ g. (there.types k g.0, either (λ y. absurd (g.1 y)) (λ y. y) (ft.others k g.0))) (λ y. y) (r.types_only k e);
-      free_kinds = λ k e. either (λ g. (there.kinds k g.0, either (λ y. absurd (g.1 y)) (λ y. y) (fk.others k g.0))) (λ y. y) (r.kinds_only k e);
-      fixed = new.fixed;
-      enough = new.enough;
-      behind = new.behind;
-    }
+pub held_later : (s s1 : Table) (names : List Term) (h h1 : HeldVariables) (ts ks : List ℕ) → AreThere s1 h → FindsBut (λ k. bound_at s1.types k ≡ None) h.types ts → FindsBut (λ k. kind_at s1.kinds k ≡ None) h.kinds ks → Renews s1 ts ks h h1 → Follows s s1 → AreHeldBy s names h → AreHeldBy s1 names h1
+held_later s s1 names h h1 ts ks there ft fk r f o = record {
+  free_types = λ k e. either (λ g. (there.types k g.0, either (λ y. absurd (g.1 y)) (λ y. y) (ft.others k g.0))) (λ y. y) (r.types_only k e);
+  free_kinds = λ k e. either (λ g. (there.kinds k g.0, either (λ y. absurd (g.1 y)) (λ y. y) (fk.others k g.0))) (λ y. y) (r.kinds_only k e);
+  fixed_by = r.fixed names (fixed_later s s1 names h f o.fixed_by);
+}
 
 pub found_there : (m : ℕ) (numbers found : List ℕ) (P : ℕ → Type 0) → FindsBut P numbers found → ((k : ℕ) → is_held numbers k ≡ true → k < m) → (k : ℕ) → is_held found k ≡ true → k < m
 found_there m numbers found P f there k e = there k (f.among k e)
-
--- ---- a copy of what is held
-
-pub same_none : (copy : List ℕ) → copy ≡ [] → HaveSame [] copy
-same_none copy e = record {
-  there = λ k f. absurd (none_held k f);
-  back = λ k f. sym (ap (λ xs. is_held xs k) e) ∙ f;
-}
-
-pub same_next : (ns : List ℕ) (i : ℕ) (copy copy' : List ℕ) → i < length ns → Inserts (get_or ns i 0) copy copy' → HaveSame (take i ns) copy → HaveSame (take (i + 1) ns) copy'
-same_next ns i copy copy' l u h =
-    let x : ℕ = get_or ns i 0 in
-    subst (λ ms. HaveSame ms copy') (sym (take_more ns i 0 l)) (record {
-      there = λ k f. either (λ g. inserted_kept x copy copy' u k (h.there k g)) (λ g. subst (λ j. is_held copy' j ≡ true) (sym (held_one k x g)) (inserted_here x copy copy' u)) (held_append (take i ns) (x ∷ []) k f);
-      back = λ k f. either (λ g. held_right (take i ns) (x ∷ []) k (subst (λ j. is_held (x ∷ []) j ≡ true) (sym g) (one_held x))) (λ g. held_left (take i ns) (x ∷ []) k (h.back k g)) (inserted_only x copy copy' u k f);
-    })
-
-pub same_all : (ns : List ℕ) (i : ℕ) (copy : List ℕ) → length ns ≤ i → HaveSame (take i ns) copy → HaveSame ns copy
-same_all ns i copy l h = subst (λ ms. HaveSame ms copy) (take_all i ns l) h
-
-module _ (h h1 : HeldVariables) (types : HaveSame h.types h1.types) (kinds : HaveSame h.kinds h1.kinds) (passed : HaveSame h.passed h1.passed) where
-  pub there_copied : (s : Table) → AreThere s h → AreThere s h1
-  there_copied s t = record { types = λ k e. t.types k (types.back k e); kinds = λ k e. t.kinds k (kinds.back k e) }
-
-  pub held_copied : (s : Table) (names : List Term) → IsHeldBy s names h → IsHeldBy s names h1
-  held_copied s names o = record {
-    free_types = λ k e. o.free_types k (types.back k e);
-    free_kinds = λ k e. o.free_kinds k (kinds.back k e);
-    fixed = λ a b m n e. (let g = o.fixed a b m n e in record { types = λ k f. g.types k (types.back k f); kinds = λ k f. g.kinds k (kinds.back k f) });
-    enough = λ a b m n g. o.enough a b m n (record { types = λ k f. g.types k (types.there k f); kinds = λ k f. g.kinds k (kinds.there k f) });
-    behind = λ a b m n i g k f. o.behind a b m n i (record { types = λ j e. g.types j (types.there j e); kinds = λ j e. g.kinds j (kinds.there j e) }) k (passed.back k f);
-  }

@@ -6,6 +6,7 @@ use Rattle.type_terms.specs.Agrees.{Agrees, Follows, HasNewType}
 use Rattle.type_terms.specs.Ground.{Ground, Assignment, base_type}
 use Rattle.type_terms.specs.declared.ty.Base.TheVariants.{Int}
 use Rattle.type_terms.specs.Table.{Table, Solves}
+use Rattle.type_terms.proofs.Counting.{keeps_both, keeps_itself}
 use Rattle.type_schemes.specs.declared.general.TypeParameter.{TypeParameter}
 use Rattle.type_schemes.specs.declared.general.TypeParameter.TheVariants.{Any, Number, Outer}
 use Rattle.type_schemes.specs.Instances.{Grows}
@@ -14,10 +15,10 @@ use Rattle.type_schemes.specs.Schemes.{MayBe}
 use Rattle.type_schemes.proofs.Reading.{none_is, get_front, get_last, one_last, both_last}
 
 pub follows_itself : (s : Table) → Follows s s
-follows_itself s = record { types = omega arith; kinds = omega arith; solves = λ a m. m }
+follows_itself s = record { types = omega arith; kinds = omega arith; bound = keeps_itself s; solves = λ a m. m }
 
 pub follows_both : (s s1 s2 : Table) → Follows s s1 → Follows s1 s2 → Follows s s2
-follows_both s s1 s2 f g = let t : length s.types ≤ length s1.types = f.types in let u : length s1.types ≤ length s2.types = g.types in let v : length s.kinds ≤ length s1.kinds = f.kinds in let w : length s1.kinds ≤ length s2.kinds = g.kinds in record { types = omega arith; kinds = omega arith; solves = λ a m. f.solves a (g.solves a m) }
+follows_both s s1 s2 f g = let t : length s.types ≤ length s1.types = f.types in let u : length s1.types ≤ length s2.types = g.types in let v : length s.kinds ≤ length s1.kinds = f.kinds in let w : length s1.kinds ≤ length s2.kinds = g.kinds in record { types = omega arith; kinds = omega arith; bound = keeps_both s s1 s2 f.bound g.bound; solves = λ a m. f.solves a (g.solves a m) }
 
 pub agrees_itself : (s : Table) (a : Assignment) → Agrees s a a
 agrees_itself s a = record { types = λ k l. refl; kinds = λ k l. refl }

@@ -1,5 +1,5 @@
 -- What a step of a walk leads to at each shape of a type.
-use Rattle.std.proofs.Common.{◌≡◌, ◌∙◌, sym, ap, subst, refl, ℕ, map, List, [], ◌∷◌, ◌++◌}
+use Rattle.std.proofs.Common.{◌≡◌, ◌∙◌, sym, ap, subst, refl, map, List, [], ◌∷◌, ◌++◌}
 use Rattle.std.specs.Borrow.{Bor}
 use Rattle.type_terms.specs.Nested.{parts, terms}
 use Rattle.type_terms.specs.Table.{Table}

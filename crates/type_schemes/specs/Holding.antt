@@ -1,18 +1,22 @@
 -- The variables that the types of names hold.
-use Rattle.std.specs.Prelude.{◌≡◌, ℕ, suc, ◌<◌, Bool, true, List, map, length, nat_eq}
+use Rattle.std.specs.Prelude.{◌≡◌, ℕ, suc, ◌<◌, ◌≤◌, Bool, true, List, map, length, nat_eq}
 use Rattle.std.specs.List.{list_any}
 use Rattle.std.specs.Coded.{Coded, code_by, coded×, coded_list, coded_ℕ}
 use Rattle.std.specs.Prelude.{refl}
+use Rattle.type_terms.specs.Counting.{free_among}
 use Rattle.type_terms.specs.Ground.{Assignment, size}
 use Rattle.type_terms.specs.Resolved.{IsFreeType, IsFreeKind}
 use Rattle.type_terms.specs.Table.{Table, Solves}
 use Rattle.type_terms.specs.Term.{Term, meaning}
 
--- The variables that are held, and the bound ones that were gone through: what they are bound to holds no others.
+-- The variables that are held, and the bound ones that were gone through: what they are bound to holds no others. They were found among so many type variables and kind variables, so many of which were free.
 pub record HeldVariables : Type 0 where
   pub types : List ℕ
   pub kinds : List ℕ
   pub passed : List ℕ
+  pub type_count : ℕ
+  pub kind_count : ℕ
+  pub free_count : ℕ
 
 abbrev pub is_held : List ℕ → ℕ → Bool
 is_held ks k = list_any (nat_eq k) ks
@@ -40,6 +44,14 @@ pub record AreThere (s : Table) (h : HeldVariables) : Type 0 where
   pub types : (k : ℕ) → is_held h.types k ≡ true → k < length s.types
   pub kinds : (k : ℕ) → is_held h.kinds k ≡ true → k < length s.kinds
 
+-- the held variables are among those that were counted
+pub record AreCounted (s : Table) (h : HeldVariables) : Type 0 where
+  pub enough_types : h.type_count ≤ length s.types
+  pub enough_kinds : h.kind_count ≤ length s.kinds
+  pub types : (k : ℕ) → is_held h.types k ≡ true → k < h.type_count
+  pub kinds : (k : ℕ) → is_held h.kinds k ≡ true → k < h.kind_count
+  pub free : free_among s h.type_count h.kind_count ≡ h.free_count
+
 -- The names hold exactly these variables, which are bound to nothing: two solutions give the names the same types just where they say the same of the variables. A passed variable is larger than the held ones that stand behind it, and these alone fix it.
 pub record IsHeldBy (s : Table) (names : List Term) (h : HeldVariables) : Type 0 where
   pub free_types : (k : ℕ) → is_held h.types k ≡ true → IsFreeType s k
@@ -47,7 +59,9 @@ pub record IsHeldBy (s : Table) (names : List Term) (h : HeldVariables) : Type 0
   pub fixed : (a b : Assignment) → Solves a s → Solves b s → SameTypes names a b → AgreeOn h a b
   pub enough : (a b : Assignment) → Solves a s → Solves b s → AgreeOn h a b → SameTypes names a b
   pub behind : (a b : Assignment) → Solves a s → Solves b s → (n : ℕ) → AgreeBelow h n a b → AgreeOnPassed h (suc n) a b
+  pub counted : AreCounted s h
 
 abbrev pub held_code : Coded HeldVariables
 held_code =
-    code_by (List ℕ × (List ℕ × List ℕ)) (coded× (coded_list coded_ℕ) (coded× (coded_list coded_ℕ) (coded_list coded_ℕ))) (λ h. (h.types, (h.kinds, h.passed))) (λ p. record { types = p.0; kinds = p.1.0; passed = p.1.1 }) (λ _. refl)
+    code_by (List ℕ × (List ℕ × (List ℕ × (ℕ × (ℕ × ℕ))))) (coded× (coded_list coded_ℕ) (coded× (coded_list coded_ℕ) (coded× (coded_list coded_ℕ) (coded× coded_ℕ (coded× coded_ℕ coded_ℕ)))))
+    (λ h. (h.types, (h.kinds, (h.passed, (h.type_count, (h.kind_count, h.free_count)))))) (λ p. record { types = p.0; kinds = p.1.0; passed = p.1.1.0; type_count = p.1.1.1.0; kind_count = p.1.1.1.1.0; free_count = p.1.1.1.1.1 }) (λ _. refl)

@@ -4,7 +4,7 @@ ghost use Rattle.type_terms.specs.Agrees.{Follows};
 ghost use Rattle.type_terms.specs.Table.{Table, IsOver};
 ghost use Rattle.type_terms.specs.Term.{Term, term_of};
 ghost use Rattle.type_schemes.specs.Holding.{AreThere, IsHeldBy, is_held};
-ghost use Rattle.type_schemes.specs.Renewing.{HaveSame};
+ghost use Rattle.type_schemes.specs.Renewing.{AreHeldBy, counted_in};
 ghost use Rattle.type_schemes.specs.Walks.{held};
 
 use crate::renewing::{push_bound_kinds, push_bound_types, renew_both};
@@ -25,22 +25,11 @@ fn add_name(
     name: &Ty,
 ) -> Result<(), Memory>
     requires over { IsOver subst.now (term_of name.now) }
-    ensures { OnOk result ((names : List Term) → IsHeldBy subst.now names (held types.old.keys kinds.old.keys passed.old.keys) → IsHeldBy subst.now (term_of name.now ∷ names) (held types.new.keys kinds.new.keys passed.new.keys)) }
+    ensures { OnOk result ((names : List Term) → AreHeldBy subst.now names (held types.old.keys kinds.old.keys passed.old.keys) → AreHeldBy subst.now (term_of name.now ∷ names) (held types.new.keys kinds.new.keys passed.new.keys)) }
 {
     let mut work = Vec::new(alloc);
     work.push(name)?;
     walk(&mut work, subst, types, kinds, passed)
-}
-
-/// The same numbers once more.
-fn copied(alloc: Global, numbers: &[u64]) -> Result<IndexSet<u64>, Memory>
-    ensures { IfOk result (λ copy. HaveSame numbers.now copy.keys) }
-{
-    let mut copy = IndexSet::new(alloc);
-    for number in numbers {
-        copy.insert(*number)?;
-    }
-    Ok(copy)
 }
 
 /// The variables that the types of names hold: those in which a def that follows is not general.
@@ -50,6 +39,10 @@ pub struct Held {
     kinds: IndexSet<u64>,
     // The bound variables behind which all was added.
     passed: IndexSet<u64>,
+    // So many variables there were, and so many of them were bound to nothing, when it was looked at last.
+    type_count: usize,
+    kind_count: usize,
+    free_count: usize,
 }
 
 impl Model for Held {
@@ -59,7 +52,7 @@ impl Model for Held {
 
     ghost coded = { held_code };
 
-    ghost view = { λ s. record { types = s.types.keys; kinds = s.kinds.keys; passed = s.passed.keys } };
+    ghost view = { λ s. record { types = s.types.keys; kinds = s.kinds.keys; passed = s.passed.keys; type_count = s.type_count; kind_count = s.kind_count; free_count = s.free_count } };
 }
 
 impl Held {
@@ -71,6 +64,9 @@ impl Held {
             types: IndexSet::new(alloc),
             kinds: IndexSet::new(alloc),
             passed: IndexSet::new(alloc),
+            type_count: 0,
+            kind_count: 0,
+            free_count: 0,
         }
     }
 
@@ -103,16 +99,41 @@ impl Held {
             &mut self.kinds,
             &mut self.passed,
             name,
-        )
+        )?;
+        self.count(subst);
+        Ok(())
     }
 
-    /// What the same names hold now that more is bound. It looks at each held variable, and takes further time only for those
-    /// that were bound since.
+    /// What the same names hold now that more is bound. Where none of the variables that were there is bound since, it looks
+    /// only at the new ones; else at each held variable, with further time only for those that were bound.
     ///
     /// Where memory runs out, some of it may have been done.
     pub fn renew(&mut self, alloc: Global, subst: &Subst) -> Result<(), Memory>
         requires there { AreThere subst.now self.old }
         ensures held { OnOk result ((s : Table) (names : List Term) → Follows s subst.now → IsHeldBy s names self.old → IsHeldBy subst.now names self.new) }
+    {
+        if subst.free_among(self.type_count, self.kind_count) == self.free_count {
+            self.count(subst);
+            return Ok(());
+        }
+        self.renew_bound(alloc, subst)?;
+        self.count(subst);
+        Ok(())
+    }
+
+    // Counts the variables that are there.
+    fn count(&mut self, subst: &Subst)
+        ensures { self.new ≡ counted_in subst.now self.old }
+    {
+        self.type_count = subst.type_count();
+        self.kind_count = subst.kind_count();
+        self.free_count = subst.free_among(self.type_count, self.kind_count);
+    }
+
+    // Puts what bound variables hold in their places.
+    fn renew_bound(&mut self, alloc: Global, subst: &Subst) -> Result<(), Memory>
+        requires there { AreThere subst.now self.old }
+        ensures held { OnOk result ((s : Table) (names : List Term) → Follows s subst.now → AreHeldBy s names (held self.old.types self.old.kinds self.old.passed) → AreHeldBy subst.now names (held self.new.types self.new.kinds self.new.passed)) }
     {
         let mut types = Vec::new(alloc);
         let mut kinds = Vec::new(alloc);
@@ -127,22 +148,5 @@ impl Held {
             &types,
             &kinds,
         )
-    }
-
-    /// The same in a new one, which has what was held copied first.
-    pub fn renewed(&self, alloc: Global, subst: &Subst) -> Result<Held, Memory>
-        requires there { AreThere subst.now self.now }
-        ensures held { IfOk result (λ h. (s : Table) (names : List Term) → Follows s subst.now → IsHeldBy s names self.now → IsHeldBy subst.now names h) }
-    {
-        let types = copied(alloc, self.types.as_slice())?;
-        let kinds = copied(alloc, self.kinds.as_slice())?;
-        let passed = copied(alloc, self.passed.as_slice())?;
-        let mut held = Held {
-            types,
-            kinds,
-            passed,
-        };
-        held.renew(alloc, subst)?;
-        Ok(held)
     }
 }

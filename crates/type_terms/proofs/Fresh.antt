@@ -42,7 +42,7 @@ kind_push [] (suc k) = refl
 kind_push (c ∷ ks) zero = refl
 kind_push (c ∷ ks) (suc k) = kind_push ks k
 
-bound_within : (vs : List Variable) (k : ℕ) (t : Term) → bound_at vs k ≡ Some t → k < length vs
+pub bound_within : (vs : List Variable) (k : ℕ) (t : Term) → bound_at vs k ≡ Some t → k < length vs
 bound_within [] k t e = absurd (let f : ◌≡◌ {A = Option Term} None (Some t) = e in cc)
 bound_within (v ∷ vs) zero t e = omega arith
 bound_within (v ∷ vs) (suc k) t e = let h = bound_within vs k t e in omega arith
@@ -155,6 +155,7 @@ new_type vs ks n h = record {
   follows = record {
     types = omega (arith, grown_length vs n);
     kinds = omega arith;
+    bound = record { types = λ k t e. bound_push vs n k ∙ e; kinds = λ k t e. e };
     solves = λ a m. record {
       types = λ k t e. m.types k t (bound_push vs n k ∙ e);
       kinds = m.kinds;
@@ -197,6 +198,7 @@ new_kind vs ks h = record {
   follows = record {
     types = omega arith;
     kinds = let a = length-append ks (None ∷ []) in omega arith;
+    bound = record { types = λ k t e. e; kinds = λ k t e. kind_push ks k ∙ e };
     solves = λ a m. record { types = m.types; kinds = λ k t e. m.kinds k t (kind_push ks k ∙ e); numbers = m.numbers };
   };
   each = λ a m c. (

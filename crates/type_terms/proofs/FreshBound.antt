@@ -1,6 +1,6 @@
 -- A substitution with one more variable, which is bound.
 use Rattle.std.proofs.Common.{◌≡◌, ◌≢◌, ◌∙◌, sym, ap, subst, refl, eqb, eq-eqb, ne_eqb, not, ◌⊎◌, inl, inr, ℕ, zero, suc, ◌<◌, Bool, true, false, List, [], ◌∷◌, ◌++◌, length, length-append, Option, Some, None, arith}
-use Rattle.type_terms.specs.Agrees.{Agrees, HasBoundType}
+use Rattle.type_terms.specs.Agrees.{Agrees, HasBoundType, KeepsBound}
 use Rattle.type_terms.specs.Ground.{Assignment}
 use Rattle.type_terms.specs.Nested.{AreMarked, IsMarked, IsWhole, mark_at}
 use Rattle.type_terms.specs.Table.{table, Avoids, Binds, IsOver, IsSound, Solves, bound_at, number_at}
@@ -8,7 +8,7 @@ use Rattle.type_terms.specs.Term.{Term, InTerm, meaning}
 use Rattle.type_terms.specs.Variables.{Variable}
 use Rattle.type_terms.specs.declared.ty.KindTerm.{KindTerm}
 use Rattle.type_terms.proofs.Bindings.{marked_bind, over_marks, solves_after, solves_before, sound_bind}
-use Rattle.type_terms.proofs.Fresh.{bound_push, marks_push, new_type, number_cases, number_last, number_push, sound_fresh, whole_fresh}
+use Rattle.type_terms.proofs.Fresh.{bound_push, bound_within, marks_push, new_type, number_cases, number_last, number_push, sound_fresh, whole_fresh}
 use Rattle.type_terms.proofs.Settling.{over_types}
 use Rattle.type_terms.proofs.Terms.{InTerm-map, meaning_same}
 
@@ -110,10 +110,16 @@ module _ (vs : List Variable) (ks : List (Option KindTerm)) (t : Term) (h : IsSo
       let same : meaning a t ≡ meaning r.0 t = meaning_same a r.0 t (InTerm-map (r.2.types) (r.2.kinds) t o) in
       (r.0, solves_after (table (with_last vs None) ks) (table (with_last vs (Some t)) ks) (length vs) t (binds_last vs t) refl r.0 r.1 (r.3 ∙ same), r.2)
 
+  kept : KeepsBound (table vs ks) (table (with_last vs (Some t)) ks)
+  kept = record {
+    types = λ k u e. bound_before vs (Some t) None k (let l = bound_within vs k u e in λ same. absurd (omega (arith, l, same))) ∙ bound_push vs false k ∙ e;
+    kinds = λ k u e. e;
+  }
+
   pub bound_type : HasBoundType (table vs ks) (table (with_last vs (Some t)) ks) (length vs) t
   bound_type = record {
     inside = omega (arith, length_last vs (Some t));
-    follows = record { types = omega (arith, length_last vs (Some t)); kinds = omega arith; solves = before };
+    follows = record { types = omega (arith, length_last vs (Some t)); kinds = omega arith; bound = kept; solves = before };
     exactly = λ a. (λ m. (before a m, m.types (length vs) t (bound_last vs (Some t))), λ p. after a p.0 p.1);
     each = λ a m. extended a ((new_type vs ks false h).each a m (meaning a t) (λ e. absurd (let f : ◌≡◌ {A = Bool} false true = e in cc)));
   }

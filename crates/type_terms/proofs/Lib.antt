@@ -2,6 +2,8 @@ pub mod Agendas
 pub mod Avoiding
 pub mod Basics
 pub mod Bindings
+pub mod Counted
+pub mod Counting
 pub mod Defaults
 pub mod Fresh
 pub mod FreshBound

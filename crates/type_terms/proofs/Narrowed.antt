@@ -1,5 +1,5 @@
 -- Substitutions in which variables were bound so that two types become the same.
-use Rattle.std.proofs.Common.{◌≡◌, ◌∙◌, sym, ap, subst, refl, ℕ, Bool, true, false, IfOk, Result, Ok, Err, ◌↔◌, ◌≢◌, List, [], ◌++◌, ◌∷◌, length}
+use Rattle.std.proofs.Common.{◌≡◌, ◌∙◌, sym, ap, subst, refl, ℕ, Bool, true, false, IfOk, Result, Ok, Err, ◌↔◌, ◌≢◌, List, [], ◌++◌, ◌∷◌, length, length-append, ◌+◌, arith}
 use Rattle.std.specs.Bool.{OnFalse, OnTrue}
 use Rattle.liq_base.specs.declared.memory.Memory.{Memory}
 use Rattle.type_terms.specs.Agrees.{SameVariables}
@@ -12,6 +12,7 @@ use Rattle.type_terms.specs.Narrowed.{AreTrailed, IsAnswer, IsNarrowed}
 use Rattle.type_terms.specs.Undo.{IsKindTrail, IsTrail}
 use Rattle.type_terms.specs.declared.ty.KindTerm.{KindTerm}
 use Rattle.type_terms.proofs.Bindings.{marked_more, sound_bind, sound_bind_kind, solves_after, solves_after_kind, solves_before, solves_before_kind}
+use Rattle.type_terms.proofs.Counting.{count_kind, count_type, keeps_both, keeps_itself, keeps_kind, keeps_type}
 use Rattle.type_terms.proofs.Solutions.{solvable}
 use Rattle.type_terms.proofs.Trails.{kind_trail_none, kind_trail_push, trail_none, trail_push}
 
@@ -23,7 +24,7 @@ narrowed_none left right s m m' h marked l kept = record {
   marks_kept = kept;
   narrower = λ a n. n;
   kept = λ a n e. n;
-  same_variables = record { types = refl; kinds = refl; numbers = λ k. refl };
+  same_variables = record { types = refl; kinds = refl; numbers = λ k. refl; bound = keeps_itself s };
 }
 
 -- nothing is bound or marked
@@ -31,7 +32,7 @@ pub unchanged : (left right : Term) (s : Table) (m : List Bool) → IsSound s �
 unchanged left right s m h marked = narrowed_none left right s m m h marked refl (λ k i. i)
 
 pub trailed_none : (s : Table) (ts ks : List ℕ) → AreTrailed s s ts ts ks ks
-trailed_none s ts ks = record { types = λ vs i. i; kinds = λ ls i. i }
+trailed_none s ts ks = record { types = λ vs i. i; kinds = λ ls i. i; free = refl }
 
 -- what is bound for one pair, which is equal where the two are, is bound after what was bound before
 pub narrowed_both : (left right l r : Term) (s s' s'' : Table) (m m' m'' : List Bool) → IsNarrowed left right s s' m m' → IsNarrowed l r s' s'' m' m'' → ((a : Assignment) → Solves a s' → meaning a left ≡ meaning a right → meaning a l ≡ meaning a r) → IsNarrowed left right s s'' m m''
@@ -45,6 +46,7 @@ narrowed_both left right l r s s' s'' m m' m'' f g e = record {
     types = g.same_variables.types ∙ f.same_variables.types;
     kinds = g.same_variables.kinds ∙ f.same_variables.kinds;
     numbers = λ k. g.same_variables.numbers k ∙ f.same_variables.numbers k;
+    bound = keeps_both s s' s'' f.same_variables.bound g.same_variables.bound;
   };
 }
 
@@ -52,6 +54,7 @@ pub trailed_both : (s s' s'' : Table) (ts ts' ts'' ks ks' ks'' : List ℕ) → A
 trailed_both s s' s'' ts ts' ts'' ks ks' ks'' f g = record {
   types = λ vs i. g.types vs (f.types vs i);
   kinds = λ ls i. g.kinds ls (f.kinds ls i);
+  free = let p = f.free in let q = g.free in omega (arith, p, q);
 }
 
 -- the type variable that makes the two equal is bound
@@ -63,7 +66,7 @@ module _ (left right : Term) (s s' : Table) (x : ℕ) (t : Term) (f : IsForced s
     marks_kept = kept;
     narrower = solves_before s s' x t b ks;
     kept = λ a n e. solves_after s s' x t b ks a n (f.forced a n e);
-    same_variables = record { types = b.same_length; kinds = ap length ks; numbers = b.same_numbers };
+    same_variables = record { types = b.same_length; kinds = ap length ks; numbers = b.same_numbers; bound = keeps_type s s' x t b ks };
   }
 
   pub same_type : AreSame s' left right
@@ -73,6 +76,7 @@ module _ (left right : Term) (s s' : Table) (x : ℕ) (t : Term) (f : IsForced s
   trailed_type ts ts' us is = record {
     types = λ vs i. rw is (trail_push x t ts vs s.types s'.types f.inside i b);
     kinds = λ ls i. rw ks i;
+    free = let c = count_type s s' x t f.inside b ks in let l : length ts' ≡ length ts + 1 = ap length is ∙ length-append ts (x ∷ []) in omega (arith, c, l);
   }
 
 -- the same of a kind variable
@@ -84,7 +88,7 @@ module _ (left right : Term) (s s' : Table) (x : ℕ) (t : KindTerm) (f : IsKind
     marks_kept = λ k i. i;
     narrower = solves_before_kind s s' x t b vs;
     kept = λ a n e. solves_after_kind s s' x t b vs a n (f.forced a n e);
-    same_variables = record { types = ap length vs; kinds = b.same_length; numbers = λ k. ap (λ us. number_at us k) vs };
+    same_variables = record { types = ap length vs; kinds = b.same_length; numbers = λ k. ap (λ us. number_at us k) vs; bound = keeps_kind s s' x t b vs };
   }
 
   pub same_kind : AreSame s' left right
@@ -94,6 +98,7 @@ module _ (left right : Term) (s s' : Table) (x : ℕ) (t : KindTerm) (f : IsKind
   trailed_kind ts us us' is = record {
     types = λ ls i. rw vs i;
     kinds = λ ls i. rw is (kind_trail_push x t us ls s.kinds s'.kinds f.inside i b);
+    free = let c = count_kind s s' x t f.inside b vs in let l : length us' ≡ length us + 1 = ap length is ∙ length-append us (x ∷ []) in omega (arith, c, l);
   }
 
 -- trails that began empty tell all that was bound

@@ -1,18 +1,25 @@
 -- Assignments that agree on a substitution's variables, and how a later substitution stands to an earlier one.
-use Rattle.std.specs.Prelude.{◌≡◌, ◌↔◌, ℕ, ◌<◌, ◌≤◌, length}
+use Rattle.std.specs.Prelude.{◌≡◌, ◌↔◌, ℕ, ◌<◌, ◌≤◌, length, Some}
 use Rattle.type_terms.specs.Ground.{Assignment, Ground, IsNumber}
-use Rattle.type_terms.specs.Table.{Table, Solves, number_at}
+use Rattle.type_terms.specs.Table.{Table, Solves, bound_at, kind_at, number_at}
 use Rattle.type_terms.specs.Term.{Term, meaning}
+use Rattle.type_terms.specs.declared.ty.KindTerm.{KindTerm}
 use Rattle.liq_base.specs.declared.memory.Kind.{Kind}
 
 pub record Agrees (s : Table) (a b : Assignment) : Type 0 where
   pub types : (k : ℕ) → k < length s.types → a.type_of k ≡ b.type_of k
   pub kinds : (k : ℕ) → k < length s.kinds → a.kind_of k ≡ b.kind_of k
 
--- a later substitution: it has the old variables, and solves no more than the old one does
+-- what variables were bound to they are bound to still
+pub record KeepsBound (s s' : Table) : Type 0 where
+  pub types : (k : ℕ) (t : Term) → bound_at s.types k ≡ Some t → bound_at s'.types k ≡ Some t
+  pub kinds : (k : ℕ) (t : KindTerm) → kind_at s.kinds k ≡ Some t → kind_at s'.kinds k ≡ Some t
+
+-- a later substitution: it has the old variables and bindings, and solves no more than the old one does
 pub record Follows (s s' : Table) : Type 0 where
   pub types : length s.types ≤ length s'.types
   pub kinds : length s.kinds ≤ length s'.kinds
+  pub bound : KeepsBound s s'
   pub solves : (a : Assignment) → Solves a s' → Solves a s
 
 -- with a new type variable, which may be anything, or any number
@@ -35,8 +42,9 @@ pub record HasNewKind (s s' : Table) (n : ℕ) : Type 0 where
   pub follows : Follows s s'
   pub each : (a : Assignment) → Solves a s → (k : Kind) → (b : Assignment) × Solves b s' × Agrees s a b × (b.kind_of n ≡ k)
 
--- no variable is new, and none changed whether it is a number variable
+-- no variable is new or changed whether it is a number variable, and bound ones are bound still
 pub record SameVariables (old new : Table) : Type 0 where
   pub types : length new.types ≡ length old.types
   pub kinds : length new.kinds ≡ length old.kinds
   pub numbers : (k : ℕ) → number_at new.types k ≡ number_at old.types k
+  pub bound : KeepsBound old new

@@ -1,6 +1,7 @@
 pub mod Agenda
 pub mod Agrees
 pub mod Codes
+pub mod Counting
 pub mod Differ
 pub mod Direct
 pub mod Extends

@@ -2,6 +2,7 @@
 use Rattle.std.specs.Prelude.{◌≡◌, ◌≢◌, ◌<◌, ◌≤◌, ◌⊎◌, ℕ, Bool, true, false, List, [], ◌∷◌, length, nat_eq, Option, Some, None, slice_get}
 use Rattle.std.specs.List.{list_any}
 use Rattle.std.specs.Borrow.{Bor}
+use Rattle.type_terms.specs.Counting.{free_count}
 use Rattle.type_terms.specs.Term.{Term, Terms, list_term, tuple_term, source_term, variable, no_terms, one_more, InKind, InTerm, term_of}
 use Rattle.type_terms.specs.Variables.{Variable}
 use Rattle.type_terms.specs.Table.{Table, IsSound, bound_at}
@@ -27,6 +28,11 @@ pub record AreMarked (vs : List Variable) (marks : List Bool) : Type 0 where
 pub record IsWhole (s : Table) (marks : List Bool) : Type 0 where
   pub sound : IsSound s
   pub marked : AreMarked s.types marks
+
+-- what holds of a substitution with its marks and the number of its free variables
+pub record IsKept (s : Table) (marks : List Bool) (free : ℕ) : Type 0 where
+  pub whole : IsWhole s marks
+  pub counted : free ≡ free_count s
 
 -- the variable stands in no binding
 pub record IsUnnested (vs : List Variable) (x : ℕ) : Type 0 where

@@ -2,6 +2,7 @@
 #![tactic(auto)]
 
 mod differ;
+mod free_counts;
 mod naming;
 mod occurs;
 mod resolving;

@@ -2,6 +2,7 @@
 ghost use Rattle.std.specs.Prelude.{◌≡◌, ◌≢◌, ◌+◌, ◌<◌, ◌↔◌, ◌++◌, ℕ, None, Some, List, [], ◌∷◌, length, true, false, option_map, option_copied, IfOk, OnOk, OnErr, IsTrue, IsNone, IfSome};
 ghost use Rattle.std.specs.Bool.{OnTrue, OnFalse};
 ghost use Rattle.type_terms.specs.Agrees.{HasBoundType, HasNewKind, HasNewType, SameVariables};
+ghost use Rattle.type_terms.specs.Counting.{free_among as the_free_among};
 ghost use Rattle.type_terms.specs.Extends.{Extends, HasDefaults};
 ghost use Rattle.type_terms.specs.Ground.{Assignment, IsNumber};
 ghost use Rattle.type_terms.specs.Resolved.{IsUnbound};
@@ -10,6 +11,7 @@ ghost use Rattle.type_terms.specs.Term.{kind_meaning, meaning, source_term, term
 ghost use Rattle.type_terms.specs.declared.ty.KindTerm.TheVariants.{Var};
 
 use crate::differ::resolve_kind;
+use crate::free_counts::{free_kinds_behind, free_types_behind};
 use crate::naming::MOST_LEVELS;
 use crate::occurs::{are_among, mark};
 use crate::resolving::{MOST_NODES, settle};
@@ -30,12 +32,14 @@ pub struct Subst {
     kinds: Vec<Option<KindTerm>>,
     // Whether a type variable may stand in what another is bound to.
     nested: Vec<bool>,
+    // How many variables are bound to nothing.
+    free: usize,
 }
 
 impl Model for Subst {
     ghost use Rattle.type_terms.specs.Table.{Table};
     ghost use Rattle.type_terms.specs.Codes.{table_code};
-    ghost use Rattle.type_terms.specs.Nested.{IsWhole};
+    ghost use Rattle.type_terms.specs.Nested.{IsKept};
 
     ghost Value = { Table };
 
@@ -43,7 +47,7 @@ impl Model for Subst {
 
     ghost view = { λ s. record { types = s.types.items; kinds = s.kinds.items } };
 
-    ghost invariant = { λ s. IsWhole (record { types = s.types.items; kinds = s.kinds.items }) s.nested.items };
+    ghost invariant = { λ s. IsKept (record { types = s.types.items; kinds = s.kinds.items }) s.nested.items s.free };
 }
 
 impl Subst {
@@ -55,6 +59,7 @@ impl Subst {
             types: Vec::new(alloc),
             kinds: Vec::new(alloc),
             nested: Vec::new(alloc),
+            free: 0,
         })
     }
 
@@ -80,6 +85,7 @@ impl Subst {
         let next = self.types.len() as u64;
         self.nested.push(false)?;
         self.types.push(TypeVariable::new(number))?;
+        self.free += 1;
         Ok(Ty::Var(next))
     }
 
@@ -113,6 +119,7 @@ impl Subst {
     {
         let next = self.kinds.len() as u64;
         self.kinds.push(None)?;
+        self.free += 1;
         Ok(KindTerm::Var(next))
     }
 
@@ -141,6 +148,29 @@ impl Subst {
             Some(variable) => variable.is_number(),
             None => false,
         }
+    }
+
+    /// How many type variables there are.
+    pub fn type_count(&self) -> usize
+        ensures { result ≡ length self.now.types }
+    {
+        self.types.len()
+    }
+
+    /// How many kind variables there are.
+    pub fn kind_count(&self) -> usize
+        ensures { result ≡ length self.now.kinds }
+    {
+        self.kinds.len()
+    }
+
+    /// How many of the first so many type variables and kind variables are bound to nothing. It looks only at those behind them.
+    pub fn free_among(&self, types: usize, kinds: usize) -> usize
+        ensures { result ≡ the_free_among self.now types kinds }
+    {
+        let later_types = free_types_behind(&self.types, types);
+        let later_kinds = free_kinds_behind(&self.kinds, kinds);
+        self.free - later_types - later_kinds
     }
 
     /// Whether each variable of the type is one of this substitution.
@@ -191,6 +221,7 @@ pub fn unify(alloc: Global, subst: &mut Subst, left: &Ty, right: &Ty) -> Result<
         &mut subst.types,
         &mut subst.kinds,
         &mut subst.nested,
+        &mut subst.free,
         left,
         right,
     )

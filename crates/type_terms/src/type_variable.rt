@@ -1,5 +1,6 @@
 // A type variable of a substitution.
 ghost use Rattle.std.specs.Prelude.{◌≡◌, false, option_map, option_copied};
+ghost use Rattle.type_terms.specs.Counting.{one_if_free};
 ghost use Rattle.type_terms.specs.Term.{term_of};
 
 use crate::ty::Ty;
@@ -60,6 +61,16 @@ impl TypeVariable {
         match &self.bound {
             Some(ty) => Some(ty),
             None => None,
+        }
+    }
+
+    /// 1 if it is bound to nothing, else 0.
+    pub fn free_count(&self) -> usize
+        ensures { result ≡ one_if_free self.now.bound }
+    {
+        match &self.bound {
+            Some(_) => 0,
+            None => 1,
         }
     }
 

@@ -1,6 +1,7 @@
 // The bindings that make two types equal, and their undoing.
 ghost use Rattle.std.specs.Prelude.{◌≡◌, ◌<◌, ℕ, None, Option, List, [], length, true, IfOk, OnErr};
 ghost use Rattle.std.specs.Bool.{OnFalse};
+ghost use Rattle.type_terms.specs.Counting.{free_count};
 ghost use Rattle.type_terms.specs.Nested.{AreMarked, mark_at};
 ghost use Rattle.type_terms.specs.Table.{table, Binds, BindsKind, IsOver, IsSound, bound_at, kind_at};
 ghost use Rattle.type_terms.specs.Term.{InTerm, term_of};
@@ -29,6 +30,7 @@ pub enum Direct {
 }
 
 /// Binds variables until the two types are the same; where they differ in shape or memory runs out, nothing is bound.
+/// `free` counts the variables that are bound to nothing.
 ///
 /// What one binding settles takes no memory but that of a copy of what is bound.
 pub fn unify_in(
@@ -36,22 +38,25 @@ pub fn unify_in(
     types: &mut [TypeVariable],
     kinds: &mut [Option<KindTerm>],
     nested: &mut [bool],
+    free: &mut usize,
     left: &Ty,
     right: &Ty,
 ) -> Result<bool, Memory>
     requires sound { IsSound (table types.old kinds.old) }
+    requires counted { free.old ≡ free_count (table types.old kinds.old) }
     requires marked { AreMarked types.old nested.old }
     requires left { IsOver (table types.old kinds.old) (term_of left.now) }
     requires right { IsOver (table types.old kinds.old) (term_of right.now) }
     ensures narrowed { IsNarrowed (term_of left.now) (term_of right.now) (table types.old kinds.old) (table types.new kinds.new) nested.old nested.new }
     ensures answer { IfOk result (IsAnswer (table types.new kinds.new) (term_of left.now) (term_of right.now)) }
     ensures unchanged { IfOk result (λ yes. OnFalse yes (table types.new kinds.new ≡ table types.old kinds.old)) }
+    ensures counted { free.new ≡ free_count (table types.new kinds.new) }
     ensures err { OnErr result (table types.new kinds.new ≡ table types.old kinds.old) }
 {
-    match unify_directly(alloc, types, kinds, nested, left, right)? {
+    match unify_directly(alloc, types, kinds, nested, free, left, right)? {
         Direct::Same => Ok(true),
         Direct::Clash => Ok(false),
-        Direct::Apart => unify_deeply(alloc, types, kinds, nested, left, right),
+        Direct::Apart => unify_deeply(alloc, types, kinds, nested, free, left, right),
     }
 }
 
@@ -61,15 +66,18 @@ fn unify_directly(
     types: &mut [TypeVariable],
     kinds: &mut [Option<KindTerm>],
     nested: &mut [bool],
+    free: &mut usize,
     left: &Ty,
     right: &Ty,
 ) -> Result<Direct, Memory>
     requires sound { IsSound (table types.old kinds.old) }
+    requires counted { free.old ≡ free_count (table types.old kinds.old) }
     requires marked { AreMarked types.old nested.old }
     requires left { IsOver (table types.old kinds.old) (term_of left.now) }
     requires right { IsOver (table types.old kinds.old) (term_of right.now) }
     ensures narrowed { IsNarrowed (term_of left.now) (term_of right.now) (table types.old kinds.old) (table types.new kinds.new) nested.old nested.new }
     ensures direct { IfOk result (IsDirect (table types.old kinds.old) (table types.new kinds.new) (term_of left.now) (term_of right.now)) }
+    ensures counted { free.new ≡ free_count (table types.new kinds.new) }
     ensures err { OnErr result (table types.new kinds.new ≡ table types.old kinds.old) }
 {
     let s = resolve(types, left);
@@ -83,10 +91,12 @@ fn unify_directly(
         Difference::Bind(x, t) => {
             let t = copy(alloc, t)?;
             bind_marked(types, nested, x, t);
+            *free -= 1;
             Ok(Direct::Same)
         }
         Difference::BindKind(x, k) => {
             bind_kind(kinds, x, k);
+            *free -= 1;
             Ok(Direct::Same)
         }
     }
@@ -98,16 +108,19 @@ fn unify_deeply(
     types: &mut [TypeVariable],
     kinds: &mut [Option<KindTerm>],
     nested: &mut [bool],
+    free: &mut usize,
     left: &Ty,
     right: &Ty,
 ) -> Result<bool, Memory>
     requires sound { IsSound (table types.old kinds.old) }
+    requires counted { free.old ≡ free_count (table types.old kinds.old) }
     requires marked { AreMarked types.old nested.old }
     requires left { IsOver (table types.old kinds.old) (term_of left.now) }
     requires right { IsOver (table types.old kinds.old) (term_of right.now) }
     ensures narrowed { IsNarrowed (term_of left.now) (term_of right.now) (table types.old kinds.old) (table types.new kinds.new) nested.old nested.new }
     ensures answer { IfOk result (IsAnswer (table types.new kinds.new) (term_of left.now) (term_of right.now)) }
     ensures unchanged { IfOk result (λ yes. OnFalse yes (table types.new kinds.new ≡ table types.old kinds.old)) }
+    ensures counted { free.new ≡ free_count (table types.new kinds.new) }
     ensures err { OnErr result (table types.new kinds.new ≡ table types.old kinds.old) }
 {
     let mut type_trail = Vec::new(alloc);
@@ -122,7 +135,11 @@ fn unify_deeply(
         left,
         right,
     ) {
-        Ok(true) => Ok(true),
+        Ok(true) => {
+            *free -= type_trail.len();
+            *free -= kind_trail.len();
+            Ok(true)
+        }
         Ok(false) => {
             free_types(types, &type_trail);
             free_kinds(kinds, &kind_trail);

@@ -1,4 +1,4 @@
-use Rattle.std.proofs.Common.{◌≡◌, ◌∙◌, ◌++◌, ◌∷◌, [], ap, subst, sym, List}
+use Rattle.std.proofs.Common.{◌≡◌, ◌∷◌, [], ap, subst, sym, List}
 use Rattle.type_terms.specs.Nested.{terms}
 use Rattle.type_terms.specs.Table.{IsOver}
 use Rattle.type_terms.specs.Term.{Term, term_of}

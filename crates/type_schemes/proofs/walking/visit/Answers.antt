@@ -1,4 +1,4 @@
-use Rattle.std.proofs.Common.{◌≡◌, ◌∙◌, ap, sym, subst, ◌<◌, ◌∷◌, [], length}
+use Rattle.std.proofs.Common.{◌∙◌, ap, sym, subst, ◌∷◌, []}
 use Rattle.type_terms.specs.Nested.{terms}
 use Rattle.type_terms.specs.Table.{IsOver}
 use Rattle.type_terms.specs.Term.{list_term, source_term, term_of}

@@ -1,4 +1,4 @@
-use Rattle.std.proofs.Common.{◌≡◌, ◌++◌, [], ◌∷◌, ap, rules, subst}
+use Rattle.std.proofs.Common.{◌≡◌, [], ◌∷◌, ap, rules, subst}
 use Rattle.type_terms.specs.Nested.{terms}
 use Rattle.type_terms.specs.Table.{IsOver}
 use Rattle.type_terms.specs.Term.{term_of}

@@ -8,8 +8,9 @@ use Rattle.type_terms.proofs.subst.unify.Goals as goal
 pub unify_in-requires : goal.unify_in-requires
 unify_in-requires c =
     rw (c.deref_mut.ensures.value, c.deref_mut-2.ensures.value, c.deref_mut-3.ensures.value) (record {
-      sound = c.subst.invariant.sound;
-      marked = c.subst.invariant.marked;
+      sound = c.subst.invariant.whole.sound;
+      marked = c.subst.invariant.whole.marked;
+      counted = c.subst.invariant.counted;
       left = subst (λ s. IsOver s (term_of c.args.left.now)) (sym c.subst.view_is) c.requires.left;
       right = subst (λ s. IsOver s (term_of c.args.right.now)) (sym c.subst.view_is) c.requires.right;
     })
@@ -19,7 +20,7 @@ invariant_of-subst c =
     let t = with_items_is c.subst.inside.types c.unify_in.new.types (omega (arith, c.unify_in.auto.types, c.deref_mut.ensures.len)) in
     let k = with_items_is c.subst.inside.kinds c.unify_in.new.kinds (omega (arith, c.unify_in.auto.kinds, c.deref_mut-2.ensures.len)) in
     let n = with_items_is c.subst.inside.nested c.unify_in.new.nested (omega (arith, c.unify_in.auto.nested, c.deref_mut-3.ensures.len)) in
-    rw (t, k, n) (record { sound = c.unify_in.ensures.narrowed.sound; marked = c.unify_in.ensures.narrowed.marked })
+    rw (t, k, n) (record { whole = record { sound = c.unify_in.ensures.narrowed.sound; marked = c.unify_in.ensures.narrowed.marked }; counted = c.unify_in.ensures.counted })
 
 pub returns : goal.returns
 returns c =

@@ -26,6 +26,7 @@ returns-in-Ok-false c =
       narrowed = rw (t, k) (narrowed_none _ _ (table c.args.types.now c.args.kinds.now) _ _ c.requires.sound c.requires.marked c.solve.auto.nested c.solve.ensures.narrowed.marks_kept);
       answer = rw (t, k) (never_before _ _ _ _ _ _ c.solve.ensures.narrowed (rw c.in-Ok-false.field-0-test at c.in-Ok-false.ensures.answer));
       unchanged = rw (t, k) refl;
+      counted = rw (t, k) c.requires.counted;
       err = tt;
     }
 
@@ -43,5 +44,6 @@ returns c =
       narrowed = rw (t, k) (narrowed_none _ _ (table c.args.types.now c.args.kinds.now) _ _ c.requires.sound c.requires.marked c.solve.auto.nested c.solve.ensures.narrowed.marks_kept);
       answer = tt;
       unchanged = tt;
+      counted = rw (t, k) c.requires.counted;
       err = rw (t, k) refl;
     }

@@ -1,7 +1,8 @@
-use Rattle.std.proofs.Common.{sym, subst, refl, ◌<◌, length}
+use Rattle.std.proofs.Common.{sym, subst, refl, ◌<◌, length, arith}
 use Rattle.type_terms.specs.Table.{Binds, table}
 use Rattle.type_terms.specs.Term.{InTerm, term_of}
 use Rattle.type_terms.specs.declared.differ.Difference.TheVariants.{Bind, BindKind, Clash, Same}
+use Rattle.type_terms.proofs.Counting.{count_kind, count_type}
 use Rattle.type_terms.proofs.Narrowed.{narrowed_kind, narrowed_type, same_kind, same_type}
 use Rattle.type_terms.proofs.Settling.{over_types, settles_resolved, triangular}
 use Rattle.type_terms.proofs.unifier.unify_directly.Goals as goal
@@ -42,6 +43,23 @@ bind_marked-requires c =
       over = subst (λ u. InTerm (λ n. n < length c.args.types.now) (λ _. Unit {0}) u) (sym c.in_ok-t-in-Bind.ensures) (over_types c.args.types.now c.args.kinds.now (term_of c.in-Bind.t.now) f.over);
     }
 
+pub overflow_sub-free : goal.overflow_sub-free
+overflow_sub-free c =
+    let s = table c.args.types.now c.args.kinds.now in
+    let s' = table c.bind_marked.new.types c.args.kinds.now in
+    let f = rw c.in-Bind.is at c.in_ok-differ_resolved.ensures in
+    let b : Binds c.in-Bind.x (term_of c.in-Bind.t.now) c.args.types.now c.bind_marked.new.types = subst (λ u. Binds c.in-Bind.x u c.args.types.now c.bind_marked.new.types) c.in_ok-t-in-Bind.ensures c.bind_marked.ensures.binds in
+    let less = count_type s s' c.in-Bind.x (term_of c.in-Bind.t.now) f.inside b refl in
+    omega (arith, less, c.requires.counted)
+
+pub overflow_sub-free-in-BindKind : goal.overflow_sub-free-in-BindKind
+overflow_sub-free-in-BindKind c =
+    let s = table c.args.types.now c.args.kinds.now in
+    let s' = table c.args.types.now c.bind_kind.new.kinds in
+    let f = rw c.in-BindKind.is at c.in_ok-differ_resolved.ensures in
+    let less = count_kind s s' c.in-BindKind.x c.in-BindKind.k f.inside c.bind_kind.ensures refl in
+    omega (arith, less, c.requires.counted)
+
 pub returns-in_ok-t-in-Bind : goal.returns-in_ok-t-in-Bind
 returns-in_ok-t-in-Bind c =
     let s = table c.args.types.now c.args.kinds.now in
@@ -51,6 +69,7 @@ returns-in_ok-t-in-Bind c =
     record {
       narrowed = narrowed_type _ _ s s' _ _ f b refl _ _ c.requires.sound c.bind_marked.ensures.marked c.bind_marked.ensures.marks_kept;
       direct = same_type _ _ s s' _ _ f b refl;
+      counted = let less = count_type s s' c.in-Bind.x (term_of c.in-Bind.t.now) f.inside b refl in omega (arith, less, c.requires.counted);
       err = tt;
     }
 
@@ -62,5 +81,6 @@ returns-in-BindKind c =
     record {
       narrowed = narrowed_kind _ _ s s' _ _ f c.bind_kind.ensures refl _ c.requires.sound c.requires.marked;
       direct = same_kind _ _ s s' _ _ f c.bind_kind.ensures refl;
+      counted = let less = count_kind s s' c.in-BindKind.x c.in-BindKind.k f.inside c.bind_kind.ensures refl in omega (arith, less, c.requires.counted);
       err = tt;
     }

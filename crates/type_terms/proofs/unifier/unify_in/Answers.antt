@@ -20,6 +20,7 @@ unify_deeply-requires c =
     record {
       sound = h.sound;
       marked = h.marked;
+      counted = c.unify_directly.ensures.counted;
       left = subst (λ s. IsOver s (term_of c.args.left.now)) (sym same) c.requires.left;
       right = subst (λ s. IsOver s (term_of c.args.right.now)) (sym same) c.requires.right;
     }

@@ -9,4 +9,4 @@ extends : (s : Table) → IsSound s → (p : Assignment) → ((k : ℕ) → numb
 extends s h p n = (solution s h p, solution_extends s h p n)
 
 pub returns : goal.returns
-returns c = extends c.args.self.now (subst IsSound c.self.view_is c.self.invariant.sound)
+returns c = extends c.args.self.now (subst IsSound c.self.view_is c.self.invariant.whole.sound)
