@@ -18,8 +18,9 @@ use Rattle.script_grammar.specs.declared.tree.Call as call
 use Rattle.script_grammar.specs.declared.tree.Arg as arg
 use Rattle.script_grammar.proofs.Rows.{and_seen, call_seen, expr_seen, fulls_listed, list_made, product_seen, sum_seen}
 use Rattle.typing_rules.specs.declared.uses.Use.{Use}
+use Rattle.typing_rules.specs.Kinds.{target_said}
 use Rattle.typing_rules.specs.Uses.{use_at}
-use Rattle.eval_meaning.specs.Calls.{holds_call, is_setting, means_set, target_of}
+use Rattle.eval_meaning.specs.Calls.{holds_call, is_setting, means_set}
 
 held_listed : {S : Sort} {X : Type 0} (view : X → Tree S) (xs : List X) → holds_call (listed (map view xs)) ≡ list_any (λ x. holds_call (view x)) xs
 held_listed view [] = refl
@@ -85,7 +86,7 @@ sum_rest e l b is first rest = rest ∙ ap (λ (f : Bool). f || list_any (λ x. 
 pub product_rest : (e : product.Product) (l : List multiplied.Multiplied) (b : Bool) → l ≡ (product.out-Product e).rest.items → false ≡ holds_call (view_prim (product.out-Product e).first) → b ≡ list_any (λ x. holds_call (view_multiplied x)) l → b ≡ holds_call (view_product e)
 product_rest e l b is first rest = rest ∙ ap (λ (f : Bool). f || list_any (λ x. holds_call (view_multiplied x)) l) first ∙ sym (product_held e l is)
 
-pub setting_means : (uses : List Use) (e : call.Call) (l : List arg.Arg) (b : Bool) → l ≡ (call.out-Call e).args.items → true ≡ means_set (target_of (use_at (call.out-Call e).at uses)) → b ≡ list_any (λ x. holds_call (view_arg x)) l → not b ≡ is_setting uses (CallPart (view_call e))
+pub setting_means : (uses : List Use) (e : call.Call) (l : List arg.Arg) (b : Bool) → l ≡ (call.out-Call e).args.items → true ≡ means_set (target_said (use_at (call.out-Call e).at uses)) → b ≡ list_any (λ x. holds_call (view_arg x)) l → not b ≡ is_setting uses (CallPart (view_call e))
 setting_means uses e l b is first rest =
     ap not (rest ∙ call_held e l is)
     ∙ ap (λ (f : Bool). f && not (holds_call (listed (map view_arg (call.out-Call e).args.items)))) first

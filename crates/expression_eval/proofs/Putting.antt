@@ -1,5 +1,5 @@
 -- What steps on the place of a result come to.
-use Rattle.std.proofs.Common.{◌≡◌, ℕ, ◌+◌, ◌<◌, ◌≤◌, Bool, true, false, List, [], ◌∷◌, ◌++◌, Option, Some, None, length, drop, get_or, Result, Ok, Err, refl, sym, ap, subst, ◌∙◌}
+use Rattle.std.proofs.Common.{◌≡◌, ℕ, ◌+◌, ◌<◌, ◌≤◌, Bool, true, false, List, Option, Some, None, length, drop, get_or, Result, Ok, Err, refl, sym, ap, subst, ◌∙◌}
 use Rattle.std.specs.Prelude.{map, is_err}
 use Rattle.script_grammar.specs.Tree.{Sort, Tree, Many, none}
 use Rattle.script_grammar.specs.View.{listed, view_compare, view_full, view_if, view_sum}
@@ -17,7 +17,7 @@ use Rattle.script_grammar.specs.declared.tree.Full.{Full}
 use Rattle.script_grammar.specs.declared.tree.If.{If}
 use Rattle.eval_meaning.specs.Meaning as meaning
 use Rattle.eval_meaning.specs.Meaning.{Scope, joined}
-use Rattle.expression_eval.specs.Places.{Place, Failed, Goes, GoesOn, Joins, Keeps, Makes, Tells}
+use Rattle.expression_eval.specs.Places.{Place, Failed, Goes, Joins, GoesBehind, Tells}
 use Rattle.expression_eval.specs.Steps.{after_count, operation}
 use Rattle.expression_eval.specs.declared.steps.Operator.{Operator}
 use Rattle.expression_eval.proofs.Loops.{Steps, ends, fails_on, fails_same, stops, turn}
@@ -136,12 +136,12 @@ left_stops whole rest (Ok v) (Err e) m left stopped = left
 
 -- ---- values behind one another
 
-pub kept_on : {X : Type 0} (made : Value → X) (old now : Place) (before after : List X) (m : Machine) (first : Outcome) → Gives (λ v. (view_value v, m)) old first → Keeps made old true before after now
+pub kept_on : {X : Type 0} (made : Value → X) (old now : Place) (before after : List X) (m : Machine) (first : Outcome) → Gives (λ v. (view_value v, m)) old first → GoesBehind made old true before after now
     → ((first >>= λ x. Ok (made x.0, x.1)) >>= with_last before) ≡ Ok (after, m)
 kept_on made (Ok v) now before after m first is keeps = ap (λ (o : Outcome). (o >>= λ x. Ok (made x.0, x.1)) >>= with_last before) is ∙ ap (λ (l : List _). Ok (l, m)) (sym keeps)
 kept_on made (Err e) now before after m first fault nothing = absurd nothing
 
-pub kept_off : {X : Type 0} (made : Value → X) (old now : Place) (before after : List X) (m : Machine) (first : Outcome) → Gives (λ v. (view_value v, m)) old first → Keeps made old false before after now
+pub kept_off : {X : Type 0} (made : Value → X) (old now : Place) (before after : List X) (m : Machine) (first : Outcome) → Gives (λ v. (view_value v, m)) old first → GoesBehind made old false before after now
     → Failed now ((first >>= λ x. Ok (made x.0, x.1)) >>= with_last before)
 kept_off made (Ok v) now before after m first is keeps = subst (λ (p : Place). Failed p ((first >>= λ x. Ok (made x.0, x.1)) >>= with_last before)) (sym keeps) tt
 kept_off made (Err e) now before after m first fault keeps =

@@ -48,8 +48,8 @@ Tells (Err e) (Some b) now = ⊥
 Tells (Err e) None now = now ≡ Err e
 
 -- whether what is made of the value in the place went behind the others
-abbrev pub Keeps : {X : Type 0} → (Value → X) → Place → Bool → List X → List X → Place → Type 0
-Keeps made (Ok v) true before after now = after ≡ before ++ made (view_value v) ∷ []
-Keeps made (Ok v) false before after now = now ≡ Err fault.Memory
-Keeps made (Err e) true before after now = ⊥
-Keeps made (Err e) false before after now = now ≡ Err e
+abbrev pub GoesBehind : {X : Type 0} → (Value → X) → Place → Bool → List X → List X → Place → Type 0
+GoesBehind made (Ok v) true before after now = after ≡ before ++ made (view_value v) ∷ []
+GoesBehind made (Ok v) false before after now = now ≡ Err fault.Memory
+GoesBehind made (Err e) true before after now = ⊥
+GoesBehind made (Err e) false before after now = now ≡ Err e

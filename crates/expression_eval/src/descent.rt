@@ -15,7 +15,8 @@ ghost use Rattle.script_values.specs.View.{view_value};
 
 use crate::atoms::atom;
 use crate::steps::{
-    Operator, counted_negative, kept_argument, kept_value, negate, operate, put, step, taken, truth,
+    Operator, counted_negative, kept_argument, kept_value, negate, operate, put, step, taken_slot,
+    truth,
 };
 use builtin_calls::builtin;
 use eval_scope::{Scope, kinds_of};
@@ -680,8 +681,8 @@ fn parameter(
     ensures { Gives (λ v. ((view_slot v, map view_given given.new.items), machine.new)) result (parameter (base_of scope.now) (view_param param.now) (map view_given given.old.items) machine.old) }
 {
     match &param.form {
-        ParamForm::Plain => taken(given, param.at, None),
-        ParamForm::Labelled => taken(given, param.at, Some(param.name.as_str())),
+        ParamForm::Plain => taken_slot(given, param.at, None),
+        ParamForm::Labelled => taken_slot(given, param.at, Some(param.name.as_str())),
         ParamForm::Optional(default) => match argument(given, Some(param.name.as_str())) {
             None => {
                 let outer = Scope {

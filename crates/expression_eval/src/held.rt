@@ -1,9 +1,10 @@
 // Which statements are settings: a call of the builtin `set` that holds no other call.
 ghost use Rattle.std.specs.Prelude.{◌≡◌, Some};
 ghost use Rattle.std.specs.List.{list_any};
-ghost use Rattle.eval_meaning.specs.Calls.{holds_call, is_set, is_setting, means_set, target_of};
+ghost use Rattle.eval_meaning.specs.Calls.{holds_call, is_set, is_setting, means_set};
 ghost use Rattle.script_grammar.specs.declared.tree.StmtPart.TheVariants.{Call as a_call};
 ghost use Rattle.script_grammar.specs.View.{view_added, view_and, view_arg, view_compare, view_expr, view_full, view_if, view_multiplied, view_not, view_part, view_prim, view_product, view_sum};
+ghost use Rattle.typing_rules.specs.Kinds.{target_said};
 ghost use Rattle.typing_rules.specs.Uses.{use_at};
 
 use eval_scope::Uses;
@@ -32,7 +33,7 @@ fn is_setting_call(uses: &Uses<'_>, call: &Call) -> bool
 }
 
 fn means_set(uses: &Uses<'_>, at: u32) -> bool
-    ensures { result ≡ means_set (target_of (use_at at uses.now.all.now)) }
+    ensures { result ≡ means_set (target_said (use_at at uses.now.all.now)) }
 {
     match uses.find(at) {
         None => false,

@@ -1,8 +1,8 @@
 // Steps that evaluate no expression: what is counted, and what a parameter takes of the arguments. Values that are no
 // longer needed end here, and not in the descent.
 ghost use Rattle.std.specs.Prelude.{◌≡◌, [], ◌∷◌, ◌++◌, IfOk, Ok, map, option_map};
-ghost use Rattle.eval_meaning.specs.Meaning.{format, taken};
-ghost use Rattle.expression_eval.specs.Places.{Goes, GoesOn, Joins, Keeps, Tells};
+ghost use Rattle.eval_meaning.specs.Meaning.{format, taken_slot};
+ghost use Rattle.expression_eval.specs.Places.{Goes, GoesOn, Joins, GoesBehind, Tells};
 ghost use Rattle.expression_eval.specs.Steps.{after_count, operation};
 ghost use Rattle.script_values.specs.Gives.{Gives};
 ghost use Rattle.script_values.specs.Machines.{count};
@@ -126,7 +126,7 @@ pub fn step(machine: &mut Machine, out: &mut Result<Value, Fault>) -> bool
 /// Moves the value in the place behind the others. `false` where there is none, and then a fault is in the place.
 #[inline(never)]
 pub fn kept_value(values: &mut Vec<Value>, out: &mut Result<Value, Fault>) -> bool
-    ensures { Keeps (λ v. v) out.old result (map view_value values.old.items) (map view_value values.new.items) out.new }
+    ensures { GoesBehind (λ v. v) out.old result (map view_value values.old.items) (map view_value values.new.items) out.new }
 {
     match mem::replace(out, Err(Fault::Memory)) {
         Err(fault) => {
@@ -146,7 +146,7 @@ pub fn kept_argument(
     given: &mut Vec<Given>,
     out: &mut Result<Value, Fault>,
 ) -> bool
-    ensures { Keeps (λ v. (label.now, v)) out.old result (map view_given given.old.items) (map view_given given.new.items) out.new }
+    ensures { GoesBehind (λ v. (label.now, v)) out.old result (map view_given given.old.items) (map view_given given.new.items) out.new }
 {
     match mem::replace(out, Err(Fault::Memory)) {
         Err(fault) => {
@@ -205,8 +205,8 @@ pub fn counted_format(machine: &mut Machine, at: u32, size: Option<i64>) -> Resu
 }
 
 /// The slot of a parameter without a default, by the first argument with its label.
-pub fn taken(given: &mut Vec<Given>, at: u32, label: Option<&str>) -> Result<Slot, Fault>
-    ensures { (m : Machine) → Gives (λ v. ((view_slot v, map view_given given.new.items), m)) result (taken at (argument (option_map (λ t. t.now) label.entry) (map view_given given.old.items)) m) }
+pub fn taken_slot(given: &mut Vec<Given>, at: u32, label: Option<&str>) -> Result<Slot, Fault>
+    ensures { (m : Machine) → Gives (λ v. ((view_slot v, map view_given given.new.items), m)) result (taken_slot at (argument (option_map (λ t. t.now) label.entry) (map view_given given.old.items)) m) }
 {
     match argument(given, label) {
         None => Err(Fault::Stuck),

@@ -1,4 +1,4 @@
-use Rattle.std.proofs.Common.{◌≡◌, ◌-◌, List, [], Option, Result, Ok, true, false, refl, sym, ap, subst, ◌∙◌, arith, drop}
+use Rattle.std.proofs.Common.{◌-◌, List, [], Option, Result, Ok, true, false, refl, sym, ap, subst, ◌∙◌, arith, drop}
 use Rattle.std.proofs.lemmas.Result.{err_from_is_err_and}
 use Rattle.std.specs.Prelude.{map}
 use Rattle.script_grammar.specs.Tree.{Tree, ADef}
@@ -32,7 +32,7 @@ use Rattle.expression_eval.specs.declared.steps.Operator.TheVariants as operator
 use Rattle.expression_eval.proofs.Joins.{plus_means, times_means}
 use Rattle.expression_eval.proofs.Loops.{turn, stops, ends, fails_on}
 use Rattle.expression_eval.proofs.Productions.{expr_means, conj_means, sum_means, product_means, call_means, ors_steps, ands_steps, addeds_steps, multiplieds_steps, fulls_steps, arguments_steps, inners_steps, parameters_steps, with_last, with_slot, from_both, went, slot_went, ors_none, ands_none, addeds_none, multiplieds_none, fulls_none, arguments_none, inners_none, parameters_none, first_fails, pair_means, as_list, as_tuple, not_means, plain_means, alone_means, compared_means, argued_means, call_counted, choice_counted, paren_counted, tuple_counted, list_counted, calls_end, calls_turn}
-use Rattle.expression_eval.proofs.Putting.{behind_gives, choice_fails, choice_goes, compare_stops, failed_gives, failed_means, failed_on, failed_same, failed_stops, full_same, gives_same, goes_means, goes_same, joins_goes, kept_off, kept_on, left_ends, left_starts, left_stops, left_turns, made_gives, plain_last}
+use Rattle.expression_eval.proofs.Putting.{behind_gives, choice_fails, choice_goes, compare_stops, failed_gives, failed_means, failed_same, failed_stops, full_same, gives_same, goes_means, goes_same, joins_goes, kept_off, kept_on, left_ends, left_starts, left_stops, left_turns, made_gives, plain_last}
 use Rattle.expression_eval.proofs.Singles.{full_lone}
 use Rattle.expression_eval.proofs.descent.+value.Goals as goal
 
