@@ -1,2 +1,2 @@
-mod Offering
-mod Standing
+pub mod Offering
+pub mod Standing

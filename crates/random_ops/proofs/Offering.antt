@@ -6,17 +6,17 @@ use Rattle.std.proofs.lemmas.Nat.{mod_below}
 use Rattle.std.proofs.lemmas.Option.{same_Some, slice_get-get_or}
 use Rattle.frame_core.specs.declared.cell.Cell.{Cell}
 use Rattle.frame_core.specs.Slots.{Slot, is_first, slot_at}
-use Rattle.op_select.specs.Selection.{goes_on, is_last, picked_cell}
+use Rattle.op_select.specs.declared.rule.Picked.{Picked}
+use Rattle.op_select.specs.Selection.{goes_on, is_last, picked, picked_cell}
 use Rattle.seed_words.specs.Words.{Unread}
-use Rattle.random_ops.specs.declared.turn.Pick.{Pick}
 use Rattle.random_ops.specs.Choices.{chosen_by, used_by}
-use Rattle.random_ops.specs.Turns.{offering, pick_with, picked, plays_on, rotated}
+use Rattle.random_ops.specs.Turns.{offering, plays_on, rotated}
 
 -- the child offers a cell
 abbrev pub Offers : List Slot → ℕ → Type 0
 Offers slots child = is_some (slot_at slots child) ≡ true
 
-some_offers : (slots : List Slot) (child : ℕ) → Offers slots child → list_any is_some slots ≡ true
+pub some_offers : (slots : List Slot) (child : ℕ) → Offers slots child → list_any is_some slots ≡ true
 some_offers [] child offers = absurd cc
 some_offers (None ∷ slots) zero offers = absurd cc
 some_offers (None ∷ slots) (suc child) offers = some_offers slots child offers
@@ -135,17 +135,17 @@ same_truth false false onward back = refl
 same_truth true false onward back = sym (onward refl)
 same_truth false true onward back = back refl
 
-with_some : (last : Option ℕ) (child : ℕ) (slot : Slot) → is_some (pick_with last child slot) ≡ is_some slot
-with_some last child None = refl
-with_some last child (Some cell) = refl
+with_some : (last : Option ℕ) (child : ℕ) (slots : List Slot) (slot : Slot) → slot_at slots child ≡ slot → is_some (picked slots last (Some child)) ≡ is_some slot
+with_some last child slots None at = rw at refl
+with_some last child slots (Some cell) at = rw at refl
 
 picked_any : (last used : Option ℕ) (slots : List Slot) → ((child : ℕ) → used ≡ Some child → Offers slots child)
-    → (list_any is_some slots ≡ true → is_some used ≡ true) → is_some (picked last slots used) ≡ list_any is_some slots
+    → (list_any is_some slots ≡ true → is_some used ≡ true) → is_some (picked slots last used) ≡ list_any is_some slots
 picked_any last None slots offers found = same_truth false (list_any is_some slots) (λ no. absurd cc) found
 picked_any last (Some child) slots offers found =
-    with_some last child (slot_at slots child) ∙ offers child refl ∙ sym (some_offers slots child (offers child refl))
+    with_some last child slots (slot_at slots child) refl ∙ offers child refl ∙ sym (some_offers slots child (offers child refl))
 
-pub picked_some : (words : Option Unread) (last : Option ℕ) (slots : List Slot) → is_some (picked last slots (used_by words last slots)) ≡ list_any is_some slots
+pub picked_some : (words : Option Unread) (last : Option ℕ) (slots : List Slot) → is_some (picked slots last (used_by words last slots)) ≡ list_any is_some slots
 picked_some words last slots = picked_any last (used_by words last slots) slots (used_offers words last slots) (used_found words last slots)
 
 -- what is offered tells the child that is used, and whether a choice found it
@@ -179,22 +179,23 @@ played : (words : Option Unread) (last : Option ℕ) (slots : List Slot) (child 
 played words last slots child is plays =
     ap (λ on. if on then last else chosen_by words last slots) (sym plays) ∙ is
 
-with_told : (slots : List Slot) (last : Option ℕ) (child : ℕ) (slot : Slot) (pick : Pick) → slot_at slots child ≡ slot
-    → (plays_on slots last ≡ true → last ≡ Some child) → pick_with last child slot ≡ Some pick
+with_told : (slots : List Slot) (last : Option ℕ) (child : ℕ) (slot : Slot) (pick : Picked) → slot_at slots child ≡ slot
+    → (plays_on slots last ≡ true → last ≡ Some child) → picked slots last (Some child) ≡ Some pick
     → (Some child ≡ Some pick.child) × (pick.cell.first ≡ not (plays_on slots last))
-with_told slots last child None pick at plays is = absurd cc
+with_told slots last child None pick at plays is = let none : picked slots last (Some child) ≡ None = rw at refl in absurd cc
 with_told slots last child (Some cell) pick at plays is =
-    let made : ◌≡◌ {A = Pick} (record { child = child; cell = picked_cell last child cell }) pick = same_Some _ _ is in (
-      ap (λ (p : Pick). Some p.child) made,
-      sym (ap (λ (p : Pick). p.cell.first) made) ∙ flagged slots last child cell at plays,
+    let some : picked slots last (Some child) ≡ Some (record { child = child; cell = picked_cell last child cell }) = rw at refl in
+    let made : ◌≡◌ {A = Picked} (record { child = child; cell = picked_cell last child cell }) pick = same_Some _ _ (sym some ∙ is) in (
+      ap (λ (p : Picked). Some p.child) made,
+      sym (ap (λ (p : Picked). p.cell.first) made) ∙ flagged slots last child cell at plays,
     )
 
-told_by : (words : Option Unread) (last : Option ℕ) (slots : List Slot) (pick : Pick) (used : Option ℕ) → used_by words last slots ≡ used
-    → picked last slots used ≡ Some pick → (used ≡ Some pick.child) × (pick.cell.first ≡ not (plays_on slots last))
+told_by : (words : Option Unread) (last : Option ℕ) (slots : List Slot) (pick : Picked) (used : Option ℕ) → used_by words last slots ≡ used
+    → picked slots last used ≡ Some pick → (used ≡ Some pick.child) × (pick.cell.first ≡ not (plays_on slots last))
 told_by words last slots pick None uses is = absurd cc
 told_by words last slots pick (Some child) uses is =
     with_told slots last child (slot_at slots child) pick refl (played words last slots child uses) is
 
-pub picked_tells : (words : Option Unread) (last : Option ℕ) (slots : List Slot) (pick : Pick) → picked last slots (used_by words last slots) ≡ Some pick
+pub picked_tells : (words : Option Unread) (last : Option ℕ) (slots : List Slot) (pick : Picked) → picked slots last (used_by words last slots) ≡ Some pick
     → (used_by words last slots ≡ Some pick.child) × (pick.cell.first ≡ not (plays_on slots last))
 picked_tells words last slots pick is = told_by words last slots pick (used_by words last slots) refl is

@@ -1,7 +1,7 @@
 -- Turns: which child a rotate or a random uses, from what its children offer and from the instants at which it gave.
 -- A child is a place of the list of children, so that a node at two places is two.
 use Rattle.std.specs.Prelude.{Bool, false, ◌≡◌, ◌++◌, ◌%◌, Option, Some, None, List, [], ◌∷◌, ℕ, suc, is_some, length, take, drop, slice_get, if◌then◌else◌}
-use Rattle.frame_core.specs.Slots.{Slot, slot_at}
+use Rattle.frame_core.specs.Slots.{Slot}
 use Rattle.op_select.specs.declared.rule.Picked.{Picked}
 use Rattle.op_select.specs.Selection.{goes_on, picked}
 use Rattle.seed_words.specs.Words.{Unread, word, words_from}

@@ -1,7 +1,8 @@
 // The child that is used, from the one that was used last.
 ghost use Rattle.std.specs.Prelude.{◌≡◌, ◌<◌, ◌+◌, ◌^◌, ℕ, suc, length, slice_get, IfSome};
 ghost use Rattle.random_ops.specs.declared.turn.Turn.{Turn as TheTurn};
-ghost use Rattle.random_ops.specs.Turns.{drawn, offering, picked, plays_on, rotated, words_left};
+ghost use Rattle.op_select.specs.Selection.{picked};
+ghost use Rattle.random_ops.specs.Turns.{drawn, offering, plays_on, rotated, words_left};
 
 use crate::{Pick, Turn};
 use frame_core::Cell;
@@ -69,7 +70,7 @@ pub fn drawn(offers: &[Option<Cell>], word: u32) -> Option<u32>
 
 /// The child that is used, with the cell that is offered with it.
 pub fn picked(offers: &[Option<Cell>], last: Option<u32>, used: Option<u32>) -> Option<Pick>
-    ensures { result ≡ picked last offers.now used }
+    ensures { result ≡ picked offers.now last used }
 {
     let child = used?;
     let cell = (*offers.get(child as usize)?)?;

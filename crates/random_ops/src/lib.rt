@@ -6,5 +6,6 @@ pub mod laws;
 mod state;
 mod turn;
 
+pub use op_select::Picked as Pick;
 pub use state::TurnState;
-pub use turn::{Pick, Turn};
+pub use turn::Turn;

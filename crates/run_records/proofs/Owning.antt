@@ -53,7 +53,7 @@ reads_it base buffer i node = option_map_or (nat_eq buffer) (reads_in (work_at b
 
 reads_true : (buffer : ℕ) (work : Work) → option_map_or (nat_eq buffer) (reads_in work) false ≡ true → work ≡ Reads buffer
 reads_true buffer (Plays leaf) e = absurd (false≢true e)
-reads_true buffer (Picks rule eligible) e = absurd (false≢true e)
+reads_true buffer (Picks choice eligible) e = absurd (false≢true e)
 reads_true buffer (Mixes mixing) e = absurd (false≢true e)
 reads_true buffer (Fades overlap) e = absurd (false≢true e)
 reads_true buffer (Reads other) e = let same : other ≡ buffer = grind (arith, nat_tests) in ap Reads same
@@ -137,7 +137,7 @@ module _ (base : Setting) (clocks : ClockMap) (is : IsSetting base clocks) (rank
     own_work : (clock : NodeClock) (past : List Moment) (i : ℕ) → ((buffer : ℕ) → IsAt base clock i (Reads buffer) → reader base buffer ≡ m) → (node : Node) → lies_in base clock i ≡ true → slice_get base.plan.nodes i ≡ Some node
         → (work : Work) → work_at base i node ≡ work → All (IsOwn base m) (takes_by (answered base answers) past i work)
     own_work clock past i own node inside there (Plays leaf) does = All-nil (IsOwn base m)
-    own_work clock past i own node inside there (Picks rule eligible) does = All-nil (IsOwn base m)
+    own_work clock past i own node inside there (Picks choice eligible) does = All-nil (IsOwn base m)
     own_work clock past i own node inside there (Mixes mixing) does = All-nil (IsOwn base m)
     own_work clock past i own node inside there (Fades overlap) does = All-nil (IsOwn base m)
     own_work clock past i own node inside there (Reads buffer) does =
@@ -160,7 +160,7 @@ module _ (base : Setting) (clocks : ClockMap) (is : IsSetting base clocks) (rank
 
     own_fade : (below : ℕ → ℕ → List Call) (past : List Moment) (k : ℕ) → ((n : ℕ) → All (IsOwn base m) (below k n)) → (work : Work) → All (IsOwn base m) (fades_by sub below past k work)
     own_fade below past k each (Plays leaf) = All-nil (IsOwn base m)
-    own_fade below past k each (Picks rule eligible) = All-nil (IsOwn base m)
+    own_fade below past k each (Picks choice eligible) = All-nil (IsOwn base m)
     own_fade below past k each (Mixes mixing) = All-nil (IsOwn base m)
     own_fade below past k each (Fades overlap) = all_joined (IsOwn base m) (λ j. below k (ran_by sub k overlap past + j)) (run_of overlap (sub k) (position past k) - ran_by sub k overlap past) (λ j. each (ran_by sub k overlap past + j))
     own_fade below past k each (Reads buffer) = All-nil (IsOwn base m)

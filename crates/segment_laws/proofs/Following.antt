@@ -1,5 +1,5 @@
 -- One instant behind another: the parts of all nodes go on, one node at a time.
-use Rattle.std.proofs.Common.{◌≡◌, ◌<◌, ◌≤◌, ◌+◌, ◌∙◌, ◌%◌, ℕ, zero, suc, Some, None, Option, List, [], ◌∷◌, length, get_or, slice_get, Bool, true, false, cond, arith, refl, ap, sym, subst, nat_eq, inl, inr, Contains}
+use Rattle.std.proofs.Common.{◌≡◌, ◌<◌, ◌≤◌, ◌+◌, ◌∙◌, ◌%◌, ℕ, zero, suc, Some, None, List, [], ◌∷◌, length, get_or, slice_get, Bool, true, false, cond, arith, refl, ap, sym, subst, nat_eq, inl, inr, Contains}
 use Rattle.std.specs.Prelude.{is_some, ◌&&◌, ◌||◌}
 use Rattle.std.specs.List.{list_any}
 use Rattle.std.proofs.lemmas.Bool.{false≢true, true≢false, cases_lt, eq-eqb}
@@ -16,17 +16,16 @@ use Rattle.frame_core.specs.Slots.{Slot, slot_at, is_first}
 use Rattle.op_cross.specs.Runs.{item_of}
 use Rattle.op_leaf.specs.Leaves.{leaf_slot}
 use Rattle.op_leaf.specs.Readers.{Answer, reader_slot}
-use Rattle.op_select.specs.declared.rule.Rule.{Rule}
-use Rattle.op_select.specs.Selection.{goes_on, pick_of, picked}
+use Rattle.op_select.specs.Selection.{goes_on, picked}
 use Rattle.stream_meaning.specs.declared.part.Part.{Part}
-use Rattle.stream_meaning.specs.Operators.{Work, Plays, Picks, Mixes, Fades, Reads, marks_at}
-use Rattle.stream_meaning.specs.Instants.{Setting, Moment, Reading, child_at, count, demanded, gives, is_root, last_pick, lies_in, moment_after, offer, offering, part_at, part_by, parts_upto, picked_part, position, reading_after, reading_at, second_at, silent, slots_at, started, uses_by, uses_from, work_at}
+use Rattle.stream_meaning.specs.Operators.{Work, Plays, Picks, Mixes, Fades, Reads, child_used, marks_at}
+use Rattle.stream_meaning.specs.Instants.{Setting, Moment, Reading, child_at, choices, count, demanded, gives, is_root, last_pick, lies_in, moment_after, offer, offering, part_at, part_by, parts_upto, picked_part, position, reading_after, reading_at, second_at, silent, slots_at, started, uses_by, uses_from, work_at}
 use Rattle.segment_laws.specs.Steady.{Follows, AllFollow, is_inner}
 use Rattle.segment_laws.specs.Stretches.{IsLike, IsNode, IsOn, IsStretch}
-use Rattle.segment_laws.proofs.Staying.{follow_length, none_follows, pick_offers}
+use Rattle.segment_laws.proofs.Staying.{follow_length, none_follows}
 use Rattle.segment_laws.proofs.Demanding.{demands_same, used_demanded}
 use Rattle.segment_laws.proofs.Parts.{other_part, own_part, part_past, part_stays, uses_at, uses_long}
-use Rattle.segment_laws.proofs.Works.{KeptPart, NoneBegins, and_right, inner_first, kept_alone, mix_kept, named, selection_kept}
+use Rattle.segment_laws.proofs.Works.{KeptPart, NoneBegins, and_right, inner_first, kept_alone, mix_kept, pick_offers_there, used_kept}
 
 -- children that stand below a node
 abbrev pub AreBelow : ℕ → List ℕ → Type 0
@@ -115,10 +114,6 @@ at_place children place child at = rw at refl
 
 pub one_used : (child : ℕ) → list_any (nat_eq child) (child ∷ []) ≡ true
 one_used child = ap (λ b. b || false) (eq-eqb child child refl)
-
-pub pick_offers_there : (rule : Rule) (slots : List Slot) (eligible : List Bool) (last : Option ℕ) (place : ℕ) → (picked_part (picked slots last (pick_of rule slots eligible last))).pick ≡ Some place
-    → is_some (slot_at slots place) ≡ true
-pick_offers_there rule slots eligible last place e = pick_offers rule slots eligible last place (named slots last (pick_of rule slots eligible last) place e)
 
 module _ (setting : Setting) (sub : ℕ → ℕ → List Slot) (clock : NodeClock) (past later : List Moment) (instants j : ℕ) (nodes : AreNodes setting.plan.nodes)
     (stretch : IsStretch setting sub clock past instants) (some : 0 < j) (within : j < instants) (on : IsOn setting sub clock past j later) where
@@ -226,24 +221,26 @@ module _ (setting : Setting) (sub : ℕ → ℕ → List Slot) (clock : NodeCloc
         no_first : (slot : Slot) → is_some slot ≡ false → is_first slot ≡ false
         no_first None e = refl
         no_first (Some cell) e = absurd (true≢false e)
-    by_work (Picks rule eligible) at same =
+    by_work (Picks choice eligible) at same =
         let marks : marks_at eligible (second_at setting (length later)) (length Others) ≡ marks_at eligible (second_at setting (length past)) (length Slots) =
         ap (λ n. marks_at eligible (second_at setting n) (length Others)) on.long
-        ∙ stretch.marks i node rule eligible j (length Others) is at some within
+        ∙ stretch.marks i node choice eligible j (length Others) is at some within
         ∙ ap (marks_at eligible (second_at setting (length past))) (follow_length Slots Others children_follow) in
-        let g : gives First i ≡ (demanded First i && is_some (part_by setting sub past i (Picks rule eligible) Slots).slot) = ap (λ (p : Part). demanded First i && is_some p.slot) same in
-        subst (λ marked. KeptPart (demanded First i) (part_by setting sub past i (Picks rule eligible) Slots)
-        (picked_part (picked Others (last_pick later i) (pick_of rule Others marked (last_pick later i))))) (sym marks)
-        (selection_kept (demanded First i) rule Slots Others (marks_at eligible (second_at setting (length past)) (length Slots)) (last_pick past i) (last_pick later i) children_follow
-        (stretch.free i node rule eligible j is at some within)
+        let g : gives First i ≡ (demanded First i && is_some (part_by setting sub past i (Picks choice eligible) Slots).slot) = ap (λ (p : Part). demanded First i && is_some p.slot) same in
+        subst (λ marked. KeptPart (demanded First i) (part_by setting sub past i (Picks choice eligible) Slots)
+        (picked_part (picked Others (last_pick later i) (child_used choice Others marked (last_pick later i) (choices later i))))) (sym marks)
+        (used_kept (demanded First i) choice Slots Others (marks_at eligible (second_at setting (length past)) (length Slots)) (last_pick past i) (last_pick later i) (choices past i) (choices later i) children_follow
+        (stretch.free i node choice eligible j is at some within)
         (λ e. on.stayed i (g ∙ e))
+        (λ e. on.unchosen i (g ∙ e))
         (λ e. on.picked i (g ∙ e) some ∙ ap (λ (p : Part). p.pick) same)
         (λ e place pick. played place (pick_there place pick) (g ∙ e) pick))
       where
-        pick_there : (place : ℕ) → (part_by setting sub past i (Picks rule eligible) Slots).pick ≡ Some place → is_some (slot_at Slots place) ≡ true
-        pick_there place pick = pick_offers_there rule Slots (marks_at eligible (second_at setting (length past)) (length Slots)) (last_pick past i) place pick
+        pick_there : (place : ℕ) → (part_by setting sub past i (Picks choice eligible) Slots).pick ≡ Some place → is_some (slot_at Slots place) ≡ true
+        pick_there place pick =
+            pick_offers_there Slots (last_pick past i) (child_used choice Slots (marks_at eligible (second_at setting (length past)) (length Slots)) (last_pick past i) (choices past i)) place pick
 
-        played : (place : ℕ) → is_some (slot_at Slots place) ≡ true → gives First i ≡ true → (part_by setting sub past i (Picks rule eligible) Slots).pick ≡ Some place → goes_on Others place ≡ true
+        played : (place : ℕ) → is_some (slot_at Slots place) ≡ true → gives First i ≡ true → (part_by setting sub past i (Picks choice eligible) Slots).pick ≡ Some place → goes_on Others place ≡ true
         played place offers gave pick =
             let found = place_is (Before i) node.children place offers in
             let child : ℕ = found.0 in
@@ -299,7 +296,7 @@ module _ (setting : Setting) (sub : ℕ → ℕ → List Slot) (clock : NodeCloc
       by_use : (work : Work) (node : Node) → slice_get setting.plan.nodes k ≡ Some node → k < All
           → uses_by (After All) work node.children (part_at (After All) k).pick ≡ uses_by (Before All) work node.children (part_at (Before All) k).pick
       by_use (Plays leaf) node there low = refl
-      by_use (Picks rule eligible) node there low = ap (child_at node.children) ((all_kept All (omega arith) k low).pick d)
+      by_use (Picks choice eligible) node there low = ap (child_at node.children) ((all_kept All (omega arith) k low).pick d)
       by_use (Mixes mixing) node there low = offering_same (Before All) (After All) k node.children
           (below_from k node.children (λ child among. child_below setting.plan.nodes k child node nodes there among)) (λ c under. (all_there c).there)
       by_use (Fades overlap) node there low = refl

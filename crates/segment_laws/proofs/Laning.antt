@@ -13,13 +13,12 @@ use Rattle.op_cross.specs.Runs.{item_of}
 use Rattle.op_leaf.specs.declared.leaf.Leaf.{Leaf}
 use Rattle.op_leaf.specs.Leaves.{leaf_slot}
 use Rattle.op_leaf.specs.Readers.{read_by, reader_slot}
-use Rattle.op_select.specs.declared.rule.Rule.{Rule}
 use Rattle.op_select.specs.declared.rule.Picked.{Picked}
-use Rattle.op_select.specs.Selection.{pick_of, picked, picked_cell}
+use Rattle.op_select.specs.Selection.{picked, picked_cell}
 use Rattle.stream_meaning.specs.declared.part.Part.{Part}
 use Rattle.stream_meaning.specs.Arithmetic.{Mixing, mix_slot}
-use Rattle.stream_meaning.specs.Operators.{Work, Eligible, Plays, Picks, Mixes, Fades, Reads, marks_at}
-use Rattle.stream_meaning.specs.Instants.{Setting, Moment, Reading, count, demanded, gives, last_pick, moment_after, offer, part_at, part_by, parts_upto, picked_part, position, reading_after, reading_at, second_at, slots_at, work_at}
+use Rattle.stream_meaning.specs.Operators.{Work, Choice, Eligible, Plays, Picks, Mixes, Fades, Reads, child_used, marks_at}
+use Rattle.stream_meaning.specs.Instants.{Setting, Moment, Reading, choices, count, demanded, gives, last_pick, moment_after, offer, part_at, part_by, parts_upto, picked_part, position, reading_after, reading_at, second_at, slots_at, work_at}
 use Rattle.segment_laws.specs.Stretches.{IsNode, IsStretch, going_on, lane}
 use Rattle.segment_laws.proofs.Staying.{picked-none, picked-some}
 use Rattle.segment_laws.proofs.Parts.{own_part, part_stays}
@@ -108,20 +107,20 @@ module _ (setting : Setting) (sub : ℕ → ℕ → List Slot) (clock : NodeCloc
       (below_from i node.children (λ child among. child_below setting.plan.nodes i child node nodes is.there among))
       (λ c under. part_stays setting sub clock (Later j) i (length setting.plan.nodes) c under (let l = low in omega (arith, l, under))))
 
-  pub chosen : (rule : Rule) (eligible : Eligible) (place child j : ℕ) → work_at setting i node ≡ Picks rule eligible → 0 < j → j < instants → gives First i ≡ true
+  pub chosen : (choice : Choice) (eligible : Eligible) (place child j : ℕ) → work_at setting i node ≡ Picks choice eligible → 0 < j → j < instants → gives First i ≡ true
       → (part_at First.parts i).pick ≡ Some place → slice_get node.children place ≡ Some child → lane setting sub clock past j i ≡ lane setting sub clock past j child
-  chosen rule eligible place child j at some within gave pick there =
+  chosen choice eligible place child j at some within gave pick there =
       let on = on_all setting sub clock past instants nodes stretch j (omega (arith, within)) in
       let like = alike_all setting sub clock past instants nodes stretch j some within in
       let last : last_pick (Later j) i ≡ Some place = on.picked i gave some ∙ pick in
       let part : part_at (moment_after setting sub clock (Later j)).parts i ≡ picked_part (picked (Slots j) (Some place)
-      (pick_of rule (Slots j) (marks_at eligible (second_at setting (length (Later j))) (length (Slots j))) (last_pick (Later j) i))) =
-      part_works j (Picks rule eligible) at
-      ∙ ap (λ l. picked_part (picked (Slots j) l (pick_of rule (Slots j) (marks_at eligible (second_at setting (length (Later j))) (length (Slots j))) (last_pick (Later j) i)))) last in
+      (child_used choice (Slots j) (marks_at eligible (second_at setting (length (Later j))) (length (Slots j))) (last_pick (Later j) i) (choices (Later j) i))) =
+      part_works j (Picks choice eligible) at
+      ∙ ap (λ l. picked_part (picked (Slots j) l (child_used choice (Slots j) (marks_at eligible (second_at setting (length (Later j))) (length (Slots j))) (last_pick (Later j) i) (choices (Later j) i)))) last in
       let same : (part_at (moment_after setting sub clock (Later j)).parts i).pick ≡ Some place = like.picks i (and_left (demanded First i) (is_some (offer First i)) gave) ∙ pick in
       let under : child < i = child_is_below i node.children place child (below_from i node.children (λ child among. child_below setting.plan.nodes i child node nodes is.there among)) there in
       ap (λ (p : Part). p.slot) part
-      ∙ again (Slots j) place (pick_of rule (Slots j) (marks_at eligible (second_at setting (length (Later j))) (length (Slots j))) (last_pick (Later j) i))
+      ∙ again (Slots j) place (child_used choice (Slots j) (marks_at eligible (second_at setting (length (Later j))) (length (Slots j))) (last_pick (Later j) i) (choices (Later j) i))
       (ap (λ (p : Part). p.pick) (sym part) ∙ same)
       ∙ slot_is (parts_upto setting sub clock (Later j) i) node.children place child there
       ∙ ap (λ (p : Part). p.slot) (part_stays setting sub clock (Later j) i (length setting.plan.nodes) child under (let l = low in omega (arith, l, under)))

@@ -1,4 +1,5 @@
 pub mod Staying
+pub mod Turning
 pub mod Demanding
 pub mod Parts
 pub mod Works

@@ -42,7 +42,7 @@ module _ (setting : Setting) (sub : ℕ → ℕ → List Slot) (clock : NodeCloc
   reads_none : (k : ℕ) (node : Node) → IsNode setting clock k node → nat_eq (length Later % setting.plan.frame) 0 ≡ true → (work : Work) → work_at setting k node ≡ work
       → takes_by setting Later k work ≡ []
   reads_none k node is tick (Plays leaf) at = refl
-  reads_none k node is tick (Picks rule eligible) at = refl
+  reads_none k node is tick (Picks choice eligible) at = refl
   reads_none k node is tick (Mixes mixing) at = refl
   reads_none k node is tick (Fades overlap) at = refl
   reads_none k node is tick (Reads buffer) at =
@@ -69,7 +69,7 @@ module _ (setting : Setting) (sub : ℕ → ℕ → List Slot) (clock : NodeCloc
   fades_none : AreQuiet setting sub clock past instants → (k : ℕ) (node : Node) → IsNode setting clock k node → (work : Work) → work_at setting k node ≡ work
       → fades_by sub Below Later k work ≡ []
   fades_none quiet k node is (Plays leaf) at = refl
-  fades_none quiet k node is (Picks rule eligible) at = refl
+  fades_none quiet k node is (Picks choice eligible) at = refl
   fades_none quiet k node is (Mixes mixing) at = refl
   fades_none quiet k node is (Reads buffer) at = refl
   fades_none quiet k node is (Fades overlap) at =

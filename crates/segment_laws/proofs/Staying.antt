@@ -7,6 +7,7 @@ use Rattle.frame_core.specs.Slots.{Slot, slot_at, is_first}
 use Rattle.op_select.specs.declared.rule.Rule.{Rule}
 use Rattle.op_select.specs.declared.rule.Rule.TheVariants.{First, Turns}
 use Rattle.op_select.specs.Selection.{first_ready, first_offering, goes_on, offers, first_pick, turn_pick, pick_of, is_last, picked_cell, picked}
+use Rattle.stream_meaning.specs.Operators.{Selects}
 use Rattle.stream_meaning.specs.Instants.{picked_part}
 use Rattle.segment_laws.specs.Steady.{Follows, AllFollow, IsFree, is_inner}
 
@@ -94,7 +95,7 @@ going_turned slots others child rest later follows same free = elim (goes_turned
   )
 ]
 
-first_turned : (sensitive : Bool) (slots others : List Slot) (eligible : List Bool) (last : Option ℕ) → AllFollow slots others → IsFree (First sensitive) slots eligible last
+first_turned : (sensitive : Bool) (slots others : List Slot) (eligible : List Bool) (last : Option ℕ) → AllFollow slots others → IsFree (Selects (First sensitive)) slots eligible last
     → Turned slots last (first_pick sensitive slots eligible last) (first_pick sensitive others eligible last)
 first_turned false slots others eligible last all free = inl (ready_same slots others eligible 0 all)
 first_turned true slots others eligible None all free = inl (ready_same slots others eligible 0 all)
@@ -112,14 +113,14 @@ turn_at slots others child false all free =
     going_turned slots others child (first_offering (drop (suc child) slots) (suc child)) (first_offering (drop (suc child) others) (suc child)) (follow_at slots others all child)
     (offering_same (drop (suc child) slots) (drop (suc child) others) (suc child) (follow_drop (suc child) slots others all)) free
 
-turn_turned : (slots others : List Slot) (eligible : List Bool) (last : Option ℕ) → AllFollow slots others → IsFree Turns slots eligible last
+turn_turned : (slots others : List Slot) (eligible : List Bool) (last : Option ℕ) → AllFollow slots others → IsFree (Selects Turns) slots eligible last
     → Turned slots last (turn_pick slots last) (turn_pick others last)
 turn_turned slots others eligible None all free = inl (offering_same slots others 0 all)
 turn_turned slots others eligible (Some child) all free =
     subst (λ long. Turned slots (Some child) (turn_of slots child (nat_eq (suc child) (length slots))) (turn_of others child (nat_eq (suc child) long)))
     (sym (follow_length slots others all)) (turn_at slots others child (nat_eq (suc child) (length slots)) all free)
 
-pick_turned : (rule : Rule) (slots others : List Slot) (eligible : List Bool) (last : Option ℕ) → AllFollow slots others → IsFree rule slots eligible last
+pick_turned : (rule : Rule) (slots others : List Slot) (eligible : List Bool) (last : Option ℕ) → AllFollow slots others → IsFree (Selects rule) slots eligible last
     → Turned slots last (pick_of rule slots eligible last) (pick_of rule others eligible last)
 pick_turned (First sensitive) slots others eligible last all free = first_turned sensitive slots others eligible last all free
 pick_turned Turns slots others eligible last all free = turn_turned slots others eligible last all free
@@ -187,7 +188,7 @@ turn_offers slots last false child e =
     going_offers slots last (first_offering (drop (suc last) slots) (suc last)) child
     (λ h. dropped_offers slots (suc last) child (offering_found (drop (suc last) slots) (suc last) child h)) e
 
-pub pick_offers : (rule : Rule) (slots : List Slot) (eligible : List Bool) (last : Option ℕ) (child : ℕ) → pick_of rule slots eligible last ≡ Some child → is_some (slot_at slots child) ≡ true
+pick_offers : (rule : Rule) (slots : List Slot) (eligible : List Bool) (last : Option ℕ) (child : ℕ) → pick_of rule slots eligible last ≡ Some child → is_some (slot_at slots child) ≡ true
 pick_offers (First false) slots eligible last child e = found_offers slots child (ready_found slots eligible 0 child e)
 pick_offers (First true) slots eligible None child e = found_offers slots child (ready_found slots eligible 0 child e)
 pick_offers (First true) slots eligible (Some last) child e =
@@ -250,7 +251,7 @@ some_by slots last child None at is = absurd (false≢true is)
 some_by slots last child (Some a) at is = ap (λ found. is_some (picked_part found).slot) (picked-some slots last child a at)
 
 -- what a selection offers goes on as its children do
-pub selection_follows : (rule : Rule) (slots others : List Slot) (eligible : List Bool) (last : Option ℕ) → AllFollow slots others → IsFree rule slots eligible last
+pub selection_follows : (rule : Rule) (slots others : List Slot) (eligible : List Bool) (last : Option ℕ) → AllFollow slots others → IsFree (Selects rule) slots eligible last
     → Follows (picked_slot slots last (pick_of rule slots eligible last)) (picked_slot others last (pick_of rule others eligible last))
 selection_follows rule slots others eligible last all free = elim (pick_turned rule slots others eligible last all free) [
   | inl same ↦ subst (λ pick. Follows (picked_slot slots last (pick_of rule slots eligible last)) (picked_slot others last pick)) (sym same)

@@ -4,15 +4,16 @@ use Rattle.std.specs.Prelude.{is_some, ◌&&◌, not}
 use Rattle.std.proofs.lemmas.Bool.{false≢true, true≢false}
 use Rattle.frame_core.specs.declared.cell.Cell.{Cell}
 use Rattle.frame_core.specs.Slots.{Slot, slot_at, is_first}
-use Rattle.op_select.specs.declared.rule.Rule.{Rule}
 use Rattle.op_select.specs.declared.rule.Picked.{Picked}
-use Rattle.op_select.specs.Selection.{goes_on, pick_of, picked}
+use Rattle.op_select.specs.Selection.{goes_on, picked}
 use Rattle.stream_meaning.specs.declared.part.Part.{Part}
 use Rattle.stream_meaning.specs.Arithmetic.{Mixing, Adds, Scales, Halves, Doubles, Passes, cells_of, changed, summed_slot, changed_slot, mix_slot}
+use Rattle.stream_meaning.specs.Operators.{Choice, child_used}
 use Rattle.stream_meaning.specs.Instants.{picked_part, unpicked}
 use Rattle.segment_laws.specs.Steady.{Follows, AllFollow, IsFree, is_inner}
 use Rattle.std.proofs.lemmas.Option.{none-some}
-use Rattle.segment_laws.proofs.Staying.{none_follows, pick_kept, kept_inner, picked-none, picked-some, selection_follows}
+use Rattle.segment_laws.proofs.Staying.{none_follows, kept_inner, picked-none, picked-some}
+use Rattle.segment_laws.proofs.Turning.{choice_follows, choice_kept}
 
 -- a part at a later instant: what is demanded picks the same, and what gives goes on with its track
 pub record KeptPart (demand : Bool) (before after : Part) : Type 0 where
@@ -148,28 +149,42 @@ none_given : (demand some : Bool) → demand ≡ true → (demand && some) ≡ f
 none_given true some d e = e
 none_given false some d e = absurd (false≢true d)
 
-module _ (demand : Bool) (rule : Rule) (slots others : List Slot) (eligible : List Bool) (last later : Option ℕ) (all : AllFollow slots others) (free : IsFree rule slots eligible last) where
+-- a child that is picked offers
+pub pick_offers_there : (slots : List Slot) (last pick : Option ℕ) (place : ℕ) → (picked_part (picked slots last pick)).pick ≡ Some place → is_some (slot_at slots place) ≡ true
+pick_offers_there slots last None place e = absurd (none-some place e)
+pick_offers_there slots last (Some at) place e = by (slot_at slots at) refl e
+  where
+    by : (slot : Slot) → slot_at slots at ≡ slot → (picked_part (picked slots last (Some at))).pick ≡ Some place → is_some (slot_at slots place) ≡ true
+    by None is e = absurd (none-some place (sym (ap (λ (found : Option Picked). (picked_part found).pick) (picked-none slots last at is)) ∙ e))
+    by (Some cell) is e =
+        let named : Some at ≡ Some place = sym (ap (λ (found : Option Picked). (picked_part found).pick) (picked-some slots last at cell is)) ∙ e in
+        let same : at ≡ place = cc in
+        ap (λ n. is_some (slot_at slots n)) (sym same) ∙ ap is_some is
+
+-- a node that uses one of its children, behind so many choices, and at a later instant behind so many more
+module _ (demand : Bool) (choice : Choice) (slots others : List Slot) (eligible : List Bool) (last later : Option ℕ) (made more : ℕ) (all : AllFollow slots others)
+    (free : IsFree choice slots eligible last) where
   abbrev Before : Part
-  Before = picked_part (picked slots last (pick_of rule slots eligible last))
+  Before = picked_part (picked slots last (child_used choice slots eligible last made))
 
-  abbrev After : Option ℕ → Part
-  After last = picked_part (picked others last (pick_of rule others eligible last))
+  abbrev After : Option ℕ → ℕ → Part
+  After last made = picked_part (picked others last (child_used choice others eligible last made))
 
-  stayed : (demand && is_some Before.slot) ≡ false → KeptPart demand Before (After last)
+  stayed : (demand && is_some Before.slot) ≡ false → KeptPart demand Before (After last made)
   stayed e =
-      let follows : Follows Before.slot (After last).slot = selection_follows rule slots others eligible last all free in
+      let follows : Follows Before.slot (After last made).slot = choice_follows choice slots others eligible last made all free in
       record {
         slot = follows;
         pick = λ d. (let none : is_some Before.slot ≡ false = none_given demand (is_some Before.slot) d e in
-            picked_pick (picked others last (pick_of rule others eligible last)) (follows.there ∙ none)
-            ∙ sym (picked_pick (picked slots last (pick_of rule slots eligible last)) none));
+            picked_pick (picked others last (child_used choice others eligible last made)) (follows.there ∙ none)
+            ∙ sym (picked_pick (picked slots last (child_used choice slots eligible last made)) none));
         inner = λ g. absurd (true≢false (sym g ∙ e));
       }
 
-  gone_on : (child : ℕ) → is_some Before.slot ≡ true → Before.pick ≡ Some child → goes_on others child ≡ true → KeptPart demand Before (After (Some child))
+  gone_on : (child : ℕ) → is_some Before.slot ≡ true → Before.pick ≡ Some child → goes_on others child ≡ true → KeptPart demand Before (After (Some child) more)
   gone_on child some at goes =
-      let kept : pick_of rule others eligible (Some child) ≡ Some child =
-      pick_kept rule slots others eligible last child all (named slots last (pick_of rule slots eligible last) child at) goes in
+      let kept : child_used choice others eligible (Some child) more ≡ Some child =
+      choice_kept choice slots others eligible last child made more all (named slots last (child_used choice slots eligible last made) child at) goes in
       let inner : is_inner (picked_part (picked others (Some child) (Some child))).slot ≡ true = kept_inner others child goes in
       subst (λ pick. KeptPart demand Before (picked_part (picked others (Some child) pick))) (sym kept) (record {
         slot = inner_follows Before.slot (picked_part (picked others (Some child) (Some child))).slot some inner;
@@ -177,13 +192,14 @@ module _ (demand : Bool) (rule : Rule) (slots others : List Slot) (eligible : Li
         inner = λ g. inner;
       })
 
-  pub selection_kept : ((demand && is_some Before.slot) ≡ false → later ≡ last) → ((demand && is_some Before.slot) ≡ true → later ≡ Before.pick)
-      → ((demand && is_some Before.slot) ≡ true → (child : ℕ) → Before.pick ≡ Some child → goes_on others child ≡ true) → KeptPart demand Before (After later)
-  selection_kept stays gave goes = by (demand && is_some Before.slot) refl
+  pub used_kept : ((demand && is_some Before.slot) ≡ false → later ≡ last) → ((demand && is_some Before.slot) ≡ false → more ≡ made)
+      → ((demand && is_some Before.slot) ≡ true → later ≡ Before.pick)
+      → ((demand && is_some Before.slot) ≡ true → (child : ℕ) → Before.pick ≡ Some child → goes_on others child ≡ true) → KeptPart demand Before (After later more)
+  used_kept stays waits gave goes = by (demand && is_some Before.slot) refl
     where
-      by : (gives : Bool) → (demand && is_some Before.slot) ≡ gives → KeptPart demand Before (After later)
-      by false e = subst (λ l. KeptPart demand Before (After l)) (sym (stays e)) (stayed e)
+      by : (gives : Bool) → (demand && is_some Before.slot) ≡ gives → KeptPart demand Before (After later more)
+      by false e = subst (λ l. KeptPart demand Before (After l more)) (sym (stays e)) (subst (λ n. KeptPart demand Before (After last n)) (sym (waits e)) (stayed e))
       by true e =
           let some : is_some Before.slot ≡ true = and_right demand (is_some Before.slot) e in
-          let found = some_pick (picked slots last (pick_of rule slots eligible last)) some in
-          subst (λ l. KeptPart demand Before (After l)) (sym (gave e ∙ found.1)) (gone_on found.0 some found.1 (goes e found.0 found.1))
+          let found = some_pick (picked slots last (child_used choice slots eligible last made)) some in
+          subst (λ l. KeptPart demand Before (After l more)) (sym (gave e ∙ found.1)) (gone_on found.0 some found.1 (goes e found.0 found.1))

@@ -1,18 +1,17 @@
 -- A stretch of instants: behind its first one nothing begins.
-use Rattle.std.specs.Prelude.{[], ◌≡◌, ◌<◌, ◌+◌, ◌%◌, Bool, true, false, Some, List, ◌∷◌, ◌++◌, ◌≤◌, ℕ, zero, suc, length, map, take, nat_eq, is_some, slice_get}
+use Rattle.std.specs.Prelude.{[], ◌≡◌, ◌<◌, ◌+◌, ◌%◌, Bool, true, false, Some, List, ◌∷◌, ◌++◌, ◌≤◌, ℕ, zero, suc, length, map, take, nat_eq, is_some, slice_get, if◌then◌else◌}
 use Rattle.plan_core.specs.declared.node.Node.{Node}
 use Rattle.clock_infer.specs.declared.clock_map.NodeClock.{NodeClock}
 use Rattle.clock_infer.specs.declared.clock_map.NodeClock.TheVariants.{Sub}
-use Rattle.frame_core.specs.Slots.{Slot}
+use Rattle.frame_core.specs.Slots.{Slot, is_first}
 use Rattle.frame_core.specs.declared.cell.Cell.{Cell}
 use Rattle.op_cross.specs.Runs.{item_of, run_of}
 use Rattle.op_cross.specs.States.{AllInner}
 use Rattle.op_leaf.specs.declared.leaf.Leaf.{Leaf}
 use Rattle.op_leaf.specs.Leaves.{leaf_slot}
 use Rattle.op_leaf.specs.Readers.{read_by, reader_slot}
-use Rattle.op_select.specs.declared.rule.Rule.{Rule}
-use Rattle.stream_meaning.specs.Operators.{Work, Eligible, Plays, Picks, Mixes, Fades, Reads, marks_at}
-use Rattle.stream_meaning.specs.Instants.{Setting, Moment, count, demanded, gives, history, last_pick, lies_in, moment_after, offer, part_at, parts_upto, position, reading_after, reading_at, second_at, slots_at, work_at}
+use Rattle.stream_meaning.specs.Operators.{Work, Choice, Selects, TakesTurns, Eligible, Plays, Picks, Mixes, Fades, Reads, marks_at}
+use Rattle.stream_meaning.specs.Instants.{Setting, Moment, choices, count, demanded, gives, history, last_pick, lies_in, moment_after, offer, part_at, parts_upto, position, reading_after, reading_at, second_at, slots_at, work_at}
 use Rattle.stream_meaning.specs.Calls.{calls_of}
 use Rattle.segment_laws.specs.Steady.{Follows, IsFree, is_inner}
 
@@ -53,11 +52,11 @@ pub record IsStretch (setting : Setting) (sub : ℕ → ℕ → List Slot) (cloc
   pub settled : (i : ℕ) (node : Node) (overlap j : ℕ) → IsNode setting clock i node → work_at setting i node ≡ Fades overlap → 0 < j → j < instants
       → gives (moment_after setting sub clock past) i ≡ true → is_inner (item_of overlap (sub i) (position past i + j)) ≡ true
   -- no predicate changes
-  pub marks : (i : ℕ) (node : Node) (rule : Rule) (eligible : Eligible) (j children : ℕ) → IsNode setting clock i node → work_at setting i node ≡ Picks rule eligible → 0 < j → j < instants
+  pub marks : (i : ℕ) (node : Node) (choice : Choice) (eligible : Eligible) (j children : ℕ) → IsNode setting clock i node → work_at setting i node ≡ Picks choice eligible → 0 < j → j < instants
       → marks_at eligible (second_at setting (length past + j)) children ≡ marks_at eligible (second_at setting (length past)) children
   -- a selection names a child where the one used last begins a track
-  pub free : (i : ℕ) (node : Node) (rule : Rule) (eligible : Eligible) (j : ℕ) → IsNode setting clock i node → work_at setting i node ≡ Picks rule eligible → 0 < j → j < instants
-      → IsFree rule (slots_at (parts_upto setting sub clock past i) node.children)
+  pub free : (i : ℕ) (node : Node) (choice : Choice) (eligible : Eligible) (j : ℕ) → IsNode setting clock i node → work_at setting i node ≡ Picks choice eligible → 0 < j → j < instants
+      → IsFree choice (slots_at (parts_upto setting sub clock past i) node.children)
       (marks_at eligible (second_at setting (length past)) (length (slots_at (parts_upto setting sub clock past i) node.children))) (last_pick past i)
 
 -- the past of an instant that comes j instants behind the first one
@@ -67,6 +66,9 @@ pub record IsOn (setting : Setting) (sub : ℕ → ℕ → List Slot) (clock : N
   pub kept : (i : ℕ) → gives (moment_after setting sub clock past) i ≡ false → count later i ≡ count past i
   pub picked : (i : ℕ) → gives (moment_after setting sub clock past) i ≡ true → 0 < j → last_pick later i ≡ (part_at (moment_after setting sub clock past).parts i).pick
   pub stayed : (i : ℕ) → gives (moment_after setting sub clock past) i ≡ false → last_pick later i ≡ last_pick past i
+  pub chosen : (i : ℕ) → gives (moment_after setting sub clock past) i ≡ true → 0 < j
+      → choices later i ≡ (if is_first (offer (moment_after setting sub clock past) i) then suc (choices past i) else choices past i)
+  pub unchosen : (i : ℕ) → gives (moment_after setting sub clock past) i ≡ false → choices later i ≡ choices past i
   pub passed : (i : ℕ) → gives (moment_after setting sub clock past) i ≡ true → position later i ≡ position past i + j
   pub held : (i : ℕ) → gives (moment_after setting sub clock past) i ≡ false → is_some (offer (moment_after setting sub clock past) i) ≡ true → position later i ≡ position past i
   pub read : (i : ℕ) (node : Node) (buffer : ℕ) → IsNode setting clock i node → work_at setting i node ≡ Reads buffer → 0 < j → gives (moment_after setting sub clock past) i ≡ true
@@ -89,7 +91,8 @@ lane setting sub clock past j i = offer (moment_after setting sub clock (going_o
 abbrev pub NodeGoes : Setting → (sub : ℕ → ℕ → List Slot) → List Moment → Moment → (i : ℕ) → Work → (begins : Bool) → (rest : ℕ) → Type 0
 NodeGoes setting sub past moment i (Plays leaf) begins rest =
     gives moment i ≡ true → (j : ℕ) → j < rest → is_inner (leaf_slot setting.library leaf (suc (count past i) + j)) ≡ true
-NodeGoes setting sub past moment i (Picks rule eligible) begins rest = 0 < rest → is_some (offer moment i) ≡ false → begins ≡ false
+NodeGoes setting sub past moment i (Picks (Selects rule) eligible) begins rest = 0 < rest → is_some (offer moment i) ≡ false → begins ≡ false
+NodeGoes setting sub past moment i (Picks (TakesTurns turn) eligible) begins rest = Unit {0}
 NodeGoes setting sub past moment i (Mixes mixing) begins rest = Unit {0}
 NodeGoes setting sub past moment i (Fades overlap) begins rest =
     (0 < rest → is_some (offer moment i) ≡ true)

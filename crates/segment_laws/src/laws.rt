@@ -9,12 +9,11 @@ ghost use Rattle.op_cross.specs.States.{AllInner, Crossing, IsCrossing, StandsFo
 ghost use Rattle.op_leaf.specs.declared.leaf.Leaf.{Leaf as TheLeaf};
 ghost use Rattle.op_leaf.specs.Leaves.{leaf_slot};
 ghost use Rattle.op_leaf.specs.Readers.{read_by, reader_slot};
-ghost use Rattle.op_select.specs.declared.rule.Rule.{Rule as TheRule};
 ghost use Rattle.plan_core.specs.declared.node.Node.{Node as TheNode};
 ghost use Rattle.plan_core.specs.Plans.{AreNodes};
 ghost use Rattle.stream_meaning.specs.Arithmetic.{Mixing, mix_slot};
 ghost use Rattle.stream_meaning.specs.Calls.{GoDown, calls_of, takes_at};
-ghost use Rattle.stream_meaning.specs.Operators.{Eligible, Fades, Mixes, Picks, Plays, Reads};
+ghost use Rattle.stream_meaning.specs.Operators.{Choice, Eligible, Fades, Mixes, Picks, Plays, Reads};
 ghost use Rattle.stream_meaning.specs.Instants.{Setting, Moment, IsMeaning, count, crossfaded, gives, history, moment_after, part_at, position, reading_after, reading_at, work_at};
 ghost use Rattle.segment_laws.specs.Steady.{is_inner};
 ghost use Rattle.segment_laws.specs.Stretches.{AreFed, AreQuiet, IsLike, IsNode, IsOn, IsStretch, going_on, lane};
@@ -31,7 +30,7 @@ pub fn stretches_stay_alike()
 {}
 
 /// What a node that gives offers over a stretch: a leaf its next cells, a crossfade its next items, a reader its next cells, a
-/// selection the cells of one child, and a mix what it makes of those of its children.
+/// node that chooses the cells of one child, and a mix what it makes of those of its children.
 pub fn stretches_have_lanes()
     ensures played { (setting : Setting) (sub : ℕ → ℕ → List TheSlot) (clock : Clock) (past : List Moment) (instants i j : ℕ) (node : TheNode) (leaf : TheLeaf)
         → AreNodes setting.plan.nodes → IsStretch setting sub clock past instants → IsNode setting clock i node → work_at setting i node ≡ Plays leaf
@@ -48,8 +47,8 @@ pub fn stretches_have_lanes()
     ensures mixed { (setting : Setting) (sub : ℕ → ℕ → List TheSlot) (clock : Clock) (past : List Moment) (instants i j : ℕ) (node : TheNode) (mixing : Mixing)
         → AreNodes setting.plan.nodes → IsStretch setting sub clock past instants → IsNode setting clock i node → work_at setting i node ≡ Mixes mixing
         → lane setting sub clock past j i ≡ mix_slot mixing (map (lane setting sub clock past j) node.children) }
-    ensures chosen { (setting : Setting) (sub : ℕ → ℕ → List TheSlot) (clock : Clock) (past : List Moment) (instants i j place child : ℕ) (node : TheNode) (rule : TheRule) (eligible : Eligible)
-        → AreNodes setting.plan.nodes → IsStretch setting sub clock past instants → IsNode setting clock i node → work_at setting i node ≡ Picks rule eligible
+    ensures chosen { (setting : Setting) (sub : ℕ → ℕ → List TheSlot) (clock : Clock) (past : List Moment) (instants i j place child : ℕ) (node : TheNode) (choice : Choice) (eligible : Eligible)
+        → AreNodes setting.plan.nodes → IsStretch setting sub clock past instants → IsNode setting clock i node → work_at setting i node ≡ Picks choice eligible
         → 0 < j → j < instants → gives (moment_after setting sub clock past) i ≡ true → (part_at (moment_after setting sub clock past).parts i).pick ≡ Some place
         → slice_get node.children place ≡ Some child → lane setting sub clock past j i ≡ lane setting sub clock past j child }
 {}

@@ -67,7 +67,7 @@ module _ (base : Setting) (one other : ℕ → List Answer) (sub subs : ℕ → 
     part_work : (i : ℕ) (node : Node) (slots : List Slot) → lies_in base clock i ≡ true → slice_get base.plan.nodes i ≡ Some node → (work : Work) → work_at base i node ≡ work
         → part_by (answered base one) sub past i work slots ≡ part_by (answered base other) subs past i work slots
     part_work i node slots inside found (Plays leaf) does = refl
-    part_work i node slots inside found (Picks rule eligible) does = refl
+    part_work i node slots inside found (Picks choice eligible) does = refl
     part_work i node slots inside found (Mixes mixing) does = refl
     part_work i node slots inside found (Fades overlap) does = ap unpicked (fades i overlap (record { inside = inside; node = node; found = found; does = does }))
     part_work i node slots inside found (Reads buffer) does = ap (λ (r : Reading). unpicked (reader_slot r.reader)) (reads i buffer (record { inside = inside; node = node; found = found; does = does }))
@@ -164,7 +164,7 @@ module _ (base : Setting) (one other : ℕ → List Answer) (sub subs : ℕ → 
       fade_work : (k : ℕ) (node : Node) → lies_in base clock k ≡ true → slice_get base.plan.nodes k ≡ Some node → (work : Work) → work_at base k node ≡ work
           → Goes (length base.plan.buffers) (fades_by sub below_one before k work) (fades_by subs below_other before k work) (RunsOn k)
       fade_work k node inside found (Plays leaf) does = inr (record { same = refl; now = no_fade k node (Plays leaf) found does (λ overlap e. absurd cc) })
-      fade_work k node inside found (Picks rule eligible) does = inr (record { same = refl; now = no_fade k node (Picks rule eligible) found does (λ overlap e. absurd cc) })
+      fade_work k node inside found (Picks choice eligible) does = inr (record { same = refl; now = no_fade k node (Picks choice eligible) found does (λ overlap e. absurd cc) })
       fade_work k node inside found (Mixes mixing) does = inr (record { same = refl; now = no_fade k node (Mixes mixing) found does (λ overlap e. absurd cc) })
       fade_work k node inside found (Reads buffer) does = inr (record { same = refl; now = no_fade k node (Reads buffer) found does (λ overlap e. absurd cc) })
       fade_work k node inside found (Fades overlap) does =

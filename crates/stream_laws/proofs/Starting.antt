@@ -36,7 +36,7 @@ module _ (base : Setting) (one other : ℕ → List Answer)
   takes_work : (i : ℕ) (node : Node) → lies_in base clock i ≡ true → slice_get base.plan.nodes i ≡ Some node → (work : Work) → work_at base i node ≡ work
       → Goes (length base.plan.buffers) (takes_by (answered base one) past i work) (takes_by (answered base other) past i work) (Begins i)
   takes_work i node inside found (Plays leaf) does = inr (record { same = refl; now = no_reader i node (Plays leaf) found does (λ buffer e. absurd cc) })
-  takes_work i node inside found (Picks rule eligible) does = inr (record { same = refl; now = no_reader i node (Picks rule eligible) found does (λ buffer e. absurd cc) })
+  takes_work i node inside found (Picks choice eligible) does = inr (record { same = refl; now = no_reader i node (Picks choice eligible) found does (λ buffer e. absurd cc) })
   takes_work i node inside found (Mixes mixing) does = inr (record { same = refl; now = no_reader i node (Mixes mixing) found does (λ buffer e. absurd cc) })
   takes_work i node inside found (Fades overlap) does = inr (record { same = refl; now = no_reader i node (Fades overlap) found does (λ buffer e. absurd cc) })
   takes_work i node inside found (Reads buffer) does =

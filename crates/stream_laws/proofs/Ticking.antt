@@ -3,7 +3,7 @@ use Rattle.std.proofs.Common.{◌≡◌, ◌<◌, ◌≤◌, ◌⊎◌, ◌∙�
 use Rattle.std.specs.Prelude.{⊤}
 use Rattle.std.specs.List.{range_with_len}
 use Rattle.plan_core.specs.declared.node.Op.{Op}
-use Rattle.plan_core.specs.declared.node.Op.TheVariants.{Single, Playlist, Blank, Square, Fail, Fallback, Switch, Sequence, Add, Amplify, Mean, Stereo, Crossfade, Buffer, Clock}
+use Rattle.plan_core.specs.declared.node.Op.TheVariants.{Single, Playlist, Blank, Square, Fail, Fallback, Switch, Sequence, Rotate, Random, Add, Amplify, Mean, Stereo, Crossfade, Buffer, Clock}
 use Rattle.plan_core.specs.declared.sink.SinkPlan.{SinkPlan}
 use Rattle.plan_core.specs.declared.sink.SinkPlan.TheVariants.{Output, Feed}
 use Rattle.liq_base.specs.declared.memory.Kind.{Kind}
@@ -38,6 +38,8 @@ reads_op rate i kind Fail buffer e = absurd cc
 reads_op rate i kind (Fallback sensitive) buffer e = absurd cc
 reads_op rate i kind (Switch sensitive preds) buffer e = absurd cc
 reads_op rate i kind Sequence buffer e = absurd cc
+reads_op rate i kind Rotate buffer e = absurd cc
+reads_op rate i kind (Random seed) buffer e = absurd cc
 reads_op rate i kind (Add normalize) buffer e = absurd cc
 reads_op rate i kind (Amplify factor) buffer e = absurd cc
 reads_op rate i kind Mean buffer e = absurd cc

@@ -2,7 +2,7 @@
 use Rattle.std.proofs.Common.{◌≡◌, ◌<◌, ℕ, zero, suc, ◌+◌, ◌-◌, ◌*◌, ◌%◌, Bool, true, false, Option, Some, None, List, [], ◌∷◌, length, refl, ap, arith, nat_eq, slice_get, flat_map}
 use Rattle.plan_core.specs.declared.node.Node.{Node}
 use Rattle.plan_core.specs.declared.node.Op.{Op}
-use Rattle.plan_core.specs.declared.node.Op.TheVariants.{Single, Playlist, Blank, Square, Fail, Fallback, Switch, Sequence, Add, Amplify, Mean, Stereo, Crossfade, Buffer, Clock}
+use Rattle.plan_core.specs.declared.node.Op.TheVariants.{Single, Playlist, Blank, Square, Fail, Fallback, Switch, Sequence, Rotate, Random, Add, Amplify, Mean, Stereo, Crossfade, Buffer, Clock}
 use Rattle.plan_core.specs.declared.plan.Plan.{Plan}
 use Rattle.plan_core.specs.declared.sink.SinkPlan.{SinkPlan}
 use Rattle.plan_core.specs.declared.sink.SinkPlan.TheVariants.{Output, Feed}
@@ -34,6 +34,8 @@ no_takes setting free true past i (Some node) e = by_op node.op refl
     by_op (Fallback sensitive) o = rw o refl
     by_op (Switch sensitive preds) o = rw o refl
     by_op Sequence o = rw o refl
+    by_op Rotate o = rw o refl
+    by_op (Random seed) o = rw o refl
     by_op (Add normalize) o = rw o refl
     by_op (Amplify factor) o = rw o refl
     by_op Mean o = rw o refl
@@ -63,6 +65,8 @@ no_fades setting sub below none true past k (Some node) = by_op node.op refl
     by_op (Fallback sensitive) o = rw o refl
     by_op (Switch sensitive preds) o = rw o refl
     by_op Sequence o = rw o refl
+    by_op Rotate o = rw o refl
+    by_op (Random seed) o = rw o refl
     by_op (Add normalize) o = rw o refl
     by_op (Amplify factor) o = rw o refl
     by_op Mean o = rw o refl

@@ -20,7 +20,7 @@ use Rattle.stream_meaning.proofs.Existence.{same_clock-true, are_nested}
 fades_by-same : (sub : ℕ → ℕ → List Slot) (below other : ℕ → ℕ → List Call) (past : List Moment) (k : ℕ) (work : Work) → below k ≡ other k
     → fades_by sub below past k work ≡ fades_by sub other past k work
 fades_by-same sub below other past k (Plays leaf) same = refl
-fades_by-same sub below other past k (Picks rule eligible) same = refl
+fades_by-same sub below other past k (Picks choice eligible) same = refl
 fades_by-same sub below other past k (Mixes mixing) same = refl
 fades_by-same sub below other past k (Fades overlap) same = ap (λ f. joined_between f (ran_by sub k overlap past) (run_of overlap (sub k) (position past k))) same
 fades_by-same sub below other past k (Reads buffer) same = refl

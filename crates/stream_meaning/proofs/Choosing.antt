@@ -1,10 +1,15 @@
--- A selection offers where it has to.
+-- A selection, a rotate and a random offer where they have to.
 use Rattle.std.proofs.Common.{◌≡◌, ◌<◌, ◌+◌, ◌-◌, ◌∙◌, ℕ, zero, suc, Some, None, Option, List, [], ◌∷◌, length, drop, Bool, true, false, cond, arith, refl, ap, sym, subst, nat_eq, inl, inr}
 use Rattle.std.specs.Prelude.{IsSome, is_some, slice_index_or, ◌&&◌, not}
 use Rattle.std.proofs.lemmas.Bool.{false≢true, eqb-true, eq-eqb, cases_lt}
 use Rattle.frame_core.specs.declared.cell.Cell.{Cell}
 use Rattle.frame_core.specs.Slots.{Slot, slot_at, is_first}
+use Rattle.op_select.specs.declared.rule.Picked.{Picked}
 use Rattle.op_select.specs.Selection.{first_ready, first_offering, goes_on, first_pick, turn_pick, picked_cell, picked}
+use Rattle.random_ops.specs.declared.turn.Turn.{Turn}
+use Rattle.random_ops.specs.Turns.{Past, offered}
+use Rattle.random_ops.proofs.Offering.{some_offers}
+use Rattle.random_ops.proofs.Standing.{some_offered}
 use Rattle.stream_meaning.specs.Instants.{picked_part}
 
 -- the child at a place offers; places are counted from this one
@@ -134,3 +139,11 @@ pub turn_picked : (slots : List Slot) (last : Option ℕ) (end : ℕ) → ((chil
 turn_picked slots None end within at some = offering slots 0 end some
 turn_picked slots (Some child) end within at some =
     turn_by slots child (nat_eq (suc child) (length slots)) (is_some (slot_at slots child)) (goes_on slots child) refl refl refl (within child refl) end at some
+
+part_some : (found : Option Picked) → IsSome found → IsSome (picked_part found).slot
+part_some None is = is
+part_some (Some picked) is = refl
+
+-- a rotate or a random offers where some child does
+pub turn_some : (turn : Turn) (past : Past) (slots : List Slot) (j : ℕ) → IsSome (slot_at slots j) → IsSome (picked_part (offered turn past slots)).slot
+turn_some turn past slots j is = part_some (offered turn past slots) (some_offered turn past slots ∙ some_offers slots j is)

@@ -10,7 +10,7 @@ use Rattle.frame_core.specs.Library.{no_sound, sound_at, tracks_of}
 use Rattle.frame_core.specs.Sounds.{Sound, length_of}
 use Rattle.frame_core.specs.Slots.{Slot}
 use Rattle.plan_core.specs.declared.node.Op.{Op}
-use Rattle.plan_core.specs.declared.node.Op.TheVariants.{Single, Playlist, Blank, Square, Fail, Fallback, Switch, Sequence, Add, Amplify, Mean, Stereo, Crossfade, Buffer, Clock}
+use Rattle.plan_core.specs.declared.node.Op.TheVariants.{Single, Playlist, Blank, Square, Fail, Fallback, Switch, Sequence, Rotate, Random, Add, Amplify, Mean, Stereo, Crossfade, Buffer, Clock}
 use Rattle.clock_infer.specs.Ties.{fades}
 use Rattle.fallible_infer.specs.Infallible.{infallible_by}
 use Rattle.op_leaf.specs.Leaves.{files_slot, sounds_of, total_of}
@@ -18,9 +18,10 @@ use Rattle.op_leaf.proofs.Positions.{joined-within}
 use Rattle.op_leaf.proofs.Cursors.{length-sounds, sounds-at}
 use Rattle.stream_meaning.specs.Arithmetic.{Adds, Scales, Halves, Doubles, Passes}
 use Rattle.stream_meaning.specs.Operators.{work_of}
-use Rattle.stream_meaning.specs.Instants.{Setting, Moment, second_at, position, last_pick, part_by}
+use Rattle.random_ops.specs.declared.turn.Turn.TheVariants.{Rotate as Rotates, Random as Draws}
+use Rattle.stream_meaning.specs.Instants.{Setting, Moment, choices, second_at, position, last_pick, part_by}
 use Rattle.stream_meaning.proofs.Crossed.{AreCells, item_cell}
-use Rattle.stream_meaning.proofs.Choosing.{picked_some, first_picked, turn_picked}
+use Rattle.stream_meaning.proofs.Choosing.{picked_some, first_picked, turn_picked, turn_some}
 use Rattle.stream_meaning.proofs.Marks.{AreMarked, any_offers, last_offers, always_offers, every_marked, mixed_some}
 
 -- a file that is repeated has a cell at each position
@@ -69,6 +70,12 @@ op_offers setting sub past i kind Sequence children mark slot is so =
     let found = last_offers mark slot children (is.marked refl) so in
     picked_some (map slot children) (last_pick past i) _
     (turn_picked (map slot children) (last_pick past i) found.0 (is.turns refl) (found.1 ∙ sym (length_mapped slot children)) found.2)
+op_offers setting sub past i kind Rotate children mark slot is so =
+    let found = any_offers mark slot children (is.marked refl) so in
+    turn_some Rotates (record { last = last_pick past i; choices = choices past i }) (map slot children) found.0 found.1
+op_offers setting sub past i kind (Random seed) children mark slot is so =
+    let found = any_offers mark slot children (is.marked refl) so in
+    turn_some (Draws seed) (record { last = last_pick past i; choices = choices past i }) (map slot children) found.0 found.1
 op_offers setting sub past i kind (Add normalize) children mark slot is so =
     let found = any_offers mark slot children (is.marked refl) so in mixed_some (Adds normalize) (map slot children) found.0 found.1
 op_offers setting sub past i kind (Amplify factor) children mark slot is so =

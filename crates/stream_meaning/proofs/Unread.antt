@@ -33,7 +33,7 @@ unread_below setting clock k buffer of unread = record { none = λ rank i node f
 
 no_taken_by : (setting : Setting) (past : List Moment) (i buffer : ℕ) (work : Work) → (work ≡ Reads buffer → ⊥) → answers_in buffer (takes_by setting past i work) ≡ []
 no_taken_by setting past i buffer (Plays leaf) other = refl
-no_taken_by setting past i buffer (Picks rule eligible) other = refl
+no_taken_by setting past i buffer (Picks choice eligible) other = refl
 no_taken_by setting past i buffer (Mixes mixing) other = refl
 no_taken_by setting past i buffer (Fades overlap) other = refl
 no_taken_by setting past i buffer (Reads read) other =
@@ -55,7 +55,7 @@ no_taken setting clock past buffer unread = by (nat_eq (length past % setting.pl
 
 no_faded_by : (sub : ℕ → ℕ → List Slot) (below : ℕ → ℕ → List Call) (past : List Moment) (k buffer : ℕ) (work : Work) → ((m : ℕ) → answers_in buffer (below k m) ≡ []) → answers_in buffer (fades_by sub below past k work) ≡ []
 no_faded_by sub below past k buffer (Plays leaf) none = refl
-no_faded_by sub below past k buffer (Picks rule eligible) none = refl
+no_faded_by sub below past k buffer (Picks choice eligible) none = refl
 no_faded_by sub below past k buffer (Mixes mixing) none = refl
 no_faded_by sub below past k buffer (Fades overlap) none =
     none_in_joined buffer (λ j. below k (ran_by sub k overlap past + j)) (λ j. none (ran_by sub k overlap past + j)) (run_of overlap (sub k) (position past k) - ran_by sub k overlap past)

@@ -27,7 +27,7 @@ joined_between calls from to = joined_upto (λ j. calls (from + j)) (to - from)
 -- what a reader takes where its clock begins a tick after these instants
 abbrev pub takes_by : Setting → List Moment → ℕ → Work → List Call
 takes_by setting past i (Plays leaf) = []
-takes_by setting past i (Picks rule eligible) = []
+takes_by setting past i (Picks choice eligible) = []
 takes_by setting past i (Mixes mixing) = []
 takes_by setting past i (Fades overlap) = []
 takes_by setting past i (Reads buffer) =
@@ -54,7 +54,7 @@ ran_by sub k overlap (moment ∷ past) = run_of overlap (sub k) (position past k
 -- the calls of the instants that a crossfade's sub-clock makes at the instant after these; `below k m` are those of its instant m
 abbrev pub fades_by : (sub : ℕ → ℕ → List Slot) → (below : ℕ → ℕ → List Call) → List Moment → ℕ → Work → List Call
 fades_by sub below past k (Plays leaf) = []
-fades_by sub below past k (Picks rule eligible) = []
+fades_by sub below past k (Picks choice eligible) = []
 fades_by sub below past k (Mixes mixing) = []
 fades_by sub below past k (Fades overlap) = joined_between (below k) (ran_by sub k overlap past) (run_of overlap (sub k) (position past k))
 fades_by sub below past k (Reads buffer) = []
