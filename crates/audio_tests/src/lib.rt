@@ -4,6 +4,8 @@
 #[cfg(test)]
 mod audio_files_tests;
 #[cfg(test)]
+mod cut_files_tests;
+#[cfg(test)]
 mod loading_tests;
 #[cfg(test)]
 mod op_leaf_tests;

@@ -3,6 +3,8 @@
 #![tactic(auto)]
 
 #[cfg(test)]
+mod devices_tests;
+#[cfg(test)]
 mod liq_cli_tests;
 #[cfg(test)]
 mod real_files_tests;

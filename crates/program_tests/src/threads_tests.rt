@@ -38,8 +38,8 @@ pub fn shelf(alloc: Global, script: &str) -> Result<MemShelf, AllocError> {
     Ok(MemShelf::new(alloc, vec![in alloc; script, audio]?))
 }
 
-// The words of a line.
-fn words_of(alloc: Global, line: &str) -> Result<Vec<String>, Fail> {
+/// The words of a line.
+pub fn words_of(alloc: Global, line: &str) -> Result<Vec<String>, Fail> {
     let mut words = Vec::new(alloc);
     for word in line.split(' ') {
         words.push(String::from_str(alloc, word)?)?;

@@ -1,0 +1,457 @@
+// Devices that fail: each call of a rendering of two ticks in turn, and each piece after every number of its bytes. What is
+// left is worked out by hand from the rules in `docs/outside.md` and `docs/formats.md`.
+use crate::threads_tests::{sink, words_of};
+use liq_base::{FreeGate, MemShelf, MemSink};
+use liq_cli::liq;
+use std::alloc::Global;
+use std::process::Abort;
+use std::sync::Wait;
+use std::test::Fail;
+use std::thread::Threads;
+
+/// Mono, 8000 Hz, the samples 1 2 3.
+const ONE_TWO_THREE: &[u8] =
+    b"RIFF\x2a\0\0\0WAVEfmt \x10\0\0\0\x01\0\x01\0\x40\x1f\0\0\x80\x3e\0\0\x02\0\x10\0data\x06\0\0\0\x01\0\x02\0\x03\0";
+
+/// One output. A tick has 8 samples.
+const ONE: &str =
+    "set(\"frame.audio.samplerate\", 8000)\nset(\"frame.duration\", 0.001)\noutput.file(%wav, \"A\", single(\"B\"))\n";
+
+/// Two outputs in one clock.
+const SHARED: &str =
+    "set(\"frame.audio.samplerate\", 8000)\nset(\"frame.duration\", 0.001)\ns = single(\"B\")\noutput.file(%wav, \"A\", s)\noutput.file(%wav, \"C\", s)\n";
+
+/// Two outputs, each in a clock of its own.
+const APART: &str =
+    "set(\"frame.audio.samplerate\", 8000)\nset(\"frame.duration\", 0.001)\noutput.file(%wav, \"A\", single(\"B\"))\noutput.file(%wav, \"C\", clock(id=\"b\", single(\"B\")))\n";
+
+/// Each output of two ticks: the samples on both sides, again and again.
+const WHOLE: &[u8; 108] =
+    b"RIFF\x64\0\0\0WAVEfmt \x10\0\0\0\x01\0\x02\0\x40\x1f\0\0\0\x7d\0\0\x04\0\x10\0data\x40\0\0\0\x01\0\x01\0\x02\0\x02\0\x03\0\x03\0\x01\0\x01\0\x02\0\x02\0\x03\0\x03\0\x01\0\x01\0\x02\0\x02\0\x03\0\x03\0\x01\0\x01\0\x02\0\x02\0\x03\0\x03\0\x01\0\x01\0\x02\0\x02\0\x03\0\x03\0\x01\0\x01\0";
+
+/// Bytes of its header, and of each tick.
+const HEADER: usize = 44;
+
+const TICK: usize = 32;
+
+const OLD: &[u8] = b"what was there";
+
+/// The report of two outputs, which begins with that of the first one.
+const REPORT: &[u8; 54] = b"output A samples 16 gaps 0\noutput C samples 16 gaps 0\n";
+
+/// By threads, in windows of any length, and on one thread.
+const LINES: &[&str] = &[
+    "render f 2",
+    "render f 2 --window=1",
+    "render f 2 --one-thread",
+];
+
+/// Which call of a device fails, each counted from 0, and for a piece after how many bytes.
+#[derive(Clone, Copy)]
+enum Failing {
+    Read(u64),
+    Creation(u64),
+    Piece(u32, u64, u64),
+    Closing(u64),
+    Report(u64),
+}
+
+/// What is left under the name of an output: what stood there before; or the front of the output, with a number of bytes
+/// that may lie between these two.
+#[derive(Clone, Copy)]
+enum Left {
+    Before,
+    Front(usize, usize),
+}
+
+/// The front of so many bytes.
+fn front(length: usize) -> Left {
+    Left::Front(length, length)
+}
+
+/// The whole output.
+fn whole() -> Left {
+    front(WHOLE.len())
+}
+
+fn is_left(left: Left, found: Option<&[u8]>, before: Option<&[u8]>) -> bool {
+    match left {
+        Left::Before => found == before,
+        Left::Front(least, most) => match found {
+            Some(bytes) => {
+                least <= bytes.len() && bytes.len() <= most && WHOLE.starts_with(bytes)
+            }
+            None => false,
+        },
+    }
+}
+
+/// The end of a call: its status, what is left of the two outputs, and how many bytes of the report are told.
+#[derive(Clone, Copy)]
+struct Ending {
+    status: u8,
+    first: Left,
+    second: Left,
+    told: usize,
+}
+
+/// A write failed, and nothing was told.
+fn failed(first: Left, second: Left) -> Ending {
+    Ending {
+        status: 4,
+        first,
+        second,
+        told: 0,
+    }
+}
+
+// Adds a file.
+fn put(
+    alloc: Global,
+    files: &mut Vec<(String, Vec<u8>)>,
+    name: &str,
+    bytes: &[u8],
+) -> Result<(), Fail> {
+    files.push((String::from_str(alloc, name)?, bytes.to_vec(alloc)?))?;
+    Ok(())
+}
+
+// A script, the audio file that it names, and perhaps old outputs.
+fn shelf(alloc: Global, script: &str, is_old: bool) -> Result<MemShelf, Fail> {
+    let mut files = Vec::new(alloc);
+    put(alloc, &mut files, "f", script.as_bytes())?;
+    put(alloc, &mut files, "B", ONE_TWO_THREE)?;
+    if is_old {
+        put(alloc, &mut files, "A", OLD)?;
+        put(alloc, &mut files, "C", OLD)?;
+    }
+    Ok(MemShelf::new(alloc, files))
+}
+
+// Lets a call of the shelf fail, or answers so that an append to `out` fails.
+fn let_fail(
+    alloc: Global,
+    shelf: &mut MemShelf,
+    failing: Failing,
+) -> Result<Vec<(u64, u64)>, Fail> {
+    match failing {
+        Failing::Read(call) => shelf.fail_read(call)?,
+        Failing::Creation(call) => shelf.fail_create(call)?,
+        Failing::Piece(output, call, taken) => shelf.fail_append(output, call, taken)?,
+        Failing::Closing(call) => shelf.fail_close(call)?,
+        Failing::Report(taken) => return Ok(vec![in alloc; (0, taken)]?),
+    }
+    Ok(Vec::new(alloc))
+}
+
+// What a call of these words leaves, over old outputs or none.
+fn check_over<R: Abort + Threads + Wait + Sync>(
+    rt: &R,
+    alloc: Global,
+    run: (&str, &str),
+    failing: Failing,
+    ending: Ending,
+    is_old: bool,
+) -> Result<(), Fail> {
+    let (script, line) = run;
+    let mut shelf = shelf(alloc, script, is_old)?;
+    let fails = let_fail(alloc, &mut shelf, failing)?;
+    let mut out = MemSink::new(alloc, 1000, fails)?;
+    let mut err = sink(alloc)?;
+    let words = words_of(alloc, line)?;
+    let status = liq(rt, alloc, &words, &mut shelf, &mut out, &mut err, &FreeGate);
+    let before = if is_old { Some(OLD) } else { None };
+    assert_eq!(rt; status, ending.status, "{line}");
+    assert!(rt; is_left(ending.first, shelf.get("A"), before));
+    assert!(rt; is_left(ending.second, shelf.get("C"), before));
+    assert!(rt; out.held().len() == ending.told && REPORT.starts_with(out.held()));
+    assert_eq!(rt; err.held(), b"".as_slice());
+    Ok(())
+}
+
+// What a call of these words leaves.
+fn check<R: Abort + Threads + Wait + Sync>(
+    rt: &R,
+    alloc: Global,
+    run: (&str, &str),
+    failing: Failing,
+    ending: Ending,
+) -> Result<(), Fail> {
+    check_over(rt, alloc, run, failing, ending, false)?;
+    check_over(rt, alloc, run, failing, ending, true)
+}
+
+// A read fails, and nothing is written.
+fn check_reads<R: Abort + Threads + Wait + Sync>(
+    rt: &R,
+    alloc: Global,
+    run: (&str, &str),
+) -> Result<(), Fail> {
+    let ending = Ending {
+        status: 3,
+        first: Left::Before,
+        second: Left::Before,
+        told: 0,
+    };
+    check(rt, alloc, run, Failing::Read(0), ending)?;
+    check(rt, alloc, run, Failing::Read(1), ending)
+}
+
+// The report breaks off at each byte, with all outputs whole.
+fn check_reports<R: Abort + Threads + Wait + Sync>(
+    rt: &R,
+    alloc: Global,
+    run: (&str, &str),
+    second: Left,
+    length: usize,
+) -> Result<(), Fail> {
+    for told in 0..length {
+        let ending = Ending {
+            status: 4,
+            first: whole(),
+            second,
+            told,
+        };
+        check(rt, alloc, run, Failing::Report(told as u64), ending)?;
+    }
+    Ok(())
+}
+
+// Where this call is told to fail, none does: there are no more.
+fn check_no_more<R: Abort + Threads + Wait + Sync>(
+    rt: &R,
+    alloc: Global,
+    run: (&str, &str),
+    failing: Failing,
+    second: Left,
+    told: usize,
+) -> Result<(), Fail> {
+    let ending = Ending {
+        status: 0,
+        first: whole(),
+        second,
+        told,
+    };
+    check(rt, alloc, run, failing, ending)
+}
+
+// The header or a tick of the one output breaks off at each byte: so many bytes stand before it.
+fn check_one_piece<R: Abort + Threads + Wait + Sync>(
+    rt: &R,
+    alloc: Global,
+    line: &str,
+    call: u64,
+    before: usize,
+    size: usize,
+) -> Result<(), Fail> {
+    assert!(rt; before <= WHOLE.len() && size <= HEADER);
+    for taken in 0..size + 1 {
+        let failing = Failing::Piece(0, call, taken as u64);
+        let ending = failed(front(before + taken), Left::Before);
+        check(rt, alloc, (ONE, line), failing, ending)?;
+    }
+    Ok(())
+}
+
+// One output: each call of its devices.
+fn check_one<R: Abort + Threads + Wait + Sync>(
+    rt: &R,
+    alloc: Global,
+    line: &str,
+) -> Result<(), Fail> {
+    let run = (ONE, line);
+    let nothing = failed(Left::Before, Left::Before);
+    check_reads(rt, alloc, run)?;
+    check(rt, alloc, run, Failing::Creation(0), nothing)?;
+    check_one_piece(rt, alloc, line, 0, 0, HEADER)?;
+    check_one_piece(rt, alloc, line, 1, HEADER, TICK)?;
+    check_one_piece(rt, alloc, line, 2, HEADER + TICK, TICK)?;
+    check(rt, alloc, run, Failing::Closing(0), nothing)?;
+    check_reports(rt, alloc, run, Left::Before, 27)?;
+    check_no_more(rt, alloc, run, Failing::Read(2), Left::Before, 27)?;
+    check_no_more(rt, alloc, run, Failing::Creation(1), Left::Before, 27)?;
+    check_no_more(rt, alloc, run, Failing::Piece(0, 3, 0), Left::Before, 27)?;
+    check_no_more(rt, alloc, run, Failing::Closing(1), Left::Before, 27)
+}
+
+#[test]
+fn each_call_of_one_output_fails(rt: HostRuntime) -> Result<(), Fail> {
+    for line in LINES {
+        check_one(&rt, rt.alloc(), line)?;
+    }
+    Ok(())
+}
+
+// A piece of one of two outputs breaks off at each byte: so many bytes of it stand before. What is left of the other one.
+fn check_piece_of_two<R: Abort + Threads + Wait + Sync>(
+    rt: &R,
+    alloc: Global,
+    run: (&str, &str),
+    piece: (u32, u64),
+    before: usize,
+    other: Left,
+) -> Result<(), Fail> {
+    let (output, call) = piece;
+    assert!(rt; before <= WHOLE.len());
+    for taken in 0..TICK + 1 {
+        let own = front(before + taken);
+        let failing = Failing::Piece(output, call, taken as u64);
+        let ending = if output == 0 {
+            failed(own, other)
+        } else {
+            failed(other, own)
+        };
+        check(rt, alloc, run, failing, ending)?;
+    }
+    Ok(())
+}
+
+// Two outputs: each call but those for ticks. An output whose turn has not come is not created; each that was created is
+// closed.
+fn check_two<R: Abort + Threads + Wait + Sync>(
+    rt: &R,
+    alloc: Global,
+    run: (&str, &str),
+) -> Result<(), Fail> {
+    let no_second = failed(front(HEADER), Left::Before);
+    check_reads(rt, alloc, run)?;
+    let nothing = failed(Left::Before, Left::Before);
+    check(rt, alloc, run, Failing::Creation(0), nothing)?;
+    check(rt, alloc, run, Failing::Creation(1), no_second)?;
+    check_piece_of_two(rt, alloc, run, (0, 0), 0, Left::Before)?;
+    check_piece_of_two(rt, alloc, run, (1, 0), 0, front(HEADER))?;
+    let second = failed(Left::Before, whole());
+    check(rt, alloc, run, Failing::Closing(0), second)?;
+    let first = failed(whole(), Left::Before);
+    check(rt, alloc, run, Failing::Closing(1), first)?;
+    check_reports(rt, alloc, run, whole(), 54)?;
+    check_no_more(rt, alloc, run, Failing::Creation(2), whole(), 54)?;
+    check_no_more(rt, alloc, run, Failing::Piece(0, 3, 0), whole(), 54)?;
+    check_no_more(rt, alloc, run, Failing::Piece(1, 3, 0), whole(), 54)?;
+    check_no_more(rt, alloc, run, Failing::Closing(2), whole(), 54)
+}
+
+// Ticks of two outputs in one clock: the first output gets its piece before the second one.
+fn check_shared_ticks<R: Abort + Threads + Wait + Sync>(
+    rt: &R,
+    alloc: Global,
+    line: &str,
+) -> Result<(), Fail> {
+    let run = (SHARED, line);
+    let one_more = Left::Front(HEADER, HEADER + TICK);
+    check_piece_of_two(rt, alloc, run, (0, 1), HEADER, one_more)?;
+    check_piece_of_two(rt, alloc, run, (1, 1), HEADER, front(HEADER + TICK))?;
+    let two_more = Left::Front(HEADER + TICK, WHOLE.len());
+    check_piece_of_two(rt, alloc, run, (0, 2), HEADER + TICK, two_more)?;
+    check_piece_of_two(rt, alloc, run, (1, 2), HEADER + TICK, whole())
+}
+
+#[test]
+fn each_call_of_two_outputs_fails(rt: HostRuntime) -> Result<(), Fail> {
+    for line in LINES {
+        check_two(&rt, rt.alloc(), (SHARED, line))?;
+        check_two(&rt, rt.alloc(), (APART, line))?;
+        check_shared_ticks(&rt, rt.alloc(), line)?;
+    }
+    Ok(())
+}
+
+// Each tick of two outputs in two clocks: what is left of the other output where a piece of the first one breaks off in its
+// tick 0 and in its tick 1, and where one of the second does.
+fn check_apart_ticks<R: Abort + Threads + Wait + Sync>(
+    rt: &R,
+    alloc: Global,
+    line: &str,
+    others: (usize, usize, usize, usize),
+) -> Result<(), Fail> {
+    let run = (APART, line);
+    let (first_0, first_1, second_0, second_1) = others;
+    check_piece_of_two(rt, alloc, run, (0, 1), HEADER, front(first_0))?;
+    check_piece_of_two(rt, alloc, run, (0, 2), HEADER + TICK, front(first_1))?;
+    check_piece_of_two(rt, alloc, run, (1, 1), HEADER, front(second_0))?;
+    check_piece_of_two(rt, alloc, run, (1, 2), HEADER + TICK, front(second_1))
+}
+
+#[test]
+fn the_other_clock_ends_its_window(rt: HostRuntime) -> Result<(), Fail> {
+    let alloc = rt.alloc();
+    check_apart_ticks(&rt, alloc, "render f 2 --window=1", (76, 108, 76, 108))?;
+    check_apart_ticks(&rt, alloc, "render f 2 --window=2", (108, 108, 108, 108))?;
+    check_apart_ticks(&rt, alloc, "render f 2", (108, 108, 108, 108))?;
+    check_apart_ticks(&rt, alloc, "render f 2 --one-thread", (44, 76, 76, 108))
+}
+
+/// A source in the clock `main`, and a buffer that carries it to the clock `b`.
+const CARRIED: &str =
+    "set(\"frame.audio.samplerate\", 8000)\nset(\"frame.duration\", 0.001)\ns = single(\"B\")\noutput.file(%wav, \"A\", s)\noutput.file(%wav, \"C\", clock(id=\"b\", mksafe(buffer(buffer=0.002, max=0.01, s))))\n";
+
+// Ten ticks in windows of two: the output of clock `b` fails at its tick 2, after so many bytes, and no window follows.
+fn check_third_append<R: Abort + Threads + Wait + Sync>(
+    rt: &R,
+    alloc: Global,
+    taken: usize,
+) -> Result<(), Fail> {
+    assert!(rt; taken <= TICK);
+    let mut shelf = shelf(alloc, CARRIED, false)?;
+    shelf.fail_append(1, 3, taken as u64)?;
+    let mut out = sink(alloc)?;
+    let mut err = sink(alloc)?;
+    let words = words_of(alloc, "render f 10 --window=2")?;
+    let status = liq(rt, alloc, &words, &mut shelf, &mut out, &mut err, &FreeGate);
+    assert_eq!(rt; status, 4);
+    assert_eq!(rt;
+        shelf.get("A").map(|bytes| bytes.len()),
+        Some(HEADER + 4 * TICK)
+    );
+    assert_eq!(rt;
+        shelf.get("C").map(|bytes| bytes.len()),
+        Some(HEADER + 2 * TICK + taken)
+    );
+    assert_eq!(rt; out.held(), b"".as_slice());
+    assert_eq!(rt; err.held(), b"".as_slice());
+    Ok(())
+}
+
+#[test]
+fn one_clock_stops_and_the_other_ends_its_window(rt: HostRuntime) -> Result<(), Fail> {
+    for taken in 0..TICK + 1 {
+        check_third_append(&rt, rt.alloc(), taken)?;
+    }
+    Ok(())
+}
+
+// A call of these words has this line, which breaks off at each byte; no file is changed.
+fn check_line<R: Abort + Threads + Wait + Sync>(
+    rt: &R,
+    alloc: Global,
+    line: &str,
+    told: &[u8],
+) -> Result<(), Fail> {
+    let mut shelf = shelf(alloc, ONE, true)?;
+    let words = words_of(alloc, line)?;
+    for taken in 0..told.len() {
+        let mut out = sink(alloc)?;
+        let mut err = MemSink::new(alloc, 1000, vec![in alloc; (0, taken as u64)]?)?;
+        let status = liq(rt, alloc, &words, &mut shelf, &mut out, &mut err, &FreeGate);
+        assert_eq!(rt; status, 4, "{line}");
+        assert!(rt; err.held().len() == taken && told.starts_with(err.held()));
+        assert_eq!(rt; out.held(), b"".as_slice());
+        assert_eq!(rt; shelf.get("A"), Some(OLD));
+    }
+    Ok(())
+}
+
+#[test]
+fn a_line_breaks_off_at_each_byte(rt: HostRuntime) -> Result<(), Fail> {
+    let alloc = rt.alloc();
+    check_line(&rt, alloc, "check g", b"E01 no script\n")?;
+    check_line(&rt, alloc, "render g 2", b"E01 no script\n")?;
+    check_line(&rt, alloc, "render g 2 --one-thread", b"E01 no script\n")?;
+    check_line(&rt, alloc, "render f 1 --trace=A", b"E18 two outputs A\n")?;
+    check_line(
+        &rt,
+        alloc,
+        "render f 1000000000",
+        b"E29 output too long A\n",
+    )
+}
