@@ -145,6 +145,14 @@ impl Places {
             && split_path(output.path.as_str()).1 == last)
     }
 
+    // Whether an output still has its temporary file: one that was closed has none, and stands in its place.
+    fn is_open<R: Files<File = File>>(&self, rt: &R, at: usize) -> bool {
+        match self.beside.get(at) {
+            Some(output) => { FileId::named(rt, output.temporary.as_str()) == Some(output.file) }
+            None => false,
+        }
+    }
+
     // Moves a temporary file of this run away, where it has the name of an output.
     fn give_way<R: Files<File = File> + Alloc<A = Global>>(
         &mut self,
@@ -159,6 +167,9 @@ impl Places {
         else {
             return Ok(());
         };
+        if !self.is_open(rt, at) {
+            return Ok(());
+        }
         let moved = self.moved(rt, at)?;
         if let Some(output) = self.beside.get_mut(at) {
             output.temporary = moved;

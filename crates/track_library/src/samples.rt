@@ -3,6 +3,7 @@ ghost use Rattle.frame_core.specs.Bytes.{samples_in};
 ghost use Rattle.std.specs.Prelude.{◌≡◌, IfOk};
 
 use liq_base::Memory;
+use sample_kernels::decode;
 use std::alloc::Global;
 
 /// The samples of so many whole blocks, in the order in which they stand: signed, of 16 bits, the lower byte first. Of
@@ -10,11 +11,9 @@ use std::alloc::Global;
 pub fn read_samples(alloc: Global, blocks: &[u8]) -> Result<Vec<i16>, Memory>
     ensures samples { IfOk result (λ samples. samples.items ≡ samples_in blocks.now) }
 {
-    let mut samples = Vec::with_capacity(alloc, blocks.len() / 2)?;
-    let mut rest = blocks;
-    while let [low, high, after @ ..] = rest {
-        samples.push(i16::from_le_bytes([*low, *high]))?;
-        rest = after;
-    }
+    let count = blocks.len() / 2;
+    let mut samples = vec![in alloc; 0i16; count]?;
+    let (whole, _) = blocks.split_at(2 * count);
+    decode(whole, &mut samples);
     Ok(samples)
 }
