@@ -2,7 +2,7 @@
 use Rattle.std.proofs.Common.{◌≡◌, ◌<◌, ◌+◌, ℕ, length, List, [], ◌∷◌, ◌++◌, Some, refl, sym, ap, ◌∙◌, append_assoc, map, take, get_or}
 use Rattle.std.proofs.lemmas.List.{append-nil, take_more}
 use Rattle.std.specs.Global.{Vec}
-use Rattle.script_grammar.specs.Tree.{Sort, Tree, Many, more, AFull, Listed}
+use Rattle.script_grammar.specs.Tree.{Sort, Tree, Many, AFull, Listed}
 use Rattle.script_grammar.specs.View.{listed, tuple_of, view_expr, view_and, view_not, view_compare, view_sum, view_added, view_product, view_multiplied, view_prim, view_full, view_call, view_arg}
 use Rattle.script_grammar.specs.declared.tree.Full.{Full}
 use Rattle.script_grammar.specs.declared.tree.Expr as expr

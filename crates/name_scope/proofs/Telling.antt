@@ -1,17 +1,14 @@
 -- The fault that is kept pair by pair is the one that is told of all; and what is known of statements without a fault.
-use Rattle.std.proofs.Common.{◌≡◌, ◌≤◌, ◌<◌, ◌+◌, ◌*◌, ◌≢◌, ◌⊎◌, ℕ, List, [], ◌∷◌, ◌++◌, Option, Some, None, option_map, Bool, true, false, cond, nat_eq, nat_le, refl, sym, ap, ◌∙◌, append_assoc, map, arith, inl, inr, length, get_or, drop}
-use Rattle.std.proofs.lemmas.List.{append-nil, at_drop_all, at_drop_more, map-append}
+use Rattle.std.proofs.Common.{◌≡◌, ◌≤◌, ◌<◌, ◌+◌, ◌*◌, ◌≢◌, ◌⊎◌, ℕ, List, [], ◌∷◌, ◌++◌, Option, Some, None, Bool, true, false, cond, nat_eq, nat_le, refl, sym, ap, ◌∙◌, append_assoc, map, arith, inl, inr}
+use Rattle.std.proofs.lemmas.List.{append-nil}
 use Rattle.std.proofs.lemmas.Bool.Decides.{eqb_tells, leb_tells}
-use Rattle.script_grammar.specs.Tree.{Tree, APart, AStmt, BindPart, DefPart, CallPart, IfPart, Def, Stmt, Script}
-use Rattle.script_grammar.specs.View.{listed, view_stmt}
-use Rattle.script_grammar.specs.declared.tree.Stmt.{Stmt as AStatement}
+use Rattle.script_grammar.specs.Tree.{Tree, APart, AStmt, BindPart, DefPart, CallPart, IfPart, Def, Stmt}
 use Rattle.typing_rules.specs.declared.fault.NameFault.{NameFault}
 use Rattle.typing_rules.specs.declared.fault.NameFault.TheVariants.{Unknown, Missing, Extra, Repeated}
-use Rattle.typing_rules.specs.declared.fault.TypeFault.{TypeFault}
 use Rattle.typing_rules.specs.declared.uses.Target.{Target}
 use Rattle.typing_rules.specs.Arguments.{Parameter, Given}
-use Rattle.typing_rules.specs.NameFaults.{all_faults, earlier, faults_as, faults_in, first_fault, in_statement, is_before, number, or_later, repeats, repeats_in, token, told}
-use Rattle.typing_rules.specs.Scoping.{Meaning, Name, Scope, meant, names, target_of, used, with_statement}
+use Rattle.typing_rules.specs.NameFaults.{all_faults, earlier, faults_as, faults_in, is_before, number, repeats, repeats_in, token, told}
+use Rattle.typing_rules.specs.Scoping.{Meaning, Name, Scope, meant, names, target_of}
 use Rattle.name_scope.specs.Noted.{Noted, all_sooner, known, meaning_at, sooner, with_name, with_names, with_part, with_repeats, with_statement_names}
 
 -- ---- the order of faults is that of one number for each
@@ -155,46 +152,3 @@ pub names_are : (n m : Noted) (sc : Scope) (s : Tree AStmt) → m ≡ with_state
 names_are n m sc s is clear none =
     ap (λ (k : Noted). k.found) is
     ∙ ap (λ (l : List Meaning). n.found ++ l) (all_known (names sc s) (empty_behind (repeats_in s) (all_faults (names sc s)) (none_told (faults_in sc s) (sym (fault_is n m sc s is clear) ∙ none))))
-
--- ---- one statement after another
-
-abbrev pub script_of : List AStatement → Script
-script_of xs = listed (map view_stmt xs)
-
-pub first_next : (xs : List AStatement) (i : ℕ) (x : AStatement) (n : ℕ) (sc new : Scope) (whole : Option (ℕ × NameFault)) → i < length xs → x ≡ get_or xs i x → whole ≡ first_fault n sc (script_of (drop i xs)) → told (faults_in sc (view_stmt x)) ≡ None → new ≡ with_statement (view_stmt x) sc → whole ≡ first_fault (n + 1) new (script_of (drop (i + 1) xs))
-first_next xs i x n sc new whole lt is so none b =
-    so ∙ at_drop_more (λ (l : List AStatement). first_fault n sc (script_of l)) xs i x lt
-    ∙ ap (λ (y : AStatement). first_fault n sc (script_of (y ∷ drop (i + 1) xs))) (sym is)
-    ∙ ap (λ (o : Option NameFault). or_later n o (first_fault (n + 1) (with_statement (view_stmt x) sc) (script_of (drop (i + 1) xs)))) none
-    ∙ ap (λ (s : Scope). first_fault (n + 1) s (script_of (drop (i + 1) xs))) (sym b)
-
-abbrev pub told_of : Option (ℕ × NameFault) → Option TypeFault
-told_of o = option_map (λ x. in_statement x.0 x.1) o
-
-told_at : (n : ℕ) (o : Option NameFault) (later : Option (ℕ × NameFault)) (f : TypeFault) → option_map (in_statement n) o ≡ Some f → told_of (or_later n o later) ≡ Some f
-told_at n None later f h = cc
-told_at n (Some g) later f h = h
-
-pub first_here : (xs : List AStatement) (i : ℕ) (x : AStatement) (n : ℕ) (sc : Scope) (whole : Option (ℕ × NameFault)) (f : TypeFault) → i < length xs → x ≡ get_or xs i x → whole ≡ first_fault n sc (script_of (drop i xs)) → option_map (in_statement n) (told (faults_in sc (view_stmt x))) ≡ Some f → told_of whole ≡ Some f
-first_here xs i x n sc whole f lt is so here =
-    ap told_of (so ∙ at_drop_more (λ (l : List AStatement). first_fault n sc (script_of l)) xs i x lt ∙ ap (λ (y : AStatement). first_fault n sc (script_of (y ∷ drop (i + 1) xs))) (sym is))
-    ∙ told_at n (told (faults_in sc (view_stmt x))) (first_fault (n + 1) (with_statement (view_stmt x) sc) (script_of (drop (i + 1) xs))) f here
-
-pub names_next : (xs : List AStatement) (i : ℕ) (x : AStatement) (sc new : Scope) (found more whole : List Meaning) → i < length xs → x ≡ get_or xs i x → found ++ map meant (used sc (script_of (drop i xs))) ≡ whole → more ≡ found ++ map meant (names sc (view_stmt x)) → new ≡ with_statement (view_stmt x) sc → more ++ map meant (used new (script_of (drop (i + 1) xs))) ≡ whole
-names_next xs i x sc new found more whole lt is so e b =
-    let rest = script_of (drop (i + 1) xs) in
-    let here = names sc (view_stmt x) in
-    ap (λ (l : List Meaning). l ++ map meant (used new rest)) e
-    ∙ append_assoc found (map meant here) (map meant (used new rest))
-    ∙ ap (λ (l : List Meaning). found ++ l) (sym (map-append meant here (used new rest)) ∙ ap (λ (s : Scope). map meant (here ++ used s rest)) b)
-    ∙ ap (λ (y : AStatement). found ++ map meant (used sc (script_of (y ∷ drop (i + 1) xs)))) is
-    ∙ sym (at_drop_more (λ (l : List AStatement). found ++ map meant (used sc (script_of l))) xs i x lt)
-    ∙ so
-
--- at the end nothing is left
-pub first_done : (xs : List AStatement) (i n : ℕ) (sc : Scope) (whole : Option (ℕ × NameFault)) → length xs ≤ i → whole ≡ first_fault n sc (script_of (drop i xs)) → told_of whole ≡ None
-first_done xs i n sc whole over so = ap told_of (so ∙ at_drop_all (λ (l : List AStatement). first_fault n sc (script_of l)) xs i over)
-
-pub names_done : (xs : List AStatement) (i : ℕ) (sc : Scope) (found whole : List Meaning) → length xs ≤ i → found ++ map meant (used sc (script_of (drop i xs))) ≡ whole → found ≡ whole
-names_done xs i sc found whole over so =
-    sym (append-nil found) ∙ sym (at_drop_all (λ (l : List AStatement). found ++ map meant (used sc (script_of l))) xs i over) ∙ so

@@ -15,7 +15,7 @@ pub use builtins::builtin_params;
 pub use notes::{Notes, Resolved};
 pub use parameter::Given;
 pub use scope::{Binding, Bound, Scope, Scopes};
-pub use script::{resolve_names, resolve_statement};
+pub use script::resolve_statement;
 pub use statements::note_def;
 pub use typing_rules::{Parameter, builtin_named};
 pub use values::{note_call, note_choice, note_expr, note_full};

@@ -10,11 +10,14 @@ ghost use Rattle.name_scope.specs.Noted.{all_sooner, mismatches, noted, sooner, 
 use crate::arguments::{are_filled, given_arguments, match_arguments};
 use crate::builtins::builtin_params;
 use crate::parameter::Given;
-use crate::scope::{Bound, Scopes};
+use crate::scope::{Bound, Scope, Scopes};
 use liq_base::{Memory, Text};
 use script_grammar::tree::{Arg, Param};
 use std::alloc::Global;
 use typing_rules::{NameFault, Parameter, Target, builtin_named, is_same_name};
+
+/// So many parameters of a def are compared with each other for a repeated name; more of them by a table.
+const FEW_PARAMS: usize = 16;
 
 /// A name that a script uses, by its token, and what it stands for.
 #[derive(Clone, Copy, Debug, PartialEq, Eq)]
@@ -167,7 +170,19 @@ impl Notes {
     }
 
     /// Adds the parameters of a def whose names earlier ones have.
-    pub fn add_repeats(&mut self, params: &[Param])
+    pub fn add_repeats(&mut self, alloc: Global, params: &[Param]) -> Result<(), Memory>
+        ensures fault { OnOk result (self.new.fault ≡ all_sooner self.old.fault (repeats [] (listed (map view_param params.now)))) }
+        ensures found { OnOk result (self.new.found ≡ self.old.found) }
+    {
+        if params.len() > FEW_PARAMS {
+            return self.add_repeats_of_many(alloc, params);
+        }
+        self.add_repeats_of_few(params);
+        Ok(())
+    }
+
+    // The same of so few parameters that each is compared with the earlier ones. It takes no memory.
+    fn add_repeats_of_few(&mut self, params: &[Param])
         ensures fault { self.new.fault ≡ all_sooner self.old.fault (repeats [] (listed (map view_param params.now))) }
         ensures found { self.new.found ≡ self.old.found }
     {
@@ -175,6 +190,20 @@ impl Notes {
             let repeats = is_among(&params[index].name, &params[..index]);
             self.add_repeated(repeats, params[index].at);
         }
+    }
+
+    // The same with a table of the earlier names.
+    fn add_repeats_of_many<'a>(&mut self, alloc: Global, params: &'a [Param]) -> Result<(), Memory>
+        ensures fault { OnOk result (self.new.fault ≡ all_sooner self.old.fault (repeats [] (listed (map view_param params.entry.now)))) }
+        ensures found { OnOk result (self.new.found ≡ self.old.found) }
+    {
+        let mut earlier: Scope<'a> = Scope::new(alloc);
+        for param in params {
+            let known = earlier.find(param.name.as_str());
+            self.add_repeated(known.is_some(), param.at);
+            earlier.bind(param.name.as_str(), Bound::Value(param.at))?;
+        }
+        Ok(())
     }
 
     /// Adds a name outside a call.

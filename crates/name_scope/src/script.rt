@@ -1,15 +1,15 @@
-// What the names of a whole script stand for, or the fault that is told.
-ghost use Rattle.std.specs.Prelude.{◌≡◌, ◌≢◌, ◌++◌, IfErr, IfOk, IsOkUnless, None, OnOk, Some, map, option_map};
-ghost use Rattle.script_grammar.specs.View.{listed, view_script, view_stmt};
-ghost use Rattle.typing_rules.specs.NameFaults.{faults_in, first_told, in_statement as the_fault_in, told};
-ghost use Rattle.typing_rules.specs.Scoping.{meanings_of, meant, names, with_statement};
-ghost use Rattle.name_scope.specs.Noted.{found_in, resolved};
+// What the names of a statement stand for, or the fault that is told.
+ghost use Rattle.std.specs.Prelude.{◌≡◌, ◌≢◌, ◌++◌, IfErr, IsOkUnless, None, OnOk, Some, map, option_map};
+ghost use Rattle.script_grammar.specs.View.{view_stmt};
+ghost use Rattle.typing_rules.specs.NameFaults.{faults_in, in_statement as the_fault_in, told};
+ghost use Rattle.typing_rules.specs.Scoping.{meant, names, with_statement};
+ghost use Rattle.name_scope.specs.Noted.{found_in};
 ghost use Rattle.name_scope.specs.Seen.{in_scope};
 
-use crate::notes::{Notes, Resolved};
+use crate::notes::Notes;
 use crate::scope::Scope;
 use crate::statements::note_statement;
-use script_grammar::tree::{Script, Stmt};
+use script_grammar::tree::Stmt;
 use std::alloc::Global;
 use typing_rules::{NameFault, TypeFault};
 
@@ -37,21 +37,6 @@ pub fn resolve_statement<'a>(
     note_or_refuse(alloc, scope, notes, stmt)?;
     check_fault(notes, number)?;
     Ok(())
-}
-
-/// What each name that a script uses stands for, in the order of the tokens (`docs/typing.md`).
-///
-/// # Errors
-///
-/// The fault of names and arguments that is told: in the first statement that has any, the one at the least token, and
-/// at one token the one with the lesser number. `Memory`: memory was refused, or there are 2^32 statements and more,
-/// which have no number.
-pub fn resolve_names(alloc: Global, script: &Script) -> Result<Vec<Resolved>, TypeFault>
-    ensures names { IfOk result (λ r. map resolved r.items ≡ meanings_of (view_script script.now)) }
-    ensures faultless { IfOk result (λ r. first_told (view_script script.now) ≡ None) }
-    ensures told { IfErr result (λ f. f ≢ TypeFault.Memory → first_told (view_script script.now) ≡ Some f) }
-{
-    resolve_statements(alloc, &script.statements)
 }
 
 /// A fault of names as that of a statement.
@@ -100,23 +85,4 @@ fn note_or_refuse<'a>(
         Ok(()) => Ok(()),
         Err(_) => Err(TypeFault::Memory),
     }
-}
-
-/// The names of statements, or the fault that is told of them.
-fn resolve_statements<'a>(alloc: Global, statements: &'a [Stmt]) -> Result<Vec<Resolved>, TypeFault>
-    ensures names { IfOk result (λ r. map resolved r.items ≡ meanings_of (listed (map view_stmt statements.entry.now))) }
-    ensures faultless { IfOk result (λ r. first_told (listed (map view_stmt statements.entry.now)) ≡ None) }
-    ensures told { IfErr result (λ f. f ≢ TypeFault.Memory → first_told (listed (map view_stmt statements.entry.now)) ≡ Some f) }
-{
-    if statements.len() > u32::MAX as usize {
-        return Err(TypeFault::Memory);
-    }
-    let mut scope: Scope<'a> = Scope::new(alloc);
-    let mut notes = Notes::new(alloc);
-    let mut number = 0;
-    for stmt in statements {
-        number += 1;
-        resolve_statement(alloc, &mut scope, &mut notes, stmt, number)?;
-    }
-    Ok(notes.found)
 }

@@ -194,7 +194,7 @@ fn note_def_part<'a>(
     ensures noted { OnOk result (noted notes.new ≡ with_names (with_repeats (noted notes.old) (listed (map view_param def.entry.now.params.items))) (names (in_scope scope.old) (view_def def.entry.now))) }
     ensures bound { OnOk result (in_scope scope.new ≡ (def.entry.now.name, function def.entry.now.at (parameters_of (listed (map view_param def.entry.now.params.items)))) ∷ in_scope scope.old) }
 {
-    notes.add_repeats(&def.params);
+    notes.add_repeats(alloc, &def.params)?;
     note_def(alloc, &*scope, notes, def)?;
     let params = parameters(alloc, &def.params)?;
     scope.bind(def.name.as_str(), Bound::Function(def.at, params))?;

@@ -2,9 +2,9 @@
 ghost use Rattle.std.specs.Prelude.{◌≡◌, ◌≢◌, ℕ, Option, Some, None, [], IfOk, map, unwrap_or};
 ghost use Rattle.std.specs.List.{list_any};
 ghost use Rattle.eval_meaning.specs.Meaning.{call, choice, full};
-ghost use Rattle.eval_meaning.specs.Scripts.{Answers, ended, evaluation, is_output, settled, statement, statements, tick_of, top_scope, turned};
+ghost use Rattle.eval_meaning.specs.Scripts.{Answers, ended, evaluation, settled, statement, statements, tick_of, top_scope, turned};
 ghost use Rattle.eval_meaning.specs.Safety.{IsNotStuck};
-ghost use Rattle.plan_core.specs.Plans.{IsWellFormed};
+ghost use Rattle.plan_core.specs.Plans.{IsWellFormed, is_output};
 ghost use Rattle.script_grammar.specs.Placed.{IsPlaced};
 ghost use Rattle.script_grammar.specs.Tree.{BindPart as a_binding};
 ghost use Rattle.script_grammar.specs.View.{listed, view_bind, view_call, view_full, view_if, view_part, view_script, view_stmt};
@@ -72,16 +72,7 @@ fn planned(alloc: Global, defs: &Defs<'_>, uses: &Uses<'_>) -> Result<Plan, Eval
 fn has_output(sinks: &[SinkPlan]) -> bool
     ensures { result ≡ list_any is_output sinks.now }
 {
-    sinks.iter().any(|sink| is_output(sink))
-}
-
-fn is_output(sink: &SinkPlan) -> bool
-    ensures { result ≡ is_output sink.now }
-{
-    match sink {
-        SinkPlan::Output { .. } => true,
-        SinkPlan::Feed { .. } => false,
-    }
+    sinks.iter().any(|sink| sink.is_output())
 }
 
 fn run(
