@@ -9,8 +9,10 @@ enum { LENGTH = 1764, PASSES = 20000, SAMPLES = 35280000, EIGHTS = 4400000 };
 static int16_t left[LENGTH], right[LENGTH], into[LENGTH];
 static uint8_t bytes[4 * LENGTH];
 static int32_t sum[LENGTH];
-static const int32_t eight_sums[8] = {60000, -7, 0, 5, 90000, -98304, 1, 2};
-static const uint16_t eight_by[8] = {2, 3, 3, 7, 3, 3, 1, 2};
+static volatile uint32_t unknown_length = 44100;
+static volatile int unknown = 0;
+static int32_t eight_sums[8] = {60000, -7, 0, 5, 90000, -98304, 1, 2};
+static uint16_t eight_by[8] = {2, 3, 3, 7, 3, 3, 1, 2};
 
 static int16_t clamped(int64_t n) { return n < -32768 ? -32768 : n > 32767 ? 32767 : (int16_t)n; }
 
@@ -76,13 +78,19 @@ int main(void) {
     for (int pass = 0; pass < PASSES; pass++) halves(left, right, into, LENGTH);
     tell("halves", start, SAMPLES, into, LENGTH);
     start = now();
-    for (int pass = 0; pass < PASSES; pass++) mix(left, right, (uint32_t)pass, 44100, into, LENGTH);
+    uint32_t whole = unknown_length;
+    for (int pass = 0; pass < PASSES; pass++) mix(left, right, (uint32_t)pass, whole, into, LENGTH);
     tell("mix", start, SAMPLES, into, LENGTH);
     start = now();
     for (int pass = 0; pass < PASSES; pass++) encode(left, right, bytes, LENGTH);
     tell("encode", start, SAMPLES, left, LENGTH);
     start = now();
-    for (int pass = 0; pass < EIGHTS; pass++) divide(eight_sums, eight_by, into, 8);
+    eight_sums[7] += unknown;
+    eight_by[7] += unknown;
+    for (int pass = 0; pass < EIGHTS; pass++) {
+        divide(eight_sums, eight_by, into, 8);
+        __asm__ volatile("" : : "r"(into) : "memory");
+    }
     tell("divide", start, EIGHTS * 8LL, into, 8);
     start = now();
     for (int pass = 0; pass < PASSES; pass++) {

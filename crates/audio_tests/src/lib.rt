@@ -6,6 +6,8 @@ mod audio_files_tests;
 #[cfg(test)]
 mod cut_files_tests;
 #[cfg(test)]
+mod kernels_tests;
+#[cfg(test)]
 mod loading_tests;
 #[cfg(test)]
 mod op_leaf_tests;

@@ -3,6 +3,7 @@ use Rattle.std.proofs.Common.{◌≡◌, ◌<◌, ◌≤◌, ◌+◌, ◌*◌, �
 use Rattle.std.specs.List.{range_with_len}
 use Rattle.std.specs.Simd.Lanes.{zip2}
 use Rattle.std.proofs.lemmas.Int.{ints}
+use Rattle.std.proofs.lemmas.List.Elements.{All-weaker}
 use Rattle.std.proofs.lemmas.List.{append-nil, length-drop, length-take-le}
 use Rattle.frame_core.specs.declared.cell.Cell.{Cell}
 use Rattle.frame_core.specs.Slots.{Slot}
@@ -61,6 +62,11 @@ zeros_fit (suc room) (suc k) d low = zeros_fit room k d (omega (arith, low))
 
 pub none_added : (gives : ℕ → Bool) (lanes : ℕ → List ℤ) (room : ℕ) (sums : List ℤ) → sums ≡ replicate room (pos 0) → Added gives lanes room [] 0 sums
 none_added gives lanes room sums are = record { count_is = refl; sums_are = are; fit = subst (All (IsSumOf 0)) (sym are) (zeros_fit room) }
+
+-- there is room for one more
+pub room_for : (count : ℕ) (sums : List ℤ) → count ≤ 65535 → All (IsSumOf count) sums → All (IsSumOf 65535) sums
+room_for count sums few = All-weaker (IsSumOf count) (IsSumOf 65535)
+    (λ sum is. let low = is.low in let high = is.high in record { low = omega (arith, ints, low, few); high = omega (arith, ints, high, few) }) sums
 
 pub one_added : (gives : ℕ → Bool) (lanes : ℕ → List ℤ) (room : ℕ) (children : List ℕ) (child count : ℕ) (sums lane new : List ℤ) → Added gives lanes room children count sums
     → gives child ≡ true → lane ≡ lanes child → new ≡ zip2 ◌+ℤ◌ sums lane → All (IsSumOf (count + 1)) new → Added gives lanes room (children ++ child ∷ []) (count + 1) new

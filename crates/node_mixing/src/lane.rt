@@ -1,6 +1,5 @@
 // What a node makes of the samples of its children over a run.
-ghost use Rattle.std.specs.Prelude.{◌≡◌, ◌<◌, ◌≤◌, ◌+◌, ◌*◌, ◌+ℤ◌, ℕ, pos, Some, length, map, replicate, All};
-ghost use Rattle.std.specs.Simd.Lanes.{zip2};
+ghost use Rattle.std.specs.Prelude.{◌≡◌, ◌<◌, ◌≤◌, ◌+◌, ◌*◌, ℕ, pos, Some, length, map, replicate, All};
 ghost use Rattle.frame_core.specs.Slots.{Slot};
 ghost use Rattle.op_leaf.specs.Lanes.{IsLane};
 ghost use Rattle.sample_kernels.specs.Samples.{IsSumOf};
@@ -10,9 +9,8 @@ ghost use Rattle.node_mixing.specs.Runs.{AreHeard, changed_left, changed_right, 
 
 use crate::mixer::Mixer;
 use crate::room::Sums;
-use crate::sum::added;
 use crate::walk::{first_that_offers, offers, samples_of};
-use sample_kernels::{clamp_all, divide, halves, scale};
+use sample_kernels::{add_into, clamp_all, divide, halves, scale};
 use stream_meaning::Part;
 
 impl Mixer {
@@ -147,23 +145,10 @@ fn add_all(children: &[u32], parts: &[Part], before: &[i16], sums: &mut [i32]) -
             continue;
         }
         let lane = samples_of(before, *child, sums.len());
-        add_lane(sums, count, lane);
+        add_into(sums, lane);
         count += 1;
     }
     count
-}
-
-// Adds a sample to each sum of so many.
-fn add_lane(sums: &mut [i32], parts: u16, lane: &[i16])
-    requires same { length lane.now ≡ length sums.old }
-    requires few { parts < 65535 }
-    requires fit { All (IsSumOf parts) sums.old }
-    ensures sums { sums.new ≡ zip2 ◌+ℤ◌ sums.old lane.now }
-    ensures fit { All (IsSumOf (parts + 1)) sums.new }
-{
-    for at in 0..sums.len() {
-        sums[at] = added(sums[at], parts, lane[at]);
-    }
 }
 
 // One side of the samples of a sum, from the sums of so many children: their mean with `normalize`, or the sum cut to the

@@ -1,7 +1,7 @@
 use Rattle.std.proofs.Common.{◌≡◌, ◌<◌, ◌≤◌, ◌+◌, ◌*◌, ◌∙◌, ◌++◌, ◌∷◌, [], ℕ, true, false, get_or, length, take, arith, rules, ap, sym, subst}
 use Rattle.std.proofs.lemmas.List.{length-take, take_more}
 use Rattle.node_mixing.specs.Runs.{offers_in, samples_of}
-use Rattle.node_mixing.proofs.Summing.{Added, many_few, one_added, passed_over, samples_long}
+use Rattle.node_mixing.proofs.Summing.{Added, many_few, one_added, passed_over, room_for, samples_long}
 use Rattle.node_mixing.proofs.lane.add_all.Goals as goal
 
 pub loop-child-preserved-then-not-offers : goal.loop-child-preserved-then-not-offers
@@ -38,25 +38,25 @@ loop-child-preserved c =
     let short : length c.loop-child.sums ≤ 1024 = omega (arith, c.loop-child.invariant.long, c.requires.short) in
     let lane_is : c.samples_of-lane.result.now ≡ samples_of c.args.before.now child (length c.args.sums.now) =
     c.samples_of-lane.ensures ∙ ap (samples_of c.args.before.now child) c.loop-child.invariant.long in
-    let long : length c.add_lane.new.sums ≡ length c.loop-child.sums = omega arith in
+    let long : length c.add_into.new.sum ≡ length c.loop-child.sums = omega arith in
     record {
       long = long ∙ c.loop-child.invariant.long;
-      added = subst (λ xs. Added (offers_in c.args.parts.now) (λ child. samples_of c.args.before.now child (length c.args.sums.now)) (length c.args.sums.now) xs (c.loop-child.count + 1) c.add_lane.new.sums) (sym more)
+      added = subst (λ xs. Added (offers_in c.args.parts.now) (λ child. samples_of c.args.before.now child (length c.args.sums.now)) (length c.args.sums.now) xs (c.loop-child.count + 1) c.add_into.new.sum) (sym more)
           (one_added (offers_in c.args.parts.now) (λ child. samples_of c.args.before.now child (length c.args.sums.now)) (length c.args.sums.now)
-          (take c.loop-child.child-index c.args.children.now) child c.loop-child.count c.loop-child.sums c.samples_of-lane.result.now c.add_lane.new.sums
-          c.loop-child.invariant.added heard lane_is c.add_lane.ensures.sums c.add_lane.ensures.fit);
+          (take c.loop-child.child-index c.args.children.now) child c.loop-child.count c.loop-child.sums c.samples_of-lane.result.now c.add_into.new.sum
+          c.loop-child.invariant.added heard lane_is c.add_into.ensures.added (c.add_into.ensures.counted c.loop-child.count c.loop-child.invariant.added.fit));
     }
 
-pub add_lane-requires-clause-same : goal.add_lane-requires-clause-same
-add_lane-requires-clause-same c =
+pub add_into-requires-clause-same : goal.add_into-requires-clause-same
+add_into-requires-clause-same c =
     let child : ℕ = get_or c.args.children.now c.loop-child.child-index 0 in
     let there : (child + 1) * 1024 ≤ length c.args.before.now = c.requires.below c.loop-child.child-index 0 c.loop-child-test.true in
     let short : length c.loop-child.sums ≤ 1024 = omega (arith, c.loop-child.invariant.long, c.requires.short) in
     ap length c.samples_of-lane.ensures ∙ samples_long c.args.before.now child (length c.loop-child.sums) short there
 
-pub add_lane-requires-clause-few : goal.add_lane-requires-clause-few
-add_lane-requires-clause-few c =
+pub add_into-requires-clause-room : goal.add_into-requires-clause-room
+add_into-requires-clause-room c =
     let is = c.loop-child.invariant.added.count_is in
     let few = many_few (offers_in c.args.parts.now) (take c.loop-child.child-index c.args.children.now) in
     let taken = length-take c.loop-child.child-index c.args.children.now in
-    omega (arith, is, few, taken, c.loop-child-test.true, c.requires.few)
+    room_for c.loop-child.count c.loop-child.sums (omega (arith, is, few, taken, c.loop-child-test.true, c.requires.few)) c.loop-child.invariant.added.fit
