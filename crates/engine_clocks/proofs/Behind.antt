@@ -111,7 +111,7 @@ none_there None e = refl
 none_there (Some cell) e = absurd (true≢false e)
 
 -- a node that offers is one of the plan
-within_by : (setting : Setting) (sub : ℕ → ℕ → List Slot) (clock : NodeClock) (past : List Moment) (i : ℕ) → is_some (offer (moment_after setting sub clock past) i) ≡ true → i < length setting.plan.nodes
+pub within_by : (setting : Setting) (sub : ℕ → ℕ → List Slot) (clock : NodeClock) (past : List Moment) (i : ℕ) → is_some (offer (moment_after setting sub clock past) i) ≡ true → i < length setting.plan.nodes
 within_by setting sub clock past i there = elim (cases_lt i (length setting.plan.nodes)) [
   | inl low ↦ low
   | inr high ↦ absurd (false≢true (sym (ap (λ (p : Part). is_some p.slot) (part_past setting sub clock past i high)) ∙ there))
@@ -398,7 +398,8 @@ module _ (setting : Setting) (sub : ℕ → ℕ → List Slot) (rank : NodeClock
         needed = needed_below setting sub rank (rank clock) (suc (rank clock)) Now Fed (omega arith) needed_all;
       };
       once = put-same ran clock (ran clock + many);
-      others = λ other apart. put-other ran clock (ran clock + many) other apart;
+      others = λ other apart low. put-other ran clock (ran clock + many) other apart;
+      held = λ i apart low. fed_other i apart;
       needed = needed_all;
       quiet = quiet down;
       slots = run_of_root;

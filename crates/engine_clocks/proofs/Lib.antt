@@ -2,9 +2,12 @@ pub mod Equal
 pub mod Fading
 pub mod Opened
 pub mod Levels
+pub mod Gone
 pub mod Taking
 pub mod Joining
 pub mod Making
-pub mod Settling
 pub mod Readers
-mod Behind
+pub mod Behind
+mod Sampled
+pub mod FedOn
+pub mod Settling

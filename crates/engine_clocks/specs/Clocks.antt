@@ -17,7 +17,7 @@ use Rattle.stream_meaning.specs.Instants.{Setting, Moment, IsMeaning, clock_of, 
 use Rattle.stream_meaning.specs.Calls.{GoDown, HasAnswers, IsBegin, after_calls, calls_of, fades_in, joined_between, joined_upto, ran_by, takes_at}
 use Rattle.node_states.specs.declared.state.NodeState.{NodeState}
 use Rattle.node_states.specs.declared.time.WeekTime.{WeekTime}
-use Rattle.node_states.specs.States.{IsSettled, StateStands, left, reading_by, reads_at, wants}
+use Rattle.node_states.specs.States.{IsSettled, StateStands, left, reading_by, reads_at, room, wants}
 use Rattle.node_states.specs.Ticks.{past_of}
 use Rattle.node_states.specs.Times.{TimeStands}
 use Rattle.engine_instants.specs.Nodes.{AreNodesOf, IsLatest}
@@ -61,6 +61,10 @@ wants_at states k = option_map_or wants (slice_get states k) false
 
 abbrev pub left_at : List NodeState → ℕ → ℕ
 left_at states k = option_map_or left (slice_get states k) 0
+
+-- how many cells of a track that goes on the node at a place takes
+abbrev pub room_at : List NodeState → ℕ → ℕ
+room_at states k = option_map_or room (slice_get states k) 0
 
 -- some of the nodes: one of them, those of a clock, and of these the first ones
 abbrev pub is_none : ℕ → Type 0

@@ -9,7 +9,7 @@ ghost use Rattle.engine_instants.specs.Takes.{HasReader, ReadersAreIn};
 ghost use Rattle.engine_clocks.specs.Clocks.{AllSettled, AreClockLanes, AreLeft, HasLevels, HasRanks, InstantMade, InstantStopped, NodeSettled, NodeStopped, SettlingStopped, is_in, is_node};
 
 use crate::ClockLanes;
-use crate::feeding::feed_child;
+use crate::feeding::{feed_child, feed_on};
 use crate::finishing::finish;
 use crate::opening::begin_clock;
 use clock_infer::NodeClock;
@@ -88,6 +88,7 @@ fn settle<T: Taps>(
         let time = lanes.times[k as usize];
         make_instant(shape, own, lanes, NodeClock::Sub(k), time, levels - 1, taps)?;
         feed_child(shape, lanes, k);
+        feed_on(shape, lanes, k, time);
     }
     Ok(())
 }

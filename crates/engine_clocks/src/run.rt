@@ -1,7 +1,9 @@
 // Instants of a clock that go on as its latest one did, made at once.
-ghost use Rattle.std.specs.Prelude.{◌≡◌, ◌≤◌, length};
+ghost use Rattle.std.specs.Prelude.{◌≡◌, ◌≤◌, ℕ, false, length, slice_get, slice_index_or};
 ghost use Rattle.liq_base.specs.declared.limits.TheConstants.{MAX_NODES};
 ghost use Rattle.plan_core.specs.Plans.{AreNodes};
+ghost use Rattle.clock_infer.specs.declared.clock_map.NodeClock.TheVariants.{Main as InMain};
+ghost use Rattle.stream_meaning.specs.Instants.{same_clock};
 ghost use Rattle.engine_clocks.specs.Clocks.{AreClockLanes};
 ghost use Rattle.engine_clocks.specs.Runs.{InstantsRun};
 
@@ -31,6 +33,9 @@ pub fn make_run(
     ensures within { result ≤ most }
     ensures later { result ≤ time.rate }
     ensures latest { lanes.new.latest ≡ lanes.old.latest }
+    ensures others { (i : ℕ) → same_clock (slice_index_or shape.now.clocks.now i (InMain 0)) clock ≡ false
+        → slice_get lanes.new.states.items i ≡ slice_get lanes.old.states.items i }
+    ensures times { lanes.new.times.items ≡ lanes.old.times.items }
     ensures run { InstantsRun shape.now.plan.now shape.now.library.now shape.now.clocks.now clock time result lanes.old lanes.new }
 {
     run_on(

@@ -45,7 +45,7 @@ settle-loop-lanes-smaller g t c =
     let kept = kept_at c.args.shape.now.clocks.now c.requires.levels.rank c.args.k c.loop-lanes.lanes c.make_instant.new.lanes c.requires.levels.ranks in_clocks
     (c.in_ok-make_instant.ensures.left c.requires.levels.rank c.requires.levels.ranks) in
     let same = ap (λ s. option_map_or left s 0) kept in
-    omega (arith, same, c.feed_child.ensures.less)
+    omega (arith, same, c.feed_child.ensures.less, c.feed_on.ensures.no_more)
 
 pub settle-loop-lanes-preserved : goal.settle-loop-lanes-preserved
 settle-loop-lanes-preserved g t c =
@@ -55,15 +55,19 @@ settle-loop-lanes-preserved g t c =
     let in_states : c.args.k < length c.loop-lanes.lanes.states.items = omega (arith, c.loop-lanes.invariant.lanes.fit.size, c.requires.within) in
     let at : slice_get c.loop-lanes.lanes.states.items c.args.k ≡ Some c.index.result.now = slice_get_read _ _ _ _ refl in_states c.index.ensures in
     record {
-      lanes = c.feed_child.ensures.lanes;
+      lanes = c.feed_on.ensures.lanes;
       buffers = c.make_instant.ensures.buffers ∙ c.loop-lanes.invariant.buffers;
       same = g.met.T.Taps.same_trans c.args.taps.now c.loop-lanes.taps c.make_instant.new.taps c.loop-lanes.invariant.same c.make_instant.ensures.same;
-      left = λ rank ranks. left_fed c.args.shape.now.clocks.now rank c.args.k c.args.lanes.now c.loop-lanes.lanes c.make_instant.new.lanes c.feed_child.new.lanes ranks in_clocks
-          (c.loop-lanes.invariant.left rank ranks) (c.in_ok-make_instant.ensures.left rank ranks) c.feed_child.ensures.states c.feed_child.ensures.times;
+      left = λ rank ranks.
+          left_then c.args.shape.now.clocks.now rank (rank (get_or c.args.shape.now.clocks.now c.args.k (Main 0))) (rank (get_or c.args.shape.now.clocks.now c.args.k (Main 0))) (is_node c.args.k) (is_node c.args.k)
+          c.args.lanes.now c.feed_child.new.lanes c.feed_on.new.lanes (omega arith) (λ i low same. same)
+          (left_fed c.args.shape.now.clocks.now rank c.args.k c.args.lanes.now c.loop-lanes.lanes c.make_instant.new.lanes c.feed_child.new.lanes ranks in_clocks
+          (c.loop-lanes.invariant.left rank ranks) (c.in_ok-make_instant.ensures.left rank ranks) c.feed_child.ensures.states c.feed_child.ensures.times)
+          (c.feed_on.ensures.left rank ranks);
       feeding = node_more g.T.Taps.stands c.args.shape.now.plan.now c.args.shape.now.library.now c.args.shape.now.clocks.now c.args.own.now c.requires.in_clocks c.args.lanes.now c.args.taps.now c.args.k
           c.requires.within c.loop-lanes.lanes c.loop-lanes.taps c.index.result.now at c.loop-lanes.invariant.feeding
           (λ setting sub past fed i work long stands. c.wants.ensures.more setting sub past fed i work long stands c.loop-lanes-test.true)
-          c.make_instant.new.taps c.index-time.result.now timed c.make_instant.new.lanes c.feed_child.new.lanes
+          c.make_instant.new.taps c.index-time.result.now timed c.make_instant.new.lanes c.feed_child.new.lanes c.feed_on.new.lanes
           (λ rank ranks. c.in_ok-make_instant.ensures.left rank ranks) c.make_instant.ensures.lanes.fit.size c.make_instant.ensures.lanes.in_times
           (λ other sub. record {
             states = c.feed_child.ensures.states;
@@ -71,7 +75,7 @@ settle-loop-lanes-preserved g t c =
             fed = λ past n work before after was is stands grows. c.feed_child.ensures.fed (over c.args.shape.now.plan.now c.args.shape.now.library.now c.args.shape.now.clocks.now other) sub past n work before after was is stands grows;
             time = λ n before after was is stands. c.feed_child.ensures.time other.start n before after was is stands;
           })
-          c.in_ok-make_instant.ensures.made;
+          c.feed_child.ensures.latest c.in_ok-make_instant.ensures.marked c.in_ok-make_instant.ensures.made c.feed_on.ensures.fed;
     }
 
 pub settle-returns-in_err-make_instant-clause-stopped : goal.settle-returns-in_err-make_instant-clause-stopped
@@ -243,3 +247,13 @@ make_instant-returns-in_err-begin_clock-clause-reads g t c = on_err c.from_resid
 
 pub make_instant-returns-in_err-settle_all-clause-reads : goal.make_instant-returns-in_err-settle_all-clause-reads
 make_instant-returns-in_err-settle_all-clause-reads g t c = on_err c.from_residual-in_err-settle_all.result c.in_err-settle_all.ensures.reads
+
+pub settle-feed_on-requires-clause-rate : goal.settle-feed_on-requires-clause-rate
+settle-feed_on-requires-clause-rate g t c =
+    let in_times : c.args.k < length c.loop-lanes.lanes.times.items = omega (arith, c.loop-lanes.invariant.lanes.in_times, c.requires.within) in
+    c.loop-lanes.invariant.lanes.rates c.args.k c.index-time.result.now (slice_get_read _ _ _ _ refl in_times c.index-time.ensures)
+
+pub settle-feed_on-requires-clause-frame : goal.settle-feed_on-requires-clause-frame
+settle-feed_on-requires-clause-frame g t c =
+    let in_times : c.args.k < length c.loop-lanes.lanes.times.items = omega (arith, c.loop-lanes.invariant.lanes.in_times, c.requires.within) in
+    c.loop-lanes.invariant.lanes.frames c.args.k c.index-time.result.now (slice_get_read _ _ _ _ refl in_times c.index-time.ensures)

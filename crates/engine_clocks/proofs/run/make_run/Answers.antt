@@ -25,3 +25,9 @@ returns-clause-run c = record {
       (λ i outside. ap (λ xs. slice_get xs i) items ∙ c.run_on.ensures.others i outside ∙ ap (λ xs. slice_get xs i) c.deref_mut.ensures.value)
       refl c.requires.lanes.in_times own world.roots parts world.down;
 }
+
+pub returns-clause-others : goal.returns-clause-others
+returns-clause-others c i outside =
+    let many : length c.run_on.new.states ≡ c.args.lanes.now.states.len = omega (arith, c.deref_mut.ensures.len) in
+    ap (λ xs. slice_get xs i) (with_items_is c.args.lanes.now.states c.run_on.new.states many)
+    ∙ c.run_on.ensures.others i outside ∙ ap (λ xs. slice_get xs i) c.deref_mut.ensures.value
