@@ -2,6 +2,7 @@ pub mod Offered
 pub mod Stepped
 pub mod Begun
 pub mod Fed
+pub mod FedRun
 pub mod Seconds
 pub mod Chunks
 mod Rested

@@ -3,6 +3,7 @@
 #![tactic(auto)]
 
 mod desk;
+mod feeding;
 pub mod laws;
 mod marks;
 mod run;
