@@ -21,6 +21,6 @@ pub lies_less : (library : Sounds) (state : NodeState) (count few : ℕ) → few
 lies_less library (Leaf state) count few less lies = λ some. cursor_less library state.cursor count few less (lies (omega (arith, some, less)))
 lies_less library (Select state) count few less lies = lies
 lies_less library (Mix mixer) count few less lies = lies
-lies_less library (Cross state) count few less lies = omega (arith, lies, less)
+lies_less library (Cross state) count few less lies = λ none. (let l = lies none in omega (arith, l, less))
 lies_less library (Read reader) count few less lies = λ j low. lies j (omega (arith, low, less))
 lies_less library Idle count few less lies = lies

@@ -3,7 +3,7 @@ ghost use Rattle.std.specs.Prelude.{◌≡◌, ◌≤◌, ℕ, List, length, IfO
 ghost use Rattle.liq_base.specs.declared.limits.TheConstants.{MAX_CHILDREN};
 ghost use Rattle.frame_core.specs.Slots.{Slot};
 ghost use Rattle.plan_core.specs.Plans.{HasChildren};
-ghost use Rattle.stream_meaning.specs.Instants.{Setting, Moment, part_at, part_by, second_at, slots_at, work_at};
+ghost use Rattle.stream_meaning.specs.Instants.{Setting, Moment, part_by, second_at, slots_at, work_at};
 ghost use Rattle.node_states.specs.States.{AreLong, Fits, IsSettled, StateStands};
 
 use crate::NodeState;

@@ -1,5 +1,5 @@
 // What the reader of a buffer takes at the start of a tick of its clock.
-ghost use Rattle.std.specs.Prelude.{◌≡◌, ◌<◌, ℕ, List, OnOk, OnErr};
+ghost use Rattle.std.specs.Prelude.{◌≡◌, ◌<◌, ℕ, OnOk, OnErr};
 ghost use Rattle.frame_core.specs.Library.{Sounds};
 ghost use Rattle.node_states.specs.States.{Fits};
 ghost use Rattle.node_states.specs.Takes.{HasBegun, HasHeld, HasTaken, HasTakenSome, IsTaken};
