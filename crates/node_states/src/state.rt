@@ -191,7 +191,7 @@ impl NodeState {
         ensures goes { (setting : Setting) (sub : ℕ → ℕ → List TheSlot) (past : List Moment) (moment : Moment) (fed i : ℕ) (work : Work)
             → setting.library ≡ library.now → AreLong sub → StateStands setting sub (moment ∷ past) fed i work self.now
             → ((buffer : ℕ) → work ≡ Reads buffer → fed ≡ suc (length past))
-            → part_at moment.parts i ≡ part → gives moment i ≡ gave → (passes self.now ≡ true → AreFed setting sub i fed below)
+            → part_at moment.parts i ≡ part → gives moment i ≡ gave → (gave ≡ true → passes self.now ≡ true → AreFed setting sub i fed below)
             → NodeGoes setting sub past moment i work begins result }
         ensures asks { (setting : Setting) (sub : ℕ → ℕ → List TheSlot) (past : List Moment) (moment : Moment) (fed i overlap j : ℕ)
             → AreLong sub → StateStands setting sub (moment ∷ past) fed i (Fades overlap) self.now

@@ -13,7 +13,7 @@ pub returns-then-gave-2-clause-goes : goal.returns-then-gave-2-clause-goes
 returns-then-gave-2-clause-goes c = λ setting sub past moment fed i work same long stands begun part gave are.
     cross_rest setting sub past moment fed i work c.args.begins c.args.below c.rest-then-gave-2.result c.in-Cross.state long
     (subst (λ (s : NodeState). StateStands setting sub (moment ∷ past) fed i work s) c.in-Cross.is stands) (gave ∙ c.if-gave-2.true)
-    (subst (λ (s : NodeState). passes s ≡ true → AreFed setting sub i fed c.args.below) c.in-Cross.is are) c.rest-then-gave-2.ensures.crossing
+    (subst (λ (s : NodeState). passes s ≡ true → AreFed setting sub i fed c.args.below) c.in-Cross.is (are c.if-gave-2.true)) c.rest-then-gave-2.ensures.crossing
     c.rest-then-gave-2.ensures.ready c.rest-then-gave-2.ensures.plain c.rest-then-gave-2.ensures.below
 
 pub returns-then-gave-3-clause-goes : goal.returns-then-gave-3-clause-goes
