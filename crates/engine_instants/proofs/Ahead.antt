@@ -1,5 +1,5 @@
 -- What lies ahead of nodes that gave.
-use Rattle.std.proofs.Common.{◌≡◌, ◌≤◌, ◌∙◌, ℕ, suc, true, false, Some, List, length, slice_get, arith, sym, subst, inl, inr}
+use Rattle.std.proofs.Common.{◌≡◌, ◌≤◌, ◌∙◌, ℕ, suc, true, Some, List, length, slice_get, arith, sym, subst, inl, inr}
 use Rattle.std.specs.Prelude.{slice_index_or}
 use Rattle.std.proofs.lemmas.Bool.{cases_lt, true≢false}
 use Rattle.clock_infer.specs.declared.clock_map.NodeClock.{NodeClock}

@@ -92,7 +92,6 @@ returns-clause-run c = λ other sub clock past fed node before.
     let one : Some c.index-as_slice-i.result ≡ Some node = sym found ∙ before.is.there in
     let same : node ≡ c.index-as_slice-i.result = cc in
     let in_parts : c.args.i < length c.args.parts.now = omega (arith, c.requires.in_parts, c.requires.within) in
-    let part_is = get_or_default c.args.parts.now c.args.i silent _ in_parts in
     let long_left : length c.run.new.left ≡ c.args.count = search rules in
     let long_right : length c.run.new.right ≡ c.args.count = search rules in
     let back : c.split_at_mut-left_before.result.1.now ≡ drop (c.args.i * 1024) c.args.left.now = c.split_at_mut-left_before.ensures.back in
@@ -102,7 +101,7 @@ returns-clause-run c = λ other sub clock past fed node before.
     sym (length-take-le c.args.count c.split_at_mut-left_before.result.1.now (omega (arith, behind, rest, c.requires.in_left, c.requires.within, c.requires.short))) in
     let gave : gives (moment_after S sub clock past) c.args.i ≡ true =
     gives_now (moment_after S sub clock past) c.args.parts.now c.args.i (before.given c.args.i (omega arith))
-    ∙ ap (λ (p : Part). is_some p.slot) part_is ∙ sym c.gave.ensures ∙ (search rules) in
+    ∙ ap (λ (p : Part). is_some p.slot) (get_or_default _ _ silent _ in_parts) ∙ sym c.gave.ensures ∙ (search rules) in
     let now : NodeGivesOn S sub clock past c.args.count fed c.args.i c.index-as_slice-i.result c.args.parts.now c.args.left.now c.args.right.now c.args.state.now =
     subst (λ (n : Node). NodeGivesOn S sub clock past c.args.count fed c.args.i n c.args.parts.now c.args.left.now c.args.right.now c.args.state.now) same before in
     let there : NodeGivesOn S sub clock past (length (take c.args.count c.split_at_mut-left_before.result.1.now)) fed c.args.i c.index-as_slice-i.result c.args.parts.now c.args.left.now c.args.right.now c.args.state.now =
@@ -115,7 +114,7 @@ returns-clause-run c = λ other sub clock past fed node before.
     let stands = c.run.ensures.stands S sub clock past fed c.args.i refl goes there.begun feeds there.stands in
     let lanes = children_lanes S sub clock past (length (take c.args.count c.split_at_mut-left_before.result.1.now)) fed c.args.i c.index-as_slice-i.result c.args.parts.now c.args.left.now c.args.right.now c.args.state.now c.requires.nodes
     (omega (arith, many_is, c.requires.short)) in_left in_right there in
-    let pick_is = ap (λ (p : Part). p.pick) (sym part_is ∙ there.given c.args.i (omega arith) ∙ given_yes (moment_after S sub clock past) c.args.i gave) in
+    let pick_is = ap (λ (p : Part). p.pick) (sym (get_or_default _ _ silent _ in_parts) ∙ there.given c.args.i (omega arith) ∙ given_yes (moment_after S sub clock past) c.args.i gave) in
     let lane_is = c.run.ensures.lane S sub clock past fed c.args.i refl goes
     (λ k among. there.given k (let low = child_low S sub clock past c.args.i k c.index-as_slice-i.result c.requires.nodes found among in omega (arith, low))) pick_is there.begun feeds there.stands
     (λ k among g.
