@@ -15,4 +15,5 @@ pub mod Ahead
 pub mod Gone
 pub mod Kept
 mod Asking
+pub mod Needing
 pub mod Supplied
