@@ -8,5 +8,6 @@ pub mod Chunks
 mod Rested
 pub mod Running
 pub mod Ahead
-mod Hearing
+pub mod Hearing
 mod Ran
+mod Through

@@ -6,6 +6,7 @@ ghost use Rattle.op_cross.specs.States.{track_room, wants as crossing_wants};
 ghost use Rattle.op_leaf.specs.Lanes.{IsLane};
 ghost use Rattle.stream_meaning.specs.Operators.{Work};
 ghost use Rattle.stream_meaning.specs.Instants.{Setting, Moment};
+ghost use Rattle.node_states.specs.Passing.{passes};
 ghost use Rattle.node_states.specs.States.{Fits, StateStands, left, room};
 
 use crate::NodeState;
@@ -19,6 +20,16 @@ impl NodeState {
         match self {
             NodeState::Cross(state) => room_of(state),
             _ => 0,
+        }
+    }
+
+    /// Whether cells of a crossfade's child pass through it, one by one: each one more settles one item.
+    pub fn passes(&self) -> bool
+        ensures { result ≡ passes self.now }
+    {
+        match self {
+            NodeState::Cross(state) => state.passes(),
+            _ => false,
         }
     }
 

@@ -6,6 +6,7 @@ mod desk;
 mod feeding;
 pub mod laws;
 mod marks;
+mod passing;
 mod run;
 mod state;
 mod steps;
