@@ -63,8 +63,8 @@ module _ (setting : Setting) (sub : ℕ → ℕ → List Slot) (rank : NodeClock
         ∙ sym (between_more Calls (ran clock) (ran clock) (omega arith)) ∙ ap (joined_between Calls (ran clock)) (sym e);
   }
 
-  pub gone_on : (own : List Bool) (many : ℕ) → HasRunOn setting sub rank own clock many ran fed front lanes → HasGone setting sub rank clock many ran fed front [] lanes
-  gone_on own many h = record {
+  pub gone_on : (own : List Bool) (n many : ℕ) → HasRunOn setting sub rank own clock n many ran fed front lanes → HasGone setting sub rank clock many ran fed front [] lanes
+  gone_on own n many h = record {
     ran_now = h.ran_now;
     fed_now = h.fed_now;
     stand = subst (λ (f : ℕ → List Answer). Stand setting sub rank (rank clock) h.ran_now h.fed_now f lanes) (sym (after_calls-none front)) h.stand;

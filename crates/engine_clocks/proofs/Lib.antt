@@ -1,5 +1,7 @@
 pub mod Equal
 pub mod Fading
+pub mod Kept
+pub mod Restful
 pub mod Opened
 pub mod Levels
 pub mod Gone
@@ -7,6 +9,11 @@ pub mod Taking
 pub mod Joining
 pub mod Making
 pub mod Readers
+mod Above
+mod Children
+mod CellsFed
+pub mod SubRuns
+mod SubSteps
 pub mod Behind
 mod Sampled
 pub mod FedOn

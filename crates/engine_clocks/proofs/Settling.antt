@@ -19,16 +19,17 @@ use Rattle.node_states.specs.States.{AreLong, FadesOn, IsSettled, StateStands}
 use Rattle.node_states.proofs.Begun.{as_many}
 use Rattle.node_states.proofs.Chunks.{adds_none, adds_then}
 use Rattle.engine_instants.specs.Nodes.{IsFirst, lies_at}
-use Rattle.engine_instants.specs.Runs.{IsMarked}
+use Rattle.stream_meaning.specs.declared.part.Part.{Part}
+use Rattle.engine_instants.specs.Held.{IsHeld}
 use Rattle.engine_instants.specs.States.{over}
 use Rattle.engine_instants.specs.Takes.{begun_in}
 use Rattle.engine_clocks.specs.declared.lanes.ClockLanes.{ClockLanes}
 use Rattle.engine_clocks.specs.Runs.{FedOn}
-use Rattle.engine_clocks.specs.Clocks.{AllSettled, AreLeft, ClockOpened, HasRanks, InstantMade, InstantStopped, IsFeeding, IsWorld, NodeSettled, NodeStopped, OpeningStopped, SettlingStopped, Stand, calls_upto, clock_at, fade_at, is_fade, is_in, is_none}
+use Rattle.engine_clocks.specs.Clocks.{AllSettled, AreLeft, ClockOpened, HasRanks, InstantMade, InstantStopped, IsFeeding, IsWorld, NodeSettled, NodeStopped, OpeningStopped, SettlingStopped, Stand, calls_upto, clock_at, fade_at, is_fade, is_in, is_none, rest_at}
 use Rattle.engine_clocks.proofs.Fading.{fade_of}
 use Rattle.engine_clocks.proofs.Joining.{begun_here, fed_none, joined, joined_stopped, passed, stand_here}
 use Rattle.engine_clocks.proofs.Making.{are_ready}
-use Rattle.engine_clocks.proofs.FedOn.{TakesSlot, one_fed}
+use Rattle.engine_clocks.proofs.FedOn.{TakesSlot, fed_kept, one_fed}
 use Rattle.engine_clocks.proofs.Gone.{gone_once}
 use Rattle.engine_clocks.proofs.Taking.{fed_stopped, feeding_none, needed_under, reached_fading, reached_item, stand_under, taken, taken_at, time_under}
 
@@ -53,16 +54,27 @@ module _ {T : Type 0} (stands : T → List Call → Type 0) (plan : Plan) (libra
       feeding = λ other sub rank ran fed front world has stand. feeding_none (over plan library clocks other) sub rank (rank (clock_at clocks k)) k ran fed front old stand;
     }
 
+    -- no instants of the sub-clock are kept any more
+    pub node_closed : (within : k < length plan.nodes) (lanes kept : ClockLanes) (b : T) → kept.states ≡ lanes.states → kept.times ≡ lanes.times → kept.runs.held ≡ lanes.runs.held
+        → rest_at kept k ≡ 0 → ((i : ℕ) → (i ≡ k → ⊥) → rest_at kept i ≡ rest_at lanes i) → NodeFeeding stands plan library clocks own k old lanes a b → NodeFeeding stands plan library clocks own k old kept a b
+    node_closed within lanes kept b states times held none others so = record {
+      more = so.more;
+      taps = so.taps;
+      feeding = λ other sub rank ran fed front world has stand.
+          fed_kept (over plan library clocks other) sub rank world.ranks in_clocks k within ran fed front so.more lanes kept 0 states times held none others
+          (so.feeding other sub rank ran fed front world has stand) (λ some. absurd (omega (arith, some)));
+    }
+
     module _ (within : k < length plan.nodes) (lanes : ClockLanes) (b : T) (state : NodeState) (at : slice_get lanes.states.items k ≡ Some state)
         (so : NodeFeeding stands plan library clocks own k old lanes a b) where
       module _ (fades : (setting : Setting) (sub : ℕ → ℕ → List Slot) (past : List Moment) (fed i : ℕ) (work : Work) → AreLong sub → StateStands setting sub past fed i work state → FadesOn sub past fed i work)
           (c : T) (time : WeekTime) (timed : slice_get lanes.times.items k ≡ Some time) where
-        pub node_more : (made slotted new : ClockLanes) → ((rank : NodeClock → ℕ) → HasRanks clocks rank → AreLeft clocks rank (rank (Sub k)) (is_in clocks (Sub k)) lanes made)
+        pub node_more : rest_at lanes k ≡ 0 → (made slotted new : ClockLanes) → ((rank : NodeClock → ℕ) → HasRanks clocks rank → AreLeft clocks rank (rank (Sub k)) (is_in clocks (Sub k)) lanes made)
             → length made.states.items ≡ length plan.nodes → length made.times.items ≡ length plan.nodes
-            → ((other : Setting) (sub : ℕ → ℕ → List Slot) → TakesSlot (over plan library clocks other) sub k made slotted) → slotted.latest ≡ made.latest
-            → IsMarked plan library clocks own (Sub k) made.latest → InstantMade stands plan library clocks own (Sub k) time lanes made b c → FedOn plan library clocks k time slotted new
+            → ((other : Setting) (sub : ℕ → ℕ → List Slot) → TakesSlot (over plan library clocks other) sub k made slotted) → slotted.latest ≡ made.latest → slotted.runs ≡ made.runs
+            → InstantMade stands plan library clocks own (Sub k) time lanes made b c → FedOn plan library clocks k time slotted new
             → NodeFeeding stands plan library clocks own k old new a c
-        node_more made slotted new left in_states in_times takes latest marked one on = record {
+        node_more idle made slotted new left in_states in_times takes latest runs one on = record {
           more = so.more ++ one.more;
           taps = adds_then stands a b c so.more one.more so.taps one.taps;
           feeding = λ other sub rank ran fed front world has stand.
@@ -76,10 +88,11 @@ module _ {T : Type 0} (stands : T → List Call → Type 0) (plan : Plan) (libra
               (needed_under S sub rank world.ranks in_clocks k within ran fed front so.more lanes f) now in
               let gone = gone_once S sub rank (Sub k) f.reached.ran_now f.reached.fed_now (after_calls front so.more) made one.more m in
               let feeds = one_fed S sub k (f.reached.ran_now (Sub k)) made slotted world.meaning m.parts (takes other sub) in
-              let one_more = taken_at S sub rank world.ranks in_clocks k within ran fed front so.more lanes f fading 1 made slotted one.more gone (left rank world.ranks) in_states in_times feeds in
-              on.fed other sub rank ran fed front (so.more ++ one.more) own (f.reached.ran_now (Sub k)) world (subst (IsMarked plan library clocks own (Sub k)) (sym latest) marked) fading
-              (taken S sub rank world.ranks in_clocks k within ran fed front so.more lanes f fading 1 made slotted one.more gone (left rank world.ranks) in_states in_times feeds)
-              (omega (arith, one_more)) (ap (λ it. it.parts.items) latest ∙ m.parts) now;
+              let one_more = taken_at S sub rank world.ranks in_clocks k within ran fed front so.more lanes f fading 1 made slotted one.more gone (left rank world.ranks) in_states in_times feeds idle in
+              on.fed other sub rank ran fed front (so.more ++ one.more) own (f.reached.ran_now (Sub k)) world fading
+              (taken S sub rank world.ranks in_clocks k within ran fed front so.more lanes f fading 1 made slotted one.more gone (left rank world.ranks) in_states in_times feeds idle)
+              (omega (arith, one_more)) (ap (λ it. it.parts.items) latest ∙ m.parts)
+              (subst (λ (ps : List Part). IsHeld S sub (Sub k) (history S sub (Sub k) (f.reached.ran_now (Sub k))) ps) (sym (ap (λ it. it.held.items) runs)) m.keeps) now;
         }
 
         pub node_stopped : InstantStopped stands plan library clocks own (Sub k) time lanes b c → NodeStopped stands plan library clocks own k old a c

@@ -1,5 +1,6 @@
 -- A crossfade is fed one slot more, and then no more.
 use Rattle.std.proofs.Common.{◌≡◌, ◌<◌, ◌≤◌, ◌+◌, ◌/◌, ◌%◌, ◌∙◌, ◌++◌, ℕ, suc, true, false, Some, List, [], ◌∷◌, length, slice_get, arith, refl, ap, sym, subst, inl, inr}
+use Rattle.std.specs.Prelude.{slice_index_or}
 use Rattle.std.proofs.lemmas.Bool.{true≢false}
 use Rattle.std.proofs.lemmas.Option.{slice_get_within}
 use Rattle.plan_core.specs.declared.node.Node.{Node}
@@ -20,10 +21,11 @@ use Rattle.node_states.specs.Ticks.{past_of}
 use Rattle.node_states.specs.Times.{TimeStands}
 use Rattle.engine_instants.proofs.Places.{same_or_other}
 use Rattle.engine_clocks.specs.declared.lanes.ClockLanes.{ClockLanes}
-use Rattle.engine_clocks.specs.Clocks.{AreLeft, HasItem, HasRanks, IsFeeding, IsFeedingStopped, IsReached, RanAsNeeded, Stand, calls_below, fade_at, is_in, is_node, is_none}
+use Rattle.engine_clocks.specs.Clocks.{AreLeft, HasItem, HasRanks, IsFeeding, IsFeedingStopped, IsOpen, IsReached, RanAsNeeded, Stand, calls_below, fade_at, is_in, is_node, is_none, rest_at}
 use Rattle.engine_clocks.proofs.Equal.{fed_more, fed_more-other, fed_more-same, item_at, other_subs, same_or_above}
 use Rattle.engine_clocks.proofs.Fading.{fade_within, fades_on, reads_fade, reads_work}
 use Rattle.engine_clocks.proofs.Gone.{HasGone, between_then}
+use Rattle.engine_clocks.proofs.Kept.{open_kept}
 use Rattle.engine_clocks.proofs.Opened.{past_long}
 
 -- what holds of some clocks holds of the deeper ones
@@ -42,6 +44,7 @@ stand_below setting sub rank low high ran fed front lanes up stand = record {
   even = λ k fades above. stand.even k fades (omega (arith, up, above));
   time = λ k time above at. stand.time k time (omega (arith, up, above)) at;
   needed = needed_below setting sub rank (suc low) (suc high) ran fed (omega (arith, up)) stand.needed;
+  kept = λ k within above. stand.kept k within (omega (arith, up, above));
 }
 
 -- the slots of a crossfade's child, one instant later
@@ -59,6 +62,7 @@ second_of setting n time rate stand = stand.second ∙ ap (λ r. (setting.start 
 pub record IsFed (setting : Setting) (sub : ℕ → ℕ → List Slot) (k n many : ℕ) (old new : ClockLanes) : Type 0 where
   pub states : (i : ℕ) → (i ≡ k → ⊥) → slice_get new.states.items i ≡ slice_get old.states.items i
   pub times : (i : ℕ) → (i ≡ k → ⊥) → slice_get new.times.items i ≡ slice_get old.times.items i
+  pub runs : new.runs ≡ old.runs
   pub fed : (past : List Moment) (work : Work) (before after : NodeState)
       → slice_get old.states.items k ≡ Some before → slice_get new.states.items k ≡ Some after → StateStands setting sub past n k work before
       → StateStands setting sub past (n + many) k work after
@@ -113,7 +117,7 @@ module _ (setting : Setting) (sub : ℕ → ℕ → List Slot) (rank : NodeClock
           (m : HasGone setting sub rank (Sub k) many r.reached.ran_now r.reached.fed_now (after_calls front before) one made)
           (left : AreLeft setting.clocks rank (rank (Sub k)) (is_in setting.clocks (Sub k)) lanes made)
           (in_states : length made.states.items ≡ length setting.plan.nodes) (in_times : length made.times.items ≡ length setting.plan.nodes)
-          (feeds : IsFed setting sub k (r.reached.ran_now (Sub k)) many made new) where
+          (feeds : IsFed setting sub k (r.reached.ran_now (Sub k)) many made new) (idle : rest_at lanes k ≡ 0) where
         same_fed : m.fed_now k ≡ r.reached.fed_now k
         same_fed = m.held k (apart (clock_of setting k) (omega arith)) (under (clock_of setting k) (omega arith))
 
@@ -223,7 +227,53 @@ module _ (setting : Setting) (sub : ℕ → ℕ → List Slot) (rank : NodeClock
           begun = λ i reading above. still i (reads_fade setting i reading) ∙ m.needed.begun i reading (let up = deeper k within in omega (arith, up, above));
         }
 
-        -- the crossfade was fed a slot more
+        rest_is : (i : ℕ) → rest_at new i ≡ rest_at made i
+        rest_is i = ap (λ it. slice_index_or it.rests.items i 0) feeds.runs
+
+        held_is : (i : ℕ) → part_at new.runs.held.items i ≡ part_at made.runs.held.items i
+        held_is i = ap (λ it. part_at it.held.items i) feeds.runs
+
+        -- a node of a sub-clock of another crossfade of the rank, or a deeper one, is not this one
+        not_below : (i j : ℕ) → i < length setting.plan.nodes → rank (clock_of setting k) ≤ rank (clock_of setting i) → clock_of setting j ≡ Sub i → j ≡ k → ⊥
+        not_below i j inside above here same =
+            let up = deeper i inside in
+            let one : rank (clock_of setting j) ≡ rank (Sub i) = ap rank here in
+            let two : rank (clock_of setting j) ≡ rank (clock_of setting k) = ap (λ n. rank (clock_of setting n)) same in
+            omega (arith, up, above, one, two)
+
+        open_deep : (i : ℕ) → i < length setting.plan.nodes → rank (clock_of setting k) < rank (clock_of setting i) → 0 < rest_at new i → IsOpen setting sub i (rest_at new i) m.ran_now (fed_more m.fed_now k many) new
+        open_deep i inside higher some =
+            open_kept setting sub i m.ran_now m.ran_now m.fed_now (fed_more m.fed_now k many) made new refl (rest_is i)
+            (λ j here.
+            let other = not_below i j inside (omega (arith, higher)) here in
+            (fed_more-other m.fed_now k many j other, feeds.states j other, held_is j))
+            (m.stand.kept i inside (let up = deeper k within in omega (arith, up, higher))) some
+
+        open_beside : (i : ℕ) → i < length setting.plan.nodes → (i ≡ k → ⊥) → rank (clock_of setting k) ≡ rank (clock_of setting i) → 0 < rest_at new i → IsOpen setting sub i (rest_at new i) m.ran_now (fed_more m.fed_now k many) new
+        open_beside i inside other level some =
+            open_kept setting sub i r.reached.ran_now m.ran_now r.reached.fed_now (fed_more m.fed_now k many) lanes new (ran_same i inside other level)
+            (rest_is i ∙ left.rests i (apart (clock_of setting i) (omega (arith, level))) (under (clock_of setting i) (omega (arith, level))))
+            (λ j here.
+            let not_k = not_below i j inside (omega (arith, level)) here in
+            let not_sub : clock_of setting j ≡ Sub k → ⊥ = λ e. other_subs i k other (sym here ∙ e) in
+            let low : rank (clock_of setting j) ≤ rank (Sub k) = (let a = deeper i inside in let b = deeper k within in let c : rank (clock_of setting j) ≡ rank (Sub i) = ap rank here in omega (arith, a, b, c, level)) in (
+              fed_more-other m.fed_now k many j not_k ∙ m.held j not_sub low,
+              feeds.states j not_k ∙ left.states j not_sub low,
+              held_is j ∙ left.held j not_sub low,
+            ))
+            (r.reached.stand.kept i inside (omega (arith, level))) some
+
+        open_all : (i : ℕ) → i < length setting.plan.nodes → rank (clock_of setting k) ≤ rank (clock_of setting i) → 0 < rest_at new i → IsOpen setting sub i (rest_at new i) m.ran_now (fed_more m.fed_now k many) new
+        open_all i inside above some = elim (same_or_other i k) [
+          | inl same ↦ (let none : rest_at new i ≡ 0 =
+              ap (rest_at new) same ∙ rest_is k ∙ left.rests k (apart (clock_of setting k) (omega arith)) (under (clock_of setting k) (omega arith)) ∙ idle in absurd (omega (arith, none, some)))
+          | inr other ↦ elim (same_or_above (rank (clock_of setting k)) (rank (clock_of setting i)) above) [
+            | inl higher ↦ open_deep i inside higher some
+            | inr level ↦ open_beside i inside other level some
+          ]
+        ]
+
+        -- the crossfade was fed some slots more
         pub taken : IsFeeding setting sub rank (rank (clock_of setting k)) k is_none ran fed front (before ++ one) new
         taken = record {
           reached = record {
@@ -235,6 +285,7 @@ module _ (setting : Setting) (sub : ℕ → ℕ → List Slot) (rank : NodeClock
               even = even_all;
               time = time_all;
               needed = needed_all;
+              kept = open_all;
             };
             others = λ clock low. m.others clock (apart clock low) (under clock low) ∙ r.reached.others clock low;
             held = λ i other low. fed_more-other m.fed_now k many i other ∙ m.held i (apart (clock_of setting i) low) (under (clock_of setting i) low) ∙ r.reached.held i other low;

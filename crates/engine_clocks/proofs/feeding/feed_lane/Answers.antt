@@ -10,6 +10,9 @@ use Rattle.node_states.specs.Times.{TimeStands}
 use Rattle.engine_instants.proofs.Going.{fit_set}
 use Rattle.engine_instants.proofs.Places.{same_or_other, slice_get-set_other, slice_get-set_same}
 use Rattle.engine_clocks.proofs.Sampled.{crossfaded_low}
+use Rattle.engine_clocks.specs.Clocks.{clock_at}
+use Rattle.engine_clocks.proofs.Equal.{not_same}
+use Rattle.engine_clocks.proofs.Restful.{resting_own}
 use Rattle.engine_clocks.proofs.feeding.feed_lane.Goals as goal
 
 pub feed_samples-requires-clause-in_left : goal.feed_samples-requires-clause-in_left
@@ -52,6 +55,11 @@ returns-clause-lanes c =
       latest = c.requires.lanes.latest;
       room = c.requires.lanes.room;
       runs = c.requires.lanes.runs;
+      resting = resting_own c.args.shape.now.library.now c.args.shape.now.clocks.now c.args.lanes.now _ c.requires.lanes.resting (clock_at c.args.shape.now.clocks.now c.args.k) c.requires.idle
+          (λ i. refl)
+          (λ i outside. slice_get-set_other c.args.lanes.now.states.items c.args.k i c.feed_samples.new.state
+          (λ e. not_same (clock_at c.args.shape.now.clocks.now i) (clock_at c.args.shape.now.clocks.now c.args.k) outside (ap (clock_at c.args.shape.now.clocks.now) (sym e))))
+          (λ i outside. refl);
       rates = λ j time stored. elim (same_or_other c.args.k j) [
         | inl same ↦ (let put : Some c.later.result ≡ Some time = sym (slice_get-set_same c.args.lanes.now.times.items c.args.k c.later.result in_times)
             ∙ ap (slice_get (set c.args.lanes.now.times.items c.args.k c.later.result)) same ∙ stored in
@@ -94,7 +102,7 @@ returns-clause-fed c setting sub past fed work slots before after was is stands 
     subst (λ s. StateStands setting sub past (fed + c.args.many) c.args.k work s) new
     (c.feed_samples.ensures.fed setting sub past fed c.args.k work slots (subst (λ s. StateStands setting sub past fed c.args.k work s) (sym old) stands)
     (subst (λ (n : ℕ). IsLane slots c.args.many (samples_of c.args.lanes.now.runs.left.items n c.args.many) (samples_of c.args.lanes.now.runs.right.items n c.args.many)) child
-    (lane (omega (arith, c.if-many-eq0.false))))
+    lane)
     grows)
 
 pub returns-clause-time : goal.returns-clause-time
