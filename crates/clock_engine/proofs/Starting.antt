@@ -1,24 +1,32 @@
 -- New states stand for no instant.
-use Rattle.std.proofs.Common.{◌≡◌, ◌<◌, ◌*◌, ◌∙◌, ℕ, length, List, [], Some, get_or, slice_get, replicate, ap, arith, refl, subst, sym, inl, inr}
-use Rattle.std.proofs.lemmas.Bool.{cases_lt}
+use Rattle.std.proofs.Common.{◌≡◌, ◌<◌, ◌*◌, ◌∙◌, ℕ, Bool, true, false, length, List, [], Some, get_or, slice_get, replicate, ap, arith, refl, subst, sym, inl, inr}
+use Rattle.std.proofs.lemmas.Bool.{cases_lt, true≢false}
 use Rattle.std.proofs.lemmas.List.{get_or-replicate, get_or_past, length-replicate}
 use Rattle.std.proofs.lemmas.Option.{slice_get_within}
 use Rattle.clock_infer.specs.declared.clock_map.NodeClock.{NodeClock}
-use Rattle.clock_infer.specs.declared.clock_map.NodeClock.TheVariants.{Main}
+use Rattle.clock_infer.specs.declared.clock_map.NodeClock.TheVariants.{Main, Sub}
 use Rattle.stream_meaning.specs.Instants.{Setting, clock_of, sub_of}
 use Rattle.node_states.specs.declared.time.WeekTime.{WeekTime}
 use Rattle.node_states.specs.Times.{TimeStands}
-use Rattle.engine_clocks.specs.Clocks.{HasRanks}
+use Rattle.engine_clocks.specs.Clocks.{HasRanks, rest_at}
 use Rattle.engine_ticks.specs.declared.lanes.Lanes.{Lanes}
-use Rattle.engine_ticks.specs.Lanes.{LanesStand}
+use Rattle.engine_ticks.specs.Lanes.{IsMain, LanesStand}
 use Rattle.clock_engine.specs.Beginnings.{AreNewStates}
 use Rattle.clock_engine.proofs.Driving.{driven_by, lifted, lifted_ranks}
 
+abbrev is_main : NodeClock → Bool
+is_main (Main m) = true
+is_main (Sub k) = false
+
+-- a main clock is no sub-clock
+pub main_is : (m : ℕ) → IsMain (Main m)
+main_is m = λ k e. true≢false (ap is_main e)
+
 none_made : (setting : Setting) (m : ℕ) (lanes : Lanes) (n : ℕ) (rank : NodeClock → ℕ) → HasRanks setting.clocks rank
     → ((i : ℕ) → i < length setting.plan.nodes → rank (clock_of setting i) < length setting.plan.nodes) → AreNewStates setting.plan setting.clocks m n lanes.clocks.states.items
-    → TimeStands setting.start 0 lanes.time → ((k : ℕ) (time : WeekTime) → slice_get lanes.clocks.times.items k ≡ Some time → time ≡ lanes.time)
+    → TimeStands setting.start 0 lanes.time → ((k : ℕ) (time : WeekTime) → slice_get lanes.clocks.times.items k ≡ Some time → time ≡ lanes.time) → ((k : ℕ) → rest_at lanes.clocks k ≡ 0)
     → LanesStand setting (sub_of setting) (Main m) 0 (λ buffer. []) lanes
-none_made setting m lanes n rank ranks low new time same = record {
+none_made setting m lanes n rank ranks low new time same rests = record {
   rank = lifted setting.clocks rank m (length setting.plan.nodes);
   ran = λ other. 0;
   fed = λ k. 0;
@@ -32,6 +40,7 @@ none_made setting m lanes n rank ranks low new time same = record {
     even = λ k fades above. refl;
     time = λ k one above at. subst (λ t. TimeStands setting.start 0 t) (sym (same k one at)) time;
     needed = record { each = λ k overlap node found op above. refl; begun = λ i reading above. refl };
+    kept = λ k within above some. (let none = rests k in absurd (omega (arith, none, some)));
   };
   needed = record { each = λ k overlap node found op above. refl; begun = λ i reading above. refl };
   time = time;
@@ -39,11 +48,11 @@ none_made setting m lanes n rank ranks low new time same = record {
 
 pub new_stand : (setting : Setting) (m : ℕ) (lanes : Lanes) (n : ℕ) (rank : NodeClock → ℕ) → HasRanks setting.clocks rank
     → ((i : ℕ) → i < length setting.plan.nodes → rank (clock_of setting i) < length setting.plan.nodes) → AreNewStates setting.plan setting.clocks m n lanes.clocks.states.items
-    → TimeStands setting.start 0 lanes.time → ((k : ℕ) (time : WeekTime) → slice_get lanes.clocks.times.items k ≡ Some time → time ≡ lanes.time)
+    → TimeStands setting.start 0 lanes.time → ((k : ℕ) (time : WeekTime) → slice_get lanes.clocks.times.items k ≡ Some time → time ≡ lanes.time) → ((k : ℕ) → rest_at lanes.clocks k ≡ 0)
     → LanesStand setting (sub_of setting) (Main m) (0 * setting.plan.frame) (λ buffer. []) lanes
-new_stand setting m lanes n rank ranks low new time same =
+new_stand setting m lanes n rank ranks low new time same rests =
     let none : 0 ≡ 0 * setting.plan.frame = omega arith in
-    subst (λ count. LanesStand setting (sub_of setting) (Main m) count (λ buffer. []) lanes) none (none_made setting m lanes n rank ranks low new time same)
+    subst (λ count. LanesStand setting (sub_of setting) (Main m) count (λ buffer. []) lanes) none (none_made setting m lanes n rank ranks low new time same rests)
 
 -- a list of like items is that item at each place
 pub all_alike : {A : Type 0} (xs : List A) (n : ℕ) (a : A) → xs ≡ replicate n a → (j : ℕ) → get_or xs j a ≡ a

@@ -1,8 +1,8 @@
 -- A clock makes many instants at once, which go on as its latest one did.
-use Rattle.std.proofs.Common.{◌≡◌, ◌<◌, ◌≤◌, ◌+◌, ◌%◌, ◌∙◌, ◌&&◌, ◌||◌, ◌++◌, ℕ, zero, suc, Bool, true, false, cond, Some, None, List, [], ◌∷◌, length, get_or, nat_eq, slice_get, append-nil, arith, refl, ap, sym, subst, inl, inr}
+use Rattle.std.proofs.Common.{◌≡◌, ◌<◌, ◌≤◌, ◌+◌, ◌%◌, ◌∙◌, ◌&&◌, ◌||◌, ℕ, zero, suc, Bool, true, false, cond, Some, None, List, [], ◌∷◌, length, nat_eq, slice_get, arith, refl, ap, sym, subst, inl, inr}
 use Rattle.std.specs.Prelude.{is_some, slice_index_or}
-use Rattle.std.proofs.lemmas.Bool.{cases_lt, false≢true, true≢false}
-use Rattle.std.proofs.lemmas.List.{length-append}
+use Rattle.std.specs.Option.{option_map_or}
+use Rattle.std.proofs.lemmas.Bool.{false≢true, true≢false}
 use Rattle.std.proofs.lemmas.Option.{slice_get_within}
 use Rattle.plan_core.specs.declared.node.Node.{Node}
 use Rattle.plan_core.specs.declared.node.Op.TheVariants.{Crossfade}
@@ -10,40 +10,39 @@ use Rattle.plan_core.specs.Plans.{AreNodes}
 use Rattle.clock_infer.specs.declared.clock_map.NodeClock.{NodeClock}
 use Rattle.clock_infer.specs.declared.clock_map.NodeClock.TheVariants.{Sub}
 use Rattle.frame_core.specs.Slots.{Slot}
-use Rattle.op_cross.specs.Crossfade.{cross}
 use Rattle.op_cross.specs.Runs.{run_of}
-use Rattle.op_cross.specs.States.{Crossing, StandsFor, ready_items, unsettled}
-use Rattle.op_cross.proofs.LeastRuns.{run_of-is}
 use Rattle.op_leaf.specs.Readers.{Answer}
 use Rattle.op_leaf.proofs.Laid.{lane_of_same}
-use Rattle.stream_meaning.specs.declared.part.Part.{Part}
-use Rattle.stream_meaning.specs.Operators.{Fades, Reads}
-use Rattle.stream_meaning.specs.Instants.{Setting, Moment, Reading, IsMeaning, clock_of, demanded, demands_from, gives, history, is_root, is_used, lies_in, moment_after, offer, part_at, position, reading_after, reading_at, same_clock, uses_from, work_at}
-use Rattle.stream_meaning.specs.Calls.{GoDown, calls_of, ran_by}
+use Rattle.stream_meaning.specs.Operators.{Work, Plays, Picks, Mixes, Fades, Reads}
+use Rattle.stream_meaning.specs.Instants.{Setting, Moment, Reading, IsMeaning, clock_of, crossfaded, gives, history, lies_in, moment_after, offer, part_at, position, reading_after, reading_at, same_clock, work_at}
+use Rattle.stream_meaning.specs.Calls.{calls_of, ran_by}
 use Rattle.stream_meaning.proofs.Existence.{same_clock-true}
-use Rattle.segment_laws.specs.Stretches.{AreQuiet, IsNode, IsStretch, going_on, lane}
-use Rattle.segment_laws.proofs.Parts.{part_past, uses_long}
+use Rattle.segment_laws.specs.Stretches.{AreFed, AreQuiet, IsNode, IsStretch, going_on, lane}
+use Rattle.engine_clocks.proofs.CellsFed.{are_fed}
 use Rattle.segment_laws.proofs.Quiet.{no_calls}
 use Rattle.segment_laws.proofs.Stretching.{alike_all, on_all}
 use Rattle.node_mixing.specs.Runs.{samples_of}
 use Rattle.node_states.specs.declared.state.NodeState.{NodeState}
 use Rattle.node_states.specs.declared.state.NodeState.TheVariants.{Leaf, Select, Turn, Mix, Cross, Read, Idle}
 use Rattle.node_states.specs.declared.time.WeekTime.{WeekTime}
+use Rattle.node_states.specs.Passing.{LaneFeeds, asked, passes}
 use Rattle.node_states.specs.Runs.{fed_on}
-use Rattle.node_states.specs.States.{AreLong, CrossStands, StateStands, reading_by, reads_at}
+use Rattle.node_states.specs.States.{StateStands, reading_by, reads_at}
 use Rattle.node_states.specs.Ticks.{past_of}
 use Rattle.node_states.specs.Times.{TimeStands}
 use Rattle.node_states.proofs.Begun.{as_many}
 use Rattle.node_states.proofs.Chunks.{reading_closed, reading_open, reading_stays}
-use Rattle.node_states.proofs.Running.{needed_kept}
-use Rattle.engine_instants.specs.Runs.{HasGoneOn, IsBehind, begun_on}
+use Rattle.node_states.proofs.Running.{fed_none, needed_kept}
+use Rattle.engine_instants.specs.Held.{IsHeld, goes_through, passes_at}
+use Rattle.engine_instants.specs.Runs.{HasGoneOn, IsBehind, IsGoing, begun_on}
 use Rattle.engine_instants.specs.States.{ClockStands}
-use Rattle.engine_instants.proofs.Gone.{offers_in}
 use Rattle.engine_clocks.specs.declared.lanes.ClockLanes.{ClockLanes}
-use Rattle.engine_clocks.specs.Clocks.{AreOwnRoots, HasRanks, RanAsNeeded, Stand, fade_at}
-use Rattle.engine_clocks.specs.Runs.{HasRunOn, IsRunOf}
-use Rattle.engine_clocks.proofs.Equal.{are_same, item_at, same_itself, same_or_other, they_differ}
-use Rattle.engine_clocks.proofs.Fading.{fade_op, fade_reads, fade_within, op_of_work, reads_work, work_of_op}
+use Rattle.engine_clocks.specs.Clocks.{HasRanks, IsOpen, RanAsNeeded, Stand, fade_at, is_fade, is_in, rest_at}
+use Rattle.engine_clocks.specs.Runs.{AreAbove, CanRun, HasRunOn, IsRunOf, SubsRun}
+use Rattle.engine_clocks.proofs.Children.{root_gives}
+use Rattle.engine_clocks.proofs.Equal.{are_same, item_at, same_itself, same_or_above, same_or_other, they_differ}
+use Rattle.engine_clocks.proofs.Fading.{fade_of, fade_op, fade_reads, fade_within, op_of_work, reads_work, work_of_op}
+use Rattle.engine_clocks.proofs.Kept.{open_kept}
 use Rattle.engine_clocks.proofs.Opened.{clock_stands_at, past_long}
 use Rattle.engine_clocks.proofs.Making.{taken_stays}
 use Rattle.engine_clocks.proofs.Taking.{needed_below}
@@ -69,66 +68,38 @@ going_long : (setting : Setting) (sub : ℕ → ℕ → List Slot) (clock : Node
 going_long setting sub clock past zero = omega arith
 going_long setting sub clock past (suc j) = let e = going_long setting sub clock past j in omega (arith, e)
 
--- the state of a crossfade is one
-crosses : (setting : Setting) (sub : ℕ → ℕ → List Slot) (past : List Moment) (fed k overlap : ℕ) (state : NodeState) → StateStands setting sub past fed k (Fades overlap) state
-    → (crossing : Crossing) × CrossStands (sub k) fed (position past k) overlap crossing
-crosses setting sub past fed k overlap (Leaf state) stands = absurd stands
-crosses setting sub past fed k overlap (Select state) stands = absurd stands
-crosses setting sub past fed k overlap (Turn state) stands = absurd stands
-crosses setting sub past fed k overlap (Mix mixer) stands = absurd stands
-crosses setting sub past fed k overlap (Cross state) stands = (state, stands)
-crosses setting sub past fed k overlap (Read reader) stands = absurd stands
-crosses setting sub past fed k overlap Idle stands = absurd stands
-
--- items up to the state's are settled
-items_within : (state : Crossing) (slots : List Slot) (p : ℕ) → StandsFor state slots p → p ≤ length (cross state.overlap slots)
-items_within state slots p stands =
-    let all = ap (λ l. length (cross state.overlap l)) (sym (append-nil slots)) ∙ ap length (stands.items []) in
-    let long = length-append stands.past (ready_items state ++ cross state.overlap (unsettled state [])) in
-    let count = stands.count in
-    omega (arith, all, long, count)
-
-or_first : (a b : Bool) → a ≡ true → (a || b) ≡ true
-or_first true b e = refl
-or_first false b e = absurd (false≢true e)
-
-and_both : (a b : Bool) → a ≡ true → b ≡ true → (a && b) ≡ true
-and_both true b d e = e
-and_both false b d e = absurd (false≢true d)
-
--- what is demanded of itself is demanded
-root_demanded : (roots : ℕ → Bool) (i : ℕ) (uses : List (List ℕ)) (k : ℕ) → k < length uses → roots (i + k) ≡ true → get_or (demands_from roots i uses) k false ≡ true
-root_demanded roots i [] k low e = absurd (omega (arith, low))
-root_demanded roots i (used ∷ uses) zero low e =
-    let same : i + 0 ≡ i = omega arith in
-    or_first (roots i) (is_used (demands_from roots (suc i) uses) uses i) (sym (ap roots same) ∙ e)
-root_demanded roots i (used ∷ uses) (suc k) low e =
-    let same : i + suc k ≡ suc i + k = omega arith in
-    root_demanded roots (suc i) uses k (omega (arith, low)) (sym (ap roots same) ∙ e)
-
 none_there : (slot : Slot) → is_some slot ≡ false → slot ≡ None
 none_there None e = refl
 none_there (Some cell) e = absurd (true≢false e)
 
--- a node that offers is one of the plan
-within_by : (setting : Setting) (sub : ℕ → ℕ → List Slot) (clock : NodeClock) (past : List Moment) (i : ℕ) → is_some (offer (moment_after setting sub clock past) i) ≡ true → i < length setting.plan.nodes
-within_by setting sub clock past i there = elim (cases_lt i (length setting.plan.nodes)) [
-  | inl low ↦ low
-  | inr high ↦ absurd (false≢true (sym (ap (λ (p : Part). is_some p.slot) (part_past setting sub clock past i high)) ∙ there))
-]
+-- cells pass through crossfades alone
+passing : (setting : Setting) (sub : ℕ → ℕ → List Slot) (past : List Moment) (fed i : ℕ) (work : Work) (state : NodeState) → StateStands setting sub past fed i work state
+    → passes state ≡ true → is_fade work ≡ true
+passing setting sub past fed i work (Leaf state) s e = absurd (false≢true e)
+passing setting sub past fed i work (Select state) s e = absurd (false≢true e)
+passing setting sub past fed i work (Turn state) s e = absurd (false≢true e)
+passing setting sub past fed i work (Mix mixer) s e = absurd (false≢true e)
+passing setting sub past fed i (Plays leaf) (Cross state) s e = absurd s
+passing setting sub past fed i (Picks choice eligible) (Cross state) s e = absurd s
+passing setting sub past fed i (Mixes mixing) (Cross state) s e = absurd s
+passing setting sub past fed i (Fades overlap) (Cross state) s e = refl
+passing setting sub past fed i (Reads buffer) (Cross state) s e = absurd s
+passing setting sub past fed i work (Read reader) s e = absurd (false≢true e)
+passing setting sub past fed i work Idle s e = absurd (false≢true e)
 
 -- the lanes stand behind instant n
 pub are_behind : (setting : Setting) (sub : ℕ → ℕ → List Slot) (rank : NodeClock → ℕ) (clock : NodeClock) (n : ℕ) (ran : NodeClock → ℕ) (fed : ℕ → ℕ) (front : ℕ → List Answer) (lanes : ClockLanes)
-    (time : WeekTime) → IsMeaning setting sub → Stand setting sub rank (rank clock) ran fed front lanes → RanAsNeeded setting sub rank (rank clock) ran fed → ran clock ≡ suc n
-    → lanes.latest.parts.items ≡ (moment_after setting sub clock (history setting sub clock n)).parts → lanes.latest.marks.items ≡ (moment_after setting sub clock (history setting sub clock n)).demands
+    (time : WeekTime) → HasRanks setting.clocks rank → length setting.clocks ≡ length setting.plan.nodes → AreNodes setting.plan.nodes → IsMeaning setting sub
+    → Stand setting sub rank (rank clock) ran fed front lanes → RanAsNeeded setting sub rank (rank clock) ran fed → ran clock ≡ suc n
+    → lanes.latest.parts.items ≡ (moment_after setting sub clock (history setting sub clock n)).parts → IsHeld setting sub clock (history setting sub clock n) lanes.runs.held.items
     → TimeStands setting.start n time
-    → IsBehind setting sub clock (history setting sub clock n) fed time lanes.latest.parts.items lanes.latest.marks.items lanes.states.items
-are_behind setting sub rank clock n ran fed front lanes time meaning stand needed at parts marks time_is = record {
+    → IsBehind setting sub clock (history setting sub clock n) fed time lanes.latest.parts.items lanes.runs.held.items lanes.states.items lanes.runs.rests.items
+are_behind setting sub rank clock n ran fed front lanes time ranks in_clocks nodes meaning stand needed at parts held time_is = record {
   long = as_many setting sub meaning;
   stands = subst (λ past. ClockStands setting sub clock past fed lanes.states.items) (ap (history setting sub clock) at)
       (clock_stands_at setting sub rank clock ran fed front lanes stand needed);
   parts_are = parts;
-  marks_are = marks;
+  held_are = held;
   begun = record {
     each = λ i node buffer is work.
         let inside = same_clock-true (clock_of setting i) clock is.inside in
@@ -136,16 +107,34 @@ are_behind setting sub rank clock n ran fed front lanes time meaning stand neede
         needed.begun i (reads_work setting i buffer node is.there work) (omega (arith, level)) ∙ ap ran inside ∙ at ∙ ap suc (sym (past_long setting sub clock n));
   };
   time_is = subst (λ m. TimeStands setting.start m time) (sym (past_long setting sub clock n)) time_is;
+  fed_on = record {
+    each = λ k node state is found gave through.
+        let inside = same_clock-true (clock_of setting k) clock is.inside in
+        let level : rank (clock_of setting k) ≡ rank clock = ap rank inside in
+        let stands = stand.stand k node state is.there found (omega (arith, level)) in
+        let fades : fade_at setting k ≡ true = fade_of setting k node is.there ∙ passing setting sub (past_of setting sub ran k) (fed k) k (work_at setting k node) state stands through in
+        fed_by k (slice_get_within setting.plan.nodes k node is.there) (omega (arith, level)) fades (rest_at lanes k) refl;
+  };
 }
+  where
+    fed_by : (k : ℕ) → k < length setting.plan.nodes → rank clock ≤ rank (clock_of setting k) → fade_at setting k ≡ true → (rest : ℕ) → rest_at lanes k ≡ rest → AreFed setting sub k (fed k) rest
+    fed_by k within above fades zero is = fed_none setting sub k (fed k)
+    fed_by k within above fades (suc more) is =
+        let o = stand.kept k within above (omega (arith, is)) in
+        subst (λ m. AreFed setting sub k m (suc more)) (sym (stand.even k fades above ∙ o.at))
+        (are_fed setting sub meaning k o.n (suc (suc more)) nodes
+        (subst (λ m. IsStretch setting sub (Sub k) (history setting sub (Sub k) o.n) (suc m)) is o.goes.stretch) o.gave (suc o.n) (suc more) (omega arith) (omega arith))
 
-module _ (setting : Setting) (sub : ℕ → ℕ → List Slot) (rank : NodeClock → ℕ) (ranks : HasRanks setting.clocks rank) (in_clocks : length setting.clocks ≡ length setting.plan.nodes)
-    (nodes : AreNodes setting.plan.nodes) (long : AreLong sub) (clock : NodeClock) (n many : ℕ) (ran : NodeClock → ℕ) (fed : ℕ → ℕ) (front : ℕ → List Answer) (old new : ClockLanes)
-    (stand : Stand setting sub rank (rank clock) ran fed front old) (needed : RanAsNeeded setting sub rank (rank clock) ran fed) (at : ran clock ≡ suc n)
-    (went : HasGoneOn setting sub clock (history setting sub clock n) many fed new.runs.left.items new.runs.right.items new.states.items)
-    (in_states : length new.states.items ≡ length setting.plan.nodes)
-    (old_states : length old.states.items ≡ length setting.plan.nodes)
-    (others : (i : ℕ) → lies_in setting clock i ≡ false → slice_get new.states.items i ≡ slice_get old.states.items i)
-    (times : new.times.items ≡ old.times.items) (in_times : length old.times.items ≡ length setting.plan.nodes) where
+module _ (setting : Setting) (sub : ℕ → ℕ → List Slot) (rank : NodeClock → ℕ) (own : List Bool) (in_clocks : length setting.clocks ≡ length setting.plan.nodes)
+    (nodes : AreNodes setting.plan.nodes) (clock : NodeClock) (n many : ℕ) (some : 0 < many) (ran : NodeClock → ℕ) (fed : ℕ → ℕ) (front : ℕ → List Answer) (old mid new : ClockLanes)
+    (can : CanRun setting sub rank own clock n many ran fed front old)
+    (s : SubsRun setting sub rank clock many (goes_through (moment_after setting sub clock (history setting sub clock n)) old.states.items) (length setting.plan.nodes) ran fed front mid)
+    (above : AreAbove setting.clocks rank (rank clock) (is_in setting.clocks clock) old mid)
+    (times : new.times ≡ mid.times) (held : new.runs.held ≡ mid.runs.held) (rests : new.runs.rests ≡ mid.runs.rests)
+    (others : (i : ℕ) → lies_in setting clock i ≡ false → slice_get new.states.items i ≡ slice_get mid.states.items i)
+    (in_times : length mid.times.items ≡ length setting.plan.nodes) (mid_states : length mid.states.items ≡ length setting.plan.nodes)
+    (goes_on : (past : List Moment) (fed : ℕ → ℕ) → IsGoing setting sub clock past many fed mid.runs.held.items mid.states.items mid.runs.left.items mid.runs.right.items
+    → HasGoneOn setting sub clock past many fed mid.states.items new.runs.left.items new.runs.right.items new.states.items) where
   abbrev Past : List Moment
   Past = history setting sub clock n
 
@@ -155,60 +144,164 @@ module _ (setting : Setting) (sub : ℕ → ℕ → List Slot) (rank : NodeClock
   abbrev Later : List Moment
   Later = going_on setting sub clock (suc many) Past
 
+  abbrev Through : ℕ → Bool
+  Through = goes_through First mid.states.items
+
   abbrev Now : NodeClock → ℕ
-  Now = put_at ran clock (ran clock + many)
+  Now = put_at s.ran_now clock (ran clock + many)
 
   abbrev Fed : ℕ → ℕ
-  Fed = begun_on setting clock many fed
+  Fed = begun_on setting clock Through many s.fed_now
+
+  level : (i : ℕ) → clock_of setting i ≡ clock → rank (clock_of setting i) ≡ rank clock
+  level i inside = ap rank inside
+
+  through_is : (i : ℕ) → clock_of setting i ≡ clock → Through i ≡ goes_through First old.states.items i
+  through_is i inside = ap (λ found. gives First i && option_map_or passes found false) (above.states i (let l = level i inside in omega (arith, l)))
+
+  fed_kept : (i : ℕ) → clock_of setting i ≡ clock → s.fed_now i ≡ fed i
+  fed_kept i inside = s.held i (let l = level i inside in omega (arith, l))
 
   past_at : (j : ℕ) → history setting sub clock (ran clock + j) ≡ going_on setting sub clock (suc j) Past
   past_at j =
+      let at = can.at in
       let e : ran clock + j ≡ n + suc j = omega (arith, at) in
       ap (history setting sub clock) e ∙ history_on setting sub clock n (suc j)
 
   past_before : (i : ℕ) → clock_of setting i ≡ clock → past_of setting sub ran i ≡ First ∷ Past
-  past_before i inside = ap (λ c. history setting sub c (ran c)) inside ∙ ap (history setting sub clock) at
+  past_before i inside = ap (λ c. history setting sub c (ran c)) inside ∙ ap (history setting sub clock) can.at
 
   past_own : (i : ℕ) → clock_of setting i ≡ clock → past_of setting sub Now i ≡ Later
-  past_own i inside = ap (λ c. history setting sub c (Now c)) inside ∙ ap (history setting sub clock) (put-same ran clock (ran clock + many)) ∙ past_at many
+  past_own i inside = ap (λ c. history setting sub c (Now c)) inside ∙ ap (history setting sub clock) (put-same s.ran_now clock (ran clock + many)) ∙ past_at many
 
-  past_other : (i : ℕ) → (clock_of setting i ≡ clock → ⊥) → past_of setting sub Now i ≡ past_of setting sub ran i
-  past_other i apart = ap (history setting sub (clock_of setting i)) (put-other ran clock (ran clock + many) (clock_of setting i) apart)
+  past_other : (i : ℕ) → (clock_of setting i ≡ clock → ⊥) → past_of setting sub Now i ≡ past_of setting sub s.ran_now i
+  past_other i apart = ap (history setting sub (clock_of setting i)) (put-other s.ran_now clock (ran clock + many) (clock_of setting i) apart)
 
-  fed_other : (i : ℕ) → (clock_of setting i ≡ clock → ⊥) → Fed i ≡ fed i
-  fed_other i apart = ap (λ (b : Bool). fed_on (b && reads_at setting i) many (fed i)) (they_differ (clock_of setting i) clock apart)
+  past_level : (i : ℕ) → rank (clock_of setting i) ≤ rank clock → past_of setting sub s.ran_now i ≡ past_of setting sub ran i
+  past_level i low = ap (history setting sub (clock_of setting i)) (s.others (clock_of setting i) low)
+
+  fed_other : (i : ℕ) → (clock_of setting i ≡ clock → ⊥) → Fed i ≡ s.fed_now i
+  fed_other i apart = ap (λ (b : Bool). fed_on (b && (Through i || reads_at setting i)) many (s.fed_now i)) (they_differ (clock_of setting i) clock apart)
+
+  fed_own : (i : ℕ) → clock_of setting i ≡ clock → Fed i ≡ fed_on (Through i || reads_at setting i) many (fed i)
+  fed_own i inside =
+      ap (λ (b : Bool). fed_on (b && (Through i || reads_at setting i)) many (s.fed_now i)) (are_same (clock_of setting i) clock inside)
+      ∙ ap (fed_on (Through i || reads_at setting i) many) (fed_kept i inside)
+
+  or_true : (b : Bool) → (b || true) ≡ true
+  or_true true = refl
+  or_true false = refl
+
+  or_false : (b : Bool) → (b || false) ≡ b
+  or_false true = refl
+  or_false false = refl
 
   fed_reads : (i : ℕ) → clock_of setting i ≡ clock → reads_at setting i ≡ true → Fed i ≡ fed i + many
   fed_reads i inside reading =
-      ap (λ (b : Bool). fed_on (b && reads_at setting i) many (fed i)) (are_same (clock_of setting i) clock inside) ∙ ap (λ (b : Bool). fed_on b many (fed i)) reading
+      fed_own i inside ∙ ap (λ (b : Bool). fed_on (Through i || b) many (fed i)) reading ∙ ap (λ (b : Bool). fed_on b many (fed i)) (or_true (Through i))
 
-  none_and : (b : Bool) → (b && false) ≡ false
-  none_and true = refl
-  none_and false = refl
+  fed_fades : (k : ℕ) → clock_of setting k ≡ clock → fade_at setting k ≡ true → Fed k ≡ fed_on (Through k) many (fed k)
+  fed_fades k inside fades =
+      fed_own k inside ∙ ap (λ (b : Bool). fed_on (Through k || b) many (fed k)) (fade_reads setting k fades) ∙ ap (λ (b : Bool). fed_on b many (fed k)) (or_false (Through k))
 
-  fed_stays : (k : ℕ) → reads_at setting k ≡ false → Fed k ≡ fed k
-  fed_stays k none = ap (λ (b : Bool). fed_on (lies_in setting clock k && b) many (fed k)) none ∙ ap (λ (b : Bool). fed_on b many (fed k)) (none_and (lies_in setting clock k))
+  -- ---- the run of the clock's own nodes
 
-  level : (i : ℕ) → clock_of setting i ≡ clock → rank clock ≤ rank (clock_of setting i)
-  level i inside = let e : rank (clock_of setting i) ≡ rank clock = ap rank inside in omega (arith, e)
+  -- no crossfade of the clock's rank or a deeper one has this clock for its sub-clock
+  no_sub : (k : ℕ) → k < length setting.plan.nodes → rank clock ≤ rank (clock_of setting k) → Sub k ≡ clock → ⊥
+  no_sub k within high e = let up = can.world.ranks.deeper k (omega (arith, within, in_clocks)) in let same : rank (Sub k) ≡ rank clock = ap rank e in omega (arith, up, same, high)
+
+  now_sub : (k : ℕ) → k < length setting.plan.nodes → rank clock ≤ rank (clock_of setting k) → Now (Sub k) ≡ s.ran_now (Sub k)
+  now_sub k within high = put-other s.ran_now clock (ran clock + many) (Sub k) (no_sub k within high)
+
+  stands_mid : ClockStands setting sub clock (First ∷ Past) s.fed_now mid.states.items
+  stands_mid = record {
+    each = λ i node state is found.
+        let inside = same_clock-true (clock_of setting i) clock is.inside in
+        subst (λ m. StateStands setting sub (First ∷ Past) m i (work_at setting i node) state) (sym (fed_kept i inside))
+        (subst (λ past. StateStands setting sub past (fed i) i (work_at setting i node) state) (past_before i inside)
+        (can.stand.stand i node state is.there (sym (above.states i (let l = level i inside in omega (arith, l))) ∙ found) (let l = level i inside in omega (arith, l))));
+  }
+
+  -- a node of the clock through which cells pass is a crossfade
+  passing_fade : (k : ℕ) (node : Node) (state : NodeState) → IsNode setting clock k node → slice_get mid.states.items k ≡ Some state → passes state ≡ true → fade_at setting k ≡ true
+  passing_fade k node state is found through =
+      fade_of setting k node is.there
+      ∙ passing setting sub (First ∷ Past) (s.fed_now k) k (work_at setting k node) state (stands_mid.each k node state (record { there = is.there; inside = is.inside }) found) through
+
+  passes_there : (k : ℕ) (state : NodeState) → clock_of setting k ≡ clock → slice_get mid.states.items k ≡ Some state → gives First k ≡ true → passes state ≡ true
+      → goes_through First old.states.items k ≡ true
+  passes_there k state inside found gave through =
+      sym (through_is k inside) ∙ ap (λ (b : Bool). b && passes_at mid.states.items k) gave ∙ ap (λ it. option_map_or passes it false) found ∙ through
+
+  even_before : (k : ℕ) → clock_of setting k ≡ clock → fade_at setting k ≡ true → fed k ≡ ran (Sub k)
+  even_before k inside fades = can.stand.even k fades (let l = level k inside in omega (arith, l))
+
+  going : IsGoing setting sub clock Past many s.fed_now mid.runs.held.items mid.states.items mid.runs.left.items mid.runs.right.items
+  going = record {
+    long = as_many setting sub can.world.meaning;
+    stretch = can.goes.stretch;
+    stands = stands_mid;
+    held_are = record {
+      each = λ i within inside.
+          let here = same_clock-true (clock_of setting i) clock inside in
+          above.held i (let l = level i here in omega (arith, l)) ∙ can.goes.held_is.each i within inside;
+    };
+    begun = record {
+      each = λ i node buffer is work.
+          let inside = same_clock-true (clock_of setting i) clock is.inside in
+          fed_kept i inside ∙ can.needed.begun i (reads_work setting i buffer node is.there work) (let l = level i inside in omega (arith, l)) ∙ ap ran inside ∙ can.at
+          ∙ ap suc (sym (past_long setting sub clock n));
+    };
+    supplied = record {
+      each = λ k node state is found gave through.
+          let inside = same_clock-true (clock_of setting k) clock is.inside in
+          let fades = passing_fade k node state is found through in
+          subst (λ m. LaneFeeds (sub k) m many (samples_of mid.runs.left.items (crossfaded setting.plan.nodes k) many) (samples_of mid.runs.right.items (crossfaded setting.plan.nodes k) many))
+          (sym (fed_kept k inside ∙ even_before k inside fades))
+          (let within = slice_get_within setting.plan.nodes k node is.there in s.feeds k within inside within (passes_there k state inside found gave through));
+      apart = λ k node state is found gave through.
+          let inside = same_clock-true (clock_of setting k) clock is.inside in
+          let within = slice_get_within setting.plan.nodes k node is.there in
+          let child = s.inside k within inside within (passes_there k state inside found gave through) in
+          they_differ (clock_of setting (crossfaded setting.plan.nodes k)) clock (λ e. no_sub k within (let l = level k inside in omega (arith, l)) (sym child ∙ e));
+    };
+  }
+
+  went : HasGoneOn setting sub clock Past many s.fed_now mid.states.items new.runs.left.items new.runs.right.items new.states.items
+  went = goes_on Past s.fed_now going
 
   -- ---- states
 
+  -- a state of another clock of the rank
+  stand_level : (i : ℕ) (node : Node) (state : NodeState) → slice_get setting.plan.nodes i ≡ Some node → slice_get new.states.items i ≡ Some state
+      → (clock_of setting i ≡ clock → ⊥) → rank clock ≡ rank (clock_of setting i) → StateStands setting sub (past_of setting sub s.ran_now i) (s.fed_now i) i (work_at setting i node) state
+  stand_level i node state found stored apart same =
+      subst (λ past. StateStands setting sub past (s.fed_now i) i (work_at setting i node) state) (sym (past_level i (omega (arith, same))))
+      (subst (λ m. StateStands setting sub (past_of setting sub ran i) m i (work_at setting i node) state) (sym (s.held i (omega (arith, same))))
+      (can.stand.stand i node state found (sym (above.states i (omega (arith, same))) ∙ sym (others i (they_differ (clock_of setting i) clock apart)) ∙ stored) (omega (arith, same))))
+
+  stand_other : (i : ℕ) (node : Node) (state : NodeState) → slice_get setting.plan.nodes i ≡ Some node → slice_get new.states.items i ≡ Some state
+      → (clock_of setting i ≡ clock → ⊥) → rank clock ≤ rank (clock_of setting i) → StateStands setting sub (past_of setting sub s.ran_now i) (s.fed_now i) i (work_at setting i node) state
+  stand_other i node state found stored apart high = elim (same_or_above (rank clock) (rank (clock_of setting i)) high) [
+    | inl higher ↦ s.stand.stand i node state found (sym (others i (they_differ (clock_of setting i) clock apart)) ∙ stored) (omega (arith, higher))
+    | inr same ↦ stand_level i node state found stored apart same
+  ]
+
   stand_all : (i : ℕ) (node : Node) (state : NodeState) → slice_get setting.plan.nodes i ≡ Some node → slice_get new.states.items i ≡ Some state
       → rank clock ≤ rank (clock_of setting i) → StateStands setting sub (past_of setting sub Now i) (Fed i) i (work_at setting i node) state
-  stand_all i node state found stored above = elim (same_or_other (clock_of setting i) clock) [
+  stand_all i node state found stored high = elim (same_or_other (clock_of setting i) clock) [
     | inl inside ↦ subst (λ past. StateStands setting sub past (Fed i) i (work_at setting i node) state) (sym (past_own i inside))
         (went.stands.each i node state (record { there = found; inside = are_same (clock_of setting i) clock inside }) stored)
     | inr apart ↦ subst (λ past. StateStands setting sub past (Fed i) i (work_at setting i node) state) (sym (past_other i apart))
-        (subst (λ m. StateStands setting sub (past_of setting sub ran i) m i (work_at setting i node) state) (sym (fed_other i apart))
-        (stand.stand i node state found (sym (others i (they_differ (clock_of setting i) clock apart)) ∙ stored) above))
+        (subst (λ m. StateStands setting sub (past_of setting sub s.ran_now i) m i (work_at setting i node) state) (sym (fed_other i apart))
+        (stand_other i node state found stored apart high))
   ]
 
   -- no reader takes
   no_tick : (i : ℕ) (node : Node) (buffer j : ℕ) → IsNode setting clock i node → work_at setting i node ≡ Reads buffer → 0 < j → j ≤ many
       → nat_eq (length (going_on setting sub clock j Past) % setting.plan.frame) 0 ≡ false
-  no_tick i node buffer j is work some within =
-      ap (λ m. nat_eq (m % setting.plan.frame) 0) (going_long setting sub clock Past j) ∙ went.stretch.ticks i node buffer j is work some (omega (arith, within))
+  no_tick i node buffer j is work more within =
+      ap (λ m. nat_eq (m % setting.plan.frame) 0) (going_long setting sub clock Past j) ∙ can.goes.stretch.ticks i node buffer j is work more (omega (arith, within))
 
   taken_on : (i : ℕ) (node : Node) (buffer j : ℕ) → IsNode setting clock i node → work_at setting i node ≡ Reads buffer → j ≤ many
       → (reading_after setting i buffer (going_on setting sub clock (suc j) Past)).taken ≡ (reading_after setting i buffer (First ∷ Past)).taken
@@ -221,7 +314,7 @@ module _ (setting : Setting) (sub : ℕ → ℕ → List Slot) (rank : NodeClock
       ∙ ap (λ (r : Reading). r.taken) same ∙ taken_on i node buffer j is work (omega (arith, within))
 
   begun_before : (i : ℕ) → reads_at setting i ≡ true → clock_of setting i ≡ clock → fed i ≡ suc n
-  begun_before i reading inside = needed.begun i reading (level i inside) ∙ ap ran inside ∙ at
+  begun_before i reading inside = can.needed.begun i reading (let l = level i inside in omega (arith, l)) ∙ ap ran inside ∙ can.at
 
   taken_own : (i buffer : ℕ) (node : Node) → slice_get setting.plan.nodes i ≡ Some node → work_at setting i node ≡ Reads buffer → clock_of setting i ≡ clock
       → (reading_by setting i buffer Later (Fed i)).taken ≡ (reading_by setting i buffer (First ∷ Past) (fed i)).taken
@@ -242,23 +335,37 @@ module _ (setting : Setting) (sub : ℕ → ℕ → List Slot) (rank : NodeClock
       → (reading_by setting i buffer (past_of setting sub Now i) (Fed i)).taken ≡ length (front buffer)
   taken_all i buffer node found work = elim (same_or_other (clock_of setting i) clock) [
     | inl inside ↦ ap (λ p. (reading_by setting i buffer p (Fed i)).taken) (past_own i inside) ∙ taken_own i buffer node found work inside
-        ∙ ap (λ p. (reading_by setting i buffer p (fed i)).taken) (sym (past_before i inside)) ∙ stand.taken i buffer node found work
-    | inr apart ↦ ap (λ p. (reading_by setting i buffer p (Fed i)).taken) (past_other i apart) ∙ ap (λ m. (reading_by setting i buffer (past_of setting sub ran i) m).taken) (fed_other i apart)
-        ∙ stand.taken i buffer node found work
+        ∙ ap (λ p. (reading_by setting i buffer p (fed i)).taken) (sym (past_before i inside)) ∙ can.stand.taken i buffer node found work
+    | inr apart ↦ ap (λ p. (reading_by setting i buffer p (Fed i)).taken) (past_other i apart) ∙ ap (λ m. (reading_by setting i buffer (past_of setting sub s.ran_now i) m).taken) (fed_other i apart)
+        ∙ s.stand.taken i buffer node found work
   ]
 
   -- ---- sub-clocks
 
-  -- no crossfade of the clock's rank or a deeper one has this clock for its sub-clock
-  no_sub : (k : ℕ) → k < length setting.plan.nodes → rank clock ≤ rank (clock_of setting k) → Sub k ≡ clock → ⊥
-  no_sub k within above e = let up = ranks.deeper k (omega (arith, within, in_clocks)) in let same : rank (Sub k) ≡ rank clock = ap rank e in omega (arith, up, same, above)
+  -- each crossfade of the clock was fed what its sub-clock made
+  even_by : (k : ℕ) → k < length setting.plan.nodes → clock_of setting k ≡ clock → fade_at setting k ≡ true → (b : Bool) → Through k ≡ b → fed_on b many (fed k) ≡ s.ran_now (Sub k)
+  even_by k within inside fades true e =
+      ap (λ m. m + many) (even_before k inside fades) ∙ sym (s.went k within inside within (sym (through_is k inside) ∙ e))
+  even_by k within inside fades false e =
+      even_before k inside fades ∙ sym (s.stayed k within (level k inside) (λ here low. sym (through_is k inside) ∙ e))
 
-  now_sub : (k : ℕ) → k < length setting.plan.nodes → rank clock ≤ rank (clock_of setting k) → Now (Sub k) ≡ ran (Sub k)
-  now_sub k within above = put-other ran clock (ran clock + many) (Sub k) (no_sub k within above)
+  even_own : (k : ℕ) → k < length setting.plan.nodes → clock_of setting k ≡ clock → fade_at setting k ≡ true → Fed k ≡ s.ran_now (Sub k)
+  even_own k within inside fades = fed_fades k inside fades ∙ even_by k within inside fades (Through k) refl
+
+  even_all : (k : ℕ) → fade_at setting k ≡ true → rank clock ≤ rank (clock_of setting k) → Fed k ≡ Now (Sub k)
+  even_all k fades high =
+      let within = fade_within setting k fades in
+      elim (same_or_other (clock_of setting k) clock) [
+        | inl inside ↦ even_own k within inside fades
+        | inr apart ↦ fed_other k apart ∙ elim (same_or_above (rank clock) (rank (clock_of setting k)) high) [
+          | inl higher ↦ s.stand.even k fades (omega (arith, higher))
+          | inr same ↦ s.held k (omega (arith, same)) ∙ can.stand.even k fades high ∙ sym (s.stayed k within (sym same) (λ inside low. absurd (apart inside)))
+        ]
+      ] ∙ sym (now_sub k within high)
 
   module _ (k overlap : ℕ) (node : Node) (found : slice_get setting.plan.nodes k ≡ Some node) (op : node.op ≡ Crossfade overlap) (inside : clock_of setting k ≡ clock) where
-    is_node : IsNode setting clock k node
-    is_node = record { there = found; inside = are_same (clock_of setting k) clock inside }
+    is_one : IsNode setting clock k node
+    is_one = record { there = found; inside = are_same (clock_of setting k) clock inside }
 
     work : work_at setting k node ≡ Fades overlap
     work = work_of_op setting k overlap node op
@@ -266,140 +373,174 @@ module _ (setting : Setting) (sub : ℕ → ℕ → List Slot) (rank : NodeClock
     fades : fade_at setting k ≡ true
     fades = fade_op setting k overlap node found op
 
-    -- as many slots as were fed have settled its latest item
-    fed_is : ran_by sub k overlap (First ∷ Past) ≡ fed k
-    fed_is =
-        sym (ap (ran_by sub k overlap) (past_before k inside)) ∙ sym (needed.each k overlap node found op (level k inside)) ∙ sym (stand.even k fades (level k inside))
-
-    was_at : (old_state : NodeState) → slice_get old.states.items k ≡ Some old_state → StateStands setting sub (First ∷ Past) (fed k) k (Fades overlap) old_state
-    was_at old_state stored =
-        subst (λ w. StateStands setting sub (First ∷ Past) (fed k) k w old_state) work
-        (subst (λ past. StateStands setting sub past (fed k) k (work_at setting k node) old_state) (past_before k inside) (stand.stand k node old_state found stored (level k inside)))
-
-    is_at : (state : NodeState) → slice_get new.states.items k ≡ Some state → StateStands setting sub Later (fed k) k (Fades overlap) state
-    is_at state stored =
-        subst (λ w. StateStands setting sub Later (fed k) k w state) work
-        (subst (λ m. StateStands setting sub Later m k (work_at setting k node) state) (fed_stays k (fade_reads setting k fades))
-        (went.stands.each k node state (record { there = found; inside = are_same (clock_of setting k) clock inside }) stored))
-
     low : k < length setting.plan.nodes
     low = slice_get_within setting.plan.nodes k node found
 
-    -- no fewer slots settle the items from here on
-    least : (m : ℕ) → m < fed k → length (cross overlap (sub k m)) ≤ position (First ∷ Past) k
-    least m less =
-        let state = item_at old.states.items k (let l = low in omega (arith, l, old_states)) in
-        (crosses setting sub (First ∷ Past) (fed k) k overlap state.0 (was_at state.0 state.1)).1.least m less
+    -- as many slots as were fed have settled its latest item
+    fed_is : ran_by sub k overlap (First ∷ Past) ≡ fed k
+    fed_is =
+        sym (ap (ran_by sub k overlap) (past_before k inside)) ∙ sym (can.needed.each k overlap node found op (let l = level k inside in omega (arith, l))) ∙ sym (even_before k inside fades)
 
-    -- and they settle those of the run
-    settled : position Later k ≤ length (cross overlap (sub k (fed k)))
-    settled =
-        let state = item_at new.states.items k (let l = low in omega (arith, l, in_states)) in
-        let crossing = crosses setting sub Later (fed k) k overlap state.0 (is_at state.0 state.1) in
-        subst (λ most. position Later k ≤ length (cross most (sub k (fed k)))) crossing.1.overlap_is (items_within crossing.0 (sub k (fed k)) (position Later k) crossing.1.stands)
+    -- a slot for each item, where cells pass
+    asks_next : gives First k ≡ true → (j : ℕ) → j < many → run_of overlap (sub k) (suc (position Past k) + j) ≡ fed k + asked (Through k) j
+    asks_next gave j less =
+        let state = item_at mid.states.items k (let l = low in omega (arith, l, mid_states)) in
+        can.goes.asks.each k overlap j node state.0 (let l = low in omega (arith, l, in_clocks)) is_one work (sym (above.states k (let l = level k inside in omega (arith, l))) ∙ state.1) gave less
+        ∙ ap (λ b. fed k + asked b j) (sym (ap (λ (b : Bool). b && passes_at mid.states.items k) gave ∙ ap (λ it. option_map_or passes it false) state.1))
 
-    on_at : (j : ℕ) → j ≤ suc many → gives First k ≡ true → position (going_on setting sub clock j Past) k ≡ position Past k + j
-    on_at j within gave = (on_all setting sub clock Past (suc many) nodes went.stretch j within).passed k gave
-
-    -- so each item of the run asks for no more
-    asks_fed : gives First k ≡ true → (j : ℕ) → j ≤ many → run_of overlap (sub k) (position Past k + j) ≡ fed k
-    asks_fed gave zero within = let e : position Past k + 0 ≡ position Past k = omega arith in ap (run_of overlap (sub k)) e ∙ fed_is
-    asks_fed gave (suc j) within =
-        let one : position (First ∷ Past) k ≡ position Past k + 1 = on_at 1 (omega arith) gave in
-        let all : position Later k ≡ position Past k + suc many = on_at (suc many) (omega arith) gave in
-        let enough = settled in
-        run_of-is overlap (sub k) (position Past k + suc j) (fed k) (long.each k) (omega (arith, all, enough, within))
-        (λ m less. let l = least m less in omega (arith, l, one))
-
-    asks_by : (m : ℕ) → many ≡ m → (gave : Bool) → gives First k ≡ gave → ran_by sub k overlap (going_on setting sub clock (suc m) Past) ≡ ran_by sub k overlap (First ∷ Past)
-    asks_by zero same gave e = refl
-    asks_by (suc m) same true e =
-        let place : position (going_on setting sub clock (suc m) Past) k ≡ position Past k + suc m = on_at (suc m) (omega (arith, same)) e in
-        ap (run_of overlap (sub k)) place ∙ asks_fed e (suc m) (omega (arith, same)) ∙ sym fed_is
-    asks_by (suc m) same false e =
+    asks_by : (m : ℕ) → many ≡ suc m → (gave : Bool) → gives First k ≡ gave → ran_by sub k overlap (going_on setting sub clock (suc (suc m)) Past) ≡ fed_on (Through k) (suc m) (fed k)
+    asks_by m same true e =
+        let one : position (going_on setting sub clock (suc m) Past) k ≡ position Past k + suc m =
+        (on_all setting sub clock Past (suc many) nodes can.goes.stretch (suc m) (omega (arith, same))).passed k e in
+        let place : position (going_on setting sub clock (suc m) Past) k ≡ suc (position Past k) + m = omega (arith, one) in
+        ap (run_of overlap (sub k)) place ∙ asks_next e m (omega (arith, same)) ∙ asked_all (Through k) m (fed k)
+      where
+        asked_all : (b : Bool) (m f : ℕ) → f + asked b m ≡ fed_on b (suc m) f
+        asked_all true m f = refl
+        asked_all false m f = omega arith
+    asks_by m same false e =
         let next : 1 + suc m ≡ suc (suc m) = omega arith in
         let all : suc many ≡ suc (suc m) = omega (arith, same) in
         sym (ap (λ j. ran_by sub k overlap (going_on setting sub clock j Past)) next)
-        ∙ needed_kept setting sub clock Past (suc (suc m)) 1 (suc m) nodes (subst (IsStretch setting sub clock Past) all went.stretch) (omega arith) (omega arith) (omega arith) k node is_node overlap work e
+        ∙ needed_kept setting sub clock Past (suc (suc m)) 1 (suc m) nodes (subst (IsStretch setting sub clock Past) all can.goes.stretch) (omega arith) (omega arith) (omega arith) k node is_one overlap work e
+        ∙ fed_is ∙ ap (λ (b : Bool). fed_on (b && passes_at mid.states.items k) (suc m) (fed k)) (sym e)
 
-    asks_same : ran_by sub k overlap Later ≡ ran_by sub k overlap (First ∷ Past)
-    asks_same = asks_by many refl (gives First k) refl
+    asks_all : (m : ℕ) → many ≡ m → Fed k ≡ ran_by sub k overlap Later
+    asks_all zero same = absurd (omega (arith, same, some))
+    asks_all (suc m) same =
+        fed_fades k inside fades ∙ ap (λ c. fed_on (Through k) c (fed k)) same ∙ sym (asks_by m same (gives First k) refl)
+        ∙ ap (λ c. ran_by sub k overlap (going_on setting sub clock (suc c) Past)) (sym same)
+
+    -- the slots for item j of the run, from its latest one on
+    asks_at : gives First k ≡ true → (j : ℕ) → j ≤ many → run_of overlap (sub k) (position Past k + j) ≡ fed_on (Through k) j (fed k)
+    asks_at gave zero within = let e : position Past k + 0 ≡ position Past k = omega arith in ap (run_of overlap (sub k)) e ∙ fed_is ∙ by (Through k)
+      where
+        by : (b : Bool) → fed k ≡ fed_on b 0 (fed k)
+        by true = omega arith
+        by false = refl
+    asks_at gave (suc j) within = let e : position Past k + suc j ≡ suc (position Past k) + j = omega arith in ap (run_of overlap (sub k)) e ∙ asks_next gave j (omega (arith, within)) ∙ by (Through k)
+      where
+        by : (b : Bool) → fed k + asked b j ≡ fed_on b (suc j) (fed k)
+        by true = refl
+        by false = omega arith
+
+    -- the instants of the sub-clock between two items
+    quiet_by : (i m : ℕ) → i < many → (b : Bool) → Through k ≡ b → fed_on b i (fed k) ≤ m → m < fed_on b (suc i) (fed k) → calls_of setting sub (Sub k) (history setting sub (Sub k) m) ≡ []
+    quiet_by i m less true e from to =
+        let even = even_before k inside fades in
+        let here : ran (Sub k) + i ≡ m = omega (arith, from, to, even) in
+        subst (λ x. calls_of setting sub (Sub k) (history setting sub (Sub k) x) ≡ []) here (s.quiet k i low inside low (sym (through_is k inside) ∙ e) less)
+    quiet_by i m less false e from to = absurd (omega (arith, from, to))
+
+  needed_other : (k overlap : ℕ) (node : Node) → slice_get setting.plan.nodes k ≡ Some node → node.op ≡ Crossfade overlap → (clock_of setting k ≡ clock → ⊥)
+      → rank clock ≤ rank (clock_of setting k) → s.ran_now (Sub k) ≡ ran_by sub k overlap (past_of setting sub s.ran_now k)
+  needed_other k overlap node found op apart high = elim (same_or_above (rank clock) (rank (clock_of setting k)) high) [
+    | inl higher ↦ s.needed.each k overlap node found op (omega (arith, higher))
+    | inr same ↦ s.stayed k (slice_get_within setting.plan.nodes k node found) (sym same) (λ inside low. absurd (apart inside)) ∙ can.needed.each k overlap node found op high
+        ∙ ap (ran_by sub k overlap) (sym (past_level k (omega (arith, same))))
+  ]
+
+  begun_other : (i : ℕ) → reads_at setting i ≡ true → rank clock ≤ rank (clock_of setting i) → s.fed_now i ≡ s.ran_now (clock_of setting i)
+  begun_other i reading high = elim (same_or_above (rank clock) (rank (clock_of setting i)) high) [
+    | inl higher ↦ s.needed.begun i reading (omega (arith, higher))
+    | inr same ↦ s.held i (omega (arith, same)) ∙ can.needed.begun i reading high ∙ sym (s.others (clock_of setting i) (omega (arith, same)))
+  ]
 
   needed_all : RanAsNeeded setting sub rank (rank clock) Now Fed
   needed_all = record {
-    each = λ k overlap node found op above.
-        now_sub k (slice_get_within setting.plan.nodes k node found) above ∙ needed.each k overlap node found op above ∙ elim (same_or_other (clock_of setting k) clock) [
-          | inl inside ↦ ap (ran_by sub k overlap) (past_before k inside) ∙ sym (asks_same k overlap node found op inside) ∙ ap (ran_by sub k overlap) (sym (past_own k inside))
-          | inr apart ↦ ap (ran_by sub k overlap) (sym (past_other k apart))
+    each = λ k overlap node found op high.
+        let within = slice_get_within setting.plan.nodes k node found in
+        now_sub k within high ∙ elim (same_or_other (clock_of setting k) clock) [
+          | inl inside ↦ sym (even_own k within inside (fade_op setting k overlap node found op)) ∙ asks_all k overlap node found op inside many refl ∙ ap (ran_by sub k overlap) (sym (past_own k inside))
+          | inr apart ↦ needed_other k overlap node found op apart high ∙ ap (ran_by sub k overlap) (sym (past_other k apart))
         ];
-    begun = λ i reading above. elim (same_or_other (clock_of setting i) clock) [
-      | inl inside ↦ fed_reads i inside reading ∙ ap (λ m. m + many) (needed.begun i reading above ∙ ap ran inside) ∙ sym (ap Now inside ∙ put-same ran clock (ran clock + many))
-      | inr apart ↦ fed_other i apart ∙ needed.begun i reading above ∙ sym (put-other ran clock (ran clock + many) (clock_of setting i) apart)
+    begun = λ i reading high. elim (same_or_other (clock_of setting i) clock) [
+      | inl inside ↦ fed_reads i inside reading ∙ ap (λ m. m + many) (can.needed.begun i reading high ∙ ap ran inside) ∙ sym (ap Now inside ∙ put-same s.ran_now clock (ran clock + many))
+      | inr apart ↦ fed_other i apart ∙ begun_other i reading high ∙ sym (put-other s.ran_now clock (ran clock + many) (clock_of setting i) apart)
     ];
   }
+
+  open_all : (k : ℕ) → k < length setting.plan.nodes → rank clock ≤ rank (clock_of setting k) → 0 < rest_at new k → IsOpen setting sub k (rest_at new k) Now Fed new
+  open_all k within high more =
+      open_kept setting sub k s.ran_now Now s.fed_now Fed mid new (now_sub k within high) (ap (λ xs. slice_index_or xs.items k 0) rests)
+      (λ j here.
+      let apart : clock_of setting j ≡ clock → ⊥ = λ e. no_sub k within high (sym here ∙ e) in
+      (fed_other j apart, others j (they_differ (clock_of setting j) clock apart), ap (λ ps. part_at ps.items j) held))
+      (λ was. elim (same_or_above (rank clock) (rank (clock_of setting k)) high) [
+        | inl higher ↦ s.stand.kept k within (omega (arith, higher)) was
+        | inr same ↦ s.kept k within (sym same) was
+      ]) more
 
   -- ---- calls
 
   are_quiet : AreQuiet setting sub clock Past (suc many)
   are_quiet = record {
-    each = λ k node overlap i m is at_work gave within low high.
+    each = λ k node overlap i m is at_work gave within from to.
         let inside = same_clock-true (clock_of setting k) clock is.inside in
         let op = op_of_work setting k overlap node at_work in
-        let one = asks_fed k overlap node is.there op inside gave i (omega (arith, within)) in
-        let two = asks_fed k overlap node is.there op inside gave (suc i) (omega (arith, within)) in
-        absurd (omega (arith, one, two, low, high));
+        quiet_by k overlap node is.there op inside i m (omega (arith, within)) (Through k) refl
+        (subst (λ x. x ≤ m) (asks_at k overlap node is.there op inside gave i (omega (arith, within))) from)
+        (subst (λ x. m < x) (asks_at k overlap node is.there op inside gave (suc i) (omega (arith, within))) to);
   }
 
-  quiet : GoDown setting sub → (j : ℕ) → j < many → calls_of setting sub clock (history setting sub clock (ran clock + j)) ≡ []
-  quiet down j low =
-      ap (calls_of setting sub clock) (past_at j) ∙ no_calls setting sub clock Past (suc many) nodes went.stretch j (omega (arith, low)) down are_quiet
+  quiet : (j : ℕ) → j < many → calls_of setting sub clock (history setting sub clock (ran clock + j)) ≡ []
+  quiet j low =
+      ap (calls_of setting sub clock) (past_at j) ∙ no_calls setting sub clock Past (suc many) nodes can.goes.stretch j (omega (arith, low)) can.world.down are_quiet
 
   -- ---- slots
 
-  module _ (own : List Bool) (roots : AreOwnRoots setting own) (parts : new.latest.parts.items ≡ First.parts) where
-    slot_same : (i j : ℕ) → offer (moment_after setting sub clock (history setting sub clock (ran clock + j))) i ≡ lane setting sub clock Past (suc j) i
-    slot_same i j = ap (λ past. offer (moment_after setting sub clock past) i) (past_at j)
+  slot_same : (i j : ℕ) → offer (moment_after setting sub clock (history setting sub clock (ran clock + j))) i ≡ lane setting sub clock Past (suc j) i
+  slot_same i j = ap (λ past. offer (moment_after setting sub clock past) i) (past_at j)
 
-    root_gives : (i : ℕ) → slice_index_or own i false ≡ true → is_some (offer First i) ≡ true → gives First i ≡ true
-    root_gives i is there =
-        let low = within_by setting sub clock Past i there in
-        let inside = offers_in setting sub clock Past i there in
-        let here : is_root setting clock i ≡ true = sym (ap (λ c. is_root setting c i) (same_clock-true (clock_of setting i) clock inside)) ∙ sym (roots.each i low) ∙ is in
-        let start : 0 + i ≡ i = omega arith in
-        let many_uses = uses_long setting First.parts 0 setting.plan.nodes in
-        let demand : demanded First i ≡ true =
-        root_demanded (λ m. lies_in setting clock m && is_root setting clock m) 0 (uses_from setting First.parts 0 setting.plan.nodes) i (omega (arith, low, many_uses))
-        (ap (λ m. lies_in setting clock m && is_root setting clock m) start ∙ and_both (lies_in setting clock i) (is_root setting clock i) inside here) in
-        and_both (demanded First i) (is_some (offer First i)) demand there
+  run_of_root : (i : ℕ) → slice_index_or own i false ≡ true
+      → IsRunOf (λ j. offer (moment_after setting sub clock (history setting sub clock (ran clock + j))) i) many (offer First i)
+      (samples_of new.runs.left.items i many) (samples_of new.runs.right.items i many)
+  run_of_root i is = record {
+    given = λ there. lane_of_same (λ j. lane setting sub clock Past (suc j) i) (λ j. offer (moment_after setting sub clock (history setting sub clock (ran clock + j))) i) many
+        (samples_of new.runs.left.items i many) (samples_of new.runs.right.items i many) (λ j low. slot_same i j)
+        (went.lanes i (root_gives setting sub clock Past own can.world.roots i is there));
+    silent = λ none j low.
+        let like = alike_all setting sub clock Past (suc many) nodes can.goes.stretch (suc j) (omega arith) (omega (arith, low)) in
+        slot_same i j ∙ none_there (lane setting sub clock Past (suc j) i) ((like.slots i).there ∙ none);
+  }
 
-    run_of_root : (i : ℕ) → slice_index_or own i false ≡ true
-        → IsRunOf (λ j. offer (moment_after setting sub clock (history setting sub clock (ran clock + j))) i) many (part_at new.latest.parts.items i)
-        (samples_of new.runs.left.items i many) (samples_of new.runs.right.items i many)
-    run_of_root i is = record {
-      given = λ there. lane_of_same (λ j. lane setting sub clock Past (suc j) i) (λ j. offer (moment_after setting sub clock (history setting sub clock (ran clock + j))) i) many
-          (samples_of new.runs.left.items i many) (samples_of new.runs.right.items i many) (λ j low. slot_same i j)
-          (went.lanes i (root_gives i is (sym (ap (λ ps. is_some (part_at ps i).slot) parts) ∙ there)));
-      silent = λ none j low.
-          let like = alike_all setting sub clock Past (suc many) nodes went.stretch (suc j) (omega arith) (omega (arith, low)) in
-          slot_same i j ∙ none_there (lane setting sub clock Past (suc j) i) ((like.slots i).there ∙ sym (ap (λ ps. is_some (part_at ps i).slot) parts) ∙ none);
-    }
+  pub has_run_on : HasRunOn setting sub rank own clock n many ran fed front new
+  has_run_on = record {
+    ran_now = Now;
+    fed_now = Fed;
+    stand = record {
+      stand = stand_all;
+      taken = taken_all;
+      even = even_all;
+      time = λ k time high stored.
+          let stored_mid : slice_get mid.times.items k ≡ Some time = sym (ap (λ xs. slice_get xs.items k) times) ∙ stored in
+          let low : k < length setting.plan.nodes = (let l = slice_get_within mid.times.items k time stored_mid in omega (arith, l, in_times)) in
+          subst (λ m. TimeStands setting.start m time) (sym (now_sub k low high)) (s.time k time low high stored_mid);
+      needed = needed_below setting sub rank (rank clock) (suc (rank clock)) Now Fed (omega arith) needed_all;
+      kept = open_all;
+    };
+    once = put-same s.ran_now clock (ran clock + many);
+    others = λ other apart low. put-other s.ran_now clock (ran clock + many) other apart ∙ s.others other low;
+    held = λ i apart low. fed_other i apart ∙ s.held i low;
+    needed = needed_all;
+    quiet = quiet;
+    slots = run_of_root;
+  }
 
-    pub has_run_on : GoDown setting sub → HasRunOn setting sub rank own clock many ran fed front new
-    has_run_on down = record {
-      ran_now = Now;
-      fed_now = Fed;
-      stand = record {
-        stand = stand_all;
-        taken = taken_all;
-        even = λ k fades above. fed_stays k (fade_reads setting k fades) ∙ stand.even k fades above ∙ sym (now_sub k (fade_within setting k fades) above);
-        time = λ k time above stored.
-            let low : k < length setting.plan.nodes = (let l = slice_get_within new.times.items k time stored in let same = ap length times in omega (arith, l, same, in_times)) in
-            subst (λ m. TimeStands setting.start m time) (sym (now_sub k low above)) (stand.time k time above (ap (λ xs. slice_get xs k) (sym times) ∙ stored));
-        needed = needed_below setting sub rank (rank clock) (suc (rank clock)) Now Fed (omega arith) needed_all;
-      };
-      once = put-same ran clock (ran clock + many);
-      others = λ other apart. put-other ran clock (ran clock + many) other apart;
-      needed = needed_all;
-      quiet = quiet down;
-      slots = run_of_root;
-    }
+-- no instant more
+pub has_run_none : (setting : Setting) (sub : ℕ → ℕ → List Slot) (rank : NodeClock → ℕ) (own : List Bool) (clock : NodeClock) (n : ℕ) (ran : NodeClock → ℕ) (fed : ℕ → ℕ) (front : ℕ → List Answer) (lanes : ClockLanes)
+    → Stand setting sub rank (rank clock) ran fed front lanes → RanAsNeeded setting sub rank (rank clock) ran fed → HasRunOn setting sub rank own clock n 0 ran fed front lanes
+has_run_none setting sub rank own clock n ran fed front lanes stand needed = record {
+  ran_now = ran;
+  fed_now = fed;
+  stand = stand;
+  once = omega arith;
+  others = λ other apart low. refl;
+  held = λ i apart low. refl;
+  needed = needed;
+  quiet = λ j low. absurd (omega (arith, low));
+  slots = λ i is. record {
+    given = λ there. record { left_is = refl; right_is = refl; inner = λ j low. absurd (omega (arith, low)) };
+    silent = λ none j low. absurd (omega (arith, low));
+  };
+}

@@ -1,5 +1,5 @@
 -- Clocks are equal or not; counts that are one more at one place.
-use Rattle.std.proofs.Common.{◌≡◌, ◌<◌, ◌≤◌, ◌∙◌, ℕ, zero, suc, Bool, true, false, List, [], ◌∷◌, Some, length, nat_eq, slice_get, arith, ap, sym, refl, ◌⊎◌, inl, inr, if◌then◌else◌}
+use Rattle.std.proofs.Common.{◌≡◌, ◌<◌, ◌≤◌, ◌+◌, ◌∙◌, ℕ, zero, suc, Bool, true, false, List, [], ◌∷◌, Some, length, nat_eq, slice_get, arith, ap, sym, refl, ◌⊎◌, inl, inr, if◌then◌else◌}
 use Rattle.std.proofs.lemmas.Bool.{eq-eqb, true≢false}
 use Rattle.std.proofs.lemmas.Bool.Decides.{nat_tests}
 use Rattle.clock_infer.specs.declared.clock_map.NodeClock.{NodeClock}
@@ -48,15 +48,15 @@ bumped-same ran clock = let same = same_itself clock in rw same refl
 pub bumped-other : (ran : NodeClock → ℕ) (clock other : NodeClock) → (other ≡ clock → ⊥) → bumped ran clock other ≡ ran other
 bumped-other ran clock other apart = let differ = they_differ other clock apart in rw differ refl
 
--- node k was fed one slot more
-abbrev pub fed_more : (ℕ → ℕ) → ℕ → ℕ → ℕ
-fed_more fed k i = if nat_eq i k then suc (fed k) else fed i
+-- node k was fed so many slots more
+abbrev pub fed_more : (ℕ → ℕ) → (k many : ℕ) → ℕ → ℕ
+fed_more fed k many i = if nat_eq i k then fed i + many else fed i
 
-pub fed_more-same : (fed : ℕ → ℕ) (k : ℕ) → fed_more fed k k ≡ suc (fed k)
-fed_more-same fed k = let same : nat_eq k k ≡ true = grind (arith, nat_tests) in rw same refl
+pub fed_more-same : (fed : ℕ → ℕ) (k many : ℕ) → fed_more fed k many k ≡ fed k + many
+fed_more-same fed k many = let same : nat_eq k k ≡ true = grind (arith, nat_tests) in rw same refl
 
-pub fed_more-other : (fed : ℕ → ℕ) (k i : ℕ) → (i ≡ k → ⊥) → fed_more fed k i ≡ fed i
-fed_more-other fed k i other = let differs : nat_eq i k ≡ false = grind (arith, nat_tests) in rw differs refl
+pub fed_more-other : (fed : ℕ → ℕ) (k many i : ℕ) → (i ≡ k → ⊥) → fed_more fed k many i ≡ fed i
+fed_more-other fed k many i other = let differs : nat_eq i k ≡ false = grind (arith, nat_tests) in rw differs refl
 
 -- the item at a place
 pub item_at : {A : Type 0} (xs : List A) (i : ℕ) → i < length xs → (x : A) × (slice_get xs i ≡ Some x)

@@ -1,10 +1,20 @@
 pub mod Equal
 pub mod Fading
+pub mod Kept
+pub mod Restful
 pub mod Opened
 pub mod Levels
+pub mod Gone
 pub mod Taking
 pub mod Joining
 pub mod Making
-pub mod Settling
 pub mod Readers
-mod Behind
+mod Above
+mod Children
+mod CellsFed
+pub mod SubRuns
+mod SubSteps
+pub mod Behind
+mod Sampled
+pub mod FedOn
+pub mod Settling

@@ -10,7 +10,7 @@ use Rattle.op_cross.specs.Runs.{run_of}
 use Rattle.frame_core.specs.Calls.{Call}
 use Rattle.op_leaf.specs.Readers.{Answer}
 use Rattle.stream_meaning.specs.Operators.{Reads}
-use Rattle.stream_meaning.specs.Instants.{Setting, Moment, Reading, gives, read_on, reading_after, reading_at, clock_of, history, is_root, moment_after, position, same_clock, work_at}
+use Rattle.stream_meaning.specs.Instants.{Setting, Moment, Reading, gives, read_on, reading_after, reading_at, clock_of, history, is_root, moment_after, part_at, position, same_clock, work_at}
 use Rattle.stream_meaning.specs.Calls.{GoDown, after_calls, ran_by, takes_at}
 use Rattle.stream_meaning.proofs.Answering.{after_calls-then}
 use Rattle.stream_meaning.proofs.Existence.{same_clock-true}
@@ -23,7 +23,9 @@ use Rattle.node_states.specs.Times.{TimeStands}
 use Rattle.engine_instants.specs.States.{AreRoots, AreSettled, ClockStands}
 use Rattle.engine_clocks.specs.declared.lanes.ClockLanes.{ClockLanes}
 use Rattle.engine_instants.specs.Takes.{begun_by, begun_in}
-use Rattle.engine_clocks.specs.Clocks.{AreFed, AreOwnRoots, AreReady, HasMade, HasRanks, RanAsNeeded, Stand, fade_at, is_fade}
+use Rattle.engine_clocks.specs.Clocks.{AreFed, AreOwnRoots, AreReady, HasMade, HasRanks, IsOpen, RanAsNeeded, Stand, fade_at, is_fade, rest_at}
+use Rattle.engine_instants.specs.Held.{IsHeld}
+use Rattle.engine_clocks.proofs.Kept.{open_kept}
 use Rattle.engine_clocks.proofs.Equal.{are_same, bumped, bumped-other, bumped-same, same_or_above, same_or_other, they_differ}
 use Rattle.engine_clocks.proofs.Fading.{fade_of, fade_op, fade_within, op_of_work, reads_fade, reads_work, work_of_op}
 use Rattle.engine_clocks.proofs.Opened.{begun-no_reader, begun-reads, past_long}
@@ -98,7 +100,9 @@ module _ (setting : Setting) (sub : ℕ → ℕ → List Slot) (rank : NodeClock
       (stand : Stand setting sub rank (rank clock) ran fed front first) (needed : RanAsNeeded setting sub rank (rank clock) ran fed)
       (stands : ClockStands setting sub clock (moment_after setting sub clock (history setting sub clock (u.reached.ran_now clock)) ∷ history setting sub clock (u.reached.ran_now clock)) u.reached.fed_now new.states.items)
       (others : (i : ℕ) → same_clock (clock_of setting i) clock ≡ false → slice_get new.states.items i ≡ slice_get lanes.states.items i)
-      (times : new.times.items ≡ lanes.times.items) where
+      (times : new.times.items ≡ lanes.times.items)
+      (held : (i : ℕ) → same_clock (clock_of setting i) clock ≡ false → part_at new.runs.held.items i ≡ part_at lanes.runs.held.items i)
+      (rests : (i : ℕ) → rest_at new i ≡ rest_at lanes i) where
     -- no crossfade of the clock's rank or a deeper one has this clock for its sub-clock
     no_sub : (k : ℕ) → k < length setting.plan.nodes → rank clock ≤ rank (clock_of setting k) → Sub k ≡ clock → ⊥
     no_sub k within above e = let up = ranks.deeper k (omega (arith, within, in_clocks)) in let same : rank (Sub k) ≡ rank clock = ap rank e in omega (arith, up, same, above)
@@ -202,9 +206,19 @@ module _ (setting : Setting) (sub : ℕ → ℕ → List Slot) (rank : NodeClock
     time_all k time within above at =
         subst (λ n. TimeStands setting.start n time) (sym (ran_sub k within above)) (u.reached.stand.time k time above (ap (λ xs. slice_get xs k) (sym times) ∙ at))
 
+    open_all : (k : ℕ) → k < length setting.plan.nodes → rank clock ≤ rank (clock_of setting k) → 0 < rest_at new k
+        → IsOpen setting sub k (rest_at new k) (bumped u.reached.ran_now clock) u.reached.fed_now new
+    open_all k within above some =
+        open_kept setting sub k u.reached.ran_now (bumped u.reached.ran_now clock) u.reached.fed_now u.reached.fed_now lanes new (ran_sub k within above) (rests k)
+        (λ i here.
+        let outside = they_differ (clock_of setting i) clock (λ same. no_sub k within above (sym here ∙ same)) in
+        (refl, others i outside, held i outside))
+        (u.reached.stand.kept k within above) some
+
     module _ (in_times : length lanes.times.items ≡ length setting.plan.nodes) (down : GoDown setting sub)
         (opened : begin ≡ takes_at setting clock (history setting sub clock (ran clock)))
-        (parts : new.latest.parts.items ≡ (moment_after setting sub clock (history setting sub clock (ran clock))).parts) where
+        (parts : new.latest.parts.items ≡ (moment_after setting sub clock (history setting sub clock (ran clock))).parts)
+        (keeps : IsHeld setting sub clock (history setting sub clock (ran clock)) new.runs.held.items) where
       pub made : HasMade setting sub rank clock ran fed front (begin ++ more) new
       made = record {
         ran_now = bumped u.reached.ran_now clock;
@@ -216,6 +230,7 @@ module _ (setting : Setting) (sub : ℕ → ℕ → List Slot) (rank : NodeClock
           time = λ k time above at. time_all k time
               (let low = slice_get_within new.times.items k time at in let many = ap length times in omega (arith, low, many, in_times)) above at;
           needed = needed_below setting sub rank (rank clock) (suc (rank clock)) (bumped u.reached.ran_now clock) u.reached.fed_now (omega arith) needed_all;
+          kept = open_all;
         };
         once = bumped-same u.reached.ran_now clock ∙ ap suc (u.reached.others clock (omega arith));
         others = λ other apart low. bumped-other u.reached.ran_now clock other apart ∙ u.reached.others other low;
@@ -224,4 +239,5 @@ module _ (setting : Setting) (sub : ℕ → ℕ → List Slot) (rank : NodeClock
         calls = ap (λ (cs : List Call). cs ++ more) opened ∙ ap (λ (cs : List Call). takes_at setting clock (history setting sub clock (ran clock)) ++ cs) u.calls
             ∙ sym (down.each clock (history setting sub clock (ran clock)));
         parts = parts;
+        keeps = keeps;
       }

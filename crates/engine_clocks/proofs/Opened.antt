@@ -1,14 +1,15 @@
 -- The readers of a clock begin its instant.
-use Rattle.std.proofs.Common.{◌≡◌, ◌≤◌, ◌∙◌, ◌&&◌, ◌++◌, ◌%◌, ℕ, zero, suc, Bool, true, false, cond, Some, Option, List, [], length, nat_eq, slice_get, append-nil, arith, refl, ap, sym, subst}
-use Rattle.std.specs.Prelude.{OnErr, OnOk, Result, Ok, Err}
+use Rattle.std.proofs.Common.{◌≡◌, ◌≤◌, ◌<◌, ◌∙◌, ◌&&◌, ◌++◌, ◌%◌, ℕ, zero, suc, Bool, true, false, cond, Some, Option, List, [], length, nat_eq, slice_get, append-nil, arith, refl, ap, sym, subst}
+use Rattle.std.specs.Prelude.{slice_index_or, OnErr, OnOk, Result, Ok, Err}
 use Rattle.std.proofs.lemmas.Bool.{true≢false}
 use Rattle.plan_core.specs.declared.node.Node.{Node}
 use Rattle.clock_infer.specs.declared.clock_map.NodeClock.{NodeClock}
+use Rattle.clock_infer.specs.declared.clock_map.NodeClock.TheVariants.{Sub}
 use Rattle.frame_core.specs.Slots.{Slot}
 use Rattle.frame_core.specs.Calls.{Call}
 use Rattle.op_leaf.specs.Readers.{Answer}
 use Rattle.stream_meaning.specs.Operators.{Work, Plays, Picks, Mixes, Fades, Reads}
-use Rattle.stream_meaning.specs.Instants.{Setting, Moment, clock_of, history, lies_in, work_at}
+use Rattle.stream_meaning.specs.Instants.{Setting, Moment, clock_of, history, lies_in, part_at, work_at}
 use Rattle.stream_meaning.specs.Calls.{IsBegin, after_calls, answers_in, takes_at}
 use Rattle.stream_meaning.proofs.Existence.{same_clock-true}
 use Rattle.node_states.specs.declared.state.NodeState.{NodeState}
@@ -22,9 +23,10 @@ use Rattle.engine_instants.specs.Nodes.{lies_at}
 use Rattle.engine_instants.specs.States.{ClockStands, IsIn, over}
 use Rattle.engine_instants.specs.Takes.{HasOwnReaders, HaveBegun, HaveTaken, HaveTakenSome, begun_by, begun_in, takes_below}
 use Rattle.engine_clocks.specs.declared.lanes.ClockLanes.{ClockLanes}
-use Rattle.engine_clocks.specs.Clocks.{ClockOpened, OpeningStopped, RanAsNeeded, Stand}
+use Rattle.engine_clocks.specs.Clocks.{ClockOpened, HasRanks, IsOpen, OpeningStopped, RanAsNeeded, Stand, rest_at}
 use Rattle.plan_core.specs.declared.plan.Plan.{Plan}
 use Rattle.frame_core.specs.Library.{Sounds}
+use Rattle.engine_clocks.proofs.Kept.{open_kept}
 use Rattle.engine_clocks.proofs.Equal.{they_differ}
 use Rattle.engine_clocks.proofs.Fading.{fade_reads}
 
@@ -124,13 +126,13 @@ module _ (setting : Setting) (sub : ℕ → ℕ → List Slot) (rank : NodeClock
       ap (λ r. r.taken) (reading_stays setting i buffer past within ∙ reading_closed setting i buffer past) ∙ have_taken.taken i buffer node inside work
       ∙ ap length (sym (append-nil (front buffer)))
 
-  module _ (own : HasOwnReaders setting) (more : List Call) (new : ClockLanes)
+  module _ (ranks : HasRanks setting.clocks rank) (in_clocks : length setting.clocks ≡ length setting.plan.nodes) (own : HasOwnReaders setting) (more : List Call) (new : ClockLanes)
       (begun : ClockStands setting sub clock (history setting sub clock (ran clock)) (begun_in setting clock fed) new.states.items)
       (taken : (i buffer : ℕ) (node : Node) → IsIn setting clock i node → work_at setting i node ≡ Reads buffer
       → (reading_by setting i buffer (history setting sub clock (ran clock)) (suc (length (history setting sub clock (ran clock))))).taken ≡ length (after_calls front more buffer))
       (none : (buffer : ℕ) → ((i : ℕ) (node : Node) → IsIn setting clock i node → work_at setting i node ≡ Reads buffer → ⊥) → answers_in buffer more ≡ [])
       (others : (i : ℕ) → lies_in setting clock i ≡ false → slice_get new.states.items i ≡ slice_get old.states.items i)
-      (times : new.times.items ≡ old.times.items) where
+      (times : new.times.items ≡ old.times.items) (runs : new.runs ≡ old.runs) where
     stand_all : (i : ℕ) (node : Node) (state : NodeState) → slice_get setting.plan.nodes i ≡ Some node → slice_get new.states.items i ≡ Some state
         → rank clock ≤ rank (clock_of setting i)
         → (b : Bool) → lies_in setting clock i ≡ b → StateStands setting sub (past_of setting sub ran i) (begun_in setting clock fed i) i (work_at setting i node) state
@@ -162,6 +164,21 @@ module _ (setting : Setting) (sub : ℕ → ℕ → List Slot) (rank : NodeClock
         let outside = they_differ (clock_of setting i) clock (λ same. let level : rank (clock_of setting i) ≡ rank clock = ap rank same in omega (arith, level, above)) in
         begun-outside setting clock fed i outside ∙ stand.needed.begun i reading above
 
+    -- the clock is none of the sub-clocks of which instants are kept
+    not_kept : (k i : ℕ) → k < length setting.plan.nodes → rank clock ≤ rank (clock_of setting k) → clock_of setting i ≡ Sub k → clock_of setting i ≡ clock → ⊥
+    not_kept k i within above here same =
+        let up = ranks.deeper k (omega (arith, within, in_clocks)) in
+        let one : rank (clock_of setting i) ≡ rank (Sub k) = ap rank here in
+        let two : rank (clock_of setting i) ≡ rank clock = ap rank same in
+        omega (arith, up, above, one, two)
+
+    open_all : (k : ℕ) → k < length setting.plan.nodes → rank clock ≤ rank (clock_of setting k) → 0 < rest_at new k → IsOpen setting sub k (rest_at new k) ran (begun_in setting clock fed) new
+    open_all k within above some =
+        open_kept setting sub k ran ran fed (begun_in setting clock fed) old new refl (ap (λ r. slice_index_or r.rests.items k 0) runs)
+        (λ i here.
+        let outside = they_differ (clock_of setting i) clock (not_kept k i within above here) in
+        (begun-outside setting clock fed i outside, others i outside, ap (λ r. part_at r.held.items i) runs)) (stand.kept k within above) some
+
     pub opened_stand : Stand setting sub rank (rank clock) ran (begun_in setting clock fed) (after_calls front more) new
     opened_stand = record {
       stand = λ i node state found stored above. stand_all i node state found stored above (lies_in setting clock i) refl;
@@ -169,6 +186,7 @@ module _ (setting : Setting) (sub : ℕ → ℕ → List Slot) (rank : NodeClock
       even = λ k fades above. begun-no_reader setting clock fed k (fade_reads setting k fades) ∙ stand.even k fades above;
       time = λ k time above at. stand.time k time above (ap (λ ts. slice_get ts k) (sym times) ∙ at);
       needed = record { each = stand.needed.each; begun = begun_all };
+      kept = open_all;
     }
 
 -- what holds of an answer holds of what follows from it
@@ -197,10 +215,10 @@ takes_within setting clock past starts = sym (ap (λ (b : Bool). cond b (takes_b
 module _ {T : Type 0} (stands : T → List Call → Type 0) (plan : Plan) (library : Sounds) (clocks : List NodeClock) (clock : NodeClock) (time : WeekTime) (frame : time.frame ≡ plan.frame)
     (tick : true ≡ nat_eq time.place 0) (old : ClockLanes) (states : List NodeState) (a b : T) (were : states ≡ old.states.items) where
   -- the readers have begun
-  pub opened_by : (new : ClockLanes) (states_new : List NodeState) → new.states.items ≡ states_new → new.times.items ≡ old.times.items
+  pub opened_by : length clocks ≡ length plan.nodes → (new : ClockLanes) (states_new : List NodeState) → new.states.items ≡ states_new → new.times.items ≡ old.times.items → new.runs ≡ old.runs
       → ((i : ℕ) → lies_at clocks clock i ≡ false → slice_get states_new i ≡ slice_get states i)
       → HaveBegun stands plan library clocks clock states states_new a b → ClockOpened stands plan library clocks clock time old new a b
-  opened_by new states_new are times others has = record {
+  opened_by in_clocks new states_new are times runs others has = record {
     more = has.more;
     taps = has.taps;
     opened = λ other sub rank ran fed front ranks own answers stand needed at.
@@ -211,9 +229,9 @@ module _ {T : Type 0} (stands : T → List Call → Type 0) (plan : Plan) (libra
         (subst (λ xs. ClockStands S sub clock past fed xs) (sym were) (clock_stands_at S sub rank clock ran fed front old stand needed))
         (have_taken S sub rank clock ran fed front old stand needed) in
         record {
-          stand = opened_stand S sub rank clock ran fed front old stand needed own has.more new
+          stand = opened_stand S sub rank clock ran fed front old stand needed ranks in_clocks own has.more new
               (subst (λ xs. ClockStands S sub clock past (begun_in S clock fed) xs) (sym are) begun.stand) begun.taken begun.others
-              (λ i outside. ap (λ xs. slice_get xs i) are ∙ others i outside ∙ ap (λ xs. slice_get xs i) were) times;
+              (λ i outside. ap (λ xs. slice_get xs i) are ∙ others i outside ∙ ap (λ xs. slice_get xs i) were) times runs;
           calls = begun.calls ∙ takes_start S clock past starts;
         };
   }

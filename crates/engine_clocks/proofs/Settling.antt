@@ -1,5 +1,5 @@
 -- The calls by which crossfades get their items, whatever the lanes stood for.
-use Rattle.std.proofs.Common.{◌≡◌, ◌<◌, ◌∙◌, ◌++◌, ℕ, suc, Bool, true, Some, List, [], length, slice_get, ap, sym, subst}
+use Rattle.std.proofs.Common.{◌≡◌, ◌<◌, ◌∙◌, ◌++◌, ℕ, suc, Bool, true, Some, List, [], length, slice_get, arith, ap, sym, subst}
 use Rattle.plan_core.specs.declared.plan.Plan.{Plan}
 use Rattle.clock_infer.specs.declared.clock_map.NodeClock.{NodeClock}
 use Rattle.clock_infer.specs.declared.clock_map.NodeClock.TheVariants.{Sub}
@@ -19,14 +19,19 @@ use Rattle.node_states.specs.States.{AreLong, FadesOn, IsSettled, StateStands}
 use Rattle.node_states.proofs.Begun.{as_many}
 use Rattle.node_states.proofs.Chunks.{adds_none, adds_then}
 use Rattle.engine_instants.specs.Nodes.{IsFirst, lies_at}
+use Rattle.stream_meaning.specs.declared.part.Part.{Part}
+use Rattle.engine_instants.specs.Held.{IsHeld}
 use Rattle.engine_instants.specs.States.{over}
 use Rattle.engine_instants.specs.Takes.{begun_in}
 use Rattle.engine_clocks.specs.declared.lanes.ClockLanes.{ClockLanes}
-use Rattle.engine_clocks.specs.Clocks.{AllSettled, AreLeft, ClockOpened, HasRanks, InstantMade, InstantStopped, IsFeeding, IsWorld, NodeSettled, NodeStopped, OpeningStopped, SettlingStopped, Stand, calls_upto, clock_at, fade_at, is_fade, is_in, is_none}
+use Rattle.engine_clocks.specs.Runs.{FedOn}
+use Rattle.engine_clocks.specs.Clocks.{AllSettled, AreLeft, ClockOpened, HasRanks, InstantMade, InstantStopped, IsFeeding, IsWorld, NodeSettled, NodeStopped, OpeningStopped, SettlingStopped, Stand, calls_upto, clock_at, fade_at, is_fade, is_in, is_none, rest_at}
 use Rattle.engine_clocks.proofs.Fading.{fade_of}
 use Rattle.engine_clocks.proofs.Joining.{begun_here, fed_none, joined, joined_stopped, passed, stand_here}
 use Rattle.engine_clocks.proofs.Making.{are_ready}
-use Rattle.engine_clocks.proofs.Taking.{IsFed, fed_stopped, feeding_none, needed_under, reached_fading, reached_item, stand_under, taken, time_under}
+use Rattle.engine_clocks.proofs.FedOn.{TakesSlot, fed_kept, one_fed}
+use Rattle.engine_clocks.proofs.Gone.{gone_once}
+use Rattle.engine_clocks.proofs.Taking.{fed_stopped, feeding_none, needed_under, reached_fading, reached_item, stand_under, taken, taken_at, time_under}
 
 -- node k was fed some slots, by these calls
 pub record NodeFeeding {T : Type 0} (stands : T → List Call → Type 0) (plan : Plan) (library : Sounds) (clocks : List NodeClock) (own : List Bool)
@@ -49,15 +54,27 @@ module _ {T : Type 0} (stands : T → List Call → Type 0) (plan : Plan) (libra
       feeding = λ other sub rank ran fed front world has stand. feeding_none (over plan library clocks other) sub rank (rank (clock_at clocks k)) k ran fed front old stand;
     }
 
+    -- no instants of the sub-clock are kept any more
+    pub node_closed : (within : k < length plan.nodes) (lanes kept : ClockLanes) (b : T) → kept.states ≡ lanes.states → kept.times ≡ lanes.times → kept.runs.held ≡ lanes.runs.held
+        → rest_at kept k ≡ 0 → ((i : ℕ) → (i ≡ k → ⊥) → rest_at kept i ≡ rest_at lanes i) → NodeFeeding stands plan library clocks own k old lanes a b → NodeFeeding stands plan library clocks own k old kept a b
+    node_closed within lanes kept b states times held none others so = record {
+      more = so.more;
+      taps = so.taps;
+      feeding = λ other sub rank ran fed front world has stand.
+          fed_kept (over plan library clocks other) sub rank world.ranks in_clocks k within ran fed front so.more lanes kept 0 states times held none others
+          (so.feeding other sub rank ran fed front world has stand) (λ some. absurd (omega (arith, some)));
+    }
+
     module _ (within : k < length plan.nodes) (lanes : ClockLanes) (b : T) (state : NodeState) (at : slice_get lanes.states.items k ≡ Some state)
         (so : NodeFeeding stands plan library clocks own k old lanes a b) where
       module _ (fades : (setting : Setting) (sub : ℕ → ℕ → List Slot) (past : List Moment) (fed i : ℕ) (work : Work) → AreLong sub → StateStands setting sub past fed i work state → FadesOn sub past fed i work)
           (c : T) (time : WeekTime) (timed : slice_get lanes.times.items k ≡ Some time) where
-        pub node_more : (made new : ClockLanes) → ((rank : NodeClock → ℕ) → HasRanks clocks rank → AreLeft clocks rank (rank (Sub k)) (is_in clocks (Sub k)) lanes made)
+        pub node_more : rest_at lanes k ≡ 0 → (made slotted new : ClockLanes) → ((rank : NodeClock → ℕ) → HasRanks clocks rank → AreLeft clocks rank (rank (Sub k)) (is_in clocks (Sub k)) lanes made)
             → length made.states.items ≡ length plan.nodes → length made.times.items ≡ length plan.nodes
-            → ((other : Setting) (sub : ℕ → ℕ → List Slot) → IsFed (over plan library clocks other) sub k made new)
-            → InstantMade stands plan library clocks own (Sub k) time lanes made b c → NodeFeeding stands plan library clocks own k old new a c
-        node_more made new left in_states in_times feeds one = record {
+            → ((other : Setting) (sub : ℕ → ℕ → List Slot) → TakesSlot (over plan library clocks other) sub k made slotted) → slotted.latest ≡ made.latest → slotted.runs ≡ made.runs
+            → InstantMade stands plan library clocks own (Sub k) time lanes made b c → FedOn plan library clocks k time slotted new
+            → NodeFeeding stands plan library clocks own k old new a c
+        node_more idle made slotted new left in_states in_times takes latest runs one on = record {
           more = so.more ++ one.more;
           taps = adds_then stands a b c so.more one.more so.taps one.taps;
           feeding = λ other sub rank ran fed front world has stand.
@@ -65,12 +82,17 @@ module _ {T : Type 0} (stands : T → List Call → Type 0) (plan : Plan) (libra
               let f = so.feeding other sub rank ran fed front world (answers_first S front so.more one.more has) stand in
               let n = reached_fading S sub rank k ran fed front so.more lanes state within at (λ past n work stands. fades S sub past n k work (as_many S sub world.meaning) stands) f in
               let fading : fade_at S k ≡ true = fade_of S k n.0 n.2 ∙ ap is_fade n.3 in
-              taken S sub rank world.ranks in_clocks world.meaning k within ran fed front so.more lanes f fading made new one.more
-              (one.made other sub rank f.reached.ran_now f.reached.fed_now (after_calls front so.more) world (answers_then S front so.more one.more has)
-              (stand_under S sub rank world.ranks in_clocks world.meaning k within ran fed front so.more lanes f)
-              (needed_under S sub rank world.ranks in_clocks world.meaning k within ran fed front so.more lanes f)
-              (time_under S sub rank world.ranks in_clocks world.meaning k within ran fed front so.more lanes f time timed))
-              (left rank world.ranks) in_states in_times (feeds other sub);
+              let now = time_under S sub rank world.ranks in_clocks k within ran fed front so.more lanes f time timed in
+              let m = one.made other sub rank f.reached.ran_now f.reached.fed_now (after_calls front so.more) world (answers_then S front so.more one.more has)
+              (stand_under S sub rank world.ranks in_clocks k within ran fed front so.more lanes f)
+              (needed_under S sub rank world.ranks in_clocks k within ran fed front so.more lanes f) now in
+              let gone = gone_once S sub rank (Sub k) f.reached.ran_now f.reached.fed_now (after_calls front so.more) made one.more m in
+              let feeds = one_fed S sub k (f.reached.ran_now (Sub k)) made slotted world.meaning m.parts (takes other sub) in
+              let one_more = taken_at S sub rank world.ranks in_clocks k within ran fed front so.more lanes f fading 1 made slotted one.more gone (left rank world.ranks) in_states in_times feeds idle in
+              on.fed other sub rank ran fed front (so.more ++ one.more) own (f.reached.ran_now (Sub k)) world fading
+              (taken S sub rank world.ranks in_clocks k within ran fed front so.more lanes f fading 1 made slotted one.more gone (left rank world.ranks) in_states in_times feeds idle)
+              (omega (arith, one_more)) (ap (λ it. it.parts.items) latest ∙ m.parts)
+              (subst (λ (ps : List Part). IsHeld S sub (Sub k) (history S sub (Sub k) (f.reached.ran_now (Sub k))) ps) (sym (ap (λ it. it.held.items) runs)) m.keeps) now;
         }
 
         pub node_stopped : InstantStopped stands plan library clocks own (Sub k) time lanes b c → NodeStopped stands plan library clocks own k old a c
@@ -82,11 +104,11 @@ module _ {T : Type 0} (stands : T → List Call → Type 0) (plan : Plan) (libra
               let f = so.feeding other sub rank ran fed front world (answers_first S front so.more one.made has) stand in
               let n = reached_fading S sub rank k ran fed front so.more lanes state within at (λ past n work stands. fades S sub past n k work (as_many S sub world.meaning) stands) f in
               let fading : fade_at S k ≡ true = fade_of S k n.0 n.2 ∙ ap is_fade n.3 in
-              fed_stopped S sub rank world.ranks in_clocks world.meaning k within ran fed front so.more lanes f fading one.made n.1 n.0 n.2 n.3 n.4
+              fed_stopped S sub rank world.ranks in_clocks k within ran fed front so.more lanes f fading one.made n.1 n.0 n.2 n.3 n.4
               (one.begins other sub rank f.reached.ran_now f.reached.fed_now (after_calls front so.more) world (answers_then S front so.more one.made has)
-              (stand_under S sub rank world.ranks in_clocks world.meaning k within ran fed front so.more lanes f)
-              (needed_under S sub rank world.ranks in_clocks world.meaning k within ran fed front so.more lanes f)
-              (time_under S sub rank world.ranks in_clocks world.meaning k within ran fed front so.more lanes f time timed));
+              (stand_under S sub rank world.ranks in_clocks k within ran fed front so.more lanes f)
+              (needed_under S sub rank world.ranks in_clocks k within ran fed front so.more lanes f)
+              (time_under S sub rank world.ranks in_clocks k within ran fed front so.more lanes f time timed));
         }
 
       pub node_settled : ((setting : Setting) (sub : ℕ → ℕ → List Slot) (past : List Moment) (fed i : ℕ) (work : Work) → StateStands setting sub past fed i work state

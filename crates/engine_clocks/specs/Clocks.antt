@@ -13,15 +13,18 @@ use Rattle.frame_core.specs.Calls.{Adds, Call}
 use Rattle.op_leaf.specs.Readers.{Answer}
 use Rattle.op_cross.specs.Runs.{run_of}
 use Rattle.stream_meaning.specs.Operators.{Work, Plays, Picks, Mixes, Fades, Reads}
-use Rattle.stream_meaning.specs.Instants.{Setting, Moment, IsMeaning, clock_of, history, is_root, lies_in, moment_after, position, work_at}
+use Rattle.stream_meaning.specs.Instants.{Setting, Moment, IsMeaning, clock_of, crossfaded, gives, history, is_root, lies_in, moment_after, part_at, position, work_at}
 use Rattle.stream_meaning.specs.Calls.{GoDown, HasAnswers, IsBegin, after_calls, calls_of, fades_in, joined_between, joined_upto, ran_by, takes_at}
+use Rattle.stream_meaning.specs.declared.part.Part.{Part}
+use Rattle.segment_laws.specs.Stretches.{IsStretch}
 use Rattle.node_states.specs.declared.state.NodeState.{NodeState}
 use Rattle.node_states.specs.declared.time.WeekTime.{WeekTime}
-use Rattle.node_states.specs.States.{IsSettled, StateStands, left, reading_by, reads_at, wants}
+use Rattle.node_states.specs.States.{IsSettled, StateStands, left, reading_by, reads_at, room, wants}
 use Rattle.node_states.specs.Ticks.{past_of}
 use Rattle.node_states.specs.Times.{TimeStands}
 use Rattle.engine_instants.specs.Nodes.{AreNodesOf, IsLatest}
-use Rattle.engine_instants.specs.Runs.{HasRunRoom}
+use Rattle.engine_instants.specs.Held.{AllAsk, AllPassOn, IsHeld}
+use Rattle.engine_instants.specs.Runs.{AllLieAhead, HasRunRoom}
 use Rattle.engine_instants.specs.States.{AllFit, HasRoomFor, over}
 use Rattle.engine_instants.specs.Takes.{HasOwnReaders, begun_in}
 use Rattle.engine_clocks.specs.declared.lanes.ClockLanes.{ClockLanes}
@@ -40,6 +43,19 @@ pub record HasLevels (clocks : List NodeClock) (clock : NodeClock) (levels : ℕ
   pub ranks : HasRanks clocks rank
   pub enough : (k : ℕ) → k < length clocks → rank (Sub k) ≤ rank clock + levels
 
+-- how many instants go on as the latest one of the sub-clock of crossfade k did, of those that are kept
+abbrev pub rest_at : ClockLanes → ℕ → ℕ
+rest_at lanes k = slice_index_or lanes.runs.rests.items k 0
+
+-- the states of a sub-clock's nodes can go on for as many instants as are kept
+pub record AreResting (library : Sounds) (clocks : List NodeClock) (lanes : ClockLanes) : Type 0 where
+  pub ahead : (k : ℕ) → 0 < rest_at lanes k → AllLieAhead library clocks (Sub k) lanes.runs.held.items lanes.states.items (length clocks) (rest_at lanes k)
+  pub through : (k : ℕ) → 0 < rest_at lanes k → AllPassOn clocks (Sub k) lanes.runs.held.items lanes.states.items lanes.runs.rests.items (length clocks) (rest_at lanes k)
+
+-- no instants are kept of a clock
+pub record IsIdle (clock : NodeClock) (lanes : ClockLanes) : Type 0 where
+  pub none : (k : ℕ) → clock ≡ Sub k → rest_at lanes k ≡ 0
+
 -- lanes for the nodes of this plan, with these files and these clocks of its nodes
 pub record AreClockLanes (plan : Plan) (library : Sounds) (clocks : List NodeClock) (lanes : ClockLanes) : Type 0 where
   pub fit : AllFit plan library lanes.states.items
@@ -48,6 +64,7 @@ pub record AreClockLanes (plan : Plan) (library : Sounds) (clocks : List NodeClo
   pub latest : IsLatest clocks lanes.latest
   pub room : HasRoomFor plan lanes.desk
   pub runs : HasRunRoom (length plan.nodes) lanes.runs
+  pub resting : AreResting library clocks lanes
   pub rates : (k : ℕ) (time : WeekTime) → slice_get lanes.times.items k ≡ Some time → time.rate ≡ plan.rate
   pub frames : (k : ℕ) (time : WeekTime) → slice_get lanes.times.items k ≡ Some time → time.frame ≡ plan.frame
 
@@ -62,6 +79,10 @@ wants_at states k = option_map_or wants (slice_get states k) false
 abbrev pub left_at : List NodeState → ℕ → ℕ
 left_at states k = option_map_or left (slice_get states k) 0
 
+-- how many cells of a track that goes on the node at a place takes
+abbrev pub room_at : List NodeState → ℕ → ℕ
+room_at states k = option_map_or room (slice_get states k) 0
+
 -- some of the nodes: one of them, those of a clock, and of these the first ones
 abbrev pub is_none : ℕ → Type 0
 is_none i = ⊥
@@ -75,10 +96,13 @@ is_in clocks clock i = clock_at clocks i ≡ clock
 abbrev pub is_upto : List NodeClock → NodeClock → (below : ℕ) → ℕ → Type 0
 is_upto clocks clock below i = (i < below) × (clock_at clocks i ≡ clock)
 
--- but for some nodes, those in clocks of this rank or a lower one have the states that they had, and their sub-clocks the times
+-- but for some nodes, those in clocks of this rank or a lower one have the states that they had, what is kept of their latest instant,
+-- and their sub-clocks the times and the instants that are kept
 pub record AreLeft (clocks : List NodeClock) (rank : NodeClock → ℕ) (level : ℕ) (touched : ℕ → Type 0) (old new : ClockLanes) : Type 0 where
   pub states : (i : ℕ) → (touched i → ⊥) → rank (clock_at clocks i) ≤ level → slice_get new.states.items i ≡ slice_get old.states.items i
   pub times : (i : ℕ) → (touched i → ⊥) → rank (clock_at clocks i) ≤ level → slice_get new.times.items i ≡ slice_get old.times.items i
+  pub held : (i : ℕ) → (touched i → ⊥) → rank (clock_at clocks i) ≤ level → part_at new.runs.held.items i ≡ part_at old.runs.held.items i
+  pub rests : (i : ℕ) → (touched i → ⊥) → rank (clock_at clocks i) ≤ level → rest_at new i ≡ rest_at old i
 
 -- whether a node's work is to fade
 abbrev pub is_fade : Work → Bool
@@ -104,6 +128,21 @@ pub record RanAsNeeded (setting : Setting) (sub : ℕ → ℕ → List Slot) (ra
       → level ≤ rank (clock_of setting k) → ran (Sub k) ≡ ran_by sub k overlap (past_of setting sub ran k)
   pub begun : (i : ℕ) → reads_at setting i ≡ true → level ≤ rank (clock_of setting i) → fed i ≡ ran (clock_of setting i)
 
+-- so many instants go on as the one after these did, of which this is kept; and for them each crossfade of the clock through which cells
+-- pass asks for a slot an instant, and any other one for none
+pub record GoesOnFor (setting : Setting) (sub : ℕ → ℕ → List Slot) (clock : NodeClock) (past : List Moment) (rest : ℕ) (fed : ℕ → ℕ) (held : List Part)
+    (states : List NodeState) : Type 0 where
+  pub stretch : IsStretch setting sub clock past (suc rest)
+  pub held_is : IsHeld setting sub clock past held
+  pub asks : AllAsk setting sub clock past fed states (length setting.clocks) rest
+
+-- so many instants of the sub-clock of crossfade k go on as its latest one did, at which the child gave
+pub record IsOpen (setting : Setting) (sub : ℕ → ℕ → List Slot) (k rest : ℕ) (ran : NodeClock → ℕ) (fed : ℕ → ℕ) (lanes : ClockLanes) : Type 0 where
+  pub n : ℕ
+  pub at : ran (Sub k) ≡ suc n
+  pub gave : gives (moment_after setting sub (Sub k) (history setting sub (Sub k) n)) (crossfaded setting.plan.nodes k) ≡ true
+  pub goes : GoesOnFor setting sub (Sub k) (history setting sub (Sub k) n) rest fed lanes.runs.held.items lanes.states.items
+
 -- the readers have taken these answers; in clocks of this rank and deeper ones the states stand for the instants that the clocks have
 -- made, each crossfade was fed what its sub-clock made, and the sub-clock's time is that of its next instant; and clocks deeper than
 -- this ran as needed. `fed i` is also how many instants reader i has begun. Of states in lower clocks nothing is said: such may be idle
@@ -117,6 +156,7 @@ pub record Stand (setting : Setting) (sub : ℕ → ℕ → List Slot) (rank : N
   pub time : (k : ℕ) (time : WeekTime) → level ≤ rank (clock_of setting k) → slice_get lanes.times.items k ≡ Some time
       → TimeStands setting.start (ran (Sub k)) time
   pub needed : RanAsNeeded setting sub rank (suc level) ran fed
+  pub kept : (k : ℕ) → k < length setting.plan.nodes → level ≤ rank (clock_of setting k) → 0 < rest_at lanes k → IsOpen setting sub k (rest_at lanes k) ran fed lanes
 
 -- the item of node k is settled, if it is a crossfade, by no more slots than it takes
 pub record HasItem (setting : Setting) (sub : ℕ → ℕ → List Slot) (ran : NodeClock → ℕ) (fed : ℕ → ℕ) (k : ℕ) (node : Node) : Type 0 where
@@ -164,6 +204,7 @@ pub record HasMade (setting : Setting) (sub : ℕ → ℕ → List Slot) (rank :
   pub needed : RanAsNeeded setting sub rank (rank clock) ran_now fed_now
   pub calls : more ≡ calls_of setting sub clock (history setting sub clock (ran clock))
   pub parts : lanes.latest.parts.items ≡ (moment_after setting sub clock (history setting sub clock (ran clock))).parts
+  pub keeps : IsHeld setting sub clock (history setting sub clock (ran clock)) lanes.runs.held.items
 
 -- what holds of a setting, whatever its answers are
 pub record IsWorld (setting : Setting) (sub : ℕ → ℕ → List Slot) (rank : NodeClock → ℕ) (own : List Bool) : Type 0 where

@@ -4,13 +4,13 @@ ghost use Rattle.liq_base.specs.declared.limits.TheConstants.{MAX_NODES};
 ghost use Rattle.plan_core.specs.Plans.{AreNodes};
 ghost use Rattle.clock_infer.specs.declared.clock_map.NodeClock.{NodeClock as Clock};
 ghost use Rattle.clock_infer.specs.declared.clock_map.NodeClock.TheVariants.{Main as InMain};
-ghost use Rattle.engine_instants.specs.Runs.{IsMarked};
 ghost use Rattle.engine_instants.specs.Takes.{HasReader, ReadersAreIn};
-ghost use Rattle.engine_clocks.specs.Clocks.{AllSettled, AreClockLanes, AreLeft, HasLevels, HasRanks, InstantMade, InstantStopped, NodeSettled, NodeStopped, SettlingStopped, is_in, is_node};
+ghost use Rattle.engine_clocks.specs.Clocks.{AllSettled, AreClockLanes, AreLeft, HasLevels, HasRanks, InstantMade, InstantStopped, IsIdle, NodeSettled, NodeStopped, SettlingStopped, is_in, is_node};
 
 use crate::ClockLanes;
-use crate::feeding::feed_child;
+use crate::feeding::{feed_child, feed_on};
 use crate::finishing::finish;
+use crate::keeping::keep;
 use crate::opening::begin_clock;
 use clock_infer::NodeClock;
 use engine_instants::Shape;
@@ -38,6 +38,7 @@ pub fn make_instant<T: Taps>(
     requires in_own { length own.now ≡ length shape.now.plan.now.nodes }
     requires lanes { AreClockLanes shape.now.plan.now shape.now.library.now shape.now.clocks.now lanes.old }
     requires levels { HasLevels shape.now.clocks.now clock levels }
+    requires idle { IsIdle clock lanes.old }
     requires rate { time.rate ≡ shape.now.plan.now.rate }
     requires frame { time.frame ≡ shape.now.plan.now.frame }
     requires readers { ReadersAreIn shape.now.plan.now (T.buffers taps.old) }
@@ -46,7 +47,6 @@ pub fn make_instant<T: Taps>(
     ensures same { T.same taps.old taps.new }
     ensures left { OnOk result ((rank : Clock → ℕ) → HasRanks shape.now.clocks.now rank
         → AreLeft shape.now.clocks.now rank (rank clock) (is_in shape.now.clocks.now clock) lanes.old lanes.new) }
-    ensures marked { OnOk result (IsMarked shape.now.plan.now shape.now.library.now shape.now.clocks.now own.now clock lanes.new.latest) }
     ensures made { OnOk result (InstantMade T.stands shape.now.plan.now shape.now.library.now shape.now.clocks.now own.now clock time lanes.old lanes.new taps.old taps.new) }
     ensures stopped { OnErr result (InstantStopped T.stands shape.now.plan.now shape.now.library.now shape.now.clocks.now own.now clock time lanes.old taps.old taps.new) }
     ensures reads { OnErr result (HasReader shape.now.plan.now shape.now.clocks.now clock) }
@@ -73,6 +73,7 @@ fn settle<T: Taps>(
     requires in_own { length own.now ≡ length shape.now.plan.now.nodes }
     requires lanes { AreClockLanes shape.now.plan.now shape.now.library.now shape.now.clocks.now lanes.old }
     requires levels { HasLevels shape.now.clocks.now (slice_index_or shape.now.clocks.now k (InMain 0)) levels }
+    requires idle { IsIdle (slice_index_or shape.now.clocks.now k (InMain 0)) lanes.old }
     requires within { k < length shape.now.plan.now.nodes }
     requires readers { ReadersAreIn shape.now.plan.now (T.buffers taps.old) }
     ensures lanes { AreClockLanes shape.now.plan.now shape.now.library.now shape.now.clocks.now lanes.new }
@@ -86,8 +87,10 @@ fn settle<T: Taps>(
 {
     while lanes.states[k as usize].wants() {
         let time = lanes.times[k as usize];
+        keep(shape, lanes, k, 0);
         make_instant(shape, own, lanes, NodeClock::Sub(k), time, levels - 1, taps)?;
         feed_child(shape, lanes, k);
+        feed_on(shape, lanes, k, time, levels);
     }
     Ok(())
 }
@@ -108,6 +111,7 @@ fn settle_all<T: Taps>(
     requires in_own { length own.now ≡ length shape.now.plan.now.nodes }
     requires lanes { AreClockLanes shape.now.plan.now shape.now.library.now shape.now.clocks.now lanes.old }
     requires levels { HasLevels shape.now.clocks.now clock levels }
+    requires idle { IsIdle clock lanes.old }
     requires readers { ReadersAreIn shape.now.plan.now (T.buffers taps.old) }
     ensures lanes { AreClockLanes shape.now.plan.now shape.now.library.now shape.now.clocks.now lanes.new }
     ensures buffers { T.buffers taps.new ≡ T.buffers taps.old }

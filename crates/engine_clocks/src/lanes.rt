@@ -4,7 +4,8 @@ use node_states::{Desk, NodeState, WeekTime};
 
 /// What changes from instant to instant in a clock and in the sub-clocks below it: for each node of the plan its state, and
 /// the time of the next instant of its sub-clock, where it is a crossfade; the latest instant of any of the clocks; room for
-/// the children of a node; and the samples of the latest run. With the nodes of each clock, which stay.
+/// the children of a node; and for runs the samples of the latest one, and what is kept of the latest instants of all clocks.
+/// With the nodes of each clock, which stay.
 #[derive(Drop)]
 pub struct ClockLanes {
     pub states: Vec<NodeState>,

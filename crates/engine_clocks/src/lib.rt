@@ -4,7 +4,9 @@
 mod clocks;
 mod feeding;
 mod finishing;
+mod keeping;
 mod lanes;
+mod onward;
 mod opening;
 mod run;
 

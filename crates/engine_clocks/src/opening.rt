@@ -3,7 +3,7 @@ ghost use Rattle.std.specs.Prelude.{◌≡◌, ℕ, false, length, slice_get, sl
 ghost use Rattle.clock_infer.specs.declared.clock_map.NodeClock.TheVariants.{Main as InMain};
 ghost use Rattle.stream_meaning.specs.Instants.{same_clock};
 ghost use Rattle.engine_instants.specs.Takes.{HasReader, ReadersAreIn};
-ghost use Rattle.engine_clocks.specs.Clocks.{AreClockLanes, ClockOpened, OpeningStopped};
+ghost use Rattle.engine_clocks.specs.Clocks.{AreClockLanes, ClockOpened, IsIdle, OpeningStopped};
 
 use crate::ClockLanes;
 use clock_infer::NodeClock;
@@ -22,6 +22,7 @@ pub fn begin_clock<T: Taps>(
 ) -> Result<(), Memory>
     requires in_clocks { length shape.now.clocks.now ≡ length shape.now.plan.now.nodes }
     requires lanes { AreClockLanes shape.now.plan.now shape.now.library.now shape.now.clocks.now lanes.old }
+    requires idle { IsIdle clock lanes.old }
     requires frame { time.frame ≡ shape.now.plan.now.frame }
     requires readers { ReadersAreIn shape.now.plan.now (T.buffers taps.old) }
     ensures lanes { AreClockLanes shape.now.plan.now shape.now.library.now shape.now.clocks.now lanes.new }
@@ -30,6 +31,7 @@ pub fn begin_clock<T: Taps>(
     ensures others { (i : ℕ) → same_clock (slice_index_or shape.now.clocks.now i (InMain 0)) clock ≡ false
         → slice_get lanes.new.states.items i ≡ slice_get lanes.old.states.items i }
     ensures times { lanes.new.times.items ≡ lanes.old.times.items }
+    ensures runs { lanes.new.runs ≡ lanes.old.runs }
     ensures opened { OnOk result (ClockOpened T.stands shape.now.plan.now shape.now.library.now shape.now.clocks.now clock time lanes.old lanes.new taps.old taps.new) }
     ensures stopped { OnErr result (OpeningStopped T.stands shape.now.plan.now shape.now.library.now shape.now.clocks.now clock time lanes.old taps.old taps.new) }
     ensures reads { OnErr result (HasReader shape.now.plan.now shape.now.clocks.now clock) }

@@ -2,6 +2,7 @@
 use Rattle.std.proofs.Common.{◌≡◌, ◌<◌, ◌≤◌, ◌+◌, ◌*◌, ◌∙◌, ◌&&◌, ◌||◌, All, [], take, nat_eq, ℕ, ℤ, suc, Bool, true, false, Some, Option, List, ◌∷◌, length, set, slice_get, arith, refl, ap, sym, subst, inl, inr}
 use Rattle.std.specs.Prelude.{is_some}
 use Rattle.std.specs.List.{list_any}
+use Rattle.std.specs.Option.{option_map_or}
 use Rattle.std.proofs.lemmas.Bool.{cases_lt, eqb-true, false≢true, true≢false}
 use Rattle.std.proofs.lemmas.List.{length-take-le}
 use Rattle.std.proofs.lemmas.Option.{slice_get_within}
@@ -12,22 +13,23 @@ use Rattle.frame_core.specs.Slots.{Slot}
 use Rattle.op_leaf.specs.Lanes.{IsLane}
 use Rattle.stream_meaning.specs.declared.part.Part.{Part}
 use Rattle.stream_meaning.specs.Operators.{Work, Plays, Picks, Mixes, Fades, Reads}
-use Rattle.stream_meaning.specs.Instants.{Setting, Moment, demanded, gives, lies_in, moment_after, offer, part_at, work_at}
+use Rattle.stream_meaning.specs.Instants.{Setting, Moment, demanded, gives, lies_in, moment_after, offer, work_at}
 use Rattle.segment_laws.specs.Stretches.{IsNode, IsStretch, going_on, lane}
 use Rattle.segment_laws.proofs.Parts.{other_part, part_past}
 use Rattle.node_mixing.specs.Runs.{samples_of}
 use Rattle.node_states.specs.declared.state.NodeState.{NodeState}
-use Rattle.node_states.specs.declared.time.WeekTime.{WeekTime}
+use Rattle.node_states.specs.Passing.{passes}
 use Rattle.node_states.specs.Runs.{GoesOn, fed_on}
 use Rattle.node_states.specs.States.{StateStands, reads, reads_at, reads_in}
 use Rattle.engine_instants.specs.Nodes.{IsFirst}
 use Rattle.node_states.proofs.Running.{kept_stands}
-use Rattle.engine_instants.specs.Runs.{HasGoneOn, IsBehind, NodeGivesOn, NodeHasRun, begun_on}
-use Rattle.engine_instants.specs.States.{IsIn}
+use Rattle.engine_instants.specs.Held.{goes_through}
+use Rattle.engine_instants.specs.Runs.{HasGoneOn, IsGoing, NodeGivesOn, NodeHasRun, begun_on}
+use Rattle.engine_instants.specs.States.{ClockStands, IsIn}
 use Rattle.engine_instants.proofs.Samples.{samples_before}
 use Rattle.engine_instants.proofs.Places.{item_there, same_or_other, slice_get-set_other, slice_get-set_same}
 
-begun_none : (reading : Bool) (fed : ℕ) → fed_on reading 0 fed ≡ fed
+begun_none : (more : Bool) (fed : ℕ) → fed_on more 0 fed ≡ fed
 begun_none true fed = omega arith
 begun_none false fed = refl
 
@@ -54,12 +56,12 @@ reads_begun (Mixes mixing) fed past begun e = absurd (false≢true e)
 reads_begun (Fades overlap) fed past begun e = absurd (false≢true e)
 reads_begun (Reads buffer) fed past begun e = begun buffer refl
 
--- what a node of the clock has begun
-pub begun-own : (setting : Setting) (clock : NodeClock) (many : ℕ) (fed : ℕ → ℕ) (i : ℕ) (node : Node) → IsIn setting clock i node
-    → begun_on setting clock many fed i ≡ fed_on (reads (work_at setting i node)) many (fed i)
-begun-own setting clock many fed i node is =
-    ap (λ (b : Bool). fed_on (b && reads_in setting i (slice_get setting.plan.nodes i)) many (fed i)) is.inside
-    ∙ ap (λ (found : Option Node). fed_on (reads_in setting i found) many (fed i)) is.there
+-- what a node of the clock has begun or was fed
+pub begun-own : (setting : Setting) (clock : NodeClock) (through : ℕ → Bool) (many : ℕ) (fed : ℕ → ℕ) (i : ℕ) (node : Node) → IsIn setting clock i node
+    → begun_on setting clock through many fed i ≡ fed_on (through i || reads (work_at setting i node)) many (fed i)
+begun-own setting clock through many fed i node is =
+    ap (λ (b : Bool). fed_on (b && (through i || reads_in setting i (slice_get setting.plan.nodes i))) many (fed i)) is.inside
+    ∙ ap (λ (found : Option Node). fed_on (through i || reads_in setting i found) many (fed i)) is.there
 
 module _ (setting : Setting) (sub : ℕ → ℕ → List Slot) (clock : NodeClock) (past : List Moment) where
   abbrev First : Moment
@@ -80,11 +82,11 @@ module _ (setting : Setting) (sub : ℕ → ℕ → List Slot) (clock : NodeCloc
   pub gives_in : (i : ℕ) → gives First i ≡ true → lies_in setting clock i ≡ true
   gives_in i gave = offers_in i (and_right (demanded First i) (is_some (offer First i)) gave)
 
-  module _ (many : ℕ) (fed : ℕ → ℕ) where
+  module _ (many : ℕ) (fed : ℕ → ℕ) (old : List NodeState) where
     -- the nodes below `below` have made their run
     pub record HaveRun (below : ℕ) (left right : List ℤ) (states : List NodeState) : Type 0 where
       pub each : (k : ℕ) (node : Node) (state : NodeState) → k < below → IsIn setting clock k node → slice_get states k ≡ Some state
-          → StateStands setting sub (going_on setting sub clock (suc many) past) (begun_on setting clock many fed k) k (work_at setting k node) state
+          → StateStands setting sub (going_on setting sub clock (suc many) past) (begun_on setting clock (goes_through First old) many fed k) k (work_at setting k node) state
       pub lanes : (k : ℕ) → k < below → gives First k ≡ true
           → IsLane (λ j. lane setting sub clock past (suc j) k) many (samples_of left k many) (samples_of right k many)
 
@@ -110,12 +112,12 @@ module _ (setting : Setting) (sub : ℕ → ℕ → List Slot) (clock : NodeCloc
     -- node i makes its run
     pub run_step : (i : ℕ) (left right left_new right_new : List ℤ) (states : List NodeState) (new : NodeState) → i < length states
         → ((k : ℕ) → k < i → samples_of left_new k many ≡ samples_of left k many) → ((k : ℕ) → k < i → samples_of right_new k many ≡ samples_of right k many)
-        → (node : Node) → IsIn setting clock i node → NodeHasRun setting sub clock past many (fed i) i node left_new right_new new
+        → (node : Node) (state : NodeState) → IsIn setting clock i node → slice_get old i ≡ Some state → NodeHasRun setting sub clock past many (fed i) i node state left_new right_new new
         → HaveRun i left right states → HaveRun (suc i) left_new right_new (set states i new)
-    run_step i left right left_new right_new states new within left_same right_same own is_own has run = record {
+    run_step i left right left_new right_new states new within left_same right_same own was is_own stood has run = record {
       each = λ k node state low inside found. elim (same_or_other i k) [
         | inl same ↦ subst (λ j. IsIn setting clock j node → slice_get (set states i new) j ≡ Some state
-            → StateStands setting sub (going_on setting sub clock (suc many) past) (begun_on setting clock many fed j) j (work_at setting j node) state) same (here node state) inside found
+            → StateStands setting sub (going_on setting sub clock (suc many) past) (begun_on setting clock (goes_through First old) many fed j) j (work_at setting j node) state) same (here node state) inside found
         | inr apart ↦ run.each k node state (omega (arith, low, apart)) inside (sym (slice_get-set_other states i k new apart) ∙ found)
       ];
       lanes = λ k low gave. elim (same_or_other i k) [
@@ -127,21 +129,22 @@ module _ (setting : Setting) (sub : ℕ → ℕ → List Slot) (clock : NodeCloc
     }
       where
         here : (node : Node) (state : NodeState) → IsIn setting clock i node → slice_get (set states i new) i ≡ Some state
-            → StateStands setting sub (going_on setting sub clock (suc many) past) (begun_on setting clock many fed i) i (work_at setting i node) state
+            → StateStands setting sub (going_on setting sub clock (suc many) past) (begun_on setting clock (goes_through First old) many fed i) i (work_at setting i node) state
         here node state inside found =
             let put : Some new ≡ Some state = sym (slice_get-set_same states i new within) ∙ found in
             let same : new ≡ state = cc in
             let one : Some own ≡ Some node = sym is_own.there ∙ inside.there in
             let node_is : own ≡ node = cc in
-            subst (λ s. StateStands setting sub (going_on setting sub clock (suc many) past) (begun_on setting clock many fed i) i (work_at setting i node) s) same
-            (subst (λ n. StateStands setting sub (going_on setting sub clock (suc many) past) n i (work_at setting i node) new) (sym (begun-own setting clock many fed i node inside))
-            (subst (λ n. StateStands setting sub (going_on setting sub clock (suc many) past) (fed_on (reads (work_at setting i n)) many (fed i)) i (work_at setting i n) new) node_is has.stands))
+            let through : fed_on (goes_through First old i || reads (work_at setting i node)) many (fed i) ≡ fed_on ((gives First i && passes was) || reads (work_at setting i node)) many (fed i) =
+            ap (λ (at : Option NodeState). fed_on ((gives First i && option_map_or passes at false) || reads (work_at setting i node)) many (fed i)) stood in
+            subst (λ s. StateStands setting sub (going_on setting sub clock (suc many) past) (begun_on setting clock (goes_through First old) many fed i) i (work_at setting i node) s) same
+            (subst (λ n. StateStands setting sub (going_on setting sub clock (suc many) past) n i (work_at setting i node) new) (sym (begun-own setting clock (goes_through First old) many fed i node inside ∙ through))
+            (subst (λ n. StateStands setting sub (going_on setting sub clock (suc many) past) (fed_on ((gives First i && passes was) || reads (work_at setting i n)) many (fed i)) i (work_at setting i n) new) node_is has.stands))
 
     -- all have
-    pub run_all : (n : ℕ) (left right : List ℤ) (states : List NodeState) → n ≡ length setting.plan.nodes → IsStretch setting sub clock past (suc many) → HaveRun n left right states
-        → HasGoneOn setting sub clock past many fed left right states
-    run_all n left right states all stretch run = record {
-      stretch = stretch;
+    pub run_all : (n : ℕ) (left right : List ℤ) (states : List NodeState) → n ≡ length setting.plan.nodes → HaveRun n left right states
+        → HasGoneOn setting sub clock past many fed old left right states
+    run_all n left right states all run = record {
       stands = record { each = λ i node state inside found. run.each i node state (let low = slice_get_within setting.plan.nodes i node inside.there in omega (arith, low, all)) inside found };
       lanes = λ i gave. elim (cases_lt i (length setting.plan.nodes)) [
         | inl low ↦ run.lanes i (omega (arith, low, all)) gave
@@ -150,14 +153,14 @@ module _ (setting : Setting) (sub : ℕ → ℕ → List Slot) (clock : NodeCloc
     }
 
   -- no instant more
-  pub gone_on_none : (fed : ℕ → ℕ) (time : WeekTime) (parts : List Part) (marks : List Bool) (states : List NodeState) (left right : List ℤ) → IsStretch setting sub clock past 1
-      → IsBehind setting sub clock past fed time parts marks states → HasGoneOn setting sub clock past 0 fed left right states
-  gone_on_none fed time parts marks states left right stretch behind = record {
-    stretch = stretch;
+  pub gone_on_none : (fed : ℕ → ℕ) (states : List NodeState) (left right : List ℤ) → ClockStands setting sub clock (First ∷ past) fed states
+      → HasGoneOn setting sub clock past 0 fed states left right states
+  gone_on_none fed states left right stands = record {
     stands = record {
       each = λ i node state inside found.
-          subst (λ n. StateStands setting sub (First ∷ past) n i (work_at setting i node) state) (sym (begun_none (lies_in setting clock i && reads_at setting i) (fed i)))
-          (behind.stands.each i node state inside found);
+          subst (λ n. StateStands setting sub (First ∷ past) n i (work_at setting i node) state)
+          (sym (begun_none (lies_in setting clock i && (goes_through First states i || reads_at setting i)) (fed i)))
+          (stands.each i node state inside found);
     };
     lanes = λ i gave. record { left_is = refl; right_is = refl; inner = λ j low. absurd (omega (arith, low)) };
   }
@@ -165,70 +168,66 @@ module _ (setting : Setting) (sub : ℕ → ℕ → List Slot) (clock : NodeCloc
   -- a node that does not give
   pub kept_run : (many fed i : ℕ) (node : Node) (state : NodeState) (left right : List ℤ) → AreNodes setting.plan.nodes → 0 < many → IsStretch setting sub clock past (suc many) → IsNode setting clock i node
       → gives First i ≡ false → (reads (work_at setting i node) ≡ true → fed ≡ suc (length past)) → StateStands setting sub (First ∷ past) fed i (work_at setting i node) state
-      → NodeHasRun setting sub clock past many fed i node left right state
+      → NodeHasRun setting sub clock past many fed i node state left right state
   kept_run many fed i node state left right nodes some stretch is not begun stands =
       let next : 1 + many ≡ suc many = omega arith in
       record {
-        stands = subst (λ j. StateStands setting sub (going_on setting sub clock j past) (fed_on (reads (work_at setting i node)) many fed) i (work_at setting i node) state) next
-            (kept_stands setting sub clock past (suc many) 1 many nodes stretch (omega arith) (omega arith) some i node is fed state not begun stands);
+        stands = subst (λ (b : Bool). StateStands setting sub (going_on setting sub clock (suc many) past) (fed_on ((b && passes state) || reads (work_at setting i node)) many fed) i (work_at setting i node) state) (sym not)
+            (subst (λ j. StateStands setting sub (going_on setting sub clock j past) (fed_on (reads (work_at setting i node)) many fed) i (work_at setting i node) state) next
+            (kept_stands setting sub clock past (suc many) 1 many nodes stretch (omega arith) (omega arith) some i node is fed state not begun stands));
         lane_is = λ gave. absurd (true≢false (sym gave ∙ not));
       }
 
-  -- whether a node gives
-  pub gives_is : (many fed i : ℕ) (node : Node) (parts : List Part) (marked : Bool) (left right : List ℤ) (state : NodeState)
-      → NodeGivesOn setting sub clock past many fed i node parts marked left right state → gives First i ≡ (marked && is_some (part_at parts i).slot)
-  gives_is many fed i node parts marked left right state before =
-      ap (λ d. d && is_some (offer First i)) before.mark_is ∙ sym (ap (λ ps. marked && is_some (part_at ps i).slot) before.parts_are)
-
   -- what `run` asks for of a node that does
-  pub goes_on : (many fed i : ℕ) (node : Node) (parts : List Part) (marked : Bool) (left right : List ℤ) (state : NodeState) → AreNodes setting.plan.nodes
-      → NodeGivesOn setting sub clock past many fed i node parts marked left right state → (marked && is_some (part_at parts i).slot) ≡ true → GoesOn setting sub clock past many i node
-  goes_on many fed i node parts marked left right state nodes before gave = record {
+  pub goes_on : (many fed i : ℕ) (node : Node) (parts : List Part) (left right : List ℤ) (state : NodeState) → AreNodes setting.plan.nodes
+      → NodeGivesOn setting sub clock past many fed i node parts left right state → gives First i ≡ true → GoesOn setting sub clock past many i node
+  goes_on many fed i node parts left right state nodes before gave = record {
     nodes = nodes;
     long = before.long;
     stretch = before.stretch;
     is = before.is;
-    gave = gives_is many fed i node parts marked left right state before ∙ gave;
+    gave = gave;
   }
 
+  -- a child of a node lies before it
+  pub child_low : (i c : ℕ) (node : Node) → AreNodes setting.plan.nodes → slice_get setting.plan.nodes i ≡ Some node → list_any (nat_eq c) node.children ≡ true → c < i
+  child_low i c node nodes found among =
+      below_any i c node.children
+      (λ k d h. (let under = (nodes i node found).children k d h in
+      let inside = slice_get_within setting.plan.nodes i node found in
+      let long = length-take-le i setting.plan.nodes (omega (arith, inside)) in omega (arith, under, long))) among
+
   -- the samples of the children that give stand before the node's own
-  pub children_lanes : (many fed i : ℕ) (node : Node) (parts : List Part) (marked : Bool) (left right : List ℤ) (state : NodeState) → AreNodes setting.plan.nodes → many ≤ 1024
-      → i * 1024 ≤ length left → i * 1024 ≤ length right → NodeGivesOn setting sub clock past many fed i node parts marked left right state
+  pub children_lanes : (many fed i : ℕ) (node : Node) (parts : List Part) (left right : List ℤ) (state : NodeState) → AreNodes setting.plan.nodes → many ≤ 1024
+      → i * 1024 ≤ length left → i * 1024 ≤ length right → NodeGivesOn setting sub clock past many fed i node parts left right state
       → (c : ℕ) → list_any (nat_eq c) node.children ≡ true → gives First c ≡ true
       → IsLane (λ j. lane setting sub clock past (suc j) c) many (samples_of (take (i * 1024) left) c many) (samples_of (take (i * 1024) right) c many)
-  children_lanes many fed i node parts marked left right state nodes short in_left in_right before c among gave =
-      let low : c < i = below_any i c node.children
-      (λ k d h. (let under = (nodes i node before.is.there).children k d h in
-      let inside = slice_get_within setting.plan.nodes i node before.is.there in
-      let long = length-take-le i setting.plan.nodes (omega (arith, inside)) in omega (arith, under, long))) among in
+  children_lanes many fed i node parts left right state nodes short in_left in_right before c among gave =
+      let low : c < i = child_low i c node nodes before.is.there among in
       subst (λ l. IsLane (λ j. lane setting sub clock past (suc j) c) many l (samples_of (take (i * 1024) right) c many)) (sym (samples_before c i many left low short in_left))
       (subst (λ r. IsLane (λ j. lane setting sub clock past (suc j) c) many (samples_of left c many) r) (sym (samples_before c i many right low short in_right)) (before.lanes c low gave))
 
 -- the same over equal lists
-pub behind_over : (setting : Setting) (sub : ℕ → ℕ → List Slot) (clock : NodeClock) (past : List Moment) (fed : ℕ → ℕ) (time : WeekTime) (parts other : List Part) (marks others : List Bool) (states : List NodeState)
-    → other ≡ parts → others ≡ marks → IsBehind setting sub clock past fed time parts marks states → IsBehind setting sub clock past fed time other others states
-behind_over setting sub clock past fed time parts other marks others states same alike behind = record {
-  long = behind.long;
-  stands = behind.stands;
-  parts_are = same ∙ behind.parts_are;
-  marks_are = alike ∙ behind.marks_are;
-  begun = behind.begun;
-  time_is = behind.time_is;
-}
+pub going_over : (setting : Setting) (sub : ℕ → ℕ → List Slot) (clock : NodeClock) (past : List Moment) (many : ℕ) (fed : ℕ → ℕ) (held other : List Part) (states : List NodeState) (left left_new right right_new : List ℤ)
+    → other ≡ held → left_new ≡ left → right_new ≡ right → IsGoing setting sub clock past many fed held states left right → IsGoing setting sub clock past many fed other states left_new right_new
+going_over setting sub clock past many fed held other states left left_new right right_new same one two going =
+    subst (λ (ps : List Part). IsGoing setting sub clock past many fed ps states left_new right_new) (sym same)
+    (subst (λ (xs : List ℤ). IsGoing setting sub clock past many fed held states xs right_new) (sym one)
+    (subst (λ (xs : List ℤ). IsGoing setting sub clock past many fed held states left xs) (sym two) going))
 
-pub gone_over : (setting : Setting) (sub : ℕ → ℕ → List Slot) (clock : NodeClock) (past : List Moment) (many : ℕ) (fed : ℕ → ℕ) (left left_new right right_new : List ℤ) (states : List NodeState)
-    → left_new ≡ left → right_new ≡ right → HasGoneOn setting sub clock past many fed left right states → HasGoneOn setting sub clock past many fed left_new right_new states
-gone_over setting sub clock past many fed left left_new right right_new states same alike went =
-    subst (λ (xs : List ℤ). HasGoneOn setting sub clock past many fed xs right_new states) (sym same)
-    (subst (λ (xs : List ℤ). HasGoneOn setting sub clock past many fed left xs states) (sym alike) went)
+pub gone_over : (setting : Setting) (sub : ℕ → ℕ → List Slot) (clock : NodeClock) (past : List Moment) (many : ℕ) (fed : ℕ → ℕ) (old : List NodeState) (left left_new right right_new : List ℤ) (states : List NodeState)
+    → left_new ≡ left → right_new ≡ right → HasGoneOn setting sub clock past many fed old left right states → HasGoneOn setting sub clock past many fed old left_new right_new states
+gone_over setting sub clock past many fed old left left_new right right_new states same alike went =
+    subst (λ (xs : List ℤ). HasGoneOn setting sub clock past many fed old xs right_new states) (sym same)
+    (subst (λ (xs : List ℤ). HasGoneOn setting sub clock past many fed old left xs states) (sym alike) went)
 
 -- what a node that gives did
-pub has_run : (setting : Setting) (sub : ℕ → ℕ → List Slot) (clock : NodeClock) (past : List Moment) (many fed i : ℕ) (node : Node) (own_left left own_right right : List ℤ) (state : NodeState)
-    → samples_of left i many ≡ own_left → samples_of right i many ≡ own_right
-    → StateStands setting sub (going_on setting sub clock (suc many) past) (fed_on (reads (work_at setting i node)) many fed) i (work_at setting i node) state
-    → IsLane (λ j. lane setting sub clock past (suc j) i) many own_left own_right → NodeHasRun setting sub clock past many fed i node left right state
-has_run setting sub clock past many fed i node own_left left own_right right state same alike stands own = record {
-  stands = stands;
+pub has_run : (setting : Setting) (sub : ℕ → ℕ → List Slot) (clock : NodeClock) (past : List Moment) (many fed i : ℕ) (node : Node) (old : NodeState) (own_left left own_right right : List ℤ) (state : NodeState)
+    → gives (moment_after setting sub clock past) i ≡ true → samples_of left i many ≡ own_left → samples_of right i many ≡ own_right
+    → StateStands setting sub (going_on setting sub clock (suc many) past) (fed_on (passes old || reads (work_at setting i node)) many fed) i (work_at setting i node) state
+    → IsLane (λ j. lane setting sub clock past (suc j) i) many own_left own_right → NodeHasRun setting sub clock past many fed i node old left right state
+has_run setting sub clock past many fed i node old own_left left own_right right state gave same alike stands own = record {
+  stands = subst (λ (b : Bool). StateStands setting sub (going_on setting sub clock (suc many) past) (fed_on ((b && passes old) || reads (work_at setting i node)) many fed) i (work_at setting i node) state) (sym gave) stands;
   lane_is = λ gave. subst (λ (xs : List ℤ). IsLane (λ j. lane setting sub clock past (suc j) i) many xs (samples_of right i many)) (sym same)
       (subst (λ (xs : List ℤ). IsLane (λ j. lane setting sub clock past (suc j) i) many own_left xs) (sym alike) own);
 }

@@ -11,5 +11,9 @@ pub mod Beginning
 pub mod Reading
 mod Stretched
 pub mod Samples
-mod Ahead
+pub mod Ahead
 pub mod Gone
+pub mod Kept
+mod Asking
+pub mod Needing
+pub mod Supplied

@@ -1,5 +1,8 @@
 -- The samples of nodes, one behind another.
-use Rattle.std.proofs.Common.{◌≡◌, ◌<◌, ◌≤◌, ◌+◌, ◌*◌, ◌∙◌, ◌++◌, ℕ, ℤ, zero, suc, List, [], ◌∷◌, length, take, drop, append-nil, arith, refl, ap, sym}
+use Rattle.std.proofs.Common.{◌≡◌, ◌<◌, ◌≤◌, ◌+◌, ◌-◌, ◌*◌, ◌∙◌, ◌++◌, ℕ, ℤ, zero, suc, List, [], ◌∷◌, length, take, drop, append-nil, arith, refl, ap, sym, inl, inr}
+use Rattle.std.proofs.lemmas.Bool.{cases_lt}
+use Rattle.std.proofs.lemmas.List.{drop-drop}
+use Rattle.std.proofs.Math.Seq.{drop-append-add}
 use Rattle.node_mixing.specs.Runs.{samples_of}
 
 -- what stands below a place, read over the front up to there
@@ -32,3 +35,29 @@ samples_before k i count xs low short long = ap (λ l. samples_of l k count) (sy
 -- and those that are written are the node's
 pub samples_own : (i count : ℕ) (xs new rest : List ℤ) → i * 1024 ≤ length xs → length new ≡ count → samples_of (take (i * 1024) xs ++ (new ++ rest)) i count ≡ new
 samples_own i count xs new rest low long = own_read (i * 1024) count xs new rest low long
+
+-- what stands behind a place, read over what is written before it
+back_zero : {A : Type 0} (n b : ℕ) (xs new : List A) → length new ≡ n → n ≤ b → drop b (new ++ drop n xs) ≡ drop b xs
+back_zero n b xs new long fits =
+    let e : b ≡ length new + (b - n) = omega (arith, long, fits) in
+    let f : n + (b - n) ≡ b = omega (arith, fits) in
+    ap (λ k. drop k (new ++ drop n xs)) e ∙ drop-append-add new (drop n xs) (b - n) ∙ drop-drop (b - n) n xs ∙ ap (λ k. drop k xs) f
+
+back_read : {A : Type 0} (a n b : ℕ) (xs new : List A) → a ≤ length xs → length new ≡ n → a + n ≤ b → drop b (take a xs ++ (new ++ drop n (drop a xs))) ≡ drop b xs
+back_read zero n b xs new low long fits = back_zero n b xs new long (omega (arith, fits))
+back_read (suc a) n b [] new low long fits = absurd (omega (arith, low))
+back_read (suc a) n zero (x ∷ xs) new low long fits = absurd (omega (arith, fits))
+back_read (suc a) n (suc b) (x ∷ xs) new low long fits = back_read a n b xs new (omega (arith, low)) long (omega (arith, fits))
+
+-- the samples of a node stay where those of an earlier one are written
+pub samples_behind : (k i count : ℕ) (xs new : List ℤ) → i < k → count ≤ 1024 → i * 1024 ≤ length xs → length new ≡ count
+    → samples_of (take (i * 1024) xs ++ (new ++ drop count (drop (i * 1024) xs))) k count ≡ samples_of xs k count
+samples_behind k i count xs new low short long is = ap (take count) (back_read (i * 1024) count (k * 1024) xs new long is (omega (arith, low, short)))
+
+-- so those of any other node stay
+pub samples_apart : (k i count : ℕ) (xs new : List ℤ) → (k ≡ i → ⊥) → count ≤ 1024 → i * 1024 ≤ length xs → length new ≡ count
+    → samples_of (take (i * 1024) xs ++ (new ++ drop count (drop (i * 1024) xs))) k count ≡ samples_of xs k count
+samples_apart k i count xs new apart short long is = elim (cases_lt k i) [
+  | inl low ↦ samples_stay k i count xs (new ++ drop count (drop (i * 1024) xs)) low short long
+  | inr high ↦ samples_behind k i count xs new (omega (arith, high, apart)) short long is
+]

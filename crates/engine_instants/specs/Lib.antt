@@ -3,4 +3,5 @@ pub mod Takes
 pub mod Demands
 pub mod Nodes
 pub mod Resting
+pub mod Held
 pub mod Runs

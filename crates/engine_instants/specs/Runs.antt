@@ -1,5 +1,5 @@
 -- Instants that go on as the latest one of a clock did, made at once.
-use Rattle.std.specs.Prelude.{◌≡◌, ◌<◌, ◌*◌, ◌&&◌, Bool, true, false, Some, List, ◌∷◌, ℕ, ℤ, suc, length, is_some, slice_get, slice_index_or}
+use Rattle.std.specs.Prelude.{◌≡◌, ◌<◌, ◌≤◌, ◌*◌, ◌&&◌, ◌||◌, Bool, true, Some, List, ◌∷◌, ℕ, ℤ, suc, length, slice_get}
 use Rattle.plan_core.specs.declared.node.Node.{Node}
 use Rattle.plan_core.specs.declared.plan.Plan.{Plan}
 use Rattle.clock_infer.specs.declared.clock_map.NodeClock.{NodeClock}
@@ -7,24 +7,30 @@ use Rattle.frame_core.specs.Slots.{Slot}
 use Rattle.frame_core.specs.Library.{Sounds}
 use Rattle.op_leaf.specs.Lanes.{IsLane}
 use Rattle.stream_meaning.specs.declared.part.Part.{Part}
-use Rattle.stream_meaning.specs.Instants.{Setting, Moment, gives, lies_in, moment_after, part_at, work_at}
+use Rattle.stream_meaning.specs.Instants.{Setting, Moment, crossfaded, gives, lies_in, moment_after, part_at, silent, work_at}
 use Rattle.segment_laws.specs.Stretches.{IsNode, IsStretch, going_on, lane}
 use Rattle.node_mixing.specs.Runs.{samples_of}
 use Rattle.node_states.specs.declared.state.NodeState.{NodeState}
 use Rattle.node_states.specs.declared.time.WeekTime.{WeekTime}
+use Rattle.node_states.specs.Passing.{LaneFeeds, given_part, passes}
 use Rattle.node_states.specs.Runs.{LiesAhead, fed_on}
 use Rattle.node_states.specs.States.{AreLong, StateStands, reads, reads_at}
 use Rattle.node_states.specs.Times.{TimeStands}
 use Rattle.engine_instants.specs.declared.latest.Latest.{Latest}
 use Rattle.engine_instants.specs.declared.runs.Runs.{Runs}
+use Rattle.engine_instants.specs.Held.{AreFedOn, AreSupplied, IsHeld, gave_at, goes_through}
 use Rattle.engine_instants.specs.Nodes.{lies_at}
 use Rattle.engine_instants.specs.Resting.{AreReadTo}
 use Rattle.engine_instants.specs.States.{AreRoots, ClockStands, over}
 
--- room for the runs of so many nodes
+-- room for the runs of so many nodes; between two runs no node has a part
 pub record HasRunRoom (nodes : ℕ) (runs : Runs) : Type 0 where
   pub in_left : length runs.left.items ≡ nodes * 1024
   pub in_right : length runs.right.items ≡ nodes * 1024
+  pub in_held : length runs.held.items ≡ nodes
+  pub in_rests : length runs.rests.items ≡ nodes
+  pub in_parts : length runs.parts.items ≡ nodes
+  pub clear : (j : ℕ) → part_at runs.parts.items j ≡ silent
 
 -- the marks of the latest instant are the demands that its parts imply
 pub record IsMarked (plan : Plan) (library : Sounds) (clocks : List NodeClock) (own : List Bool) (clock : NodeClock) (latest : Latest) : Type 0 where
@@ -33,51 +39,68 @@ pub record IsMarked (plan : Plan) (library : Sounds) (clocks : List NodeClock) (
       AreRoots setting clock own → latest.parts.items ≡ (moment_after setting sub clock past).parts
       → latest.marks.items ≡ (moment_after setting sub clock past).demands
 
--- so many cells or items of each node of a clock that gave, of those below this one, are there and begin no track
-pub record AllLieAhead (library : Sounds) (clocks : List NodeClock) (clock : NodeClock) (parts : List Part) (marks : List Bool) (states : List NodeState)
+-- so many cells or items of each node of a clock that gave, of those below this one, are there and begin no track, but where cells pass
+pub record AllLieAhead (library : Sounds) (clocks : List NodeClock) (clock : NodeClock) (held : List Part) (states : List NodeState)
     (below count : ℕ) : Type 0 where
   pub each : (i : ℕ) (state : NodeState) → i < below → lies_at clocks clock i ≡ true → slice_get states i ≡ Some state
-      → (slice_index_or marks i false && is_some (part_at parts i).slot) ≡ true → LiesAhead library state count
+      → gave_at held i ≡ true → LiesAhead library state count
 
--- the latest instant is the one after these, at this time: these are its parts and its marks, and the states stand for it too
+-- the latest instant of a clock is the one after these, at this time: these are its parts, what was given there is held, and the states
+-- stand for it too; and sub-clocks go on for so long
 pub record IsBehind (setting : Setting) (sub : ℕ → ℕ → List Slot) (clock : NodeClock) (past : List Moment) (fed : ℕ → ℕ) (time : WeekTime)
-    (parts : List Part) (marks : List Bool) (states : List NodeState) : Type 0 where
+    (parts held : List Part) (states : List NodeState) (rests : List ℕ) : Type 0 where
   pub long : AreLong sub
   pub stands : ClockStands setting sub clock (moment_after setting sub clock past ∷ past) fed states
   pub parts_are : parts ≡ (moment_after setting sub clock past).parts
-  pub marks_are : marks ≡ (moment_after setting sub clock past).demands
+  pub held_are : IsHeld setting sub clock past held
   pub begun : AreReadTo setting clock fed (suc (length past))
   pub time_is : TimeStands setting.start (length past) time
+  pub fed_on : AreFedOn setting sub clock past fed states rests
 
--- what the nodes have begun, where the readers of a clock have begun so many instants more
-abbrev pub begun_on : Setting → NodeClock → (many : ℕ) → (fed : ℕ → ℕ) → ℕ → ℕ
-begun_on setting clock many fed i = fed_on (lies_in setting clock i && reads_at setting i) many (fed i)
-
--- so many instants go on as the instant after these did: the states stand for them too, and the nodes that give have left their samples
-pub record HasGoneOn (setting : Setting) (sub : ℕ → ℕ → List Slot) (clock : NodeClock) (past : List Moment) (many : ℕ) (fed : ℕ → ℕ)
-    (left right : List ℤ) (states : List NodeState) : Type 0 where
+-- what was given at the instant after these is held, with which so many instants are a stretch, the states stand for it too, and the
+-- crossfades through which cells pass have the samples of their children
+pub record IsGoing (setting : Setting) (sub : ℕ → ℕ → List Slot) (clock : NodeClock) (past : List Moment) (many : ℕ) (fed : ℕ → ℕ)
+    (held : List Part) (states : List NodeState) (left right : List ℤ) : Type 0 where
+  pub long : AreLong sub
   pub stretch : IsStretch setting sub clock past (suc many)
-  pub stands : ClockStands setting sub clock (going_on setting sub clock (suc many) past) (begun_on setting clock many fed) states
+  pub stands : ClockStands setting sub clock (moment_after setting sub clock past ∷ past) fed states
+  pub held_are : IsHeld setting sub clock past held
+  pub begun : AreReadTo setting clock fed (suc (length past))
+  pub supplied : AreSupplied setting sub clock past many fed states left right
+
+-- what the nodes of a clock have begun or were fed, where its readers have begun so many instants more, and its crossfades through which
+-- cells pass were fed so many slots more
+abbrev pub begun_on : Setting → NodeClock → (through : ℕ → Bool) → (many : ℕ) → (fed : ℕ → ℕ) → ℕ → ℕ
+begun_on setting clock through many fed i = fed_on (lies_in setting clock i && (through i || reads_at setting i)) many (fed i)
+
+-- so many instants go on as the instant after these did, from these states on: the states stand for them too, and the nodes that give
+-- have left their samples
+pub record HasGoneOn (setting : Setting) (sub : ℕ → ℕ → List Slot) (clock : NodeClock) (past : List Moment) (many : ℕ) (fed : ℕ → ℕ)
+    (old : List NodeState) (left right : List ℤ) (states : List NodeState) : Type 0 where
+  pub stands : ClockStands setting sub clock (going_on setting sub clock (suc many) past)
+      (begun_on setting clock (goes_through (moment_after setting sub clock past) old) many fed) states
   pub lanes : (i : ℕ) → gives (moment_after setting sub clock past) i ≡ true
       → IsLane (λ j. lane setting sub clock past (suc j) i) many (samples_of left i many) (samples_of right i many)
 
--- a stretch of so many instants behind the one after these, as node i sees it before its run: what the nodes did, whether it is
--- demanded, and the samples of the nodes before it that give
+-- a stretch of so many instants behind the one after these, as node i sees it before its run: what it and the nodes before it gave, and
+-- the samples of those that give
 pub record NodeGivesOn (setting : Setting) (sub : ℕ → ℕ → List Slot) (clock : NodeClock) (past : List Moment) (many fed i : ℕ) (node : Node)
-    (parts : List Part) (marked : Bool) (left right : List ℤ) (state : NodeState) : Type 0 where
+    (parts : List Part) (left right : List ℤ) (state : NodeState) : Type 0 where
   pub long : AreLong sub
   pub stretch : IsStretch setting sub clock past (suc many)
   pub is : IsNode setting clock i node
-  pub parts_are : parts ≡ (moment_after setting sub clock past).parts
-  pub mark_is : slice_index_or (moment_after setting sub clock past).demands i false ≡ marked
+  pub given : (k : ℕ) → k ≤ i → part_at parts k ≡ given_part (moment_after setting sub clock past) k
   pub begun : reads (work_at setting i node) ≡ true → fed ≡ suc (length past)
   pub stands : StateStands setting sub (moment_after setting sub clock past ∷ past) fed i (work_at setting i node) state
   pub lanes : (k : ℕ) → k < i → gives (moment_after setting sub clock past) k ≡ true
       → IsLane (λ j. lane setting sub clock past (suc j) k) many (samples_of left k many) (samples_of right k many)
+  pub supplied : gives (moment_after setting sub clock past) i ≡ true → passes state ≡ true
+      → LaneFeeds (sub i) fed many (samples_of left (crossfaded setting.plan.nodes i) many) (samples_of right (crossfaded setting.plan.nodes i) many)
 
 -- and behind it
 pub record NodeHasRun (setting : Setting) (sub : ℕ → ℕ → List Slot) (clock : NodeClock) (past : List Moment) (many fed i : ℕ) (node : Node)
-    (left right : List ℤ) (state : NodeState) : Type 0 where
-  pub stands : StateStands setting sub (going_on setting sub clock (suc many) past) (fed_on (reads (work_at setting i node)) many fed) i (work_at setting i node) state
+    (old : NodeState) (left right : List ℤ) (state : NodeState) : Type 0 where
+  pub stands : StateStands setting sub (going_on setting sub clock (suc many) past)
+      (fed_on ((gives (moment_after setting sub clock past) i && passes old) || reads (work_at setting i node)) many fed) i (work_at setting i node) state
   pub lane_is : gives (moment_after setting sub clock past) i ≡ true
       → IsLane (λ j. lane setting sub clock past (suc j) i) many (samples_of left i many) (samples_of right i many)

@@ -3,6 +3,7 @@
 
 mod advance;
 mod demand;
+mod holding;
 mod instant;
 mod latest;
 mod nodes;
@@ -17,7 +18,8 @@ mod takes;
 pub use instant::finish_instant;
 pub use latest::Latest;
 pub use nodes::ClockNodes;
-pub use onward::run_on;
+pub use onward::run_nodes;
+pub use resting::rest_of;
 pub use runs::Runs;
 pub use shape::Shape;
 pub use takes::begin_readers;

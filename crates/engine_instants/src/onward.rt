@@ -1,94 +1,78 @@
 // Instants that go on as the latest one of a clock did, made at once.
-ghost use Rattle.std.specs.Prelude.{◌≡◌, ◌<◌, ◌≤◌, ◌*◌, ◌&&◌, is_some, ℕ, suc, true, false, List, Some, length, slice_get, slice_index_or};
+ghost use Rattle.std.specs.Prelude.{◌≡◌, ◌<◌, ◌≤◌, ◌*◌, is_some, ℕ, true, false, List, Some, length, slice_get};
 ghost use Rattle.liq_base.specs.declared.limits.TheConstants.{MAX_NODES};
 ghost use Rattle.plan_core.specs.declared.node.Node.{Node as PlanNode};
 ghost use Rattle.plan_core.specs.Plans.{AreNodes};
 ghost use Rattle.clock_infer.specs.declared.clock_map.NodeClock.{NodeClock as Clock};
 ghost use Rattle.frame_core.specs.Slots.{Slot as TheSlot};
-ghost use Rattle.stream_meaning.specs.Instants.{Setting, Moment, part_at};
-ghost use Rattle.segment_laws.specs.Stretches.{IsStretch};
+ghost use Rattle.stream_meaning.specs.Instants.{Setting, Moment, part_at, silent};
 ghost use Rattle.node_mixing.specs.Runs.{samples_of};
-ghost use Rattle.node_states.specs.declared.time.WeekTime.{WeekTime as Time};
 ghost use Rattle.node_states.specs.Runs.{LiesAhead};
 ghost use Rattle.node_states.specs.States.{Fits};
-ghost use Rattle.engine_instants.specs.Nodes.{AreNodesOf, IsLatest, lies_at};
-ghost use Rattle.engine_instants.specs.Runs.{AllLieAhead, HasGoneOn, HasRunRoom, IsBehind, NodeGivesOn, NodeHasRun};
+ghost use Rattle.engine_instants.specs.Nodes.{AreNodesOf, lies_at};
+ghost use Rattle.engine_instants.specs.Runs.{AllLieAhead, HasGoneOn, HasRunRoom, IsGoing, NodeGivesOn, NodeHasRun};
 ghost use Rattle.engine_instants.specs.States.{AllFit, over};
 
-use crate::resting::{gives, rest_of};
-use crate::{ClockNodes, Latest, Runs, Shape};
+use crate::{ClockNodes, Runs, Shape};
 use clock_infer::NodeClock;
 use node_mixing::{MAX_RUN, Sums};
-use node_states::{NodeState, WeekTime};
+use node_states::NodeState;
 use stream_meaning::Part;
 
-/// Makes instants of a clock that go on as its latest one did, which was at this time, at most so many, and answers how many.
-/// The states of the clock's nodes go on, and each that gives leaves its samples in `runs`.
-pub fn run_on(
+/// Makes so many instants of a clock that go on as its latest one did. The sub-clocks of its crossfades through which cells pass
+/// have gone on by as many already, and left the samples of the crossfades' children in `runs`. The states of the clock's nodes
+/// go on, and each that gives leaves its samples there.
+pub fn run_nodes(
     shape: &Shape<'_>,
     nodes: &ClockNodes,
     clock: NodeClock,
-    time: WeekTime,
-    most: u32,
-    latest: &Latest,
     states: &mut [NodeState],
     runs: &mut Runs,
-) -> u32
+    many: u32,
+)
     requires nodes { AreNodes shape.now.plan.now.nodes }
     requires few { length shape.now.plan.now.nodes ≤ MAX_NODES }
-    requires rate { time.rate ≡ shape.now.plan.now.rate }
-    requires frame { time.frame ≡ shape.now.plan.now.frame }
     requires in_clocks { length shape.now.clocks.now ≡ length shape.now.plan.now.nodes }
     requires chains { AreNodesOf shape.now.clocks.now nodes.now }
-    requires latest { IsLatest shape.now.clocks.now latest.now }
-    requires fit { AllFit shape.now.plan.now shape.now.library.now states.old }
     requires room { HasRunRoom (length shape.now.plan.now.nodes) runs.old }
-    requires short { most ≤ 1024 }
-    ensures within { result ≤ most }
-    ensures later { result ≤ time.rate }
+    requires some { 0 < many }
+    requires short { many ≤ 1024 }
+    requires fit { AllFit shape.now.plan.now shape.now.library.now states.old }
+    requires ahead { AllLieAhead shape.now.library.now shape.now.clocks.now clock runs.old.held.items states.old (length shape.now.clocks.now) many }
     ensures fit { AllFit shape.now.plan.now shape.now.library.now states.new }
     ensures room { HasRunRoom (length shape.now.plan.now.nodes) runs.new }
+    ensures held { runs.new.held ≡ runs.old.held }
+    ensures rests { runs.new.rests ≡ runs.old.rests }
     ensures others { (i : ℕ) → lies_at shape.now.clocks.now clock i ≡ false → slice_get states.new i ≡ slice_get states.old i }
+    ensures left { (i : ℕ) → lies_at shape.now.clocks.now clock i ≡ false → samples_of runs.new.left.items i many ≡ samples_of runs.old.left.items i many }
+    ensures right { (i : ℕ) → lies_at shape.now.clocks.now clock i ≡ false → samples_of runs.new.right.items i many ≡ samples_of runs.old.right.items i many }
     ensures run { (setting : Setting) (sub : ℕ → ℕ → List TheSlot) (past : List Moment) (fed : ℕ → ℕ) →
         let setting = over shape.now.plan.now shape.now.library.now shape.now.clocks.now setting in
-        IsBehind setting sub clock past fed time latest.now.parts.items latest.now.marks.items states.old
-        → HasGoneOn setting sub clock past result fed runs.new.left.items runs.new.right.items states.new }
+        IsGoing setting sub clock past many fed runs.old.held.items states.old runs.old.left.items runs.old.right.items
+        → HasGoneOn setting sub clock past many fed states.old runs.new.left.items runs.new.right.items states.new }
 {
-    let many = rest_of(
+    run_each(
         shape,
         nodes,
         clock,
-        &latest.parts,
-        &latest.marks,
-        states,
-        time,
-        most,
-    );
-    if many == 0 {
-        return 0;
-    }
-    run_nodes(
-        shape,
-        nodes,
-        clock,
-        &latest.parts,
-        &latest.marks,
+        &runs.held,
+        &mut runs.parts,
         states,
         &mut runs.left,
         &mut runs.right,
         &mut runs.sums,
         many,
     );
-    many
+    forget(shape, nodes, clock, &mut runs.parts);
 }
 
-// Makes so many instants more, which go on as the latest one did, at which the nodes had these parts and marks.
-fn run_nodes(
+// The same, over the parts of no node, which become those of the clock's nodes.
+fn run_each(
     shape: &Shape<'_>,
     nodes: &ClockNodes,
     clock: NodeClock,
-    parts: &[Part],
-    marks: &[bool],
+    held: &[Part],
+    parts: &mut [Part],
     states: &mut [NodeState],
     left: &mut [i16],
     right: &mut [i16],
@@ -99,28 +83,32 @@ fn run_nodes(
     requires few { length shape.now.plan.now.nodes ≤ MAX_NODES }
     requires in_clocks { length shape.now.clocks.now ≡ length shape.now.plan.now.nodes }
     requires chains { AreNodesOf shape.now.clocks.now nodes.now }
-    requires in_parts { length parts.now ≡ length shape.now.plan.now.nodes }
-    requires in_marks { length marks.now ≡ length shape.now.plan.now.nodes }
+    requires in_held { length held.now ≡ length shape.now.plan.now.nodes }
+    requires in_parts { length parts.old ≡ length shape.now.plan.now.nodes }
+    requires clear { (j : ℕ) → part_at parts.old j ≡ silent }
     requires in_left { length left.old ≡ length shape.now.plan.now.nodes * 1024 }
     requires in_right { length right.old ≡ length shape.now.plan.now.nodes * 1024 }
     requires some { 0 < many }
     requires short { many ≤ 1024 }
     requires fit { AllFit shape.now.plan.now shape.now.library.now states.old }
-    requires ahead { AllLieAhead shape.now.library.now shape.now.clocks.now clock parts.now marks.now states.old (length shape.now.clocks.now) many }
+    requires ahead { AllLieAhead shape.now.library.now shape.now.clocks.now clock held.now states.old (length shape.now.clocks.now) many }
     ensures fit { AllFit shape.now.plan.now shape.now.library.now states.new }
+    ensures outside { (j : ℕ) → lies_at shape.now.clocks.now clock j ≡ false → part_at parts.new j ≡ silent }
     ensures others { (i : ℕ) → lies_at shape.now.clocks.now clock i ≡ false → slice_get states.new i ≡ slice_get states.old i }
-    ensures run { (setting : Setting) (sub : ℕ → ℕ → List TheSlot) (past : List Moment) (fed : ℕ → ℕ) (time : Time) →
+    ensures left { (i : ℕ) → lies_at shape.now.clocks.now clock i ≡ false → samples_of left.new i many ≡ samples_of left.old i many }
+    ensures right { (i : ℕ) → lies_at shape.now.clocks.now clock i ≡ false → samples_of right.new i many ≡ samples_of right.old i many }
+    ensures run { (setting : Setting) (sub : ℕ → ℕ → List TheSlot) (past : List Moment) (fed : ℕ → ℕ) →
         let setting = over shape.now.plan.now shape.now.library.now shape.now.clocks.now setting in
-        IsBehind setting sub clock past fed time parts.now marks.now states.old → IsStretch setting sub clock past (suc many)
-        → HasGoneOn setting sub clock past many fed left.new right.new states.new }
+        IsGoing setting sub clock past many fed held.now states.old left.old right.old
+        → HasGoneOn setting sub clock past many fed states.old left.new right.new states.new }
 {
     let mut i = nodes.first(clock);
     while i < shape.clocks.len() {
+        parts[i] = held[i];
         run_node(
             shape,
             i,
             parts,
-            marks[i],
             &mut states[i],
             left,
             right,
@@ -131,12 +119,11 @@ fn run_nodes(
     }
 }
 
-// Makes so many instants more of node i, which is demanded or not.
+// Makes so many instants more of node i, over what it and the nodes before it gave.
 fn run_node(
     shape: &Shape<'_>,
     i: usize,
     parts: &[Part],
-    marked: bool,
     state: &mut NodeState,
     left: &mut [i16],
     right: &mut [i16],
@@ -152,17 +139,17 @@ fn run_node(
     requires some { 0 < count }
     requires short { count ≤ 1024 }
     requires fits { (node : PlanNode) → slice_get shape.now.plan.now.nodes i ≡ Some node → Fits shape.now.library.now (length node.children) state.old }
-    requires ahead { (marked && is_some (part_at parts.now i).slot) ≡ true → LiesAhead shape.now.library.now state.old count }
+    requires ahead { is_some (part_at parts.now i).slot ≡ true → LiesAhead shape.now.library.now state.old count }
     ensures fits { (node : PlanNode) → slice_get shape.now.plan.now.nodes i ≡ Some node → Fits shape.now.library.now (length node.children) state.new }
-    ensures left { (k : ℕ) → k < i → samples_of left.new k count ≡ samples_of left.old k count }
-    ensures right { (k : ℕ) → k < i → samples_of right.new k count ≡ samples_of right.old k count }
+    ensures left { (k : ℕ) → (k ≡ i → ⊥) → samples_of left.new k count ≡ samples_of left.old k count }
+    ensures right { (k : ℕ) → (k ≡ i → ⊥) → samples_of right.new k count ≡ samples_of right.old k count }
     ensures run { (setting : Setting) (sub : ℕ → ℕ → List TheSlot) (clock : Clock) (past : List Moment) (fed : ℕ) (node : PlanNode) →
         let setting = over shape.now.plan.now shape.now.library.now shape.now.clocks.now setting in
-        NodeGivesOn setting sub clock past count fed i node parts.now marked left.old right.old state.old
-        → NodeHasRun setting sub clock past count fed i node left.new right.new state.new }
+        NodeGivesOn setting sub clock past count fed i node parts.now left.old right.old state.old
+        → NodeHasRun setting sub clock past count fed i node state.old left.new right.new state.new }
 {
     let part = parts[i];
-    if !gives(part, marked) {
+    if !gave(part) {
         return;
     }
     let node = &shape.plan.nodes.as_slice()[i];
@@ -180,4 +167,28 @@ fn run_node(
         &mut left_own[..count],
         &mut right_own[..count],
     );
+}
+
+// Whether this was given.
+fn gave(part: Part) -> bool
+    ensures { result ≡ is_some part.slot }
+{
+    part.slot.is_some()
+}
+
+// Takes back the parts of a clock's nodes, where no other node has any.
+fn forget(shape: &Shape<'_>, nodes: &ClockNodes, clock: NodeClock, parts: &mut [Part])
+    requires chains { AreNodesOf shape.now.clocks.now nodes.now }
+    requires in_parts { length parts.old ≡ length shape.now.clocks.now }
+    requires outside { (j : ℕ) → lies_at shape.now.clocks.now clock j ≡ false → part_at parts.old j ≡ silent }
+    ensures { (j : ℕ) → part_at parts.new j ≡ silent }
+{
+    let mut i = nodes.first(clock);
+    while i < shape.clocks.len() {
+        parts[i] = Part {
+            slot: None,
+            pick: None,
+        };
+        i = nodes.after(i);
+    }
 }

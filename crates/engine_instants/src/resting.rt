@@ -1,15 +1,18 @@
 // How many instants go on as the latest one of a clock did.
-ghost use Rattle.std.specs.Prelude.{◌≡◌, ◌<◌, ◌≤◌, ◌∷◌, ◌&&◌, is_some, ℕ, suc, true, false, List, Option, Some, length, slice_get, slice_index_or};
+ghost use Rattle.std.specs.Prelude.{◌≡◌, ◌<◌, ◌≤◌, ◌∷◌, ◌+◌, ◌&&◌, is_some, ℕ, suc, true, false, List, Option, Some, length, slice_get};
 ghost use Rattle.liq_base.specs.declared.memory.Kind.{Kind as TheKind};
 ghost use Rattle.plan_core.specs.declared.node.Node.{Node as PlanNode};
 ghost use Rattle.plan_core.specs.Plans.{AreNodes};
 ghost use Rattle.clock_infer.specs.declared.clock_map.NodeClock.{NodeClock as Clock};
 ghost use Rattle.frame_core.specs.Slots.{Slot as TheSlot};
-ghost use Rattle.stream_meaning.specs.Operators.{Choice, Eligible, Every, Picks, Reads, work_of};
-ghost use Rattle.stream_meaning.specs.Instants.{Setting, Moment, moment_after, part_at, work_at};
-ghost use Rattle.segment_laws.specs.Stretches.{IsNode, IsStretch};
+ghost use Rattle.stream_meaning.specs.Operators.{Choice, Eligible, Every, Fades, Picks, Reads, work_of};
+ghost use Rattle.stream_meaning.specs.Instants.{Setting, Moment, gives, moment_after, position, work_at};
+ghost use Rattle.op_cross.specs.Runs.{run_of};
+ghost use Rattle.segment_laws.specs.Stretches.{AreFed, IsNode, IsStretch};
+ghost use Rattle.node_states.specs.Passing.{asked, passes};
 ghost use Rattle.node_states.specs.Runs.{LiesAhead};
 ghost use Rattle.node_states.specs.States.{AreLong, Fits, StateStands};
+ghost use Rattle.engine_instants.specs.Held.{AllAsk, AllPassOn};
 ghost use Rattle.engine_instants.specs.Nodes.{AreNodesOf};
 ghost use Rattle.engine_instants.specs.Resting.{IsSameSecond, IsSameTick, NodeStretches, begins_at};
 ghost use Rattle.engine_instants.specs.Runs.{AllLieAhead, IsBehind};
@@ -22,15 +25,16 @@ use plan_core::Op;
 use stream_meaning::Part;
 
 /// How many instants, at most so many and no more than a second has, go on as the latest one of a clock did, at which its
-/// nodes had these parts and marks: they are a stretch with it. `time` is its time. A crossfade goes on for the items that it
-/// has ready.
+/// nodes had these parts and gave what is held: they are a stretch with it. `time` is its time. A crossfade goes on for the items
+/// that it has ready, or where cells pass for as long as its sub-clock does, by `rests`.
 pub fn rest_of(
     shape: &Shape<'_>,
     nodes: &ClockNodes,
     clock: NodeClock,
     parts: &[Part],
-    marks: &[bool],
+    held: &[Part],
     states: &[NodeState],
+    rests: &[u32],
     time: WeekTime,
     most: u32,
 ) -> u32
@@ -40,33 +44,42 @@ pub fn rest_of(
     requires in_clocks { length shape.now.clocks.now ≡ length shape.now.plan.now.nodes }
     requires chains { AreNodesOf shape.now.clocks.now nodes.now }
     requires in_parts { length parts.now ≡ length shape.now.plan.now.nodes }
-    requires in_marks { length marks.now ≡ length shape.now.plan.now.nodes }
+    requires in_held { length held.now ≡ length shape.now.plan.now.nodes }
+    requires in_rests { length rests.now ≡ length shape.now.plan.now.nodes }
     requires fit { AllFit shape.now.plan.now shape.now.library.now states.now }
     ensures within { result ≤ most }
     ensures later { result ≤ time.rate }
-    ensures ahead { AllLieAhead shape.now.library.now shape.now.clocks.now clock parts.now marks.now states.now (length shape.now.clocks.now) result }
+    ensures ahead { AllLieAhead shape.now.library.now shape.now.clocks.now clock held.now states.now (length shape.now.clocks.now) result }
+    ensures through { AllPassOn shape.now.clocks.now clock held.now states.now rests.now (length shape.now.clocks.now) result }
     ensures stretch { (setting : Setting) (sub : ℕ → ℕ → List TheSlot) (past : List Moment) (fed : ℕ → ℕ) →
         let setting = over shape.now.plan.now shape.now.library.now shape.now.clocks.now setting in
-        IsBehind setting sub clock past fed time parts.now marks.now states.now → IsStretch setting sub clock past (suc result) }
+        IsBehind setting sub clock past fed time parts.now held.now states.now rests.now → IsStretch setting sub clock past (suc result) }
+    ensures asks { (setting : Setting) (sub : ℕ → ℕ → List TheSlot) (past : List Moment) (fed : ℕ → ℕ) →
+        let setting = over shape.now.plan.now shape.now.library.now shape.now.clocks.now setting in
+        IsBehind setting sub clock past fed time parts.now held.now states.now rests.now
+        → AllAsk setting sub clock past fed states.now (length shape.now.clocks.now) result }
 {
     let second = time.second_left();
     let tick = time.tick_left();
     let mut rest = most.min(time.rate);
     let mut i = nodes.first(clock);
     while i < shape.clocks.len() {
-        rest = node_rest(shape, parts, marks[i], &states[i], i, second, tick, rest);
+        rest = node_rest(
+            shape, parts, held[i], &states[i], i, rests[i], second, tick, rest,
+        );
         i = nodes.after(i);
     }
     rest
 }
 
-// How many of these instants node i goes on, which has this state.
+// How many of these instants node i goes on, which has this state and gave this; and its sub-clock goes on for so many.
 fn node_rest(
     shape: &Shape<'_>,
     parts: &[Part],
-    marked: bool,
+    held: Part,
     state: &NodeState,
     i: usize,
+    below: u32,
     second: u32,
     tick: u32,
     most: u32,
@@ -76,20 +89,25 @@ fn node_rest(
     requires within { i < length shape.now.plan.now.nodes }
     requires fits { (node : PlanNode) → slice_get shape.now.plan.now.nodes i ≡ Some node → Fits shape.now.library.now (length node.children) state.now }
     ensures within { result ≤ most }
-    ensures ahead { (marked && is_some (part_at parts.now i).slot) ≡ true → LiesAhead shape.now.library.now state.now result }
+    ensures ahead { is_some held.slot ≡ true → LiesAhead shape.now.library.now state.now result }
+    ensures through { is_some held.slot ≡ true → passes state.now ≡ true → result ≤ below }
     ensures goes { (setting : Setting) (sub : ℕ → ℕ → List TheSlot) (clock : Clock) (past : List Moment) (fed : ℕ) (node : PlanNode) →
         let setting = over shape.now.plan.now shape.now.library.now shape.now.clocks.now setting in
         AreLong sub → IsNode setting clock i node → StateStands setting sub (moment_after setting sub clock past ∷ past) fed i (work_at setting i node) state.now
-        → parts.now ≡ (moment_after setting sub clock past).parts → slice_index_or (moment_after setting sub clock past).demands i false ≡ marked
+        → parts.now ≡ (moment_after setting sub clock past).parts → gives (moment_after setting sub clock past) i ≡ is_some held.slot
         → ((buffer : ℕ) → work_at setting i node ≡ Reads buffer → fed ≡ suc (length past))
+        → (is_some held.slot ≡ true → passes state.now ≡ true → AreFed setting sub i fed below)
         → IsSameSecond setting (length past) second → IsSameTick setting (length past) tick
         → NodeStretches setting sub clock past i node result }
+    ensures asks { (setting : Setting) (sub : ℕ → ℕ → List TheSlot) (past : List Moment) (moment : Moment) (fed overlap j : ℕ)
+        → AreLong sub → StateStands setting sub (moment ∷ past) fed i (Fades overlap) state.now → gives moment i ≡ is_some held.slot → is_some held.slot ≡ true
+        → (passes state.now ≡ true → AreFed setting sub i fed below) → j < result
+        → run_of overlap (sub i) (suc (position past i) + j) ≡ fed + asked (passes state.now) j }
 {
     let node = &shape.plan.nodes.as_slice()[i];
-    let part = parts[i];
-    let gave = gives(part, marked);
+    let gave = held.slot.is_some();
     let begins = begins(parts, node.children.as_slice(), state.last());
-    let rest = state.rest(part, gave, begins, shape.library, 0, most);
+    let rest = state.rest(parts[i], gave, begins, shape.library, below, most);
     rest.min(border(&node.op, second, tick, most))
 }
 

@@ -12,13 +12,14 @@ use Rattle.frame_core.specs.Library.{Sounds}
 use Rattle.frame_core.specs.Calls.{Call}
 use Rattle.op_leaf.specs.Lanes.{IsLane}
 use Rattle.op_leaf.proofs.Laid.{lane_cells}
-use Rattle.stream_meaning.specs.Instants.{history, moment_after, part_at, silent}
+use Rattle.stream_meaning.specs.Instants.{history, moment_after, offer, part_at, silent}
 use Rattle.stream_meaning.specs.Calls.{after_calls, calls_of, joined_upto}
 use Rattle.stream_meaning.proofs.Answering.{joined_skip}
 use Rattle.clock_outputs.specs.Segments.{segment_slots}
 use Rattle.node_mixing.specs.Runs.{samples_of}
 use Rattle.node_states.specs.Times.{TimeStands}
-use Rattle.engine_instants.specs.Runs.{HasRunRoom, IsMarked}
+use Rattle.engine_instants.specs.Held.{IsHeld}
+use Rattle.engine_instants.specs.Runs.{HasRunRoom}
 use Rattle.engine_instants.specs.States.{over}
 use Rattle.engine_clocks.specs.Clocks.{InstantMade, IsWorld}
 use Rattle.engine_clocks.specs.Runs.{InstantsRun}
@@ -93,10 +94,10 @@ quiet_calls calls from n many next quiet =
 
 module _ {T : Type 0} (stands : T → List Call → Type 0) (plan : Plan) (library : Sounds) (clocks : List NodeClock) (clock : NodeClock) (own : List Bool) where
   pub segment_run : (old new : Lanes) (mid : ClockLanes) (a b : T) (many : ℕ) → InstantMade stands plan library clocks own clock old.time old.clocks mid a b
-      → IsMarked plan library clocks own clock mid.latest → InstantsRun plan library clocks clock old.time many mid new.clocks → new.clocks.latest ≡ mid.latest
+      → InstantsRun plan library clocks clock old.time many mid new.clocks → new.clocks.latest ≡ mid.latest
       → ((start n : ℕ) → TimeStands start n old.time → TimeStands start (n + suc many) new.time)
       → SegmentRun stands plan library clocks clock own many old new a b
-  segment_run old new mid a b many one marked rest kept later = record {
+  segment_run old new mid a b many one rest kept later = record {
     more = one.more;
     taps = one.taps;
     run = λ other sub n front meant has stand.
@@ -106,7 +107,8 @@ module _ {T : Type 0} (stands : T → List Call → Type 0) (plan : Plan) (libra
         let next : made.ran_now clock ≡ suc n = made.once ∙ ap suc stand.made in
         let parts : mid.latest.parts.items ≡ (moment_after S sub clock (history S sub clock n)).parts =
         made.parts ∙ ap (λ m. (moment_after S sub clock (history S sub clock m)).parts) stand.made in
-        let ran = rest.run other sub stand.rank made.ran_now made.fed_now (after_calls front one.more) own n world marked made.stand made.needed next parts stand.time in
+        let ran = rest.run other sub stand.rank made.ran_now made.fed_now (after_calls front one.more) own n world made.stand made.needed next parts
+        (subst (λ m. IsHeld S sub clock (history S sub clock m) mid.runs.held.items) stand.made made.keeps) stand.time in
         record {
           lanes_stand = record {
             rank = stand.rank;
@@ -120,8 +122,10 @@ module _ {T : Type 0} (stands : T → List Call → Type 0) (plan : Plan) (libra
           };
           slots_are = λ i root.
               let is = ran.slots i root in
+              let same : (part_at new.clocks.latest.parts.items i).slot ≡ offer (moment_after S sub clock (history S sub clock n)) i =
+              ap (λ latest. (part_at latest.parts.items i).slot) kept ∙ ap (λ ps. (part_at ps i).slot) parts in
               slots_by (part_at new.clocks.latest.parts.items i).slot many (samples_of new.clocks.runs.left.items i many) (samples_of new.clocks.runs.right.items i many)
-              (λ j. slot_in S sub clock i (made.ran_now clock + j)) is.given is.silent
+              (λ j. slot_in S sub clock i (made.ran_now clock + j)) (λ there. is.given (sym (ap (λ (slot : Slot). is_some slot) same) ∙ there)) (λ none. is.silent (sym (ap (λ (slot : Slot). is_some slot) same) ∙ none))
               ∙ slots_from (slot_in S sub clock i) (part_at new.clocks.latest.parts.items i).slot n (made.ran_now clock) many
               (ap (λ latest. (part_at latest.parts.items i).slot) kept ∙ ap (λ ps. (part_at ps i).slot) parts) next;
           calls = made.calls ∙ ap (λ m. calls_of S sub clock (history S sub clock m)) stand.made

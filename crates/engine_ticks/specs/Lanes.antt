@@ -2,6 +2,7 @@
 use Rattle.std.specs.Prelude.{◌≡◌, ℕ, List}
 use Rattle.plan_core.specs.declared.plan.Plan.{Plan}
 use Rattle.clock_infer.specs.declared.clock_map.NodeClock.{NodeClock}
+use Rattle.clock_infer.specs.declared.clock_map.NodeClock.TheVariants.{Sub}
 use Rattle.frame_core.specs.Slots.{Slot}
 use Rattle.frame_core.specs.Library.{Sounds}
 use Rattle.op_leaf.specs.Readers.{Answer}
@@ -9,6 +10,10 @@ use Rattle.stream_meaning.specs.Instants.{Setting}
 use Rattle.node_states.specs.Times.{TimeStands}
 use Rattle.engine_clocks.specs.Clocks.{AreClockLanes, HasRanks, RanAsNeeded, Stand}
 use Rattle.engine_ticks.specs.declared.lanes.Lanes.{Lanes}
+
+-- it is no sub-clock
+abbrev pub IsMain : NodeClock → Type 0
+IsMain clock = (k : ℕ) → clock ≡ Sub k → ⊥
 
 -- lanes for the nodes of this plan, with these files and these clocks of its nodes
 pub record AreLanes (plan : Plan) (library : Sounds) (clocks : List NodeClock) (lanes : Lanes) : Type 0 where

@@ -4,7 +4,7 @@ ghost use Rattle.liq_base.specs.declared.limits.TheConstants.{MAX_NODES};
 ghost use Rattle.plan_core.specs.Plans.{AreNodes};
 ghost use Rattle.engine_instants.specs.Takes.{HasReader, ReadersAreIn};
 ghost use Rattle.engine_clocks.specs.Clocks.{HasLevels};
-ghost use Rattle.engine_ticks.specs.Lanes.{AreLanes};
+ghost use Rattle.engine_ticks.specs.Lanes.{AreLanes, IsMain};
 ghost use Rattle.engine_ticks.specs.Runs.{SegmentBroken, SegmentRun};
 
 use clock_infer::NodeClock;
@@ -40,6 +40,7 @@ pub fn make_segment<T: Taps>(
     requires few { length shape.now.plan.now.nodes ≤ MAX_NODES }
     requires in_clocks { length shape.now.clocks.now ≡ length shape.now.plan.now.nodes }
     requires in_own { length own.now ≡ length shape.now.plan.now.nodes }
+    requires main { IsMain clock }
     requires levels { HasLevels shape.now.clocks.now clock (length shape.now.plan.now.nodes) }
     requires lanes { AreLanes shape.now.plan.now shape.now.library.now shape.now.clocks.now lanes.old }
     requires short { most ≤ 1024 }
@@ -55,7 +56,7 @@ pub fn make_segment<T: Taps>(
     let time = lanes.time;
     let levels = shape.plan.nodes.len();
     make_instant(shape, own, &mut lanes.clocks, clock, time, levels, taps)?;
-    let many = make_run(shape, &mut lanes.clocks, clock, time, most);
+    let many = make_run(shape, &mut lanes.clocks, clock, time, most, levels);
     lanes.time = time.next().later(many);
     lanes.segments = lanes.segments.saturating_add(1);
     Ok(many)

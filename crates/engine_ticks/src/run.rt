@@ -5,7 +5,7 @@ ghost use Rattle.plan_core.specs.Plans.{AreNodes};
 ghost use Rattle.clock_outputs.specs.Ports.{AllHaveRoomLeft, emptied};
 ghost use Rattle.engine_instants.specs.Takes.{HasReader, ReadersAreIn};
 ghost use Rattle.engine_clocks.specs.Clocks.{HasLevels};
-ghost use Rattle.engine_ticks.specs.Lanes.{AreLanes};
+ghost use Rattle.engine_ticks.specs.Lanes.{AreLanes, IsMain};
 ghost use Rattle.engine_ticks.specs.Runs.{Heard, HeardSome, feed_key};
 
 use crate::Lanes;
@@ -33,6 +33,7 @@ pub fn run_tick<T: Taps>(
     requires few { length shape.now.plan.now.nodes ≤ MAX_NODES }
     requires in_clocks { length shape.now.clocks.now ≡ length shape.now.plan.now.nodes }
     requires in_own { length own.now ≡ length shape.now.plan.now.nodes }
+    requires main { IsMain clock }
     requires levels { HasLevels shape.now.clocks.now clock (length shape.now.plan.now.nodes) }
     requires lanes { AreLanes shape.now.plan.now shape.now.library.now shape.now.clocks.now lanes.old }
     requires heard { All (λ port. port.node < length shape.now.plan.now.nodes) ports.old.items }

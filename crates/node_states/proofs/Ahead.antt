@@ -22,6 +22,6 @@ lies_less library (Leaf state) count few less lies = λ some. cursor_less librar
 lies_less library (Select state) count few less lies = lies
 lies_less library (Turn state) count few less lies = lies
 lies_less library (Mix mixer) count few less lies = lies
-lies_less library (Cross state) count few less lies = omega (arith, lies, less)
+lies_less library (Cross state) count few less lies = λ none. (let l = lies none in omega (arith, l, less))
 lies_less library (Read reader) count few less lies = λ j low. lies j (omega (arith, low, less))
 lies_less library Idle count few less lies = lies

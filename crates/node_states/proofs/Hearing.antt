@@ -23,7 +23,7 @@ use Rattle.op_select.specs.Selection.{picked}
 use Rattle.stream_meaning.specs.declared.part.Part.{Part}
 use Rattle.stream_meaning.specs.Arithmetic.{Mixing, Adds, Scales, Halves, Doubles, Passes, cells_of, changed_slot, mix_slot, summed_slot}
 use Rattle.stream_meaning.specs.Operators.{Choice, Eligible, Plays, Picks, Mixes, Fades, Reads, child_used, marks_at}
-use Rattle.stream_meaning.specs.Instants.{Setting, Moment, child_at, choices, count, demanded, gives, is_root, last_pick, lies_in, moment_after, offer, offering, part_at, part_by, parts_upto, picked_part, position, reading_after, reading_at, second_at, slots_at, uses_by, uses_from, work_at}
+use Rattle.stream_meaning.specs.Instants.{Setting, Moment, child_at, choices, count, demanded, gives, is_root, last_pick, lies_in, moment_after, offer, offering, part_at, part_by, parts_upto, picked_part, position, reading_after, reading_at, second_at, silent, slots_at, uses_by, uses_from, work_at}
 use Rattle.segment_laws.specs.Stretches.{lane}
 use Rattle.segment_laws.proofs.Demanding.{used_demanded}
 use Rattle.segment_laws.proofs.Following.{AreBelow, at_place, below_from, child_is_below, one_used, place_is, slot_is}
@@ -32,6 +32,7 @@ use Rattle.segment_laws.proofs.Stretching.{alike_all}
 use Rattle.segment_laws.proofs.Laning.{chosen, faded, mixed, played, read}
 use Rattle.segment_laws.proofs.Works.{pick_offers_there, some_pick}
 use Rattle.node_mixing.specs.Runs.{AreHeard, IsHeard, many_give, offers_in}
+use Rattle.node_states.specs.Passing.{given_part}
 use Rattle.node_states.specs.Runs.{GoesOn}
 
 both : (a b : Bool) → a ≡ true → b ≡ true → (a && b) ≡ true
@@ -170,6 +171,34 @@ items_lane items p many left right settled left_is right_is inner = record {
     at : (j : ℕ) → j < many → slot_at items (p + (0 + j)) ≡ slot_at (drop p items) j
     at j less = let e : p + (0 + j) ≡ p + j = omega arith in ap (slot_at items) e ∙ sym (get_or-drop p items j None)
 
+-- ---- who is heard, told in another way
+
+pub heard_same : (slots : ℕ → ℕ → Slot) (one other : ℕ → Bool) (lefts rights : ℕ → List ℤ) (many : ℕ) (children : List ℕ)
+    → ((c : ℕ) → list_any (nat_eq c) children ≡ true → other c ≡ one c) → AreHeard slots one lefts rights many children → AreHeard slots other lefts rights many children
+heard_same slots one other lefts rights many [] same heard = tt
+heard_same slots one other lefts rights many (child ∷ children) same (here, rest) =
+    let own : other child ≡ one child = same child (or_left (nat_eq child child) (list_any (nat_eq child) children) (eq-eqb child child refl)) in (
+      record { given = λ e. here.given (sym own ∙ e); silent = λ e. here.silent (sym own ∙ e) },
+      heard_same slots one other lefts rights many children (λ c e. same c (or_right (nat_eq c child) (list_any (nat_eq c) children) e)) rest,
+    )
+
+pub many_same : (one other : ℕ → Bool) (children : List ℕ) → ((c : ℕ) → list_any (nat_eq c) children ≡ true → other c ≡ one c) → many_give other children ≡ many_give one children
+many_same one other [] same = refl
+many_same one other (child ∷ children) same =
+    let own : other child ≡ one child = same child (or_left (nat_eq child child) (list_any (nat_eq child) children) (eq-eqb child child refl)) in
+    let rest : many_give other children ≡ many_give one children = many_same one other children (λ c e. same c (or_right (nat_eq c child) (list_any (nat_eq c) children) e)) in
+    ap (λ (b : Bool). cond b (suc (many_give other children)) (many_give other children)) own ∙ ap (λ n. cond (one child) (suc n) n) rest
+
+pub given_yes : (moment : Moment) (c : ℕ) → gives moment c ≡ true → given_part moment c ≡ part_at moment.parts c
+given_yes moment c e = ap (λ (b : Bool). cond b (part_at moment.parts c) silent) e
+
+pub given_no : (moment : Moment) (c : ℕ) → gives moment c ≡ false → given_part moment c ≡ silent
+given_no moment c e = ap (λ (b : Bool). cond b (part_at moment.parts c) silent) e
+
+and_none : (a b : Bool) → b ≡ false → (a && b) ≡ false
+and_none true b e = e
+and_none false b e = refl
+
 -- node i, over `many` instants behind the one after these
 module _ (setting : Setting) (sub : ℕ → ℕ → List Slot) (clock : NodeClock) (past : List Moment) (many i : ℕ) (node : Node) (goes : GoesOn setting sub clock past many i node) where
   abbrev First : Moment
@@ -220,6 +249,16 @@ module _ (setting : Setting) (sub : ℕ → ℕ → List Slot) (clock : NodeCloc
         let like = alike_all setting sub clock past (suc many) goes.nodes goes.stretch (suc j) (omega arith) (omega (arith, less)) in
         false≢true (sym quiet ∙ (sym ((like.slots c).there) ∙ there)));
   })
+
+  -- a child offers where it gives
+  pub given_child : (mixing : Mixing) → work_at setting i node ≡ Mixes mixing → (parts : List Part)
+      → ((c : ℕ) → list_any (nat_eq c) node.children ≡ true → part_at parts c ≡ given_part First c)
+      → (c : ℕ) → list_any (nat_eq c) node.children ≡ true → offers_in parts c ≡ offers_in First.parts c
+  given_child mixing at parts given c among = ap (λ (p : Part). is_some p.slot) (given c among) ∙ by (is_some (offer First c)) refl
+    where
+      by : (there : Bool) → is_some (offer First c) ≡ there → is_some (given_part First c).slot ≡ is_some (part_at First.parts c).slot
+      by true e = ap (λ (p : Part). is_some p.slot) (given_yes First c (child_gives mixing at c among e))
+      by false e = ap (λ (p : Part). is_some p.slot) (given_no First c (and_none (demanded First c) (is_some (offer First c)) e)) ∙ sym e
 
   -- and one of them offers
   pub some_offer : (mixing : Mixing) → work_at setting i node ≡ Mixes mixing → 0 < many_give (offers_in First.parts) node.children

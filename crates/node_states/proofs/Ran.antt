@@ -27,10 +27,11 @@ use Rattle.stream_meaning.specs.Operators.{Choice, Eligible, Work, Plays, Picks,
 use Rattle.stream_meaning.specs.Instants.{Setting, Moment, Reading, choices, count, gives, last_pick, moment_after, part_at, position, read_on, reading_after, reading_at, work_at}
 use Rattle.segment_laws.specs.Stretches.{going_on, lane}
 use Rattle.node_states.specs.declared.state.NodeState.TheVariants.{Leaf, Select, Turn, Mix, Cross, Read, Idle}
+use Rattle.node_states.specs.Passing.{given_part}
 use Rattle.node_states.specs.Runs.{GoesOn, fed_on}
 use Rattle.node_states.specs.States.{HasSelected, HasTurned, StateStands, reading_by, reads}
 use Rattle.node_states.proofs.Chunks.{reading_closed}
-use Rattle.node_states.proofs.Hearing.{are_heard, fade_run, leaf_run, mix_run, pick_run, read_run, some_offer, the_child}
+use Rattle.node_states.proofs.Hearing.{are_heard, fade_run, given_child, heard_same, leaf_run, many_same, mix_run, pick_run, read_run, some_offer, the_child}
 use Rattle.node_states.proofs.Rested.{gave_count, gave_position}
 use Rattle.node_states.proofs.Running.{chosen_same, count_later, picked_same, position_later, read_stands}
 
@@ -119,14 +120,14 @@ module _ (setting : Setting) (sub : ℕ → ℕ → List Slot) (clock : NodeCloc
   turn_stands some state (Reads buffer) s = absurd s
 
   -- the samples of the child that was picked were laid
-  module _ (parts : List Part) (pick : Option ℕ) (lefts rights left right : List ℤ) (same : parts ≡ First.parts) (pick_is : pick ≡ (part_at parts i).pick)
+  module _ (pick : Option ℕ) (lefts rights left right : List ℤ) (pick_is : pick ≡ (part_at First.parts i).pick)
       (left_is : (place child : ℕ) → pick ≡ Some place → slice_get node.children place ≡ Some child → left ≡ samples_of lefts child many)
       (right_is : (place child : ℕ) → pick ≡ Some place → slice_get node.children place ≡ Some child → right ≡ samples_of rights child many)
       (before : Before lefts rights) where
     laid : (choice : Choice) (eligible : Eligible) → work_at setting i node ≡ Picks choice eligible → IsLane (λ j. Lane j i) many left right
     laid choice eligible at =
         let one = the_child setting sub clock past many i node goes choice eligible at in
-        let picks : pick ≡ Some one.place = pick_is ∙ ap (λ p. (part_at p i).pick) same ∙ one.pick_is in
+        let picks : pick ≡ Some one.place = pick_is ∙ one.pick_is in
         let own = before one.child one.among one.gave in
         pick_run setting sub clock past many i node goes choice eligible at left right
         (record {
@@ -159,7 +160,8 @@ module _ (setting : Setting) (sub : ℕ → ℕ → List Slot) (clock : NodeCloc
   mix_stands mixer (Fades overlap) s = absurd s
   mix_stands mixer (Reads buffer) s = absurd s
 
-  pub mix_lane : (mixer : Mixer) (parts : List Part) (lefts rights left right : List ℤ) → parts ≡ First.parts
+  pub mix_lane : (mixer : Mixer) (parts : List Part) (lefts rights left right : List ℤ)
+      → ((c : ℕ) → list_any (nat_eq c) node.children ≡ true → part_at parts c ≡ given_part First c)
       → ((slots : ℕ → ℕ → Slot) → AreHeard slots (offers_in parts) (λ child. samples_of lefts child many) (λ child. samples_of rights child many) many node.children
       → 0 < many_give (offers_in parts) node.children → IsLane (λ j. mix_slot (mixing_of mixer) (map (slots j) node.children)) many left right)
       → Before lefts rights → (work : Work) → work_at setting i node ≡ work → StateStands setting sub Past fed i work (Mix mixer) → IsLane (λ j. Lane j i) many left right
@@ -169,9 +171,11 @@ module _ (setting : Setting) (sub : ℕ → ℕ → List Slot) (clock : NodeCloc
       mix_run setting sub clock past many i node goes mixing at left right
       (subst (λ m. IsLane (λ j. mix_slot m (map (Lane j) node.children)) many left right) s
       (made Lane
-      (subst (λ p. AreHeard Lane (offers_in p) (λ child. samples_of lefts child many) (λ child. samples_of rights child many) many node.children) (sym same)
+      (heard_same Lane (offers_in First.parts) (offers_in parts) (λ child. samples_of lefts child many) (λ child. samples_of rights child many) many node.children
+      (given_child setting sub clock past many i node goes mixing at parts same)
       (are_heard setting sub clock past many i node goes mixing at (λ child. samples_of lefts child many) (λ child. samples_of rights child many) before))
-      (subst (λ p. 0 < many_give (offers_in p) node.children) (sym same) (some_offer setting sub clock past many i node goes mixing at))))
+      (subst (λ n. 0 < n) (sym (many_same (offers_in First.parts) (offers_in parts) node.children (given_child setting sub clock past many i node goes mixing at parts same)))
+      (some_offer setting sub clock past many i node goes mixing at))))
   mix_lane mixer parts lefts rights left right same made before (Fades overlap) at s = absurd s
   mix_lane mixer parts lefts rights left right same made before (Reads buffer) at s = absurd s
 

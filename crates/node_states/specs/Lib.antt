@@ -3,4 +3,5 @@ pub mod Works
 pub mod States
 pub mod Takes
 pub mod Ticks
+pub mod Passing
 pub mod Runs

@@ -1,11 +1,11 @@
 -- A run: instants that go on as the one before them, all at once.
-use Rattle.std.specs.Prelude.{◌≡◌, ⊤, ◌<◌, ◌≤◌, ◌+◌, Bool, true, List, ℕ, suc, if◌then◌else◌}
+use Rattle.std.specs.Prelude.{◌≡◌, ⊤, ◌<◌, ◌≤◌, ◌+◌, Bool, true, false, List, ℕ, suc, if◌then◌else◌}
 use Rattle.plan_core.specs.declared.node.Node.{Node}
 use Rattle.plan_core.specs.Plans.{AreNodes}
 use Rattle.clock_infer.specs.declared.clock_map.NodeClock.{NodeClock}
 use Rattle.frame_core.specs.Library.{Sounds}
 use Rattle.frame_core.specs.Slots.{Slot}
-use Rattle.op_cross.specs.States.{ready_stretch}
+use Rattle.op_cross.specs.States.{passes, ready_stretch}
 use Rattle.op_leaf.specs.Inner.{LiesAhead as LeafLiesAhead, is_inner}
 use Rattle.op_leaf.specs.Readers.{read_by, reader_slot}
 use Rattle.stream_meaning.specs.Instants.{Setting, Moment, gives, moment_after}
@@ -14,13 +14,14 @@ use Rattle.node_states.specs.declared.state.NodeState.{NodeState}
 use Rattle.node_states.specs.declared.state.NodeState.TheVariants.{Leaf, Select, Turn, Mix, Cross, Read, Idle}
 use Rattle.node_states.specs.States.{AreLong}
 
--- so many of its next cells or items are there, and none of them begins a track: what a run asks of a node that gives
+-- so many of its next cells or items are there, and none of them begins a track: what a run asks of a node that gives; a crossfade through
+-- which cells pass is given them
 abbrev pub LiesAhead : Sounds → NodeState → (count : ℕ) → Type 0
 LiesAhead library (Leaf state) count = 0 < count → LeafLiesAhead library state count
 LiesAhead library (Select state) count = ⊤
 LiesAhead library (Turn state) count = ⊤
 LiesAhead library (Mix mixer) count = ⊤
-LiesAhead library (Cross state) count = count ≤ ready_stretch state
+LiesAhead library (Cross state) count = passes state ≡ false → count ≤ ready_stretch state
 LiesAhead library (Read reader) count = (j : ℕ) → j < count → is_inner (reader_slot (read_by j reader)) ≡ true
 LiesAhead library Idle count = ⊤
 

@@ -11,7 +11,7 @@ use Rattle.op_select.specs.Selection.{Selection}
 use Rattle.random_ops.specs.Turns.{Turning, StandsFor as TurnStandsFor}
 use Rattle.op_cross.specs.Crossfade.{cross}
 use Rattle.op_cross.specs.Runs.{run_of}
-use Rattle.op_cross.specs.States.{Crossing, StandsFor, wants as crossing_wants, left as crossing_left}
+use Rattle.op_cross.specs.States.{Crossing, StandsFor, track_room, wants as crossing_wants, left as crossing_left}
 use Rattle.stream_meaning.specs.Operators.{Choice, Selects, TakesTurns, Work, Plays, Picks, Mixes, Fades, Reads}
 use Rattle.plan_core.specs.declared.node.Node.{Node}
 use Rattle.stream_meaning.specs.Instants.{Setting, Moment, Reading, choices, count, last_pick, position, reading_after, reading_at, work_at}
@@ -111,6 +111,16 @@ left (Mix mixer) = 0
 left (Cross state) = crossing_left state
 left (Read reader) = 0
 left Idle = 0
+
+-- how many cells of a track that goes on a crossfade still takes for its item; 0 where it wants none
+abbrev pub room : NodeState → ℕ
+room (Leaf state) = 0
+room (Select state) = 0
+room (Turn state) = 0
+room (Mix mixer) = 0
+room (Cross state) = if crossing_wants state then track_room state else 0
+room (Read reader) = 0
+room Idle = 0
 
 -- whether a node's work is to read a buffer
 abbrev pub reads : Work → Bool

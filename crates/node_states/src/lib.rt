@@ -3,8 +3,10 @@
 #![tactic(auto)]
 
 mod desk;
+mod feeding;
 pub mod laws;
 mod marks;
+mod passing;
 mod run;
 mod state;
 mod steps;

@@ -1,5 +1,5 @@
 // A run of a node.
-ghost use Rattle.std.specs.Prelude.{◌≡◌, ◌<◌, ◌≤◌, ◌+◌, ◌*◌, ◌∷◌, ℕ, List, Some, true, length, slice_get, suc, nat_eq, All};
+ghost use Rattle.std.specs.Prelude.{◌≡◌, ◌<◌, ◌≤◌, ◌+◌, ◌*◌, ◌∷◌, ◌||◌, ℕ, List, Some, true, length, slice_get, suc, nat_eq, All};
 ghost use Rattle.std.specs.List.{list_any};
 ghost use Rattle.liq_base.specs.declared.limits.TheConstants.{MAX_CHILDREN};
 ghost use Rattle.clock_infer.specs.declared.clock_map.NodeClock.{NodeClock as Clock};
@@ -8,10 +8,12 @@ ghost use Rattle.op_leaf.specs.Lanes.{IsLane};
 ghost use Rattle.stream_meaning.specs.Instants.{Setting, Moment, gives, moment_after, part_at, work_at};
 ghost use Rattle.segment_laws.specs.Stretches.{going_on, lane};
 ghost use Rattle.node_mixing.specs.Runs.{samples_of};
+ghost use Rattle.node_states.specs.Passing.{ChildFeeds, given_part, passes};
 ghost use Rattle.node_states.specs.Runs.{GoesOn, LiesAhead, fed_on};
 ghost use Rattle.node_states.specs.States.{Fits, StateStands, reads};
 
 use crate::NodeState;
+use crate::passing::pass_child;
 use frame_core::Library;
 use node_mixing::{Sums, samples_of};
 use plan_core::Node;
@@ -20,7 +22,8 @@ use stream_meaning::Part;
 impl NodeState {
     /// Makes as many instants as the slices are long of a node that gave at the latest one, with which they go on: its samples
     /// are laid, over those of the nodes before it, and its state goes on behind them. `pick` is the child that it used at the
-    /// latest instant, and `parts` are what all nodes did there. It takes no memory.
+    /// latest instant, and `parts` are what its children gave there; through a crossfade that passes go the samples of its child.
+    /// It takes no memory.
     pub fn run(
         &mut self,
         node: &Node,
@@ -45,12 +48,15 @@ impl NodeState {
         ensures stands { (setting : Setting) (sub : ℕ → ℕ → List TheSlot) (clock : Clock) (past : List Moment) (fed i : ℕ)
             → setting.library ≡ library.now → GoesOn setting sub clock past (length left.old) i node.now
             → (reads (work_at setting i node.now) ≡ true → fed ≡ suc (length past))
+            → (passes self.old ≡ true → ChildFeeds (sub i) fed (length left.old) node.now.children before_left.now before_right.now)
             → StateStands setting sub (moment_after setting sub clock past ∷ past) fed i (work_at setting i node.now) self.old
-            → StateStands setting sub (going_on setting sub clock (suc (length left.old)) past) (fed_on (reads (work_at setting i node.now)) (length left.old) fed) i (work_at setting i node.now) self.new }
+            → StateStands setting sub (going_on setting sub clock (suc (length left.old)) past) (fed_on (passes self.old || reads (work_at setting i node.now)) (length left.old) fed) i (work_at setting i node.now) self.new }
         ensures lane { (setting : Setting) (sub : ℕ → ℕ → List TheSlot) (clock : Clock) (past : List Moment) (fed i : ℕ)
             → setting.library ≡ library.now → GoesOn setting sub clock past (length left.old) i node.now
-            → parts.now ≡ (moment_after setting sub clock past).parts → pick ≡ (part_at parts.now i).pick
+            → ((c : ℕ) → list_any (nat_eq c) node.now.children ≡ true → part_at parts.now c ≡ given_part (moment_after setting sub clock past) c)
+            → pick ≡ (part_at (moment_after setting sub clock past).parts i).pick
             → (reads (work_at setting i node.now) ≡ true → fed ≡ suc (length past))
+            → (passes self.old ≡ true → ChildFeeds (sub i) fed (length left.old) node.now.children before_left.now before_right.now)
             → StateStands setting sub (moment_after setting sub clock past ∷ past) fed i (work_at setting i node.now) self.old
             → ((c : ℕ) → list_any (nat_eq c) node.now.children ≡ true → gives (moment_after setting sub clock past) c ≡ true
             → IsLane (λ j. lane setting sub clock past (suc j) c) (length left.old) (samples_of before_left.now c (length left.old)) (samples_of before_right.now c (length left.old)))
@@ -76,7 +82,13 @@ impl NodeState {
                     right,
                 );
             }
-            NodeState::Cross(state) => state.copy(left, right),
+            NodeState::Cross(state) => {
+                if state.passes() {
+                    pass_child(state, children, before_left, before_right, left, right);
+                } else {
+                    state.copy(left, right);
+                }
+            }
             NodeState::Read(state) => state.run(left, right),
             NodeState::Idle => {}
         }

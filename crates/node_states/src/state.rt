@@ -1,5 +1,5 @@
 // The state of a node.
-ghost use Rattle.std.specs.Prelude.{◌≡◌, ◌≤◌, ◌<◌, ◌++◌, ◌∷◌, ℕ, List, [], true, false, length, suc, IfOk, IfSome};
+ghost use Rattle.std.specs.Prelude.{◌≡◌, ◌≤◌, ◌<◌, ◌+◌, ◌++◌, ◌∷◌, ℕ, List, [], true, false, length, suc, IfOk};
 ghost use Rattle.liq_base.specs.declared.limits.TheConstants.{MAX_CHILDREN};
 ghost use Rattle.frame_core.specs.Library.{IsLibrary, Sounds};
 ghost use Rattle.frame_core.specs.Slots.{Slot as TheSlot};
@@ -9,6 +9,7 @@ ghost use Rattle.op_select.specs.declared.rule.Rule.{Rule as TheRule};
 ghost use Rattle.stream_meaning.specs.Operators.{Work, Eligible, Fades, Picks, Reads, Selects};
 ghost use Rattle.segment_laws.specs.Stretches.{AreFed, NodeGoes};
 ghost use Rattle.stream_meaning.specs.Instants.{Setting, Moment, demanded, gives, last_pick, part_at, part_by, position, second_at, work_at};
+ghost use Rattle.node_states.specs.Passing.{asked, passes};
 ghost use Rattle.node_states.specs.Runs.{LiesAhead};
 ghost use Rattle.node_states.specs.States.{AreLong, FadesOn, Fits, IsSettled, left, StateStands, wants};
 
@@ -172,7 +173,8 @@ impl NodeState {
 
     /// How many instants, at most so many, go on behind one at which the node had this part and gave, or did not, as far as it
     /// goes; a reader within its tick. `begins` tells whether the child that a selection used last begins a track there, and
-    /// `below` how many instants of a crossfade's sub-clock go on with a track.
+    /// `below` how many instants of a crossfade's sub-clock go on with a track. Where cells pass, each of its items asks for one of
+    /// these, and else for none.
     pub fn rest(
         &self,
         part: Part,
@@ -184,12 +186,17 @@ impl NodeState {
     ) -> u32
         requires fits { (children : ℕ) × Fits library.now children self.now }
         ensures within { result ≤ most }
-        ensures ahead { below ≡ 0 → gave ≡ true → LiesAhead library.now self.now result }
+        ensures ahead { gave ≡ true → LiesAhead library.now self.now result }
+        ensures through { gave ≡ true → passes self.now ≡ true → result ≤ below }
         ensures goes { (setting : Setting) (sub : ℕ → ℕ → List TheSlot) (past : List Moment) (moment : Moment) (fed i : ℕ) (work : Work)
             → setting.library ≡ library.now → AreLong sub → StateStands setting sub (moment ∷ past) fed i work self.now
             → ((buffer : ℕ) → work ≡ Reads buffer → fed ≡ suc (length past))
-            → part_at moment.parts i ≡ part → gives moment i ≡ gave → AreFed setting sub i fed below
+            → part_at moment.parts i ≡ part → gives moment i ≡ gave → (gave ≡ true → passes self.now ≡ true → AreFed setting sub i fed below)
             → NodeGoes setting sub past moment i work begins result }
+        ensures asks { (setting : Setting) (sub : ℕ → ℕ → List TheSlot) (past : List Moment) (moment : Moment) (fed i overlap j : ℕ)
+            → AreLong sub → StateStands setting sub (moment ∷ past) fed i (Fades overlap) self.now
+            → gives moment i ≡ gave → gave ≡ true → (passes self.now ≡ true → AreFed setting sub i fed below) → j < result
+            → run_of overlap (sub i) (suc (position past i) + j) ≡ fed + asked (passes self.now) j }
     {
         match self {
             NodeState::Leaf(state) => {

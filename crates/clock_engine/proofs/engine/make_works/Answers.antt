@@ -1,6 +1,7 @@
-use Rattle.std.proofs.Common.{◌≡◌, ◌*◌, ◌∙◌, rules, [], length, ap, arith, refl}
+use Rattle.std.proofs.Common.{◌≡◌, ◌∙◌, rules, [], length, ap, arith, refl, subst}
 use Rattle.std.proofs.lemmas.Option.{slice_get_within}
 use Rattle.stream_meaning.specs.Instants.{Setting}
+use Rattle.engine_instants.specs.Runs.{HasRunRoom}
 use Rattle.node_states.specs.Ticks.{with_rest}
 use Rattle.clock_engine.specs.Beginnings.{IsNewPort}
 use Rattle.clock_engine.proofs.Numbered.{all_at}
@@ -35,7 +36,11 @@ returns-clause-works c =
             marks = λ j outside. all_alike _ _ _ (c.in_ok-marks.ensures.items_if_clones_equal (λ y e. e)) j;
           };
           room = search rules;
-          runs = record { in_left = c.in_ok-runs.ensures.in_left ∙ ap (λ n. n * 1024) nodes; in_right = c.in_ok-runs.ensures.in_right ∙ ap (λ n. n * 1024) nodes };
+          runs = subst (λ n. HasRunRoom n c.in_ok-runs.runs) nodes c.in_ok-runs.ensures.room;
+          resting = record {
+            ahead = λ k some. (let none = c.in_ok-runs.ensures.none k in absurd (omega (arith, none, some)));
+            through = λ k some. (let none = c.in_ok-runs.ensures.none k in absurd (omega (arith, none, some)));
+          };
           rates = λ k time at. ap (λ t. t.rate) (c.in_ok-times.ensures.each k time at) ∙ c.new-time.ensures.rate;
           frames = λ k time at. ap (λ t. t.frame) (c.in_ok-times.ensures.each k time at) ∙ c.new-time.ensures.frame;
         };
@@ -58,6 +63,6 @@ returns-clause-stands c =
       made = refl;
       runs = refl;
       others = λ buffer unread. refl;
-      lanes = λ rest. new_stand (with_rest S (λ buffer. []) rest) c.args.clock _ (length c.args.shape.plan.now.nodes) _ (has_ranks c.args.shape.plan.now c.args.shape.clocks.now c.requires.clocks c.requires.in_clocks) (rank_low c.args.shape.plan.now c.args.shape.clocks.now c.requires.clocks c.requires.in_clocks) c.in_ok-states.ensures c.new-time.ensures.stands c.in_ok-times.ensures.each;
+      lanes = λ rest. new_stand (with_rest S (λ buffer. []) rest) c.args.clock _ (length c.args.shape.plan.now.nodes) _ (has_ranks c.args.shape.plan.now c.args.shape.clocks.now c.requires.clocks c.requires.in_clocks) (rank_low c.args.shape.plan.now c.args.shape.clocks.now c.requires.clocks c.requires.in_clocks) c.in_ok-states.ensures c.new-time.ensures.stands c.in_ok-times.ensures.each c.in_ok-runs.ensures.none;
       gaps_are = λ rest k port at. (all_at (IsNewPort S) c.in_ok-ports.ports.items (c.in_ok-ports.ensures.new S) k port at).gaps;
     }

@@ -2,6 +2,7 @@ use Rattle.std.proofs.Common.{◌<◌, length, arith, sym, subst}
 use Rattle.std.proofs.lemmas.List.{get_or-map, length-map}
 use Rattle.clock_outputs.specs.Ports.{HasRoomLeft, emptied}
 use Rattle.clock_engine.proofs.Mapped.{has_levels}
+use Rattle.clock_engine.proofs.Starting.{main_is}
 use Rattle.clock_engine.proofs.Rooted.{feeds_low, ports_low}
 use Rattle.clock_engine.proofs.engine.run_works.Goals as goal
 
@@ -10,6 +11,9 @@ run_tick-requires-clause-room g c k d h =
     let within : k < length c.args.works.now.ports.items = (let long = length-map c.args.works.now.ports.items emptied in omega (arith, long, h)) in
     let room = c.requires.works.rooms k d within in
     subst (λ p. HasRoomLeft c.args.works.now.shape.plan.now.frame p) (sym (get_or-map emptied c.args.works.now.ports.items k d d within)) (omega (arith, room))
+
+pub run_tick-requires-clause-main : goal.run_tick-requires-clause-main
+run_tick-requires-clause-main g c = main_is c.args.works.now.clock
 
 pub run_tick-requires-clause-levels : goal.run_tick-requires-clause-levels
 run_tick-requires-clause-levels g c = has_levels c.args.works.now.shape.plan.now c.args.works.now.shape.clocks.now c.requires.works.clocks c.requires.works.in_clocks c.args.works.now.clock

@@ -7,6 +7,9 @@ use Rattle.node_states.specs.States.{StateStands, left}
 use Rattle.node_states.specs.Times.{TimeStands}
 use Rattle.engine_instants.proofs.Going.{fit_set}
 use Rattle.engine_instants.proofs.Places.{same_or_other, slice_get-set_other, slice_get-set_same}
+use Rattle.engine_clocks.specs.Clocks.{clock_at}
+use Rattle.engine_clocks.proofs.Equal.{not_same}
+use Rattle.engine_clocks.proofs.Restful.{resting_own}
 use Rattle.engine_clocks.proofs.feeding.feed_child.Goals as goal
 
 pub returns-clause-lanes : goal.returns-clause-lanes
@@ -23,6 +26,11 @@ returns-clause-lanes c =
       latest = c.requires.lanes.latest;
       room = c.requires.lanes.room;
       runs = c.requires.lanes.runs;
+      resting = resting_own c.args.shape.now.library.now c.args.shape.now.clocks.now c.args.lanes.now _ c.requires.lanes.resting (clock_at c.args.shape.now.clocks.now c.args.k) c.requires.idle
+          (λ i. refl)
+          (λ i outside. slice_get-set_other c.args.lanes.now.states.items c.args.k i c.feed.new.self
+          (λ e. not_same (clock_at c.args.shape.now.clocks.now i) (clock_at c.args.shape.now.clocks.now c.args.k) outside (ap (clock_at c.args.shape.now.clocks.now) (sym e))))
+          (λ i outside. refl);
       rates = λ j time stored. elim (same_or_other c.args.k j) [
         | inl same ↦ (let put : Some c.next.result ≡ Some time = sym (slice_get-set_same c.args.lanes.now.times.items c.args.k c.next.result in_times)
             ∙ ap (slice_get (set c.args.lanes.now.times.items c.args.k c.next.result)) same ∙ stored in

@@ -1,13 +1,10 @@
-use Rattle.std.proofs.Common.{◌≡◌, ◌∙◌, ◌<◌, ◌&&◌, ◌∷◌, Some, length, slice_get, get_or, arith, refl, ap, sym, subst}
-use Rattle.std.specs.Prelude.{is_some}
+use Rattle.std.proofs.Common.{◌≡◌, ◌∙◌, ◌<◌, ◌∷◌, Some, length, slice_get, get_or, arith, refl, ap, sym, subst}
 use Rattle.std.proofs.lemmas.Option.{slice_get_read}
 use Rattle.std.proofs.lemmas.List.{get_or_default}
 use Rattle.plan_core.specs.declared.node.Node.{Node}
-use Rattle.stream_meaning.specs.Instants.{gives, moment_after, offer, part_at, silent, work_at}
-use Rattle.stream_meaning.specs.declared.part.Part.{Part}
+use Rattle.stream_meaning.specs.Instants.{moment_after, part_at, silent, work_at}
 use Rattle.stream_meaning.specs.Operators.{work_of}
 use Rattle.node_states.specs.States.{StateStands}
-use Rattle.node_states.proofs.Running.{fed_none}
 use Rattle.node_states.proofs.Ahead.{lies_less}
 use Rattle.engine_instants.specs.Resting.{begins_at}
 use Rattle.engine_instants.specs.States.{over}
@@ -22,13 +19,19 @@ rest-rest-requires c =
 
 pub returns-clause-ahead : goal.returns-clause-ahead
 returns-clause-ahead c = λ gave.
-    let in_parts : c.args.i < length c.args.parts.now = omega (arith, c.requires.in_parts, c.requires.within) in
     lies_less c.args.shape.now.library.now c.args.state.now c.rest-rest.result c.min.result (omega (arith, c.min.ensures))
-    (c.rest-rest.ensures.ahead refl
-    (c.gives-gave.ensures ∙ ap (λ (p : Part). c.args.marked && is_some p.slot) (sym (get_or_default _ _ silent _ in_parts)) ∙ gave))
+    (c.rest-rest.ensures.ahead (c.is_some-gave.ensures ∙ gave))
+
+pub returns-clause-through : goal.returns-clause-through
+returns-clause-through c = λ gave through.
+    let l = c.rest-rest.ensures.through (c.is_some-gave.ensures ∙ gave) through in omega (arith, l, c.min.ensures)
+
+pub returns-clause-asks : goal.returns-clause-asks
+returns-clause-asks c = λ setting sub past moment fed overlap j long stands is gave are less.
+    c.rest-rest.ensures.asks setting sub past moment fed c.args.i overlap j long stands (is ∙ sym c.is_some-gave.ensures) (c.is_some-gave.ensures ∙ gave) are (omega (arith, less, c.min.ensures))
 
 pub returns-clause-goes : goal.returns-clause-goes
-returns-clause-goes c = λ other sub clock past fed node long is stands parts mark begun same within.
+returns-clause-goes c = λ other sub clock past fed node long is stands parts gave begun are same within.
     let setting = over c.args.shape.now.plan.now c.args.shape.now.library.now c.args.shape.now.clocks.now other in
     let found : slice_get c.args.shape.now.plan.now.nodes c.args.i ≡ Some c.index-as_slice-i.result =
     slice_get_read _ _ _ _ refl c.requires.within (c.index-as_slice-i.is ∙ ap (λ nodes. get_or nodes c.args.i c.index-as_slice-i.result) c.as_slice.ensures) in
@@ -38,11 +41,10 @@ returns-clause-goes c = λ other sub clock past fed node long is stands parts ma
     let children : c.as_slice-2.result.now ≡ node.children = c.as_slice-2.ensures ∙ ap (λ (n : Node). n.children) read in
     let first = moment_after setting sub clock past in
     let part_is = ap (λ ps. part_at ps c.args.i) (sym parts) ∙ get_or_default _ _ silent _ in_parts in
-    let gave_is : gives first c.args.i ≡ c.gives-gave.result =
-    ap (λ d. d && is_some (offer first c.args.i)) mark ∙ ap (λ (p : Part). c.args.marked && is_some p.slot) part_is ∙ sym c.gives-gave.ensures in
     node_stretches setting sub clock past c.args.i node c.requires.nodes is c.begins-begins.result c.last.result c.min.result c.rest-rest.result c.args.second c.args.tick
     (omega (arith, c.min.ensures))
-    (c.rest-rest.ensures.goes setting sub past first fed c.args.i (work_at setting c.args.i node) refl long stands begun part_is gave_is (fed_none setting sub c.args.i fed))
+    (c.rest-rest.ensures.goes setting sub past first fed c.args.i (work_at setting c.args.i node) refl long stands begun part_is (gave ∙ sym c.is_some-gave.ensures)
+    (λ yes through. are (sym c.is_some-gave.ensures ∙ yes) through))
     (λ choice eligible at apart.
     let is_second = c.border.ensures.second setting.plan.rate c.args.i c.index-as_slice-i.result.kind choice eligible (ap (λ (n : Node). work_of setting.plan.rate c.args.i n.kind n.op) read ∙ at) apart in
     omega (arith, c.min.ensures, is_second))

@@ -1,6 +1,7 @@
 use Rattle.std.proofs.Common.{◌≡◌, ◌<◌, ◌≤◌, ◌-◌, ℕ, List, true, length}
 use Rattle.frame_core.specs.Slots.{Slot}
 use Rattle.stream_meaning.specs.Instants.{Setting, Moment}
+use Rattle.engine_instants.specs.Held.{AllAsk, AllPassOn}
 use Rattle.engine_instants.specs.Nodes.{lies_at}
 use Rattle.engine_instants.specs.Runs.{AllLieAhead, IsBehind}
 use Rattle.engine_instants.specs.States.{over}
@@ -13,11 +14,16 @@ invariant-loop-i l = record {
   own : l.i < length l.shape.clocks.now → lies_at l.shape.clocks.now l.fn.clock l.i ≡ true;
   within : l.rest ≤ l.most;
   later : l.rest ≤ l.fn.time.rate;
-  ahead : AllLieAhead l.shape.library.now l.shape.clocks.now l.fn.clock l.parts l.marks l.states l.i l.rest;
+  ahead : AllLieAhead l.shape.library.now l.shape.clocks.now l.fn.clock l.held l.states l.i l.rest;
+  through : AllPassOn l.shape.clocks.now l.fn.clock l.held l.states l.rests l.i l.rest;
   done : (other : Setting) (sub : ℕ → ℕ → List Slot) (past : List Moment) (fed : ℕ → ℕ) →
       let setting = over l.shape.plan.now l.shape.library.now l.shape.clocks.now other in
-      IsBehind setting sub l.fn.clock past fed l.fn.time l.parts l.marks l.states →
+      IsBehind setting sub l.fn.clock past fed l.fn.time l.parts l.held l.states l.rests →
       GoOn setting sub l.fn.clock past l.i l.rest;
+  asks : (other : Setting) (sub : ℕ → ℕ → List Slot) (past : List Moment) (fed : ℕ → ℕ) →
+      let setting = over l.shape.plan.now l.shape.library.now l.shape.clocks.now other in
+      IsBehind setting sub l.fn.clock past fed l.fn.time l.parts l.held l.states l.rests →
+      AllAsk setting sub l.fn.clock past fed l.states l.i l.rest;
 }
 
 abbrev pub decreases-loop-i : goal.decreases-loop-i

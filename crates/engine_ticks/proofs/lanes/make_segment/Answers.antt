@@ -10,7 +10,7 @@ use Rattle.engine_ticks.proofs.lanes.make_segment.Goals as goal
 pub returns-clause-run : goal.returns-clause-run
 returns-clause-run g c =
     segment_run g.T.Taps.stands _ _ _ _ _ c.args.lanes.now _ c.make_instant.new.lanes c.args.taps.now c.make_instant.new.taps c.make_run-many.result
-    c.in_ok-make_instant.ensures.made c.in_ok-make_instant.ensures.marked c.make_run-many.ensures.run c.make_run-many.ensures.latest
+    c.in_ok-make_instant.ensures.made c.make_run-many.ensures.run c.make_run-many.ensures.latest
     (λ start n stands.
     let sum : suc n + c.make_run-many.result ≡ n + suc c.make_run-many.result = omega arith in
     subst (λ m. TimeStands start m c.later-lanes.result) sum (c.later-lanes.ensures.stands start (suc n) (c.next.ensures.stands start n stands)))
@@ -30,3 +30,9 @@ returns-in_err-make_instant-clause-broken g c =
 
 pub returns-in_err-make_instant-clause-reads : goal.returns-in_err-make_instant-clause-reads
 returns-in_err-make_instant-clause-reads g c = on_err c.from_residual.result c.in_err-make_instant.ensures.reads
+
+pub make_instant-requires-clause-idle : goal.make_instant-requires-clause-idle
+make_instant-requires-clause-idle g c = record { none = λ k e. absurd (c.requires.main k e) }
+
+pub make_run-many-requires-clause-idle : goal.make_run-many-requires-clause-idle
+make_run-many-requires-clause-idle g c = record { none = λ k e. absurd (c.requires.main k e) }

@@ -1,14 +1,19 @@
-use Rattle.std.proofs.Common.{◌∙◌, ◌∷◌, subst, sym}
+use Rattle.std.proofs.Common.{◌≡◌, ◌+◌, ◌∙◌, ◌∷◌, suc, true, subst, sym}
+use Rattle.op_cross.specs.Runs.{run_of}
+use Rattle.stream_meaning.specs.Operators.{Fades}
+use Rattle.stream_meaning.specs.Instants.{position}
+use Rattle.segment_laws.specs.Stretches.{AreFed}
 use Rattle.node_states.specs.declared.state.NodeState.{NodeState}
-use Rattle.node_states.specs.Runs.{LiesAhead}
+use Rattle.node_states.specs.Passing.{asked, passes}
 use Rattle.node_states.specs.States.{StateStands}
-use Rattle.node_states.proofs.Rested.{cross_ahead, cross_rest, read_rest}
+use Rattle.node_states.proofs.Rested.{cross_asked, cross_rest, read_rest}
 use Rattle.node_states.proofs.state.NodeState.rest.Goals as goal
 
 pub returns-then-gave-2-clause-goes : goal.returns-then-gave-2-clause-goes
 returns-then-gave-2-clause-goes c = λ setting sub past moment fed i work same long stands begun part gave are.
     cross_rest setting sub past moment fed i work c.args.begins c.args.below c.rest-then-gave-2.result c.in-Cross.state long
-    (subst (λ (s : NodeState). StateStands setting sub (moment ∷ past) fed i work s) c.in-Cross.is stands) (gave ∙ c.if-gave-2.true) are c.rest-then-gave-2.ensures.crossing
+    (subst (λ (s : NodeState). StateStands setting sub (moment ∷ past) fed i work s) c.in-Cross.is stands) (gave ∙ c.if-gave-2.true)
+    (subst (λ (s : NodeState). passes s ≡ true → AreFed setting sub i fed c.args.below) c.in-Cross.is (are c.if-gave-2.true)) c.rest-then-gave-2.ensures.crossing
     c.rest-then-gave-2.ensures.ready c.rest-then-gave-2.ensures.plain c.rest-then-gave-2.ensures.below
 
 pub returns-then-gave-3-clause-goes : goal.returns-then-gave-3-clause-goes
@@ -16,7 +21,10 @@ returns-then-gave-3-clause-goes c = λ setting sub past moment fed i work same l
     read_rest setting sub past moment fed i work c.args.begins c.rest-then-gave-3.result c.in-Read.state
     (subst (λ (s : NodeState). StateStands setting sub (moment ∷ past) fed i work s) c.in-Read.is stands) begun (gave ∙ c.if-gave-3.true) c.rest-then-gave-3.ensures.inner
 
-pub returns-then-gave-2-clause-ahead : goal.returns-then-gave-2-clause-ahead
-returns-then-gave-2-clause-ahead c = λ none gave.
-    subst (λ (s : NodeState). LiesAhead c.args.library.now s c.rest-then-gave-2.result) (sym c.in-Cross.is)
-    (cross_ahead c.in-Cross.state c.args.below c.rest-then-gave-2.result c.rest-then-gave-2.ensures.below c.rest-then-gave-2.ensures.ahead none)
+pub returns-then-gave-2-clause-asks : goal.returns-then-gave-2-clause-asks
+returns-then-gave-2-clause-asks c = λ setting sub past moment fed i overlap j long stands gave yes are low.
+    subst (λ (s : NodeState). run_of overlap (sub i) (suc (position past i) + j) ≡ fed + asked (passes s) j) (sym c.in-Cross.is)
+    (cross_asked setting sub past moment fed i overlap c.args.below c.rest-then-gave-2.result j c.in-Cross.state long
+    (subst (λ (s : NodeState). StateStands setting sub (moment ∷ past) fed i (Fades overlap) s) c.in-Cross.is stands) (gave ∙ yes)
+    (subst (λ (s : NodeState). passes s ≡ true → AreFed setting sub i fed c.args.below) c.in-Cross.is are) c.rest-then-gave-2.ensures.crossing
+    c.rest-then-gave-2.ensures.ready c.rest-then-gave-2.ensures.plain c.rest-then-gave-2.ensures.below low)

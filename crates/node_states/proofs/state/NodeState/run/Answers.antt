@@ -1,62 +1,67 @@
-use Rattle.std.proofs.Common.{◌≡◌, ◌<◌, ◌∙◌, ◌∷◌, ℕ, suc, length, map, slice_get, rules, refl, ap, sym, subst}
+use Rattle.std.proofs.Common.{◌≡◌, ◌<◌, ◌∙◌, ◌∷◌, ◌||◌, ℕ, Bool, true, false, Some, suc, length, map, slice_get, rules, refl, ap, sym, subst}
 use Rattle.frame_core.specs.Slots.{Slot}
 use Rattle.op_leaf.specs.Lanes.{IsLane}
 use Rattle.stream_meaning.specs.Arithmetic.{mix_slot}
 use Rattle.stream_meaning.specs.Instants.{moment_after, work_at}
 use Rattle.node_states.specs.declared.state.NodeState.{NodeState}
+use Rattle.node_states.specs.declared.state.NodeState.TheVariants.{Leaf, Mix, Cross, Read}
 use Rattle.segment_laws.specs.Stretches.{going_on}
 use Rattle.node_mixing.specs.Mixings.{mixing_of}
 use Rattle.node_mixing.specs.Runs.{AreHeard, many_give, offers_in, samples_of}
+use Rattle.node_states.specs.Passing.{passes}
 use Rattle.node_states.specs.Runs.{fed_on}
 use Rattle.node_states.specs.States.{StateStands, reads}
 use Rattle.node_states.proofs.Ran.{cross_lane, cross_stands, leaf_lane, leaf_stands, mix_lane, mix_stands, none_idle, pick_lane, pick_stands, reader_lane, reader_stands, turn_lane, turn_stands}
+use Rattle.node_states.proofs.Through.{through_lane, through_stands}
 use Rattle.node_states.proofs.state.NodeState.run.Goals as goal
 
 pub returns-in-Leaf-clause-stands : goal.returns-in-Leaf-clause-stands
-returns-in-Leaf-clause-stands c = λ setting sub clock past fed i library_is goes closed stands.
-    leaf_stands setting sub clock past (length c.args.left.now) i fed c.args.node.now goes c.requires.some c.args.library.now c.in-Leaf.state c.run.new.self library_is c.run.ensures.leaf c.run.ensures.stands (work_at setting i c.args.node.now)
-    (subst (λ (s : NodeState). StateStands setting sub (moment_after setting sub clock past ∷ past) fed i (work_at setting i c.args.node.now) s) c.in-Leaf.is stands)
+returns-in-Leaf-clause-stands c = λ setting sub clock past fed i library_is goes closed feeds stands.
+    subst (λ (s : NodeState). StateStands setting sub (going_on setting sub clock (suc (length c.args.left.now)) past) (fed_on (passes s || reads (work_at setting i c.args.node.now)) (length c.args.left.now) fed) i (work_at setting i c.args.node.now) (Leaf c.run.new.self)) (sym c.in-Leaf.is)
+    (leaf_stands setting sub clock past (length c.args.left.now) i fed c.args.node.now goes c.requires.some c.args.library.now c.in-Leaf.state c.run.new.self library_is c.run.ensures.leaf c.run.ensures.stands (work_at setting i c.args.node.now)
+    (subst (λ (s : NodeState). StateStands setting sub (moment_after setting sub clock past ∷ past) fed i (work_at setting i c.args.node.now) s) c.in-Leaf.is stands))
 
 pub returns-in-Leaf-clause-lane : goal.returns-in-Leaf-clause-lane
-returns-in-Leaf-clause-lane c = λ setting sub clock past fed i library_is goes parts pick closed stands before.
+returns-in-Leaf-clause-lane c = λ setting sub clock past fed i library_is goes parts pick closed feeds stands before.
     leaf_lane setting sub clock past (length c.args.left.now) i fed c.args.node.now goes c.args.library.now c.in-Leaf.state c.run.new.left c.run.new.right library_is c.run.ensures.left c.run.ensures.right (work_at setting i c.args.node.now) refl
     (subst (λ (s : NodeState). StateStands setting sub (moment_after setting sub clock past ∷ past) fed i (work_at setting i c.args.node.now) s) c.in-Leaf.is stands)
 
 pub returns-in-Select-clause-stands : goal.returns-in-Select-clause-stands
-returns-in-Select-clause-stands c = λ setting sub clock past fed i library_is goes closed stands.
-    subst (λ (s : NodeState). StateStands setting sub (going_on setting sub clock (suc (length c.args.left.now)) past) (fed_on (reads (work_at setting i c.args.node.now)) (length c.args.left.now) fed) i (work_at setting i c.args.node.now) s) (sym c.in-Select.is)
+returns-in-Select-clause-stands c = λ setting sub clock past fed i library_is goes closed feeds stands.
+    subst (λ (s : NodeState). StateStands setting sub (going_on setting sub clock (suc (length c.args.left.now)) past) (fed_on (passes s || reads (work_at setting i c.args.node.now)) (length c.args.left.now) fed) i (work_at setting i c.args.node.now) s) (sym c.in-Select.is)
     (pick_stands setting sub clock past (length c.args.left.now) i fed c.args.node.now goes c.requires.some c.in-Select.field-0 (work_at setting i c.args.node.now)
     (subst (λ (s : NodeState). StateStands setting sub (moment_after setting sub clock past ∷ past) fed i (work_at setting i c.args.node.now) s) c.in-Select.is stands))
 
 pub returns-in-Select-clause-lane : goal.returns-in-Select-clause-lane
-returns-in-Select-clause-lane c = λ setting sub clock past fed i library_is goes parts pick closed stands before.
+returns-in-Select-clause-lane c = λ setting sub clock past fed i library_is goes parts pick closed feeds stands before.
     let same : c.as_slice-children.result.now ≡ c.args.node.now.children = search rules in
-    pick_lane setting sub clock past (length c.args.left.now) i fed c.args.node.now goes c.args.parts.now c.args.pick c.args.before_left.now c.args.before_right.now c.copy_picked.new.left c.copy_picked.new.right parts pick
+    pick_lane setting sub clock past (length c.args.left.now) i fed c.args.node.now goes c.args.pick c.args.before_left.now c.args.before_right.now c.copy_picked.new.left c.copy_picked.new.right pick
     (λ place child picks there. c.copy_picked.ensures.left place child picks (ap (λ xs. slice_get xs place) same ∙ there))
     (λ place child picks there. c.copy_picked.ensures.right place child picks (ap (λ xs. slice_get xs place) same ∙ there)) before c.in-Select.field-0 (work_at setting i c.args.node.now) refl
     (subst (λ (s : NodeState). StateStands setting sub (moment_after setting sub clock past ∷ past) fed i (work_at setting i c.args.node.now) s) c.in-Select.is stands)
 
 pub returns-in-Turn-clause-stands : goal.returns-in-Turn-clause-stands
-returns-in-Turn-clause-stands c = λ setting sub clock past fed i library_is goes closed stands.
-    subst (λ (s : NodeState). StateStands setting sub (going_on setting sub clock (suc (length c.args.left.now)) past) (fed_on (reads (work_at setting i c.args.node.now)) (length c.args.left.now) fed) i (work_at setting i c.args.node.now) s) (sym c.in-Turn.is)
+returns-in-Turn-clause-stands c = λ setting sub clock past fed i library_is goes closed feeds stands.
+    subst (λ (s : NodeState). StateStands setting sub (going_on setting sub clock (suc (length c.args.left.now)) past) (fed_on (passes s || reads (work_at setting i c.args.node.now)) (length c.args.left.now) fed) i (work_at setting i c.args.node.now) s) (sym c.in-Turn.is)
     (turn_stands setting sub clock past (length c.args.left.now) i fed c.args.node.now goes c.requires.some c.in-Turn.field-0 (work_at setting i c.args.node.now)
     (subst (λ (s : NodeState). StateStands setting sub (moment_after setting sub clock past ∷ past) fed i (work_at setting i c.args.node.now) s) c.in-Turn.is stands))
 
 pub returns-in-Turn-clause-lane : goal.returns-in-Turn-clause-lane
-returns-in-Turn-clause-lane c = λ setting sub clock past fed i library_is goes parts pick closed stands before.
+returns-in-Turn-clause-lane c = λ setting sub clock past fed i library_is goes parts pick closed feeds stands before.
     let same : c.as_slice-children.result.now ≡ c.args.node.now.children = search rules in
-    turn_lane setting sub clock past (length c.args.left.now) i fed c.args.node.now goes c.args.parts.now c.args.pick c.args.before_left.now c.args.before_right.now c.copy_picked-in-Turn.new.left c.copy_picked-in-Turn.new.right parts pick
+    turn_lane setting sub clock past (length c.args.left.now) i fed c.args.node.now goes c.args.pick c.args.before_left.now c.args.before_right.now c.copy_picked-in-Turn.new.left c.copy_picked-in-Turn.new.right pick
     (λ place child picks there. c.copy_picked-in-Turn.ensures.left place child picks (ap (λ xs. slice_get xs place) same ∙ there))
     (λ place child picks there. c.copy_picked-in-Turn.ensures.right place child picks (ap (λ xs. slice_get xs place) same ∙ there)) before c.in-Turn.field-0 (work_at setting i c.args.node.now) refl
     (subst (λ (s : NodeState). StateStands setting sub (moment_after setting sub clock past ∷ past) fed i (work_at setting i c.args.node.now) s) c.in-Turn.is stands)
 
 pub returns-in-Mix-clause-stands : goal.returns-in-Mix-clause-stands
-returns-in-Mix-clause-stands c = λ setting sub clock past fed i library_is goes closed stands.
-    mix_stands setting sub clock past (length c.args.left.now) i fed c.args.node.now goes c.in-Mix.mixer (work_at setting i c.args.node.now)
-    (subst (λ (s : NodeState). StateStands setting sub (moment_after setting sub clock past ∷ past) fed i (work_at setting i c.args.node.now) s) c.in-Mix.is stands)
+returns-in-Mix-clause-stands c = λ setting sub clock past fed i library_is goes closed feeds stands.
+    subst (λ (s : NodeState). StateStands setting sub (going_on setting sub clock (suc (length c.args.left.now)) past) (fed_on (passes s || reads (work_at setting i c.args.node.now)) (length c.args.left.now) fed) i (work_at setting i c.args.node.now) (Mix c.in-Mix.mixer)) (sym c.in-Mix.is)
+    (mix_stands setting sub clock past (length c.args.left.now) i fed c.args.node.now goes c.in-Mix.mixer (work_at setting i c.args.node.now)
+    (subst (λ (s : NodeState). StateStands setting sub (moment_after setting sub clock past ∷ past) fed i (work_at setting i c.args.node.now) s) c.in-Mix.is stands))
 
 pub returns-in-Mix-clause-lane : goal.returns-in-Mix-clause-lane
-returns-in-Mix-clause-lane c = λ setting sub clock past fed i library_is goes parts pick closed stands before.
+returns-in-Mix-clause-lane c = λ setting sub clock past fed i library_is goes parts pick closed feeds stands before.
     let same : c.as_slice-children.result.now ≡ c.args.node.now.children = search rules in
     mix_lane setting sub clock past (length c.args.left.now) i fed c.args.node.now goes c.in-Mix.mixer c.args.parts.now c.args.before_left.now c.args.before_right.now c.run-in-Mix.new.left c.run-in-Mix.new.right parts
     (subst (λ xs. (slots : ℕ → ℕ → Slot) → AreHeard slots (offers_in c.args.parts.now) (λ child. samples_of c.args.before_left.now child (length c.args.left.now)) (λ child. samples_of c.args.before_right.now child (length c.args.left.now)) (length c.args.left.now) xs
@@ -64,30 +69,60 @@ returns-in-Mix-clause-lane c = λ setting sub clock past fed i library_is goes p
     before (work_at setting i c.args.node.now) refl
     (subst (λ (s : NodeState). StateStands setting sub (moment_after setting sub clock past ∷ past) fed i (work_at setting i c.args.node.now) s) c.in-Mix.is stands)
 
-pub returns-in-Cross-clause-stands : goal.returns-in-Cross-clause-stands
-returns-in-Cross-clause-stands c = λ setting sub clock past fed i library_is goes closed stands.
-    cross_stands setting sub clock past (length c.args.left.now) i fed c.args.node.now goes c.requires.some c.in-Cross.state c.copy.new.self c.copy.ensures.overlap c.copy.ensures.stands (work_at setting i c.args.node.now)
-    (subst (λ (s : NodeState). StateStands setting sub (moment_after setting sub clock past ∷ past) fed i (work_at setting i c.args.node.now) s) c.in-Cross.is stands)
+pub returns-then-passes-clause-stands : goal.returns-then-passes-clause-stands
+returns-then-passes-clause-stands c = λ setting sub clock past fed i library_is goes closed feeds stands.
+    let same : c.as_slice-children.result.now ≡ c.args.node.now.children = search rules in
+    let through : passes c.args.self.now ≡ true = ap passes c.in-Cross.is ∙ sym c.passes.ensures ∙ c.if-passes.true in
+    let child = feeds through in
+    let there : slice_get c.as_slice-children.result.now 0 ≡ Some child.child = ap (λ xs. slice_get xs 0) same ∙ child.there in
+    let before_run : StateStands setting sub (moment_after setting sub clock past ∷ past) fed i (work_at setting i c.args.node.now) (Cross c.in-Cross.state) =
+    subst (λ (s : NodeState). StateStands setting sub (moment_after setting sub clock past ∷ past) fed i (work_at setting i c.args.node.now) s) c.in-Cross.is stands in
+    subst (λ (b : Bool). StateStands setting sub (going_on setting sub clock (suc (length c.args.left.now)) past) (fed_on (b || reads (work_at setting i c.args.node.now)) (length c.args.left.now) fed) i (work_at setting i c.args.node.now) (Cross c.pass_child.new.state)) (sym through)
+    (through_stands setting sub clock past (length c.args.left.now) i fed c.args.node.now goes c.requires.some
+    (samples_of c.args.before_left.now child.child (length c.args.left.now)) (samples_of c.args.before_right.now child.child (length c.args.left.now)) child.feeds c.in-Cross.state c.pass_child.new.state
+    (c.pass_child.ensures.overlap child.child there) (λ slots p s. c.pass_child.ensures.stands child.child p slots there s)
+    (λ slots p m s few. c.pass_child.ensures.least child.child p m slots there s few) (work_at setting i c.args.node.now) before_run)
 
-pub returns-in-Cross-clause-lane : goal.returns-in-Cross-clause-lane
-returns-in-Cross-clause-lane c = λ setting sub clock past fed i library_is goes parts pick closed stands before.
+pub returns-then-passes-clause-lane : goal.returns-then-passes-clause-lane
+returns-then-passes-clause-lane c = λ setting sub clock past fed i library_is goes parts pick closed feeds stands before.
+    let same : c.as_slice-children.result.now ≡ c.args.node.now.children = search rules in
+    let through : passes c.args.self.now ≡ true = ap passes c.in-Cross.is ∙ sym c.passes.ensures ∙ c.if-passes.true in
+    let child = feeds through in
+    let there : slice_get c.as_slice-children.result.now 0 ≡ Some child.child = ap (λ xs. slice_get xs 0) same ∙ child.there in
+    let before_run : StateStands setting sub (moment_after setting sub clock past ∷ past) fed i (work_at setting i c.args.node.now) (Cross c.in-Cross.state) =
+    subst (λ (s : NodeState). StateStands setting sub (moment_after setting sub clock past ∷ past) fed i (work_at setting i c.args.node.now) s) c.in-Cross.is stands in
+    through_lane setting sub clock past (length c.args.left.now) i fed c.args.node.now goes c.requires.some
+    (samples_of c.args.before_left.now child.child (length c.args.left.now)) (samples_of c.args.before_right.now child.child (length c.args.left.now)) child.feeds c.in-Cross.state c.pass_child.new.state
+    c.pass_child.new.left c.pass_child.new.right (λ slots p m s few. c.pass_child.ensures.least child.child p m slots there s few)
+    (λ slots p s. c.pass_child.ensures.left child.child p slots there s) (λ slots p s. c.pass_child.ensures.right child.child p slots there s) (work_at setting i c.args.node.now) refl before_run
+
+pub returns-else-passes-clause-stands : goal.returns-else-passes-clause-stands
+returns-else-passes-clause-stands c = λ setting sub clock past fed i library_is goes closed feeds stands.
+    let not : passes c.args.self.now ≡ false = ap passes c.in-Cross.is ∙ sym c.passes.ensures ∙ c.if-passes.false in
+    subst (λ (b : Bool). StateStands setting sub (going_on setting sub clock (suc (length c.args.left.now)) past) (fed_on (b || reads (work_at setting i c.args.node.now)) (length c.args.left.now) fed) i (work_at setting i c.args.node.now) (Cross c.copy.new.self)) (sym not)
+    (cross_stands setting sub clock past (length c.args.left.now) i fed c.args.node.now goes c.requires.some c.in-Cross.state c.copy.new.self c.copy.ensures.overlap c.copy.ensures.stands (work_at setting i c.args.node.now)
+    (subst (λ (s : NodeState). StateStands setting sub (moment_after setting sub clock past ∷ past) fed i (work_at setting i c.args.node.now) s) c.in-Cross.is stands))
+
+pub returns-else-passes-clause-lane : goal.returns-else-passes-clause-lane
+returns-else-passes-clause-lane c = λ setting sub clock past fed i library_is goes parts pick closed feeds stands before.
     cross_lane setting sub clock past (length c.args.left.now) i fed c.args.node.now goes c.in-Cross.state c.copy.new.left c.copy.new.right c.copy.ensures.settled c.copy.ensures.left c.copy.ensures.right (work_at setting i c.args.node.now) refl
     (subst (λ (s : NodeState). StateStands setting sub (moment_after setting sub clock past ∷ past) fed i (work_at setting i c.args.node.now) s) c.in-Cross.is stands)
 
 pub returns-in-Read-clause-stands : goal.returns-in-Read-clause-stands
-returns-in-Read-clause-stands c = λ setting sub clock past fed i library_is goes closed stands.
-    reader_stands setting sub clock past (length c.args.left.now) i fed c.args.node.now goes c.requires.some c.in-Read.state c.run-in-Read.new.self c.run-in-Read.ensures.read (work_at setting i c.args.node.now) refl closed
-    (subst (λ (s : NodeState). StateStands setting sub (moment_after setting sub clock past ∷ past) fed i (work_at setting i c.args.node.now) s) c.in-Read.is stands)
+returns-in-Read-clause-stands c = λ setting sub clock past fed i library_is goes closed feeds stands.
+    subst (λ (s : NodeState). StateStands setting sub (going_on setting sub clock (suc (length c.args.left.now)) past) (fed_on (passes s || reads (work_at setting i c.args.node.now)) (length c.args.left.now) fed) i (work_at setting i c.args.node.now) (Read c.run-in-Read.new.self)) (sym c.in-Read.is)
+    (reader_stands setting sub clock past (length c.args.left.now) i fed c.args.node.now goes c.requires.some c.in-Read.state c.run-in-Read.new.self c.run-in-Read.ensures.read (work_at setting i c.args.node.now) refl closed
+    (subst (λ (s : NodeState). StateStands setting sub (moment_after setting sub clock past ∷ past) fed i (work_at setting i c.args.node.now) s) c.in-Read.is stands))
 
 pub returns-in-Read-clause-lane : goal.returns-in-Read-clause-lane
-returns-in-Read-clause-lane c = λ setting sub clock past fed i library_is goes parts pick closed stands before.
+returns-in-Read-clause-lane c = λ setting sub clock past fed i library_is goes parts pick closed feeds stands before.
     reader_lane setting sub clock past (length c.args.left.now) i fed c.args.node.now goes c.in-Read.state c.run-in-Read.new.left c.run-in-Read.new.right c.run-in-Read.ensures.lane (work_at setting i c.args.node.now) refl closed
     (subst (λ (s : NodeState). StateStands setting sub (moment_after setting sub clock past ∷ past) fed i (work_at setting i c.args.node.now) s) c.in-Read.is stands)
 
 pub returns-in-Idle-clause-stands : goal.returns-in-Idle-clause-stands
-returns-in-Idle-clause-stands c = λ setting sub clock past fed i library_is goes closed stands.
+returns-in-Idle-clause-stands c = λ setting sub clock past fed i library_is goes closed feeds stands.
     absurd (none_idle setting sub clock past (length c.args.left.now) i fed c.args.node.now goes (work_at setting i c.args.node.now) (subst (λ (s : NodeState). StateStands setting sub (moment_after setting sub clock past ∷ past) fed i (work_at setting i c.args.node.now) s) c.in-Idle.is stands))
 
 pub returns-in-Idle-clause-lane : goal.returns-in-Idle-clause-lane
-returns-in-Idle-clause-lane c = λ setting sub clock past fed i library_is goes parts pick closed stands before.
+returns-in-Idle-clause-lane c = λ setting sub clock past fed i library_is goes parts pick closed feeds stands before.
     absurd (none_idle setting sub clock past (length c.args.left.now) i fed c.args.node.now goes (work_at setting i c.args.node.now) (subst (λ (s : NodeState). StateStands setting sub (moment_after setting sub clock past ∷ past) fed i (work_at setting i c.args.node.now) s) c.in-Idle.is stands))

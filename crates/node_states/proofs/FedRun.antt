@@ -1,0 +1,102 @@
+-- A crossfade that is fed a run of cells.
+use Rattle.std.proofs.Common.{◌≡◌, ◌<◌, ◌≤◌, ◌+◌, ◌-◌, ◌*◌, ◌∙◌, ◌++◌, ℕ, ℤ, zero, suc, Some, List, [], ◌∷◌, length, map, take, drop, arith, refl, ap, sym, subst, inl, inr, append_assoc}
+use Rattle.std.specs.List.{range_with_len}
+use Rattle.std.proofs.lemmas.Bool.{cases_lt}
+use Rattle.std.proofs.lemmas.List.{append-nil, length-drop, length-map, length-take-le, take_all}
+use Rattle.frame_core.specs.declared.cell.Cell.{Cell}
+use Rattle.frame_core.specs.Slots.{Slot}
+use Rattle.cell_ring.specs.Rings.{inner_cells}
+use Rattle.op_cross.specs.Crossfade.{cross}
+use Rattle.op_cross.specs.States.{Crossing, StandsFor}
+use Rattle.op_leaf.specs.Lanes.{IsLane}
+use Rattle.op_leaf.proofs.Laid.{lane_cells}
+use Rattle.stream_meaning.specs.Operators.{Work, Plays, Picks, Mixes, Fades, Reads}
+use Rattle.stream_meaning.specs.Instants.{Setting, Moment, position}
+use Rattle.node_mixing.specs.Runs.{samples_of}
+use Rattle.node_states.specs.declared.state.NodeState.TheVariants.{Cross}
+use Rattle.node_states.specs.States.{CrossStands, StateStands}
+
+-- one slot more, from position `at` on
+range_more : (slots : ℕ → Slot) (at n : ℕ) → map slots (range_with_len at (suc n)) ≡ map slots (range_with_len at n) ++ slots (at + n) ∷ []
+range_more slots at zero = let e : at + 0 ≡ at = omega arith in ap (λ i. slots i ∷ []) (sym e)
+range_more slots at (suc n) =
+    let e : at + 1 + n ≡ at + suc n = omega arith in
+    ap (λ l. slots at ∷ l) (range_more slots (at + 1) n) ∙ ap (λ i. slots at ∷ (map slots (range_with_len (at + 1) n) ++ slots i ∷ [])) e
+
+range_taken : (slots : ℕ → Slot) (at m n : ℕ) → m ≤ n → take m (map slots (range_with_len at n)) ≡ map slots (range_with_len at m)
+range_taken slots at zero n few = refl
+range_taken slots at (suc m) zero few = absurd (omega (arith, few))
+range_taken slots at (suc m) (suc n) few = ap (λ l. slots at ∷ l) (range_taken slots (at + 1) m n (omega (arith, few)))
+
+map_taken : (m : ℕ) (cells : List Cell) → map Some (take m cells) ≡ take m (map Some cells)
+map_taken zero cells = refl
+map_taken (suc m) [] = refl
+map_taken (suc m) (cell ∷ cells) = ap (λ l. Some cell ∷ l) (map_taken m cells)
+
+range_many : (slots : ℕ → Slot) (at n : ℕ) → length (map slots (range_with_len at n)) ≡ n
+range_many slots at zero = refl
+range_many slots at (suc n) = ap suc (range_many slots (at + 1) n)
+
+module _ (slots : ℕ → Slot) (sub : ℕ → List Slot) (fed many : ℕ) (left right : List ℤ) (lane : IsLane slots many left right)
+    (steps : (m : ℕ) → m < many → sub (suc (fed + m)) ≡ sub (fed + m) ++ slots m ∷ []) where
+  -- the slots behind those that were fed
+  fed_slots : (m : ℕ) → m ≤ many → sub (fed + m) ≡ sub fed ++ map slots (range_with_len 0 m)
+  fed_slots zero few = let e : fed + 0 ≡ fed = omega arith in ap sub e ∙ sym (append-nil (sub fed))
+  fed_slots (suc m) few =
+      let e : fed + suc m ≡ suc (fed + m) = omega arith in
+      let z : 0 + m ≡ m = omega arith in
+      ap sub e ∙ steps m (omega (arith, few)) ∙ ap (λ l. l ++ slots m ∷ []) (fed_slots m (omega (arith, few)))
+      ∙ append_assoc (sub fed) (map slots (range_with_len 0 m)) (slots m ∷ [])
+      ∙ ap (λ i. sub fed ++ (map slots (range_with_len 0 m) ++ slots i ∷ [])) (sym z)
+      ∙ ap (λ l. sub fed ++ l) (sym (range_more slots 0 m))
+
+  -- they are the cells of the lane
+  pub fed_cells : (m : ℕ) → m ≤ many → sub (fed + m) ≡ sub fed ++ map Some (take m (inner_cells left right))
+  fed_cells m few =
+      fed_slots m few ∙ ap (λ l. sub fed ++ l) (sym (map_taken m (inner_cells left right)
+      ∙ ap (take m) (lane_cells slots many left right lane) ∙ range_taken slots 0 m many few))
+
+  pub many_cells : length (inner_cells left right) ≡ many
+  many_cells =
+      sym (length-map (inner_cells left right) Some) ∙ ap length (lane_cells slots many left right lane) ∙ range_many slots 0 many
+
+  pub run_fed : (p overlap : ℕ) (old new : Crossing) → new.overlap ≡ old.overlap
+      → ((slots : List Slot) (p : ℕ) → StandsFor old slots p → StandsFor new (slots ++ map Some (inner_cells left right)) p)
+      → ((slots : List Slot) (p m : ℕ) → StandsFor old slots p → m < many → length (cross old.overlap (slots ++ map Some (take m (inner_cells left right)))) ≤ p)
+      → CrossStands sub fed p overlap old → CrossStands sub (fed + many) p overlap new
+  run_fed p overlap old new same goes least s = record {
+    overlap_is = same ∙ s.overlap_is;
+    stands = subst (λ l. StandsFor new l p)
+        (sym (fed_cells many (omega arith) ∙ ap (λ l. sub fed ++ map Some l) (take_all many (inner_cells left right) (let n = many_cells in omega (arith, n)))))
+        (goes (sub fed) p s.stands);
+    least = λ k less. elim (cases_lt k fed) [
+      | inl low ↦ s.least k low
+      | inr high ↦ (let e : fed + (k - fed) ≡ k = omega (arith, high) in
+          let few : k - fed < many = omega (arith, high, less) in
+          subst (λ n. n ≤ p)
+          (ap (λ most. length (cross most (sub fed ++ map Some (take (k - fed) (inner_cells left right))))) s.overlap_is
+          ∙ ap (λ l. length (cross overlap l)) (sym (fed_cells (k - fed) (omega (arith, few)))) ∙ ap (λ n. length (cross overlap (sub n))) e)
+          (least (sub fed) p (k - fed) s.stands few))
+    ];
+  }
+
+-- what a state stands for behind a run
+pub state_fed : (setting : Setting) (sub : ℕ → ℕ → List Slot) (past : List Moment) (fed many i : ℕ) (work : Work) (slots : ℕ → Slot) (left right : List ℤ) (old new : Crossing)
+    → new.overlap ≡ old.overlap
+    → ((slots : List Slot) (p : ℕ) → StandsFor old slots p → StandsFor new (slots ++ map Some (inner_cells left right)) p)
+    → ((slots : List Slot) (p m : ℕ) → StandsFor old slots p → m < many → length (cross old.overlap (slots ++ map Some (take m (inner_cells left right)))) ≤ p)
+    → StateStands setting sub past fed i work (Cross old) → IsLane slots many left right
+    → ((m : ℕ) → m < many → sub i (suc (fed + m)) ≡ sub i (fed + m) ++ slots m ∷ [])
+    → StateStands setting sub past (fed + many) i work (Cross new)
+state_fed setting sub past fed many i (Plays leaf) slots left right old new same goes least s lane steps = absurd s
+state_fed setting sub past fed many i (Picks rule eligible) slots left right old new same goes least s lane steps = absurd s
+state_fed setting sub past fed many i (Mixes mixing) slots left right old new same goes least s lane steps = absurd s
+state_fed setting sub past fed many i (Fades overlap) slots left right old new same goes least s lane steps =
+    run_fed slots (sub i) fed many left right lane steps (position past i) overlap old new same goes least s
+state_fed setting sub past fed many i (Reads buffer) slots left right old new same goes least s lane steps = absurd s
+
+-- a node has room for a run
+pub samples_long : (samples : List ℤ) (i count : ℕ) → count ≤ 1024 → (i + 1) * 1024 ≤ length samples → length (samples_of samples i count) ≡ count
+samples_long samples i count short inside =
+    let rest = length-drop (i * 1024) samples in
+    length-take-le count (drop (i * 1024) samples) (omega (arith, short, inside, rest))
