@@ -1,5 +1,5 @@
 -- The wires of a plan's buffers.
-use Rattle.std.proofs.Common.{◌≡◌, ◌<◌, ◌+◌, ◌∙◌, ℕ, zero, suc, Bool, cond, Option, List, [], ◌∷◌, ◌++◌, length, length-append, slice_index_or, slice_get, nat_lt, refl, sym, ap, subst, arith, inl, inr}
+use Rattle.std.proofs.Common.{◌≡◌, ◌<◌, ◌≤◌, ◌+◌, ◌∙◌, ℕ, zero, suc, Bool, cond, Option, List, [], ◌∷◌, ◌++◌, length, length-append, slice_index_or, slice_get, nat_lt, refl, sym, ap, subst, arith, inl, inr}
 use Rattle.std.specs.Prelude.{All}
 use Rattle.std.specs.Option.{option_map_or}
 use Rattle.std.proofs.lemmas.Bool.{cases_lt, lt-ltb, le-ltb}
@@ -11,12 +11,13 @@ use Rattle.stream_meaning.specs.Instants.{Setting}
 use Rattle.stream_meaning.specs.Settings.{IsSetting}
 use Rattle.run_records.specs.Buffers.{feeder, main_of, reader}
 use Rattle.run_records.proofs.Alone.{feeder_runs}
+use Rattle.buffer_sides.specs.Sides.{AreFeeders, AreReaders}
 use Rattle.clock_engine.specs.declared.engine.ClockEngine.{ClockEngine}
 use Rattle.clock_windows.specs.declared.wires.Wire.{Wire}
 use Rattle.clock_windows.specs.Wires.{no_wire, wire_at}
 use Rattle.clock_windows.specs.Lawful.{AreWires, IsWireOf}
 use Rattle.clock_windows.proofs.Sets.{same_or_other}
-use Rattle.clock_threads.specs.Plans.{AreFeeders, AreFirstWires, AreReaders, IsWireAt, over}
+use Rattle.clock_threads.specs.Plans.{AreFirstWires, IsWireAt, over}
 use Rattle.clock_threads.specs.Runs.{AreEngines}
 use Rattle.clock_threads.specs.Threads.{AreFresh, AreLaid}
 use Rattle.clock_threads.proofs.Joining.{front_get, last_get}
@@ -26,6 +27,25 @@ found : {A G : Type 0} (f : A → G) (xs : List A) (k : ℕ) (d : A) (g : G) →
 found f [] k d g h = absurd (omega (arith, h))
 found f (x ∷ xs) zero d g h = refl
 found f (x ∷ xs) (suc k) d g h = found f xs k d g (omega (arith, h))
+
+-- a wire to another clock, and one whose second end does not run
+pub wire_to : (setting : Setting) (clocks feed reads capacity from to : ℕ) → from ≡ main_of setting feed → to ≡ main_of setting reads → to < clocks
+    → IsWireAt setting clocks feed reads capacity (record { from = from; to = to; capacity = capacity })
+wire_to setting clocks feed reads capacity from to from_is to_is low = record {
+  from_is = from_is;
+  to_is = to_is
+      ∙ sym (ap (λ (runs : Bool). cond runs (main_of setting reads) (main_of setting feed)) (lt-ltb (main_of setting reads) clocks (subst (λ n. n < clocks) to_is low)));
+  capacity_is = refl;
+}
+
+pub wire_back : (setting : Setting) (clocks feed reads capacity from to : ℕ) → from ≡ main_of setting feed → to ≡ main_of setting reads → clocks ≤ to
+    → IsWireAt setting clocks feed reads capacity (record { from = from; to = from; capacity = capacity })
+wire_back setting clocks feed reads capacity from to from_is to_is high = record {
+  from_is = from_is;
+  to_is = from_is
+      ∙ sym (ap (λ (runs : Bool). cond runs (main_of setting reads) (main_of setting feed)) (le-ltb (main_of setting reads) clocks (subst (λ n. clocks ≤ n) to_is high)));
+  capacity_is = refl;
+}
 
 pub first_none : (plan : Plan) (clocks : ClockMap) (wires : List Wire) → wires ≡ [] → AreFirstWires plan clocks 0 wires
 first_none plan clocks wires none = record { many = ap length none; each = λ other b low. absurd (omega (arith, low)) }

@@ -1,13 +1,10 @@
--- The clocks that feed and read the buffers of a plan. Only private functions cite this.
-use Rattle.std.specs.Prelude.{◌≡◌, ◌<◌, ℕ, List, length, nat_lt, slice_index_or, if◌then◌else◌}
-use Rattle.plan_core.specs.declared.node.Node.{Node}
+-- The wires of a plan's buffers. Only private functions cite this.
+use Rattle.std.specs.Prelude.{◌≡◌, ◌<◌, ℕ, List, length, nat_lt, if◌then◌else◌}
 use Rattle.plan_core.specs.declared.plan.Plan.{Plan}
-use Rattle.plan_core.specs.declared.sink.SinkPlan.{SinkPlan}
-use Rattle.plan_core.specs.declared.sink.SinkPlan.TheVariants.{Feed}
 use Rattle.clock_infer.specs.declared.clock_map.ClockMap.{ClockMap}
 use Rattle.clock_infer.specs.declared.clock_map.NodeClock.{NodeClock}
 use Rattle.stream_meaning.specs.Instants.{Setting}
-use Rattle.run_records.specs.Buffers.{fed_in, main_of, read_from}
+use Rattle.run_records.specs.Buffers.{main_of}
 use Rattle.clock_windows.specs.declared.wires.Wire.{Wire}
 use Rattle.clock_windows.specs.Wires.{wire_at}
 use Rattle.clock_windows.specs.Lawful.{IsWireOf}
@@ -15,19 +12,6 @@ use Rattle.clock_windows.specs.Lawful.{IsWireOf}
 -- the same setting with this plan and these clocks
 abbrev pub over : Plan → List NodeClock → Setting → Setting
 over plan clocks other = record { plan = plan; library = other.library; clocks = clocks; start = other.start; answers = other.answers }
-
--- by a buffer's number: the node that feeds it, by these sinks
-abbrev pub AreFeeders : List SinkPlan → (found : List ℕ) → Type 0
-AreFeeders sinks found = (buffer : ℕ) → buffer < length found → slice_index_or found buffer 0 ≡ fed_in buffer sinks
-
--- by a buffer's number: the node that reads it, among these nodes, of which the first has this number
-abbrev pub AreReaders : Plan → (first : ℕ) → List Node → (found : List ℕ) → Type 0
-AreReaders plan first nodes found = (setting : Setting) → setting.plan ≡ plan
-    → (buffer : ℕ) → buffer < length found → slice_index_or found buffer 0 ≡ read_from setting buffer first nodes
-
--- a sink feeds no buffer from this number on
-abbrev pub FeedsBelow : (count : ℕ) → SinkPlan → Type 0
-FeedsBelow count sink = (buffer node : ℕ) → sink ≡ Feed buffer node → buffer < count
 
 -- a wire between the clocks of two nodes; where the second does not run, both its ends are at the first
 pub record IsWireAt (setting : Setting) (clocks feed reads capacity : ℕ) (wire : Wire) : Type 0 where

@@ -2,7 +2,6 @@
 #![tactic(auto)]
 
 mod counts;
-mod ends;
 mod joins;
 mod logs;
 mod queues;

@@ -5,7 +5,7 @@ ghost use Rattle.plan_core.specs.Plans.{IsWellFormed};
 ghost use Rattle.stream_meaning.specs.Instants.{Setting};
 ghost use Rattle.clock_threads.specs.Plans.{AreFirstWires, IsWireAt, over};
 
-use crate::ends::{feeders, main_of, readers};
+use buffer_sides::{feeders, main_of, readers};
 use clock_infer::ClockMap;
 use clock_windows::Wire;
 use liq_base::Memory;

@@ -34,6 +34,9 @@ const HEADER: usize = 44;
 
 const TICK: usize = 32;
 
+/// Bytes of the whole.
+const ALL: usize = HEADER + 2 * TICK;
+
 const OLD: &[u8] = b"what was there";
 
 /// The report of two outputs, which begins with that of the first one.
@@ -71,7 +74,7 @@ fn front(length: usize) -> Left {
 
 /// The whole output.
 fn whole() -> Left {
-    front(WHOLE.len())
+    front(ALL)
 }
 
 fn is_left(left: Left, found: Option<&[u8]>, before: Option<&[u8]>) -> bool {
@@ -244,7 +247,7 @@ fn check_one_piece<R: Abort + Threads + Wait + Sync>(
     before: usize,
     size: usize,
 ) -> Result<(), Fail> {
-    assert!(rt; before <= WHOLE.len() && size <= HEADER);
+    assert!(rt; before <= ALL && size <= HEADER);
     for taken in 0..size + 1 {
         let failing = Failing::Piece(0, call, taken as u64);
         let ending = failed(front(before + taken), Left::Before);
@@ -292,7 +295,7 @@ fn check_piece_of_two<R: Abort + Threads + Wait + Sync>(
     other: Left,
 ) -> Result<(), Fail> {
     let (output, call) = piece;
-    assert!(rt; before <= WHOLE.len());
+    assert!(rt; before <= ALL);
     for taken in 0..TICK + 1 {
         let own = front(before + taken);
         let failing = Failing::Piece(output, call, taken as u64);
@@ -341,7 +344,7 @@ fn check_shared_ticks<R: Abort + Threads + Wait + Sync>(
     let one_more = Left::Front(HEADER, HEADER + TICK);
     check_piece_of_two(rt, alloc, run, (0, 1), HEADER, one_more)?;
     check_piece_of_two(rt, alloc, run, (1, 1), HEADER, front(HEADER + TICK))?;
-    let two_more = Left::Front(HEADER + TICK, WHOLE.len());
+    let two_more = Left::Front(HEADER + TICK, ALL);
     check_piece_of_two(rt, alloc, run, (0, 2), HEADER + TICK, two_more)?;
     check_piece_of_two(rt, alloc, run, (1, 2), HEADER + TICK, whole())
 }

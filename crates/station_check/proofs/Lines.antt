@@ -7,10 +7,10 @@ use Rattle.clock_infer.specs.declared.clock_map.ClockMap.{ClockMap}
 use Rattle.plan_core.specs.declared.plan.Plan.{Plan}
 use Rattle.plan_core.specs.declared.sink.BufferPlan.{BufferPlan}
 use Rattle.run_records.specs.Buffers.{fed_in, feeder, main_of, read_from, reader}
+use Rattle.buffer_sides.specs.Sides.{AreFeeders, AreReaders}
 use Rattle.stations.specs.Reports.{buffer_line, buffer_lines, checked_lines, joining_line}
 use Rattle.stations.specs.Stations.{Station, bare}
-use Rattle.station_check.specs.Ends.{AreFeeders, AreReaders, IsOf}
-use Rattle.station_check.specs.Steps.{sink_line}
+use Rattle.station_check.specs.Steps.{IsOf, sink_line}
 
 one_line : (clocks : ClockMap) (mark : ℕ → Bool) (sink : SinkPlan) (sinks : List SinkPlan) → checked_lines clocks mark (sink ∷ sinks) ≡ sink_line clocks mark sink ++ checked_lines clocks mark sinks
 one_line clocks mark (Output name node fallible) sinks = refl

@@ -10,6 +10,7 @@ use Rattle.clock_infer.specs.Answers.{IsClockMap, IsCause}
 use Rattle.fallible_infer.specs.Infallible.{IsMarking, refuses}
 use Rattle.stations.specs.Findings.{first_name}
 use Rattle.stations.specs.Reports.{checked_line}
+use Rattle.stations.specs.Stations.{Station}
 
 -- each output has an infallible node, or is written with `fallible=true`
 pub record IsUngapped (plan : Plan) : Type 0 where
@@ -29,6 +30,11 @@ pub record OnlyCause (plan : Plan) (fault : ClockFault) : Type 0 where
   pub cause : IsCause plan fault
   pub only : (other : ClockFault) → other ≢ Memory → IsCause plan other → other ≡ fault
   pub apart : (clocks : ClockMap) → IsClockMap plan clocks → ⊥
+
+-- the station is one of this plan and these clocks
+pub record IsOf (plan : Plan) (clocks : ClockMap) (station : Station) : Type 0 where
+  pub plan_is : station.plan ≡ plan
+  pub clocks_are : station.clocks ≡ clocks
 
 -- the line of a sink in the report of a check
 abbrev pub sink_line : ClockMap → (mark : ℕ → Bool) → SinkPlan → List ℕ

@@ -2,12 +2,13 @@
 ghost use Rattle.std.specs.Prelude.{◌≡◌, ◌++◌, [], length, OnOk, slice_index_or, string_bytes};
 ghost use Rattle.plan_core.specs.Plans.{IsWellFormed};
 ghost use Rattle.run_records.specs.Buffers.{main_of};
+ghost use Rattle.buffer_sides.specs.Sides.{AreFeeders, AreReaders};
 ghost use Rattle.stations.specs.Reports.{buffer_lines, joining_line};
 ghost use Rattle.stations.specs.Stations.{Station, bare};
-ghost use Rattle.station_check.specs.Ends.{AreFeeders, AreReaders, IsOf};
+ghost use Rattle.station_check.specs.Steps.{IsOf};
 
-use crate::ends::{feeders, main_of, readers};
 use crate::report::main_name;
+use buffer_sides::{feeders, main_of, readers};
 use clock_infer::{ClockMap, NodeClock};
 use liq_base::Memory;
 use plan_core::{BufferPlan, Plan};

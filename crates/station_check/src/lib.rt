@@ -4,7 +4,6 @@
 mod buffers;
 mod check;
 mod clocks;
-mod ends;
 mod files;
 mod gaps;
 mod halt;

@@ -15,6 +15,7 @@ use Rattle.typing_rules.specs.Scripts.{Entry, Places, sight, def_token}
 use Rattle.typing_rules.specs.Scripts as entry
 use Rattle.type_steps.specs.Flow.{Reached}
 use Rattle.type_steps.specs.Environment.{Env, Known, value, function, Found, TextUse, Pending, of_term, of_def, Texts, AreFound, EachTakes, Takes, CallTakes, IsEnvOver, AreKnownOver, AreTypesOver, AreUsesOver, AreKindsOver, IsTextOver, ArePendingOver, IsKindOver, entries_under, texts_under, types_under, sight_under, settled, settled_use}
+use Rattle.type_terms.proofs.Counting.{keeps_both, keeps_itself}
 
 -- ---- later substitutions
 
@@ -22,10 +23,10 @@ pub over_later : (s s' : Table) (t : Term) → Follows s s' → IsOver s t → I
 over_later s s' t f o = let a = f.types in let b = f.kinds in InTerm-map (λ n l. omega arith) (λ n l. omega arith) t o
 
 pub follows_same : (s : Table) → Follows s s
-follows_same s = record { types = omega arith; kinds = omega arith; solves = λ a m. m }
+follows_same s = record { types = omega arith; kinds = omega arith; bound = keeps_itself s; solves = λ a m. m }
 
 pub follows_both : (s s' s'' : Table) → Follows s s' → Follows s' s'' → Follows s s''
-follows_both s s' s'' f g = record { types = omega (arith, f.types, g.types); kinds = omega (arith, f.kinds, g.kinds); solves = λ a m. f.solves a (g.solves a m) }
+follows_both s s' s'' f g = record { types = omega (arith, f.types, g.types); kinds = omega (arith, f.kinds, g.kinds); bound = keeps_both s s' s'' f.bound g.bound; solves = λ a m. f.solves a (g.solves a m) }
 
 pub agrees_same : (s : Table) (a : Assignment) → Agrees s a a
 agrees_same s a = record { types = λ k l. refl; kinds = λ k l. refl }

@@ -2,7 +2,7 @@ use Rattle.std.proofs.Common.{◌≡◌, ◌≤◌, ◌++◌, ◌-◌, length, t
 use Rattle.std.specs.Prelude.{string_bytes}
 use Rattle.stations.specs.Reports.{buffer_lines}
 use Rattle.stations.specs.Stations.{Station}
-use Rattle.station_check.specs.Ends.{IsOf}
+use Rattle.station_check.specs.Steps.{IsOf}
 use Rattle.station_check.proofs.buffers.push_lines.Given as goal
 
 -- the lines of the buffers so far

@@ -1,6 +1,6 @@
 use Rattle.std.proofs.Common.{◌≡◌, ◌≤◌, drop, length}
-use Rattle.clock_threads.specs.Plans.{AreReaders}
-use Rattle.clock_threads.proofs.ends.readers.Given as goal
+use Rattle.buffer_sides.specs.Sides.{AreReaders}
+use Rattle.buffer_sides.proofs.sides.readers.Given as goal
 
 abbrev pub invariant-loop-i : goal.invariant-loop-i
 invariant-loop-i l = record {

@@ -1,20 +1,14 @@
-// The ends of buffers: the nodes that feed and read them, and the main clocks in which these lie.
-ghost use Rattle.std.specs.Prelude.{◌≡◌, ◌<◌, ◌∷◌, ℕ, suc, Some, List, length, slice_index_or, IfOk};
-ghost use Rattle.liq_base.specs.declared.memory.Kind.{Kind};
+// The nodes that feed and read the buffers of a plan.
+ghost use Rattle.std.specs.Prelude.{◌≡◌, ◌<◌, ◌∷◌, ℕ, suc, List, length, IfOk};
 ghost use Rattle.plan_core.specs.declared.node.Node.{Node as PlanNode};
 ghost use Rattle.plan_core.specs.declared.node.Op.TheVariants.{Buffer};
 ghost use Rattle.plan_core.specs.declared.plan.Plan.{Plan as ThePlan};
 ghost use Rattle.plan_core.specs.declared.sink.SinkPlan.{SinkPlan as Sink};
 ghost use Rattle.plan_core.specs.Plans.{IsWellFormed};
-ghost use Rattle.clock_infer.specs.declared.clock_map.NodeClock.TheVariants.{Main as InMain};
-ghost use Rattle.run_records.specs.Buffers.{main_of, main_within, reads_in};
-ghost use Rattle.stream_meaning.specs.Operators.{work_of};
-ghost use Rattle.stations.specs.Stations.{Station, bare};
-ghost use Rattle.station_check.specs.Ends.{AreFeeders, AreReaders, FeedsBelow, IsOf};
+ghost use Rattle.buffer_sides.specs.Sides.{AreFeeders, AreReaders, FeedsBelow};
 
-use clock_infer::{ClockMap, NodeClock};
 use liq_base::Memory;
-use plan_core::{Node, Op, Plan, SinkPlan};
+use plan_core::{Node, Plan, SinkPlan};
 use std::alloc::Global;
 
 /// By a buffer's number, the node that feeds it.
@@ -66,52 +60,7 @@ fn put_reader(number: u32, node: &Node, found: &mut [u32])
     ensures size { length found.new ≡ length found.old }
     ensures read { (plan : ThePlan) (nodes : List PlanNode) → AreReaders plan (suc number) nodes found.old → AreReaders plan number (node.now ∷ nodes) found.new }
 {
-    if let Some(buffer) = buffer_of(&node.op) {
+    if let Some(buffer) = node.op.buffer_read() {
         found[buffer as usize] = number;
-    }
-}
-
-// The buffer that a node of this operator reads.
-fn buffer_of(op: &Op) -> Option<u32>
-    ensures reads { (buffer : ℕ) → result ≡ Some buffer → op.now ≡ Buffer buffer }
-    ensures is { (rate i : ℕ) (kind : Kind) → reads_in (work_of rate i kind op.now) ≡ result }
-{
-    match op {
-        Op::Buffer(buffer) => Some(*buffer),
-        _ => None,
-    }
-}
-
-/// The main clock in which a node lies, through its sub-clocks.
-pub fn main_of(plan: &Plan, clocks: &ClockMap, node: u32) -> u32
-    ensures { (station : Station) → IsOf plan.now clocks.now station → result ≡ main_of (bare station) node }
-{
-    let mut clock = clock_at(clocks, node);
-    let mut depth = plan.nodes.len();
-    while depth > 0 {
-        let NodeClock::Sub(crossfade) = clock else {
-            return main_number(clock);
-        };
-        depth -= 1;
-        clock = clock_at(clocks, crossfade);
-    }
-    main_number(clock)
-}
-
-// The clock of a node.
-fn clock_at(clocks: &ClockMap, node: u32) -> NodeClock
-    ensures { result ≡ slice_index_or clocks.now.of node (InMain 0) }
-{
-    let clock = clocks.of.as_slice().get(node as usize).copied();
-    clock.unwrap_or(NodeClock::Main(0))
-}
-
-// The number of a main clock; 0 for a sub-clock.
-fn main_number(clock: NodeClock) -> u32
-    ensures { (station : Station) → result ≡ main_within (bare station) 0 clock }
-{
-    match clock {
-        NodeClock::Main(number) => number,
-        NodeClock::Sub(_) => 0,
     }
 }

@@ -2,9 +2,9 @@ use Rattle.std.proofs.Common.{◌≡◌, ◌<◌, ◌-◌, ◌∙◌, ℕ, suc, 
 use Rattle.std.proofs.lemmas.List.{with_items_is}
 use Rattle.std.proofs.lemmas.Option.{slice_get_read}
 use Rattle.plan_core.specs.declared.node.Node.{Node}
-use Rattle.clock_threads.specs.Plans.{AreReaders}
-use Rattle.clock_threads.proofs.Behind.{item_and_behind}
-use Rattle.clock_threads.proofs.ends.readers.Goals as goal
+use Rattle.buffer_sides.specs.Sides.{AreReaders}
+use Rattle.buffer_sides.proofs.Behind.{item_and_behind}
+use Rattle.buffer_sides.proofs.sides.readers.Goals as goal
 
 pub put_reader-requires : goal.put_reader-requires
 put_reader-requires c buffer is =

@@ -1,18 +1,11 @@
--- The nodes at which buffers are fed and read. Only private functions cite this.
+-- The nodes at which buffers are fed and read.
 use Rattle.std.specs.Prelude.{◌≡◌, ◌<◌, ℕ, List, length, slice_index_or}
 use Rattle.plan_core.specs.declared.node.Node.{Node}
 use Rattle.plan_core.specs.declared.plan.Plan.{Plan}
 use Rattle.plan_core.specs.declared.sink.SinkPlan.{SinkPlan}
 use Rattle.plan_core.specs.declared.sink.SinkPlan.TheVariants.{Feed}
-use Rattle.clock_infer.specs.declared.clock_map.ClockMap.{ClockMap}
 use Rattle.run_records.specs.Buffers.{fed_in, read_from}
 use Rattle.stream_meaning.specs.Instants.{Setting}
-use Rattle.stations.specs.Stations.{Station}
-
--- the station is one of this plan and these clocks
-pub record IsOf (plan : Plan) (clocks : ClockMap) (station : Station) : Type 0 where
-  pub plan_is : station.plan ≡ plan
-  pub clocks_are : station.clocks ≡ clocks
 
 -- by a buffer's number: the node that feeds it, by these sinks
 abbrev pub AreFeeders : List SinkPlan → (found : List ℕ) → Type 0
@@ -23,6 +16,6 @@ abbrev pub AreReaders : Plan → (first : ℕ) → List Node → (found : List �
 AreReaders plan first nodes found = (setting : Setting) → setting.plan ≡ plan
     → (buffer : ℕ) → buffer < length found → slice_index_or found buffer 0 ≡ read_from setting buffer first nodes
 
--- a sink feeds no buffer from this number on
+-- a sink feeds no buffer from this number on; private functions alone cite this
 abbrev pub FeedsBelow : (count : ℕ) → SinkPlan → Type 0
 FeedsBelow count sink = (buffer node : ℕ) → sink ≡ Feed buffer node → buffer < count

@@ -1,6 +1,6 @@
 use Rattle.std.proofs.Common.{◌≡◌, ◌≤◌, drop, length}
-use Rattle.station_check.specs.Ends.{AreFeeders}
-use Rattle.station_check.proofs.ends.feeders.Given as goal
+use Rattle.buffer_sides.specs.Sides.{AreFeeders}
+use Rattle.buffer_sides.proofs.sides.feeders.Given as goal
 
 abbrev pub invariant-loop-i : goal.invariant-loop-i
 invariant-loop-i l = record {

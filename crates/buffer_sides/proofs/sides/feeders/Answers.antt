@@ -2,9 +2,9 @@ use Rattle.std.proofs.Common.{◌≡◌, ◌<◌, ◌-◌, ◌∙◌, suc, List,
 use Rattle.std.proofs.lemmas.List.{with_items_is}
 use Rattle.std.proofs.lemmas.Option.{slice_get_read}
 use Rattle.plan_core.specs.declared.sink.SinkPlan.{SinkPlan}
-use Rattle.clock_threads.specs.Plans.{AreFeeders}
-use Rattle.clock_threads.proofs.Behind.{item_and_behind}
-use Rattle.clock_threads.proofs.ends.feeders.Goals as goal
+use Rattle.buffer_sides.specs.Sides.{AreFeeders}
+use Rattle.buffer_sides.proofs.Behind.{item_and_behind}
+use Rattle.buffer_sides.proofs.sides.feeders.Goals as goal
 
 pub put_feeder-requires : goal.put_feeder-requires
 put_feeder-requires c buffer node is =

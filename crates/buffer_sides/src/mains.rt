@@ -1,0 +1,42 @@
+// The main clocks of nodes.
+ghost use Rattle.std.specs.Prelude.{◌≡◌, slice_index_or};
+ghost use Rattle.clock_infer.specs.declared.clock_map.NodeClock.TheVariants.{Main as InMain};
+ghost use Rattle.stream_meaning.specs.Instants.{Setting};
+ghost use Rattle.run_records.specs.Buffers.{main_of, main_within};
+
+use clock_infer::{ClockMap, NodeClock};
+use plan_core::Plan;
+
+/// The main clock in which a node lies, through its sub-clocks.
+pub fn main_of(plan: &Plan, clocks: &ClockMap, node: u32) -> u32
+    ensures { (setting : Setting) → setting.plan ≡ plan.now → setting.clocks ≡ clocks.now.of → result ≡ main_of setting node }
+{
+    let mut clock = clock_at(clocks, node);
+    let mut depth = plan.nodes.len();
+    while depth > 0 {
+        let NodeClock::Sub(crossfade) = clock else {
+            return main_number(clock);
+        };
+        depth -= 1;
+        clock = clock_at(clocks, crossfade);
+    }
+    main_number(clock)
+}
+
+// The clock of a node.
+fn clock_at(clocks: &ClockMap, node: u32) -> NodeClock
+    ensures { result ≡ slice_index_or clocks.now.of node (InMain 0) }
+{
+    let clock = clocks.of.as_slice().get(node as usize).copied();
+    clock.unwrap_or(NodeClock::Main(0))
+}
+
+// The number of a main clock; 0 for a sub-clock.
+fn main_number(clock: NodeClock) -> u32
+    ensures { (setting : Setting) → result ≡ main_within setting 0 clock }
+{
+    match clock {
+        NodeClock::Main(number) => number,
+        NodeClock::Sub(_) => 0,
+    }
+}
