@@ -1,0 +1,176 @@
+// The sounds of the scripts of bench/station in plain C: exact arithmetic, loops over the samples of a tick, and a write for
+// each tick. `station NUMBER SECONDS` writes c.wav.
+#include <fcntl.h>
+#include <stdint.h>
+#include <stdio.h>
+#include <stdlib.h>
+#include <string.h>
+#include <sys/stat.h>
+#include <unistd.h>
+
+enum { FRAME = 1764, FILES = 20, FADE = 44100, LEAVES = 30, SUMS = 20, PICKS = 19 };
+
+// A file of one channel, and how far it is played.
+struct file {
+    int16_t *samples;
+    size_t count, at;
+};
+
+// The two sides of a tick.
+struct lanes {
+    int16_t left[FRAME], right[FRAME];
+};
+
+static struct file long_file, short_file, tracks[FILES];
+static struct lanes tick, other, leaves[LEAVES], sums[SUMS], picks[PICKS];
+static int32_t sum_left[FRAME], sum_right[FRAME];
+
+static int16_t clamped(int64_t n) { return n < -32768 ? -32768 : n > 32767 ? 32767 : (int16_t)n; }
+
+static struct file opened(const char *name) {
+    struct stat found;
+    int from = open(name, O_RDONLY);
+    if (from < 0 || fstat(from, &found) != 0) exit(2);
+    uint8_t *bytes = malloc((size_t)found.st_size);
+    if (!bytes || read(from, bytes, (size_t)found.st_size) != found.st_size) exit(2);
+    close(from);
+    struct file file = {(int16_t *)(bytes + 44), ((size_t)found.st_size - 44) / 2, 0};
+    return file;
+}
+
+// So many samples of a file, which is played again and again, on both sides.
+static void play(struct file *file, int16_t *left, int16_t *right, size_t many) {
+    while (many > 0) {
+        size_t step = file->count - file->at < many ? file->count - file->at : many;
+        memcpy(left, file->samples + file->at, 2 * step);
+        memcpy(right, file->samples + file->at, 2 * step);
+        left += step, right += step, many -= step;
+        file->at = (file->at + step) % file->count;
+    }
+}
+
+static void amplify(int64_t millionths, struct lanes *lanes) {
+    for (int i = 0; i < FRAME; i++) lanes->left[i] = clamped(lanes->left[i] * millionths / 1000000);
+    for (int i = 0; i < FRAME; i++) lanes->right[i] = clamped(lanes->right[i] * millionths / 1000000);
+}
+
+static void begin_sum(void) {
+    memset(sum_left, 0, sizeof sum_left);
+    memset(sum_right, 0, sizeof sum_right);
+}
+
+static void add(const struct lanes *lanes) {
+    for (int i = 0; i < FRAME; i++) sum_left[i] += lanes->left[i];
+    for (int i = 0; i < FRAME; i++) sum_right[i] += lanes->right[i];
+}
+
+static void end_sum(struct lanes *lanes) {
+    for (int i = 0; i < FRAME; i++) lanes->left[i] = clamped(sum_left[i]);
+    for (int i = 0; i < FRAME; i++) lanes->right[i] = clamped(sum_right[i]);
+}
+
+static void one_file(long now) { (void)now, play(&long_file, tick.left, tick.right, FRAME); }
+
+static void looped(long now) { (void)now, play(&short_file, tick.left, tick.right, FRAME); }
+
+static void sum_of_20(long now) {
+    (void)now;
+    begin_sum();
+    for (int k = 0; k < FILES; k++) {
+        play(&tracks[k], other.left, other.right, FRAME);
+        amplify(50000, &other);
+        add(&other);
+    }
+    end_sum(&tick);
+}
+
+// Each track but for its last second, and that second mixed with the first one of the next track.
+static void crossfaded(long now) {
+    static int track = 0;
+    (void)now;
+    for (size_t done = 0; done < FRAME;) {
+        struct file *from = &tracks[track], *to = &tracks[(track + 1) % FILES];
+        size_t border = from->at < from->count - FADE ? from->count - FADE : from->count;
+        size_t step = border - from->at < FRAME - done ? border - from->at : FRAME - done;
+        int16_t *left = tick.left + done, *right = tick.right + done;
+        if (border < from->count) {
+            play(from, left, right, step);
+        } else {
+            const int16_t *falling = from->samples + from->at, *rising = to->samples + to->at;
+            int64_t start = (int64_t)to->at, whole = FADE;
+            for (size_t i = 0; i < step; i++) {
+                int64_t at = start + (int64_t)i;
+                left[i] = (int16_t)((falling[i] * (whole - at) + rising[i] * at) / whole);
+            }
+            for (size_t i = 0; i < step; i++) {
+                int64_t at = start + (int64_t)i;
+                right[i] = (int16_t)((falling[i] * (whole - at) + rising[i] * at) / whole);
+            }
+            from->at += step, to->at += step;
+            if (from->at == from->count) from->at = 0, track = (track + 1) % FILES;
+        }
+        done += step;
+    }
+}
+
+// The long file from 22h to 6h, the short one at other times; ticks begin at midnight.
+static void switched(long now) {
+    long hour = now / 25 / 3600 % 24;
+    struct file *file = hour >= 22 || hour < 6 ? &long_file : &short_file;
+    play(file, tick.left, tick.right, FRAME);
+}
+
+static void graph(long now) {
+    (void)now;
+    static struct file played[LEAVES];
+    if (!played[0].samples)
+        for (int k = 0; k < LEAVES; k++) played[k] = tracks[k % FILES];
+    for (int k = 0; k < LEAVES; k++) {
+        play(&played[k], leaves[k].left, leaves[k].right, FRAME);
+        amplify(100000, &leaves[k]);
+    }
+    for (int k = 0; k < SUMS; k++) {
+        begin_sum();
+        add(&leaves[k]);
+        add(&leaves[(k + 1) % LEAVES]);
+        end_sum(&sums[k]);
+    }
+    for (int k = 0; k < PICKS; k++) memcpy(&picks[k], &sums[k], sizeof sums[k]);
+    begin_sum();
+    for (int k = 0; k < PICKS; k++) add(&picks[k]);
+    end_sum(&tick);
+}
+
+static void put(uint8_t *bytes, uint32_t number) {
+    for (int i = 0; i < 4; i++) bytes[i] = (uint8_t)(number >> 8 * i);
+}
+
+int main(int count, char **words) {
+    static void (*const made[])(long) = {one_file, looped, sum_of_20, crossfaded, switched, graph};
+    static uint8_t head[44], bytes[4 * FRAME];
+    if (count != 3) return 2;
+    int number = atoi(words[1]);
+    long ticks = atol(words[2]) * 25;
+    long_file = opened("long.wav"), short_file = opened("short.wav");
+    for (int k = 0; k < FILES; k++) {
+        char name[20];
+        snprintf(name, sizeof name, "t%d.wav", k);
+        tracks[k] = opened(name);
+    }
+    int to = open("c.wav", O_WRONLY | O_CREAT | O_TRUNC, 0644);
+    uint32_t long_ = (uint32_t)ticks * sizeof bytes;
+    memcpy(head, "RIFF....WAVEfmt \x10\0\0\0\1\0\2\0........\4\0\x10\0data....", 44);
+    put(head + 4, long_ + 36), put(head + 24, 44100), put(head + 28, 4 * 44100), put(head + 40, long_);
+    if (write(to, head, 44) != 44) return 2;
+    for (long now = 0; now < ticks; now++) {
+        made[number](now);
+        for (int i = 0; i < FRAME; i++) {
+            bytes[4 * i] = (uint8_t)tick.left[i];
+            bytes[4 * i + 1] = (uint8_t)((uint16_t)tick.left[i] >> 8);
+            bytes[4 * i + 2] = (uint8_t)tick.right[i];
+            bytes[4 * i + 3] = (uint8_t)((uint16_t)tick.right[i] >> 8);
+        }
+        if (write(to, bytes, sizeof bytes) != sizeof bytes) return 2;
+    }
+    return close(to) != 0;
+}
