@@ -1,6 +1,8 @@
 pub mod Searches
 pub mod Matching
+pub mod Extras
 pub mod Filling
+pub mod Labelling
 pub mod Newest
 pub mod Repeating
 pub mod Rows

@@ -2,3 +2,4 @@ pub mod Places
 pub mod Seen
 pub mod Noted
 pub mod InPlace
+pub mod Labelled

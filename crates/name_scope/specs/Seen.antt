@@ -1,5 +1,5 @@
 -- What the program's values stand for.
-use Rattle.std.specs.Prelude.{ℕ, List, [], ◌∷◌, ◌++◌, Option, map, option_map}
+use Rattle.std.specs.Prelude.{ℕ, get_or, List, [], ◌∷◌, ◌++◌, map}
 use Rattle.typing_rules.specs.Arguments.{Given}
 pub use Rattle.typing_rules.specs.Rows.{seen_parameter}
 use Rattle.typing_rules.specs.Scoping.{Bound, Scope, value, function}
@@ -13,10 +13,9 @@ use Rattle.name_scope.specs.declared.scope.Bound.TheVariants as bound
 use Rattle.name_scope.specs.declared.scope.Binding.{Binding}
 use Rattle.name_scope.specs.declared.scope.Scope.{Scope as AScope}
 use Rattle.name_scope.specs.declared.scope.Scopes.{Scopes}
-use Rattle.std.specs.Borrow.{Bor}
-
-abbrev pub seen_label : Option (Bor (List ℕ)) → Option (List ℕ)
-seen_label l = option_map (λ s. s.now) l
+use Rattle.name_scope.specs.declared.labels.Labels.{Labels}
+pub use Rattle.name_scope.specs.Labelled.{seen_label}
+use Rattle.name_scope.specs.Labelled.{left_in}
 
 abbrev pub seen_given : AGiven → Given ℕ
 seen_given g = (seen_label g.label, g.at)
@@ -35,6 +34,14 @@ in_scope s = newest_first s.bindings.items
 
 abbrev pub both_scopes : Scopes → Scope
 both_scopes s = in_scope s.inner.now ++ in_scope s.outer.now
+
+-- the token of the argument at a place
+abbrev pub token_at : List AGiven → ℕ → ℕ
+token_at gs i = get_or (map (λ g. g.at) gs) i 0
+
+-- the arguments that are left, by their places
+abbrev pub left_of : Labels → List (Given ℕ)
+left_of t = left_in 0 (map seen_label t.labels.items) t.taken.items
 
 -- the form of a def's parameter
 abbrev pub form_seen : ParamForm → Form

@@ -1,12 +1,13 @@
 // Which parameter takes which argument.
-ghost use Rattle.std.specs.Prelude.{◌≡◌, [], None, true, map, is_some, IfOk};
+ghost use Rattle.std.specs.Prelude.{◌≡◌, [], None, true, map, is_some, IfOk, OnOk};
 ghost use Rattle.script_grammar.specs.View.{listed, view_arg, view_param};
 ghost use Rattle.typing_rules.specs.Arguments.{argument, first_missing, is_label as the_same_label, is_needed as is_wanted, label_of as the_label_of, left_over, others as the_others, parameters_of};
 ghost use Rattle.typing_rules.specs.Scoping.{tokens_given};
 ghost use Rattle.name_scope.specs.InPlace.{has_label as has_a_label, left_behind as the_left_behind, left_by as the_left_by};
 ghost use Rattle.name_scope.specs.Noted.{missing_with};
-ghost use Rattle.name_scope.specs.Seen.{form_seen, seen_given, seen_label, seen_parameter};
+ghost use Rattle.name_scope.specs.Seen.{form_seen, left_of, seen_given, seen_label, seen_parameter};
 
+use crate::labels::Labels;
 use crate::parameter::Given;
 use liq_base::Memory;
 use script_grammar::tree::{Arg, Param, ParamForm};
@@ -109,6 +110,45 @@ pub(crate) fn match_arguments<'a>(
         missing = missing_or(missing, *param, taken);
     }
     missing
+}
+
+/// The labels of arguments, in order.
+pub(crate) fn labels_of<'a>(
+    alloc: Global,
+    given: &[Given<'a>],
+) -> Result<Vec<Option<&'a str>>, Memory>
+    ensures same { IfOk result (λ ls. map seen_label ls.items ≡ map (λ g. seen_label g.label) given.now) }
+{
+    let mut labels = Vec::new(alloc);
+    for one in given {
+        labels.push(one.label)?;
+    }
+    Ok(labels)
+}
+
+/// The same as `match_arguments` with a table of the labels, by the places of the arguments.
+pub(crate) fn match_labels<'a>(
+    params: &[Parameter<'a>],
+    labels: &mut Labels<'_>,
+) -> Result<Option<&'a str>, Memory>
+    ensures missing { IfOk result (λ m. seen_label m ≡ first_missing (map seen_parameter params.now) (left_of labels.old)) }
+    ensures left { OnOk result (left_of labels.new ≡ left_over (map seen_parameter params.now) (left_of labels.old)) }
+{
+    let mut missing = None;
+    for param in params {
+        let taken = takes(labels, label_of(*param))?;
+        missing = missing_or(missing, *param, taken);
+    }
+    Ok(missing)
+}
+
+/// Takes out the first argument with this label, or the first without one, and answers whether there is any.
+fn takes(labels: &mut Labels<'_>, label: Option<&str>) -> Result<bool, Memory>
+    ensures taken { IfOk result (λ yes. yes ≡ is_some (argument (seen_label label.entry) (left_of labels.old))) }
+    ensures others { OnOk result (left_of labels.new ≡ the_others (left_of labels.old) (argument (seen_label label.entry) (left_of labels.old))) }
+{
+    let place = labels.take(label)?;
+    Ok(place.is_some())
 }
 
 /// The form of a parameter of a def.

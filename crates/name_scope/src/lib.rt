@@ -3,6 +3,7 @@
 
 mod arguments;
 mod builtins;
+mod labels;
 mod notes;
 mod parameter;
 mod scope;
@@ -12,6 +13,7 @@ mod values;
 
 pub use arguments::{is_label, is_needed, label_of, parameters};
 pub use builtins::builtin_params;
+pub use labels::Labels;
 pub use notes::{Notes, Resolved};
 pub use parameter::Given;
 pub use scope::{Binding, Bound, Scope, Scopes};

@@ -1,20 +1,24 @@
 // What is known of the names of a script so far.
-ghost use Rattle.std.specs.Prelude.{◌≡◌, ◌++◌, ◌∷◌, [], None, OnOk, map};
+ghost use Rattle.std.specs.Prelude.{◌≡◌, ◌++◌, ◌∷◌, [], None, OnOk, cond, map};
 ghost use Rattle.script_grammar.specs.View.{listed, view_arg, view_param};
 ghost use Rattle.typing_rules.specs.NameFaults.{is_among as is_one_of, is_before as is_told_before, missing_at, number as the_number, repeated_at, repeats, token as the_token};
 ghost use Rattle.typing_rules.specs.Scoping.{bound, call_meant, no_parameters, tokens_given, value_meant};
 ghost use Rattle.typing_rules.specs.declared.fault.NameFault.TheVariants.{Extra};
-ghost use Rattle.name_scope.specs.Seen.{both_scopes, seen_label, seen_parameter};
+ghost use Rattle.name_scope.specs.Seen.{both_scopes, left_of, seen_given, seen_label, seen_parameter, token_at};
 ghost use Rattle.name_scope.specs.Noted.{all_sooner, mismatches, noted, sooner, with_name};
 
-use crate::arguments::{are_filled, given_arguments, match_arguments};
+use crate::arguments::{are_filled, given_arguments, labels_of, match_arguments, match_labels};
 use crate::builtins::builtin_params;
+use crate::labels::Labels;
 use crate::parameter::Given;
 use crate::scope::{Bound, Scope, Scopes};
 use liq_base::{Memory, Text};
 use script_grammar::tree::{Arg, Param};
 use std::alloc::Global;
 use typing_rules::{NameFault, Parameter, Target, builtin_named, is_same_name};
+
+/// So many arguments of a call are looked through for each parameter; more of them by a table.
+const FEW_ARGUMENTS: usize = 16;
 
 /// So many parameters of a def are compared with each other for a repeated name; more of them by a table.
 const FEW_PARAMS: usize = 16;
@@ -63,6 +67,16 @@ fn is_before(first: &NameFault, second: &NameFault) -> bool
         number(first) <= number(second)
     } else {
         token(first) <= token(second)
+    }
+}
+
+/// The token of the argument at a place, if there is one.
+fn token_of(given: &[Given<'_>], place: usize) -> u32
+    ensures at { result ≡ token_at given.now place }
+{
+    match given.get(place) {
+        Some(one) => one.at,
+        None => 0,
     }
 }
 
@@ -128,10 +142,51 @@ impl Notes {
             return Ok(());
         }
         let mut given = given_arguments(alloc, args)?;
+        if given.len() > FEW_ARGUMENTS {
+            return self.add_mismatches_of_many(alloc, at, params, &given);
+        }
         let missing = match_arguments(params, &mut given);
         self.add_missing(alloc, at, missing)?;
         self.add_extra(&given);
         Ok(())
+    }
+
+    // The same of many arguments, which are found by a table of their labels.
+    fn add_mismatches_of_many(
+        &mut self,
+        alloc: Global,
+        at: u32,
+        params: &[Parameter<'_>],
+        given: &[Given<'_>],
+    ) -> Result<(), Memory>
+        ensures fault { OnOk result (self.new.fault ≡ all_sooner self.old.fault (mismatches at (map seen_parameter params.now) (map seen_given given.now))) }
+        ensures found { OnOk result (self.new.found ≡ self.old.found) }
+    {
+        let mut labels = Labels::new(alloc, labels_of(alloc, given)?)?;
+        let missing = match_labels(params, &mut labels)?;
+        self.add_missing(alloc, at, missing)?;
+        self.add_left(&labels, given);
+        Ok(())
+    }
+
+    // Adds the arguments that are left in a table of their labels.
+    fn add_left(&mut self, labels: &Labels<'_>, given: &[Given<'_>])
+        ensures fault { self.new.fault ≡ all_sooner self.old.fault (map (λ g. Extra (token_at given.now g.1)) (left_of labels.now)) }
+        ensures found { self.new.found ≡ self.old.found }
+    {
+        for index in 0..labels.count() {
+            self.add_extra_if(!labels.is_taken(index), token_of(given, index));
+        }
+    }
+
+    // Adds an argument that no parameter takes, if it is left.
+    fn add_extra_if(&mut self, left: bool, at: u32)
+        ensures fault { self.new.fault ≡ cond left (sooner self.old.fault (Extra at)) self.old.fault }
+        ensures found { self.new.found ≡ self.old.found }
+    {
+        if left {
+            self.add_fault(NameFault::Extra { at });
+        }
     }
 
     /// Adds the first missing argument of a call, if there is one.

@@ -5,6 +5,7 @@ pub mod StepLemmas
 pub mod Parts
 pub mod Calls
 pub mod Fits
+pub mod Labelled
 pub mod Exits
 pub mod Ends
 pub mod NameTokens

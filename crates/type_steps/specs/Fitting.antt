@@ -1,9 +1,11 @@
 -- What one parameter takes.
-use Rattle.std.specs.Prelude.{◌≡◌, ℕ, ◌<◌, length, false, Option, Some, None, ⊤}
+use Rattle.std.specs.Prelude.{◌≡◌, ℕ, ◌<◌, List, get_or, map, length, false, Option, Some, None, ⊤}
 use Rattle.type_terms.specs.Ground.{Ground}
 use Rattle.type_terms.specs.Table.{Table}
 use Rattle.typing_rules.specs.Arguments.{Parameter, Given, is_needed}
-use Rattle.name_scope.specs.Seen.{seen_label}
+use Rattle.name_scope.specs.Labelled.{on}
+use Rattle.name_scope.specs.Seen.{left_of, seen_label}
+use Rattle.name_scope.specs.declared.labels.Labels.{Labels}
 use Rattle.type_steps.specs.declared.arguments.Argument.{Argument}
 
 -- an argument as its label and its variable
@@ -18,3 +20,11 @@ FitsOne p (Some g) t = g ≡ t
 abbrev pub IsInside : Table → Option ℕ → Type 0
 IsInside s None = ⊤
 IsInside s (Some n) = n < length s.types
+
+-- the variable of the argument at a place
+abbrev pub var_at : List Argument → ℕ → ℕ
+var_at gs i = get_or (map (λ g. g.var) gs) i 0
+
+-- the arguments that are left in a table of the labels of these
+abbrev pub left_given : List Argument → Labels → List (Given ℕ)
+left_given gs t = map (on (var_at gs)) (left_of t)

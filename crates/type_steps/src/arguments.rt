@@ -1,17 +1,20 @@
 // Which parameter takes which argument, by their types.
-ghost use Rattle.std.specs.Prelude.{◌≡◌, ◌<◌, get_or, length, map, option_map, IfOk};
+ghost use Rattle.std.specs.Prelude.{◌≡◌, ◌<◌, get_or, length, map, option_map, IfOk, OnOk};
 ghost use Rattle.type_terms.specs.Table.{IsOver};
 ghost use Rattle.type_terms.specs.Term.{meaning, term_of};
 ghost use Rattle.typing_rules.specs.Arguments.{Matched, argument, label_of as the_label_of, others as the_others};
 ghost use Rattle.name_scope.specs.Seen.{seen_label, seen_parameter};
 ghost use Rattle.type_steps.specs.Flow.{AreInside, AreTermsOver, IsMade, given_under};
-ghost use Rattle.type_steps.specs.Fitting.{FitsOne, IsInside, seen_argument};
+ghost use Rattle.type_steps.specs.Fitting.{FitsOne, IsInside, left_given, seen_argument, var_at};
 
 use crate::steps::is_type;
 use liq_base::Memory;
-use name_scope::{Parameter, is_label, is_needed, label_of};
+use name_scope::{Labels, Parameter, is_label, is_needed, label_of};
 use std::alloc::Global;
 use type_terms::{Subst, Ty};
+
+/// So many arguments of a call are looked through for each parameter; more of them by a table.
+const FEW_ARGUMENTS: usize = 16;
 
 /// An argument of a call: its label, and the variable that is its type.
 #[derive(Clone, Copy, Debug)]
@@ -35,6 +38,9 @@ pub fn fit(
     if params.len() != types.len() {
         return Ok(false);
     }
+    if given.len() > FEW_ARGUMENTS {
+        return fit_many(alloc, subst, params, types, given);
+    }
     for i in 0..params.len() {
         let param = param_at(params, i);
         let taken = take_argument(given, label_of(param));
@@ -44,6 +50,67 @@ pub fn fit(
         }
     }
     Ok(given.is_empty())
+}
+
+/// The same with many arguments, which are found by a table of their labels.
+fn fit_many(
+    alloc: Global,
+    subst: &mut Subst,
+    params: &[Parameter<'_>],
+    types: &[Ty],
+    given: &[Argument<'_>],
+) -> Result<bool, Memory>
+    requires over { AreTermsOver subst.old (map term_of types.now) }
+    requires inside { AreInside subst.old (map seen_argument given.now) }
+    requires same_many { length params.now ≡ length types.now }
+    ensures { IfOk result (λ yes. IsMade yes subst.old subst.new (λ a. Matched (map seen_parameter params.now) (given_under a (map seen_argument given.now)) (map (meaning a) (map term_of types.now)))) }
+{
+    let mut labels = Labels::new(alloc, labels_of(alloc, given)?)?;
+    for i in 0..params.len() {
+        let param = param_at(params, i);
+        let taken = take_labelled(&mut labels, given, label_of(param))?;
+        let fits = fit_one(alloc, subst, param, &types[i], taken)?;
+        if !fits {
+            return Ok(false);
+        }
+    }
+    Ok(labels.is_empty())
+}
+
+/// The labels of arguments, in order.
+fn labels_of<'a>(alloc: Global, given: &[Argument<'a>]) -> Result<Vec<Option<&'a str>>, Memory>
+    ensures same { IfOk result (λ ls. map seen_label ls.items ≡ map (λ g. seen_label g.label) given.now) }
+{
+    let mut labels = Vec::new(alloc);
+    for one in given {
+        labels.push(one.label)?;
+    }
+    Ok(labels)
+}
+
+/// Takes the first of these arguments with this label, or the first without one, out of the table of their labels.
+fn take_labelled(
+    labels: &mut Labels<'_>,
+    given: &[Argument<'_>],
+    label: Option<&str>,
+) -> Result<Option<u64>, Memory>
+    ensures taken { IfOk result (λ r. r ≡ option_map (λ x. x.0) (argument (seen_label label.entry) (left_given given.now labels.old))) }
+    ensures others { OnOk result (left_given given.now labels.new ≡ the_others (left_given given.now labels.old) (argument (seen_label label.entry) (left_given given.now labels.old))) }
+{
+    match labels.take(label)? {
+        None => Ok(None),
+        Some(place) => Ok(Some(var_of(given, place))),
+    }
+}
+
+/// The variable of the argument at a place, if there is one.
+fn var_of(given: &[Argument<'_>], place: usize) -> u64
+    ensures at { result ≡ var_at given.now place }
+{
+    match given.get(place) {
+        Some(one) => one.var,
+        None => 0,
+    }
 }
 
 /// Takes out the first argument with this label, or the first without one.
