@@ -18,7 +18,7 @@ use Rattle.stream_meaning.specs.Instants.{Setting, Moment, Reading, IsMeaning, c
 use Rattle.stream_meaning.specs.Calls.{calls_of, ran_by}
 use Rattle.stream_meaning.proofs.Existence.{same_clock-true}
 use Rattle.segment_laws.specs.Stretches.{AreFed, AreQuiet, IsNode, IsStretch, going_on, lane}
-use Rattle.engine_clocks.proofs.CellsFed.{are_fed}
+use Rattle.segment_laws.proofs.Feeding.{are_fed}
 use Rattle.segment_laws.proofs.Quiet.{no_calls}
 use Rattle.segment_laws.proofs.Stretching.{alike_all, on_all}
 use Rattle.node_mixing.specs.Runs.{samples_of}

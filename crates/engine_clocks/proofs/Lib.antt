@@ -11,7 +11,6 @@ pub mod Making
 pub mod Readers
 mod Above
 mod Children
-mod CellsFed
 pub mod SubRuns
 mod SubSteps
 pub mod Behind

@@ -6,6 +6,6 @@ pub mod Works
 pub mod Following
 pub mod Stretching
 pub mod Laning
-mod Feeding
+pub mod Feeding
 pub mod Reaching
 pub mod Quiet
