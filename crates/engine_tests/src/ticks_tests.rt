@@ -1,6 +1,6 @@
-//! Ticks of the engine of one clock, from the rules of `docs/streams.md`: three ticks of two samples each, and one of eight.
+//! Ticks of the engine of one clock, from the rules of `docs/streams.md`: three ticks of two samples each, and ones of eight.
 //! The file has the samples 1, 2 and 3; each is written as two bytes, the low one first.
-ghost use Rattle.std.specs.Prelude.{◌≡◌, ◌≤◌, ◌∷◌, [], Some, length, slice_get, false, true, IfOk};
+ghost use Rattle.std.specs.Prelude.{◌≡◌, ◌<◌, ◌≤◌, ◌∷◌, [], Some, length, slice_get, false, true, IfOk};
 ghost use Rattle.plan_core.specs.Plans.{IsWellFormed};
 ghost use Rattle.clock_infer.specs.Answers.{IsClockMap};
 ghost use Rattle.frame_core.specs.Library.{IsLibrary};
@@ -80,6 +80,29 @@ fn once(alloc: Global, frame: u32) -> Result<Plan, AllocError>
     })
 }
 
+// The file and two zeros, each again and again; a rotate and a random over both, with eight samples a tick of one node.
+fn turns(alloc: Global, seed: u64, node: u32) -> Result<Plan, AllocError>
+    requires { node < 4 }
+    ensures well_formed { IfOk result IsWellFormed }
+    ensures size { IfOk result (λ plan. length plan.nodes ≡ 4) }
+    ensures sinks { IfOk result (λ plan. plan.sinks ≡ SinkPlan.Output [] node false ∷ []) }
+{
+    let sinks = Items::from_vec(vec![in alloc; output(alloc, node)]?);
+    let both = vec![in alloc; 0, 1]?;
+    let file = Text::from_string(String::new(alloc));
+    let single = mono(Op::Single(file), Vec::new(alloc));
+    let blank = mono(Op::Blank { track: 2 }, Vec::new(alloc));
+    let rotate = mono(Op::Rotate, both.clone()?);
+    let random = mono(Op::Random { seed }, both);
+    Ok(Plan {
+        rate: 8000,
+        frame: 8,
+        nodes: Items::from_vec(vec![in alloc; single, blank, rotate, random]?),
+        sinks,
+        buffers: Items::new(alloc),
+    })
+}
+
 // The file, which the first of these nodes plays.
 fn one_file(alloc: Global) -> Result<Library, AllocError>
     ensures library { IfOk result (λ library. IsLibrary library) }
@@ -98,6 +121,18 @@ fn one_of_three(alloc: Global) -> Result<Library, AllocError>
     let file = Track::new(Kind::Mono, Vec::from_slice(alloc, &[1, 2, 3])?);
     let first = Vec::from_slice(alloc, &[0])?;
     let leaves = Vec::from_array(alloc, [first, Vec::new(alloc), Vec::new(alloc)])?;
+    Ok(Library::new(Vec::from_array(alloc, [file])?, leaves))
+}
+
+// The file, which the first of four nodes plays.
+fn one_of_four(alloc: Global) -> Result<Library, AllocError>
+    ensures library { IfOk result (λ library. IsLibrary library) }
+    ensures leaves { IfOk result (λ library. length library.leaves ≡ 4) }
+{
+    let file = Track::new(Kind::Mono, Vec::from_slice(alloc, &[1, 2, 3])?);
+    let first = Vec::from_slice(alloc, &[0])?;
+    let rest = [first, Vec::new(alloc), Vec::new(alloc), Vec::new(alloc)];
+    let leaves = Vec::from_array(alloc, rest)?;
     Ok(Library::new(Vec::from_array(alloc, [file])?, leaves))
 }
 
@@ -312,33 +347,61 @@ fn check_segments(
     }
 }
 
-// The same of a plan of three nodes.
-fn check_once(
+// The same over the clocks that the plan has.
+fn check_tick(
     rt: &impl Abort,
     alloc: Global,
     plan: &Plan,
+    node: u32,
+    library: &Library,
     segments: u64,
     held: &[u8],
 ) -> Result<(), Fail>
     requires plan { IsWellFormed plan.now }
-    requires size { length plan.now.nodes ≡ 3 }
-    requires sinks { plan.now.sinks ≡ SinkPlan.Output [] 2 false ∷ [] }
+    requires library { IsLibrary library.now }
+    requires leaves { length library.now.leaves ≡ length plan.now.nodes }
+    requires sinks { plan.now.sinks ≡ SinkPlan.Output [] node false ∷ [] }
 {
-    let library = one_of_three(alloc)?;
     let clocks = assign(alloc, plan)?;
-    assert!(rt; lies_in_first(&clocks, 2));
+    assert!(rt; lies_in_first(&clocks, node));
     let mut taps = LocalTaps::new(alloc, plan)?;
     check_segments(
-        rt, alloc, plan, &clocks, 2, &library, &mut taps, segments, held,
+        rt, alloc, plan, &clocks, node, library, &mut taps, segments, held,
     )
+}
+
+// The same of the rotate, which is node 2, or of the random of this seed, which is node 3.
+fn check_turns(
+    rt: &impl Abort,
+    alloc: Global,
+    seed: u64,
+    node: u32,
+    segments: u64,
+    held: &[u8],
+) -> Result<(), Fail>
+    requires { node < 4 }
+{
+    let library = one_of_four(alloc)?;
+    let plan = turns(alloc, seed, node)?;
+    check_tick(rt, alloc, &plan, node, &library, segments, held)
 }
 
 #[test]
 fn a_file_and_the_zeros_behind_it_are_two_segments(rt: HostRuntime) -> Result<(), Fail> {
     let alloc = rt.alloc();
+    let library = one_of_three(alloc)?;
     let plan = once(alloc, 8)?;
     let held = [1, 0, 2, 0, 3, 0, 0, 0, 0, 0, 0, 0, 0, 0, 0, 0];
-    check_once(&rt, alloc, &plan, 2, &held)
+    check_tick(&rt, alloc, &plan, 2, &library, 2, &held)
+}
+
+#[test]
+fn a_rotate_and_a_random_play_a_track_each_time(rt: HostRuntime) -> Result<(), Fail> {
+    let alloc = rt.alloc();
+    let rotated = [1, 0, 2, 0, 3, 0, 0, 0, 0, 0, 1, 0, 2, 0, 3, 0];
+    check_turns(&rt, alloc, 0, 2, 3, &rotated)?;
+    let drawn = [0, 0, 0, 0, 0, 0, 0, 0, 0, 0, 0, 0, 1, 0, 2, 0];
+    check_turns(&rt, alloc, 3, 3, 4, &drawn)
 }
 
 #[test]
