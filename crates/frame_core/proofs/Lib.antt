@@ -1,2 +1,4 @@
 pub mod Lanes
+pub mod Laid
 pub mod Laws
+pub mod Sides

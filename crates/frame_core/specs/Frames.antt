@@ -1,5 +1,5 @@
 -- The slots of a tick, kept as lists side by side, and the cells among them.
-use Rattle.std.specs.Prelude.{ℤ, Option, Some, None, List, [], ◌∷◌, true, false}
+use Rattle.std.specs.Prelude.{ℕ, zero, suc, ℤ, Option, Some, None, List, [], ◌∷◌, Bool, true, false, replicate, if◌then◌else◌}
 use Rattle.frame_core.specs.declared.cell.Cell.{Cell}
 use Rattle.frame_core.specs.declared.frame.Mark.{Mark}
 use Rattle.frame_core.specs.declared.frame.Mark.TheVariants.{Absent, Inner, First}
@@ -17,6 +17,17 @@ slots_in (mark ∷ marks) (left ∷ lefts) (right ∷ rights) = slot_of mark lef
 slots_in (mark ∷ marks) (left ∷ lefts) [] = []
 slots_in (mark ∷ marks) [] rights = []
 slots_in [] lefts rights = []
+
+-- the cells of these samples, the first of which may begin a track, and no other
+abbrev pub laid_slots : (first : Bool) → (lefts rights : List ℤ) → List Slot
+laid_slots first (left ∷ lefts) (right ∷ rights) = Some (record { left = left; right = right; first = first }) ∷ laid_slots false lefts rights
+laid_slots first (left ∷ lefts) [] = []
+laid_slots first [] rights = []
+
+-- the marks of so many of them
+abbrev pub marks_of : (first : Bool) → ℕ → List Mark
+marks_of first zero = []
+marks_of first (suc n) = (if first then First else Inner) ∷ replicate n Inner
 
 -- what is there, in order
 abbrev pub somes : {X : Type 0} → List (Option X) → List X

@@ -1,7 +1,9 @@
 // The slots of one tick.
-ghost use Rattle.std.specs.Prelude.{◌≡◌, ◌<◌, ◌≤◌, length, replicate, slice_set, IfOk, None};
+ghost use Rattle.std.specs.Prelude.{◌≡◌, ◌<◌, ◌≤◌, ◌+◌, length, replicate, slice_set, IfOk, None};
+ghost use Rattle.std.specs.Simd.Lanes.{put_chunk};
 ghost use Rattle.frame_core.specs.Slots.{slot_at};
-ghost use Rattle.frame_core.specs.Frames.{slot_of, slots_in};
+ghost use Rattle.frame_core.specs.Frames.{laid_slots, marks_of, slot_of, slots_in};
+ghost use Rattle.frame_core.specs.declared.frame.Mark.TheVariants.{Absent};
 
 use crate::Cell;
 use liq_base::Memory;
@@ -104,4 +106,52 @@ impl Frame {
         self.left[at] = left;
         self.right[at] = right;
     }
+
+    /// Lays cells of these samples from a place on, counted from 0: `first` flags the first of them, and no other. The
+    /// other slots stay.
+    pub fn lay(&mut self, at: u32, left: &[i16], right: &[i16], first: bool)
+        requires same { length right.now ≡ length left.now }
+        requires there { at + length left.now ≤ length self.old }
+        ensures { self.new ≡ put_chunk at self.old (laid_slots first left.now right.now) }
+    {
+        let at = at as usize;
+        put_samples(&mut self.left, at, left);
+        put_samples(&mut self.right, at, right);
+        put_marks(&mut self.marks, at, left.len(), first);
+    }
+
+    /// Takes the cells out of so many slots from a place on, counted from 0. The other slots stay.
+    pub fn clear(&mut self, at: u32, len: u32)
+        requires { at + len ≤ length self.old }
+        ensures { self.new ≡ put_chunk at self.old (replicate len None) }
+    {
+        clear_marks(&mut self.marks, at as usize, len as usize);
+    }
+}
+
+// Copies samples over those from a place on.
+fn put_samples(into: &mut [i16], at: usize, samples: &[i16])
+    requires { at + length samples.now ≤ length into.old }
+    ensures { into.new ≡ put_chunk at into.old samples.now }
+{
+    into[at..at + samples.len()].copy_from_slice(samples);
+}
+
+// Marks so many cells from a place on, the first of which may begin a track.
+fn put_marks(marks: &mut [Mark], at: usize, count: usize, first: bool)
+    requires { at + count ≤ length marks.old }
+    ensures { marks.new ≡ put_chunk at marks.old (marks_of first count) }
+{
+    marks[at..at + count].fill(Mark::Inner);
+    if first && count > 0 {
+        marks[at] = Mark::First;
+    }
+}
+
+// Marks so many slots from a place on as empty.
+fn clear_marks(marks: &mut [Mark], at: usize, count: usize)
+    requires { at + count ≤ length marks.old }
+    ensures { marks.new ≡ put_chunk at marks.old (replicate count Absent) }
+{
+    marks[at..at + count].fill(Mark::Absent);
 }

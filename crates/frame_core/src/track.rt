@@ -1,6 +1,7 @@
 // An audio file, held as samples.
 ghost use Rattle.std.specs.Prelude.{◌≡◌, ◌<◌, ◌≤◌, ◌+ℤ◌, ◌*◌, ◌+◌, ◌/◌, ◌^◌, ℕ, ℤ, pos, length, int_div, nat_eq};
 ghost use Rattle.frame_core.specs.Sounds.{Sound, IsSound, cell_of, lefts_from, length_of, rights_from, sample_at};
+ghost use Rattle.liq_base.specs.declared.memory.Kind.TheVariants.{Mono, Stereo};
 
 use crate::Cell;
 use liq_base::Kind;
@@ -92,13 +93,48 @@ impl Track {
         ensures left { left.new ≡ lefts_from self.now kind at (length left.old) }
         ensures right { right.new ≡ rights_from self.now kind at (length left.old) }
     {
-        let end = self.samples();
-        prove!(at <= end);
-        for j in 0..left.len() {
-            let cell = self.cell(at + j as u64, kind);
-            left[j] = cell.left;
-            right[j] = cell.right;
+        let from = at as usize;
+        match (self.kind, kind) {
+            (Kind::Mono, Kind::Mono) => {
+                left.copy_from_slice(&self.samples[from..from + left.len()]);
+                right.fill(0);
+            }
+            (Kind::Mono, Kind::Stereo) => {
+                let samples = &self.samples[from..from + left.len()];
+                left.copy_from_slice(samples);
+                right.copy_from_slice(samples);
+            }
+            (Kind::Stereo, Kind::Mono) => {
+                halve_pairs(&self.samples, from, left);
+                right.fill(0);
+            }
+            (Kind::Stereo, Kind::Stereo) => part_pairs(&self.samples, from, left, right),
         }
+    }
+}
+
+// The two samples of each block, from a place on.
+fn part_pairs(samples: &[i16], at: usize, left: &mut [i16], right: &mut [i16])
+    requires same { length right.old ≡ length left.old }
+    requires within { 2 * (at + length left.old) ≤ length samples.now }
+    ensures left { left.new ≡ lefts_from (record { kind = Stereo; samples = samples.now }) Stereo at (length left.old) }
+    ensures right { right.new ≡ rights_from (record { kind = Stereo; samples = samples.now }) Stereo at (length left.old) }
+{
+    for j in 0..left.len() {
+        let place = 2 * (at + j);
+        left[j] = samples[place];
+        right[j] = samples[place + 1];
+    }
+}
+
+// Half the sum of the two samples of each block, from a place on.
+fn halve_pairs(samples: &[i16], at: usize, halves: &mut [i16])
+    requires { 2 * (at + length halves.old) ≤ length samples.now }
+    ensures { halves.new ≡ lefts_from (record { kind = Stereo; samples = samples.now }) Mono at (length halves.old) }
+{
+    for j in 0..halves.len() {
+        let place = 2 * (at + j);
+        halves[j] = half_sum(samples[place], samples[place + 1]);
     }
 }
 

@@ -1,0 +1,10 @@
+use Rattle.std.proofs.Common.{◌≡◌, length, take}
+use Rattle.liq_base.specs.declared.memory.Kind.TheVariants.{Mono, Stereo}
+use Rattle.frame_core.specs.Sounds.{lefts_from}
+use Rattle.frame_core.proofs.track.halve_pairs.Given as goal
+
+abbrev pub invariant-loop-j : goal.invariant-loop-j
+invariant-loop-j l = record {
+  long : length l.halves ≡ length l.initial.halves;
+  halves : take l.j l.halves ≡ lefts_from (record { kind = Stereo; samples = l.samples }) Mono l.at l.j;
+}
