@@ -1,6 +1,7 @@
 -- A write that failed, seen from before.
-use Rattle.std.proofs.Common.{◌≡◌, ◌<◌, ◌≤◌, ℕ, zero, suc, Option, Some, List, [], ◌∷◌, length, get_or, map, slice_get, arith, ap, ◌∙◌, sym, subst, refl}
-use Rattle.std.proofs.lemmas.Option.{get_or_from_slice_get, slice_get_within}
+use Rattle.std.proofs.Common.{◌≡◌, ◌<◌, ◌≤◌, ℕ, Option, Some, List, length, get_or, map, slice_get, arith, ap, ◌∙◌, sym, subst}
+use Rattle.std.specs.Option.{option_map}
+use Rattle.std.proofs.lemmas.Option.{get_or_from_slice_get, slice_get-get_or as read, slice_get-map, slice_get_within}
 use Rattle.liq_base.specs.Counts.{Rose}
 use Rattle.clock_outputs.specs.Appends.{NoneFell, RoseAt}
 use Rattle.clock_engine.specs.declared.engine.ClockEngine.{ClockEngine}
@@ -13,11 +14,6 @@ use Rattle.clock_tasks.specs.Tasks.{IsSameClock, IsWriteOf}
 -- a count that rose above one to which it had not fallen
 risen : (a b c : ℕ) → a ≤ b → Rose b c → Rose a c
 risen a b c low rose = omega (arith, low, rose)
-
-pub read : {S : Type 0} (xs : List S) (k : ℕ) (d : S) → k < length xs → slice_get xs k ≡ Some (get_or xs k d)
-read [] k d h = absurd (omega (arith, h))
-read (x ∷ xs) zero d h = refl
-read (x ∷ xs) (suc k) d h = read xs k d (omega (arith, h))
 
 rose_since : {S : Type 0} (faults : S → ℕ) (place : ℕ) (a b c : List S) → length b ≡ length a → NoneFell faults a b → RoseAt faults place b c → RoseAt faults place a c
 rose_since faults place a b c sizes none rose =
@@ -34,11 +30,6 @@ rose_since faults place a b c sizes none rose =
       rose = risen (faults first) (faults rose.before) (faults rose.after) (subst (λ x. faults first ≤ faults x) is low) rose.rose;
     }
 
-at_mapped : {A B : Type 0} (f : A → B) (xs : List A) (k : ℕ) (x : A) → slice_get xs k ≡ Some x → slice_get (map f xs) k ≡ Some (f x)
-at_mapped f [] k x e = (let within = slice_get_within [] k x e in absurd (omega (arith, within)))
-at_mapped f (y ∷ xs) zero x e = (let same : y ≡ x = cc in ap (λ z. Some (f z)) same)
-at_mapped f (y ∷ xs) (suc k) x e = at_mapped f xs k x e
-
 sink_is : (sink other : ℕ) → ◌≡◌ {A = TickFault} (Write sink) (Write other) → other ≡ sink
 sink_is sink other e = cc
 
@@ -48,7 +39,7 @@ module _ {S : Type 0} (name : S → Option (List ℕ)) (faults : S → ℕ) wher
   write_of old new sink works cause = record {
     place = cause.place;
     node = cause.port.node;
-    there = ap (λ xs. slice_get xs cause.place) (sym works.outputs) ∙ at_mapped output_of old.works.ports.items cause.place cause.port cause.there
+    there = ap (λ xs. slice_get xs cause.place) (sym works.outputs) ∙ slice_get-map output_of old.works.ports.items cause.place ∙ ap (option_map output_of) cause.there
         ∙ ap (λ n. Some (n, cause.port.node)) (sink_is sink cause.port.sink cause.fault_is);
     rose = cause.rose;
   }

@@ -1,6 +1,6 @@
 -- Tasks that are ready, and what a run of them tells of their engines.
 use Rattle.std.proofs.Common.{◌≡◌, ◌⊎◌, ℕ, suc, ◌<◌, true, None, Some, List, [], ◌∷◌, length, map, slice_get, slice_index_or, sym, refl, ap, ◌∙◌, subst, arith, Option, append-nil}
-use Rattle.std.proofs.lemmas.Option.{get_or_from_slice_get}
+use Rattle.std.proofs.lemmas.Option.{get_or_from_slice_get, slice_get-get_or as read}
 use Rattle.liq_base.specs.Pieces.{grown}
 use Rattle.plan_core.specs.declared.plan.Plan.{Plan}
 use Rattle.plan_core.specs.declared.sink.BufferPlan.{BufferPlan}
@@ -18,7 +18,6 @@ use Rattle.clock_engine.specs.Ticks.{HaveTicksRoom}
 use Rattle.clock_engine.specs.declared.engine.ClockEngine.{ClockEngine}
 use Rattle.clock_tasks.specs.declared.task.Task.{Task}
 use Rattle.clock_tasks.specs.Histories.{History}
-use Rattle.clock_tasks.proofs.Writing.{read}
 use Rattle.clock_tasks.specs.Tasks.{EngineGone, IsSameClock, held_of}
 use Rattle.clock_windows.specs.declared.wires.Wire.{Wire}
 use Rattle.clock_windows.specs.Wires.{wire_at, kept}

@@ -8,7 +8,8 @@ use Rattle.stream_meaning.specs.Instants.{Setting}
 use Rattle.clock_engine.specs.declared.engine.ClockEngine.{ClockEngine}
 use Rattle.clock_tasks.specs.declared.task.Task.{Task}
 use Rattle.clock_windows.specs.declared.wires.Wire.{Wire}
-use Rattle.clock_windows.specs.Wires.{wire_at, told}
+use Rattle.buffer_sides.specs.Logs.{told}
+use Rattle.clock_windows.specs.Wires.{wire_at}
 use Rattle.clock_windows.specs.Listed.{listed}
 use Rattle.clock_windows.proofs.Recording.{listed_long, listed_at}
 use Rattle.clock_windows.proofs.Sets.{same_or_other}

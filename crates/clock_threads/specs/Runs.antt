@@ -19,7 +19,7 @@ use Rattle.clock_engine.specs.Ticks.{HaveTicksRoom}
 use Rattle.clock_engine.specs.declared.engine.ClockEngine.{ClockEngine}
 use Rattle.clock_engine.specs.declared.fault.TickFault.TheVariants.{Write as Refused}
 use Rattle.clock_tasks.specs.Tasks.{IsSameClock, IsWhole, held_of}
-use Rattle.clock_windows.specs.Wires.{told}
+use Rattle.buffer_sides.specs.Logs.{told}
 use Rattle.clock_threads.specs.Logs.{counts_in}
 
 -- the engine of clock k, which has made no tick, with room for N

@@ -7,9 +7,10 @@ use Rattle.buffer_ends.specs.Local.{Answers}
 use Rattle.buffer_ends.specs.Sides.{Side}
 use Rattle.buffer_ends.specs.Borders.{HasEnd, WasClosed, HaveEnds}
 use Rattle.buffer_ends.specs.declared.thread_taps.ThreadTaps.{ThreadTaps}
+use Rattle.buffer_sides.specs.Logs.{told}
 use Rattle.clock_tasks.specs.declared.task.Task.{Task}
 use Rattle.clock_windows.specs.declared.wires.Wire.{Wire}
-use Rattle.clock_windows.specs.Wires.{wire_at, told}
+use Rattle.clock_windows.specs.Wires.{wire_at}
 use Rattle.clock_windows.specs.Ends.{puts_of, takes_of, SameButEnds, WasLent, WasPutBack, GiverClosed, JoinClosed, JoinRan, JoinTurned, SameTasks}
 use Rattle.clock_windows.proofs.Sets.{same_or_other, turned_here, turned_other, turned_many, turned_buffers, one_window, set_twice, swapped}
 

@@ -21,9 +21,10 @@ use Rattle.clock_tasks.proofs.Walking.{joined_alike, agree_none}
 use Rattle.clock_windows.proofs.Keeping.{takes-append}
 use Rattle.clock_tasks.proofs.Running.{same_then}
 use Rattle.clock_windows.specs.declared.wires.Wire.{Wire}
-use Rattle.clock_windows.specs.Wires.{wire_at, ended, kept, told}
+use Rattle.clock_windows.specs.Wires.{wire_at, ended, kept}
 use Rattle.clock_windows.specs.Ends.{puts_of as put_ends, takes_of as take_ends, JoinOpen, JoinRan, MayClose, AllClosed}
 use Rattle.run_records.specs.Records.{start, Window}
+use Rattle.buffer_sides.specs.Logs.{told}
 use Rattle.clock_windows.specs.Records.{window_of, windows_upto, IsWired, IsLogged, ClockGoing, JoinGoing, Going, AllEndedTasks}
 use Rattle.clock_windows.proofs.Sets.{side, one_window}
 use Rattle.clock_windows.proofs.Keeping.{puts_kept, takes_kept, on_kept, puts-append, on-append}

@@ -7,9 +7,10 @@ use Rattle.buffer_ends.specs.Sides.{Side, SameSides}
 use Rattle.buffer_ends.specs.Ends.{Has}
 use Rattle.buffer_ends.specs.declared.thread_taps.ThreadTaps.{ThreadTaps}
 use Rattle.buffer_ends.proofs.Beginnings.{answers_led}
+use Rattle.buffer_sides.specs.Logs.{told}
 use Rattle.clock_tasks.specs.declared.task.Task.{Task}
 use Rattle.clock_windows.specs.declared.wires.Wire.{Wire}
-use Rattle.clock_windows.specs.Wires.{wire_at, told}
+use Rattle.clock_windows.specs.Wires.{wire_at}
 use Rattle.clock_windows.specs.Ends.{puts_of as put_ends, takes_of as take_ends, JoinRan, AllClosed}
 use Rattle.clock_windows.specs.Records.{IsWired, SameEngines}
 use Rattle.clock_windows.proofs.Sets.{same_or_other}

@@ -8,9 +8,10 @@ use Rattle.buffer_ends.specs.Local.{Answers}
 use Rattle.buffer_ends.specs.Sides.{Side, Apart}
 use Rattle.buffer_ends.specs.Borders.{HasEnd, WasClosed}
 use Rattle.buffer_ends.specs.declared.thread_taps.ThreadTaps.{ThreadTaps}
+use Rattle.buffer_sides.specs.Logs.{told}
 use Rattle.clock_tasks.specs.declared.task.Task.{Task}
 use Rattle.clock_windows.specs.declared.wires.Wire.{Wire}
-use Rattle.clock_windows.specs.Wires.{wire_at, told}
+use Rattle.clock_windows.specs.Wires.{wire_at}
 
 abbrev pub puts_of : {S R : Type 0} → Task S (ThreadTaps R) → List Side
 puts_of task = task.taps.puts.items

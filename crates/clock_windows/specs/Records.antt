@@ -9,12 +9,13 @@ use Rattle.buffer_ends.specs.Ends.{EndsStand, ListsStand, Has}
 use Rattle.buffer_ends.specs.declared.thread_taps.ThreadTaps.{ThreadTaps}
 use Rattle.clock_engine.specs.Ticks.{HaveTicksRoom}
 use Rattle.run_records.specs.Records.{Window, start}
+use Rattle.buffer_sides.specs.Logs.{told}
 use Rattle.clock_tasks.specs.declared.task.Task.{Task}
 use Rattle.clock_tasks.specs.Histories.{History, joined_from}
 use Rattle.stream_meaning.specs.Calls.{joined_upto}
 use Rattle.clock_tasks.specs.Tasks.{EngineGone, IsWhole, IsSameClock, held_of}
 use Rattle.clock_windows.specs.declared.wires.Wire.{Wire}
-use Rattle.clock_windows.specs.Wires.{wire_at, kept, told}
+use Rattle.clock_windows.specs.Wires.{wire_at, kept}
 use Rattle.clock_windows.specs.Ends.{puts_of as put_ends, takes_of as take_ends, JoinOpen}
 
 -- the puts and the takes of a buffer in so many ticks from one on

@@ -1,9 +1,7 @@
 -- Which clocks a buffer joins.
-use Rattle.std.specs.Prelude.{ℕ, ◌==◌, Bool, false, ◌||◌, Option, List, [], ◌∷◌, map, slice_index_or, if◌then◌else◌}
-use Rattle.frame_core.specs.declared.cell.Cell.{Cell}
-use Rattle.buffer_queue.specs.Window.{is_chunk}
+use Rattle.std.specs.Prelude.{ℕ, ◌==◌, Bool, false, ◌||◌, List, [], ◌∷◌, slice_index_or, if◌then◌else◌}
 use Rattle.frame_core.specs.Calls.{Call}
-use Rattle.buffer_ends.specs.Local.{Answers, buffer_of}
+use Rattle.buffer_ends.specs.Local.{buffer_of}
 use Rattle.clock_windows.specs.declared.wires.Wire.{Wire}
 
 abbrev pub no_wire : Wire
@@ -23,7 +21,3 @@ ended wires k b = ends_at (wire_at wires b) k
 abbrev pub kept : List Wire → ℕ → List Call → List Call
 kept wires k [] = []
 kept wires k (call ∷ calls) = if ended wires k (buffer_of call) then kept wires k calls else call ∷ kept wires k calls
-
--- the answers of a window: of its puts, and of its takes
-abbrev pub told : List (Option (List Cell)) × List (Option (List Cell)) → Answers
-told window = record { puts = map is_chunk window.0; takes = map is_chunk window.1 }

@@ -5,7 +5,7 @@ use native.Mathlib.Nat.{min-eq_left, min-le_left, min-le_right}
 use Rattle.std.specs.Option.{option_map_or}
 use Rattle.std.proofs.lemmas.Bool.{le-ltb}
 use Rattle.std.proofs.lemmas.List.{length-map}
-use Rattle.std.proofs.lemmas.Option.{get_or_from_slice_get, slice_get_within}
+use Rattle.std.proofs.lemmas.Option.{get_or_from_slice_get, slice_get-get_or as read, slice_get_within}
 use Rattle.liq_base.specs.Pieces.{grown}
 use Rattle.plan_core.specs.declared.plan.Plan.{Plan}
 use Rattle.plan_core.specs.Plans.{IsWellFormed}
@@ -27,8 +27,8 @@ use Rattle.buffer_ends.specs.Same.{SameBuffers}
 use Rattle.buffer_ends.specs.declared.run_end.End.{End}
 use Rattle.buffer_ends.specs.declared.run_end.End.TheVariants.{Done, Write, Memory as NoMemory}
 use Rattle.rounds_run.specs.Rounds.{AreTurnsBegun, HasRun, HasRunPart, HaveRunPart, IsWriteEnd, RoundsMade, RoundsStopped, held_of, made_by, nothing, ticks_by, world}
-use Rattle.rounds_run.specs.Runs.{AreOver, HasRunAll, HasRunSome, HasRunTicks, counts_of_windows, log_of_window}
-use Rattle.rounds_run.proofs.Fronts.{read}
+use Rattle.buffer_sides.specs.Logs.{told}
+use Rattle.rounds_run.specs.Runs.{AreOver, HasRunAll, HasRunSome, HasRunTicks, counts_of_windows}
 use Rattle.rounds_run.proofs.Worlds.{meets, meets_is}
 use Rattle.rounds_run.proofs.Going.{none_read, run_none, run_part}
 use Rattle.rounds_run.proofs.Lawful.{counted, leads_follow, logged, window_of}
@@ -107,12 +107,12 @@ module _ (plan : Plan) (calls : List Call) (lists : List LocalBuffer) (same : Sa
   logs_of_lists [] = refl
   logs_of_lists (x ∷ xs) = ap (λ (rest : List (List Answers)). closed_windows (closed x) ∷ rest) (logs_of_lists xs)
 
-  logs_told : map closed_windows (map closed lists) ≡ map (λ (windows : List Window). map log_of_window windows) (windows_from calls 0 (length plan.buffers))
+  logs_told : map closed_windows (map closed lists) ≡ map (λ (windows : List Window). map told windows) (windows_from calls 0 (length plan.buffers))
   logs_told =
       logs_of_lists lists
-      ∙ windows_mapped (λ (list : LocalBuffer). closed_windows (closed list)) (λ (windows : List Window). map log_of_window windows) calls 0 lists
-      (λ k list at. let same_place : k ≡ 0 + k = omega arith in logged k calls list (planned_at k list at).3 (led k list at) ∙ ap (λ (b : ℕ). map log_of_window (window_of b calls ∷ [])) same_place)
-      ∙ ap (λ (n : ℕ). map (λ (windows : List Window). map log_of_window windows) (windows_from calls 0 n)) many_lists
+      ∙ windows_mapped (λ (list : LocalBuffer). closed_windows (closed list)) (λ (windows : List Window). map told windows) calls 0 lists
+      (λ k list at. let same_place : k ≡ 0 + k = omega arith in logged k calls list (planned_at k list at).3 (led k list at) ∙ ap (λ (b : ℕ). map told (window_of b calls ∷ [])) same_place)
+      ∙ ap (λ (n : ℕ). map (λ (windows : List Window). map told windows) (windows_from calls 0 n)) many_lists
 
 module _ {S : Type 0} (held name : S → Option (List ℕ)) (room : S → Option ℕ) (faults : S → ℕ) (plan : Plan) (ticks : ℕ) (setting : Setting) (first now : List (ClockEngine S)) (over : AreOver room plan ticks setting first) where
   abbrev many : ℕ
@@ -186,17 +186,17 @@ module _ {S : Type 0} (held name : S → Option (List ℕ)) (room : S → Option
       all_told =
           let well = subst (λ p. IsWellFormed p) (sym over.plan_is) over.well in
           let begun = turned_begun setting (length first) (ticks * length first) made.calls made.turned in
-          let told = made.taps [] stands in
+          let stood = made.taps [] stands in
           let buffers : length plan.buffers ≡ many = ap (λ (p : Plan). length p.buffers) (sym over.plan_is) in
           record {
             run = run_of many made.calls;
-            rounds = rounds_made setting well (length first) (ticks * length first) made.calls begun ticks refl (lists_follow plan made.calls taps_now same_here told setting over.plan_is) made.turned;
+            rounds = rounds_made setting well (length first) (ticks * length first) made.calls begun ticks refl (lists_follow plan made.calls taps_now same_here stood setting over.plan_is) made.turned;
             engines = record {
               size = made.run.size;
               each = λ k before after was at. ticks_told made.calls (setting_in setting (run_of many made.calls)) (in_is setting well (length first) (ticks * length first) made.calls begun) ticks before after (over.are.over k before was) (made.run.each k before after was at);
             };
-            counts_are = counts_told plan made.calls taps_now same_here told ∙ ap (λ (n : ℕ). map counts_of_windows (windows_from made.calls 0 n)) buffers;
-            logs_are = logs_told plan made.calls taps_now same_here told ∙ ap (λ (n : ℕ). map (λ (windows : List Window). map log_of_window windows) (windows_from made.calls 0 n)) buffers;
+            counts_are = counts_told plan made.calls taps_now same_here stood ∙ ap (λ (n : ℕ). map counts_of_windows (windows_from made.calls 0 n)) buffers;
+            logs_are = logs_told plan made.calls taps_now same_here stood ∙ ap (λ (n : ℕ). map (λ (windows : List Window). map told windows) (windows_from made.calls 0 n)) buffers;
           }
 
 -- no tick

@@ -1,7 +1,7 @@
 -- Fronts of bytes, and counts that do not fall.
-use Rattle.std.proofs.Common.{◌≡◌, ◌<◌, ◌≤◌, ◌∙◌, ◌++◌, ℕ, zero, suc, Some, None, Option, List, [], ◌∷◌, length, get_or, map, slice_get, append_assoc, arith, refl, ap, sym, subst, inl, inr}
+use Rattle.std.proofs.Common.{◌≡◌, ◌<◌, ◌≤◌, ◌∙◌, ◌++◌, ℕ, zero, suc, Some, None, Option, List, [], length, get_or, append_assoc, arith, refl, ap, sym, subst, inl, inr}
 use Rattle.std.proofs.lemmas.List.{append-nil}
-use Rattle.std.proofs.lemmas.Option.{get_or_from_slice_get, slice_get_within}
+use Rattle.std.proofs.lemmas.Option.{get_or_from_slice_get, slice_get-get_or as read, slice_get_within}
 use Rattle.liq_base.specs.Counts.{Rose}
 use Rattle.liq_base.specs.Pieces.{IsPrefix, grown}
 use Rattle.stream_meaning.specs.Instants.{Setting}
@@ -59,11 +59,6 @@ fell_then faults a b c first next = record {
 risen : (a b c : ℕ) → a ≤ b → Rose b c → Rose a c
 risen a b c low rose = omega (arith, low, rose)
 
-pub read : {S : Type 0} (xs : List S) (k : ℕ) (d : S) → k < length xs → slice_get xs k ≡ Some (get_or xs k d)
-read [] k d h = absurd (omega (arith, h))
-read (x ∷ xs) zero d h = refl
-read (x ∷ xs) (suc k) d h = read xs k d (omega (arith, h))
-
 -- sinks that stay keep their names
 pub kept_not : {S : Type 0} (name : S → Option (List ℕ)) (faults : S → ℕ) (outs : List S) → AreKept name faults outs outs
 kept_not name faults outs = record {
@@ -99,8 +94,3 @@ rose_since faults place a b c sizes none rose =
       is = rose.is;
       rose = risen (faults first) (faults rose.before) (faults rose.after) (subst (λ x. faults first ≤ faults x) is low) rose.rose;
     }
-
-pub at_mapped : {A B : Type 0} (f : A → B) (xs : List A) (k : ℕ) (x : A) → slice_get xs k ≡ Some x → slice_get (map f xs) k ≡ Some (f x)
-at_mapped f [] k x e = (let within = slice_get_within [] k x e in absurd (omega (arith, within)))
-at_mapped f (y ∷ xs) zero x e = (let same : y ≡ x = cc in ap (λ z. Some (f z)) same)
-at_mapped f (y ∷ xs) (suc k) x e = at_mapped f xs k x e

@@ -1,8 +1,9 @@
 -- A run between two ticks.
 use Rattle.std.proofs.Common.{◌≡◌, ◌<◌, ◌≤◌, ◌+◌, ◌-◌, ◌*◌, ◌/◌, ◌%◌, ◌∙◌, ◌++◌, ℕ, suc, true, false, Some, Option, List, [], length, get_or, map, nat_lt, set, slice_get, add-one, arith, refl, ap, sym, subst, ◌⊎◌, inl, inr}
+use Rattle.std.specs.Option.{option_map}
 use Rattle.std.proofs.lemmas.List.{length-map}
 use Rattle.std.proofs.lemmas.Bool.{le-ltb, lt-ltb}
-use Rattle.std.proofs.lemmas.Option.{slice_get_within}
+use Rattle.std.proofs.lemmas.Option.{slice_get-get_or as read, slice_get-map, slice_get_within}
 use native.Mathlib.Nat.{min-eq_right, min-le_right}
 use Rattle.std.proofs.Math.ListN.{length-set}
 use Rattle.std.proofs.Math.Nat.{suc-mul}
@@ -30,7 +31,7 @@ use Rattle.buffer_ends.specs.declared.run_end.End.TheVariants.{Write, Memory as 
 use Rattle.rounds_run.specs.Rounds.{AreEngines, AreGoing, HasRun, HasRunPart, IsWriteEnd, MayRun, RoundsMade, RoundsStopped, held_of, made_by, nothing, ticks_by, world}
 use Rattle.rounds_run.proofs.Worlds.{meets, meets_is, none_begun, own_other, own_this, turned_more, turned_part}
 use Rattle.rounds_run.proofs.Apart.{unread_or}
-use Rattle.rounds_run.proofs.Fronts.{at_mapped, fell_not, fell_then, front_of, grown_nothing, grown_twice, kept_not, kept_then, next_front, read, rose_since, ticks_front}
+use Rattle.rounds_run.proofs.Fronts.{fell_not, fell_then, front_of, grown_nothing, grown_twice, kept_not, kept_then, next_front, rose_since, ticks_front}
 
 -- a fault is an output's or memory's
 pub fault_is : (fault : TickFault) → ((sink : ℕ) × (fault ≡ TickWrite sink)) ⊎ (fault ≡ OutOfMemory)
@@ -426,7 +427,7 @@ module _ {S : Type 0} (held name : S → Option (List ℕ)) (room : S → Option
               place = cause.place;
               sink = cause.port.sink;
               node = cause.port.node;
-              there = ap (λ xs. slice_get xs cause.place) (sym outputs) ∙ at_mapped output_of old.works.ports.items cause.place cause.port cause.there;
+              there = ap (λ xs. slice_get xs cause.place) (sym outputs) ∙ slice_get-map output_of old.works.ports.items cause.place ∙ ap (option_map output_of) cause.there;
               end_is = tells cause.port.sink cause.fault_is ∙ ap (λ c. Write c cause.port.sink) (clock ∙ run.clock ∙ order);
               rose = rose_since faults cause.place before.outs.items old.outs.items new.outs.items
                   (outs_many before ready.works ready.sinks

@@ -9,7 +9,8 @@ use Rattle.frame_core.specs.Calls.{Call, Took, Given, put_of, puts_to, takes_of}
 use Rattle.buffer_queue.specs.Window.{is_chunk}
 use Rattle.run_records.specs.Records.{Follows, Window, on as calls_on}
 use Rattle.buffer_ends.specs.Local.{Answers, Held, Leads, LocalBuffer, Step, all_answers, closed, closed_windows, counts_of, empty_list, held, on, yes}
-use Rattle.rounds_run.specs.Runs.{counts_of_windows, log_of_window}
+use Rattle.buffer_sides.specs.Logs.{told}
+use Rattle.rounds_run.specs.Runs.{counts_of_windows}
 
 -- the answers of a list, before and after calls
 pub record Told (puts takes : List (Option (List Cell))) (before after : Held) : Type 0 where
@@ -115,11 +116,6 @@ none_from n (Some chunk ∷ xs) = none_from (n + 0) xs
 pub none_counted : (xs : List (Option (List Cell))) → count_by not (map is_chunk xs) ≡ count_by is_none xs
 none_counted xs = none_from 0 xs
 
-some_mapped : (xs : List (Option (List Cell))) → map is_chunk xs ≡ map is_some xs
-some_mapped [] = refl
-some_mapped (None ∷ xs) = ap (λ (bs : List Bool). false ∷ bs) (some_mapped xs)
-some_mapped (Some chunk ∷ xs) = ap (λ (bs : List Bool). true ∷ bs) (some_mapped xs)
-
 -- the window of a buffer in a run of one window
 abbrev pub window_of : (b : ℕ) → List Call → Window
 window_of b calls = (puts_to b calls, takes_of b calls)
@@ -128,11 +124,11 @@ window_of b calls = (puts_to b calls, takes_of b calls)
 pub counted : (b : ℕ) (calls : List Call) (list : LocalBuffer) → Leads (empty_list list.capacity) (on b calls) (held list)
     → counts_of (all_answers list) ≡ counts_of_windows (window_of b calls ∷ [])
 counted b calls list leads =
-    let told = leads_told b calls (empty_list list.capacity) (held list) leads in
+    let led = leads_told b calls (empty_list list.capacity) (held list) leads in
     let puts = puts_to b calls in
     let takes = takes_of b calls in
     let all : all_answers list ≡ (record { puts = map is_chunk puts; takes = map is_chunk takes }) =
-    ap (λ (p : List Bool). record { puts = p; takes = (all_answers list).takes }) told.puts_told ∙ ap (λ (t : List Bool). record { puts = map is_chunk puts; takes = t }) told.takes_told in
+    ap (λ (p : List Bool). record { puts = p; takes = (all_answers list).takes }) led.puts_told ∙ ap (λ (t : List Bool). record { puts = map is_chunk puts; takes = t }) led.takes_told in
     let accepted : count_by yes (map is_chunk puts) ≡ count_by is_some (puts ++ []) = some_counted puts ∙ ap (count_by is_some) (sym (append-nil puts)) in
     let full : count_by not (map is_chunk puts) ≡ count_by is_none (puts ++ []) = none_counted puts ∙ ap (count_by is_none) (sym (append-nil puts)) in
     let got : count_by yes (map is_chunk takes) ≡ count_by is_some (takes ++ []) = some_counted takes ∙ ap (count_by is_some) (sym (append-nil takes)) in
@@ -140,15 +136,14 @@ counted b calls list leads =
     ap counts_of all ∙ (λ i. record { accepted = accepted i; full = full i; got = got i; empty = empty i })
 
 pub logged : (b : ℕ) (calls : List Call) (list : LocalBuffer) → list.closed ≡ [] → Leads (empty_list list.capacity) (on b calls) (held list)
-    → closed_windows (closed list) ≡ map log_of_window (window_of b calls ∷ [])
+    → closed_windows (closed list) ≡ map told (window_of b calls ∷ [])
 logged b calls list none leads =
-    let told = leads_told b calls (empty_list list.capacity) (held list) leads in
+    let led = leads_told b calls (empty_list list.capacity) (held list) leads in
     let puts = puts_to b calls in
-    let takes = takes_of b calls in
     let now : all_answers list ≡ list.current = ap (λ (ws : List Answers). all_answers (record { capacity = list.capacity; chunks = list.chunks; closed = ws; current = list.current })) none in
-    let all : all_answers list ≡ log_of_window (puts, takes) =
-    ap (λ (p : List Bool). record { puts = p; takes = (all_answers list).takes }) (told.puts_told ∙ some_mapped puts)
-    ∙ ap (λ (t : List Bool). record { puts = map is_some puts; takes = t }) (told.takes_told ∙ some_mapped takes) in
+    let all : all_answers list ≡ told (window_of b calls) =
+    ap (λ (p : List Bool). record { puts = p; takes = (all_answers list).takes }) led.puts_told
+    ∙ ap (λ (t : List Bool). record { puts = map is_chunk puts; takes = t }) led.takes_told in
     ap (λ (ws : List Answers). ws ++ list.current ∷ []) none ∙ ap (λ (w : Answers). w ∷ []) (sym now ∙ all)
 
 -- one more of a mapped list

@@ -16,6 +16,7 @@ use Rattle.buffer_ends.specs.Local.{Answers}
 use Rattle.buffer_ends.specs.declared.counts.Counts.{Counts}
 use Rattle.buffer_ends.specs.declared.run_end.End.{End}
 use Rattle.buffer_ends.specs.declared.run_end.End.TheVariants.{Write}
+use Rattle.buffer_sides.specs.Logs.{told}
 use Rattle.rounds_run.specs.Rounds.{AreEngines, HaveRunPart, IsWriteEnd, held_of, ticks_by}
 
 -- the engines of a run, one per clock, in clock order, over this plan with its files, clocks and start
@@ -56,16 +57,12 @@ counts_of_windows windows = record {
   empty = count_by is_none (flat_map (λ (window : Window). window.1) windows);
 }
 
--- the log of a window: of its puts, true for an accepted chunk, and of its takes, true for a chunk that was got
-abbrev pub log_of_window : Window → Answers
-log_of_window window = record { puts = map is_some window.0; takes = map is_some window.1 }
-
 -- the counts of each buffer in a run, and its logs
 abbrev pub counts_of_run : Run → List Counts
 counts_of_run run = map counts_of_windows run.buffers
 
 abbrev pub logs_of_run : Run → List (List Answers)
-logs_of_run run = map (λ windows. map log_of_window windows) run.buffers
+logs_of_run run = map (λ windows. map told windows) run.buffers
 
 -- All rounds were made, and this is their record: each engine has run all its ticks, given what the record's takes got, and the counts
 -- and logs are the record's.

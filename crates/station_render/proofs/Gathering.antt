@@ -24,11 +24,10 @@ use Rattle.rounds_run.specs.Runs as rounds
 use Rattle.rounds_run.proofs.Fronts.{front_of, ticks_front}
 use Rattle.rounds_run.proofs.Lawful.{none_counted, some_counted}
 use Rattle.rounds_run.proofs.Records.{run_of, window_at, windows_many}
-use Rattle.clock_windows.specs.Wires.{told}
+use Rattle.buffer_sides.specs.Logs.{told}
 use Rattle.clock_threads.specs.Logs.{counts_in}
 use Rattle.clock_threads.specs.Runs as threads
 use Rattle.stations.specs.Stations.{IsBegunIn, IsLawfulIn}
-use Rattle.stations.specs.Traces.{told as told_of}
 use Rattle.station_render.specs.Sinks.{HasFailed}
 use Rattle.station_render.specs.Engines.{AreAt, IsAt, outs_of}
 use Rattle.station_render.specs.Runs.{RanAll, RanSome}
@@ -95,20 +94,6 @@ count_told windows =
 counts_told : (buffers : List (List Window)) → map counts_in (map (map told) buffers) ≡ map counts_of_windows buffers
 counts_told [] = refl
 counts_told (windows ∷ buffers) = λ i. count_told windows i ∷ counts_told buffers i
-
--- so are the logs
-chunks_are : (xs : List (Option (List Cell))) → map is_chunk xs ≡ map is_some xs
-chunks_are [] = refl
-chunks_are (None ∷ xs) = ap (λ (bs : List Bool). false ∷ bs) (chunks_are xs)
-chunks_are (Some chunk ∷ xs) = ap (λ (bs : List Bool). true ∷ bs) (chunks_are xs)
-
-windows_told : (windows : List Window) → map told windows ≡ map told_of windows
-windows_told [] = refl
-windows_told (window ∷ windows) = λ i. (record { puts = chunks_are window.0 i; takes = chunks_are window.1 i }) ∷ windows_told windows i
-
-logs_told : (buffers : List (List Window)) → map (map told) buffers ≡ map (map told_of) buffers
-logs_told [] = refl
-logs_told (windows ∷ buffers) = λ i. windows_told windows i ∷ logs_told buffers i
 
 -- the records of rounds
 module _ {S : Type 0} {held name : S → Option (List ℕ)} {faults : S → ℕ} {setting : Setting} {clocks ticks : ℕ} {old new : List (ClockEngine S)} (all : length old ≡ clocks) where
@@ -185,7 +170,7 @@ module _ {S : Type 0} {held name : S → Option (List ℕ)} {faults : S → ℕ}
           };
     };
     counts_are = ran.tells.counts_are ∙ ap (map counts_in) ran.tells.logs_are ∙ counts_told ran.run.buffers;
-    logs_are = ran.tells.logs_are ∙ logs_told ran.run.buffers;
+    logs_are = ran.tells.logs_are;
   }
 
   pub threads_some : {end : End} → threads.HasRunSome held name faults setting clocks window ticks old new end → RanSome held name faults setting clocks.running ticks (Some window) old new end

@@ -17,6 +17,7 @@ use Rattle.plan_core.specs.declared.plan.Plan.{Plan}
 use Rattle.stream_meaning.specs.Instants.{Setting}
 use Rattle.run_records.specs.Records.{IsLawful as AreWindows, Run, Window, setting_in, start, windows_in}
 use Rattle.buffer_ends.specs.Local.{Answers}
+use Rattle.buffer_sides.specs.Logs.{told}
 use Rattle.clock_windows.proofs.Meeting.{low_or_high}
 use Rattle.clock_windows.proofs.Starts.{start_zero}
 use Rattle.trace_log.specs.Texts.{IsTrace, trace_text, windows_of}
@@ -25,7 +26,7 @@ use Rattle.stations.specs.Outputs.{HoldsSome, OutputFile, with_outputs}
 use Rattle.stations.specs.Renderings.{WroteOutputsPart, WrotePart}
 use Rattle.stations.specs.Stations.{Station, most_of}
 use Rattle.stations.specs.Streams.{fronts_with, outputs_of}
-use Rattle.stations.specs.Traces.{told, traced, traces_in, traces_of}
+use Rattle.stations.specs.Traces.{traced, traces_in, traces_of}
 use Rattle.station_render.specs.Runs.{IsRendered, LeftPart, WroteOutputs}
 use Rattle.station_render.specs.declared.rendered.Rendered.{Rendered}
 use Rattle.station_render.proofs.Closing.{parts_later}

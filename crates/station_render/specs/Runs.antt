@@ -14,13 +14,14 @@ use Rattle.stations.specs.Outputs.{OutputFile, with_outputs}
 use Rattle.stations.specs.Reports.{answers_line}
 use Rattle.stations.specs.Stations.{IsBegun, IsBegunIn, IsLawful, IsLawfulIn, Station, bare, most_in, most_of, setting_of, station_of}
 use Rattle.stations.specs.Streams.{gaps_in_order, outputs_of}
-use Rattle.stations.specs.Traces.{files_of, told, traced}
+use Rattle.stations.specs.Traces.{files_of, traced}
 use Rattle.stations.specs.declared.ready.Ready.{Ready}
 use Rattle.buffer_ends.specs.Local.{Answers}
 use Rattle.buffer_ends.specs.declared.counts.Counts.{Counts}
 use Rattle.buffer_ends.specs.declared.run_end.End.{End}
 use Rattle.buffer_ends.specs.declared.run_end.End.TheVariants.{Write}
 use Rattle.clock_engine.specs.declared.engine.ClockEngine.{ClockEngine}
+use Rattle.buffer_sides.specs.Logs.{told}
 use Rattle.rounds_run.specs.Rounds.{HaveRunPart}
 use Rattle.rounds_run.specs.Runs.{HaveRunTicks, counts_of_run, counts_of_windows}
 use Rattle.station_render.specs.Engines.{AreAt, AreEmptyBelow, outs_of}

@@ -1,16 +1,12 @@
 -- What a run leaves as a trace.
-use Rattle.std.specs.Prelude.{ℕ, List, [], ◌∷◌, ◌++◌, Option, Some, None, is_some, map}
-use Rattle.buffer_ends.specs.Local.{Answers}
-use Rattle.run_records.specs.Records.{Run, Window}
+use Rattle.std.specs.Prelude.{ℕ, List, [], ◌∷◌, ◌++◌, Option, Some, None, map}
+use Rattle.run_records.specs.Records.{Run}
+use Rattle.buffer_sides.specs.Logs.{told}
 use Rattle.trace_log.specs.Texts.{trace_text}
 use Rattle.trace_log.specs.Values.{TraceValue}
 use Rattle.stations.specs.Outputs.{OutputFile}
 use Rattle.stations.specs.Stations.{Station}
 use Rattle.stations.specs.Streams.{outputs_of}
-
--- the answers of a window: of its puts, true for a chunk that was accepted, and of its takes, true for a chunk that was got
-abbrev pub told : Window → Answers
-told window = record { puts = map is_some window.0; takes = map is_some window.1 }
 
 -- the trace of a run, in windows of so many ticks: for each buffer and window, which puts were accepted and which takes got a chunk
 abbrev pub trace_of : Station → (window : ℕ) → Run → TraceValue
