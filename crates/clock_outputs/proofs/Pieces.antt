@@ -1,17 +1,18 @@
 -- The bytes of a tick, and the slots that they are the blocks of.
-use Rattle.std.proofs.Common.{◌≡◌, ◌<◌, ◌≤◌, ◌+◌, ◌*◌, ◌^◌, ◌-◌, ◌∙◌, ◌++◌, min, ℕ, zero, suc, ℤ, false, Some, None, List, [], ◌∷◌, length, get_or, map, take, drop, pos, replicate, set, arith, refl, ap, sym, append_assoc, append-nil, length-append}
+use Rattle.std.proofs.Common.{◌≡◌, ◌<◌, ◌≤◌, ◌+◌, ◌*◌, ◌^◌, ◌-◌, ◌∙◌, ◌++◌, min, ℕ, zero, suc, ℤ, false, Some, None, List, [], ◌∷◌, length, map, take, drop, replicate, set, arith, refl, ap, sym, append_assoc, append-nil, length-append}
 use Rattle.std.specs.List.{flat_map}
 use Rattle.std.specs.Simd.Lanes.{put_chunk}
-use Rattle.std.proofs.lemmas.List.{length-map, length-take, map_push}
+use Rattle.std.proofs.lemmas.List.{length-map}
 use Rattle.std.proofs.lemmas.Simd.{length-put_chunk, put_chunk_is, take_more_put_chunk}
 use Rattle.std.proofs.Math.Nat.{suc-mul}
 use Rattle.liq_base.specs.Kinds.{channels_of}
 use Rattle.liq_base.specs.declared.memory.Kind.{Kind}
 use Rattle.liq_base.specs.declared.memory.Kind.TheVariants.{Mono, Stereo}
 use Rattle.cell_ring.specs.Rings.{inner_cell, inner_cells}
-use Rattle.cell_ring.proofs.Runs.{long_run, one_more}
+use Rattle.cell_ring.proofs.Runs.{long_run}
 use borrow.Rule.Slice.PartMut.{put_mid}
 use Rattle.sample_kernels.specs.Encoded.{block_of, encoded}
+use Rattle.frame_core.specs.Frames.{laid_slots}
 use Rattle.stream_meaning.specs.Sinks.{slot_block}
 use Rattle.clock_outputs.specs.Filled.{Filled}
 use Rattle.clock_outputs.specs.declared.port.Port.{Port}
@@ -104,33 +105,12 @@ set_then_put xs more at x fits =
     let next : at + 1 ≡ suc at = omega arith in
     ap (λ n. put_chunk n (set xs at x) more) next ∙ put_behind xs more at x (omega (arith, fits))
 
-pub put_nothing : {X : Type 0} (at : ℕ) (xs : List X) → put_chunk at xs [] ≡ xs
-put_nothing at [] = refl
-put_nothing zero (x ∷ xs) = refl
-put_nothing (suc at) (x ∷ xs) = ap (λ zs. x ∷ zs) (put_nothing at xs)
-
--- one slot more is laid behind those that were
-pub put_more : {X : Type 0} (xs ys : List X) (at place : ℕ) (y : X) → place ≡ at + length ys → place < length xs → set (put_chunk at xs ys) place y ≡ put_chunk at xs (ys ++ y ∷ [])
-put_more [] ys at place y is fits = absurd (omega (arith, fits))
-put_more (x ∷ xs) [] zero zero y is fits = ap (λ zs. y ∷ zs) (sym (put_nothing 0 xs))
-put_more (x ∷ xs) [] zero (suc place) y is fits = absurd (omega (arith, is))
-put_more (x ∷ xs) (z ∷ ys) zero zero y is fits = absurd (omega (arith, is))
-put_more (x ∷ xs) (z ∷ ys) zero (suc place) y is fits = ap (λ zs. z ∷ zs) (put_more xs ys zero place y (omega (arith, is)) (omega (arith, fits)))
-put_more (x ∷ xs) ys (suc at) zero y is fits = absurd (omega (arith, is))
-put_more (x ∷ xs) ys (suc at) (suc place) y is fits = ap (λ zs. x ∷ zs) (put_more xs ys at place y (omega (arith, is)) (omega (arith, fits)))
-
--- the slots of one sample more
-pub cells_more : (left right : List ℤ) (j : ℕ) → j < length left → length right ≡ length left
-    → map Some (inner_cells (take j left) (take j right)) ++ Some (inner_cell (get_or left j (pos 0)) (get_or right j (pos 0))) ∷ [] ≡ map Some (inner_cells (take (j + 1) left) (take (j + 1) right))
-cells_more left right j within same =
-    sym (map_push Some (inner_cells (take j left) (take j right)) (inner_cell (get_or left j (pos 0)) (get_or right j (pos 0))))
-    ∙ ap (map Some) (one_more [] left right j within same)
-
-pub cells_count : (left right : List ℤ) (j : ℕ) → j ≤ length left → length right ≡ length left → length (map Some (inner_cells (take j left) (take j right))) ≡ j
-cells_count left right j within same =
-    let lefts = length-take j left in
-    let rights = length-take j right in
-    cells_long (take j left) (take j right) (omega (arith, lefts, rights, same)) ∙ omega (arith, lefts, within)
+-- cells of which none begins a track
+pub laid_inner : (lefts rights : List ℤ) → laid_slots false lefts rights ≡ map Some (inner_cells lefts rights)
+laid_inner [] [] = refl
+laid_inner [] (right ∷ rights) = refl
+laid_inner (left ∷ lefts) [] = refl
+laid_inner (left ∷ lefts) (right ∷ rights) = ap (λ slots. Some (inner_cell left right) ∷ slots) (laid_inner lefts rights)
 
 -- a write to a part of a list
 pub part_put : {X : Type 0} (at k n : ℕ) (xs whole ys zs : List X) → k ≡ n → whole ≡ xs → ys ≡ zs → length zs ≡ n → at + n ≤ length xs → put_mid at k whole ys ≡ put_chunk at xs zs

@@ -37,28 +37,17 @@ impl FeedPort {
     fn hear_cells(&mut self, at: u32, left: &[i16], right: &[i16])
         requires same { length right.now ≡ length left.now }
         requires there { at + length left.now ≤ length self.old.frame }
-        requires fits { at + length left.now < 2 ^ 32 }
         ensures { self.new ≡ with_slots_from at (map Some (inner_cells left.now right.now)) self.old }
     {
-        for j in 0..left.len() {
-            let cell = Cell {
-                left: left[j],
-                right: right[j],
-                first: false,
-            };
-            self.frame.set(at + j as u32, Some(cell));
-        }
+        self.frame.lay(at, left, right, false);
     }
 
     // Takes so many slots without a cell, from a place of the tick on.
     fn hear_gaps(&mut self, at: u32, count: u32)
-        requires there { at + count ≤ length self.old.frame }
-        requires fits { at + count < 2 ^ 32 }
+        requires { at + count ≤ length self.old.frame }
         ensures { self.new ≡ with_slots_from at (replicate count None) self.old }
     {
-        for j in 0..count {
-            self.frame.set(at + j, None);
-        }
+        self.frame.clear(at, count);
     }
 }
 

@@ -1,9 +1,8 @@
-use Rattle.std.proofs.Common.{◌≡◌, ◌≤◌, ◌<◌, ◌+◌, ◌^◌, ◌∙◌, ◌∷◌, suc, Some, None, List, length, map, replicate, set, ap, arith, sym, subst}
+use Rattle.std.proofs.Common.{◌≤◌, ◌+◌, ◌∙◌, ◌∷◌, suc, Some, None, List, length, map, replicate, set, ap, arith, sym}
 use Rattle.std.specs.Simd.Lanes.{put_chunk}
 use Rattle.std.proofs.lemmas.List.{length-replicate, length-set}
 use Rattle.cell_ring.specs.Rings.{inner_cells}
 use Rattle.frame_core.specs.Slots.{Slot}
-use Rattle.clock_outputs.specs.Feeds.{with_slots_from}
 use Rattle.clock_outputs.specs.Segments.{segment_slots}
 use Rattle.clock_outputs.proofs.Pieces.{cells_long, set_then_put}
 use Rattle.clock_outputs.proofs.feed.FeedPort.hear.Goals as goal
@@ -13,8 +12,8 @@ hear_cells-requires-clause-there c =
     let long = ap length c.set.ensures ∙ length-set c.args.self.now.frame c.args.at c.args.slot in
     omega (arith, long, c.requires.there)
 
-pub hear_gaps-requires-clause-there : goal.hear_gaps-requires-clause-there
-hear_gaps-requires-clause-there c =
+pub hear_gaps-requires : goal.hear_gaps-requires
+hear_gaps-requires c =
     let long = ap length c.set.ensures ∙ length-set c.args.self.now.frame c.args.at c.args.slot in
     omega (arith, long, c.requires.there)
 
