@@ -4,7 +4,7 @@ use Rattle.std.proofs.lemmas.Bool.{eqb-true, eq-eqb, false≢true, true≢false}
 use Rattle.clock_infer.specs.declared.clock_map.NodeClock.{NodeClock}
 use Rattle.clock_infer.specs.declared.clock_map.NodeClock.TheVariants.{Main, Sub}
 use Rattle.engine_instants.specs.Takes.{IsUnder}
-use Rattle.engine_clocks.specs.Clocks.{HasRanks, clock_at}
+use Rattle.sub_clocks.specs.Clocks.{HasRanks, clock_at}
 
 -- a node of another main clock is not below this one
 pub other_main : (clocks : List NodeClock) (m n i : ℕ) → clock_at clocks i ≡ Main n → nat_eq n m ≡ false → (rank : ℕ) → IsUnder clocks (Main m) rank i → ⊥

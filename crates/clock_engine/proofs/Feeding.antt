@@ -2,7 +2,7 @@
 use Rattle.std.proofs.Common.{◌≡◌, ◌<◌, ◌∙◌, ℕ, zero, suc, Bool, true, false, Some, List, [], ◌∷◌, All, length, get_or, map, slice_get, cond, arith, refl, ap, sym, subst, inr}
 use Rattle.std.specs.Prelude.{IfErr, Result, Ok, Err}
 use Rattle.std.proofs.lemmas.List.{length-map}
-use Rattle.clock_engine.specs.declared.engine.Works.{Works}
+use Rattle.clock_engine.specs.declared.engine.EngineParts.{EngineParts}
 use Rattle.clock_engine.specs.Ticks.{HasEnds}
 use Rattle.std.proofs.lemmas.Option.{slice_get-get_or}
 use Rattle.plan_core.specs.declared.sink.SinkPlan.{SinkPlan}
@@ -112,8 +112,8 @@ if_fault P (Ok x) all = tt
 if_fault P (Err e) all = all e
 
 -- an engine that has feed ports has feeds
-pub feeds_some : (works other : Works) → map feed_of other.feeds.items ≡ feeds_of (setting_of works) works.clock → 0 < length other.feeds.items → HasEnds works
-feeds_some works other feeds some =
+pub feeds_some : (parts other : EngineParts) → map feed_of other.feeds.items ≡ feeds_of (setting_of parts) parts.clock → 0 < length other.feeds.items → HasEnds parts
+feeds_some parts other feeds some =
     let long = length-map other.feeds.items feed_of in
     let same = ap length feeds in
     inr (omega (arith, long, same, some))

@@ -9,7 +9,7 @@ use Rattle.frame_core.specs.Slots.{Slot}
 use Rattle.stream_meaning.specs.Sinks.{missing, slot_block}
 use Rattle.clock_outputs.specs.declared.port.Port.{Port}
 use Rattle.clock_outputs.specs.Ports.{after_slot, after_slots}
-use Rattle.engine_ticks.proofs.Hearing.{block_long}
+use Rattle.clock_engine.proofs.Hearing.{block_long}
 
 pub filled_bytes : (port : Port) (slots : List Slot) → (after_slots port slots).piece.bytes ≡ port.piece.bytes ++ flat_map (slot_block port.kind) slots
 filled_bytes port [] = sym (append-nil port.piece.bytes)

@@ -12,3 +12,5 @@ pub mod Sinks
 pub mod FedSinks
 pub mod Starting
 pub mod Mapped
+pub mod Hearing
+pub mod Segments

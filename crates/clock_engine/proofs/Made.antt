@@ -22,11 +22,11 @@ use Rattle.clock_outputs.specs.declared.feed.FeedPort.{FeedPort}
 use Rattle.clock_outputs.specs.Feeds.{HaveGiven, HaveGivenSome, HaveOwnBuffers, given_by}
 use Rattle.clock_outputs.specs.Ports.{after_slots, emptied}
 use Rattle.clock_outputs.specs.Appends.{HaveRoom, TookAll, TookParts}
-use Rattle.engine_ticks.specs.Lanes.{AreLanes, LanesStand}
-use Rattle.engine_ticks.specs.Runs.{HasRun, Heard, HeardSome, IsMeant, with_slots}
-use Rattle.clock_engine.specs.declared.engine.Works.{Works}
+use Rattle.clock_engine.specs.ClockStates.{IsClockState, ClockStateStands}
+use Rattle.clock_engine.specs.Runs.{HasRunInstants, Heard, HeardSome, IsMeant, with_slots}
+use Rattle.clock_engine.specs.declared.engine.EngineParts.{EngineParts}
 use Rattle.clock_engine.specs.declared.fault.TickFault.{TickFault}
-use Rattle.clock_engine.specs.Engines.{AreWorks, EngineStands, EngineStopped, after_tick, feed_of, feeds_of, held_in, output_of, scene_of, setting_of}
+use Rattle.clock_engine.specs.Engines.{AreParts, EngineStands, EngineStopped, after_tick, feed_of, feeds_of, held_in, output_of, scene_of, setting_of}
 use Rattle.clock_engine.specs.Ticks.{HaveTickRoom, RoomsFell, HaveTicksRoom}
 use Rattle.clock_engine.proofs.Giving.{gives_are, gives_flat}
 use Rattle.clock_engine.proofs.Filling.{filled_before, filled_kind, filled_long, filled_room, filled_sink}
@@ -36,7 +36,7 @@ use Rattle.clock_engine.proofs.Mapped.{goes_down, meaning_of}
 use Rattle.clock_engine.proofs.Feeding.{feed_inside, own_buffers, own_readers}
 use Rattle.clock_engine.proofs.Rooted.{feed_root, port_root}
 use Rattle.clock_engine.proofs.Ticking.{bytes_are, gaps_more, tick_heard}
-use Rattle.engine_ticks.proofs.Hearing.{after_slots-node}
+use Rattle.clock_engine.proofs.Hearing.{after_slots-node}
 
 -- the room for one piece fewer, after one was taken
 room_less : (room : Option ℕ) (ticks size : ℕ) → HasRoom room ((ticks + 1) * size) → HasRoom (narrowed size room) (ticks * size)
@@ -48,9 +48,9 @@ room_less (Some left) ticks size has = λ x e.
     omega (arith, enough, more, same)
 
 -- an engine whose outputs heard some slots of their nodes
-module _ (works other : Works) (parts : AreWorks works)
-    (are_lanes : AreLanes works.shape.plan.now works.shape.library.now works.shape.clocks.now other.lanes)
-    (slots : ℕ → List Slot) (ports_are : other.ports.items ≡ map (λ port. after_slots (emptied port) (slots port.node)) works.ports.items) where
+module _ (parts other : EngineParts) (fit : AreParts parts)
+    (are_lanes : IsClockState parts.shape.plan.now parts.shape.library.now parts.shape.clocks.now other.lanes)
+    (slots : ℕ → List Slot) (ports_are : other.ports.items ≡ map (λ port. after_slots (emptied port) (slots port.node)) parts.ports.items) where
   -- an output that has heard its node in the tick
   abbrev hear : Port → Port
   hear port = after_slots (emptied port) (slots port.node)
@@ -65,48 +65,48 @@ module _ (works other : Works) (parts : AreWorks works)
   same_outputs (port ∷ old) = ap (λ o. o ∷ map output_of (map hear old)) (hear_output port) ∙ ap (λ os. output_of port ∷ os) (same_outputs old)
 
   -- a fact of each output that hearing keeps
-  kept : (P : Port → Type 0) → ((port : Port) → P port → P (hear port)) → All P works.ports.items → All P other.ports.items
+  kept : (P : Port → Type 0) → ((port : Port) → P port → P (hear port)) → All P parts.ports.items → All P other.ports.items
   kept P keeps all k d h =
-      subst P (sym (ap (λ xs. get_or xs k d) ports_are ∙ get_or-map hear works.ports.items k d d (within k h)))
-      (keeps (get_or works.ports.items k d) (all k d (within k h)))
+      subst P (sym (ap (λ xs. get_or xs k d) ports_are ∙ get_or-map hear parts.ports.items k d d (within k h)))
+      (keeps (get_or parts.ports.items k d) (all k d (within k h)))
     where
-      within : (k : ℕ) → k < length other.ports.items → k < length works.ports.items
-      within k h = let same = ap length ports_are ∙ length-map works.ports.items hear in omega (arith, same, h)
+      within : (k : ℕ) → k < length other.ports.items → k < length parts.ports.items
+      within k h = let same = ap length ports_are ∙ length-map parts.ports.items hear in omega (arith, same, h)
 
-  pub parts_after : (ticks : ℕ) (stopped : Option TickFault) → map feed_of other.feeds.items ≡ map feed_of works.feeds.items
-      → All (λ feed. length feed.frame ≡ works.shape.plan.now.frame) other.feeds.items → AreWorks (after_tick works other ticks stopped)
+  pub parts_after : (ticks : ℕ) (stopped : Option TickFault) → map feed_of other.feeds.items ≡ map feed_of parts.feeds.items
+      → All (λ feed. length feed.frame ≡ parts.shape.plan.now.frame) other.feeds.items → AreParts (after_tick parts other ticks stopped)
   parts_after ticks stopped same_feeds frames = record {
-    plan = parts.plan;
-    nodes = parts.nodes;
-    frame = parts.frame;
-    few = parts.few;
-    in_clocks = parts.in_clocks;
-    clocks = parts.clocks;
+    plan = fit.plan;
+    nodes = fit.nodes;
+    frame = fit.frame;
+    few = fit.few;
+    in_clocks = fit.in_clocks;
+    clocks = fit.clocks;
     lanes = are_lanes;
-    in_own = parts.in_own;
-    own = record { each = parts.own.each };
-    outputs = ap (map output_of) ports_are ∙ same_outputs works.ports.items ∙ parts.outputs;
-    kinds = kept (λ port. port.kind ≡ kind_of (setting_of works) port.node)
-        (λ port is. filled_kind (emptied port) (slots port.node) ∙ is ∙ ap (kind_of (setting_of works)) (sym (after_slots-node (emptied port) (slots port.node)))) parts.kinds;
-    rooms = kept (λ port. works.shape.plan.now.frame * (2 * channels_of port.kind) ≤ port.piece.room)
+    in_own = fit.in_own;
+    own = record { each = fit.own.each };
+    outputs = ap (map output_of) ports_are ∙ same_outputs parts.ports.items ∙ fit.outputs;
+    kinds = kept (λ port. port.kind ≡ kind_of (setting_of parts) port.node)
+        (λ port is. filled_kind (emptied port) (slots port.node) ∙ is ∙ ap (kind_of (setting_of parts)) (sym (after_slots-node (emptied port) (slots port.node)))) fit.kinds;
+    rooms = kept (λ port. parts.shape.plan.now.frame * (2 * channels_of port.kind) ≤ port.piece.room)
         (λ port is.
-        let kind = ap (λ k. works.shape.plan.now.frame * (2 * channels_of k)) (filled_kind (emptied port) (slots port.node)) in
+        let kind = ap (λ k. parts.shape.plan.now.frame * (2 * channels_of k)) (filled_kind (emptied port) (slots port.node)) in
         let room = filled_room (emptied port) (slots port.node) in
-        omega (arith, is, kind, room)) parts.rooms;
-    feeds = same_feeds ∙ parts.feeds;
+        omega (arith, is, kind, room)) fit.rooms;
+    feeds = same_feeds ∙ fit.feeds;
     frames = frames;
   }
 
   -- an output, as it was before the tick
   pub port_before : (k : ℕ) (port : Port) → slice_get other.ports.items k ≡ Some port
-      → (old : Port) × (slice_get works.ports.items k ≡ Some old) × (port ≡ hear old)
+      → (old : Port) × (slice_get parts.ports.items k ≡ Some old) × (port ≡ hear old)
   port_before k port at =
-      let found = from_mapped hear works.ports.items k port (sym (ap (λ xs. slice_get xs k) ports_are) ∙ at) in
+      let found = from_mapped hear parts.ports.items k port (sym (ap (λ xs. slice_get xs k) ports_are) ∙ at) in
       (found.0, found.1, sym found.2)
 
   -- it stopped in a tick, whose gaps are not counted
-  pub halted_by : (t : ℕ) (answers : ℕ → List Answer) (made : List Call) (held now : ℕ → Option (List ℕ)) (fault : TickFault) → EngineStands works t answers
-      → HasStopped (setting_of works) works.clock t answers made held now → EngineStopped (after_tick works other works.ticks (Some fault)) t answers made
+  pub halted_by : (t : ℕ) (answers : ℕ → List Answer) (made : List Call) (held now : ℕ → Option (List ℕ)) (fault : TickFault) → EngineStands parts t answers
+      → HasStopped (setting_of parts) parts.clock t answers made held now → EngineStopped (after_tick parts other parts.ticks (Some fault)) t answers made
   halted_by t answers made held now fault stands stopped = record {
     ticks_are = stands.made;
     fault = fault;
@@ -117,45 +117,45 @@ module _ (works other : Works) (parts : AreWorks works)
         let found = port_before k port at in
         let before : port.gaps_before ≡ found.0.gaps = ap (λ p. p.gaps_before) found.2 ∙ filled_before (emptied found.0) (slots found.0.node) in
         let node : found.0.node ≡ port.node = sym (ap (λ p. p.node) found.2 ∙ after_slots-node (emptied found.0) (slots found.0.node)) in
-        before ∙ stands.gaps_are rest k found.0 found.1 ∙ ap (λ i. gaps (with_rest (setting_of works) answers rest) i t) node;
+        before ∙ stands.gaps_are rest k found.0 found.1 ∙ ap (λ i. gaps (with_rest (setting_of parts) answers rest) i t) node;
   }
 
   pub sink_before : (old : Port) → (hear old).sink ≡ old.sink
   sink_before old = filled_sink (emptied old) (slots old.node)
 
-  pub as_many : length other.ports.items ≡ length works.ports.items
-  as_many = ap length ports_are ∙ length-map works.ports.items hear
+  pub as_many : length other.ports.items ≡ length parts.ports.items
+  as_many = ap length ports_are ∙ length-map parts.ports.items hear
 
-  pub held_before : {S : Type 0} (held : S → Option (List ℕ)) (old : List S) (sink : ℕ) → held_in held other.ports.items old sink ≡ held_in held works.ports.items old sink
+  pub held_before : {S : Type 0} (held : S → Option (List ℕ)) (old : List S) (sink : ℕ) → held_in held other.ports.items old sink ≡ held_in held parts.ports.items old sink
   held_before held old sink =
       ap (λ xs. held_in held xs old sink) ports_are
-      ∙ held_same held hear (λ port. filled_sink (emptied port) (slots port.node)) works.ports.items old sink
+      ∙ held_same held hear (λ port. filled_sink (emptied port) (slots port.node)) parts.ports.items old sink
 
-  module _ (long : (i : ℕ) → length (slots i) ≡ works.shape.plan.now.frame) where
+  module _ (long : (i : ℕ) → length (slots i) ≡ parts.shape.plan.now.frame) where
     -- the pieces have room where pieces of a tick have
-    pub have_room : {S : Type 0} (room : S → Option ℕ) (outs : List S) → HaveTickRoom room works outs → HaveRoom room other.ports.items outs
+    pub have_room : {S : Type 0} (room : S → Option ℕ) (outs : List S) → HaveTickRoom room parts outs → HaveRoom room other.ports.items outs
     have_room room outs tick = record {
       each = λ k port out at_port at_out.
           let found = port_before k port at_port in
           subst (λ n. HasRoom (room out) n)
-          (sym (ap (λ p. length p.piece.bytes) found.2 ∙ filled_long (emptied found.0) (slots found.0.node) works.shape.plan.now.frame refl (long found.0.node)))
+          (sym (ap (λ p. length p.piece.bytes) found.2 ∙ filled_long (emptied found.0) (slots found.0.node) parts.shape.plan.now.frame refl (long found.0.node)))
           (tick.each k found.0 out found.1 at_out);
     }
 
     -- and take as much of it
     pub rooms_fell : {S : Type 0} (held : S → Option (List ℕ)) (room : S → Option ℕ) (old new : List S) → TookAll held room other.ports.items (length other.ports.items) old new
-        → RoomsFell room works old new
+        → RoomsFell room parts old new
     rooms_fell held room old new took = record {
       each = λ k port before after at_port at_old at_new.
-          let at : slice_get other.ports.items k ≡ Some (hear port) = ap (λ xs. slice_get xs k) ports_are ∙ got_mapped hear works.ports.items k port at_port in
+          let at : slice_get other.ports.items k ≡ Some (hear port) = ap (λ xs. slice_get xs k) ports_are ∙ got_mapped hear parts.ports.items k port at_port in
           (took.each k (hear port) before after (slice_get_within other.ports.items k (hear port) at) at at_old at_new).room_fell
-          ∙ ap (λ n. narrowed n (room before)) (filled_long (emptied port) (slots port.node) works.shape.plan.now.frame refl (long port.node));
+          ∙ ap (λ n. narrowed n (room before)) (filled_long (emptied port) (slots port.node) parts.shape.plan.now.frame refl (long port.node));
     }
 
     -- what the sinks took in the tick is off the room for so many ticks
-    pub room_after : {S : Type 0} (held : S → Option (List ℕ)) (room : S → Option ℕ) (old new : List S) → length old ≡ length works.ports.items → length new ≡ length old
+    pub room_after : {S : Type 0} (held : S → Option (List ℕ)) (room : S → Option ℕ) (old new : List S) → length old ≡ length parts.ports.items → length new ≡ length old
         → TookAll held room other.ports.items (length other.ports.items) old new
-        → (stopped : Option TickFault) (count ticks : ℕ) → HaveTicksRoom room works old (ticks + 1) → HaveTicksRoom room (after_tick works other count stopped) new ticks
+        → (stopped : Option TickFault) (count ticks : ℕ) → HaveTicksRoom room parts old (ticks + 1) → HaveTicksRoom room (after_tick parts other count stopped) new ticks
     room_after held room old new old_size new_size took stopped count ticks all = record {
       each = λ k port out at_port at_out.
           let found = port_before k port at_port in
@@ -165,12 +165,12 @@ module _ (works other : Works) (parts : AreWorks works)
           let before = get_or old k out in
           let was : slice_get old k ≡ Some before = slice_get_read old (length old) k before refl within (get_or_default old k out before within) in
           let fell = (took.each k port before out here at_port was at_out).room_fell in
-          let size = ap (λ p. length p.piece.bytes) found.2 ∙ filled_long (emptied found.0) (slots found.0.node) works.shape.plan.now.frame refl (long found.0.node) in
+          let size = ap (λ p. length p.piece.bytes) found.2 ∙ filled_long (emptied found.0) (slots found.0.node) parts.shape.plan.now.frame refl (long found.0.node) in
           let kind = ap (λ p. p.kind) found.2 ∙ filled_kind (emptied found.0) (slots found.0.node) in
-          subst (λ r. HasRoom r (ticks * (works.shape.plan.now.frame * (2 * channels_of port.kind)))) (sym fell)
-          (subst (λ q. HasRoom (narrowed (length port.piece.bytes) (room before)) (ticks * (works.shape.plan.now.frame * (2 * channels_of q)))) (sym kind)
-          (subst (λ n. HasRoom (narrowed n (room before)) (ticks * (works.shape.plan.now.frame * (2 * channels_of found.0.kind)))) (sym size)
-          (room_less (room before) ticks (works.shape.plan.now.frame * (2 * channels_of found.0.kind)) (all.each k found.0 before found.1 was))));
+          subst (λ r. HasRoom r (ticks * (parts.shape.plan.now.frame * (2 * channels_of port.kind)))) (sym fell)
+          (subst (λ q. HasRoom (narrowed (length port.piece.bytes) (room before)) (ticks * (parts.shape.plan.now.frame * (2 * channels_of q)))) (sym kind)
+          (subst (λ n. HasRoom (narrowed n (room before)) (ticks * (parts.shape.plan.now.frame * (2 * channels_of found.0.kind)))) (sym size)
+          (room_less (room before) ticks (parts.shape.plan.now.frame * (2 * channels_of found.0.kind)) (all.each k found.0 before found.1 was))));
     }
 
 filled_whole : (slots frame : List Slot) → length slots ≡ length frame → slots ++ drop (length slots) frame ≡ slots
@@ -211,84 +211,84 @@ world_has setting answers more rest = record {
 }
 
 -- what holds of a plan whatever its answers
-pub meant_by : (works : Works) → AreWorks works → (answers rest : ℕ → List Answer) → IsMeant (with_rest (setting_of works) answers rest) (sub_of (with_rest (setting_of works) answers rest)) works.own.items
-meant_by works parts answers rest =
-    let S = with_rest (setting_of works) answers rest in
+pub meant_by : (parts : EngineParts) → AreParts parts → (answers rest : ℕ → List Answer) → IsMeant (with_rest (setting_of parts) answers rest) (sub_of (with_rest (setting_of parts) answers rest)) parts.own.items
+meant_by parts fit answers rest =
+    let S = with_rest (setting_of parts) answers rest in
     record {
-      meaning = meaning_of S parts.clocks parts.in_clocks;
-      down = goes_down S parts.clocks parts.in_clocks (sub_of S);
-      readers = own_readers S parts.plan;
-      roots = record { each = parts.own.each };
+      meaning = meaning_of S fit.clocks fit.in_clocks;
+      down = goes_down S fit.clocks fit.in_clocks (sub_of S);
+      readers = own_readers S fit.plan;
+      roots = record { each = fit.own.each };
     }
 
-module _ (works other : Works) (parts : AreWorks works) {T : Type 0} (stands_for : T → List Call → Type 0) (a b : T)
-    (heard : Heard stands_for works.shape.plan.now works.shape.library.now works.shape.clocks.now (Main works.clock) works.own.items works.shape.plan.now.frame (scene_of works a) (scene_of other b))
-    (t : ℕ) (answers : ℕ → List Answer) (stands : EngineStands works t answers) (few : works.ticks < 1000000000) where
-  module _ (rest : ℕ → List Answer) (has : HasAnswers (with_rest (setting_of works) answers rest) (after_calls answers heard.more)) where
+module _ (parts other : EngineParts) (fit : AreParts parts) {T : Type 0} (stands_for : T → List Call → Type 0) (a b : T)
+    (heard : Heard stands_for parts.shape.plan.now parts.shape.library.now parts.shape.clocks.now (Main parts.clock) parts.own.items parts.shape.plan.now.frame (scene_of parts a) (scene_of other b))
+    (t : ℕ) (answers : ℕ → List Answer) (stands : EngineStands parts t answers) (few : parts.ticks < 1000000000) where
+  module _ (rest : ℕ → List Answer) (has : HasAnswers (with_rest (setting_of parts) answers rest) (after_calls answers heard.more)) where
     abbrev S : Setting
-    S = with_rest (setting_of works) answers rest
+    S = with_rest (setting_of parts) answers rest
 
-    ran : HasRun S (sub_of S) works.own.items (Main works.clock) (t * works.shape.plan.now.frame) works.shape.plan.now.frame heard.slots answers heard.more other.lanes
-    ran = heard.run S (sub_of S) (t * works.shape.plan.now.frame) answers (meant_by works parts answers rest) has (stands.lanes rest)
+    ran : HasRunInstants S (sub_of S) parts.own.items (Main parts.clock) (t * parts.shape.plan.now.frame) parts.shape.plan.now.frame heard.slots answers heard.more other.lanes
+    ran = heard.run S (sub_of S) (t * parts.shape.plan.now.frame) answers (meant_by parts fit answers rest) has (stands.lanes rest)
 
-    slots_are : (i : ℕ) → clock_of S i ≡ Main works.clock → get_or works.own.items i false ≡ true → heard.slots i ≡ tick_slots S i t
-    slots_are i inside root = tick_heard S works.clock t i (heard.slots i) inside (ran.slots_are i root)
+    slots_are : (i : ℕ) → clock_of S i ≡ Main parts.clock → get_or parts.own.items i false ≡ true → heard.slots i ≡ tick_slots S i t
+    slots_are i inside root = tick_heard S parts.clock t i (heard.slots i) inside (ran.slots_are i root)
 
     -- of the node of an output
-    output_slots : (k : ℕ) (port : Port) → slice_get works.ports.items k ≡ Some port → heard.slots port.node ≡ tick_slots S port.node t
+    output_slots : (k : ℕ) (port : Port) → slice_get parts.ports.items k ≡ Some port → heard.slots port.node ≡ tick_slots S port.node t
     output_slots k port at =
-        slots_are port.node (port_inside (setting_of works) works.clock works.ports.items parts.outputs k port at) (port_root works parts k port at).1
+        slots_are port.node (port_inside (setting_of parts) parts.clock parts.ports.items fit.outputs k port at) (port_root parts fit k port at).1
 
     -- an output after the tick
     port_after : (k : ℕ) (port : Port) → slice_get other.ports.items k ≡ Some port
-        → (old : Port) × (slice_get works.ports.items k ≡ Some old) × (after_slots (emptied old) (heard.slots old.node) ≡ port) × (clock_of S old.node ≡ Main works.clock)
+        → (old : Port) × (slice_get parts.ports.items k ≡ Some old) × (after_slots (emptied old) (heard.slots old.node) ≡ port) × (clock_of S old.node ≡ Main parts.clock)
     port_after k port at =
-        let found = from_mapped (λ p. after_slots (emptied p) (heard.slots p.node)) works.ports.items k port (sym (ap (λ xs. slice_get xs k) heard.ports_are) ∙ at) in
-        (found.0, found.1, found.2, port_inside (setting_of works) works.clock works.ports.items parts.outputs k found.0 found.1)
+        let found = from_mapped (λ p. after_slots (emptied p) (heard.slots p.node)) parts.ports.items k port (sym (ap (λ xs. slice_get xs k) heard.ports_are) ∙ at) in
+        (found.0, found.1, found.2, port_inside (setting_of parts) parts.clock parts.ports.items fit.outputs k found.0 found.1)
 
     pub gaps_after : (k : ℕ) (port : Port) → slice_get other.ports.items k ≡ Some port → port.gaps ≡ gaps S port.node (suc t)
     gaps_after k port at =
         let found = port_after k port at in
         let small : t < 1000000000 = (let made = stands.made in omega (arith, made, few)) in
         sym (ap (λ p. p.gaps) found.2)
-        ∙ gaps_more S t found.0 (heard.slots found.0.node) small parts.frame (stands.gaps_are rest k found.0 found.1) (output_slots k found.0 found.1)
+        ∙ gaps_more S t found.0 (heard.slots found.0.node) small fit.frame (stands.gaps_are rest k found.0 found.1) (output_slots k found.0 found.1)
         ∙ ap (λ i. gaps S i (suc t)) (sym (after_slots-node (emptied found.0) (heard.slots found.0.node)) ∙ ap (λ p. p.node) found.2)
 
-    pub bytes_after : (sink node : ℕ) → IsOutput (setting_of works) works.clock sink node → (k : ℕ) (port : Port) → slice_get other.ports.items k ≡ Some port → port.sink ≡ sink
+    pub bytes_after : (sink node : ℕ) → IsOutput (setting_of parts) parts.clock sink node → (k : ℕ) (port : Port) → slice_get other.ports.items k ≡ Some port → port.sink ≡ sink
         → port.piece.bytes ≡ tick_bytes S node t
     bytes_after sink node output k port at same =
         let found = port_after k port at in
         let number : found.0.sink ≡ sink = sym (filled_sink (emptied found.0) (heard.slots found.0.node)) ∙ ap (λ p. p.sink) found.2 ∙ same in
-        let its = port_node (setting_of works) works.clock works.ports.items parts.outputs sink node output k found.0 found.1 number in
+        let its = port_node (setting_of parts) parts.clock parts.ports.items fit.outputs sink node output k found.0 found.1 number in
         sym (ap (λ p. p.piece.bytes) found.2)
-        ∙ bytes_are S t found.0 (heard.slots found.0.node) (all_at (λ p. p.kind ≡ kind_of (setting_of works) p.node) works.ports.items parts.kinds k found.0 found.1) (output_slots k found.0 found.1)
+        ∙ bytes_are S t found.0 (heard.slots found.0.node) (all_at (λ p. p.kind ≡ kind_of (setting_of parts) p.node) parts.ports.items fit.kinds k found.0 found.1) (output_slots k found.0 found.1)
         ∙ ap (λ i. tick_bytes S i t) its
 
-    pub lanes_after : LanesStand S (sub_of S) (Main works.clock) (suc t * works.shape.plan.now.frame) (after_calls answers heard.more) other.lanes
-    lanes_after = subst (λ n. LanesStand S (sub_of S) (Main works.clock) n (after_calls answers heard.more) other.lanes) (sym (suc-mul t works.shape.plan.now.frame)) ran.lanes_stand
+    pub lanes_after : ClockStateStands S (sub_of S) (Main parts.clock) (suc t * parts.shape.plan.now.frame) (after_calls answers heard.more) other.lanes
+    lanes_after = subst (λ n. ClockStateStands S (sub_of S) (Main parts.clock) n (after_calls answers heard.more) other.lanes) (sym (suc-mul t parts.shape.plan.now.frame)) ran.lanes_stand
 
-    pub takes_are : heard.more ≡ takes_of_tick S works.clock t
+    pub takes_are : heard.more ≡ takes_of_tick S parts.clock t
     takes_are = ran.calls
 
     -- a feed has the cells of its node
     feed_cells_are : (k : ℕ) (feed : FeedPort) → slice_get other.feeds.items k ≡ Some feed → cells_of feed.frame ≡ feed_cells S feed.node t
     feed_cells_are k feed at =
-        let found = from_mapped (λ f. with_slots f (heard.slots f.node)) works.feeds.items k feed (sym (ap (λ xs. slice_get xs k) heard.feeds_are) ∙ at) in
-        let inside = feed_inside (setting_of works) works.clock works.feeds.items parts.feeds k found.0 found.1 in
-        let size = all_at (λ f. length f.frame ≡ works.shape.plan.now.frame) works.feeds.items parts.frames k found.0 found.1 in
+        let found = from_mapped (λ f. with_slots f (heard.slots f.node)) parts.feeds.items k feed (sym (ap (λ xs. slice_get xs k) heard.feeds_are) ∙ at) in
+        let inside = feed_inside (setting_of parts) parts.clock parts.feeds.items fit.feeds k found.0 found.1 in
+        let size = all_at (λ f. length f.frame ≡ parts.shape.plan.now.frame) parts.feeds.items fit.frames k found.0 found.1 in
         ap (λ f. cells_of f.frame) (sym found.2)
-        ∙ ap cells_of (filled_whole (heard.slots found.0.node) found.0.frame (heard.long found.0.node ∙ sym size) ∙ slots_are found.0.node inside (feed_root works parts k found.0 found.1).1)
+        ∙ ap cells_of (filled_whole (heard.slots found.0.node) found.0.frame (heard.long found.0.node ∙ sym size) ∙ slots_are found.0.node inside (feed_root parts fit k found.0 found.1).1)
         ∙ ap (λ i. feed_cells S i t) (ap (λ f. f.node) found.2)
 
-    same_feeds : map feed_of other.feeds.items ≡ feeds_of (setting_of works) works.clock
-    same_feeds = ap (map feed_of) heard.feeds_are ∙ keys_same heard.slots works.feeds.items ∙ parts.feeds
+    same_feeds : map feed_of other.feeds.items ≡ feeds_of (setting_of parts) parts.clock
+    same_feeds = ap (map feed_of) heard.feeds_are ∙ keys_same heard.slots parts.feeds.items ∙ fit.feeds
 
     -- the gives are those of the definition
-    pub gives_of : (accepted : ℕ → Bool) → joined_upto (λ k. given_by accepted (slice_get other.feeds.items k)) (length other.feeds.items) ≡ flat_map (give_by S accepted works.clock t) S.plan.sinks
-    gives_of accepted = gives_flat accepted other.feeds.items ∙ gives_are S accepted works.clock t S.plan.sinks other.feeds.items same_feeds feed_cells_are
+    pub gives_of : (accepted : ℕ → Bool) → joined_upto (λ k. given_by accepted (slice_get other.feeds.items k)) (length other.feeds.items) ≡ flat_map (give_by S accepted parts.clock t) S.plan.sinks
+    gives_of accepted = gives_flat accepted other.feeds.items ∙ gives_are S accepted parts.clock t S.plan.sinks other.feeds.items same_feeds feed_cells_are
 
   pub own_feeds : HaveOwnBuffers other.feeds.items
-  own_feeds = own_buffers (setting_of works) works.clock parts.plan other.feeds.items (ap (map feed_of) heard.feeds_are ∙ keys_same heard.slots works.feeds.items ∙ parts.feeds)
+  own_feeds = own_buffers (setting_of parts) parts.clock fit.plan other.feeds.items (ap (map feed_of) heard.feeds_are ∙ keys_same heard.slots parts.feeds.items ∙ fit.feeds)
 
   -- after all gives
   module _ (c : T) (given : HaveGiven stands_for other.feeds.items (length other.feeds.items) b c) where
@@ -305,126 +305,126 @@ module _ (works other : Works) (parts : AreWorks works) {T : Type 0} (stands_for
     front_is = fun_ext (λ buffer. ap (λ (as' : List Answer). answers buffer ++ as')
         (sym (answers_in-append buffer heard.more given.more ∙ ap (λ (as' : List Answer). answers_in buffer heard.more ++ as') (no_more buffer) ∙ append-nil (answers_in buffer heard.more))))
 
-    has_first : (rest : ℕ → List Answer) → HasAnswers (with_rest (setting_of works) answers (behind_calls all_calls rest)) (after_calls answers heard.more)
-    has_first rest = answers_first (with_rest (setting_of works) answers (behind_calls all_calls rest)) answers heard.more given.more (world_has (setting_of works) answers all_calls rest)
+    has_first : (rest : ℕ → List Answer) → HasAnswers (with_rest (setting_of parts) answers (behind_calls all_calls rest)) (after_calls answers heard.more)
+    has_first rest = answers_first (with_rest (setting_of parts) answers (behind_calls all_calls rest)) answers heard.more given.more (world_has (setting_of parts) answers all_calls rest)
 
-    calls_are_tick : (rest : ℕ → List Answer) → all_calls ≡ calls_of_tick (with_rest (setting_of works) (after_calls answers all_calls) rest) given.accepted works.clock t
+    calls_are_tick : (rest : ℕ → List Answer) → all_calls ≡ calls_of_tick (with_rest (setting_of parts) (after_calls answers all_calls) rest) given.accepted parts.clock t
     calls_are_tick rest =
-        let S = with_rest (setting_of works) answers (behind_calls all_calls rest) in
+        let S = with_rest (setting_of parts) answers (behind_calls all_calls rest) in
         ap (λ (cs : List Call). cs ++ given.more) (takes_are (behind_calls all_calls rest) (has_first rest))
-        ∙ ap (λ (cs : List Call). takes_of_tick S works.clock t ++ cs) (given.are own_feeds ∙ gives_of (behind_calls all_calls rest) (has_first rest) given.accepted)
-        ∙ ap (λ W. calls_of_tick W given.accepted works.clock t) (world_is (setting_of works) answers all_calls rest)
+        ∙ ap (λ (cs : List Call). takes_of_tick S parts.clock t ++ cs) (given.are own_feeds ∙ gives_of (behind_calls all_calls rest) (has_first rest) given.accepted)
+        ∙ ap (λ W. calls_of_tick W given.accepted parts.clock t) (world_is (setting_of parts) answers all_calls rest)
 
-    none_unread : (buffer : ℕ) → IsUnread (setting_of works) (Main works.clock) buffer → after_calls answers all_calls buffer ≡ []
+    none_unread : (buffer : ℕ) → IsUnread (setting_of parts) (Main parts.clock) buffer → after_calls answers all_calls buffer ≡ []
     none_unread buffer unread =
-        let W = with_rest (setting_of works) (after_calls answers all_calls) (λ buffer. []) in
+        let W = with_rest (setting_of parts) (after_calls answers all_calls) (λ buffer. []) in
         let calls = calls_are_tick (λ buffer. []) in
-        let none : answers_in buffer all_calls ≡ [] = ap (answers_in buffer) calls ∙ no_tick_takes W given.accepted works.clock t buffer (record { none = unread.none }) in
+        let none : answers_in buffer all_calls ≡ [] = ap (answers_in buffer) calls ∙ no_tick_takes W given.accepted parts.clock t buffer (record { none = unread.none }) in
         ap (λ (as' : List Answer). as' ++ answers_in buffer all_calls) (stands.others buffer unread) ∙ none
 
-    pub stands_after : EngineStands (after_tick works other (works.ticks + 1) works.stopped) (suc t) (after_calls answers all_calls)
+    pub stands_after : EngineStands (after_tick parts other (parts.ticks + 1) parts.stopped) (suc t) (after_calls answers all_calls)
     stands_after = record {
       made = (let made = stands.made in omega (arith, made));
       runs = stands.runs;
       others = λ buffer unread. none_unread buffer (record { none = unread.none });
       lanes = λ rest.
-          subst (λ W. LanesStand W (sub_of W) (Main works.clock) (suc t * works.shape.plan.now.frame) (after_calls answers all_calls) other.lanes) (world_is (setting_of works) answers all_calls rest)
-          (subst (λ (f : ℕ → List Answer). LanesStand (with_rest (setting_of works) answers (behind_calls all_calls rest)) (sub_of (with_rest (setting_of works) answers (behind_calls all_calls rest))) (Main works.clock)
-          (suc t * works.shape.plan.now.frame) f other.lanes) front_is (lanes_after (behind_calls all_calls rest) (has_first rest)));
+          subst (λ W. ClockStateStands W (sub_of W) (Main parts.clock) (suc t * parts.shape.plan.now.frame) (after_calls answers all_calls) other.lanes) (world_is (setting_of parts) answers all_calls rest)
+          (subst (λ (f : ℕ → List Answer). ClockStateStands (with_rest (setting_of parts) answers (behind_calls all_calls rest)) (sub_of (with_rest (setting_of parts) answers (behind_calls all_calls rest))) (Main parts.clock)
+          (suc t * parts.shape.plan.now.frame) f other.lanes) front_is (lanes_after (behind_calls all_calls rest) (has_first rest)));
       gaps_are = λ rest k port at.
-          gaps_after (behind_calls all_calls rest) (has_first rest) k port at ∙ ap (λ W. gaps W port.node (suc t)) (world_is (setting_of works) answers all_calls rest);
+          gaps_after (behind_calls all_calls rest) (has_first rest) k port at ∙ ap (λ W. gaps W port.node (suc t)) (world_is (setting_of parts) answers all_calls rest);
     }
 
-    pub has_ticked : {X : Type 0} (held : X → Option (List ℕ)) (room : X → Option ℕ) (old new : List X) → length old ≡ length works.ports.items → length new ≡ length old
+    pub has_ticked : {X : Type 0} (held : X → Option (List ℕ)) (room : X → Option ℕ) (old new : List X) → length old ≡ length parts.ports.items → length new ≡ length old
         → TookAll held room other.ports.items (length other.ports.items) old new
-        → HasTicked (EngineStands (after_tick works other (works.ticks + 1) works.stopped)) (setting_of works) works.clock t answers all_calls
-        (held_in held works.ports.items old) (held_in held other.ports.items new)
+        → HasTicked (EngineStands (after_tick parts other (parts.ticks + 1) parts.stopped)) (setting_of parts) parts.clock t answers all_calls
+        (held_in held parts.ports.items old) (held_in held other.ports.items new)
     has_ticked held room old new old_size new_size took =
-        let in_ports : length other.ports.items ≡ length works.ports.items = ap length heard.ports_are ∙ length-map works.ports.items (λ port. after_slots (emptied port) (heard.slots port.node)) in
+        let in_ports : length other.ports.items ≡ length parts.ports.items = ap length heard.ports_are ∙ length-map parts.ports.items (λ port. after_slots (emptied port) (heard.slots port.node)) in
         record {
           accepted = given.accepted;
           are = calls_are_tick;
           stand = stands_after;
           grew = λ rest sink node output.
-              held_grew held room sink (tick_bytes (with_rest (setting_of works) (after_calls answers all_calls) rest) node t) other.ports.items old new
+              held_grew held room sink (tick_bytes (with_rest (setting_of parts) (after_calls answers all_calls) rest) node t) other.ports.items old new
               (old_size ∙ sym in_ports) (new_size ∙ old_size ∙ sym in_ports)
               (λ k port at same. bytes_after (behind_calls all_calls rest) (has_first rest) sink node output k port at same
-              ∙ ap (λ W. tick_bytes W node t) (world_is (setting_of works) answers all_calls rest)) took.each
-              ∙ ap (grown (tick_bytes (with_rest (setting_of works) (after_calls answers all_calls) rest) node t))
-              (ap (λ xs. held_in held xs old sink) heard.ports_are ∙ held_same held (λ port. after_slots (emptied port) (heard.slots port.node)) (λ port. filled_sink (emptied port) (heard.slots port.node)) works.ports.items old sink);
+              ∙ ap (λ W. tick_bytes W node t) (world_is (setting_of parts) answers all_calls rest)) took.each
+              ∙ ap (grown (tick_bytes (with_rest (setting_of parts) (after_calls answers all_calls) rest) node t))
+              (ap (λ xs. held_in held xs old sink) heard.ports_are ∙ held_same held (λ port. after_slots (emptied port) (heard.slots port.node)) (λ port. filled_sink (emptied port) (heard.slots port.node)) parts.ports.items old sink);
         }
 
   -- an output failed: no chunk was given
-  pub has_stopped : {X : Type 0} (held : X → Option (List ℕ)) (room : X → Option ℕ) (old new : List X) → length old ≡ length works.ports.items → length new ≡ length old
+  pub has_stopped : {X : Type 0} (held : X → Option (List ℕ)) (room : X → Option ℕ) (old new : List X) → length old ≡ length parts.ports.items → length new ≡ length old
       → TookParts held room other.ports.items old new
-      → HasStopped (setting_of works) works.clock t answers heard.more (held_in held works.ports.items old) (held_in held other.ports.items new)
+      → HasStopped (setting_of parts) parts.clock t answers heard.more (held_in held parts.ports.items old) (held_in held other.ports.items new)
   has_stopped held room old new old_size new_size took =
-      let in_ports : length other.ports.items ≡ length works.ports.items = ap length heard.ports_are ∙ length-map works.ports.items (λ port. after_slots (emptied port) (heard.slots port.node)) in
+      let in_ports : length other.ports.items ≡ length parts.ports.items = ap length heard.ports_are ∙ length-map parts.ports.items (λ port. after_slots (emptied port) (heard.slots port.node)) in
       record {
         accepted = λ buffer. true;
         begun = λ rest.
-            let S = with_rest (setting_of works) answers (behind_calls heard.more rest) in
-            subst (λ W. IsBegin heard.more (calls_of_tick W (λ buffer. true) works.clock t)) (world_is (setting_of works) answers heard.more rest)
-            (begin_more heard.more (takes_of_tick S works.clock t) (flat_map (give_by S (λ buffer. true) works.clock t) S.plan.sinks)
-            (subst (λ (cs : List Call). IsBegin heard.more cs) (takes_are (behind_calls heard.more rest) (world_has (setting_of works) answers heard.more rest)) (begin_all heard.more)));
+            let S = with_rest (setting_of parts) answers (behind_calls heard.more rest) in
+            subst (λ W. IsBegin heard.more (calls_of_tick W (λ buffer. true) parts.clock t)) (world_is (setting_of parts) answers heard.more rest)
+            (begin_more heard.more (takes_of_tick S parts.clock t) (flat_map (give_by S (λ buffer. true) parts.clock t) S.plan.sinks)
+            (subst (λ (cs : List Call). IsBegin heard.more cs) (takes_are (behind_calls heard.more rest) (world_has (setting_of parts) answers heard.more rest)) (begin_all heard.more)));
         part = λ rest sink node output.
-            let S = with_rest (setting_of works) answers (behind_calls heard.more rest) in
+            let S = with_rest (setting_of parts) answers (behind_calls heard.more rest) in
             let grew = held_part held room sink (tick_bytes S node t) other.ports.items old new
             (old_size ∙ sym in_ports) (new_size ∙ old_size ∙ sym in_ports)
-            (λ k port at same. bytes_after (behind_calls heard.more rest) (world_has (setting_of works) answers heard.more rest) sink node output k port at same) took.each in (
+            (λ k port at same. bytes_after (behind_calls heard.more rest) (world_has (setting_of parts) answers heard.more rest) sink node output k port at same) took.each in (
               grew.part,
-              subst (λ W. IsPrefix grew.part (tick_bytes W node t)) (world_is (setting_of works) answers heard.more rest) grew.front,
+              subst (λ W. IsPrefix grew.part (tick_bytes W node t)) (world_is (setting_of parts) answers heard.more rest) grew.front,
               grew.is ∙ ap (grown grew.part) (ap (λ xs. held_in held xs old sink) heard.ports_are
-                  ∙ held_same held (λ port. after_slots (emptied port) (heard.slots port.node)) (λ port. filled_sink (emptied port) (heard.slots port.node)) works.ports.items old sink),
+                  ∙ held_same held (λ port. after_slots (emptied port) (heard.slots port.node)) (λ port. filled_sink (emptied port) (heard.slots port.node)) parts.ports.items old sink),
             );
       }
 
   -- memory was refused at a feed: the outputs are whole
-  pub has_stopped_giving : {X : Type 0} (held : X → Option (List ℕ)) (room : X → Option ℕ) (old new : List X) → length old ≡ length works.ports.items → length new ≡ length old
+  pub has_stopped_giving : {X : Type 0} (held : X → Option (List ℕ)) (room : X → Option ℕ) (old new : List X) → length old ≡ length parts.ports.items → length new ≡ length old
       → TookAll held room other.ports.items (length other.ports.items) old new → (c : T) (some : HaveGivenSome stands_for other.feeds.items b c)
-      → HasStopped (setting_of works) works.clock t answers (heard.more ++ some.made) (held_in held works.ports.items old) (held_in held other.ports.items new)
+      → HasStopped (setting_of parts) parts.clock t answers (heard.more ++ some.made) (held_in held parts.ports.items old) (held_in held other.ports.items new)
   has_stopped_giving held room old new old_size new_size took c some =
-      let in_ports : length other.ports.items ≡ length works.ports.items = ap length heard.ports_are ∙ length-map works.ports.items (λ port. after_slots (emptied port) (heard.slots port.node)) in
+      let in_ports : length other.ports.items ≡ length parts.ports.items = ap length heard.ports_are ∙ length-map parts.ports.items (λ port. after_slots (emptied port) (heard.slots port.node)) in
       let made = heard.more ++ some.made in
-      let first : (rest : ℕ → List Answer) → HasAnswers (with_rest (setting_of works) answers (behind_calls made rest)) (after_calls answers heard.more) =
-      λ rest. answers_first (with_rest (setting_of works) answers (behind_calls made rest)) answers heard.more some.made (world_has (setting_of works) answers made rest) in
+      let first : (rest : ℕ → List Answer) → HasAnswers (with_rest (setting_of parts) answers (behind_calls made rest)) (after_calls answers heard.more) =
+      λ rest. answers_first (with_rest (setting_of parts) answers (behind_calls made rest)) answers heard.more some.made (world_has (setting_of parts) answers made rest) in
       record {
         accepted = some.accepted;
         begun = λ rest.
-            let S = with_rest (setting_of works) answers (behind_calls made rest) in
-            subst (λ W. IsBegin made (calls_of_tick W some.accepted works.clock t)) (world_is (setting_of works) answers made rest)
-            (subst (λ (cs : List Call). IsBegin (cs ++ some.made) (takes_of_tick S works.clock t ++ flat_map (give_by S some.accepted works.clock t) S.plan.sinks)) (sym (takes_are (behind_calls made rest) (first rest)))
-            (begin_behind (takes_of_tick S works.clock t) some.made (flat_map (give_by S some.accepted works.clock t) S.plan.sinks)
+            let S = with_rest (setting_of parts) answers (behind_calls made rest) in
+            subst (λ W. IsBegin made (calls_of_tick W some.accepted parts.clock t)) (world_is (setting_of parts) answers made rest)
+            (subst (λ (cs : List Call). IsBegin (cs ++ some.made) (takes_of_tick S parts.clock t ++ flat_map (give_by S some.accepted parts.clock t) S.plan.sinks)) (sym (takes_are (behind_calls made rest) (first rest)))
+            (begin_behind (takes_of_tick S parts.clock t) some.made (flat_map (give_by S some.accepted parts.clock t) S.plan.sinks)
             (subst (λ (cs : List Call). IsBegin some.made cs) (gives_of (behind_calls made rest) (first rest) some.accepted) (some.begins own_feeds))));
         part = λ rest sink node output.
-            let S = with_rest (setting_of works) answers (behind_calls made rest) in (
-              tick_bytes (with_rest (setting_of works) (after_calls answers made) rest) node t,
-              record { rest = []; whole_is = sym (append-nil (tick_bytes (with_rest (setting_of works) (after_calls answers made) rest) node t)) },
-              held_grew held room sink (tick_bytes (with_rest (setting_of works) (after_calls answers made) rest) node t) other.ports.items old new
+            let S = with_rest (setting_of parts) answers (behind_calls made rest) in (
+              tick_bytes (with_rest (setting_of parts) (after_calls answers made) rest) node t,
+              record { rest = []; whole_is = sym (append-nil (tick_bytes (with_rest (setting_of parts) (after_calls answers made) rest) node t)) },
+              held_grew held room sink (tick_bytes (with_rest (setting_of parts) (after_calls answers made) rest) node t) other.ports.items old new
                   (old_size ∙ sym in_ports) (new_size ∙ old_size ∙ sym in_ports)
-                  (λ k port at same. bytes_after (behind_calls made rest) (first rest) sink node output k port at same ∙ ap (λ W. tick_bytes W node t) (world_is (setting_of works) answers made rest)) took.each
-                  ∙ ap (grown (tick_bytes (with_rest (setting_of works) (after_calls answers made) rest) node t))
-                  (ap (λ xs. held_in held xs old sink) heard.ports_are ∙ held_same held (λ port. after_slots (emptied port) (heard.slots port.node)) (λ port. filled_sink (emptied port) (heard.slots port.node)) works.ports.items old sink),
+                  (λ k port at same. bytes_after (behind_calls made rest) (first rest) sink node output k port at same ∙ ap (λ W. tick_bytes W node t) (world_is (setting_of parts) answers made rest)) took.each
+                  ∙ ap (grown (tick_bytes (with_rest (setting_of parts) (after_calls answers made) rest) node t))
+                  (ap (λ xs. held_in held xs old sink) heard.ports_are ∙ held_same held (λ port. after_slots (emptied port) (heard.slots port.node)) (λ port. filled_sink (emptied port) (heard.slots port.node)) parts.ports.items old sink),
             );
       }
 
 -- memory was refused within the instants: no output has grown
-pub has_broken : (works other : Works) (parts : AreWorks works) {T : Type 0} (stands_for : T → List Call → Type 0) (a b : T)
-    (heard : HeardSome stands_for works.shape.plan.now works.shape.library.now works.shape.clocks.now (Main works.clock) works.own.items works.shape.plan.now.frame (scene_of works a) (scene_of other b))
-    (t : ℕ) (answers : ℕ → List Answer) → EngineStands works t answers → {X : Type 0} (held : X → Option (List ℕ)) (outs : List X)
-    → HasStopped (setting_of works) works.clock t answers heard.made (held_in held works.ports.items outs) (held_in held other.ports.items outs)
-has_broken works other parts stands_for a b heard t answers stands held outs = record {
+pub has_broken : (parts other : EngineParts) (fit : AreParts parts) {T : Type 0} (stands_for : T → List Call → Type 0) (a b : T)
+    (heard : HeardSome stands_for parts.shape.plan.now parts.shape.library.now parts.shape.clocks.now (Main parts.clock) parts.own.items parts.shape.plan.now.frame (scene_of parts a) (scene_of other b))
+    (t : ℕ) (answers : ℕ → List Answer) → EngineStands parts t answers → {X : Type 0} (held : X → Option (List ℕ)) (outs : List X)
+    → HasStopped (setting_of parts) parts.clock t answers heard.made (held_in held parts.ports.items outs) (held_in held other.ports.items outs)
+has_broken parts other fit stands_for a b heard t answers stands held outs = record {
   accepted = λ buffer. true;
   begun = λ rest.
-      let S = with_rest (setting_of works) answers (behind_calls heard.made rest) in
-      subst (λ W. IsBegin heard.made (calls_of_tick W (λ buffer. true) works.clock t)) (world_is (setting_of works) answers heard.made rest)
-      (begin_more heard.made (takes_of_tick S works.clock t) (flat_map (give_by S (λ buffer. true) works.clock t) S.plan.sinks)
-      (heard.begins S (sub_of S) (t * works.shape.plan.now.frame) answers (meant_by works parts answers (behind_calls heard.made rest)) (world_has (setting_of works) answers heard.made rest) (stands.lanes (behind_calls heard.made rest))));
+      let S = with_rest (setting_of parts) answers (behind_calls heard.made rest) in
+      subst (λ W. IsBegin heard.made (calls_of_tick W (λ buffer. true) parts.clock t)) (world_is (setting_of parts) answers heard.made rest)
+      (begin_more heard.made (takes_of_tick S parts.clock t) (flat_map (give_by S (λ buffer. true) parts.clock t) S.plan.sinks)
+      (heard.begins S (sub_of S) (t * parts.shape.plan.now.frame) answers (meant_by parts fit answers (behind_calls heard.made rest)) (world_has (setting_of parts) answers heard.made rest) (stands.lanes (behind_calls heard.made rest))));
   part = λ rest sink node output. (
     [],
-    record { rest = tick_bytes (with_rest (setting_of works) (after_calls answers heard.made) rest) node t; whole_is = refl },
+    record { rest = tick_bytes (with_rest (setting_of parts) (after_calls answers heard.made) rest) node t; whole_is = refl },
     ap (λ xs. held_in held xs outs sink) heard.ports_are
-        ∙ held_same held (λ port. after_slots (emptied port) (heard.slots port.node)) (λ port. filled_sink (emptied port) (heard.slots port.node)) works.ports.items outs sink
-        ∙ grown_none (held_in held works.ports.items outs sink),
+        ∙ held_same held (λ port. after_slots (emptied port) (heard.slots port.node)) (λ port. filled_sink (emptied port) (heard.slots port.node)) parts.ports.items outs sink
+        ∙ grown_none (held_in held parts.ports.items outs sink),
   );
 }

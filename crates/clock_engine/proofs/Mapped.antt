@@ -12,7 +12,7 @@ use Rattle.stream_meaning.proofs.Existence.{history-sub}
 use Rattle.stream_meaning.proofs.Calling.{calls_are}
 use Rattle.stream_meaning.specs.Calls.{GoDown}
 use Rattle.frame_core.specs.Slots.{Slot}
-use Rattle.engine_clocks.specs.Clocks.{HasLevels, HasRanks, clock_at}
+use Rattle.sub_clocks.specs.Clocks.{HasLevels, HasRanks, clock_at}
 use Rattle.clock_engine.specs.Engines.{AreClocksOf}
 
 -- the rank of a clock, where nodes have these

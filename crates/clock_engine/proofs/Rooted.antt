@@ -11,8 +11,8 @@ use Rattle.clock_infer.specs.declared.clock_map.NodeClock.TheVariants.{Main}
 use Rattle.stream_meaning.specs.Instants.{clock_of, is_root}
 use Rattle.clock_outputs.specs.declared.port.Port.{Port}
 use Rattle.clock_outputs.specs.declared.feed.FeedPort.{FeedPort}
-use Rattle.clock_engine.specs.declared.engine.Works.{Works}
-use Rattle.clock_engine.specs.Engines.{AreWorks, feed_of, setting_of}
+use Rattle.clock_engine.specs.declared.engine.EngineParts.{EngineParts}
+use Rattle.clock_engine.specs.Engines.{AreParts, feed_of, setting_of}
 use Rattle.clock_engine.proofs.Feeding.{feed_inside, feeds_there}
 use Rattle.clock_engine.proofs.Numbered.{all_at, got_mapped, item_is, port_inside, port_there}
 
@@ -22,29 +22,29 @@ sink_any sinks place sink at =
     list_any_at (λ s. nat_eq (sink_node s) (sink_node sink)) sinks place sink (slice_get_within sinks place sink at)
     (eq-eqb (sink_node (get_or sinks place sink)) (sink_node sink) (ap sink_node (item_is sinks place sink sink at)))
 
-module _ (works : Works) (parts : AreWorks works) where
-  root_at : (place : ℕ) (sink : SinkPlan) → slice_get works.shape.plan.now.sinks place ≡ Some sink → clock_of (setting_of works) (sink_node sink) ≡ Main works.clock
-      → (sink_node sink < length works.shape.plan.now.nodes) × (get_or works.own.items (sink_node sink) false ≡ true)
+module _ (parts : EngineParts) (fit : AreParts parts) where
+  root_at : (place : ℕ) (sink : SinkPlan) → slice_get parts.shape.plan.now.sinks place ≡ Some sink → clock_of (setting_of parts) (sink_node sink) ≡ Main parts.clock
+      → (sink_node sink < length parts.shape.plan.now.nodes) × (get_or parts.own.items (sink_node sink) false ≡ true)
   root_at place sink at inside =
-      let low = all_at (λ s. sink_node s < length works.shape.plan.now.nodes) works.shape.plan.now.sinks parts.plan.sinks place sink at in (
+      let low = all_at (λ s. sink_node s < length parts.shape.plan.now.nodes) parts.shape.plan.now.sinks fit.plan.sinks place sink at in (
         low,
-        parts.own.each (sink_node sink) low
-            ∙ ap (λ clock. is_root (setting_of works) clock (sink_node sink)) inside
-            ∙ sink_any works.shape.plan.now.sinks place sink at,
+        fit.own.each (sink_node sink) low
+            ∙ ap (λ clock. is_root (setting_of parts) clock (sink_node sink)) inside
+            ∙ sink_any parts.shape.plan.now.sinks place sink at,
       )
 
-  pub port_root : (k : ℕ) (port : Port) → slice_get works.ports.items k ≡ Some port → (port.node < length works.shape.plan.now.nodes) × (get_or works.own.items port.node false ≡ true)
+  pub port_root : (k : ℕ) (port : Port) → slice_get parts.ports.items k ≡ Some port → (port.node < length parts.shape.plan.now.nodes) × (get_or parts.own.items port.node false ≡ true)
   port_root k port at =
-      let is = port_there (setting_of works) works.clock works.ports.items parts.outputs k port at in
-      root_at is.place (Output is.name port.node is.fallible) is.there (port_inside (setting_of works) works.clock works.ports.items parts.outputs k port at)
+      let is = port_there (setting_of parts) parts.clock parts.ports.items fit.outputs k port at in
+      root_at is.place (Output is.name port.node is.fallible) is.there (port_inside (setting_of parts) parts.clock parts.ports.items fit.outputs k port at)
 
-  pub feed_root : (k : ℕ) (feed : FeedPort) → slice_get works.feeds.items k ≡ Some feed → (feed.node < length works.shape.plan.now.nodes) × (get_or works.own.items feed.node false ≡ true)
+  pub feed_root : (k : ℕ) (feed : FeedPort) → slice_get parts.feeds.items k ≡ Some feed → (feed.node < length parts.shape.plan.now.nodes) × (get_or parts.own.items feed.node false ≡ true)
   feed_root k feed at =
-      let is = feeds_there (setting_of works) works.clock works.shape.plan.now.sinks k (feed_of feed) (sym (ap (λ xs. slice_get xs k) parts.feeds) ∙ got_mapped feed_of works.feeds.items k feed at) in
-      root_at is.place (Feed feed.buffer feed.node) is.there (feed_inside (setting_of works) works.clock works.feeds.items parts.feeds k feed at)
+      let is = feeds_there (setting_of parts) parts.clock parts.shape.plan.now.sinks k (feed_of feed) (sym (ap (λ xs. slice_get xs k) fit.feeds) ∙ got_mapped feed_of parts.feeds.items k feed at) in
+      root_at is.place (Feed feed.buffer feed.node) is.there (feed_inside (setting_of parts) parts.clock parts.feeds.items fit.feeds k feed at)
 
-  pub ports_low : All (λ port. port.node < length works.shape.plan.now.nodes) works.ports.items
-  ports_low k d h = (port_root k (get_or works.ports.items k d) (slice_get-get_or works.ports.items k d h)).0
+  pub ports_low : All (λ port. port.node < length parts.shape.plan.now.nodes) parts.ports.items
+  ports_low k d h = (port_root k (get_or parts.ports.items k d) (slice_get-get_or parts.ports.items k d h)).0
 
-  pub feeds_low : All (λ feed. feed.node < length works.shape.plan.now.nodes) works.feeds.items
-  feeds_low k d h = (feed_root k (get_or works.feeds.items k d) (slice_get-get_or works.feeds.items k d h)).0
+  pub feeds_low : All (λ feed. feed.node < length parts.shape.plan.now.nodes) parts.feeds.items
+  feeds_low k d h = (feed_root k (get_or parts.feeds.items k d) (slice_get-get_or parts.feeds.items k d h)).0

@@ -8,9 +8,9 @@ use Rattle.clock_infer.specs.declared.clock_map.NodeClock.TheVariants.{Main, Sub
 use Rattle.stream_meaning.specs.Instants.{Setting, clock_of, sub_of}
 use Rattle.node_states.specs.declared.time.WeekTime.{WeekTime}
 use Rattle.node_states.specs.Times.{TimeStands}
-use Rattle.engine_clocks.specs.Clocks.{HasRanks, rest_at}
-use Rattle.engine_ticks.specs.declared.lanes.Lanes.{Lanes}
-use Rattle.engine_ticks.specs.Lanes.{IsMain, LanesStand}
+use Rattle.sub_clocks.specs.Clocks.{HasRanks, rest_at}
+use Rattle.clock_engine.specs.declared.clock_state.ClockState.{ClockState}
+use Rattle.clock_engine.specs.ClockStates.{IsMain, ClockStateStands}
 use Rattle.clock_engine.specs.Beginnings.{AreNewStates}
 use Rattle.clock_engine.proofs.Driving.{driven_by, lifted, lifted_ranks}
 
@@ -22,10 +22,10 @@ is_main (Sub k) = false
 pub main_is : (m : ℕ) → IsMain (Main m)
 main_is m = λ k e. true≢false (ap is_main e)
 
-none_made : (setting : Setting) (m : ℕ) (lanes : Lanes) (n : ℕ) (rank : NodeClock → ℕ) → HasRanks setting.clocks rank
+none_made : (setting : Setting) (m : ℕ) (lanes : ClockState) (n : ℕ) (rank : NodeClock → ℕ) → HasRanks setting.clocks rank
     → ((i : ℕ) → i < length setting.plan.nodes → rank (clock_of setting i) < length setting.plan.nodes) → AreNewStates setting.plan setting.clocks m n lanes.clocks.states.items
     → TimeStands setting.start 0 lanes.time → ((k : ℕ) (time : WeekTime) → slice_get lanes.clocks.times.items k ≡ Some time → time ≡ lanes.time) → ((k : ℕ) → rest_at lanes.clocks k ≡ 0)
-    → LanesStand setting (sub_of setting) (Main m) 0 (λ buffer. []) lanes
+    → ClockStateStands setting (sub_of setting) (Main m) 0 (λ buffer. []) lanes
 none_made setting m lanes n rank ranks low new time same rests = record {
   rank = lifted setting.clocks rank m (length setting.plan.nodes);
   ran = λ other. 0;
@@ -46,13 +46,13 @@ none_made setting m lanes n rank ranks low new time same rests = record {
   time = time;
 }
 
-pub new_stand : (setting : Setting) (m : ℕ) (lanes : Lanes) (n : ℕ) (rank : NodeClock → ℕ) → HasRanks setting.clocks rank
+pub new_stand : (setting : Setting) (m : ℕ) (lanes : ClockState) (n : ℕ) (rank : NodeClock → ℕ) → HasRanks setting.clocks rank
     → ((i : ℕ) → i < length setting.plan.nodes → rank (clock_of setting i) < length setting.plan.nodes) → AreNewStates setting.plan setting.clocks m n lanes.clocks.states.items
     → TimeStands setting.start 0 lanes.time → ((k : ℕ) (time : WeekTime) → slice_get lanes.clocks.times.items k ≡ Some time → time ≡ lanes.time) → ((k : ℕ) → rest_at lanes.clocks k ≡ 0)
-    → LanesStand setting (sub_of setting) (Main m) (0 * setting.plan.frame) (λ buffer. []) lanes
+    → ClockStateStands setting (sub_of setting) (Main m) (0 * setting.plan.frame) (λ buffer. []) lanes
 new_stand setting m lanes n rank ranks low new time same rests =
     let none : 0 ≡ 0 * setting.plan.frame = omega arith in
-    subst (λ count. LanesStand setting (sub_of setting) (Main m) count (λ buffer. []) lanes) none (none_made setting m lanes n rank ranks low new time same rests)
+    subst (λ count. ClockStateStands setting (sub_of setting) (Main m) count (λ buffer. []) lanes) none (none_made setting m lanes n rank ranks low new time same rests)
 
 -- a list of like items is that item at each place
 pub all_alike : {A : Type 0} (xs : List A) (n : ℕ) (a : A) → xs ≡ replicate n a → (j : ℕ) → get_or xs j a ≡ a

@@ -10,7 +10,7 @@ use Rattle.stream_meaning.specs.Instants.{Setting, clock_of, history, moment_aft
 use Rattle.stream_meaning.specs.Sinks.{gaps, missing, slot_block, tick_bytes, tick_slots, kind_of}
 use Rattle.clock_outputs.specs.declared.port.Port.{Port}
 use Rattle.clock_outputs.specs.Ports.{after_slots, emptied}
-use Rattle.engine_ticks.specs.Runs.{slot_in}
+use Rattle.clock_engine.specs.Runs.{slot_in}
 use Rattle.clock_engine.proofs.Filling.{filled_bytes, filled_gaps}
 
 -- the slots that were heard are those of the tick

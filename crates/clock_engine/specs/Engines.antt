@@ -18,19 +18,19 @@ use Rattle.stream_meaning.specs.Calls.{IsBegin, IsUnread, after_calls, calls_of_
 use Rattle.node_states.specs.Ticks.{with_rest}
 use Rattle.clock_outputs.specs.declared.port.Port.{Port}
 use Rattle.clock_outputs.specs.declared.feed.FeedPort.{FeedPort}
-use Rattle.engine_clocks.specs.Clocks.{AreOwnRoots}
-use Rattle.engine_ticks.specs.Lanes.{AreLanes, LanesStand}
-use Rattle.engine_ticks.specs.Runs.{Scene}
+use Rattle.sub_clocks.specs.Clocks.{AreOwnRoots}
+use Rattle.clock_engine.specs.ClockStates.{IsClockState, ClockStateStands}
+use Rattle.clock_engine.specs.Runs.{Scene}
 use Rattle.clock_engine.specs.declared.fault.TickFault.{TickFault}
-use Rattle.clock_engine.specs.declared.engine.Works.{Works}
+use Rattle.clock_engine.specs.declared.engine.EngineParts.{EngineParts}
 
 -- the plan of an engine, with its clocks, its files and its start second, and no answers
-abbrev pub setting_of : Works → Setting
-setting_of works = record {
-  plan = works.shape.plan.now;
-  library = works.shape.library.now;
-  clocks = works.shape.clocks.now;
-  start = works.start.second;
+abbrev pub setting_of : EngineParts → Setting
+setting_of parts = record {
+  plan = parts.shape.plan.now;
+  library = parts.shape.library.now;
+  clocks = parts.shape.clocks.now;
+  start = parts.start.second;
   answers = λ buffer. [];
 }
 
@@ -63,12 +63,12 @@ abbrev pub feed_of : FeedPort → ℕ × ℕ
 feed_of feed = (feed.buffer, feed.node)
 
 -- an engine with the lanes, outputs and feeds of another one
-abbrev pub after_tick : Works → (other : Works) → (ticks : ℕ) → Option TickFault → Works
-after_tick works other ticks stopped = record {
-  shape = works.shape;
-  clock = works.clock;
-  start = works.start;
-  own = works.own;
+abbrev pub after_tick : EngineParts → (other : EngineParts) → (ticks : ℕ) → Option TickFault → EngineParts
+after_tick parts other ticks stopped = record {
+  shape = parts.shape;
+  clock = parts.clock;
+  start = parts.start;
+  own = parts.own;
   lanes = other.lanes;
   ports = other.ports;
   feeds = other.feeds;
@@ -83,43 +83,43 @@ pub record AreClocksOf (plan : Plan) (clocks : List NodeClock) : Type 0 where
   pub are : clocks ≡ map.of
 
 -- the parts of an engine of main clock m fit together
-pub record AreWorks (works : Works) : Type 0 where
-  pub plan : IsWellFormed works.shape.plan.now
-  pub nodes : AreNodes works.shape.plan.now.nodes
-  pub frame : works.shape.plan.now.frame ≤ 65536
-  pub few : length works.shape.plan.now.nodes ≤ MAX_NODES
-  pub in_clocks : length works.shape.clocks.now ≡ length works.shape.plan.now.nodes
-  pub clocks : AreClocksOf works.shape.plan.now works.shape.clocks.now
-  pub lanes : AreLanes works.shape.plan.now works.shape.library.now works.shape.clocks.now works.lanes
-  pub in_own : length works.own.items ≡ length works.shape.plan.now.nodes
-  pub own : AreOwnRoots (setting_of works) works.own.items
-  pub outputs : map output_of works.ports.items ≡ outputs_of (setting_of works) works.clock
-  pub kinds : All (λ port. port.kind ≡ kind_of (setting_of works) port.node) works.ports.items
-  pub rooms : All (λ port. works.shape.plan.now.frame * (2 * channels_of port.kind) ≤ port.piece.room) works.ports.items
-  pub feeds : map feed_of works.feeds.items ≡ feeds_of (setting_of works) works.clock
-  pub frames : All (λ feed. length feed.frame ≡ works.shape.plan.now.frame) works.feeds.items
+pub record AreParts (parts : EngineParts) : Type 0 where
+  pub plan : IsWellFormed parts.shape.plan.now
+  pub nodes : AreNodes parts.shape.plan.now.nodes
+  pub frame : parts.shape.plan.now.frame ≤ 65536
+  pub few : length parts.shape.plan.now.nodes ≤ MAX_NODES
+  pub in_clocks : length parts.shape.clocks.now ≡ length parts.shape.plan.now.nodes
+  pub clocks : AreClocksOf parts.shape.plan.now parts.shape.clocks.now
+  pub lanes : IsClockState parts.shape.plan.now parts.shape.library.now parts.shape.clocks.now parts.lanes
+  pub in_own : length parts.own.items ≡ length parts.shape.plan.now.nodes
+  pub own : AreOwnRoots (setting_of parts) parts.own.items
+  pub outputs : map output_of parts.ports.items ≡ outputs_of (setting_of parts) parts.clock
+  pub kinds : All (λ port. port.kind ≡ kind_of (setting_of parts) port.node) parts.ports.items
+  pub rooms : All (λ port. parts.shape.plan.now.frame * (2 * channels_of port.kind) ≤ port.piece.room) parts.ports.items
+  pub feeds : map feed_of parts.feeds.items ≡ feeds_of (setting_of parts) parts.clock
+  pub frames : All (λ feed. length feed.frame ≡ parts.shape.plan.now.frame) parts.feeds.items
 
 -- an engine that stands for so many ticks and these answers: no tick of it had a fault; whatever answers follow, its readers have taken
 -- exactly these, and its state is the one that the instants imply. No answers are those of buffers that its clock does not read
-pub record EngineStands (works : Works) (ticks : ℕ) (answers : ℕ → List Answer) : Type 0 where
-  pub made : works.ticks ≡ ticks
-  pub runs : works.stopped ≡ None
-  pub others : (buffer : ℕ) → IsUnread (setting_of works) (Main works.clock) buffer → answers buffer ≡ []
-  pub lanes : (rest : ℕ → List Answer) → LanesStand (with_rest (setting_of works) answers rest) (sub_of (with_rest (setting_of works) answers rest)) (Main works.clock)
-      (ticks * works.shape.plan.now.frame) answers works.lanes
-  pub gaps_are : (rest : ℕ → List Answer) (k : ℕ) (port : Port) → slice_get works.ports.items k ≡ Some port
-      → port.gaps ≡ gaps (with_rest (setting_of works) answers rest) port.node ticks
+pub record EngineStands (parts : EngineParts) (ticks : ℕ) (answers : ℕ → List Answer) : Type 0 where
+  pub made : parts.ticks ≡ ticks
+  pub runs : parts.stopped ≡ None
+  pub others : (buffer : ℕ) → IsUnread (setting_of parts) (Main parts.clock) buffer → answers buffer ≡ []
+  pub lanes : (rest : ℕ → List Answer) → ClockStateStands (with_rest (setting_of parts) answers rest) (sub_of (with_rest (setting_of parts) answers rest)) (Main parts.clock)
+      (ticks * parts.shape.plan.now.frame) answers parts.lanes
+  pub gaps_are : (rest : ℕ → List Answer) (k : ℕ) (port : Port) → slice_get parts.ports.items k ≡ Some port
+      → port.gaps ≡ gaps (with_rest (setting_of parts) answers rest) port.node ticks
 
 -- an engine that stopped in tick t, before which it stood for these answers, after these calls: they are the first ones of the tick's,
 -- whatever answers follow theirs; and its ticks and gaps are those of the t ticks before
-pub record EngineStopped (works : Works) (t : ℕ) (answers : ℕ → List Answer) (made : List Call) : Type 0 where
-  pub ticks_are : works.ticks ≡ t
+pub record EngineStopped (parts : EngineParts) (t : ℕ) (answers : ℕ → List Answer) (made : List Call) : Type 0 where
+  pub ticks_are : parts.ticks ≡ t
   pub fault : TickFault
-  pub stopped : works.stopped ≡ Some fault
+  pub stopped : parts.stopped ≡ Some fault
   pub accepted : ℕ → Bool
-  pub begun : (rest : ℕ → List Answer) → IsBegin made (calls_of_tick (with_rest (setting_of works) (after_calls answers made) rest) accepted works.clock t)
-  pub gaps_are : (rest : ℕ → List Answer) (k : ℕ) (port : Port) → slice_get works.ports.items k ≡ Some port
-      → port.gaps_before ≡ gaps (with_rest (setting_of works) answers rest) port.node t
+  pub begun : (rest : ℕ → List Answer) → IsBegin made (calls_of_tick (with_rest (setting_of parts) (after_calls answers made) rest) accepted parts.clock t)
+  pub gaps_are : (rest : ℕ → List Answer) (k : ℕ) (port : Port) → slice_get parts.ports.items k ≡ Some port
+      → port.gaps_before ≡ gaps (with_rest (setting_of parts) answers rest) port.node t
 
 -- what the sink of this number holds, where it tells it: `held` tells it of a sink
 abbrev pub held_in : {S : Type 0} → (S → Option (List ℕ)) → List Port → List S → ℕ → Option (List ℕ)
@@ -128,5 +128,5 @@ held_in held (port ∷ ports) [] sink = None
 held_in held (port ∷ ports) (out ∷ outs) sink = if nat_eq port.sink sink then held out else held_in held ports outs sink
 
 -- what changes in a tick
-abbrev pub scene_of : {T : Type 0} → Works → T → Scene T
-scene_of works taps = record { lanes = works.lanes; ports = works.ports.items; feeds = works.feeds.items; taps = taps }
+abbrev pub scene_of : {T : Type 0} → EngineParts → T → Scene T
+scene_of parts taps = record { lanes = parts.lanes; ports = parts.ports.items; feeds = parts.feeds.items; taps = taps }

@@ -1,3 +1,5 @@
 pub mod Engines
 pub mod Ticks
 pub mod Beginnings
+pub mod ClockStates
+pub mod Runs

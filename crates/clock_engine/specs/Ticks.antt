@@ -10,34 +10,34 @@ use Rattle.node_states.specs.Ticks.{HasStopped, HasTicked}
 use Rattle.clock_outputs.specs.declared.port.Port.{Port}
 use Rattle.clock_outputs.specs.Appends.{RoseAt}
 use Rattle.clock_engine.specs.Engines.{EngineStands, EngineStopped, feeds_of, held_in, setting_of}
-use Rattle.clock_engine.specs.declared.engine.Works.{Works}
+use Rattle.clock_engine.specs.declared.engine.EngineParts.{EngineParts}
 use Rattle.clock_engine.specs.declared.fault.TickFault.{TickFault}
 use Rattle.clock_engine.specs.declared.fault.TickFault.TheVariants.{Write}
 
 -- an engine with a feed, or with a reader in its clock or below it
-abbrev pub HasEnds : Works → Type 0
-HasEnds works = HasReader works.shape.plan.now works.shape.clocks.now (Main works.clock) ⊎ (0 < length (feeds_of (setting_of works) works.clock))
+abbrev pub HasEnds : EngineParts → Type 0
+HasEnds parts = HasReader parts.shape.plan.now parts.shape.clocks.now (Main parts.clock) ⊎ (0 < length (feeds_of (setting_of parts) parts.clock))
 
 -- each sink that tells its room has room for the piece of a tick
-pub record HaveTickRoom {S : Type 0} (room : S → Option ℕ) (works : Works) (outs : List S) : Type 0 where
-  pub each : (k : ℕ) (port : Port) (out : S) → slice_get works.ports.items k ≡ Some port → slice_get outs k ≡ Some out
-      → HasRoom (room out) (works.shape.plan.now.frame * (2 * channels_of port.kind))
+pub record HaveTickRoom {S : Type 0} (room : S → Option ℕ) (parts : EngineParts) (outs : List S) : Type 0 where
+  pub each : (k : ℕ) (port : Port) (out : S) → slice_get parts.ports.items k ≡ Some port → slice_get outs k ≡ Some out
+      → HasRoom (room out) (parts.shape.plan.now.frame * (2 * channels_of port.kind))
 
 -- the same for the pieces of so many ticks
-pub record HaveTicksRoom {S : Type 0} (room : S → Option ℕ) (works : Works) (outs : List S) (ticks : ℕ) : Type 0 where
-  pub each : (k : ℕ) (port : Port) (out : S) → slice_get works.ports.items k ≡ Some port → slice_get outs k ≡ Some out
-      → HasRoom (room out) (ticks * (works.shape.plan.now.frame * (2 * channels_of port.kind)))
+pub record HaveTicksRoom {S : Type 0} (room : S → Option ℕ) (parts : EngineParts) (outs : List S) (ticks : ℕ) : Type 0 where
+  pub each : (k : ℕ) (port : Port) (out : S) → slice_get parts.ports.items k ≡ Some port → slice_get outs k ≡ Some out
+      → HasRoom (room out) (ticks * (parts.shape.plan.now.frame * (2 * channels_of port.kind)))
 
 -- the fault is that of an output's sink, whose count of faults rose
-pub record IsWriteFault {S : Type 0} (faults : S → ℕ) (works : Works) (old new : List S) (fault : TickFault) : Type 0 where
+pub record IsWriteFault {S : Type 0} (faults : S → ℕ) (parts : EngineParts) (old new : List S) (fault : TickFault) : Type 0 where
   pub place : ℕ
   pub port : Port
-  pub there : slice_get works.ports.items place ≡ Some port
+  pub there : slice_get parts.ports.items place ≡ Some port
   pub fault_is : fault ≡ Write port.sink
   pub rose : RoseAt faults place old new
 
 -- a tick that answers Ok has made some calls; whatever engine and taps stood for, they stand for these calls too
-pub record HasMade {S T : Type 0} (held : S → Option (List ℕ)) (taps_stand : T → List Call → Type 0) (old new : Works) (outs_old outs_new : List S)
+pub record HasMade {S T : Type 0} (held : S → Option (List ℕ)) (taps_stand : T → List Call → Type 0) (old new : EngineParts) (outs_old outs_new : List S)
     (taps_old taps_new : T) : Type 0 where
   pub more : List Call
   pub engine : (t : ℕ) (answers : ℕ → List Answer) → EngineStands old t answers
@@ -46,7 +46,7 @@ pub record HasMade {S T : Type 0} (held : S → Option (List ℕ)) (taps_stand :
 
 -- the same of a tick that answers a fault: the calls that were made are the first ones of the tick's, each output has grown by a part of
 -- its bytes, and the engine stopped in this tick
-pub record HasFailed {S T : Type 0} (held : S → Option (List ℕ)) (taps_stand : T → List Call → Type 0) (old new : Works) (outs_old outs_new : List S)
+pub record HasFailed {S T : Type 0} (held : S → Option (List ℕ)) (taps_stand : T → List Call → Type 0) (old new : EngineParts) (outs_old outs_new : List S)
     (taps_old taps_new : T) : Type 0 where
   pub made : List Call
   pub engine : (t : ℕ) (answers : ℕ → List Answer) → EngineStands old t answers
@@ -55,6 +55,6 @@ pub record HasFailed {S T : Type 0} (held : S → Option (List ℕ)) (taps_stand
   pub taps : (calls : List Call) → taps_stand taps_old calls → taps_stand taps_new (calls ++ made)
 
 -- the room of each sink that tells it fell by the piece of a tick
-pub record RoomsFell {S : Type 0} (room : S → Option ℕ) (works : Works) (old new : List S) : Type 0 where
-  pub each : (k : ℕ) (port : Port) (before after : S) → slice_get works.ports.items k ≡ Some port → slice_get old k ≡ Some before → slice_get new k ≡ Some after
-      → room after ≡ narrowed (works.shape.plan.now.frame * (2 * channels_of port.kind)) (room before)
+pub record RoomsFell {S : Type 0} (room : S → Option ℕ) (parts : EngineParts) (old new : List S) : Type 0 where
+  pub each : (k : ℕ) (port : Port) (before after : S) → slice_get parts.ports.items k ≡ Some port → slice_get old k ≡ Some before → slice_get new k ≡ Some after
+      → room after ≡ narrowed (parts.shape.plan.now.frame * (2 * channels_of port.kind)) (room before)

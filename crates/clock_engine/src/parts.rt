@@ -9,11 +9,11 @@ ghost use Rattle.stream_meaning.specs.Instants.{Setting, is_root, same_clock};
 ghost use Rattle.node_states.specs.declared.time.WeekTime.{WeekTime as Time};
 ghost use Rattle.engine_instants.specs.States.{HasRoomFor, over};
 ghost use Rattle.engine_instants.specs.Takes.{IsUnder};
-ghost use Rattle.engine_clocks.specs.Clocks.{AreOwnRoots};
+ghost use Rattle.sub_clocks.specs.Clocks.{AreOwnRoots};
 ghost use Rattle.clock_engine.specs.Beginnings.{AreNewStates, IsNewState};
 
 use clock_infer::NodeClock;
-use engine_clocks::child_of;
+use sub_clocks::child_of;
 use engine_instants::Shape;
 use liq_base::Memory;
 use node_states::{NodeState, WeekTime};

@@ -15,9 +15,9 @@ use Rattle.std.below.std_heap.proofs.GlobalAllocator.TheSendSync as AllocatorSen
 use Rattle.clock_outputs.specs.contracts.feed.FeedPort
 use Rattle.clock_outputs.specs.contracts.port.Port
 use Rattle.clock_engine.specs.contracts.fault.TickFault
-use Rattle.clock_engine.specs.contracts.engine.Works
+use Rattle.clock_engine.specs.contracts.engine.EngineParts
 use Rattle.engine_instants.specs.contracts.shape.Shape
-use Rattle.engine_ticks.proofs.lanes.Lanes.TheSendSync as LanesSent
+use Rattle.clock_engine.proofs.clock_state.ClockState.TheSendSync as ClockStateSent
 use Rattle.clock_outputs.proofs.port.Port.TheSendSync as PortSent
 use Rattle.clock_outputs.proofs.feed.FeedPort.TheSendSync as FeedSent
 use Rattle.clock_engine.proofs.fault.TickFault.TheSendSync as FaultSent
@@ -69,8 +69,8 @@ shape_send a = Send.struct_send (Declared.shape (Shape.the_type a)) (
   ),
 )
 
-pub works_send : (a : NamedLft) → IsSend (Works.the_field a).row
-works_send a = Send.struct_send (Declared.shape (Works.the_type a)) (
+pub parts_send : (a : NamedLft) → IsSend (EngineParts.the_field a).row
+parts_send a = Send.struct_send (Declared.shape (EngineParts.the_type a)) (
   shape_send a,
   (
     Send.plain_send _ _ _ _ _,
@@ -79,7 +79,7 @@ works_send a = Send.struct_send (Declared.shape (Works.the_type a)) (
       (
         vec_send Builtin.bool (Send.plain_send _ _ _ _ _),
         (
-          LanesSent.the_field_send,
+          ClockStateSent.the_field_send,
           (
             vec_send Port.the_row PortSent.the_send,
             (

@@ -10,7 +10,7 @@ use Rattle.clock_engine.specs.Engines.{EngineStands, setting_of}
 use Rattle.clock_engine.specs.Ticks.{HasMade, HasFailed, HaveTicksRoom, HaveTickRoom, IsWriteFault}
 use Rattle.clock_engine.specs.declared.fault.TickFault.{TickFault}
 use Rattle.clock_engine.specs.declared.fault.TickFault.TheVariants.{Write}
-use Rattle.clock_engine.specs.declared.engine.Works.{Works}
+use Rattle.clock_engine.specs.declared.engine.EngineParts.{EngineParts}
 use Rattle.liq_base.specs.Kinds.{channels_of}
 use Rattle.std.proofs.Math.Nat.{mul-le-mul_right}
 use Rattle.clock_tasks.specs.declared.task.Task.{Task}
@@ -78,9 +78,9 @@ pub record Running {S T : Type 0} (held name : S → Option (List ℕ)) (room : 
   pub taps : same old.taps new.taps
   pub many : buffers new.taps ≡ buffers old.taps
   pub on : (t : ℕ) (history : History) (first : ℕ → Option (List ℕ)) → EngineGone held t history first old.engine → WentOn held stands count t history first old new
-  pub rooms : (n : ℕ) → HaveTicksRoom room old.engine.works old.engine.outs.items (n + count) → HaveTicksRoom room new.engine.works new.engine.outs.items n
-  pub engine : (t : ℕ) (answers : ℕ → List Answer) → EngineStands old.engine.works t answers → (more : ℕ → List Answer) × EngineStands new.engine.works (t + count) more
-  pub runs : new.engine.works.stopped ≡ None
+  pub rooms : (n : ℕ) → HaveTicksRoom room old.engine.parts old.engine.outs.items (n + count) → HaveTicksRoom room new.engine.parts new.engine.outs.items n
+  pub engine : (t : ℕ) (answers : ℕ → List Answer) → EngineStands old.engine.parts t answers → (more : ℕ → List Answer) × EngineStands new.engine.parts (t + count) more
+  pub runs : new.engine.parts.stopped ≡ None
 
 -- what stopped is not nothing, and is one fault
 some_not_none : {A : Type 0} {o : Option A} {x : A} → o ≡ Some x → o ≡ None → ⊥
@@ -90,7 +90,7 @@ some_is : {A : Type 0} {o : Option A} (x y : A) → o ≡ Some x → o ≡ Some 
 some_is x y one other = cc
 
 module _ {S T : Type 0} (held name : S → Option (List ℕ)) (room : S → Option ℕ) (faults : S → ℕ) (stands : T → List Call → Type 0) (buffers : T → ℕ) (same : T → T → Type 0) where
-  pub running_none : (x : Task S T) → IsWhole x.engine → same x.taps x.taps → x.engine.works.stopped ≡ None → Running held name room faults stands buffers same 0 x x
+  pub running_none : (x : Task S T) → IsWhole x.engine → same x.taps x.taps → x.engine.parts.stopped ≡ None → Running held name room faults stands buffers same 0 x x
   running_none x whole s runs = record {
     whole = whole;
     clock = record { setting = refl; clock = refl; outs = refl; kept = kept_not name faults x.engine.outs.items; none_fell = fell_not faults x.engine.outs.items };
@@ -102,15 +102,15 @@ module _ {S T : Type 0} (held name : S → Option (List ℕ)) (room : S → Opti
       gone = subst (λ n. EngineGone held n h first x.engine) (sym (add-zero t)) gone;
       taps = λ calls st. subst (λ l. stands x.taps l) (sym (append-nil calls)) st;
     };
-    rooms = λ n r. subst (λ k. HaveTicksRoom room x.engine.works x.engine.outs.items k) (add-zero n) r;
-    engine = λ t answers st. (answers, subst (λ n. EngineStands x.engine.works n answers) (sym (add-zero t)) st);
+    rooms = λ n r. subst (λ k. HaveTicksRoom room x.engine.parts x.engine.outs.items k) (add-zero n) r;
+    engine = λ t answers st. (answers, subst (λ n. EngineStands x.engine.parts n answers) (sym (add-zero t)) st);
     runs = runs;
   }
 
   module _ (count : ℕ) (x y : Task S T) (e : ClockEngine S) (s : T) (running : Running held name room faults stands buffers same count x y) (same_clock : IsSameClock name faults y.engine e) (whole_e : IsWhole e) where
     pub running_more : same x.taps s → buffers s ≡ buffers y.taps
-        → HasMade held stands y.engine.works e.works y.engine.outs.items e.outs.items y.taps s
-        → ((n : ℕ) → HaveTicksRoom room y.engine.works y.engine.outs.items (n + 1) → HaveTicksRoom room e.works e.outs.items n) → e.works.stopped ≡ None
+        → HasMade held stands y.engine.parts e.parts y.engine.outs.items e.outs.items y.taps s
+        → ((n : ℕ) → HaveTicksRoom room y.engine.parts y.engine.outs.items (n + 1) → HaveTicksRoom room e.parts e.outs.items n) → e.parts.stopped ≡ None
         → Running held name room faults stands buffers same (suc count) x (record { engine = e; taps = s })
     running_more taps many made rooms runs = record {
       whole = whole_e;
@@ -122,7 +122,7 @@ module _ {S T : Type 0} (held name : S → Option (List ℕ)) (room : S → Opti
           let ticked = made.engine (t + count) _ w.gone.stand in
           let after : History = extended w.after (t + count) made.more ticked.accepted in
           let below : Agree (t + count) w.after after = extended_below w.after (t + count) made.more ticked.accepted in
-          let all = gone_more (setting_of y.engine.works) stands_for (held_of held) y.engine.works.clock (t + count) w.after first y.engine e w.gone made.more ticked in
+          let all = gone_more (setting_of y.engine.parts) stands_for (held_of held) y.engine.parts.clock (t + count) w.after first y.engine e w.gone made.more ticked in
           record {
             after = after;
             agree = agree_then t (t + count) h w.after after (omega arith) w.agree below;
@@ -134,15 +134,15 @@ module _ {S T : Type 0} (held name : S → Option (List ℕ)) (room : S → Opti
                 let at : after.calls (t + count) ≡ made.more = extended_at w.after (t + count) made.more ticked.accepted in
                 subst (λ l. stands s l) (append_assoc calls (joined_from w.after.calls t count) made.more ∙ (λ i. calls ++ (sym old i ++ sym at i))) (made.taps (calls ++ joined_from w.after.calls t count) (w.taps calls st));
           };
-      rooms = λ n r. rooms n (running.rooms (n + 1) (subst (λ k. HaveTicksRoom room x.engine.works x.engine.outs.items k) (grind arith) r));
+      rooms = λ n r. rooms n (running.rooms (n + 1) (subst (λ k. HaveTicksRoom room x.engine.parts x.engine.outs.items k) (grind arith) r));
       engine = λ t answers st. (let m = running.engine t answers st in let ticked = made.engine (t + count) m.0 m.1 in
-          (after_calls m.0 made.more, subst (λ n. EngineStands e.works n (after_calls m.0 made.more)) (sym (add-suc t count)) ticked.stand));
+          (after_calls m.0 made.more, subst (λ n. EngineStands e.parts n (after_calls m.0 made.more)) (sym (add-suc t count)) ticked.stand));
       runs = runs;
     }
 
     pub running_broke : (whole : ℕ) → count < whole → same x.taps s → buffers s ≡ buffers y.taps
-        → HasFailed held stands y.engine.works e.works y.engine.outs.items e.outs.items y.taps s
-        → (fault : TickFault) → e.works.stopped ≡ Some fault → ((sink : ℕ) → fault ≡ Write sink → IsWriteFault faults y.engine.works y.engine.outs.items e.outs.items fault)
+        → HasFailed held stands y.engine.parts e.parts y.engine.outs.items e.outs.items y.taps s
+        → (fault : TickFault) → e.parts.stopped ≡ Some fault → ((sink : ℕ) → fault ≡ Write sink → IsWriteFault faults y.engine.parts y.engine.outs.items e.outs.items fault)
         → WasRun held name room faults stands buffers same whole x (record { engine = e; taps = s })
     running_broke whole fewer taps many failed fault stopped cause = record {
       whole = whole_e;
@@ -153,7 +153,7 @@ module _ {S T : Type 0} (held name : S → Option (List ℕ)) (room : S → Opti
         on = λ t h first gone runs. absurd (some_not_none stopped runs);
         halted = λ t h first gone no.
             let w = running.on t h first gone in
-            let part = gone_part (setting_of y.engine.works) stands_for (held_of held) y.engine.works.clock (t + count) w.after first y.engine e w.gone failed.made
+            let part = gone_part (setting_of y.engine.parts) stands_for (held_of held) y.engine.parts.clock (t + count) w.after first y.engine e w.gone failed.made
             (failed.engine (t + count) _ w.gone.stand) in
             record {
               made = count;
@@ -165,7 +165,7 @@ module _ {S T : Type 0} (held name : S → Option (List ℕ)) (room : S → Opti
       };
       write = λ sink is. (let e' : fault ≡ Write sink = some_is fault (Write sink) stopped is in
           write_since name faults x.engine y.engine e sink running.clock
-          (write_of name faults y.engine e sink running.whole.works (subst (IsWriteFault faults y.engine.works y.engine.outs.items e.outs.items) e' (cause sink e'))));
+          (write_of name faults y.engine e sink running.whole.parts (subst (IsWriteFault faults y.engine.parts y.engine.outs.items e.outs.items) e' (cause sink e'))));
       rooms = λ n runs. absurd (some_not_none stopped runs);
     }
 
@@ -180,15 +180,15 @@ module _ {S T : Type 0} (held name : S → Option (List ℕ)) (room : S → Opti
     rooms = λ n runs. running.rooms n;
   })
 
-module _ {S : Type 0} (room : S → Option ℕ) (works : Works) (outs : List S) where
-  pub rooms_fewer : (m n : ℕ) → m ≤ n → HaveTicksRoom room works outs n → HaveTicksRoom room works outs m
+module _ {S : Type 0} (room : S → Option ℕ) (parts : EngineParts) (outs : List S) where
+  pub rooms_fewer : (m n : ℕ) → m ≤ n → HaveTicksRoom room parts outs n → HaveTicksRoom room parts outs m
   rooms_fewer m n h r = record {
     each = λ k port out p o left e. (let most = r.each k port out p o left e in
-        let less : m * (works.shape.plan.now.frame * (2 * channels_of port.kind)) ≤ n * (works.shape.plan.now.frame * (2 * channels_of port.kind)) = mul-le-mul_right (works.shape.plan.now.frame * (2 * channels_of port.kind)) h in omega (arith, most, less));
+        let less : m * (parts.shape.plan.now.frame * (2 * channels_of port.kind)) ≤ n * (parts.shape.plan.now.frame * (2 * channels_of port.kind)) = mul-le-mul_right (parts.shape.plan.now.frame * (2 * channels_of port.kind)) h in omega (arith, most, less));
   }
 
-  pub room_one : HaveTicksRoom room works outs 1 → HaveTickRoom room works outs
+  pub room_one : HaveTicksRoom room parts outs 1 → HaveTickRoom room parts outs
   room_one r = record {
     each = λ k port out p o left e. (let most = r.each k port out p o left e in
-        let one : 1 * (works.shape.plan.now.frame * (2 * channels_of port.kind)) ≡ works.shape.plan.now.frame * (2 * channels_of port.kind) = grind arith in omega (arith, most, one));
+        let one : 1 * (parts.shape.plan.now.frame * (2 * channels_of port.kind)) ≡ parts.shape.plan.now.frame * (2 * channels_of port.kind) = grind arith in omega (arith, most, one));
   }

@@ -7,7 +7,7 @@ use Rattle.clock_outputs.specs.Appends.{NoneFell, RoseAt}
 use Rattle.clock_engine.specs.declared.engine.ClockEngine.{ClockEngine}
 use Rattle.clock_engine.specs.declared.fault.TickFault.{TickFault}
 use Rattle.clock_engine.specs.declared.fault.TickFault.TheVariants.{Write}
-use Rattle.clock_engine.specs.Engines.{AreWorks, output_of, outputs_of}
+use Rattle.clock_engine.specs.Engines.{AreParts, output_of, outputs_of}
 use Rattle.clock_engine.specs.Ticks.{IsWriteFault}
 use Rattle.clock_tasks.specs.Tasks.{IsSameClock, IsWriteOf}
 
@@ -35,11 +35,11 @@ sink_is sink other e = cc
 
 module _ {S : Type 0} (name : S → Option (List ℕ)) (faults : S → ℕ) where
   -- the fault of a tick is that of an output
-  pub write_of : (old new : ClockEngine S) (sink : ℕ) → AreWorks old.works → IsWriteFault faults old.works old.outs.items new.outs.items (Write sink) → IsWriteOf faults sink old new
-  write_of old new sink works cause = record {
+  pub write_of : (old new : ClockEngine S) (sink : ℕ) → AreParts old.parts → IsWriteFault faults old.parts old.outs.items new.outs.items (Write sink) → IsWriteOf faults sink old new
+  write_of old new sink parts cause = record {
     place = cause.place;
     node = cause.port.node;
-    there = ap (λ xs. slice_get xs cause.place) (sym works.outputs) ∙ slice_get-map output_of old.works.ports.items cause.place ∙ ap (option_map output_of) cause.there
+    there = ap (λ xs. slice_get xs cause.place) (sym parts.outputs) ∙ slice_get-map output_of old.parts.ports.items cause.place ∙ ap (option_map output_of) cause.there
         ∙ ap (λ n. Some (n, cause.port.node)) (sink_is sink cause.port.sink cause.fault_is);
     rose = cause.rose;
   }

@@ -5,26 +5,26 @@ use Rattle.op_leaf.specs.Readers.{Answer}
 use Rattle.clock_outputs.specs.Appends.{AreKept, NoneFell, RoseAt}
 use Rattle.clock_engine.specs.declared.engine.ClockEngine.{ClockEngine}
 use Rattle.clock_engine.specs.declared.fault.TickFault.TheVariants.{Write}
-use Rattle.clock_engine.specs.Engines.{AreWorks, EngineStands, held_in, outputs_of, setting_of}
+use Rattle.clock_engine.specs.Engines.{AreParts, EngineStands, held_in, outputs_of, setting_of}
 use Rattle.clock_engine.specs.Ticks.{HaveTicksRoom}
 use Rattle.clock_tasks.specs.declared.task.Task.{Task}
 use Rattle.clock_tasks.specs.Histories.{History, joined_from, Agree, HasGone, HasGonePart}
 
 abbrev pub held_of : {S : Type 0} → (S → Option (List ℕ)) → ClockEngine S → ℕ → Option (List ℕ)
-held_of held e = held_in held e.works.ports.items e.outs.items
+held_of held e = held_in held e.parts.ports.items e.outs.items
 
 abbrev pub stands_for : {S : Type 0} → ClockEngine S → ℕ → (ℕ → List Answer) → Type 0
-stands_for e t answers = EngineStands e.works t answers
+stands_for e t answers = EngineStands e.parts t answers
 
 -- the engine's parts fit together
 pub record IsWhole {S : Type 0} (e : ClockEngine S) : Type 0 where
-  pub works : AreWorks e.works
-  pub sinks : length e.outs.items ≡ length e.works.ports.items
+  pub parts : AreParts e.parts
+  pub sinks : length e.outs.items ≡ length e.parts.ports.items
 
 -- the same clock of the same plan, with the same sinks
 pub record IsSameClock {S : Type 0} (name : S → Option (List ℕ)) (faults : S → ℕ) (old new : ClockEngine S) : Type 0 where
-  pub setting : setting_of new.works ≡ setting_of old.works
-  pub clock : new.works.clock ≡ old.works.clock
+  pub setting : setting_of new.parts ≡ setting_of old.parts
+  pub clock : new.parts.clock ≡ old.parts.clock
   pub outs : length new.outs.items ≡ length old.outs.items
   pub kept : AreKept name faults old.outs.items new.outs.items
   pub none_fell : NoneFell faults old.outs.items new.outs.items
@@ -33,28 +33,28 @@ pub record IsSameClock {S : Type 0} (name : S → Option (List ℕ)) (faults : S
 pub record IsWriteOf {S : Type 0} (faults : S → ℕ) (sink : ℕ) (old new : ClockEngine S) : Type 0 where
   pub place : ℕ
   pub node : ℕ
-  pub there : slice_get (outputs_of (setting_of old.works) old.works.clock) place ≡ Some (sink, node)
+  pub there : slice_get (outputs_of (setting_of old.parts) old.parts.clock) place ≡ Some (sink, node)
   pub rose : RoseAt faults place old.outs.items new.outs.items
 
 -- the engine stands for some ticks and answers
 pub record DoesStand {S : Type 0} (e : ClockEngine S) : Type 0 where
   pub ticks : ℕ
   pub answers : ℕ → List Answer
-  pub stand : EngineStands e.works ticks answers
+  pub stand : EngineStands e.parts ticks answers
 
 -- it may make so many ticks
 pub record CanRun {S T : Type 0} (room : S → Option ℕ) (buffers : T → ℕ) (count : ℕ) (x : Task S T) : Type 0 where
   pub whole : IsWhole x.engine
-  pub many : buffers x.taps ≡ length x.engine.works.shape.plan.now.buffers
+  pub many : buffers x.taps ≡ length x.engine.parts.shape.plan.now.buffers
   pub stands : DoesStand x.engine
-  pub few : x.engine.works.ticks + count ≤ 1000000000
-  pub rooms : HaveTicksRoom room x.engine.works x.engine.outs.items count
+  pub few : x.engine.parts.ticks + count ≤ 1000000000
+  pub rooms : HaveTicksRoom room x.engine.parts x.engine.outs.items count
 
 abbrev pub EngineGone : {S : Type 0} → (S → Option (List ℕ)) → (t : ℕ) → History → (ℕ → Option (List ℕ)) → ClockEngine S → Type 0
-EngineGone held t history first e = HasGone (setting_of e.works) stands_for (held_of held) e.works.clock t history first e
+EngineGone held t history first e = HasGone (setting_of e.parts) stands_for (held_of held) e.parts.clock t history first e
 
 abbrev pub EngineGonePart : {S : Type 0} → (S → Option (List ℕ)) → (t : ℕ) → History → (ℕ → Option (List ℕ)) → ClockEngine S → Type 0
-EngineGonePart held t history first e = HasGonePart (setting_of e.works) (held_of held) e.works.clock t history first e
+EngineGonePart held t history first e = HasGonePart (setting_of e.parts) (held_of held) e.parts.clock t history first e
 
 -- it made all ticks
 pub record WentOn {S T : Type 0} (held : S → Option (List ℕ)) (stands : T → List Call → Type 0) (count t : ℕ) (history : History) (first : ℕ → Option (List ℕ))
@@ -73,9 +73,9 @@ pub record Halted {S T : Type 0} (held : S → Option (List ℕ)) (count t : ℕ
   pub part : EngineGonePart held (t + made) after first new.engine
 
 pub record RanTask {S T : Type 0} (held : S → Option (List ℕ)) (stands : T → List Call → Type 0) (count : ℕ) (old new : Task S T) : Type 0 where
-  pub on : (t : ℕ) (history : History) (first : ℕ → Option (List ℕ)) → EngineGone held t history first old.engine → new.engine.works.stopped ≡ None
+  pub on : (t : ℕ) (history : History) (first : ℕ → Option (List ℕ)) → EngineGone held t history first old.engine → new.engine.parts.stopped ≡ None
       → WentOn held stands count t history first old new
-  pub halted : (t : ℕ) (history : History) (first : ℕ → Option (List ℕ)) → EngineGone held t history first old.engine → (new.engine.works.stopped ≡ None → ⊥)
+  pub halted : (t : ℕ) (history : History) (first : ℕ → Option (List ℕ)) → EngineGone held t history first old.engine → (new.engine.parts.stopped ≡ None → ⊥)
       → Halted held count t history first old new
 
 pub record WasRun {S T : Type 0} (held name : S → Option (List ℕ)) (room : S → Option ℕ) (faults : S → ℕ) (stands : T → List Call → Type 0) (buffers : T → ℕ) (same : T → T → Type 0)
@@ -85,5 +85,5 @@ pub record WasRun {S T : Type 0} (held name : S → Option (List ℕ)) (room : S
   pub taps : same old.taps new.taps
   pub many : buffers new.taps ≡ buffers old.taps
   pub ran : RanTask held stands count old new
-  pub write : (sink : ℕ) → new.engine.works.stopped ≡ Some (Write sink) → IsWriteOf faults sink old.engine new.engine
-  pub rooms : (n : ℕ) → new.engine.works.stopped ≡ None → HaveTicksRoom room old.engine.works old.engine.outs.items (n + count) → HaveTicksRoom room new.engine.works new.engine.outs.items n
+  pub write : (sink : ℕ) → new.engine.parts.stopped ≡ Some (Write sink) → IsWriteOf faults sink old.engine new.engine
+  pub rooms : (n : ℕ) → new.engine.parts.stopped ≡ None → HaveTicksRoom room old.engine.parts old.engine.outs.items (n + count) → HaveTicksRoom room new.engine.parts new.engine.outs.items n

@@ -61,7 +61,7 @@ same_not name faults e = record {
     some_one p q = cc
 
 -- an engine that has made no tick
-gone_none : {S : Type 0} (held : S → Option (List ℕ)) (e : ClockEngine S) → EngineStands e.works 0 (λ b. []) → EngineGone held 0 nothing (held_of held e) e
+gone_none : {S : Type 0} (held : S → Option (List ℕ)) (e : ClockEngine S) → EngineStands e.parts 0 (λ b. []) → EngineGone held 0 nothing (held_of held e) e
 gone_none held e st = record { stand = st; ticks = λ i less rest. absurd (omega (arith, less)); holds = λ rest sink node out. grown_none (held_of held e sink) }
 
 map_same : {S R : Type 0} (old new : List (Task S (ThreadTaps R))) → length new ≡ length old → ((k : ℕ) (d : Task S (ThreadTaps R)) → k < length old → (slice_index_or new k d).engine ≡ (slice_index_or old k d).engine)
@@ -108,7 +108,7 @@ module _ {S R : Type 0} (held name : S → Option (List ℕ)) (room : S → Opti
         gone = subst (λ t. EngineGone held t nothing (held_of held x.engine) x.engine) (sym zero_is) (gone_none held x.engine f.stands);
         whole = f.whole;
         same = same_not name faults x.engine;
-        rooms = λ n is. subst (λ m. HaveTicksRoom room x.engine.works x.engine.outs.items m) (let e : N ≡ n = omega (arith, is, zero_is) in e) f.rooms;
+        rooms = λ n is. subst (λ m. HaveTicksRoom room x.engine.parts x.engine.outs.items m) (let e : N ≡ n = omega (arith, is, zero_is) in e) f.rooms;
         wired = record {
           puts = λ p e low. (let g = j.puts k p d e (in_bare k h) low in (g.1, g.2, g.3));
           takes = λ p e low. (let g = j.takes k p d e (in_bare k h) low in (g.1, g.2, g.3));
@@ -146,7 +146,7 @@ module _ {S R : Type 0} (held name : S → Option (List ℕ)) (room : S → Opti
   long : length joined ≡ map_of.running
   long = j.many ∙ sym (map_long (engine_of {S = S} {R = R}) bare) ∙ fresh.engines_are.all
 
-  shared : (d : Task S (ThreadTaps R)) (k : ℕ) → k < length joined → (setting_of (slice_index_or joined k d).engine.works ≡ setting) × ((slice_index_or joined k d).engine.works.clock ≡ k)
+  shared : (d : Task S (ThreadTaps R)) (k : ℕ) → k < length joined → (setting_of (slice_index_or joined k d).engine.parts ≡ setting) × ((slice_index_or joined k d).engine.parts.clock ≡ k)
   shared d k h = (let f = fresh_at k d (in_bare k h) in (f.over, f.clock))
 
   module _ (now : List (Task S (ThreadTaps R))) (logs : List (List Answers)) (d : Task S (ThreadTaps R)) (done : DoneAt held name room faults wires W N joined now logs d) (inside : 0 < length joined) where
@@ -224,7 +224,7 @@ module _ {S R : Type 0} (held name : S → Option (List ℕ)) (room : S → Opti
           is = read (map engine_of now) k d.engine in_new ∙ ap Some (map_get engine_of now k d d.engine in_now);
           stopped = w.stopped d;
           lowest = λ j engine below there. (let inside : j < length now = omega (arith, below, in_now) in
-              ap (λ (e : ClockEngine S). e.works.stopped) (sym (get_or_from_slice_get (map engine_of now) j engine d.engine there) ∙ map_get engine_of now j d d.engine inside) ∙ w.lowest j d below);
+              ap (λ (e : ClockEngine S). e.parts.stopped) (sym (get_or_from_slice_get (map engine_of now) j engine d.engine there) ∙ map_get engine_of now j d d.engine inside) ∙ w.lowest j d below);
           place = one.place;
           node = one.node;
           there = (λ i. slice_get (outputs_of (sym sh.0 i) (sym sh.1 i)) one.place) ∙ one.there;

@@ -25,10 +25,10 @@ use Rattle.clock_threads.specs.Logs.{counts_in}
 -- the engine of clock k, which has made no tick, with room for N
 pub record IsFresh {S : Type 0} (room : S → Option ℕ) (setting : Setting) (N k : ℕ) (engine : ClockEngine S) : Type 0 where
   pub whole : IsWhole engine
-  pub over : setting_of engine.works ≡ setting
-  pub clock : engine.works.clock ≡ k
-  pub stands : EngineStands engine.works 0 (λ buffer. [])
-  pub rooms : HaveTicksRoom room engine.works engine.outs.items N
+  pub over : setting_of engine.parts ≡ setting
+  pub clock : engine.parts.clock ≡ k
+  pub stands : EngineStands engine.parts 0 (λ buffer. [])
+  pub rooms : HaveTicksRoom room engine.parts engine.outs.items N
 
 -- the engines of all running clocks, in their order, over one setting of this plan
 pub record AreEngines {S : Type 0} (room : S → Option ℕ) (plan : Plan) (clocks : ClockMap) (N : ℕ) (setting : Setting) (engines : List (ClockEngine S)) : Type 0 where
@@ -48,7 +48,7 @@ pub record HasMadeAll {S : Type 0} (held name : S → Option (List ℕ)) (faults
   pub same : IsSameClock name faults old new
   pub answers : ℕ → List Answer
   pub rest : ℕ → List Answer
-  pub stands : EngineStands new.works N answers
+  pub stands : EngineStands new.parts N answers
   pub are : with_rest setting answers rest ≡ setting_in setting run
   pub bytes : (sink node : ℕ) → IsOutput setting k sink node → held_of held new sink ≡ grown (ticks_bytes (setting_in setting run) node N) (held_of held old sink)
 
@@ -87,8 +87,8 @@ pub record IsWriteEnd {S : Type 0} (faults : S → ℕ) (setting : Setting) (clo
   pub after : ClockEngine S
   pub was : slice_get old clock ≡ Some before
   pub is : slice_get new clock ≡ Some after
-  pub stopped : after.works.stopped ≡ Some (Refused sink)
-  pub lowest : (k : ℕ) (engine : ClockEngine S) → k < clock → slice_get new k ≡ Some engine → engine.works.stopped ≡ None
+  pub stopped : after.parts.stopped ≡ Some (Refused sink)
+  pub lowest : (k : ℕ) (engine : ClockEngine S) → k < clock → slice_get new k ≡ Some engine → engine.parts.stopped ≡ None
   pub place : ℕ
   pub node : ℕ
   pub there : slice_get (outputs_of setting clock) place ≡ Some (sink, node)

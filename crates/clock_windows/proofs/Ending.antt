@@ -132,7 +132,7 @@ module _ {S R : Type 0} where
           many = c.lists ∙ sym r ∙ ap (λ set. length set.plan.buffers) (sym c.same.setting);
           stands = record { ticks = start W N l.windows; answers = answers_by (l.going.histories k) (start W N l.windows); stand = c.gone.stand };
           few = (let t = c.gone.stand.made in omega (arith, t, at, most_left, few));
-          rooms = rooms_fewer room (slice_index_or now k d).engine.works (slice_index_or now k d).engine.outs.items count (N - made) (omega (arith, most_left)) (c.rooms (N - made) (omega (arith, at, less)));
+          rooms = rooms_fewer room (slice_index_or now k d).engine.parts (slice_index_or now k d).engine.outs.items count (N - made) (omega (arith, most_left)) (c.rooms (N - made) (omega (arith, at, less)));
         })
 
     module _ (made count : ℕ) (first now mid : List (Task S (ThreadTaps R))) (start_logs logs : List (List Answers)) (ready : IsReady held name room faults wires W N first start_logs) (less : made < N) (count_is : count ≡ min W (N - made)) (loop : Loop made first now logs)
@@ -140,14 +140,14 @@ module _ {S R : Type 0} where
       next_at : (d : Task S (ThreadTaps R)) → start W N (suc (loop.at d).windows) ≡ start W N (loop.at d).windows + count
       next_at d = start_next W N (loop.at d).windows made count (loop.at d).is less count_is
 
-      pub loop_close : ((k : ℕ) (d : Task S (ThreadTaps R)) → k < length mid → (slice_index_or mid k d).engine.works.stopped ≡ None) → MayClose wires mid
+      pub loop_close : ((k : ℕ) (d : Task S (ThreadTaps R)) → k < length mid → (slice_index_or mid k d).engine.parts.stopped ≡ None) → MayClose wires mid
       loop_close all_run = with_one mid (let s = ready.some in let m = loop.many in omega (arith, s, m, mid_many)) (λ d.
           may_close held name room faults wires W N (loop.at d).windows d count first now mid logs (next_at d) ready.places (λ i h. start_up W N i) (loop.at d).going (λ k h. ran k d h) mid_many (λ k h. all_run k d h) ready.few)
 
       pub loop_logs : length logs ≡ length wires
       loop_logs = with_one mid (let s = ready.some in let m = loop.many in omega (arith, s, m, mid_many)) (λ d. (loop.at d).going.logged.many)
 
-      pub loop_more : (all_run : (k : ℕ) (d : Task S (ThreadTaps R)) → k < length mid → (slice_index_or mid k d).engine.works.stopped ≡ None)
+      pub loop_more : (all_run : (k : ℕ) (d : Task S (ThreadTaps R)) → k < length mid → (slice_index_or mid k d).engine.parts.stopped ≡ None)
           (shut last : List (Task S (ThreadTaps R))) (after : List (List Answers)) → AllClosed wires mid shut logs after → AllEndedTasks shut last → Loop (made + count) first last after
       loop_more all_run shut last after closed ends = record {
         many = (let a = ends.many in let b = closed.tasks.many in let c = loop.many in omega (arith, a, b, c, mid_many));
@@ -172,7 +172,7 @@ module _ {S R : Type 0} where
         agree : Agree (start W N (loop.at d).windows) ((loop.at d).going.histories k) g
         reached : k < length first → CameTo held name faults W N (loop.at d).windows g (slice_index_or first k d) (slice_index_or mid k d)
 
-      stops : (d : Task S (ThreadTaps R)) (k : ℕ) → k < length first → (o : Option TickFault) → (slice_index_or mid k d).engine.works.stopped ≡ o → (g : History) × At d k g
+      stops : (d : Task S (ThreadTaps R)) (k : ℕ) → k < length first → (o : Option TickFault) → (slice_index_or mid k d).engine.parts.stopped ≡ o → (g : History) × At d k g
       stops d k less' None e =
           let c = (loop.at d).going in let t = start W N (loop.at d).windows in let m = loop.many in let within : k < length now = omega (arith, less', m) in
           let r = ran k d within in let n = next_at d in
@@ -186,7 +186,7 @@ module _ {S R : Type 0} where
 
       abbrev chosen : (d : Task S (ThreadTaps R)) (k : ℕ) → (g : History) × At d k g
       chosen d k = elim (low_or_high k (length first)) [
-        | inl low ↦ stops d k low (slice_index_or mid k d).engine.works.stopped refl
+        | inl low ↦ stops d k low (slice_index_or mid k d).engine.parts.stopped refl
         | inr high ↦ ((loop.at d).going.histories k, record { agree = agree_none (start W N (loop.at d).windows) ((loop.at d).going.histories k); reached = λ low. absurd (omega (arith, low, high)) })
       ]
 
@@ -210,12 +210,12 @@ module _ {S R : Type 0} where
       pub loop_write : (end : End) → IsToldByLowest mid end → (clock sink : ℕ) → end ≡ Write clock sink → IsWriteAt faults clock sink first mid
       loop_write end told clock sink e =
           let m = loop.many in let within : told.place < length first = (let w = told.within in omega (arith, w, m, mid_many)) in
-          let refused : (d : Task S (ThreadTaps R)) → told.fault ≡ Refused sink = λ d. write_sink (slice_index_or mid told.place d).engine.works.clock told.fault clock sink (sym (told.end_is d) ∙ e) in
-          let stopped : (d : Task S (ThreadTaps R)) → (slice_index_or mid told.place d).engine.works.stopped ≡ Some (Refused sink) = λ d. told.stopped d ∙ ap Some (refused d) in
+          let refused : (d : Task S (ThreadTaps R)) → told.fault ≡ Refused sink = λ d. write_sink (slice_index_or mid told.place d).engine.parts.clock told.fault clock sink (sym (told.end_is d) ∙ e) in
+          let stopped : (d : Task S (ThreadTaps R)) → (slice_index_or mid told.place d).engine.parts.stopped ≡ Some (Refused sink) = λ d. told.stopped d ∙ ap Some (refused d) in
           record {
             place = told.place;
             within = within;
-            clock_is = λ d. write_clock (slice_index_or mid told.place d).engine.works.clock told.fault clock sink (sym (told.end_is d) ∙ e);
+            clock_is = λ d. write_clock (slice_index_or mid told.place d).engine.parts.clock told.fault clock sink (sym (told.end_is d) ∙ e);
             stopped = stopped;
             lowest = told.lowest;
             write = λ d. (let here : told.place < length now = omega (arith, within, m) in

@@ -30,7 +30,7 @@ got_same h t = fun_ext (λ b. in_takes b (joined_upto h.calls t))
 
 module _ {S R : Type 0} (held name : S → Option (List ℕ)) (room : S → Option ℕ) (faults : S → ℕ) (wires : List Wire) (W N : ℕ) (first now : List (Task S (ThreadTaps R))) (logs : List (List Told)) (d : Task S (ThreadTaps R))
     (done : DoneAt held name room faults wires W N first now logs d) (setting : Setting) (map : ClockMap) (is : IsSetting setting map) (are : AreWires setting map.running wires) (all_run : length first ≡ map.running) (some : 0 < length first)
-    (shared : (k : ℕ) → k < length first → (setting_of (slice_index_or first k d).engine.works ≡ setting) × ((slice_index_or first k d).engine.works.clock ≡ k))
+    (shared : (k : ℕ) → k < length first → (setting_of (slice_index_or first k d).engine.parts ≡ setting) × ((slice_index_or first k d).engine.parts.clock ≡ k))
     (places : (b : ℕ) → b < length wires → (wire_at wires b).from < length first × ((wire_at wires b).to < length first)) where
   abbrev pub hs : ℕ → History
   hs = done.going.histories
@@ -38,10 +38,10 @@ module _ {S R : Type 0} (held name : S → Option (List ℕ)) (room : S → Opti
   abbrev engine_of : ℕ → ClockEngine S
   engine_of k = (slice_index_or now k d).engine
 
-  setting_is : (k : ℕ) → k < length first → setting_of (engine_of k).works ≡ setting
+  setting_is : (k : ℕ) → k < length first → setting_of (engine_of k).parts ≡ setting
   setting_is k h = (done.going.clocks k h).same.setting ∙ (shared k h).0
 
-  clock_is : (k : ℕ) → k < length first → (engine_of k).works.clock ≡ k
+  clock_is : (k : ℕ) → k < length first → (engine_of k).parts.clock ≡ k
   clock_is k h = (done.going.clocks k h).same.clock ∙ (shared k h).1
 
   ticks : (m : ℕ) → m < length first → (i : ℕ) → i < N → (rest : Answers) → (hs m).calls i ≡ meant setting (and_rest (got_by (hs m) (suc i)) rest) ((hs m).accepted i) m i
@@ -71,18 +71,18 @@ module _ {S R : Type 0} (held name : S → Option (List ℕ)) (room : S → Opti
       let most : N ≤ N = omega arith in
       let a = answers_whole (meant setting) wires (length first) own W N done.windows done.all hs k h (ticks k h) N most in
       let rest : Answers = λ b. (rests (meant setting) wires (length first) own W N done.windows done.all hs k h (ticks k h) N most b).0 in
-      let there : IsOutput (setting_of (engine_of k).works) (engine_of k).works.clock sink node =
+      let there : IsOutput (setting_of (engine_of k).parts) (engine_of k).parts.clock sink node =
       subst (λ (z : Setting × ℕ). IsOutput z.0 z.1 sink node) (λ j. (sym (setting_is k h) j, sym (clock_is k h) j)) out in
       (done.going.clocks k h).gone.holds rest sink node there
       ∙ (λ j. grown (ticks_bytes (answered (setting_is k h j) (and_rest (got_same (hs k) (done.all j) j) rest)) node (done.all j)) (held_of held (slice_index_or first k d).engine sink))
       ∙ ap (λ (A : Answers). grown (ticks_bytes (answered setting A) node N) (held_of held (slice_index_or first k d).engine sink)) a
 
   -- an engine stands for all its ticks, and for what the takes of the record got of the buffers that it reads
-  pub done_stands : (k : ℕ) → k < length first → (answers : Answers) × (rest : Answers) × EngineStands (engine_of k).works N answers × (and_rest answers rest ≡ answers_of done_windows)
+  pub done_stands : (k : ℕ) → k < length first → (answers : Answers) × (rest : Answers) × EngineStands (engine_of k).parts N answers × (and_rest answers rest ≡ answers_of done_windows)
   done_stands k h =
       let most : N ≤ N = omega arith in (
         got_by (hs k) N,
         (λ b. (rests (meant setting) wires (length first) own W N done.windows done.all hs k h (ticks k h) N most b).0),
-        subst (λ (z : ℕ × Answers). EngineStands (engine_of k).works z.0 z.1) (λ j. (done.all j, got_same (hs k) (done.all j) j)) (done.going.clocks k h).gone.stand,
+        subst (λ (z : ℕ × Answers). EngineStands (engine_of k).parts z.0 z.1) (λ j. (done.all j, got_same (hs k) (done.all j) j)) (done.going.clocks k h).gone.stand,
         answers_whole (meant setting) wires (length first) own W N done.windows done.all hs k h (ticks k h) N most,
       )

@@ -89,7 +89,7 @@ module _ {S R : Type 0} (held name : S → Option (List ℕ)) (room : S → Opti
       (going : Going held name room faults wires W N j first now logs d)
       (ran : (k : ℕ) → k < length now → WasRun held name room faults TapsStand TapsBuffers SameTaps count (slice_index_or now k d) (slice_index_or mid k d))
       (mid_many : length mid ≡ length now)
-      (all_run : (k : ℕ) → k < length mid → (slice_index_or mid k d).engine.works.stopped ≡ None) where
+      (all_run : (k : ℕ) → k < length mid → (slice_index_or mid k d).engine.parts.stopped ≡ None) where
     abbrev within : (k : ℕ) → k < length first → k < length now
     within k h = let m = going.many in omega (arith, h, m)
 
@@ -275,7 +275,7 @@ module _ {S R : Type 0} (held name : S → Option (List ℕ)) (room : S → Opti
               gone = subst (λ (q : ℕ × _). EngineGone held q.0 (after k) (held_of held (slice_index_or first k d).engine) q.1) (λ i. (sym next i, sym engine i)) g.0;
               whole = subst IsWhole (sym engine) r.whole;
               same = same_then name faults (slice_index_or first k d).engine x.engine u.engine c.same (subst (λ f. IsSameClock name faults x.engine f) (sym engine) r.clock);
-              rooms = λ n is. subst (λ f. HaveTicksRoom room f.works f.outs.items n) (sym engine) (r.rooms n running (c.rooms (n + count) (omega (arith, is, next))));
+              rooms = λ n is. subst (λ f. HaveTicksRoom room f.parts f.outs.items n) (sym engine) (r.rooms n running (c.rooms (n + count) (omega (arith, is, next))));
               wired = wired;
               stand = (
                 (λ p f low.

@@ -57,7 +57,7 @@ module _ {S : Type 0} (held : S → Option (List ℕ)) (setting : Setting) (m s 
 
 module _ {S R : Type 0} (held name : S → Option (List ℕ)) (faults : S → ℕ) (wires : List Wire) (W N : ℕ) (first now : List (Task S (ThreadTaps R))) (d : Task S (ThreadTaps R)) (part : PartAt held name faults wires W N first now d)
     (setting : Setting) (map : ClockMap) (is : IsSetting setting map) (are : AreWires setting map.running wires) (all_run : length first ≡ map.running)
-    (shared : (k : ℕ) → k < length first → (setting_of (slice_index_or first k d).engine.works ≡ setting) × ((slice_index_or first k d).engine.works.clock ≡ k)) where
+    (shared : (k : ℕ) → k < length first → (setting_of (slice_index_or first k d).engine.parts ≡ setting) × ((slice_index_or first k d).engine.parts.clock ≡ k)) where
   abbrev old : ℕ → ℕ → Option (List ℕ)
   old k = held_of held (slice_index_or first k d).engine
 
@@ -73,7 +73,7 @@ module _ {S R : Type 0} (held name : S → Option (List ℕ)) (faults : S → �
   reached : (k : ℕ) → k < length first → Reach setting map.running k s e (part.histories k) (old k) (new k)
   reached k low = by (part.clocks k low).came
     where
-      known : (setting_of (slice_index_or now k d).engine.works ≡ setting) × ((slice_index_or now k d).engine.works.clock ≡ k)
+      known : (setting_of (slice_index_or now k d).engine.parts ≡ setting) × ((slice_index_or now k d).engine.parts.clock ≡ k)
       known = ((part.clocks k low).same.setting ∙ (shared k low).0, (part.clocks k low).same.clock ∙ (shared k low).1)
 
       by : (((part.clocks k low).ticks ≤ e) × EngineGone held (part.clocks k low).ticks (part.histories k) (old k) (slice_index_or now k d).engine)

@@ -42,7 +42,7 @@ pub record ClockGoing {S R : Type 0} (held name : S → Option (List ℕ)) (room
   pub gone : EngineGone held t history (held_of held first.engine) now.engine
   pub whole : IsWhole now.engine
   pub same : IsSameClock name faults first.engine now.engine
-  pub rooms : (n : ℕ) → t + n ≡ N → HaveTicksRoom room now.engine.works now.engine.outs.items n
+  pub rooms : (n : ℕ) → t + n ≡ N → HaveTicksRoom room now.engine.parts now.engine.outs.items n
   pub wired : IsWired wires k now
   pub stand : EndsStand (put_ends now) (take_ends now) now.taps.local (kept wires k (joined_upto history.calls t))
   pub lists : length now.taps.local ≡ length wires

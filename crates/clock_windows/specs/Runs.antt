@@ -21,7 +21,7 @@ pub record IsReady {S R : Type 0} (held name : S → Option (List ℕ)) (room : 
   pub some : 0 < length tasks
   pub few : length wires < 2 ^ 32
   pub places : (b : ℕ) → b < length wires → (wire_at wires b).from < length tasks × ((wire_at wires b).to < length tasks)
-  pub buffers : (k : ℕ) (d : Task S (ThreadTaps R)) → k < length tasks → length (slice_index_or tasks k d).engine.works.shape.plan.now.buffers ≡ length wires
+  pub buffers : (k : ℕ) (d : Task S (ThreadTaps R)) → k < length tasks → length (slice_index_or tasks k d).engine.parts.shape.plan.now.buffers ≡ length wires
   pub begun : (d : Task S (ThreadTaps R)) → Going held name room faults wires W N 0 tasks tasks logs d
 
 -- all ticks were made
@@ -65,15 +65,15 @@ pub record IsToldByLowest {S R : Type 0} (tasks : List (Task S (ThreadTaps R))) 
   pub place : ℕ
   pub within : place < length tasks
   pub fault : TickFault
-  pub stopped : (d : Task S (ThreadTaps R)) → (slice_index_or tasks place d).engine.works.stopped ≡ Some fault
-  pub lowest : (k : ℕ) (d : Task S (ThreadTaps R)) → k < place → (slice_index_or tasks k d).engine.works.stopped ≡ None
-  pub end_is : (d : Task S (ThreadTaps R)) → end ≡ end_by (slice_index_or tasks place d).engine.works.clock fault
+  pub stopped : (d : Task S (ThreadTaps R)) → (slice_index_or tasks place d).engine.parts.stopped ≡ Some fault
+  pub lowest : (k : ℕ) (d : Task S (ThreadTaps R)) → k < place → (slice_index_or tasks k d).engine.parts.stopped ≡ None
+  pub end_is : (d : Task S (ThreadTaps R)) → end ≡ end_by (slice_index_or tasks place d).engine.parts.clock fault
 
 -- this sink of this clock, the lowest that stopped, refused bytes
 pub record IsWriteAt {S R : Type 0} (faults : S → ℕ) (clock sink : ℕ) (first now : List (Task S (ThreadTaps R))) : Type 0 where
   pub place : ℕ
   pub within : place < length first
-  pub clock_is : (d : Task S (ThreadTaps R)) → (slice_index_or now place d).engine.works.clock ≡ clock
-  pub stopped : (d : Task S (ThreadTaps R)) → (slice_index_or now place d).engine.works.stopped ≡ Some (Refused sink)
-  pub lowest : (k : ℕ) (d : Task S (ThreadTaps R)) → k < place → (slice_index_or now k d).engine.works.stopped ≡ None
+  pub clock_is : (d : Task S (ThreadTaps R)) → (slice_index_or now place d).engine.parts.clock ≡ clock
+  pub stopped : (d : Task S (ThreadTaps R)) → (slice_index_or now place d).engine.parts.stopped ≡ Some (Refused sink)
+  pub lowest : (k : ℕ) (d : Task S (ThreadTaps R)) → k < place → (slice_index_or now k d).engine.parts.stopped ≡ None
   pub write : (d : Task S (ThreadTaps R)) → IsWriteOf faults sink (slice_index_or first place d).engine (slice_index_or now place d).engine

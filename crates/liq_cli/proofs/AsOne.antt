@@ -13,12 +13,12 @@ use Rattle.run_records.specs.Rounds.{HasNoJoin, merged}
 use Rattle.run_records.proofs.Alone.{merged_setting}
 use Rattle.stations.specs.Findings.{IsFit}
 use Rattle.stations.specs.Outputs.{with_outputs}
-use Rattle.stations.specs.Stations.{IsLawful, IsLawfulIn, Station, bare, setting_of}
+use Rattle.stations.specs.Stations.{IsLawful, IsLawfulIn, Station, bare, setting_of_run}
 use Rattle.stations.specs.Streams.{outputs_in}
 use Rattle.liq_cli.specs.Summary.{SumsAsOneThread, sum_at, summary_of, summed_line, summed_lines}
 
 -- a summary rests on the setting alone
-same_lines : (station : Station) (run other : Run) → setting_of station run ≡ setting_of station other → (files : Files) (sinks : List SinkPlan)
+same_lines : (station : Station) (run other : Run) → setting_of_run station run ≡ setting_of_run station other → (files : Files) (sinks : List SinkPlan)
     → summed_lines station run files sinks ≡ summed_lines station other files sinks
 same_lines station run other same files [] = refl
 same_lines station run other same files (Output name node fallible ∷ sinks) =
@@ -26,9 +26,9 @@ same_lines station run other same files (Output name node fallible ∷ sinks) =
     λ i. summed_line name (station.ticks * station.plan.frame) (gaps (same i) node station.ticks) (sum_at files name) ++ rest i
 same_lines station run other same files (Feed buffer node ∷ sinks) = same_lines station run other same files sinks
 
-same_summary : (made : Files) (station : Station) (run other : Run) → setting_of station run ≡ setting_of station other → summary_of made station run ≡ summary_of made station other
+same_summary : (made : Files) (station : Station) (run other : Run) → setting_of_run station run ≡ setting_of_run station other → summary_of made station run ≡ summary_of made station other
 same_summary made station run other same =
-    same_lines station run other same (with_outputs made (outputs_in (setting_of station run) station.ticks station.plan.sinks)) station.plan.sinks
+    same_lines station run other same (with_outputs made (outputs_in (setting_of_run station run) station.ticks station.plan.sinks)) station.plan.sinks
     ∙ ap (λ (s : Setting). summed_lines station other (with_outputs made (outputs_in s station.ticks station.plan.sinks)) station.plan.sinks) same
 
 -- the laws of records that are needed here

@@ -13,7 +13,7 @@ use Rattle.run_records.specs.Rounds.{HasNoJoin}
 use Rattle.stations.specs.Renderings.{RendersAsOneThread, WrotePart}
 use Rattle.stations.specs.Outputs.{with_outputs}
 use Rattle.stations.specs.Stations.{IsLawful, Station, bare, most_of}
-use Rattle.stations.specs.Streams.{HasNoGaps, fronts_with, outputs_of}
+use Rattle.stations.specs.Streams.{HasNoGaps, fronts_with, output_files}
 use Rattle.stations.specs.Reports.{check_report_of, report_of}
 use Rattle.station_render.specs.declared.fault.RenderFault.{RenderFault}
 use Rattle.station_render.specs.declared.fault.RenderFault.TheVariants.{Write as render_write, Memory as render_memory}
@@ -125,7 +125,7 @@ module _ (file : List ℕ) (start ticks : ℕ) (window : Option ℕ) (trace : Op
     lawful = wrote.lawful;
     trace = wrote.trace;
     wanted = wrote.wanted;
-    part = part_later (Rose writes_between writes_after) (Rose writes_before writes_after) (λ rose. omega arith) (with_outputs files (outputs_of station wrote.run)) wrote.trace left wrote.part;
+    part = part_later (Rose writes_between writes_after) (Rose writes_before writes_after) (λ rose. omega arith) (with_outputs files (output_files station wrote.run)) wrote.trace left wrote.part;
   })
 
   -- a rendering broke off

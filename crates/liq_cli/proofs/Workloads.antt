@@ -13,7 +13,7 @@ use Rattle.run_records.specs.Records.{Run}
 use Rattle.run_records.specs.Rounds.{HasNoJoin}
 use Rattle.stations.specs.Outputs.{with_outputs}
 use Rattle.stations.specs.Stations.{IsLawful, bare}
-use Rattle.stations.specs.Streams.{HasNoGaps, outputs_of}
+use Rattle.stations.specs.Streams.{HasNoGaps, output_files}
 use Rattle.station_render.specs.declared.fault.RenderFault.{RenderFault}
 use Rattle.station_render.specs.declared.fault.RenderFault.TheVariants.{Write as render_write, Memory as render_memory}
 use Rattle.station_render.specs.Runs.{IsRendered, IsTold}
@@ -73,9 +73,9 @@ pub summed : (seed size : ℕ) (plan : Plan) (library : Sounds) (clocks : ClockM
 summed seed size plan library clocks one shelf after report value shelf_is is report_is gapless alike files =
     let station = station_for (Make seed size) plan library clocks in
     let made = files_made seed size in
-    let all : Some after ≡ Some (with_outputs made (outputs_of station is.run ++ [])) = is.all_written made (ap Some shelf_is) in
-    let files_are : after ≡ with_outputs made (outputs_of station is.run ++ []) = cc in
-    let written : after ≡ with_outputs made (outputs_of station is.run) = files_are ∙ ap (with_outputs made) (append-nil (outputs_of station is.run)) in
+    let all : Some after ≡ Some (with_outputs made (output_files station is.run ++ [])) = is.all_written made (ap Some shelf_is) in
+    let files_are : after ≡ with_outputs made (output_files station is.run ++ []) = cc in
+    let written : after ≡ with_outputs made (output_files station is.run) = files_are ∙ ap (with_outputs made) (append-nil (output_files station is.run)) in
     let same : report ≡ summary_of made station is.run = report_is is.run is.told ∙ ap (λ fs. summed_lines station is.run fs plan.sinks) written in
     for_one (Make seed size) files (Found plan library clocks) (λ a. Rendered a files (Some files) report) one (record {
       kept = refl;

@@ -8,7 +8,7 @@ use Rattle.plan_core.specs.declared.sink.SinkPlan.TheVariants.{Output, Feed}
 use Rattle.run_records.specs.Records.{IsRounds, Run}
 use Rattle.stations.specs.Outputs.{with_outputs}
 use Rattle.stations.specs.Stations.{Station, bare}
-use Rattle.stations.specs.Streams.{gaps_of, outputs_of}
+use Rattle.stations.specs.Streams.{gaps_of, output_files}
 
 -- the sum of the samples behind the header of a WAV file, of both sides
 abbrev pub sum_of : List ℕ → ℤ
@@ -37,7 +37,7 @@ summed_lines station run files (Feed buffer node ∷ sinks) = summed_lines stati
 
 -- the summary of a run that wrote its outputs beside these files
 abbrev pub summary_of : Files → Station → Run → List ℕ
-summary_of files station run = summed_lines station run (with_outputs files (outputs_of station run)) station.plan.sinks
+summary_of files station run = summed_lines station run (with_outputs files (output_files station run)) station.plan.sinks
 
 -- the summary is that of rounds on one thread, which have one record
 pub record SumsAsOneThread (files : Files) (station : Station) (summary : List ℕ) : Type 0 where

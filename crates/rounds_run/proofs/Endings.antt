@@ -26,7 +26,7 @@ use Rattle.buffer_ends.specs.Local.{Answers, Leads, LocalBuffer, all_answers, cl
 use Rattle.buffer_ends.specs.Same.{SameBuffers}
 use Rattle.buffer_ends.specs.declared.run_end.End.{End}
 use Rattle.buffer_ends.specs.declared.run_end.End.TheVariants.{Done, Write, Memory as NoMemory}
-use Rattle.rounds_run.specs.Rounds.{AreTurnsBegun, HasRun, HasRunPart, HaveRunPart, IsWriteEnd, RoundsMade, RoundsStopped, held_of, made_by, nothing, ticks_by, world}
+use Rattle.rounds_run.specs.Rounds.{AreTurnsBegun, HasRunTurns, HasRunPart, HaveRunPart, IsWriteEnd, RoundsMade, RoundsStopped, held_of, made_by, nothing, ticks_by, world}
 use Rattle.buffer_sides.specs.Logs.{told}
 use Rattle.rounds_run.specs.Runs.{AreOver, HasRunAll, HasRunSome, HasRunTicks, counts_of_windows}
 use Rattle.rounds_run.proofs.Worlds.{meets, meets_is}
@@ -136,14 +136,14 @@ module _ {S : Type 0} (held name : S → Option (List ℕ)) (room : S → Option
       }
 
   -- an engine that has run whole ticks
-  ticks_told : (calls : List Call) (V : Setting) → V ≡ world setting calls nothing → (t : ℕ) (before after : ClockEngine S) → setting_of before.works ≡ setting → HasRun held name faults calls t before after
+  ticks_told : (calls : List Call) (V : Setting) → V ≡ world setting calls nothing → (t : ℕ) (before after : ClockEngine S) → setting_of before.parts ≡ setting → HasRunTurns held name faults calls t before after
       → HasRunTicks held name faults V t before after
   ticks_told calls V is t before after same run =
-      let rest = meets (setting_of before.works) (Main before.works.clock) calls run.answers run.own nothing in
-      let given : with_rest (setting_of before.works) run.answers rest ≡ V =
-      meets_is (setting_of before.works) (Main before.works.clock) calls run.answers run.own nothing (none_read held name room faults t calls before after after run) ∙ ap (λ s. world s calls nothing) same ∙ sym is in
+      let rest = meets (setting_of before.parts) (Main before.parts.clock) calls run.answers run.own nothing in
+      let given : with_rest (setting_of before.parts) run.answers rest ≡ V =
+      meets_is (setting_of before.parts) (Main before.parts.clock) calls run.answers run.own nothing (none_read held name room faults t calls before after after run) ∙ ap (λ s. world s calls nothing) same ∙ sym is in
       record {
-        works = run.works;
+        parts = run.parts;
         sinks = run.sinks;
         over = run.setting;
         clock = run.clock;
@@ -210,7 +210,7 @@ none_made held name room faults plan ticks setting first over end is =
           let same_some : Some before ≡ Some after = sym was ∙ at in
           let same : before ≡ after = cc in
           subst (λ s. HasRunPart held name faults (world s []) (ticks_by ticks 0 0 k) (ticks_by ticks 0 (0 + 1) k) before after) (over.are.over k before was)
-          (subst (λ e. HasRunPart held name faults (world (setting_of before.works) []) (ticks_by ticks 0 0 k) (ticks_by ticks 0 (0 + 1) k) before e) same
+          (subst (λ e. HasRunPart held name faults (world (setting_of before.parts) []) (ticks_by ticks 0 0 k) (ticks_by ticks 0 (0 + 1) k) before e) same
           (run_part held name room faults 0 [] before before before (run_none held name room faults ticks before (over.are.each k before was)) (ticks_by ticks 0 0 k) (ticks_by ticks 0 (0 + 1) k)
           (let none : made_by 0 0 k ≡ 0 = rw (le-ltb k 0 (omega arith)) refl in let low = min-le_right ticks (made_by 0 0 k) in omega (arith, none, low)) (omega arith)));
     }) (λ failed sink e. absurd (no_write end (λ done. is) failed sink e))

@@ -23,12 +23,12 @@ use Rattle.clock_outputs.proofs.Places.{low_or_high, same_or_other, slice_get-se
 use Rattle.clock_engine.specs.declared.engine.ClockEngine.{ClockEngine}
 use Rattle.clock_engine.specs.declared.fault.TickFault.{TickFault}
 use Rattle.clock_engine.specs.declared.fault.TickFault.TheVariants.{Memory as OutOfMemory, Write as TickWrite}
-use Rattle.clock_engine.specs.Engines.{AreWorks, output_of, outputs_of, setting_of}
+use Rattle.clock_engine.specs.Engines.{AreParts, output_of, outputs_of, setting_of}
 use Rattle.clock_engine.specs.Ticks.{HasFailed, HasMade, HaveTickRoom, HaveTicksRoom, IsWriteFault}
 use Rattle.clock_engine.proofs.Made.{behind_calls, world_is}
 use Rattle.buffer_ends.specs.declared.run_end.End.{End}
 use Rattle.buffer_ends.specs.declared.run_end.End.TheVariants.{Write, Memory as NoMemory}
-use Rattle.rounds_run.specs.Rounds.{AreEngines, AreGoing, HasRun, HasRunPart, IsWriteEnd, MayRun, RoundsMade, RoundsStopped, held_of, made_by, nothing, ticks_by, world}
+use Rattle.rounds_run.specs.Rounds.{AreEngines, AreGoing, HasRunTurns, HasRunPart, IsWriteEnd, MayRun, RoundsMade, RoundsStopped, held_of, made_by, nothing, ticks_by, world}
 use Rattle.rounds_run.proofs.Worlds.{meets, meets_is, none_begun, own_other, own_this, turned_more, turned_part}
 use Rattle.rounds_run.proofs.Apart.{unread_or}
 use Rattle.rounds_run.proofs.Fronts.{fell_not, fell_then, front_of, grown_nothing, grown_twice, kept_not, kept_then, next_front, rose_since, ticks_front}
@@ -40,20 +40,20 @@ fault_is OutOfMemory = inr refl
 
 -- what a tick of an engine that answered Ok owes
 pub record DidTick {S T : Type 0} (held name : S → Option (List ℕ)) (room : S → Option ℕ) (faults : S → ℕ) (taps_stand : T → List Call → Type 0) (old new : ClockEngine S) (taps_old taps_new : T) : Type 0 where
-  pub works : AreWorks new.works
-  pub sinks : length new.outs.items ≡ length new.works.ports.items
-  pub setting : setting_of new.works ≡ setting_of old.works
-  pub clock : new.works.clock ≡ old.works.clock
-  pub ticked : HasMade held taps_stand old.works new.works old.outs.items new.outs.items taps_old taps_new
+  pub parts : AreParts new.parts
+  pub sinks : length new.outs.items ≡ length new.parts.ports.items
+  pub setting : setting_of new.parts ≡ setting_of old.parts
+  pub clock : new.parts.clock ≡ old.parts.clock
+  pub ticked : HasMade held taps_stand old.parts new.parts old.outs.items new.outs.items taps_old taps_new
   pub none_fell : NoneFell faults old.outs.items new.outs.items
   pub outs : length new.outs.items ≡ length old.outs.items
   pub kept : AreKept name faults old.outs.items new.outs.items
-  pub rooms : (ticks : ℕ) → HaveTicksRoom room old.works old.outs.items (ticks + 1) → HaveTicksRoom room new.works new.outs.items ticks
+  pub rooms : (ticks : ℕ) → HaveTicksRoom room old.parts old.outs.items (ticks + 1) → HaveTicksRoom room new.parts new.outs.items ticks
 
 module _ {S : Type 0} (held name : S → Option (List ℕ)) (room : S → Option ℕ) (faults : S → ℕ) where
-  pub run_none : (total : ℕ) (engine : ClockEngine S) → MayRun room total engine → HasRun held name faults [] 0 engine engine
+  pub run_none : (total : ℕ) (engine : ClockEngine S) → MayRun room total engine → HasRunTurns held name faults [] 0 engine engine
   run_none total engine may = record {
-    works = may.works;
+    parts = may.parts;
     sinks = may.sinks;
     setting = refl;
     clock = refl;
@@ -67,15 +67,15 @@ module _ {S : Type 0} (held name : S → Option (List ℕ)) (room : S → Option
   }
 
   -- the same run with calls that bring this engine no answers
-  pub run_idle : (calls more : List Call) (t : ℕ) (first now : ClockEngine S) → ((buffer : ℕ) → (answers_in buffer more ≡ []) ⊎ IsUnread (setting_of first.works) (Main first.works.clock) buffer)
-      → HasRun held name faults calls t first now → HasRun held name faults (calls ++ more) t first now
+  pub run_idle : (calls more : List Call) (t : ℕ) (first now : ClockEngine S) → ((buffer : ℕ) → (answers_in buffer more ≡ []) ⊎ IsUnread (setting_of first.parts) (Main first.parts.clock) buffer)
+      → HasRunTurns held name faults calls t first now → HasRunTurns held name faults (calls ++ more) t first now
   run_idle calls more t first now apart run = record {
-    works = run.works;
+    parts = run.parts;
     sinks = run.sinks;
     setting = run.setting;
     clock = run.clock;
     answers = run.answers;
-    own = λ buffer. own_other (setting_of first.works) (Main first.works.clock) calls more buffer (run.answers buffer) (run.own buffer) (apart buffer);
+    own = λ buffer. own_other (setting_of first.parts) (Main first.parts.clock) calls more buffer (run.answers buffer) (run.own buffer) (apart buffer);
     stands = run.stands;
     grew = run.grew;
     none_fell = run.none_fell;
@@ -83,39 +83,39 @@ module _ {S : Type 0} (held name : S → Option (List ℕ)) (room : S → Option
     kept = run.kept;
   }
 
-  module _ (t : ℕ) (calls : List Call) (first old new : ClockEngine S) (run : HasRun held name faults calls t first old) where
-    output_now : (sink node : ℕ) → IsOutput (setting_of first.works) first.works.clock sink node → IsOutput (setting_of old.works) old.works.clock sink node
+  module _ (t : ℕ) (calls : List Call) (first old new : ClockEngine S) (run : HasRunTurns held name faults calls t first old) where
+    output_now : (sink node : ℕ) → IsOutput (setting_of first.parts) first.parts.clock sink node → IsOutput (setting_of old.parts) old.parts.clock sink node
     output_now sink node output =
-        subst (λ s. IsOutput s old.works.clock sink node) (sym run.setting) (subst (λ m. IsOutput (setting_of first.works) m sink node) (sym run.clock) output)
+        subst (λ s. IsOutput s old.parts.clock sink node) (sym run.setting) (subst (λ m. IsOutput (setting_of first.parts) m sink node) (sym run.clock) output)
 
     -- no answers of buffers that the clock does not read
-    pub none_read : (buffer : ℕ) → IsUnread (setting_of first.works) (Main first.works.clock) buffer → run.answers buffer ≡ []
+    pub none_read : (buffer : ℕ) → IsUnread (setting_of first.parts) (Main first.parts.clock) buffer → run.answers buffer ≡ []
     none_read buffer unread = run.stands.others buffer
-        (subst (λ s. IsUnread s (Main old.works.clock) buffer) (sym run.setting) (subst (λ m. IsUnread (setting_of first.works) (Main m) buffer) (sym run.clock) unread))
+        (subst (λ s. IsUnread s (Main old.parts.clock) buffer) (sym run.setting) (subst (λ m. IsUnread (setting_of first.parts) (Main m) buffer) (sym run.clock) unread))
 
     -- the same with one tick more
     pub run_more : {T : Type 0} (taps_stand : T → List Call → Type 0) (taps_old taps_new : T) (did : DidTick held name room faults taps_stand old new taps_old taps_new)
-        → HasRun held name faults (calls ++ did.ticked.more) (suc t) first new
+        → HasRunTurns held name faults (calls ++ did.ticked.more) (suc t) first new
     run_more taps_stand taps_old taps_new did =
         let made = did.ticked in
         let ticked = made.engine t run.answers run.stands in
         record {
-          works = did.works;
+          parts = did.parts;
           sinks = did.sinks;
           setting = did.setting ∙ run.setting;
           clock = did.clock ∙ run.clock;
           answers = after_calls run.answers made.more;
-          own = λ buffer. own_this (setting_of first.works) (Main first.works.clock) calls made.more buffer (run.answers buffer) (run.own buffer);
+          own = λ buffer. own_this (setting_of first.parts) (Main first.parts.clock) calls made.more buffer (run.answers buffer) (run.own buffer);
           stands = ticked.stand;
           grew = record {
             each = λ rest sink node output.
-                let W = with_rest (setting_of first.works) (after_calls run.answers made.more) rest in
+                let W = with_rest (setting_of first.parts) (after_calls run.answers made.more) rest in
                 let here : held_of held new sink ≡ grown (tick_bytes W node t) (held_of held old sink) =
                 subst (λ s. held_of held new sink ≡ grown (tick_bytes (with_rest s (after_calls run.answers made.more) rest) node t) (held_of held old sink)) run.setting
                 (ticked.grew rest sink node (output_now sink node output)) in
                 let before : held_of held old sink ≡ grown (ticks_bytes W node t) (held_of held first sink) =
                 run.grew.each (behind_calls made.more rest) sink node output
-                ∙ ap (λ V. grown (ticks_bytes V node t) (held_of held first sink)) (world_is (setting_of first.works) run.answers made.more rest) in
+                ∙ ap (λ V. grown (ticks_bytes V node t) (held_of held first sink)) (world_is (setting_of first.parts) run.answers made.more rest) in
                 here ∙ ap (grown (tick_bytes W node t)) before ∙ grown_twice (tick_bytes W node t) (ticks_bytes W node t) (held_of held first sink);
           };
           none_fell = fell_then faults first.outs.items old.outs.items new.outs.items run.none_fell did.none_fell;
@@ -124,18 +124,18 @@ module _ {S : Type 0} (held name : S → Option (List ℕ)) (room : S → Option
         }
 
     -- a run of so many ticks is one of at least and at most so many
-    pub run_part : (least most : ℕ) → least ≤ t → t ≤ most → HasRunPart held name faults (world (setting_of first.works) calls) least most first old
+    pub run_part : (least most : ℕ) → least ≤ t → t ≤ most → HasRunPart held name faults (world (setting_of first.parts) calls) least most first old
     run_part least most low high = record {
-      works = run.works;
+      parts = run.parts;
       setting = run.setting;
       clock = run.clock;
       part = λ rest sink node output.
-          let W = world (setting_of first.works) calls rest in (
+          let W = world (setting_of first.parts) calls rest in (
             ticks_bytes W node t,
             ticks_front W node least t low,
             ticks_front W node t most high,
-            run.grew.each (meets (setting_of first.works) (Main first.works.clock) calls run.answers run.own rest) sink node output
-                ∙ ap (λ V. grown (ticks_bytes V node t) (held_of held first sink)) (meets_is (setting_of first.works) (Main first.works.clock) calls run.answers run.own rest none_read),
+            run.grew.each (meets (setting_of first.parts) (Main first.parts.clock) calls run.answers run.own rest) sink node output
+                ∙ ap (λ V. grown (ticks_bytes V node t) (held_of held first sink)) (meets_is (setting_of first.parts) (Main first.parts.clock) calls run.answers run.own rest none_read),
           );
       none_fell = run.none_fell;
       outs = run.outs;
@@ -144,26 +144,26 @@ module _ {S : Type 0} (held name : S → Option (List ℕ)) (room : S → Option
 
     -- so are those ticks and a part of the next one
     pub run_failed : {T : Type 0} (taps_stand : T → List Call → Type 0) (taps_old taps_new : T) (least most : ℕ) → least ≤ t → t < most
-        → (failed : HasFailed held taps_stand old.works new.works old.outs.items new.outs.items taps_old taps_new) → NoneFell faults old.outs.items new.outs.items
+        → (failed : HasFailed held taps_stand old.parts new.parts old.outs.items new.outs.items taps_old taps_new) → NoneFell faults old.outs.items new.outs.items
         → length new.outs.items ≡ length old.outs.items → AreKept name faults old.outs.items new.outs.items
-        → AreWorks new.works → setting_of new.works ≡ setting_of old.works → new.works.clock ≡ old.works.clock
-        → HasRunPart held name faults (world (setting_of first.works) (calls ++ failed.made)) least most first new
-    run_failed taps_stand taps_old taps_new least most low high failed fell many kept works setting clock =
+        → AreParts new.parts → setting_of new.parts ≡ setting_of old.parts → new.parts.clock ≡ old.parts.clock
+        → HasRunPart held name faults (world (setting_of first.parts) (calls ++ failed.made)) least most first new
+    run_failed taps_stand taps_old taps_new least most low high failed fell many kept parts setting clock =
         let stopped = failed.engine t run.answers run.stands in
-        let F = setting_of first.works in
-        let M = Main first.works.clock in
+        let F = setting_of first.parts in
+        let M = Main first.parts.clock in
         let all = calls ++ failed.made in
         let answers = after_calls run.answers failed.made in
         let own : (buffer : ℕ) → (answers buffer ≡ answers_in buffer all) ⊎ IsUnread F M buffer = λ buffer. own_this F M calls failed.made buffer (run.answers buffer) (run.own buffer) in
         let none : (buffer : ℕ) → IsUnread F M buffer → answers buffer ≡ [] = λ buffer unread.
         let begun = stopped.begun nothing in
-        let W = with_rest (setting_of old.works) answers nothing in
-        let un : IsUnread (setting_of old.works) (Main old.works.clock) buffer = subst (λ s. IsUnread s (Main old.works.clock) buffer) (sym run.setting) (subst (λ m. IsUnread F (Main m) buffer) (sym run.clock) unread) in
+        let W = with_rest (setting_of old.parts) answers nothing in
+        let un : IsUnread (setting_of old.parts) (Main old.parts.clock) buffer = subst (λ s. IsUnread s (Main old.parts.clock) buffer) (sym run.setting) (subst (λ m. IsUnread F (Main m) buffer) (sym run.clock) unread) in
         let quiet : answers_in buffer failed.made ≡ [] = none_begun buffer failed.made begun.rest
-        (ap (answers_in buffer) (sym begun.are) ∙ no_tick_takes W stopped.accepted old.works.clock t buffer (record { none = un.none })) in
+        (ap (answers_in buffer) (sym begun.are) ∙ no_tick_takes W stopped.accepted old.parts.clock t buffer (record { none = un.none })) in
         ap (λ (xs : List Answer). xs ++ answers_in buffer failed.made) (none_read buffer unread) ∙ quiet in
         record {
-          works = works;
+          parts = parts;
           setting = setting ∙ run.setting;
           clock = clock ∙ run.clock;
           part = λ rest sink node output.
@@ -189,9 +189,9 @@ module _ {S : Type 0} (held name : S → Option (List ℕ)) (room : S → Option
           kept = kept_then name faults first.outs.items old.outs.items new.outs.items run.outs run.kept kept;
         }
 
-  outs_many : (engine : ClockEngine S) → AreWorks engine.works → length engine.outs.items ≡ length engine.works.ports.items
-      → length engine.outs.items ≡ length (outputs_of (setting_of engine.works) engine.works.clock)
-  outs_many engine works sinks = sinks ∙ sym (length-map engine.works.ports.items output_of) ∙ ap length works.outputs
+  outs_many : (engine : ClockEngine S) → AreParts engine.parts → length engine.outs.items ≡ length engine.parts.ports.items
+      → length engine.outs.items ≡ length (outputs_of (setting_of engine.parts) engine.parts.clock)
+  outs_many engine parts sinks = sinks ∙ sym (length-map engine.parts.ports.items output_of) ∙ ap length parts.outputs
 
   below : (k m : ℕ) → k < m → nat_lt k m ≡ true
   below k m h = lt-ltb k m h
@@ -211,11 +211,11 @@ module _ {S : Type 0} (held name : S → Option (List ℕ)) (room : S → Option
         each = λ k before after was is.
             let same_some : Some before ≡ Some after = sym was ∙ is in
             let same : before ≡ after = cc in
-            rw (not_below k 0 (omega arith)) (subst (λ e. HasRun held name faults [] 0 before e) same (run_none total before (are.each k before was)));
+            rw (not_below k 0 (omega arith)) (subst (λ e. HasRunTurns held name faults [] 0 before e) same (run_none total before (are.each k before was)));
       };
       rooms = λ k left engine is made.
           let all : total ≡ left = (let none = not_below k 0 (omega arith) in let m : made_by 0 0 k ≡ 0 = rw none refl in omega (arith, made, m)) in
-          subst (HaveTicksRoom room engine.works engine.outs.items) all (are.each k engine is).rooms;
+          subst (HaveTicksRoom room engine.parts engine.outs.items) all (are.each k engine is).rooms;
     }
 
     module _ (total r m turns : ℕ) (first now : List (ClockEngine S)) (old : ClockEngine S) (a b : T) (going : AreGoing held name room faults stands setting total (made_by r m) turns first now a b)
@@ -224,8 +224,8 @@ module _ {S : Type 0} (held name : S → Option (List ℕ)) (room : S → Option
       made_here = rw (not_below m m (omega arith)) refl
 
       -- the engine whose turn it is has run so many ticks
-      pub run_here : (before : ClockEngine S) → slice_get first m ≡ Some before → HasRun held name faults going.calls r before old
-      run_here before at = subst (λ n. HasRun held name faults going.calls n before old) made_here (going.run.each m before old at was)
+      pub run_here : (before : ClockEngine S) → slice_get first m ≡ Some before → HasRunTurns held name faults going.calls r before old
+      run_here before at = subst (λ n. HasRunTurns held name faults going.calls n before old) made_here (going.run.each m before old at was)
 
       made_next : made_by r (m + 1) m ≡ suc r
       made_next = rw (below m (m + 1) (omega arith)) refl
@@ -236,20 +236,20 @@ module _ {S : Type 0} (held name : S → Option (List ℕ)) (room : S → Option
         | inr high ↦ rw (not_below k (m + 1) (omega (arith, high, other)), not_below k m high) refl
       ]
 
-      left_here : (left : ℕ) → r + left ≡ total → HaveTicksRoom room old.works old.outs.items left
+      left_here : (left : ℕ) → r + left ≡ total → HaveTicksRoom room old.parts old.outs.items left
       left_here left is = going.rooms m left old was (ap (λ n. n + left) made_here ∙ is)
 
       -- there is room for the next tick
-      pub tick_room : r < total → HaveTickRoom room old.works old.outs.items
+      pub tick_room : r < total → HaveTickRoom room old.parts old.outs.items
       tick_room low = one_of (r_left r total low)
         where
           r_left : (r total : ℕ) → r < total → (left : ℕ) × (r + (left + 1) ≡ total)
           r_left r total low = (total - r - 1, omega (arith, low))
 
-          one_of : ((left : ℕ) × (r + (left + 1) ≡ total)) → HaveTickRoom room old.works old.outs.items
+          one_of : ((left : ℕ) × (r + (left + 1) ≡ total)) → HaveTickRoom room old.parts old.outs.items
           one_of (left, is) = record {
             each = λ k port out at_port at_out n e.
-                let size : ℕ = old.works.shape.plan.now.frame * (2 * channels_of port.kind) in
+                let size : ℕ = old.parts.shape.plan.now.frame * (2 * channels_of port.kind) in
                 let more : (left + 1) * size ≤ n = (left_here (left + 1) is).each k port out at_port at_out n e in
                 let parts : (left + 1) * size ≡ left * size + size = ap (λ n. n * size) (add-one left) ∙ suc-mul left size in
                 omega (arith, more, parts);
@@ -272,14 +272,14 @@ module _ {S : Type 0} (held name : S → Option (List ℕ)) (room : S → Option
         module _ (may : AreEngines room total setting first) (before : ClockEngine S) (at_first : slice_get first m ≡ Some before) (more : List Call)
             (quiet : (buffer : ℕ) → IsUnread setting (Main m) buffer → answers_in buffer more ≡ []) where
           apart_here : (k : ℕ) (engine : ClockEngine S) → (m ≡ k → ⊥) → slice_get first k ≡ Some engine → (buffer : ℕ)
-              → (answers_in buffer more ≡ []) ⊎ IsUnread (setting_of engine.works) (Main engine.works.clock) buffer
+              → (answers_in buffer more ≡ []) ⊎ IsUnread (setting_of engine.parts) (Main engine.parts.clock) buffer
           apart_here k engine other at buffer =
-              let ready = (may.each m before at_first).works in
-              let world_of : setting_of before.works ≡ setting = may.over m before at_first in
-              elim (unread_or (setting_of before.works) ready.clocks ready.in_clocks ready.plan buffer m k other) [
+              let ready = (may.each m before at_first).parts in
+              let world_of : setting_of before.parts ≡ setting = may.over m before at_first in
+              elim (unread_or (setting_of before.parts) ready.clocks ready.in_clocks ready.plan buffer m k other) [
                 | inl unread ↦ inl (quiet buffer (subst (λ s. IsUnread s (Main m) buffer) world_of unread))
-                | inr unread ↦ inr (subst (λ s. IsUnread s (Main engine.works.clock) buffer) (world_of ∙ sym (may.over k engine at))
-                    (subst (λ c. IsUnread (setting_of before.works) (Main c) buffer) (sym (may.in_order k engine at)) unread))
+                | inr unread ↦ inr (subst (λ s. IsUnread s (Main engine.parts.clock) buffer) (world_of ∙ sym (may.over k engine at))
+                    (subst (λ c. IsUnread (setting_of before.parts) (Main c) buffer) (sym (may.in_order k engine at)) unread))
               ]
 
         -- the answers of the engine whose turn it is, and of more calls
@@ -288,15 +288,15 @@ module _ {S : Type 0} (held name : S → Option (List ℕ)) (room : S → Option
           own_here buffer =
               let run_m = run_here before at_first in
               subst (λ s. (after_calls run_m.answers more buffer ≡ answers_in buffer (going.calls ++ more)) ⊎ IsUnread s (Main m) buffer) (may.over m before at_first)
-              (subst (λ q. (after_calls run_m.answers more buffer ≡ answers_in buffer (going.calls ++ more)) ⊎ IsUnread (setting_of before.works) (Main q) buffer) (may.in_order m before at_first)
-              (own_this (setting_of before.works) (Main before.works.clock) going.calls more buffer (run_m.answers buffer) (run_m.own buffer)))
+              (subst (λ q. (after_calls run_m.answers more buffer ≡ answers_in buffer (going.calls ++ more)) ⊎ IsUnread (setting_of before.parts) (Main q) buffer) (may.in_order m before at_first)
+              (own_this (setting_of before.parts) (Main before.parts.clock) going.calls more buffer (run_m.answers buffer) (run_m.own buffer)))
 
           none_here : ((buffer : ℕ) → IsUnread setting (Main m) buffer → answers_in buffer more ≡ []) → (buffer : ℕ) → IsUnread setting (Main m) buffer
               → after_calls (run_here before at_first).answers more buffer ≡ []
           none_here quiet buffer unread =
               let run_m = run_here before at_first in
               ap (λ (xs : List Answer). xs ++ answers_in buffer more)
-              (none_read r going.calls before old new run_m buffer (subst (λ s. IsUnread s (Main before.works.clock) buffer) (sym (may.over m before at_first)) (subst (λ q. IsUnread setting (Main q) buffer) (sym (may.in_order m before at_first)) unread)))
+              (none_read r going.calls before old new run_m buffer (subst (λ s. IsUnread s (Main before.parts.clock) buffer) (sym (may.over m before at_first)) (subst (λ q. IsUnread setting (Main q) buffer) (sym (may.in_order m before at_first)) unread)))
               ∙ quiet buffer unread
 
         pub tick_more : (may : AreEngines room total setting first) (before : ClockEngine S) → slice_get first m ≡ Some before → (c : T) → turns % length first ≡ m → turns / length first ≡ r
@@ -307,34 +307,34 @@ module _ {S : Type 0} (held name : S → Option (List ℕ)) (room : S → Option
             let made = did.ticked in
             let run_m = run_here before at_first in
             let ticked = made.engine r run_m.answers run_m.stands in
-            let setting_is : setting_of old.works ≡ setting = run_m.setting ∙ may.over m before at_first in
-            let clock_is : old.works.clock ≡ m = run_m.clock ∙ may.in_order m before at_first in
+            let setting_is : setting_of old.parts ≡ setting = run_m.setting ∙ may.over m before at_first in
+            let clock_is : old.parts.clock ≡ m = run_m.clock ∙ may.in_order m before at_first in
             let quiet : (buffer : ℕ) → IsUnread setting (Main m) buffer → answers_in buffer made.more ≡ [] = λ buffer unread.
-            let W = with_rest (setting_of old.works) (after_calls run_m.answers made.more) nothing in
-            let un : IsUnread (setting_of old.works) (Main old.works.clock) buffer = subst (λ s. IsUnread s (Main old.works.clock) buffer) (sym setting_is) (subst (λ q. IsUnread setting (Main q) buffer) (sym clock_is) unread) in
-            ap (answers_in buffer) (ticked.are nothing) ∙ no_tick_takes W ticked.accepted old.works.clock r buffer (record { none = un.none }) in
+            let W = with_rest (setting_of old.parts) (after_calls run_m.answers made.more) nothing in
+            let un : IsUnread (setting_of old.parts) (Main old.parts.clock) buffer = subst (λ s. IsUnread s (Main old.parts.clock) buffer) (sym setting_is) (subst (λ q. IsUnread setting (Main q) buffer) (sym clock_is) unread) in
+            ap (answers_in buffer) (ticked.are nothing) ∙ no_tick_takes W ticked.accepted old.parts.clock r buffer (record { none = un.none }) in
             record {
               calls = going.calls ++ made.more;
               taps = adds_more stands a b c going.calls made.more going.taps made.taps;
               turned = turned_more setting (length first) turns going.calls made.more ticked.accepted going.turned (Main m) (after_calls run_m.answers made.more)
                   (own_here may before at_first made.more) (none_here may before at_first made.more quiet)
                   (λ rest. subst (λ s. made.more ≡ calls_of_tick (with_rest s (after_calls run_m.answers made.more) rest) ticked.accepted (turns % length first) (turns / length first)) setting_is
-                  (subst (λ q. made.more ≡ calls_of_tick (with_rest (setting_of old.works) (after_calls run_m.answers made.more) rest) ticked.accepted q (turns / length first)) (clock_is ∙ sym this_clock)
-                  (subst (λ n. made.more ≡ calls_of_tick (with_rest (setting_of old.works) (after_calls run_m.answers made.more) rest) ticked.accepted old.works.clock n) (sym this_round) (ticked.are rest))));
+                  (subst (λ q. made.more ≡ calls_of_tick (with_rest (setting_of old.parts) (after_calls run_m.answers made.more) rest) ticked.accepted q (turns / length first)) (clock_is ∙ sym this_clock)
+                  (subst (λ n. made.more ≡ calls_of_tick (with_rest (setting_of old.parts) (after_calls run_m.answers made.more) rest) ticked.accepted old.parts.clock n) (sym this_round) (ticked.are rest))));
               run = record {
                 size = many;
                 each = λ k engine after at is. elim (same_or_other m k) [
                   | inl same ↦ (let run = run_more r going.calls engine old new (run_here engine (ap (slice_get first) same ∙ at)) stands b c did in
                       let count : suc r ≡ made_by r (m + 1) k = sym made_next ∙ ap (made_by r (m + 1)) same in
-                      subst (λ e. HasRun held name faults (going.calls ++ made.more) (made_by r (m + 1) k) engine e) (this_at k after same is) (subst (λ n. HasRun held name faults (going.calls ++ made.more) n engine new) count run))
-                  | inr other ↦ subst (λ n. HasRun held name faults (going.calls ++ made.more) n engine after) (sym (made_more k other))
+                      subst (λ e. HasRunTurns held name faults (going.calls ++ made.more) (made_by r (m + 1) k) engine e) (this_at k after same is) (subst (λ n. HasRunTurns held name faults (going.calls ++ made.more) n engine new) count run))
+                  | inr other ↦ subst (λ n. HasRunTurns held name faults (going.calls ++ made.more) n engine after) (sym (made_more k other))
                       (run_idle going.calls made.more (made_by r m k) engine after (apart_here may before at_first made.more quiet k engine other at) (going.run.each k engine after at (other_at k after other is)))
                 ];
               };
               rooms = λ k left engine is made. elim (same_or_other m k) [
                 | inl same ↦ (let count : suc r ≡ made_by r (m + 1) k = sym made_next ∙ ap (made_by r (m + 1)) same in
                     let all : r + (left + 1) ≡ total = omega (arith, made, count) in
-                    subst (λ e. HaveTicksRoom room e.works e.outs.items left) (this_at k engine same is) (did.rooms left (left_here (left + 1) all)))
+                    subst (λ e. HaveTicksRoom room e.parts e.outs.items left) (this_at k engine same is) (did.rooms left (left_here (left + 1) all)))
                 | inr other ↦ going.rooms k left engine (other_at k engine other is) (ap (λ n. n + left) (sym (made_more k other)) ∙ made)
               ];
             }
@@ -342,40 +342,40 @@ module _ {S : Type 0} (held name : S → Option (List ℕ)) (room : S → Option
         -- a fault of a tick leaves each engine where it was, and this one with at most a part of its tick
         pub tick_failed : (may : AreEngines room total setting first) (before : ClockEngine S) → slice_get first m ≡ Some before → (c : T) → r < total
             → turns % length first ≡ m → turns / length first ≡ r → (all : ℕ) → turns < all
-            → HasFailed held stands old.works new.works old.outs.items new.outs.items b c → NoneFell faults old.outs.items new.outs.items
+            → HasFailed held stands old.parts new.parts old.outs.items new.outs.items b c → NoneFell faults old.outs.items new.outs.items
             → length new.outs.items ≡ length old.outs.items → AreKept name faults old.outs.items new.outs.items
-            → AreWorks new.works → setting_of new.works ≡ setting_of old.works → new.works.clock ≡ old.works.clock
+            → AreParts new.parts → setting_of new.parts ≡ setting_of old.parts → new.parts.clock ≡ old.parts.clock
             → (end : End) → (end ≡ NoMemory) ⊎ IsWriteEnd faults m first (set now m new) end
             → RoundsStopped held name faults stands setting total all first (set now m new) a c end
         unfolding run_here
-        tick_failed may before at_first c low this_clock this_round all turn_low failed fell same_outs kept works setting' clock end cause =
+        tick_failed may before at_first c low this_clock this_round all turn_low failed fell same_outs kept parts setting' clock end cause =
             let run_m = run_here before at_first in
             let stopped = failed.engine r run_m.answers run_m.stands in
-            let setting_is : setting_of old.works ≡ setting = run_m.setting ∙ may.over m before at_first in
-            let clock_is : old.works.clock ≡ m = run_m.clock ∙ may.in_order m before at_first in
+            let setting_is : setting_of old.parts ≡ setting = run_m.setting ∙ may.over m before at_first in
+            let clock_is : old.parts.clock ≡ m = run_m.clock ∙ may.in_order m before at_first in
             let quiet : (buffer : ℕ) → IsUnread setting (Main m) buffer → answers_in buffer failed.made ≡ [] = λ buffer unread.
-            let W = with_rest (setting_of old.works) (after_calls run_m.answers failed.made) nothing in
+            let W = with_rest (setting_of old.parts) (after_calls run_m.answers failed.made) nothing in
             let begun = stopped.begun nothing in
-            let un : IsUnread (setting_of old.works) (Main old.works.clock) buffer = subst (λ s. IsUnread s (Main old.works.clock) buffer) (sym setting_is) (subst (λ q. IsUnread setting (Main q) buffer) (sym clock_is) unread) in
-            none_begun buffer failed.made begun.rest (ap (answers_in buffer) (sym begun.are) ∙ no_tick_takes W stopped.accepted old.works.clock r buffer (record { none = un.none })) in
+            let un : IsUnread (setting_of old.parts) (Main old.parts.clock) buffer = subst (λ s. IsUnread s (Main old.parts.clock) buffer) (sym setting_is) (subst (λ q. IsUnread setting (Main q) buffer) (sym clock_is) unread) in
+            none_begun buffer failed.made begun.rest (ap (answers_in buffer) (sym begun.are) ∙ no_tick_takes W stopped.accepted old.parts.clock r buffer (record { none = un.none })) in
             record {
               calls = going.calls ++ failed.made;
               taps = adds_more stands a b c going.calls failed.made going.taps failed.taps;
               begun = turned_part setting (length first) turns going.calls failed.made stopped.accepted going.turned (Main m) (after_calls run_m.answers failed.made)
                   (own_here may before at_first failed.made) (none_here may before at_first failed.made quiet) all turn_low
                   (λ rest. subst (λ s. IsBegin failed.made (calls_of_tick (with_rest s (after_calls run_m.answers failed.made) rest) stopped.accepted (turns % length first) (turns / length first))) setting_is
-                  (subst (λ q. IsBegin failed.made (calls_of_tick (with_rest (setting_of old.works) (after_calls run_m.answers failed.made) rest) stopped.accepted q (turns / length first))) (clock_is ∙ sym this_clock)
-                  (subst (λ n. IsBegin failed.made (calls_of_tick (with_rest (setting_of old.works) (after_calls run_m.answers failed.made) rest) stopped.accepted old.works.clock n)) (sym this_round) (stopped.begun rest))));
+                  (subst (λ q. IsBegin failed.made (calls_of_tick (with_rest (setting_of old.parts) (after_calls run_m.answers failed.made) rest) stopped.accepted q (turns / length first))) (clock_is ∙ sym this_clock)
+                  (subst (λ n. IsBegin failed.made (calls_of_tick (with_rest (setting_of old.parts) (after_calls run_m.answers failed.made) rest) stopped.accepted old.parts.clock n)) (sym this_round) (stopped.begun rest))));
               round = r;
               clock = m;
               part = record {
                 size = many;
                 each = λ k engine after at is.
-                    let over : setting_of engine.works ≡ setting = may.over k engine at in
+                    let over : setting_of engine.parts ≡ setting = may.over k engine at in
                     subst (λ s. HasRunPart held name faults (world s (going.calls ++ failed.made)) (ticks_by total r m k) (ticks_by total r (m + 1) k) engine after) over
                     (elim (same_or_other m k) [
-                      | inl same ↦ subst (λ e. HasRunPart held name faults (world (setting_of engine.works) (going.calls ++ failed.made)) (ticks_by total r m k) (ticks_by total r (m + 1) k) engine e) (this_at k after same is)
-                          (run_failed r going.calls engine old new (run_here engine (ap (slice_get first) same ∙ at)) stands b c (ticks_by total r m k) (ticks_by total r (m + 1) k) (least_here k same) (most_here k same) failed fell same_outs kept works setting' clock)
+                      | inl same ↦ subst (λ e. HasRunPart held name faults (world (setting_of engine.parts) (going.calls ++ failed.made)) (ticks_by total r m k) (ticks_by total r (m + 1) k) engine e) (this_at k after same is)
+                          (run_failed r going.calls engine old new (run_here engine (ap (slice_get first) same ∙ at)) stands b c (ticks_by total r m k) (ticks_by total r (m + 1) k) (least_here k same) (most_here k same) failed fell same_outs kept parts setting' clock)
                       | inr other ↦ run_part (made_by r m k) (going.calls ++ failed.made) engine after after
                           (run_idle going.calls failed.made (made_by r m k) engine after (apart_here may before at_first failed.made quiet k engine other at) (going.run.each k engine after at (other_at k after other is)))
                           (ticks_by total r m k) (ticks_by total r (m + 1) k) (min-le_right total (made_by r m k)) (most_other k other)
@@ -411,13 +411,13 @@ module _ {S : Type 0} (held name : S → Option (List ℕ)) (room : S → Option
 
         -- the end names the sink of the fault
         pub write_end : (may : AreEngines room total setting first) (before : ClockEngine S) → slice_get first m ≡ Some before → (fault : TickFault) (end : End)
-            → IsWriteFault faults old.works old.outs.items new.outs.items fault → ((sink : ℕ) → fault ≡ TickWrite sink → end ≡ Write new.works.clock sink)
-            → new.works.clock ≡ old.works.clock → IsWriteEnd faults m first (set now m new) end
+            → IsWriteFault faults old.parts old.outs.items new.outs.items fault → ((sink : ℕ) → fault ≡ TickWrite sink → end ≡ Write new.parts.clock sink)
+            → new.parts.clock ≡ old.parts.clock → IsWriteEnd faults m first (set now m new) end
         write_end may before at fault end cause tells clock =
             let run = run_here before at in
-            let order : before.works.clock ≡ m = may.in_order m before at in
-            let outputs : map output_of old.works.ports.items ≡ outputs_of (setting_of before.works) m =
-            run.works.outputs ∙ ap (λ s. outputs_of s old.works.clock) run.setting ∙ ap (outputs_of (setting_of before.works)) (run.clock ∙ order) in
+            let order : before.parts.clock ≡ m = may.in_order m before at in
+            let outputs : map output_of old.parts.ports.items ≡ outputs_of (setting_of before.parts) m =
+            run.parts.outputs ∙ ap (λ s. outputs_of s old.parts.clock) run.setting ∙ ap (outputs_of (setting_of before.parts)) (run.clock ∙ order) in
             let ready = may.each m before at in
             record {
               before = before;
@@ -427,17 +427,17 @@ module _ {S : Type 0} (held name : S → Option (List ℕ)) (room : S → Option
               place = cause.place;
               sink = cause.port.sink;
               node = cause.port.node;
-              there = ap (λ xs. slice_get xs cause.place) (sym outputs) ∙ slice_get-map output_of old.works.ports.items cause.place ∙ ap (option_map output_of) cause.there;
+              there = ap (λ xs. slice_get xs cause.place) (sym outputs) ∙ slice_get-map output_of old.parts.ports.items cause.place ∙ ap (option_map output_of) cause.there;
               end_is = tells cause.port.sink cause.fault_is ∙ ap (λ c. Write c cause.port.sink) (clock ∙ run.clock ∙ order);
               rose = rose_since faults cause.place before.outs.items old.outs.items new.outs.items
-                  (outs_many before ready.works ready.sinks
-                  ∙ ap (λ s. length (outputs_of s before.works.clock)) (sym run.setting) ∙ ap (λ c. length (outputs_of (setting_of old.works) c)) (sym run.clock)
-                  ∙ sym (outs_many old run.works run.sinks)) run.none_fell cause.rose;
+                  (outs_many before ready.parts ready.sinks
+                  ∙ ap (λ s. length (outputs_of s before.parts.clock)) (sym run.setting) ∙ ap (λ c. length (outputs_of (setting_of old.parts) c)) (sym run.clock)
+                  ∙ sym (outs_many old run.parts run.sinks)) run.none_fell cause.rose;
             }
 
     -- what the engine whose turn it is has run
     pub turn : (total r m turns : ℕ) (first now : List (ClockEngine S)) (d : ClockEngine S) (a b : T) → m < length now
-        → (going : AreGoing held name room faults stands setting total (made_by r m) turns first now a b) → HasRun held name faults going.calls r (get_or first m d) (get_or now m d)
+        → (going : AreGoing held name room faults stands setting total (made_by r m) turns first now a b) → HasRunTurns held name faults going.calls r (get_or first m d) (get_or now m d)
     turn total r m turns first now d a b within going =
         let size = going.run.size in
         run_here total r m turns first now (get_or now m d) a b going (read now m d within) (get_or first m d) (read first m d (omega (arith, within, size)))
@@ -451,7 +451,7 @@ module _ {S : Type 0} (held name : S → Option (List ℕ)) (room : S → Option
       turned = going.turned;
       run = record {
         size = going.run.size;
-        each = λ k before after at is. subst (λ t. HasRun held name faults going.calls t before after) (same k (omega (arith, all, slice_get_within now k after is))) (going.run.each k before after at is);
+        each = λ k before after at is. subst (λ t. HasRunTurns held name faults going.calls t before after) (same k (omega (arith, all, slice_get_within now k after is))) (going.run.each k before after at is);
       };
       rooms = λ k left engine is made. going.rooms k left engine is (ap (λ t. t + left) (same k (omega (arith, all, slice_get_within now k engine is))) ∙ made);
     }
@@ -468,7 +468,7 @@ module _ {S : Type 0} (held name : S → Option (List ℕ)) (room : S → Option
       turned = going.turned;
       run = record {
         size = going.run.size;
-        each = λ k before after at there. subst (λ t. HasRun held name faults going.calls t before after) (same k) (going.run.each k before after at there);
+        each = λ k before after at there. subst (λ t. HasRunTurns held name faults going.calls t before after) (same k) (going.run.each k before after at there);
       };
     }
       where

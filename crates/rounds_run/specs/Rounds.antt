@@ -10,7 +10,7 @@ use Rattle.stream_meaning.specs.Sinks.{ticks_bytes}
 use Rattle.node_states.specs.Ticks.{HoldTicks, IsOutput, with_rest}
 use Rattle.clock_outputs.specs.Appends.{AreKept, NoneFell, RoseAt}
 use Rattle.clock_engine.specs.declared.engine.ClockEngine.{ClockEngine}
-use Rattle.clock_engine.specs.Engines.{AreWorks, EngineStands, held_in, outputs_of, setting_of}
+use Rattle.clock_engine.specs.Engines.{AreParts, EngineStands, held_in, outputs_of, setting_of}
 use Rattle.clock_engine.specs.Ticks.{HaveTicksRoom}
 use Rattle.buffer_ends.specs.declared.run_end.End.{End}
 use Rattle.buffer_ends.specs.declared.run_end.End.TheVariants.{Write, Memory as NoMemory}
@@ -36,7 +36,7 @@ pub record AreTurnsBegun (setting : Setting) (clocks turns : ℕ) (calls : List 
 
 -- what the outputs of an engine hold, by their numbers
 abbrev pub held_of : {S : Type 0} → (S → Option (List ℕ)) → ClockEngine S → ℕ → Option (List ℕ)
-held_of held engine = held_in held engine.works.ports.items engine.outs.items
+held_of held engine = held_in held engine.parts.ports.items engine.outs.items
 
 -- how many ticks clock k has made, where so many rounds are whole, and in the next one the clocks below `clock` have made theirs
 abbrev pub made_by : (rounds clock k : ℕ) → ℕ
@@ -48,29 +48,29 @@ nothing buffer = []
 
 -- an engine may begin: its parts fit together, it made no tick and did not stop, and its sinks have room for so many ticks
 pub record MayRun {S : Type 0} (room : S → Option ℕ) (ticks : ℕ) (engine : ClockEngine S) : Type 0 where
-  pub works : AreWorks engine.works
-  pub sinks : length engine.outs.items ≡ length engine.works.ports.items
-  pub fresh : EngineStands engine.works 0 nothing
-  pub rooms : HaveTicksRoom room engine.works engine.outs.items ticks
+  pub parts : AreParts engine.parts
+  pub sinks : length engine.outs.items ≡ length engine.parts.ports.items
+  pub fresh : EngineStands engine.parts 0 nothing
+  pub rooms : HaveTicksRoom room engine.parts engine.outs.items ticks
 
 -- the engines of a run, one per clock, in clock order, over one plan with its files, clocks and start
 pub record AreEngines {S : Type 0} (room : S → Option ℕ) (ticks : ℕ) (setting : Setting) (engines : List (ClockEngine S)) : Type 0 where
   pub each : (k : ℕ) (engine : ClockEngine S) → slice_get engines k ≡ Some engine → MayRun room ticks engine
-  pub in_order : (k : ℕ) (engine : ClockEngine S) → slice_get engines k ≡ Some engine → engine.works.clock ≡ k
-  pub over : (k : ℕ) (engine : ClockEngine S) → slice_get engines k ≡ Some engine → setting_of engine.works ≡ setting
+  pub in_order : (k : ℕ) (engine : ClockEngine S) → slice_get engines k ≡ Some engine → engine.parts.clock ≡ k
+  pub over : (k : ℕ) (engine : ClockEngine S) → slice_get engines k ≡ Some engine → setting_of engine.parts ≡ setting
 
 -- an engine has gone from `old` to `new` by so many ticks, none of them with a fault, in a run that made these calls: it has taken the
 -- answers of the buffers that it reads; each output holds its bytes of these ticks more, no count of faults fell, and its sinks are
 -- those that they were, by their names
-pub record HasRun {S : Type 0} (held name : S → Option (List ℕ)) (faults : S → ℕ) (calls : List Call) (ticks : ℕ) (old new : ClockEngine S) : Type 0 where
-  pub works : AreWorks new.works
-  pub sinks : length new.outs.items ≡ length new.works.ports.items
-  pub setting : setting_of new.works ≡ setting_of old.works
-  pub clock : new.works.clock ≡ old.works.clock
+pub record HasRunTurns {S : Type 0} (held name : S → Option (List ℕ)) (faults : S → ℕ) (calls : List Call) (ticks : ℕ) (old new : ClockEngine S) : Type 0 where
+  pub parts : AreParts new.parts
+  pub sinks : length new.outs.items ≡ length new.parts.ports.items
+  pub setting : setting_of new.parts ≡ setting_of old.parts
+  pub clock : new.parts.clock ≡ old.parts.clock
   pub answers : ℕ → List Answer
-  pub own : (buffer : ℕ) → (answers buffer ≡ answers_in buffer calls) ⊎ IsUnread (setting_of old.works) (Main old.works.clock) buffer
-  pub stands : EngineStands new.works ticks answers
-  pub grew : HoldTicks (setting_of old.works) old.works.clock ticks answers (held_of held old) (held_of held new)
+  pub own : (buffer : ℕ) → (answers buffer ≡ answers_in buffer calls) ⊎ IsUnread (setting_of old.parts) (Main old.parts.clock) buffer
+  pub stands : EngineStands new.parts ticks answers
+  pub grew : HoldTicks (setting_of old.parts) old.parts.clock ticks answers (held_of held old) (held_of held new)
   pub none_fell : NoneFell faults old.outs.items new.outs.items
   pub outs : length new.outs.items ≡ length old.outs.items
   pub kept : AreKept name faults old.outs.items new.outs.items
@@ -79,10 +79,10 @@ pub record HasRun {S : Type 0} (held name : S → Option (List ℕ)) (faults : S
 -- then a front of those of the others, whatever answers follow those that were got; no count of faults fell, and its sinks are those
 -- that they were, by their names
 pub record HasRunPart {S : Type 0} (held name : S → Option (List ℕ)) (faults : S → ℕ) (world : (ℕ → List Answer) → Setting) (least most : ℕ) (old new : ClockEngine S) : Type 0 where
-  pub works : AreWorks new.works
-  pub setting : setting_of new.works ≡ setting_of old.works
-  pub clock : new.works.clock ≡ old.works.clock
-  pub part : (rest : ℕ → List Answer) (sink node : ℕ) → IsOutput (setting_of old.works) old.works.clock sink node
+  pub parts : AreParts new.parts
+  pub setting : setting_of new.parts ≡ setting_of old.parts
+  pub clock : new.parts.clock ≡ old.parts.clock
+  pub part : (rest : ℕ → List Answer) (sink node : ℕ) → IsOutput (setting_of old.parts) old.parts.clock sink node
       → (bytes : List ℕ) × IsPrefix (ticks_bytes (world rest) node least) bytes × IsPrefix bytes (ticks_bytes (world rest) node most) × (held_of held new sink ≡ grown bytes (held_of held old sink))
   pub none_fell : NoneFell faults old.outs.items new.outs.items
   pub outs : length new.outs.items ≡ length old.outs.items
@@ -91,7 +91,7 @@ pub record HasRunPart {S : Type 0} (held name : S → Option (List ℕ)) (faults
 -- each engine has run so many ticks
 pub record HaveRun {S : Type 0} (held name : S → Option (List ℕ)) (faults : S → ℕ) (calls : List Call) (ticks : ℕ → ℕ) (old new : List (ClockEngine S)) : Type 0 where
   pub size : length new ≡ length old
-  pub each : (k : ℕ) (before after : ClockEngine S) → slice_get old k ≡ Some before → slice_get new k ≡ Some after → HasRun held name faults calls (ticks k) before after
+  pub each : (k : ℕ) (before after : ClockEngine S) → slice_get old k ≡ Some before → slice_get new k ≡ Some after → HasRunTurns held name faults calls (ticks k) before after
 
 -- clock k has made at least and at most so many ticks
 pub record HaveRunPart {S : Type 0} (held name : S → Option (List ℕ)) (faults : S → ℕ) (world : (ℕ → List Answer) → Setting) (least most : ℕ → ℕ) (old new : List (ClockEngine S)) : Type 0 where
@@ -111,7 +111,7 @@ pub record IsWriteEnd {S : Type 0} (faults : S → ℕ) (clock : ℕ) (old new :
   pub place : ℕ
   pub sink : ℕ
   pub node : ℕ
-  pub there : slice_get (outputs_of (setting_of before.works) clock) place ≡ Some (sink, node)
+  pub there : slice_get (outputs_of (setting_of before.parts) clock) place ≡ Some (sink, node)
   pub end_is : end ≡ Write clock sink
   pub rose : RoseAt faults place before.outs.items after.outs.items
 
@@ -122,7 +122,7 @@ pub record AreGoing {S T : Type 0} (held name : S → Option (List ℕ)) (room :
   pub taps : Adds stands taps_first taps_now calls
   pub turned : AreTurns setting (length first) turns calls
   pub run : HaveRun held name faults calls made first now
-  pub rooms : (k left : ℕ) (engine : ClockEngine S) → slice_get now k ≡ Some engine → made k + left ≡ total → HaveTicksRoom room engine.works engine.outs.items left
+  pub rooms : (k left : ℕ) (engine : ClockEngine S) → slice_get now k ≡ Some engine → made k + left ≡ total → HaveTicksRoom room engine.parts engine.outs.items left
 
 -- all rounds were made, by these calls
 pub record RoundsMade {S T : Type 0} (held name : S → Option (List ℕ)) (faults : S → ℕ) (stands : T → List Call → Type 0) (setting : Setting)
@@ -146,4 +146,4 @@ pub record RoundsStopped {S T : Type 0} (held name : S → Option (List ℕ)) (f
 
 -- there are as many buffers as each engine's plan has
 pub record HaveBuffers {S : Type 0} (buffers : ℕ) (engines : List (ClockEngine S)) : Type 0 where
-  pub each : (k : ℕ) (engine : ClockEngine S) → slice_get engines k ≡ Some engine → buffers ≡ length engine.works.shape.plan.now.buffers
+  pub each : (k : ℕ) (engine : ClockEngine S) → slice_get engines k ≡ Some engine → buffers ≡ length engine.parts.shape.plan.now.buffers

@@ -11,7 +11,7 @@ use Rattle.stream_meaning.specs.Instants.{Setting}
 use Rattle.run_records.specs.Records.{Run, setting_then}
 use Rattle.stations.specs.Outputs.{HoldsParts, HoldsSome, OutputFile, with_outputs}
 use Rattle.stations.specs.Renderings.{WroteOutputsPart}
-use Rattle.stations.specs.Stations.{IsBegun, Station, most_of, setting_of, setting_with}
+use Rattle.stations.specs.Stations.{IsBegun, Station, most_of, setting_of_run, setting_with}
 use Rattle.stations.specs.Streams.{fronts_with}
 use Rattle.station_render.specs.Sinks.{AreCreated, HoldsPart, HoldsWhole}
 use Rattle.station_render.specs.Renders.{AreBegun, IsPart, IsWhole, Written, file_of, front_file, written}
@@ -36,7 +36,7 @@ module _ (station : Station) where
         → ForSome mid (λ files. (outputs : List OutputFile) → AreCreated (HoldsWhole name held) outputs order groups → after ≡ Some (with_outputs files outputs))
         → WroteOutputs station before after rendered
     all_written rendered whole closed =
-        let world : Setting = setting_of station whole.run in
+        let world : Setting = setting_of_run station whole.run in
         let file : Written → OutputFile = file_of world station.ticks in
         record {
           run = whole.run;

@@ -116,7 +116,7 @@ module _ {S : Type 0} {held name : S → Option (List ℕ)} {faults : S → ℕ}
           let made = ran.part.each k before after was is in
           let most = ticks_by ticks ran.round (ran.clock + 1) k in
           record {
-            works = made.works;
+            parts = made.parts;
             setting = made.setting;
             clock = made.clock;
             part = λ rest sink node out.
@@ -135,7 +135,7 @@ module _ {S : Type 0} {held name : S → Option (List ℕ)} {faults : S → ℕ}
     failed = λ failed sink is. let write = ran.write failed sink is in failed_at faults ran.clock write.place new write.before write.after write.is write.rose;
   }
 
-output_in : {S : Type 0} (setting : Setting) (k : ℕ) (engine : ClockEngine S) → IsAt setting k engine → (sink node : ℕ) → IsOutput (setting_of engine.works) engine.works.clock sink node → IsOutput setting k sink node
+output_in : {S : Type 0} (setting : Setting) (k : ℕ) (engine : ClockEngine S) → IsAt setting k engine → (sink node : ℕ) → IsOutput (setting_of engine.parts) engine.parts.clock sink node → IsOutput setting k sink node
 output_in setting k engine is sink node out = subst (λ (z : Setting × ℕ). IsOutput z.0 z.1 sink node) (λ i. (is.over i, is.clock_is i)) out
 
 both_are : {A : Type 0} (old new : List A) (k : ℕ) (before after : A) → slice_get old k ≡ Some before → slice_get new k ≡ Some after
@@ -155,7 +155,7 @@ module _ {S : Type 0} {held name : S → Option (List ℕ)} {faults : S → ℕ}
           let fresh = at.each k before was in
           let made = subst (λ (z : ClockEngine S × ClockEngine S). threads.HasMadeAll held name faults setting ran.run ticks k z.0 z.1) (both_are old new k before after was is) (ran.has_run.engines k before (within old k before was)) in
           record {
-            works = made.whole.works;
+            parts = made.whole.parts;
             sinks = made.whole.sinks;
             over = made.same.setting;
             clock = made.same.clock;
@@ -183,7 +183,7 @@ module _ {S : Type 0} {held name : S → Option (List ℕ)} {faults : S → ℕ}
           let fresh = at.each k before was in
           let made = subst (λ (z : ClockEngine S × ClockEngine S). threads.HasMadePart held name faults setting ran.run window ticks ran.begun.closed k z.0 z.1) (both_are old new k before after was is) (ran.engines k before (within old k before was)) in
           record {
-            works = made.whole.works;
+            parts = made.whole.parts;
             setting = made.same.setting;
             clock = made.same.clock;
             part = λ rest sink node out.

@@ -10,7 +10,7 @@ use Rattle.plan_core.specs.declared.plan.Plan.{Plan}
 use Rattle.plan_core.specs.declared.sink.BufferPlan.{BufferPlan}
 use Rattle.run_records.specs.Records.{Run}
 use Rattle.buffer_ends.specs.declared.counts.Counts.{Counts}
-use Rattle.stations.specs.Stations.{Station, setting_of}
+use Rattle.stations.specs.Stations.{Station, setting_of_run}
 use Rattle.stations.specs.Streams.{counts_in, gaps_in_order, gaps_of}
 use Rattle.stations.specs.Reports.{answered_line, answered_lines, answers_line, rendered_line, rendered_lines}
 use Rattle.station_render.specs.Renders.{written}
@@ -89,7 +89,7 @@ line_more station run plan ticks counts k name node fallible place at place_is p
     let at_station : slice_get station.plan.sinks k ≡ Some (Output name node fallible) = ap (λ (p : Plan). slice_get p.sinks k) plan_is ∙ at in
     let place_station : place ≡ length (written (take k station.plan.sinks)) = place_is ∙ ap (λ (p : Plan). length (written (take k p.sinks))) (sym plan_is) in
     let count : slice_get counts place ≡ Some (gaps_of station run node) =
-    ap (λ cs. slice_get cs place) counts_are ∙ ap (slice_get (gaps_in_order station run)) place_station ∙ count_at (setting_of station run) station.ticks station.plan.sinks k name node fallible at_station in
+    ap (λ cs. slice_get cs place) counts_are ∙ ap (slice_get (gaps_in_order station run)) place_station ∙ count_at (setting_of_run station run) station.ticks station.plan.sinks k name node fallible at_station in
     let all_samples : samples ≡ station.ticks * station.plan.frame = samples_are ∙ ap (λ n. n * plan.frame) (sym ticks_is) ∙ ap (λ (p : Plan). station.ticks * p.frame) (sym plan_is) in
     grew ∙ ap (λ text. text ++ rendered_line said samples (get_or counts place 0)) before
     ∙ ap (λ line. rendered_lines station run (take k plan.sinks) ++ line)

@@ -18,7 +18,7 @@ use Rattle.stream_meaning.proofs.Existence.{same_clock-true}
 use Rattle.node_states.specs.Ticks.{IsOutput, with_rest}
 use Rattle.clock_outputs.specs.declared.port.Port.{Port}
 use Rattle.clock_engine.specs.declared.engine.ClockEngine.{ClockEngine}
-use Rattle.clock_engine.specs.Engines.{AreWorks, EngineStands, held_in, output_of, outputs_from, outputs_of, setting_of}
+use Rattle.clock_engine.specs.Engines.{AreParts, EngineStands, held_in, output_of, outputs_from, outputs_of, setting_of}
 use Rattle.clock_engine.specs.Ticks.{HaveTicksRoom}
 use Rattle.clock_engine.proofs.Numbered.{are_there, from_mapped}
 use Rattle.rounds_run.specs.Rounds.{AreEngines, HasRunPart, HaveRunPart, held_of}
@@ -129,31 +129,31 @@ port_at setting m ports outputs main j output at =
           false_from_ne_true (nat_eq other.sink port.0.sink) (λ e. let same : other.sink ≡ port.0.sink = eqb-true other.sink port.0.sink e in omega (arith, less, same, number));
     }
 
-module _ {S : Type 0} (held name : S → Option (List ℕ)) (faults : S → ℕ) (ticks : ℕ) (old new : ClockEngine S) (works : AreWorks old.works) (main : LieInMain (setting_of old.works) (setting_of old.works).plan.sinks) where
+module _ {S : Type 0} (held name : S → Option (List ℕ)) (faults : S → ℕ) (ticks : ℕ) (old new : ClockEngine S) (parts : AreParts old.parts) (main : LieInMain (setting_of old.parts) (setting_of old.parts).plan.sinks) where
   abbrev here : Setting
-  here = setting_of old.works
+  here = setting_of old.parts
 
   abbrev mine : List Written
-  mine = of_clock old.works.clock (order_of here (written here.plan.sinks)) (written here.plan.sinks)
+  mine = of_clock old.parts.clock (order_of here (written here.plan.sinks)) (written here.plan.sinks)
 
-  now_outputs : AreWorks new.works → setting_of new.works ≡ here → new.works.clock ≡ old.works.clock → map output_of new.works.ports.items ≡ outputs_of here old.works.clock
-  now_outputs now over clock = now.outputs ∙ ap (λ s. outputs_of s new.works.clock) over ∙ ap (outputs_of here) clock
+  now_outputs : AreParts new.parts → setting_of new.parts ≡ here → new.parts.clock ≡ old.parts.clock → map output_of new.parts.ports.items ≡ outputs_of here old.parts.clock
+  now_outputs now over clock = now.outputs ∙ ap (λ s. outputs_of s new.parts.clock) over ∙ ap (outputs_of here) clock
 
-  held_both : AreWorks new.works → setting_of new.works ≡ here → new.works.clock ≡ old.works.clock → (j : ℕ) (output : Written) (before after : S)
+  held_both : AreParts new.parts → setting_of new.parts ≡ here → new.parts.clock ≡ old.parts.clock → (j : ℕ) (output : Written) (before after : S)
       → slice_get mine j ≡ Some output → slice_get old.outs.items j ≡ Some before → slice_get new.outs.items j ≡ Some after
-      → (sink : ℕ) × IsOutput here old.works.clock sink output.node × (held_of held old sink ≡ held before) × (held_of held new sink ≡ held after)
+      → (sink : ℕ) × IsOutput here old.parts.clock sink output.node × (held_of held old sink ≡ held before) × (held_of held new sink ≡ held after)
   held_both now over clock j output before after at was is =
-      let first = port_at here old.works.clock old.works.ports.items works.outputs main j output at in
-      let last = port_at here old.works.clock new.works.ports.items (now_outputs now over clock) main j output at in
+      let first = port_at here old.parts.clock old.parts.ports.items parts.outputs main j output at in
+      let last = port_at here old.parts.clock new.parts.ports.items (now_outputs now over clock) main j output at in
       let numbers : output_of first.port ≡ output_of last.port =
-      (let a : slice_get (outputs_of here old.works.clock) j ≡ Some (output_of first.port) = ap (λ pairs. slice_get pairs j) (sym works.outputs) ∙ mapped output_of old.works.ports.items j first.port first.there in
-      let b : slice_get (outputs_of here old.works.clock) j ≡ Some (output_of last.port) = ap (λ pairs. slice_get pairs j) (sym (now_outputs now over clock)) ∙ mapped output_of new.works.ports.items j last.port last.there in
+      (let a : slice_get (outputs_of here old.parts.clock) j ≡ Some (output_of first.port) = ap (λ pairs. slice_get pairs j) (sym parts.outputs) ∙ mapped output_of old.parts.ports.items j first.port first.there in
+      let b : slice_get (outputs_of here old.parts.clock) j ≡ Some (output_of last.port) = ap (λ pairs. slice_get pairs j) (sym (now_outputs now over clock)) ∙ mapped output_of new.parts.ports.items j last.port last.there in
       let c : Some (output_of first.port) ≡ Some (output_of last.port) = sym a ∙ b in cc) in
       let same : first.port.sink ≡ last.port.sink = ap (λ (p : ℕ × ℕ). p.0) numbers in (
         first.port.sink,
         first.is_output,
-        held_at held old.works.ports.items old.outs.items j first.port before first.before first.there was,
-        ap (held_of held new) same ∙ held_at held new.works.ports.items new.outs.items j last.port after last.before last.there is,
+        held_at held old.parts.ports.items old.outs.items j first.port before first.before first.there was,
+        ap (held_of held new) same ∙ held_at held new.parts.ports.items new.outs.items j last.port after last.before last.there is,
       )
 
   -- after all ticks
@@ -161,7 +161,7 @@ module _ {S : Type 0} (held name : S → Option (List ℕ)) (faults : S → ℕ)
       → slice_get mine j ≡ Some output → slice_get old.outs.items j ≡ Some before → slice_get new.outs.items j ≡ Some after
       → (name after ≡ name before) × (held after ≡ grown (ticks_bytes world output.node ticks) (held before))
   whole_at world run j output before after at was is =
-      let both = held_both run.works run.over run.clock j output before after at was is in
+      let both = held_both run.parts run.over run.clock j output before after at was is in
       ((run.kept.each j before after was is).0, sym both.3 ∙ run.grew both.0 output.node both.1 ∙ ap (grown (ticks_bytes world output.node ticks)) both.2)
 
   -- after a part of them
@@ -169,22 +169,22 @@ module _ {S : Type 0} (held name : S → Option (List ℕ)) (faults : S → ℕ)
       → slice_get mine j ≡ Some output → slice_get old.outs.items j ≡ Some before → slice_get new.outs.items j ≡ Some after
       → (name after ≡ name before) × ((bytes : List ℕ) × IsPrefix bytes (ticks_bytes (worlds rest) output.node most) × (held after ≡ grown bytes (held before)))
   part_at worlds least most run rest j output before after at was is =
-      let both = held_both run.works run.setting run.clock j output before after at was is in
+      let both = held_both run.parts run.setting run.clock j output before after at was is in
       let part = run.part rest both.0 output.node both.1 in
       ((run.kept.each j before after was is).0, (part.0, part.2, sym both.3 ∙ part.3 ∙ ap (grown part.0) both.2))
 
   -- the room of each sink is that of its port
   pub rooms_at : (left : S → Option ℕ) → ((j : ℕ) (output : Written) (out : S) → slice_get mine j ≡ Some output → slice_get old.outs.items j ≡ Some out → HasRoom (left out) (body_size here ticks output.node))
-      → length old.outs.items ≡ length mine → HaveTicksRoom left old.works old.outs.items ticks
+      → length old.outs.items ≡ length mine → HaveTicksRoom left old.parts old.outs.items ticks
   rooms_at left each size = record {
     each = λ k port out at there.
         let low = within old.outs.items k out there in
         let found = in_list mine k (omega (arith, size, low)) in
-        let mine_port = port_at here old.works.clock old.works.ports.items works.outputs main k found.0 found.1 in
+        let mine_port = port_at here old.parts.clock old.parts.ports.items parts.outputs main k found.0 found.1 in
         let same : mine_port.port ≡ port = (let e : Some mine_port.port ≡ Some port = sym mine_port.there ∙ at in cc) in
         let node_is : port.node ≡ found.0.node = ap (λ (p : Port). p.node) (sym same) ∙ mine_port.same_node in
         let kind_is : port.kind ≡ kind_of here port.node =
-        (let kinds = works.kinds k port (within old.works.ports.items k port at) in subst (λ (p : Port). p.kind ≡ kind_of here p.node) (got_is old.works.ports.items k port port at) kinds) in
+        (let kinds = parts.kinds k port (within old.parts.ports.items k port at) in subst (λ (p : Port). p.kind ≡ kind_of here p.node) (got_is old.parts.ports.items k port port at) kinds) in
         subst (λ kind. HasRoom (left out) (ticks * (here.plan.frame * (2 * channels_of kind)))) (sym (kind_is ∙ ap (kind_of here) node_is)) (each k found.0 out found.1 there);
   }
 
@@ -194,7 +194,7 @@ headed header part rest whole is = ap (λ b. header ++ b) is ∙ sym (append_ass
 
 -- the sinks of all clocks
 module _ {S : Type 0} (setting : Setting) (ticks : ℕ) (main : LieInMain setting setting.plan.sinks) where
-  main_here : (engine : ClockEngine S) → setting_of engine.works ≡ setting → LieInMain (setting_of engine.works) (setting_of engine.works).plan.sinks
+  main_here : (engine : ClockEngine S) → setting_of engine.parts ≡ setting → LieInMain (setting_of engine.parts) (setting_of engine.parts).plan.sinks
   main_here engine over = subst (λ s. LieInMain s s.plan.sinks) (sym over) main
 
   -- a clock has as many sinks as outputs
@@ -204,9 +204,9 @@ module _ {S : Type 0} (setting : Setting) (ticks : ℕ) (main : LieInMain settin
       zip_size So (of_clock m (order_of setting (written setting.plan.sinks)) (written setting.plan.sinks)) group (are.each m group at)
       ∙ sym (zip_size same_node (of_clock m (order_of setting (written setting.plan.sinks)) (written setting.plan.sinks)) (outputs_of setting m) (same_places setting m 0 setting.plan.sinks main))
 
-  mine_is : (engine : ClockEngine S) (m : ℕ) → IsAt setting m engine → of_clock engine.works.clock (order_of (setting_of engine.works) (written (setting_of engine.works).plan.sinks)) (written (setting_of engine.works).plan.sinks)
+  mine_is : (engine : ClockEngine S) (m : ℕ) → IsAt setting m engine → of_clock engine.parts.clock (order_of (setting_of engine.parts) (written (setting_of engine.parts).plan.sinks)) (written (setting_of engine.parts).plan.sinks)
       ≡ of_clock m (order_of setting (written setting.plan.sinks)) (written setting.plan.sinks)
-  mine_is engine m is = ap (λ s. of_clock engine.works.clock (order_of s (written s.plan.sinks)) (written s.plan.sinks)) is.over ∙ ap (λ c. of_clock c (order_of setting (written setting.plan.sinks)) (written setting.plan.sinks)) is.clock_is
+  mine_is engine m is = ap (λ s. of_clock engine.parts.clock (order_of s (written s.plan.sinks)) (written s.plan.sinks)) is.over ∙ ap (λ c. of_clock c (order_of setting (written setting.plan.sinks)) (written setting.plan.sinks)) is.clock_is
 
   -- the engines may run
   pub may_run : (left : S → Option ℕ) (engines : List (ClockEngine S)) → AreAt setting engines
@@ -216,10 +216,10 @@ module _ {S : Type 0} (setting : Setting) (ticks : ℕ) (main : LieInMain settin
         let is = at.each m engine there in
         let zip = rooms.each m engine.outs.items (mapped (λ (e : ClockEngine S). e.outs.items) engines m engine there) in
         record {
-          works = is.works;
+          parts = is.parts;
           sinks = is.sinks;
           fresh = is.stands;
-          rooms = rooms_at (λ s. None) (λ s. None) (λ s. 0) ticks engine engine is.works (main_here engine is.over) left
+          rooms = rooms_at (λ s. None) (λ s. None) (λ s. 0) ticks engine engine is.parts (main_here engine is.over) left
               (λ j output out mine_at out_at.
               subst (λ s. HasRoom (left out) (body_size s ticks output.node)) (sym is.over)
               (zip_at (λ output sink. HasRoom (left sink) (body_size setting ticks output.node)) (of_clock m (order_of setting (written setting.plan.sinks)) (written setting.plan.sinks)) engine.outs.items j output out zip
@@ -261,7 +261,7 @@ module _ {S : Type 0} (setting : Setting) (ticks : ℕ) (main : LieInMain settin
           let size = ran.outs in
           let before = in_list found.0.outs.items j (omega (arith, low, size)) in
           let told = zip_at (IsReady name held left files setting ticks) (of_clock m (order_of setting (written setting.plan.sinks)) (written setting.plan.sinks)) found.0.outs.items j output before.0 zip mine_at before.1 in
-          let did = whole_at held name faults ticks found.0 found.1 is.works (main_here found.0 is.over) (answered setting answers) ran j output before.0 after
+          let did = whole_at held name faults ticks found.0 found.1 is.parts (main_here found.0 is.over) (answered setting answers) ran j output before.0 after
           (ap (λ ws. slice_get ws j) (mine_is found.0 m is) ∙ mine_at) before.1 after_at in
           λ all here. record {
             named = did.0 ∙ (told.told all here).named;
@@ -288,7 +288,7 @@ module _ {S : Type 0} (setting : Setting) (ticks : ℕ) (main : LieInMain settin
           let size = ran.outs in
           let before = in_list found.0.outs.items j (omega (arith, low, size)) in
           let told = zip_at (IsReady name held left files setting ticks) (of_clock m (order_of setting (written setting.plan.sinks)) (written setting.plan.sinks)) found.0.outs.items j output before.0 zip mine_at before.1 in
-          let did = part_at held name faults ticks found.0 found.1 is.works (main_here found.0 is.over) (setting_then setting record_of) (least m) made ran rest j output before.0 after
+          let did = part_at held name faults ticks found.0 found.1 is.parts (main_here found.0 is.over) (setting_then setting record_of) (least m) made ran rest j output before.0 after
           (ap (λ ws. slice_get ws j) (mine_is found.0 m is) ∙ mine_at) before.1 after_at in
           let front = did.1.1 in
           λ all here. record {
@@ -313,7 +313,7 @@ stand_after held name faults setting world ticks old new at run = record {
       let is = at.each m before.0 before.1 in
       let ran = run.each m before.0 after before.1 there in
       record {
-        works = ran.works;
+        parts = ran.parts;
         over = ran.over ∙ is.over;
         clock_is = ran.clock ∙ is.clock_is;
         answers = ran.answers;
@@ -327,9 +327,9 @@ stand_after held name faults setting world ticks old new at run = record {
 module _ {S : Type 0} (plan : Plan) (clocks : ClockMap) (setting world : Setting) (ticks : ℕ) (plan_is : setting.plan ≡ plan) (clocks_is : setting.clocks ≡ clocks.of)
     (k : ℕ) (name : List ℕ) (node : ℕ) (fallible : Bool) (at : slice_get plan.sinks k ≡ Some (Output name node fallible)) (clock : ℕ) (lies : slice_get clocks.of node ≡ Some (Main clock))
     (engine : ClockEngine S) (is : IsPast setting world ticks clock engine) where
-  pub output_here : IsOutput (setting_of engine.works) engine.works.clock k node
+  pub output_here : IsOutput (setting_of engine.parts) engine.parts.clock k node
   output_here =
-      subst (λ s. IsOutput s engine.works.clock k node) (sym is.over)
+      subst (λ s. IsOutput s engine.parts.clock k node) (sym is.over)
       (subst (λ c. IsOutput setting c k node) (sym is.clock_is)
       (record {
         name = name;
@@ -338,7 +338,7 @@ module _ {S : Type 0} (plan : Plan) (clocks : ClockMap) (setting world : Setting
         in_clock = ap (λ of. get_or of node (Main 0)) clocks_is ∙ got_is clocks.of node (Main clock) (Main 0) lies;
       }))
 
-  pub gaps_here : (count : ℕ) → ((t : ℕ) (answers rest : ℕ → List Answer) (other : ℕ) → EngineStands engine.works t answers
-      → IsOutput (setting_of engine.works) engine.works.clock k other → count ≡ gaps (with_rest (setting_of engine.works) answers rest) other t) → count ≡ gaps world node ticks
+  pub gaps_here : (count : ℕ) → ((t : ℕ) (answers rest : ℕ → List Answer) (other : ℕ) → EngineStands engine.parts t answers
+      → IsOutput (setting_of engine.parts) engine.parts.clock k other → count ≡ gaps (with_rest (setting_of engine.parts) answers rest) other t) → count ≡ gaps world node ticks
   gaps_here count told =
       told ticks is.answers is.rest node is.stands output_here ∙ ap (λ s. gaps (with_rest s is.answers is.rest) node ticks) is.over ∙ ap (λ w. gaps w node ticks) is.given

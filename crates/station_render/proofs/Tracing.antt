@@ -25,7 +25,7 @@ use Rattle.trace_log.specs.Values.{TraceValue}
 use Rattle.stations.specs.Outputs.{HoldsSome, OutputFile, with_outputs}
 use Rattle.stations.specs.Renderings.{WroteOutputsPart, WrotePart}
 use Rattle.stations.specs.Stations.{Station, most_of}
-use Rattle.stations.specs.Streams.{fronts_with, outputs_of}
+use Rattle.stations.specs.Streams.{fronts_with, output_files}
 use Rattle.stations.specs.Traces.{traced, traces_in, traces_of}
 use Rattle.station_render.specs.Runs.{IsRendered, LeftPart, WroteOutputs}
 use Rattle.station_render.specs.declared.rendered.Rendered.{Rendered}
@@ -100,13 +100,13 @@ untraced station before after alone rendered wrote = record {
   lawful = wrote.lawful;
   told = wrote.told;
   all_written = λ files at.
-      let outputs = outputs_of station wrote.run in
+      let outputs = output_files station wrote.run in
       wrote.outputs_written files at ∙ ap (λ all. Some (with_outputs files all)) (sym (append-nil outputs) ∙ ap (λ w. outputs ++ traces_in w station wrote.run) (sym alone));
 }
 
 module _ (station : Station) (window : ℕ) (in_windows : station.window ≡ Some window) (before mid : Option Files) (rendered : Rendered) (wrote : WroteOutputs station before mid rendered) where
   abbrev outputs : List OutputFile
-  outputs = outputs_of station wrote.run
+  outputs = output_files station wrote.run
 
   abbrev trace : TraceValue
   trace = record { ticks = station.ticks; window = window; buffers = rendered.logs.items }

@@ -2,7 +2,7 @@
 use Rattle.std.specs.Prelude.{◌≡◌, ◌<◌, ℕ, List, [], ◌∷◌, Some, length, map, slice_get}
 use Rattle.stream_meaning.specs.Instants.{Setting}
 use Rattle.clock_engine.specs.declared.engine.ClockEngine.{ClockEngine}
-use Rattle.clock_engine.specs.Engines.{AreWorks, EngineStands, setting_of}
+use Rattle.clock_engine.specs.Engines.{AreParts, EngineStands, setting_of}
 use Rattle.op_leaf.specs.Readers.{Answer}
 use Rattle.node_states.specs.Ticks.{with_rest}
 use Rattle.rounds_run.specs.Rounds.{nothing}
@@ -23,11 +23,11 @@ AreEmptyBelow n lists = (m : ℕ) (list : List _) → m < n → slice_get lists 
 
 -- an engine of main clock m, before any tick
 pub record IsAt {S : Type 0} (setting : Setting) (m : ℕ) (engine : ClockEngine S) : Type 0 where
-  pub works : AreWorks engine.works
-  pub sinks : length engine.outs.items ≡ length engine.works.ports.items
-  pub over : setting_of engine.works ≡ setting
-  pub clock_is : engine.works.clock ≡ m
-  pub stands : EngineStands engine.works 0 nothing
+  pub parts : AreParts engine.parts
+  pub sinks : length engine.outs.items ≡ length engine.parts.ports.items
+  pub over : setting_of engine.parts ≡ setting
+  pub clock_is : engine.parts.clock ≡ m
+  pub stands : EngineStands engine.parts 0 nothing
 
 -- the engines of all clocks, in clock order, before any tick
 pub record AreAt {S : Type 0} (setting : Setting) (engines : List (ClockEngine S)) : Type 0 where
@@ -35,13 +35,13 @@ pub record AreAt {S : Type 0} (setting : Setting) (engines : List (ClockEngine S
 
 -- an engine of main clock m has made so many ticks, with answers of buffers that are those of `world`
 pub record IsPast {S : Type 0} (setting world : Setting) (ticks m : ℕ) (engine : ClockEngine S) : Type 0 where
-  pub works : AreWorks engine.works
-  pub over : setting_of engine.works ≡ setting
-  pub clock_is : engine.works.clock ≡ m
+  pub parts : AreParts engine.parts
+  pub over : setting_of engine.parts ≡ setting
+  pub clock_is : engine.parts.clock ≡ m
   pub answers : ℕ → List Answer
   pub rest : ℕ → List Answer
   pub given : with_rest setting answers rest ≡ world
-  pub stands : EngineStands engine.works ticks answers
+  pub stands : EngineStands engine.parts ticks answers
 
 -- the engines of all clocks, in clock order, have made so many ticks
 pub record ArePast {S : Type 0} (setting world : Setting) (ticks : ℕ) (engines : List (ClockEngine S)) : Type 0 where

@@ -12,8 +12,8 @@ use Rattle.run_records.specs.Records.{Run, setting_in, setting_then, windows_of}
 use Rattle.trace_log.specs.Values.{TraceValue}
 use Rattle.stations.specs.Outputs.{OutputFile, with_outputs}
 use Rattle.stations.specs.Reports.{answers_line}
-use Rattle.stations.specs.Stations.{IsBegun, IsBegunIn, IsLawful, IsLawfulIn, Station, bare, most_in, most_of, setting_of, station_of}
-use Rattle.stations.specs.Streams.{gaps_in_order, outputs_of}
+use Rattle.stations.specs.Stations.{IsBegun, IsBegunIn, IsLawful, IsLawfulIn, Station, bare, most_in, most_of, setting_of_run, station_of}
+use Rattle.stations.specs.Streams.{gaps_in_order, output_files}
 use Rattle.stations.specs.Traces.{files_of, traced}
 use Rattle.stations.specs.declared.ready.Ready.{Ready}
 use Rattle.buffer_ends.specs.Local.{Answers}
@@ -58,7 +58,7 @@ pub record WroteOutputs (station : Station) (before after : Option Files) (rende
   pub run : Run
   pub lawful : IsLawful station run
   pub told : IsTold station run rendered
-  pub outputs_written : ForSome before (λ files. after ≡ Some (with_outputs files (outputs_of station run)))
+  pub outputs_written : ForSome before (λ files. after ≡ Some (with_outputs files (output_files station run)))
 
 -- the file of this trace holds a prefix of its text, or, for this cause, what its name held
 pub record LeftPart (name : Option (List ℕ)) (trace : TraceValue) (cause : Type 0) (before after : Option Files) : Type 0 where
@@ -78,7 +78,7 @@ pub record RanWhole {S : Type 0} (name held : S → Option (List ℕ)) (files : 
   pub run : Run
   pub lawful : IsLawful station run
   pub told : IsTold station run rendered
-  pub whole : AreCreated (IsWhole name held files (setting_of station run) station.ticks) (written station.plan.sinks) order groups
+  pub whole : AreCreated (IsWhole name held files (setting_of_run station run) station.ticks) (written station.plan.sinks) order groups
 
 -- a run of the station came so far that each sink holds a first part of its bytes
 pub record RanPart {S : Type 0} (name held : S → Option (List ℕ)) (files : Option Files) (station : Station) (order : List ℕ) (groups : List (List S)) : Type 0 where

@@ -14,7 +14,7 @@ use Rattle.run_records.proofs.Alone.{merged_setting}
 use Rattle.run_records.proofs.Flattening.{merged_answers}
 use Rattle.stations.specs.Renderings.{RendersAsOneThread}
 use Rattle.stations.specs.Reports.{answered_lines, answers_line, rendered_line, rendered_lines, report_of}
-use Rattle.stations.specs.Stations.{IsLawfulIn, Station, bare, setting_of}
+use Rattle.stations.specs.Stations.{IsLawfulIn, Station, bare, setting_of_run}
 use Rattle.stations.specs.Streams.{outputs_in}
 
 -- what the puts of a run were answered stays where its windows are merged
@@ -27,7 +27,7 @@ merged_puts : (run : Run) (b : ℕ) → puts_of (merged run) b ≡ puts_of run b
 merged_puts run b = merged_put run.buffers b
 
 -- a report rests on the setting alone, and on what buffers answered
-same_outputs : (station : Station) (run other : Run) → setting_of station run ≡ setting_of station other → (sinks : List SinkPlan) → rendered_lines station run sinks ≡ rendered_lines station other sinks
+same_outputs : (station : Station) (run other : Run) → setting_of_run station run ≡ setting_of_run station other → (sinks : List SinkPlan) → rendered_lines station run sinks ≡ rendered_lines station other sinks
 same_outputs station run other same [] = refl
 same_outputs station run other same (Output name node fallible ∷ sinks) =
     let rest = same_outputs station run other same sinks in

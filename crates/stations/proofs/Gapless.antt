@@ -4,13 +4,13 @@ use Rattle.liq_base.specs.Files.{Files}
 use Rattle.plan_core.specs.Plans.{IsWellFormed}
 use Rattle.stations.specs.Findings.{IsAccepted, rules_of}
 use Rattle.run_records.specs.Records.{Run}
-use Rattle.stations.specs.Stations.{Station, bare, setting_of}
+use Rattle.stations.specs.Stations.{Station, bare, setting_of_run}
 use Rattle.stream_meaning.specs.Settings.{IsSetting}
 use Rattle.stations.proofs.Walked.{leaves_long, singles_have_one}
 
 pub is_setting : (files : Files) (station : Station) (run : Run) → IsWellFormed station.plan
     → IsAccepted files station.plan station.ticks station.library station.clocks → station.start < 604800
-    → IsSetting (setting_of station run) station.clocks
+    → IsSetting (setting_of_run station run) station.clocks
 is_setting files station run plan accepted start =
     let loaded = accepted.clocked.safe.loaded in
     record {

@@ -11,7 +11,7 @@ use Rattle.frame_core.specs.Slots.{Slot}
 use Rattle.wav_io.specs.Header.{block_size}
 use Rattle.wav_io.proofs.Headers.{length_header}
 use Rattle.run_records.specs.Records.{Run}
-use Rattle.stations.specs.Stations.{Station, setting_of}
+use Rattle.stations.specs.Stations.{Station, setting_of_run}
 use Rattle.stations.specs.Streams.{bytes_of, header_for}
 use Rattle.stream_meaning.specs.Instants.{Setting, stream_of}
 use Rattle.stream_meaning.specs.Sinks.{kind_of, slot_block, tick_bytes, tick_slots, ticks_bytes}
@@ -46,9 +46,9 @@ ticks_long setting i (suc ticks) =
     omega (arith, both, before, here, many)
 
 pub output_long : (station : Station) (run : Run) (node : ℕ) → length (bytes_of station run node)
-    ≡ 44 + station.ticks * station.plan.frame * block_size (kind_of (setting_of station run) node)
+    ≡ 44 + station.ticks * station.plan.frame * block_size (kind_of (setting_of_run station run) node)
 output_long station run node =
-    let setting = setting_of station run in
+    let setting = setting_of_run station run in
     let size = block_size (kind_of setting node) in
     let both = length-append (header_for setting station.ticks node) (ticks_bytes setting node station.ticks) in
     let front = length_header (kind_of setting node) station.plan.rate (station.ticks * station.plan.frame) in

@@ -7,7 +7,7 @@ use Rattle.run_records.specs.Records.{IsRounds, Run}
 use Rattle.stations.specs.Outputs.{HoldsSome, OutputFile, with_outputs}
 use Rattle.stations.specs.Reports.{report_of}
 use Rattle.stations.specs.Stations.{Station, IsBegun, IsLawful, bare, most_of}
-use Rattle.stations.specs.Streams.{fronts_with, outputs_of}
+use Rattle.stations.specs.Streams.{fronts_with, output_files}
 use Rattle.stations.specs.Traces.{traces_of}
 
 -- A run was broken off, and no trace was created: whatever answers had followed those that it got, each output holds a prefix of its
@@ -24,7 +24,7 @@ pub record WroteTracePart (station : Station) (cause : Type 0) (files : Files) (
   pub lawful : IsLawful station run
   pub trace : OutputFile
   pub wanted : traces_of station run ≡ trace ∷ []
-  pub part : IsSomeAnd after (HoldsPartOr cause (with_outputs files (outputs_of station run)) trace.name trace.bytes)
+  pub part : IsSomeAnd after (HoldsPartOr cause (with_outputs files (output_files station run)) trace.name trace.bytes)
 
 -- what a rendering leaves, whatever it ended with
 abbrev pub WrotePart : Station → (cause : Type 0) → Files → (after : Option Files) → Type 0
@@ -35,5 +35,5 @@ pub record RendersAsOneThread (station : Station) (run : Run) : Type 0 where
   pub alone : Run
   pub rounds : IsRounds (bare station) station.clocks.running station.ticks alone
   pub one : (other : Run) → IsRounds (bare station) station.clocks.running station.ticks other → other ≡ alone
-  pub files_are : outputs_of station run ≡ outputs_of station alone
+  pub files_are : output_files station run ≡ output_files station alone
   pub report_is : report_of station run ≡ report_of station alone

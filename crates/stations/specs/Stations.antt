@@ -31,8 +31,8 @@ bare station = record {
 }
 
 -- what they rest on in a run; and in a run that was broken off, if these answers had followed
-abbrev pub setting_of : Station → Run → Setting
-setting_of station run = setting_in (bare station) run
+abbrev pub setting_of_run : Station → Run → Setting
+setting_of_run station run = setting_in (bare station) run
 
 abbrev pub setting_with : Station → Run → (rest : ℕ → List Answer) → Setting
 setting_with station run rest = setting_then (bare station) run rest

@@ -9,7 +9,7 @@ use Rattle.wav_io.specs.Header.{header_bytes}
 use Rattle.stations.specs.Outputs.{OutputFile}
 use Rattle.op_leaf.specs.Readers.{Answer}
 use Rattle.run_records.specs.Records.{Run}
-use Rattle.stations.specs.Stations.{Station, setting_of, setting_with}
+use Rattle.stations.specs.Stations.{Station, setting_of_run, setting_with}
 
 -- the header of an output of a node, for so many ticks
 abbrev pub header_for : Setting → (ticks node : ℕ) → List ℕ
@@ -45,22 +45,22 @@ counts_in setting ticks (Feed buffer node ∷ sinks) = counts_in setting ticks s
 
 -- all bytes of an output of a node in a run of the station
 abbrev pub bytes_of : Station → Run → (node : ℕ) → List ℕ
-bytes_of station run node = output_bytes (setting_of station run) station.ticks node
+bytes_of station run node = output_bytes (setting_of_run station run) station.ticks node
 
 -- at how many instants of a run a node offers nothing
 abbrev pub gaps_of : Station → Run → (node : ℕ) → ℕ
-gaps_of station run node = gaps (setting_of station run) node station.ticks
+gaps_of station run node = gaps (setting_of_run station run) node station.ticks
 
 -- the files of the outputs that a run writes, and their gaps, in sink order
-abbrev pub outputs_of : Station → Run → List OutputFile
-outputs_of station run = outputs_in (setting_of station run) station.ticks station.plan.sinks
+abbrev pub output_files : Station → Run → List OutputFile
+output_files station run = outputs_in (setting_of_run station run) station.ticks station.plan.sinks
 
 -- what a run which was broken off would have written in the first ticks, if these answers had followed
 abbrev pub fronts_with : Station → Run → (made : ℕ) → (rest : ℕ → List Answer) → List OutputFile
 fronts_with station run made rest = fronts_in (setting_with station run rest) station.ticks made station.plan.sinks
 
 abbrev pub gaps_in_order : Station → Run → List ℕ
-gaps_in_order station run = counts_in (setting_of station run) station.ticks station.plan.sinks
+gaps_in_order station run = counts_in (setting_of_run station run) station.ticks station.plan.sinks
 
 -- an output of an infallible node has no gap
 abbrev pub HasNoGaps : Station → Run → Type 0

@@ -6,7 +6,7 @@ use Rattle.trace_log.specs.Texts.{trace_text}
 use Rattle.trace_log.specs.Values.{TraceValue}
 use Rattle.stations.specs.Outputs.{OutputFile}
 use Rattle.stations.specs.Stations.{Station}
-use Rattle.stations.specs.Streams.{outputs_of}
+use Rattle.stations.specs.Streams.{output_files}
 
 -- the trace of a run, in windows of so many ticks: for each buffer and window, which puts were accepted and which takes got a chunk
 abbrev pub trace_of : Station → (window : ℕ) → Run → TraceValue
@@ -27,4 +27,4 @@ traces_of station run = traces_in station.window station run
 
 -- all files that a run writes: the outputs in sink order, and then the trace
 abbrev pub files_of : Station → Run → List OutputFile
-files_of station run = outputs_of station run ++ traces_of station run
+files_of station run = output_files station run ++ traces_of station run

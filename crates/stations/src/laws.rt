@@ -9,7 +9,7 @@ ghost use Rattle.stations.specs.Findings.{IsAccepted};
 ghost use Rattle.run_records.specs.Records.{Run};
 ghost use Rattle.run_records.specs.Rounds.{HasNoJoin};
 ghost use Rattle.stations.specs.Renderings.{RendersAsOneThread};
-ghost use Rattle.stations.specs.Stations.{IsLawful, Station, bare, setting_of};
+ghost use Rattle.stations.specs.Stations.{IsLawful, Station, bare, setting_of_run};
 ghost use Rattle.stations.specs.Streams.{HasNoGaps, bytes_of, header_for};
 ghost use Rattle.stream_meaning.specs.Sinks.{kind_of, ticks_bytes};
 ghost use Rattle.wav_io.specs.Header.{block_size};
@@ -39,7 +39,7 @@ pub fn threads_render_as_one_thread()
 /// The bytes of an output are its header and then those of all ticks, as many as its samples take.
 pub fn outputs_are_whole()
     ensures bytes { (station : Station) (run : Run) (node : ℕ)
-        → bytes_of station run node ≡ header_for (setting_of station run) station.ticks node ++ ticks_bytes (setting_of station run) node station.ticks }
+        → bytes_of station run node ≡ header_for (setting_of_run station run) station.ticks node ++ ticks_bytes (setting_of_run station run) node station.ticks }
     ensures long { (station : Station) (run : Run) (node : ℕ) → length (bytes_of station run node)
-        ≡ 44 + station.ticks * station.plan.frame * block_size (kind_of (setting_of station run) node) }
+        ≡ 44 + station.ticks * station.plan.frame * block_size (kind_of (setting_of_run station run) node) }
 {}

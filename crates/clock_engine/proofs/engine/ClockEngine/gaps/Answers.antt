@@ -9,42 +9,42 @@ use Rattle.clock_engine.proofs.engine.ClockEngine.gaps.Goals as goal
 
 pub returns-then-port-sink-clause-made : goal.returns-then-port-sink-clause-made
 returns-then-port-sink-clause-made g c ticks answers rest node stands output =
-    let within : c.loop-port.port-index < length c.args.self.now.works.ports.items = omega (arith, c.loop-port-test.true, ap length c.deref-port-items.ensures.value) in
-    let at : slice_get c.args.self.now.works.ports.items c.loop-port.port-index ≡ Some c.port-item.result =
+    let within : c.loop-port.port-index < length c.args.self.now.parts.ports.items = omega (arith, c.loop-port-test.true, ap length c.deref-port-items.ensures.value) in
+    let at : slice_get c.args.self.now.parts.ports.items c.loop-port.port-index ≡ Some c.port-item.result =
     slice_get_read _ _ _ _ refl within (c.port-item.is ∙ ap (λ xs. get_or xs c.loop-port.port-index c.port-item.result) c.deref-port-items.ensures.value) in
     c.whole_gaps.ensures.runs stands.runs ∙ stands.gaps_are rest c.loop-port.port-index c.port-item.result at
-    ∙ ap (λ i. gaps (with_rest (setting_of c.args.self.now.works) answers rest) i ticks)
-    (port_node (setting_of c.args.self.now.works) c.args.self.now.works.clock c.args.self.now.works.ports.items c.requires.works.outputs c.args.sink node output c.loop-port.port-index c.port-item.result at c.if-port-sink.true)
+    ∙ ap (λ i. gaps (with_rest (setting_of c.args.self.now.parts) answers rest) i ticks)
+    (port_node (setting_of c.args.self.now.parts) c.args.self.now.parts.clock c.args.self.now.parts.ports.items c.requires.parts.outputs c.args.sink node output c.loop-port.port-index c.port-item.result at c.if-port-sink.true)
 
 pub returns-then-port-sink-clause-stopped : goal.returns-then-port-sink-clause-stopped
 returns-then-port-sink-clause-stopped g c ticks answers rest made node stopped output =
-    let within : c.loop-port.port-index < length c.args.self.now.works.ports.items = omega (arith, c.loop-port-test.true, ap length c.deref-port-items.ensures.value) in
-    let at : slice_get c.args.self.now.works.ports.items c.loop-port.port-index ≡ Some c.port-item.result =
+    let within : c.loop-port.port-index < length c.args.self.now.parts.ports.items = omega (arith, c.loop-port-test.true, ap length c.deref-port-items.ensures.value) in
+    let at : slice_get c.args.self.now.parts.ports.items c.loop-port.port-index ≡ Some c.port-item.result =
     slice_get_read _ _ _ _ refl within (c.port-item.is ∙ ap (λ xs. get_or xs c.loop-port.port-index c.port-item.result) c.deref-port-items.ensures.value) in
     c.whole_gaps.ensures.stopped stopped.fault stopped.stopped ∙ stopped.gaps_are rest c.loop-port.port-index c.port-item.result at
-    ∙ ap (λ i. gaps (with_rest (setting_of c.args.self.now.works) answers rest) i ticks)
-    (port_node (setting_of c.args.self.now.works) c.args.self.now.works.clock c.args.self.now.works.ports.items c.requires.works.outputs c.args.sink node output c.loop-port.port-index c.port-item.result at c.if-port-sink.true)
+    ∙ ap (λ i. gaps (with_rest (setting_of c.args.self.now.parts) answers rest) i ticks)
+    (port_node (setting_of c.args.self.now.parts) c.args.self.now.parts.clock c.args.self.now.parts.ports.items c.requires.parts.outputs c.args.sink node output c.loop-port.port-index c.port-item.result at c.if-port-sink.true)
 
 pub loop-port-preserved : goal.loop-port-preserved
 loop-port-preserved g c k port below found same =
-    let within : c.loop-port.port-index < length c.args.self.now.works.ports.items = omega (arith, c.loop-port-test.true, ap length c.deref-port-items.ensures.value) in
-    let at : slice_get c.args.self.now.works.ports.items c.loop-port.port-index ≡ Some c.port-item.result =
+    let within : c.loop-port.port-index < length c.args.self.now.parts.ports.items = omega (arith, c.loop-port-test.true, ap length c.deref-port-items.ensures.value) in
+    let at : slice_get c.args.self.now.parts.ports.items c.loop-port.port-index ≡ Some c.port-item.result =
     slice_get_read _ _ _ _ refl within (c.port-item.is ∙ ap (λ xs. get_or xs c.loop-port.port-index c.port-item.result) c.deref-port-items.ensures.value) in
     elim (below_or_same k c.loop-port.port-index below) [
       | inl less ↦ c.loop-port.invariant k port less found same
-      | inr here ↦ (let one : Some c.port-item.result ≡ Some port = sym at ∙ ap (slice_get c.args.self.now.works.ports.items) (sym here) ∙ found in
+      | inr here ↦ (let one : Some c.port-item.result ≡ Some port = sym at ∙ ap (slice_get c.args.self.now.parts.ports.items) (sym here) ∙ found in
           let its : c.port-item.result ≡ port = cc in
           c.if-port-sink.false (ap (λ p. p.sink) its ∙ same))
     ]
 
 pub returns-clause-made : goal.returns-clause-made
 returns-clause-made g c ticks answers rest node stands output =
-    let found = port_found (setting_of c.args.self.now.works) c.args.self.now.works.clock c.args.self.now.works.ports.items c.requires.works.outputs c.args.sink node output in
-    let within : found.0 < length c.args.self.now.works.ports.items = slice_get_within c.args.self.now.works.ports.items found.0 found.1 found.2 in
+    let found = port_found (setting_of c.args.self.now.parts) c.args.self.now.parts.clock c.args.self.now.parts.ports.items c.requires.parts.outputs c.args.sink node output in
+    let within : found.0 < length c.args.self.now.parts.ports.items = slice_get_within c.args.self.now.parts.ports.items found.0 found.1 found.2 in
     absurd (c.loop-port.invariant found.0 found.1 (omega (arith, within, c.loop-port-test.false, ap length c.deref-port-items.ensures.value)) found.2 found.3)
 
 pub returns-clause-stopped : goal.returns-clause-stopped
 returns-clause-stopped g c ticks answers rest made node stopped output =
-    let found = port_found (setting_of c.args.self.now.works) c.args.self.now.works.clock c.args.self.now.works.ports.items c.requires.works.outputs c.args.sink node output in
-    let within : found.0 < length c.args.self.now.works.ports.items = slice_get_within c.args.self.now.works.ports.items found.0 found.1 found.2 in
+    let found = port_found (setting_of c.args.self.now.parts) c.args.self.now.parts.clock c.args.self.now.parts.ports.items c.requires.parts.outputs c.args.sink node output in
+    let within : found.0 < length c.args.self.now.parts.ports.items = slice_get_within c.args.self.now.parts.ports.items found.0 found.1 found.2 in
     absurd (c.loop-port.invariant found.0 found.1 (omega (arith, within, c.loop-port-test.false, ap length c.deref-port-items.ensures.value)) found.2 found.3)

@@ -1,0 +1,34 @@
+-- What changes from instant to instant, and what it stands for.
+use Rattle.std.specs.Prelude.{◌≡◌, ℕ, List}
+use Rattle.plan_core.specs.declared.plan.Plan.{Plan}
+use Rattle.clock_infer.specs.declared.clock_map.NodeClock.{NodeClock}
+use Rattle.clock_infer.specs.declared.clock_map.NodeClock.TheVariants.{Sub}
+use Rattle.frame_core.specs.Slots.{Slot}
+use Rattle.frame_core.specs.Library.{Sounds}
+use Rattle.op_leaf.specs.Readers.{Answer}
+use Rattle.stream_meaning.specs.Instants.{Setting}
+use Rattle.node_states.specs.Times.{TimeStands}
+use Rattle.sub_clocks.specs.Clocks.{AreClockLanes, HasRanks, RanAsNeeded, Stand}
+use Rattle.clock_engine.specs.declared.clock_state.ClockState.{ClockState}
+
+-- it is no sub-clock
+abbrev pub IsMain : NodeClock → Type 0
+IsMain clock = (k : ℕ) → clock ≡ Sub k → ⊥
+
+-- lanes for the nodes of this plan, with these files and these clocks of its nodes
+pub record IsClockState (plan : Plan) (library : Sounds) (clocks : List NodeClock) (lanes : ClockState) : Type 0 where
+  pub below : AreClockLanes plan library clocks lanes.clocks
+  pub rate : lanes.time.rate ≡ plan.rate
+  pub frame : lanes.time.frame ≡ plan.frame
+
+-- they stand for the first n instants of a clock, and for as many of the sub-clocks below it as its crossfades asked for; all readers
+-- have taken these answers by them
+pub record ClockStateStands (setting : Setting) (sub : ℕ → ℕ → List Slot) (clock : NodeClock) (n : ℕ) (front : ℕ → List Answer) (lanes : ClockState) : Type 0 where
+  pub rank : NodeClock → ℕ
+  pub ran : NodeClock → ℕ
+  pub fed : ℕ → ℕ
+  pub ranks : HasRanks setting.clocks rank
+  pub made : ran clock ≡ n
+  pub stand : Stand setting sub rank (rank clock) ran fed front lanes.clocks
+  pub needed : RanAsNeeded setting sub rank (rank clock) ran fed
+  pub time : TimeStands setting.start n lanes.time

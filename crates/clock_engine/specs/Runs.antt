@@ -1,0 +1,108 @@
+-- What the outputs and feeds of a clock hear in a tick.
+use Rattle.std.specs.Prelude.{◌≡◌, ℕ, suc, ◌+◌, Bool, true, false, List, ◌++◌, drop, length, map, slice_index_or}
+use Rattle.std.specs.List.{range_with_len}
+use Rattle.plan_core.specs.declared.plan.Plan.{Plan}
+use Rattle.clock_infer.specs.declared.clock_map.NodeClock.{NodeClock}
+use Rattle.frame_core.specs.Slots.{Slot}
+use Rattle.frame_core.specs.Library.{Sounds}
+use Rattle.frame_core.specs.Calls.{Adds, Call}
+use Rattle.op_leaf.specs.Readers.{Answer}
+use Rattle.stream_meaning.specs.Instants.{Setting, IsMeaning, history, moment_after, offer, part_at}
+use Rattle.stream_meaning.specs.Calls.{GoDown, HasAnswers, IsBegin, after_calls, calls_of, joined_upto}
+use Rattle.clock_outputs.specs.declared.port.Port.{Port}
+use Rattle.clock_outputs.specs.declared.feed.FeedPort.{FeedPort}
+use Rattle.clock_outputs.specs.Ports.{after_slots, emptied}
+use Rattle.clock_outputs.specs.Segments.{segment_slots}
+use Rattle.engine_instants.specs.States.{over}
+use Rattle.engine_instants.specs.Takes.{HasOwnReaders}
+use Rattle.node_mixing.specs.Runs.{samples_of}
+use Rattle.sub_clocks.specs.Clocks.{AreOwnRoots}
+use Rattle.sub_clocks.specs.declared.lanes.ClockLanes.{ClockLanes}
+use Rattle.clock_engine.specs.declared.clock_state.ClockState.{ClockState}
+use Rattle.clock_engine.specs.ClockStates.{ClockStateStands}
+
+-- what holds of a setting, whatever its answers are
+pub record IsMeant (setting : Setting) (sub : ℕ → ℕ → List Slot) (own : List Bool) : Type 0 where
+  pub meaning : IsMeaning setting sub
+  pub down : GoDown setting sub
+  pub readers : HasOwnReaders setting
+  pub roots : AreOwnRoots setting own
+
+-- the slot of node i at instant n of a clock
+abbrev pub slot_in : Setting → (sub : ℕ → ℕ → List Slot) → NodeClock → (i n : ℕ) → Slot
+slot_in setting sub clock i n = offer (moment_after setting sub clock (history setting sub clock n)) i
+
+-- the calls of so many instants from n on
+abbrev pub calls_from : Setting → (sub : ℕ → ℕ → List Slot) → NodeClock → (n count : ℕ) → List Call
+calls_from setting sub clock n count = joined_upto (λ j. calls_of setting sub clock (history setting sub clock (n + j))) count
+
+-- the buffer and the node of a feed
+abbrev pub feed_key : FeedPort → ℕ × ℕ
+feed_key feed = (feed.buffer, feed.node)
+
+-- a feed whose node had these slots in the tick so far
+abbrev pub with_slots : FeedPort → List Slot → FeedPort
+with_slots feed slots = record { buffer = feed.buffer; node = feed.node; frame = slots ++ drop (length slots) feed.frame }
+
+-- what lanes stand for after so many instants more, where these were the calls, and the slots of the nodes that their own clock demands of
+-- itself
+pub record HasRunInstants (setting : Setting) (sub : ℕ → ℕ → List Slot) (own : List Bool) (clock : NodeClock) (n count : ℕ) (slots : ℕ → List Slot) (front : ℕ → List Answer)
+    (more : List Call) (lanes : ClockState) : Type 0 where
+  pub lanes_stand : ClockStateStands setting sub clock (n + count) (after_calls front more) lanes
+  pub slots_are : (i : ℕ) → slice_index_or own i false ≡ true → slots i ≡ map (slot_in setting sub clock i) (range_with_len n count)
+  pub calls : more ≡ calls_from setting sub clock n count
+
+-- the lanes, the outputs and the feeds of a clock, and its taps
+pub record Scene (T : Type 0) : Type 0 where
+  pub lanes : ClockState
+  pub ports : List Port
+  pub feeds : List FeedPort
+  pub taps : T
+
+-- so many instants were made, by these calls, and the outputs and feeds have heard the slots of their nodes; whatever instants the
+-- lanes stood for, these are the next ones
+pub record Heard {T : Type 0} (stands : T → List Call → Type 0) (plan : Plan) (library : Sounds) (clocks : List NodeClock) (clock : NodeClock) (own : List Bool) (count : ℕ)
+    (before after : Scene T) : Type 0 where
+  pub slots : ℕ → List Slot
+  pub long : (i : ℕ) → length (slots i) ≡ count
+  pub ports_are : after.ports ≡ map (λ port. after_slots (emptied port) (slots port.node)) before.ports
+  pub feeds_are : after.feeds ≡ map (λ feed. with_slots feed (slots feed.node)) before.feeds
+  pub more : List Call
+  pub taps : Adds stands before.taps after.taps more
+  pub run : (other : Setting) (sub : ℕ → ℕ → List Slot) (n : ℕ) (front : ℕ → List Answer) → IsMeant (over plan library clocks other) sub own
+      → HasAnswers (over plan library clocks other) (after_calls front more) → ClockStateStands (over plan library clocks other) sub clock n front before.lanes
+      → HasRunInstants (over plan library clocks other) sub own clock n count slots front more after.lanes
+
+-- memory was refused within a tick of so many instants: these are its first calls
+pub record HeardSome {T : Type 0} (stands : T → List Call → Type 0) (plan : Plan) (library : Sounds) (clocks : List NodeClock) (clock : NodeClock) (own : List Bool) (total : ℕ)
+    (before after : Scene T) : Type 0 where
+  pub slots : ℕ → List Slot
+  pub ports_are : after.ports ≡ map (λ port. after_slots (emptied port) (slots port.node)) before.ports
+  pub made : List Call
+  pub taps : Adds stands before.taps after.taps made
+  pub begins : (other : Setting) (sub : ℕ → ℕ → List Slot) (n : ℕ) (front : ℕ → List Answer) → IsMeant (over plan library clocks other) sub own
+      → HasAnswers (over plan library clocks other) (after_calls front made) → ClockStateStands (over plan library clocks other) sub clock n front before.lanes
+      → IsBegin made (calls_from (over plan library clocks other) sub clock n total)
+
+-- the slots of node i in the latest segment, which had so many instants behind its first one
+abbrev pub segment_of : ClockLanes → (many i : ℕ) → List Slot
+segment_of lanes many i =
+    segment_slots (part_at lanes.latest.parts.items i).slot many (samples_of lanes.runs.left.items i many) (samples_of lanes.runs.right.items i many)
+
+-- a segment was made: an instant, and so many that go on as it did
+pub record SegmentRun {T : Type 0} (stands : T → List Call → Type 0) (plan : Plan) (library : Sounds) (clocks : List NodeClock) (clock : NodeClock) (own : List Bool)
+    (many : ℕ) (old new : ClockState) (taps_old taps_new : T) : Type 0 where
+  pub more : List Call
+  pub taps : Adds stands taps_old taps_new more
+  pub run : (other : Setting) (sub : ℕ → ℕ → List Slot) (n : ℕ) (front : ℕ → List Answer) → IsMeant (over plan library clocks other) sub own
+      → HasAnswers (over plan library clocks other) (after_calls front more) → ClockStateStands (over plan library clocks other) sub clock n front old
+      → HasRunInstants (over plan library clocks other) sub own clock n (suc many) (segment_of new.clocks many) front more new
+
+-- memory was refused in its first instant
+pub record SegmentBroken {T : Type 0} (stands : T → List Call → Type 0) (plan : Plan) (library : Sounds) (clocks : List NodeClock) (clock : NodeClock) (own : List Bool)
+    (old : ClockState) (taps_old taps_new : T) : Type 0 where
+  pub made : List Call
+  pub taps : Adds stands taps_old taps_new made
+  pub begins : (other : Setting) (sub : ℕ → ℕ → List Slot) (n : ℕ) (front : ℕ → List Answer) → IsMeant (over plan library clocks other) sub own
+      → HasAnswers (over plan library clocks other) (after_calls front made) → ClockStateStands (over plan library clocks other) sub clock n front old
+      → IsBegin made (calls_of (over plan library clocks other) sub clock (history (over plan library clocks other) sub clock n))
