@@ -1,5 +1,5 @@
 -- The files of a shelf: bytes under names.
-use Rattle.std.specs.Prelude.{◌≡◌, ◌≤◌, ◌⊎◌, ℕ, List, ◌++◌, length, Option, Some, IsSomeAnd}
+use Rattle.std.specs.Prelude.{◌≡◌, ◌≤◌, ◌⊎◌, ℕ, List, [], ◌∷◌, ◌++◌, length, Option, Some, None, IsSomeAnd}
 use Rattle.std.specs.Option.{ForSome}
 use Rattle.std.specs.Ordering.{nat_cmp}
 use Rattle.std.specs.Cmp.Lexicographic.{slice_cmp}
@@ -36,3 +36,8 @@ Closed before name held after =
 abbrev pub ClosedPart : Option Files → Option (List ℕ) → Option (List ℕ) → Option Files → Type 0
 ClosedPart before name held after =
     ForSome before (λ files. ForSome name (λ n. ForSome held (λ bytes. IsSomeAnd after (HoldsPart files n bytes))))
+
+-- what a shelf tells of the names of the sinks that it made, after one more
+abbrev pub noted : List ℕ → Option (List (List ℕ)) → Option (List (List ℕ))
+noted name None = None
+noted name (Some names) = Some (names ++ name ∷ [])

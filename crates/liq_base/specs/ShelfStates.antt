@@ -1,5 +1,5 @@
 -- What clauses see of the shelves in memory, and what a call makes of them.
-use Rattle.std.specs.Prelude.{ℕ, refl, Bool, ◌||◌, ◌==◌, List, [], length, map, filter, Option, Some, None, Result, Ok, Err, if◌then◌else◌, nat_le, nat_lt}
+use Rattle.std.specs.Prelude.{ℕ, refl, Bool, ◌||◌, ◌==◌, List, [], ◌++◌, length, map, filter, Option, Some, None, Result, Ok, Err, if◌then◌else◌, nat_le, nat_lt}
 use Rattle.std.specs.List.{list_any}
 use Rattle.std.specs.Coded.{Coded, code_by, coded×, coded_ℕ, coded_list}
 use Rattle.std.specs.FinMap as map
@@ -19,9 +19,10 @@ is_listed calls call = list_any (λ listed. listed == call) calls
 abbrev pub raised : ℕ → Bool → ℕ
 raised count failed = if failed then one_more count else count
 
--- the files; the reads, creations and closings so far; those that are listed to fail, and the appends; the two counts of faults
+-- the files, and the names of the sinks that were made, in their order; the reads, creations and closings so far; those that are listed to fail, and the appends; the two counts of faults
 pub record ShelfState : Type 0 where
   pub files : Files
+  pub created : List (List ℕ)
   pub reads : ℕ
   pub creates : ℕ
   pub closes : ℕ
@@ -41,18 +42,19 @@ append_code = code_by (ℕ × (ℕ × ℕ)) (coded× coded_ℕ (coded× coded_�
 -- a shelf is stored as its files, the calls made, those listed, and the counts of faults
 abbrev pub shelf_code : Coded ShelfState
 shelf_code =
-    code_by (Files × ((ℕ × (ℕ × ℕ)) × ((List ℕ × (List ℕ × (List ℕ × List FailingAppend))) × (ℕ × ℕ))))
-    (coded× files_code (coded× (coded× coded_ℕ (coded× coded_ℕ coded_ℕ))
+    code_by ((Files × List (List ℕ)) × ((ℕ × (ℕ × ℕ)) × ((List ℕ × (List ℕ × (List ℕ × List FailingAppend))) × (ℕ × ℕ))))
+    (coded× (coded× files_code (coded_list (coded_list coded_ℕ))) (coded× (coded× coded_ℕ (coded× coded_ℕ coded_ℕ))
     (coded× (coded× (coded_list coded_ℕ) (coded× (coded_list coded_ℕ) (coded× (coded_list coded_ℕ) (coded_list append_code)))) (coded× coded_ℕ coded_ℕ))))
     (λ s. (
-      s.files,
+      (s.files, s.created),
       (
         (s.reads, (s.creates, s.closes)),
         ((s.failing_reads, (s.failing_creates, (s.failing_closes, s.failing_appends))), (s.read_faults, s.write_faults)),
       ),
     ))
     (λ p. record {
-      files = p.0;
+      files = p.0.0;
+      created = p.0.1;
       reads = p.1.0.0;
       creates = p.1.0.1.0;
       closes = p.1.0.1.1;
@@ -69,6 +71,7 @@ shelf_code =
 abbrev pub untouched : Files → ShelfState
 untouched files = record {
   files = files;
+  created = [];
   reads = 0;
   creates = 0;
   closes = 0;
@@ -102,9 +105,13 @@ read_answer shelf name most = if read_fails shelf then Err Failed else Ok (fetch
 abbrev pub after_read : ShelfState → ShelfState
 after_read shelf = record shelf { reads = one_more shelf.reads; read_faults = raised shelf.read_faults (read_fails shelf) }
 
--- the shelf after a creation
-abbrev pub after_create : ShelfState → ShelfState
-after_create shelf = record shelf { creates = one_more shelf.creates; write_faults = raised shelf.write_faults (create_fails shelf) }
+-- the shelf after a creation that made the sinks of these names: one, or none
+abbrev pub after_create : ShelfState → List (List ℕ) → ShelfState
+after_create shelf made = record shelf {
+  created = shelf.created ++ made;
+  creates = one_more shelf.creates;
+  write_faults = raised shelf.write_faults (create_fails shelf);
+}
 
 -- the listed appends of the sink of this number, each with what it takes
 abbrev pub appends_of : ℕ → List FailingAppend → List (ℕ × ℕ)

@@ -3,7 +3,7 @@ ghost use Rattle.std.specs.Prelude.{◌≡◌, ◌≢◌, ◌≤◌, ◌<◌, le
 ghost use Rattle.std.specs.Option.{ForSome};
 ghost use Rattle.std.specs.FinMap.{from_entries};
 ghost use Rattle.liq_base.specs.Counts.{Rose};
-ghost use Rattle.liq_base.specs.Files.{file_at, Found, Closed as ClosedAs, ClosedPart};
+ghost use Rattle.liq_base.specs.Files.{file_at, Found, Closed as ClosedAs, ClosedPart, noted};
 ghost use Rattle.liq_base.specs.SinkStates.{named_held};
 ghost use Rattle.liq_base.specs.Entries.{given_entries};
 ghost use Rattle.liq_base.specs.ShelfStates.{untouched, read_answer, read_fails, create_fails, close_fails, after_read, after_create, after_close, created_sink, raised, appends_of};
@@ -15,7 +15,8 @@ use std::alloc::Global;
 use std::marker::Model;
 use std::mem;
 
-/// A shelf in memory. It tells its files, and its sinks tell their bytes, name and room left.
+/// A shelf in memory. It tells its files and the names of the sinks that it made, and its sinks tell their bytes, name, room left
+/// and number of appends.
 ///
 /// Reads, creations and closings are each counted from 0 since the shelf was made, the appends of
 /// a sink from 0 since its creation. A call fails exactly where it is listed. The read count rises
@@ -26,6 +27,7 @@ pub struct MemShelf {
     alloc: Global,
     given: Vec<(String, Vec<u8>)>,
     closed: Closed,
+    created: Vec<String>,
     reads: u64,
     creates: u64,
     closes: u64,
@@ -47,6 +49,7 @@ struct FailingAppend {
 }
 
 impl Model for MemShelf {
+    ghost use Rattle.std.specs.Prelude.{map, string_bytes};
     ghost use Rattle.liq_base.specs.Entries.{files_of};
     ghost use Rattle.liq_base.specs.ShelfStates.{ShelfState, shelf_code};
 
@@ -56,6 +59,7 @@ impl Model for MemShelf {
 
     ghost view = { λ s. record {
       files = files_of s.closed s.given.items;
+      created = map string_bytes s.created.items;
       reads = s.reads;
       creates = s.creates;
       closes = s.closes;
@@ -78,6 +82,7 @@ impl MemShelf {
             alloc,
             given: files,
             closed: Closed::End,
+            created: Vec::new(alloc),
             reads: 0,
             creates: 0,
             closes: 0,
@@ -136,6 +141,16 @@ impl MemShelf {
         find_file(&self.closed, &self.given, name)
     }
 
+    /// Notes the name of a sink that it made.
+    fn note(&mut self, name: &str) -> Result<(), Memory>
+        ensures noted { OnOk result (self.new ≡ record self.old { created = self.old.created ++ name.now ∷ [] }) }
+        ensures unchanged { OnErr result (self.new ≡ self.old) }
+    {
+        let name = String::from_str(self.alloc, name)?;
+        self.created.push(name)?;
+        Ok(())
+    }
+
     /// Counts a read, and tells whether it is to fail.
     fn count_read(&mut self) -> bool
         ensures next { self.new ≡ after_read self.old }
@@ -155,6 +170,8 @@ impl Shelf for MemShelf {
     ghost use Rattle.std.specs.Prelude.{Some};
 
     ghost files = { λ s. Some s.files };
+
+    ghost created = { λ s. Some s.created };
 
     ghost read_count = { λ s. s.read_faults };
 
@@ -180,10 +197,13 @@ impl Shelf for MemShelf {
     }
 
     fn create(&mut self, name: &str, room: u64) -> Result<NamedSink, ShelfFault>
-        ensures next { self.new ≡ after_create self.old }
+        ensures next { OnOk result (self.new ≡ after_create self.old (name.now ∷ [])) }
+        ensures refused { OnErr result (self.new ≡ after_create self.old []) }
         ensures answer { result ≢ Err ShelfFault.Memory → is_ok result ≡ not (create_fails self.old) }
         ensures memory { result ≡ Err ShelfFault.Memory → create_fails self.old ≡ false }
         ensures made { IfOk result (λ out. out ≡ created_sink self.old name.now room) }
+        ensures noted { OnOk result (Some self.new.created ≡ noted name.now (Some self.old.created)) }
+        ensures unnoted { OnErr result (Some self.new.created ≡ Some self.old.created) }
         ensures cause { IsErrOf result ShelfFault.Failed → Rose self.old.write_faults self.new.write_faults }
         ensures reads { self.old.read_faults ≤ self.new.read_faults }
         ensures writes { self.old.write_faults ≤ self.new.write_faults }
@@ -196,7 +216,9 @@ impl Shelf for MemShelf {
             return Err(ShelfFault::Failed);
         }
         let own = listed_appends(self.alloc, &self.failing_appends, call)?;
-        Ok(NamedSink::new(self.alloc, name, room, own)?)
+        let out = NamedSink::new(self.alloc, name, room, own)?;
+        self.note(name)?;
+        Ok(out)
     }
 
     fn close(&mut self, out: NamedSink) -> Result<(), Failed>

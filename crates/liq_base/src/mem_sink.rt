@@ -1,6 +1,6 @@
 // A byte sink in memory, with room for so many bytes, that fails where it is told to.
 ghost use Rattle.std.specs.Prelude.{◌≡◌, ◌≤◌, length, Option, Some, None, is_ok, is_none, IfOk, OnOk, OnErr};
-ghost use Rattle.liq_base.specs.Counts.{Rose};
+ghost use Rattle.liq_base.specs.Counts.{Rose, counted};
 ghost use Rattle.liq_base.specs.Pieces.{HasRoom, Took, TookPart};
 ghost use Rattle.liq_base.specs.SinkStates.{appended, stops, stop, listed, empty_sink};
 
@@ -104,6 +104,8 @@ impl Sink for MemSink {
 
     ghost room = { λ s. None };
 
+    ghost appends = { λ s. Some s.calls };
+
     ghost faults = { λ s. s.faults };
 
     fn append(&mut self, piece: &[u8]) -> Result<(), Failed>
@@ -111,6 +113,7 @@ impl Sink for MemSink {
         ensures answer { is_ok result ≡ is_none (stops self.old piece.now) }
         ensures took { OnOk result (Took (λ s. Some s.held) (λ s. None) piece.now self.old self.new) }
         ensures part { OnErr result (TookPart (λ s. Some s.held) (λ s. None) piece.now self.old self.new) }
+        ensures once { Some self.new.calls ≡ counted (Some self.old.calls) }
         ensures faults { self.old.faults ≤ self.new.faults }
         ensures cause { OnErr result (Rose self.old.faults self.new.faults) }
     {

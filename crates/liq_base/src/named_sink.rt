@@ -1,6 +1,6 @@
 // A sink of a shelf in memory.
-ghost use Rattle.std.specs.Prelude.{◌≡◌, ◌≤◌, length, IfOk, OnOk, OnErr, is_ok, is_none, string_bytes};
-ghost use Rattle.liq_base.specs.Counts.{Rose};
+ghost use Rattle.std.specs.Prelude.{◌≡◌, ◌≤◌, length, IfOk, OnOk, OnErr, is_ok, is_none, string_bytes, Some};
+ghost use Rattle.liq_base.specs.Counts.{Rose, counted};
 ghost use Rattle.liq_base.specs.Pieces.{HasRoom, Took, TookPart};
 ghost use Rattle.liq_base.specs.SinkStates.{appended, listed, empty_sink, named_held, named_room};
 
@@ -74,6 +74,8 @@ impl Sink for NamedSink {
 
     ghost room = { named_room };
 
+    ghost appends = { λ s. Some s.sink.calls };
+
     ghost faults = { λ s. s.sink.faults };
 
     fn append(&mut self, piece: &[u8]) -> Result<(), Failed>
@@ -82,6 +84,7 @@ impl Sink for NamedSink {
         ensures answer { is_ok result ≡ is_none (listed self.old.sink.fails self.old.sink.calls) }
         ensures took { OnOk result (Took named_held named_room piece.now self.old self.new) }
         ensures part { OnErr result (TookPart named_held named_room piece.now self.old self.new) }
+        ensures once { Some self.new.sink.calls ≡ counted (Some self.old.sink.calls) }
         ensures faults { self.old.sink.faults ≤ self.new.sink.faults }
         ensures cause { OnErr result (Rose self.old.sink.faults self.new.sink.faults) }
     {

@@ -2,7 +2,7 @@
 ghost use Rattle.std.specs.Prelude.{◌≡◌, ◌≢◌, ◌≤◌, ◌<◌, ℕ, [], List, length, Option, IsSome, is_some, IsSomeAnd, IfOk, OnOk, OnErr, IsErrOf, Ok, Some, None};
 ghost use Rattle.std.specs.Option.{ForSome};
 ghost use Rattle.liq_base.specs.Counts.{Rose};
-ghost use Rattle.liq_base.specs.Files.{Files, Found, Closed, ClosedPart, file_at};
+ghost use Rattle.liq_base.specs.Files.{Files, Found, Closed, ClosedPart, file_at, noted};
 
 use crate::{Failed, Memory, Sink};
 use std::fmt;
@@ -57,6 +57,9 @@ pub trait Shelf {
     /// The files, where it tells them: bytes under names.
     ghost files: { Self → Option Files };
 
+    /// The names of the sinks that it made, in their order, where it tells them.
+    ghost created: { Self → Option (List (List ℕ)) };
+
     /// How often a read failed, as the value of a `u64`. It never falls.
     ghost read_count: { Self → ℕ };
 
@@ -73,6 +76,7 @@ pub trait Shelf {
         ensures otherwise { result ≢ Ok Fetched.Found → into.new.items ≡ into.old.items }
         ensures cause { IsErrOf result ShelfFault.Failed → Rose (read_count self.old) (read_count self.new) }
         ensures files { files self.new ≡ files self.old }
+        ensures created { created self.new ≡ created self.old }
         ensures reads { read_count self.old ≤ read_count self.new }
         ensures writes { write_count self.old ≤ write_count self.new };
 
@@ -82,9 +86,12 @@ pub trait Shelf {
         ensures name { IfOk result (λ out. ForSome (Self.Out.name out) (λ told. told ≡ name.now)) }
         ensures held { IfOk result (λ out. ForSome (Self.Out.held out) (λ told. told ≡ [])) }
         ensures room { IfOk result (λ out. ForSome (Self.Out.room out) (λ told. told ≡ room)) }
+        ensures appends { IfOk result (λ out. ForSome (Self.Out.appends out) (λ told. told ≡ 0)) }
         ensures faults { IfOk result (λ out. Self.Out.faults out ≡ 0) }
         ensures tells { IfOk result (λ out. IsSome (files self.old) → IsSome (Self.Out.name out) × IsSome (Self.Out.held out)) }
         ensures cause { IsErrOf result ShelfFault.Failed → Rose (write_count self.old) (write_count self.new) }
+        ensures noted { OnOk result (created self.new ≡ noted name.now (created self.old)) }
+        ensures unnoted { OnErr result (created self.new ≡ created self.old) }
         ensures files { files self.new ≡ files self.old }
         ensures reads { read_count self.old ≤ read_count self.new }
         ensures writes { write_count self.old ≤ write_count self.new };
@@ -95,6 +102,7 @@ pub trait Shelf {
         ensures closed { OnOk result (Closed (files self.old) (Self.Out.name out) (Self.Out.held out) (files self.new)) }
         ensures part { OnErr result (ClosedPart (files self.old) (Self.Out.name out) (Self.Out.held out) (files self.new)) }
         ensures tells { is_some (files self.new) ≡ is_some (files self.old) }
+        ensures created { created self.new ≡ created self.old }
         ensures cause { OnErr result (Rose (write_count self.old) (write_count self.new)) }
         ensures failed_sink { 0 < Self.Out.faults out → Rose (write_count self.old) (write_count self.new) }
         ensures reads { read_count self.old ≤ read_count self.new }

@@ -1,6 +1,6 @@
 // A byte sink.
 ghost use Rattle.std.specs.Prelude.{◌≡◌, ◌≤◌, ℕ, List, length, Option, OnOk, OnErr};
-ghost use Rattle.liq_base.specs.Counts.{Rose};
+ghost use Rattle.liq_base.specs.Counts.{Rose, counted};
 ghost use Rattle.liq_base.specs.Pieces.{HasRoom, Took, TookPart};
 
 use std::fmt;
@@ -28,6 +28,9 @@ pub trait Sink {
     /// How many more bytes it takes, where it tells it.
     ghost room: { Self → Option ℕ };
 
+    /// How many pieces were appended, as far as a `u64` counts, where it tells it; a piece that failed is one of them.
+    ghost appends: { Self → Option ℕ };
+
     /// How often it failed, as the value of a `u64`. It never falls.
     ghost faults: { Self → ℕ };
 
@@ -38,6 +41,7 @@ pub trait Sink {
         ensures took { OnOk result (Took held room piece.now self.old self.new) }
         ensures part { OnErr result (TookPart held room piece.now self.old self.new) }
         ensures name { name self.new ≡ name self.old }
+        ensures once { appends self.new ≡ counted (appends self.old) }
         ensures faults { faults self.old ≤ faults self.new }
         ensures cause { OnErr result (Rose (faults self.old) (faults self.new)) };
 }

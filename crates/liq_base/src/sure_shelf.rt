@@ -60,9 +60,11 @@ impl SureShelf {
 impl Shelf for SureShelf {
     type Out = SureSink;
 
-    ghost use Rattle.std.specs.Prelude.{Some};
+    ghost use Rattle.std.specs.Prelude.{Some, None};
 
     ghost files = { λ s. Some s };
+
+    ghost created = { λ s. None };
 
     ghost read_count = { λ s. 0 };
 

@@ -64,7 +64,7 @@ impl SureSink {
 }
 
 impl Sink for SureSink {
-    ghost use Rattle.std.specs.Prelude.{Some};
+    ghost use Rattle.std.specs.Prelude.{Some, None};
     ghost use Rattle.liq_base.specs.SinkStates.{sure_held, sure_room};
 
     ghost held = { sure_held };
@@ -72,6 +72,8 @@ impl Sink for SureSink {
     ghost name = { λ s. Some s.name };
 
     ghost room = { sure_room };
+
+    ghost appends = { λ s. None };
 
     ghost faults = { λ s. 0 };
 

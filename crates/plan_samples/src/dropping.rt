@@ -21,6 +21,8 @@ impl Sink for DroppingSink {
 
     ghost room = { λ s. None };
 
+    ghost appends = { λ s. None };
+
     ghost faults = { λ s. 0 };
 
     fn append(&mut self, piece: &[u8]) -> Result<(), Failed>

@@ -74,6 +74,8 @@ impl<W: Write + Drop> Sink for FileSink<W> {
 
     ghost room = { λ s. None };
 
+    ghost appends = { λ s. None };
+
     ghost faults = { λ s. s.to.faults };
 
     /// Writes the piece. After `Failed` the writer got a prefix of it.

@@ -48,6 +48,8 @@ impl<W: Write + Drop> Sink for OutSink<W> {
 
     ghost room = { λ s. None };
 
+    ghost appends = { λ s. None };
+
     ghost faults = { λ s. s.faults };
 
     /// Writes the piece. After `Failed` the writer got a prefix of it.
