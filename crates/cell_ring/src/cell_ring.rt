@@ -1,5 +1,5 @@
 // A ring of cells.
-ghost use Rattle.std.specs.Prelude.{◌≡◌, ◌+◌, ◌<◌, ◌≤◌, ◌^◌, [], ◌∷◌, ◌++◌, ℕ, true, length, map, take, drop, slice_get, IfOk};
+ghost use Rattle.std.specs.Prelude.{◌≡◌, ◌+◌, ◌<◌, ◌≤◌, ◌^◌, [], ◌∷◌, ◌++◌, ℕ, true, false, length, map, take, drop, slice_get, IfOk};
 ghost use Rattle.cell_ring.specs.Rings.{Ring, inner_cells, is_inner};
 
 use circular_buffer::HeapCircularBuffer;
@@ -49,16 +49,19 @@ impl CellRing {
         self.cells.front().copied()
     }
 
-    /// How many cells, from the front on and at most so many, begin no track.
-    pub fn inner(&self, most: u32) -> u32
-        ensures inner { (j : ℕ) → j < result → is_inner (slice_get self.now.cells j) ≡ true }
+    /// How many cells, from this one on and at most so many, begin no track. The front cell is number 0.
+    pub fn inner(&self, from: u32, most: u32) -> u32
+        ensures inner { (j : ℕ) → j < result → is_inner (slice_get self.now.cells (from + j)) ≡ true }
+        ensures ends { result < most → is_inner (slice_get self.now.cells (from + result)) ≡ false }
         ensures within { result ≤ most }
     {
-        let mut at = 0;
-        while at < most && is_inner(self.cells.get(at as usize).copied()) {
-            at += 1;
+        let from = from as usize;
+        let most = most as usize;
+        let mut count = 0;
+        while count < most && is_inner(self.cells.get(from + count).copied()) {
+            count += 1;
         }
-        at
+        count as u32
     }
 
     /// Appends a cell.

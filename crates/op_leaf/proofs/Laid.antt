@@ -5,7 +5,8 @@ use Rattle.std.proofs.lemmas.Bool.{false≢true}
 use Rattle.frame_core.specs.Slots.{Slot}
 use Rattle.cell_ring.specs.Rings.{inner_cell, inner_cells}
 use Rattle.op_leaf.specs.Inner.{is_inner, lefts_of, rights_of, slot_left, slot_right}
-use Rattle.op_leaf.specs.Lanes.{IsLane}
+use Rattle.op_leaf.specs.Lanes.{IsLane, IsOneTrack}
+use Rattle.op_leaf.proofs.Stretching.{inner_some}
 
 unmarked : (first : Bool) → not first ≡ true → false ≡ first
 unmarked true e = absurd (false≢true e)
@@ -61,4 +62,11 @@ lane_from slots position count left right left_is right_is inner = record {
   right_is = right_is ∙ moved_same (λ q. slot_right (slots q)) (λ q. slot_right (slots (position + q))) position 0 count
       (λ i low. let e : 0 + i ≡ i = omega arith in sym (ap (λ n. slot_right (slots (position + n))) e));
   inner = inner;
+}
+
+-- cells that begin no track are of one
+pub inner_track : (slots : ℕ → Slot) (count : ℕ) → 0 < count → ((j : ℕ) → j < count → is_inner (slots j) ≡ true) → IsOneTrack slots count
+inner_track slots count some inner = record {
+  here = inner_some (slots 0) (inner 0 some);
+  inner = λ j more low. inner j low;
 }

@@ -1,5 +1,5 @@
--- A lane: the samples of a run of cells that begin no track.
-use Rattle.std.specs.Prelude.{◌≡◌, ◌<◌, true, ℕ, ℤ, List}
+-- A run of cells of one track; and a lane: the samples of a run of cells that begin no track.
+use Rattle.std.specs.Prelude.{◌≡◌, ◌<◌, true, ℕ, ℤ, List, IsSome}
 use Rattle.frame_core.specs.Slots.{Slot}
 use Rattle.op_leaf.specs.Inner.{is_inner, lefts_of, rights_of}
 
@@ -8,3 +8,8 @@ pub record IsLane (slots : ℕ → Slot) (count : ℕ) (left right : List ℤ) :
   pub left_is : left ≡ lefts_of slots 0 count
   pub right_is : right ≡ rights_of slots 0 count
   pub inner : (j : ℕ) → j < count → is_inner (slots j) ≡ true
+
+-- the first so many slots are of one track: the first is a cell, and behind it are cells that begin no track
+pub record IsOneTrack (slots : ℕ → Slot) (count : ℕ) : Type 0 where
+  pub here : IsSome (slots 0)
+  pub inner : (j : ℕ) → 0 < j → j < count → is_inner (slots j) ≡ true

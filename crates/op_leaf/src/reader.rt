@@ -1,8 +1,8 @@
 // The reader of a buffer.
-ghost use Rattle.std.specs.Prelude.{◌≡◌, ◌<◌, ◌≤◌, ◌+◌, ◌++◌, [], ℕ, true, false, length, max, IfOk};
+ghost use Rattle.std.specs.Prelude.{◌≡◌, ◌<◌, ◌≤◌, ◌+◌, ◌++◌, [], ℕ, true, false, length, max, IfOk, IsSome};
 ghost use Rattle.cell_ring.specs.Rings.{Ring};
-ghost use Rattle.op_leaf.specs.Inner.{is_inner};
-ghost use Rattle.op_leaf.specs.Lanes.{IsLane};
+ghost use Rattle.op_leaf.specs.Inner.{is_inner, lefts_of, rights_of, stretch_from};
+ghost use Rattle.op_leaf.specs.Lanes.{IsLane, IsOneTrack};
 ghost use Rattle.op_leaf.specs.Readers.{after_cell, begun, missing, read_by, Reader, reader_slot, wants};
 
 use cell_ring::CellRing;
@@ -100,6 +100,17 @@ impl ReaderState {
         Some(Cell { first, ..cell })
     }
 
+    /// How many of its cells, from the offered one on and at most so many, are of one track.
+    pub fn stretch(&self, most: u32) -> u32
+        requires some { 0 < most }
+        ensures stretch { IsSome (reader_slot self.now) → result ≡ stretch_from (λ j. reader_slot (read_by j self.now)) 0 most }
+        ensures within { result ≤ most }
+        ensures some { 0 < result }
+        ensures ahead { IsSome (reader_slot self.now) → IsOneTrack (λ j. reader_slot (read_by j self.now)) result }
+    {
+        1 + self.ring.inner(1, most - 1)
+    }
+
     /// A number of cells, from the offered one on and at most so many, that begin no track.
     pub fn rest(&self, most: u32) -> u32
         ensures inner { (j : ℕ) → j < result → is_inner (reader_slot (read_by j self.now)) ≡ true }
@@ -108,18 +119,21 @@ impl ReaderState {
         if !self.playing || self.fresh {
             return 0;
         }
-        self.ring.inner(most)
+        self.ring.inner(0, most)
     }
 
-    /// Gives as many cells as the slices are long, which begin no track, and goes on behind them.
+    /// Gives as many cells as the slices are long, which are of one track, and goes on behind them.
     pub fn run(&mut self, left: &mut [i16], right: &mut [i16])
         requires same { length right.old ≡ length left.old }
         requires some { 0 < length left.old }
-        requires inner { (j : ℕ) → j < length left.old → is_inner (reader_slot (read_by j self.old)) ≡ true }
+        requires ahead { IsOneTrack (λ j. reader_slot (read_by j self.old)) (length left.old) }
         ensures read { self.new ≡ read_by (length left.old) self.old }
-        ensures lane { IsLane (λ j. reader_slot (read_by j self.old)) (length left.old) left.new right.new }
+        ensures left { left.new ≡ lefts_of (λ j. reader_slot (read_by j self.old)) 0 (length left.old) }
+        ensures right { right.new ≡ rights_of (λ j. reader_slot (read_by j self.old)) 0 (length left.old) }
+        ensures lane { is_inner (reader_slot self.old) ≡ true → IsLane (λ j. reader_slot (read_by j self.old)) (length left.old) left.new right.new }
     {
         self.ring.take_into(left, right);
+        self.fresh = false;
     }
 
     /// Goes on by the cell that it offers. Where it offers nothing it stays.

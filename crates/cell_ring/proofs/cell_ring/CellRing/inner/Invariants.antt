@@ -1,12 +1,12 @@
-use Rattle.std.proofs.Common.{◌≡◌, ◌<◌, ◌≤◌, ◌-◌, ℕ, true, slice_get}
+use Rattle.std.proofs.Common.{◌≡◌, ◌<◌, ◌≤◌, ◌+◌, ◌-◌, ℕ, true, slice_get}
 use Rattle.cell_ring.specs.Rings.{is_inner}
 use Rattle.cell_ring.proofs.cell_ring.CellRing.inner.Given as goal
 
-abbrev pub invariant-loop-at : goal.invariant-loop-at
-invariant-loop-at l = record {
-  within : l.at ≤ l.most;
-  inner : (j : ℕ) → j < l.at → is_inner (slice_get l.self.cells j) ≡ true;
+abbrev pub invariant-loop-count : goal.invariant-loop-count
+invariant-loop-count l = record {
+  within : l.count ≤ l.most;
+  inner : (j : ℕ) → j < l.count → is_inner (slice_get l.self.cells (l.from + j)) ≡ true;
 }
 
-abbrev pub decreases-loop-at : goal.decreases-loop-at
-decreases-loop-at l = l.most - l.at
+abbrev pub decreases-loop-count : goal.decreases-loop-count
+decreases-loop-count l = l.most - l.count

@@ -1,6 +1,8 @@
 use Rattle.std.proofs.Common.{◌≡◌, ◌<◌, ◌∙◌, ◌∷◌, ◌||◌, ℕ, Bool, true, false, Some, suc, length, map, slice_get, rules, refl, ap, sym, subst}
 use Rattle.frame_core.specs.Slots.{Slot}
 use Rattle.op_leaf.specs.Lanes.{IsLane}
+use Rattle.op_leaf.specs.Readers.{read_by, reader_slot}
+use Rattle.op_leaf.proofs.Laid.{inner_track}
 use Rattle.stream_meaning.specs.Arithmetic.{mix_slot}
 use Rattle.stream_meaning.specs.Instants.{moment_after, work_at}
 use Rattle.node_states.specs.declared.state.NodeState.{NodeState}
@@ -9,11 +11,16 @@ use Rattle.segment_laws.specs.Stretches.{going_on}
 use Rattle.node_mixing.specs.Mixings.{mixing_of}
 use Rattle.node_mixing.specs.Runs.{AreHeard, many_give, offers_in, samples_of}
 use Rattle.node_states.specs.Passing.{passes}
-use Rattle.node_states.specs.Runs.{fed_on}
+use Rattle.node_states.specs.Runs.{LiesAhead, fed_on}
 use Rattle.node_states.specs.States.{StateStands, reads}
 use Rattle.node_states.proofs.Ran.{cross_lane, cross_stands, leaf_lane, leaf_stands, mix_lane, mix_stands, none_idle, pick_lane, pick_stands, reader_lane, reader_stands, turn_lane, turn_stands}
 use Rattle.node_states.proofs.Through.{through_lane, through_stands}
 use Rattle.node_states.proofs.state.NodeState.run.Goals as goal
+
+pub run-requires-in-Read-clause-ahead : goal.run-requires-in-Read-clause-ahead
+run-requires-in-Read-clause-ahead c =
+    inner_track (λ j. reader_slot (read_by j c.in-Read.state)) (length c.args.left.now) c.requires.some
+    (subst (λ (s : NodeState). LiesAhead c.args.library.now s (length c.args.left.now)) c.in-Read.is c.requires.ahead)
 
 pub returns-in-Leaf-clause-stands : goal.returns-in-Leaf-clause-stands
 returns-in-Leaf-clause-stands c = λ setting sub clock past fed i library_is goes closed feeds stands.
@@ -116,7 +123,9 @@ returns-in-Read-clause-stands c = λ setting sub clock past fed i library_is goe
 
 pub returns-in-Read-clause-lane : goal.returns-in-Read-clause-lane
 returns-in-Read-clause-lane c = λ setting sub clock past fed i library_is goes parts pick closed feeds stands before.
-    reader_lane setting sub clock past (length c.args.left.now) i fed c.args.node.now goes c.in-Read.state c.run-in-Read.new.left c.run-in-Read.new.right c.run-in-Read.ensures.lane (work_at setting i c.args.node.now) refl closed
+    let inner : LiesAhead c.args.library.now (Read c.in-Read.state) (length c.args.left.now) =
+    subst (λ (s : NodeState). LiesAhead c.args.library.now s (length c.args.left.now)) c.in-Read.is c.requires.ahead in
+    reader_lane setting sub clock past (length c.args.left.now) i fed c.args.node.now goes c.in-Read.state c.run-in-Read.new.left c.run-in-Read.new.right (c.run-in-Read.ensures.lane (inner 0 c.requires.some)) (work_at setting i c.args.node.now) refl closed
     (subst (λ (s : NodeState). StateStands setting sub (moment_after setting sub clock past ∷ past) fed i (work_at setting i c.args.node.now) s) c.in-Read.is stands)
 
 pub returns-in-Idle-clause-stands : goal.returns-in-Idle-clause-stands
