@@ -10,3 +10,4 @@ pub mod Floors
 pub mod Products
 pub mod Inverses
 pub mod Threes
+pub mod Shuffles
