@@ -11,3 +11,5 @@ pub mod Products
 pub mod Inverses
 pub mod Threes
 pub mod Shuffles
+pub mod Quotients
+pub mod MixedSums
