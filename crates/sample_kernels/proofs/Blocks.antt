@@ -27,6 +27,16 @@ two_written xs i j a b next room =
     let n : j ≡ suc i = omega (arith, next) in
     ap (λ k. set (set xs i a) k b) n ∙ put-two xs i a b room
 
+-- what is written behind what was written
+pub put-behind : {A : Type 0} (i j : ℕ) (xs ys zs : List A) → j ≡ i + length ys → put_chunk j (put_chunk i xs ys) zs ≡ put_chunk i xs (ys ++ zs)
+put-behind i j [] ys zs next = refl
+put-behind zero zero (x ∷ xs) [] zs next = refl
+put-behind zero (suc j) (x ∷ xs) [] zs next = absurd (omega (arith, next))
+put-behind zero zero (x ∷ xs) (y ∷ ys) zs next = absurd (omega (arith, next))
+put-behind zero (suc j) (x ∷ xs) (y ∷ ys) zs next = ap (λ l. y ∷ l) (put-behind zero j xs ys zs (omega (arith, next)))
+put-behind (suc i) zero (x ∷ xs) ys zs next = absurd (omega (arith, next))
+put-behind (suc i) (suc j) (x ∷ xs) ys zs next = ap (λ l. x ∷ l) (put-behind i j xs ys zs (omega (arith, next)))
+
 -- one block more
 pub encoded_more : (kind : Kind) (left right : List ℤ) (i : ℕ) (d e : ℤ) → i < length left → length right ≡ length left →
     encoded kind (take (i + 1) left) (take (i + 1) right) ≡ encoded kind (take i left) (take i right) ++ block_of kind (get_or left i d) (get_or right i e)

@@ -57,7 +57,7 @@ sum_small a b at whole fit_a fit_b less =
     let bounds = sum_bounds a b at whole fit_a fit_b less in
     abs_of (sum_of a b at whole) whole bounds.0 bounds.1
 
-weighted_fits : (a : ℤ) (times : ℕ) → FitsSigned w16 a → times < 65536 → FitsSigned w32 (a *ℤ pos times)
+pub weighted_fits : (a : ℤ) (times : ℕ) → FitsSigned w16 a → times < 65536 → FitsSigned w32 (a *ℤ pos times)
 weighted_fits a times fits small = fits_signed_mul w32 a (pos times) 32768 65535 (small_abs a fits) (omega (arith, small)) (omega arith)
 
 -- what the code adds

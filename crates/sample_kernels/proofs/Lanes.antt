@@ -274,10 +274,10 @@ raised_lanes vs lows = sel_l (map (top 31) (zip2 below vs lows)) lows vs
 abbrev pub cut_lanes : List ℕ → List ℕ → List ℕ
 cut_lanes vs highs = sel_l (map (top 31) (zip2 below vs highs)) vs highs
 
-abbrev chosen : Bool → ℕ → ℕ → ℕ
+abbrev pub chosen : Bool → ℕ → ℕ → ℕ
 chosen b p q = cond (top 31 (cond b 4294967295 0)) p q
 
-chosen_is : (b : Bool) (p q : ℤ) → chosen b (of_z w32 p) (of_z w32 q) ≡ of_z w32 (cond b p q)
+pub chosen_is : (b : Bool) (p q : ℤ) → chosen b (of_z w32 p) (of_z w32 q) ≡ of_z w32 (cond b p q)
 chosen_is true p q = refl
 chosen_is false p q = refl
 

@@ -10,3 +10,6 @@ pub mod Floors
 pub mod Products
 pub mod Inverses
 pub mod Threes
+pub mod Shuffles
+pub mod Quotients
+pub mod MixedSums

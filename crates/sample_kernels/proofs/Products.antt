@@ -26,13 +26,13 @@ abbrev pub shifted : ℕ → ℕ → ℕ
 shifted = act2 (shr signed) (s_int w32) (s_int w32) (s_int w32)
 
 -- ---- one lane's operations
-one_multiplied : (x y : ℤ) → FitsSigned w32 x → FitsSigned w32 y → FitsSigned w32 (x *ℤ y) → multiplied (of_z w32 x) (of_z w32 y) ≡ of_z w32 (x *ℤ y)
+pub one_multiplied : (x y : ℤ) → FitsSigned w32 x → FitsSigned w32 y → FitsSigned w32 (x *ℤ y) → multiplied (of_z w32 x) (of_z w32 y) ≡ of_z w32 (x *ℤ y)
 one_multiplied x y f g h =
     let small : (of_z w32 x * of_z w32 y) % 4294967296 < 4294967296 = omega arith in
     sym (of_z-to_z w32 ((of_z w32 x * of_z w32 y) % 4294967296) small)
     ∙ ap (of_z w32) (wrapping_mul_is w32 x y f g ∙ int_wrap_fits w32 (x *ℤ y) h)
 
-one_subtracted : (x y : ℤ) → FitsSigned w32 x → FitsSigned w32 y → FitsSigned w32 (x -ℤ y) → subtracted (of_z w32 x) (of_z w32 y) ≡ of_z w32 (x -ℤ y)
+pub one_subtracted : (x y : ℤ) → FitsSigned w32 x → FitsSigned w32 y → FitsSigned w32 (x -ℤ y) → subtracted (of_z w32 x) (of_z w32 y) ≡ of_z w32 (x -ℤ y)
 one_subtracted x y f g fits = omega (arith, ints, f, g, fits)
 
 -- ---- how large the numbers are
@@ -95,7 +95,7 @@ high_small b small = omega (arith, small)
 shift_is : (z : ℤ) (k n : ℕ) → n ≡ 2 ^ k → FitsSigned w32 z → shifted (of_z w32 z) k ≡ of_z w32 (shr_z z n)
 shift_is z k n is f = ap (λ y. of_z w32 (shr_z y (2 ^ k))) (to_z-of_z w32 z f) ∙ ap (λ p. of_z w32 (shr_z z p)) (sym is)
 
-sample_wide : (x : ℤ) → FitsSigned w16 x → FitsSigned w32 x
+pub sample_wide : (x : ℤ) → FitsSigned w16 x → FitsSigned w32 x
 sample_wide x f = omega (arith, ints, f)
 
 digit_wide : (d : ℤ) → unsigned_abs d ≤ 32768 → FitsSigned w32 d

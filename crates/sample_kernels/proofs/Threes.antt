@@ -48,7 +48,7 @@ wide_mono [] right same = refl
 wide_mono (l ∷ left) [] same = absurd (omega (arith, same))
 wide_mono (l ∷ left) (r ∷ right) same = ap (λ bytes. wide_bytes l ++ bytes) (wide_mono left right (omega (arith, same)))
 
-wide-append : (n : ℕ) (xs ys : List ℕ) → length xs ≡ 3 * n → wide_samples_in (xs ++ ys) ≡ wide_samples_in xs ++ wide_samples_in ys
+pub wide-append : (n : ℕ) (xs ys : List ℕ) → length xs ≡ 3 * n → wide_samples_in (xs ++ ys) ≡ wide_samples_in xs ++ wide_samples_in ys
 wide-append n [] ys even = refl
 wide-append n (x ∷ []) ys even = absurd (omega (arith, even))
 wide-append n (x ∷ y ∷ []) ys even = absurd (omega (arith, even))

@@ -8,6 +8,7 @@ use Rattle.std.proofs.lemmas.List.{length-take, take-append-drop}
 use Rattle.std.proofs.lemmas.List.Concat.{flat_map-append}
 use Rattle.std.proofs.lemmas.List.Folds.{concat-append}
 use Rattle.std.specs.List.{concat}
+use Rattle.std.proofs.lemmas.Simd.{Each1-chunk}
 use Rattle.std.proofs.lemmas.Int.{ints}
 use Rattle.liq_base.specs.declared.memory.Kind.TheVariants.{Stereo}
 use Rattle.frame_core.specs.Bytes.{sample_in, samples_in, sample_bytes}
@@ -78,17 +79,16 @@ woven_bytes [] ys = refl
 woven_bytes (x ∷ xs) [] = refl
 woven_bytes (x ∷ xs) (y ∷ ys) = ap (λ l. sample_bytes x ++ (sample_bytes y ++ l)) (woven_bytes xs ys) ∙ sym (append_assoc (sample_bytes x) (sample_bytes y) (encoded Stereo xs ys))
 
-by_eight : {A : Type 0} (P : List A → Type 0) → ((x0 x1 x2 x3 x4 x5 x6 x7 : A) → P (x0 ∷ x1 ∷ x2 ∷ x3 ∷ x4 ∷ x5 ∷ x6 ∷ x7 ∷ [])) → (xs : List A) → length xs ≡ 8 → P xs
-by_eight P each [] long = absurd (omega (arith, long))
-by_eight P each (x0 ∷ []) long = absurd (omega (arith, long))
-by_eight P each (x0 ∷ x1 ∷ []) long = absurd (omega (arith, long))
-by_eight P each (x0 ∷ x1 ∷ x2 ∷ []) long = absurd (omega (arith, long))
-by_eight P each (x0 ∷ x1 ∷ x2 ∷ x3 ∷ []) long = absurd (omega (arith, long))
-by_eight P each (x0 ∷ x1 ∷ x2 ∷ x3 ∷ x4 ∷ []) long = absurd (omega (arith, long))
-by_eight P each (x0 ∷ x1 ∷ x2 ∷ x3 ∷ x4 ∷ x5 ∷ []) long = absurd (omega (arith, long))
-by_eight P each (x0 ∷ x1 ∷ x2 ∷ x3 ∷ x4 ∷ x5 ∷ x6 ∷ []) long = absurd (omega (arith, long))
-by_eight P each (x0 ∷ x1 ∷ x2 ∷ x3 ∷ x4 ∷ x5 ∷ x6 ∷ x7 ∷ []) long = each x0 x1 x2 x3 x4 x5 x6 x7
-by_eight P each (x0 ∷ x1 ∷ x2 ∷ x3 ∷ x4 ∷ x5 ∷ x6 ∷ x7 ∷ x8 ∷ xs) long = absurd (omega (arith, long))
+-- ---- a fact of each list of so many items
+abbrev pub Every : {A : Type 0} → ℕ → (List A → Type 0) → Type 0
+Every zero P = P []
+Every {A} (suc n) P = (x : A) → Every n (λ xs. P (x ∷ xs))
+
+pub by_items : {A : Type 0} (n : ℕ) (P : List A → Type 0) → Every n P → (xs : List A) → length xs ≡ n → P xs
+by_items zero P every [] long = every
+by_items zero P every (x ∷ xs) long = absurd (omega (arith, long))
+by_items (suc n) P every [] long = absurd (omega (arith, long))
+by_items (suc n) P every (x ∷ xs) long = by_items n (λ ys. P (x ∷ ys)) (every x) xs (omega (arith, long))
 
 -- what the two halves of two interleaved vectors hold
 abbrev pub front_half : List ℤ → List ℤ → List ℤ
@@ -100,8 +100,8 @@ back_half ls rs = map (to_z w16) (pick_l 0 (map (of_z w16) ls ++ map (of_z w16) 
 pub halves_woven : (ls rs : List ℤ) → length ls ≡ 8 → length rs ≡ 8 → Each1 (FitsSigned w16) ls → Each1 (FitsSigned w16) rs →
     (front_half ls rs ≡ woven (take 4 ls) (take 4 rs)) × (back_half ls rs ≡ woven (drop 4 ls) (drop 4 rs))
 halves_woven ls rs long_l long_r =
-    by_eight (λ xs. Each1 (FitsSigned w16) xs → Each1 (FitsSigned w16) rs → (front_half xs rs ≡ woven (take 4 xs) (take 4 rs)) × (back_half xs rs ≡ woven (drop 4 xs) (drop 4 rs)))
-    (λ a0 a1 a2 a3 a4 a5 a6 a7. by_eight (λ ys. Each1 (FitsSigned w16) (a0 ∷ a1 ∷ a2 ∷ a3 ∷ a4 ∷ a5 ∷ a6 ∷ a7 ∷ []) → Each1 (FitsSigned w16) ys →
+    by_items 8 (λ xs. Each1 (FitsSigned w16) xs → Each1 (FitsSigned w16) rs → (front_half xs rs ≡ woven (take 4 xs) (take 4 rs)) × (back_half xs rs ≡ woven (drop 4 xs) (drop 4 rs)))
+    (λ a0 a1 a2 a3 a4 a5 a6 a7. by_items 8 (λ ys. Each1 (FitsSigned w16) (a0 ∷ a1 ∷ a2 ∷ a3 ∷ a4 ∷ a5 ∷ a6 ∷ a7 ∷ []) → Each1 (FitsSigned w16) ys →
     (front_half (a0 ∷ a1 ∷ a2 ∷ a3 ∷ a4 ∷ a5 ∷ a6 ∷ a7 ∷ []) ys ≡ woven (take 4 (a0 ∷ a1 ∷ a2 ∷ a3 ∷ a4 ∷ a5 ∷ a6 ∷ a7 ∷ [])) (take 4 ys)) × (back_half (a0 ∷ a1 ∷ a2 ∷ a3 ∷ a4 ∷ a5 ∷ a6 ∷ a7 ∷ []) ys ≡ woven (drop 4 (a0 ∷ a1 ∷ a2 ∷ a3 ∷ a4 ∷ a5 ∷ a6 ∷ a7 ∷ [])) (drop 4 ys)))
     (λ b0 b1 b2 b3 b4 b5 b6 b7 f g. (back w16 (a0 ∷ b0 ∷ a1 ∷ b1 ∷ a2 ∷ b2 ∷ a3 ∷ b3 ∷ []) (f.0, (g.0, (f.1.0, (g.1.0, (f.1.1.0, (g.1.1.0, (f.1.1.1.0, (g.1.1.1.0, tt)))))))), back w16 (a4 ∷ b4 ∷ a5 ∷ b5 ∷ a6 ∷ b6 ∷ a7 ∷ b7 ∷ []) (f.1.1.1.1.0, (g.1.1.1.1.0, (f.1.1.1.1.1.0, (g.1.1.1.1.1.0, (f.1.1.1.1.1.1.0, (g.1.1.1.1.1.1.0, (f.1.1.1.1.1.1.1.0, (g.1.1.1.1.1.1.1.0, tt)))))))))) rs long_r)
     ls long_l
@@ -110,6 +110,22 @@ pub front_fit : (ls rs : List ℤ) → Each1 (FitsSigned w16) ls → Each1 (Fits
 front_fit [] rs f g = tt
 front_fit (l ∷ ls) [] f g = tt
 front_fit (l ∷ ls) (r ∷ rs) f g = (f.0, (g.0, front_fit ls rs f.1 g.1))
+
+fit-drop : (i : ℕ) (xs : List ℤ) → Each1 (FitsSigned w16) xs → Each1 (FitsSigned w16) (drop i xs)
+fit-drop zero xs fit = fit
+fit-drop (suc i) [] fit = tt
+fit-drop (suc i) (x ∷ xs) fit = fit-drop i xs fit.1
+
+pub woven_halves_fit : (ls rs : List ℤ) → Each1 (FitsSigned w16) ls → Each1 (FitsSigned w16) rs →
+    Each1 (FitsSigned w16) (woven (take 4 ls) (take 4 rs)) × Each1 (FitsSigned w16) (woven (drop 4 ls) (drop 4 rs))
+woven_halves_fit ls rs f g = (
+  front_fit (take 4 ls) (take 4 rs) (Each1-chunk (FitsSigned w16) 0 4 ls f) (Each1-chunk (FitsSigned w16) 0 4 rs g),
+  front_fit (drop 4 ls) (drop 4 rs) (fit-drop 4 ls f) (fit-drop 4 rs g),
+)
+
+-- what a vector holds that is passed on
+abbrev pub again : List ℤ → List ℤ
+again xs = map (to_z w16) (map (of_z w16) xs)
 
 pub woven-append : (ls ms rs ns : List ℤ) → length ls ≡ length rs → woven ls rs ++ woven ms ns ≡ woven (ls ++ ms) (rs ++ ns)
 woven-append [] ms [] ns same = refl
@@ -121,10 +137,17 @@ pub length-encoded : (xs : List ℤ) → length (flat_map sample_bytes xs) ≡ 2
 length-encoded [] = refl
 length-encoded (x ∷ xs) = let long = length-encoded xs in omega (arith, long)
 
-length-woven : (xs ys : List ℤ) → length xs ≡ length ys → length (woven xs ys) ≡ 2 * length xs
+pub length-woven : (xs ys : List ℤ) → length xs ≡ length ys → length (woven xs ys) ≡ 2 * length xs
 length-woven [] ys same = refl
 length-woven (x ∷ xs) [] same = absurd (omega (arith, same))
 length-woven (x ∷ xs) (y ∷ ys) same = let long = length-woven xs ys (omega (arith, same)) in omega (arith, long)
+
+pub length-encoded_stereo : (xs ys : List ℤ) → length ys ≡ length xs → length (encoded Stereo xs ys) ≡ 4 * length xs
+length-encoded_stereo xs ys same =
+    let woven_long = length-woven xs ys (sym same) in
+    let long = length-encoded (woven xs ys) in
+    let is = ap length (woven_bytes xs ys) in
+    omega (arith, woven_long, long, is)
 
 -- half of eight instants takes 16 bytes
 pub half_long : (xs ys : List ℤ) → length xs ≡ 4 → length ys ≡ 4 → length (flat_map sample_bytes (woven xs ys)) ≡ 16

@@ -62,10 +62,27 @@ fn encode_stereo(left: &[i16], right: &[i16], into: &mut [u8])
     requires room { length into.old ≡ 4 * length left.now }
     ensures { into.new ≡ encoded Stereo left.now right.now }
 {
-    for (at, sample) in left.iter().enumerate() {
-        lay_sample(*sample, 4 * at, into);
+    let mut done = 0;
+    while left.len() - done >= 8 {
+        encode_eight(left, right, done, into);
+        done += 8;
+    }
+    for at in done..left.len() {
+        lay_sample(left[at], 4 * at, into);
         lay_sample(right[at], 4 * at + 2, into);
     }
+}
+
+// Writes the bytes of eight instants.
+fn encode_eight(left: &[i16], right: &[i16], at: usize, into: &mut [u8])
+    requires within { (at + 8 ≤ length left.now) × (length right.now ≡ length left.now) × (length into.old ≡ 4 * length left.now) }
+    ensures { into.new ≡ put_chunk (4 * at) into.old (encoded Stereo (chunk at 8 left.now) (chunk at 8 right.now)) }
+{
+    let lefts = load_samples(left, at);
+    let rights = load_samples(right, at);
+    let (front, back) = lefts.interleave(rights);
+    lay_eight(front, 4 * at, into);
+    lay_eight(back, 4 * at + 16, into);
 }
 
 // Writes the bytes of eight samples at a place.

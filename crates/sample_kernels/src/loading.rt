@@ -5,14 +5,14 @@ ghost use Rattle.std.specs.Simd.Lanes.{chunk, Each1};
 
 use std::simd::prelude::*;
 
-/// Eight samples from a place on. They are read one by one, since a proof learns so that each is a sample; LLVM makes
-/// one load of them, or where they are widened at once two that widen (as in `halves` of `bench/kernels`).
+/// Eight samples from a place on. Each is read by itself too, since a proof learns so that it is a sample; of these
+/// reads nothing is built.
 pub fn load_samples(samples: &[i16], at: usize) -> i16x8
     requires { at + 8 ≤ length samples.now }
     ensures lanes { result ≡ chunk at 8 samples.now }
     ensures fit { Each1 (FitsSigned w16) (chunk at 8 samples.now) }
 {
-    i16x8::from_array([
+    let _seen = [
         samples[at],
         samples[at + 1],
         samples[at + 2],
@@ -21,7 +21,8 @@ pub fn load_samples(samples: &[i16], at: usize) -> i16x8
         samples[at + 5],
         samples[at + 6],
         samples[at + 7],
-    ])
+    ];
+    i16x8::from_slice(&samples[at..])
 }
 
 /// Eight sums from a place on, read as samples are.

@@ -1,12 +1,33 @@
 use Rattle.std.proofs.Common.{◌≡◌, ◌∙◌, ◌+◌, ◌*◌, ◌++◌, pos, take, length, get_or, arith, ap, sym, w16, FitsSigned, rules, append_assoc}
 use Rattle.std.proofs.lemmas.Int.{to_z-of_z}
-use Rattle.std.specs.Simd.Lanes.{put_chunk}
-use Rattle.std.proofs.lemmas.Simd.{take_more_put_chunk, length-put_chunk}
+use Rattle.std.specs.Simd.Lanes.{chunk, put_chunk}
+use Rattle.std.proofs.lemmas.Simd.{take_more_put_chunk, length-put_chunk, length-chunk}
 use Rattle.liq_base.specs.declared.memory.Kind.TheVariants.{Stereo}
 use Rattle.frame_core.specs.Bytes.{sample_bytes}
 use Rattle.sample_kernels.specs.Encoded.{encoded}
+use Rattle.sample_kernels.proofs.Woven.{more_encoded, length-encoded_stereo}
 use Rattle.sample_kernels.proofs.Blocks.{encoded_more}
 use Rattle.sample_kernels.proofs.bytes.encode_stereo.Goals as goal
+
+pub loop-done-preserved : goal.loop-done-preserved
+loop-done-preserved c =
+    let at = c.loop-done.done in
+    let left = c.args.left.now in
+    let right = c.args.right.now in
+    let into = c.loop-done.into in
+    let ys = encoded Stereo (chunk at 8 left) (chunk at 8 right) in
+    let is : c.encode_eight.new.into ≡ put_chunk (4 * at) into ys = c.encode_eight.ensures in
+    let long_left = length-chunk at 8 left (omega arith) in
+    let long_right = length-chunk at 8 right (omega (arith, c.requires.same)) in
+    let long_ys = length-encoded_stereo (chunk at 8 left) (chunk at 8 right) (long_right ∙ sym long_left) in
+    let long_new : length c.encode_eight.new.into ≡ length into = ap length is ∙ length-put_chunk (4 * at) into ys in (
+      long_new ∙ c.loop-done.invariant.0,
+      omega arith,
+      ap (take (4 * (at + 8))) is
+          ∙ take_more_put_chunk (4 * at) into ys (4 * (at + 8)) (omega (arith, long_ys, long_left)) (omega arith)
+          ∙ ap (λ l. l ++ ys) c.loop-done.invariant.2
+          ∙ sym (more_encoded left right at 8 c.requires.same),
+    )
 
 pub loop-at-preserved : goal.loop-at-preserved
 loop-at-preserved c =

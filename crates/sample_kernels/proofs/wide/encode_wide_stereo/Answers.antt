@@ -1,11 +1,32 @@
 use Rattle.std.proofs.Common.{◌≡◌, ◌∙◌, ◌+◌, ◌*◌, ◌++◌, pos, take, length, get_or, arith, ap, sym, w16, FitsSigned, rules, append_assoc}
 use Rattle.std.proofs.lemmas.Int.{to_z-of_z}
-use Rattle.std.specs.Simd.Lanes.{put_chunk}
-use Rattle.std.proofs.lemmas.Simd.{take_more_put_chunk, length-put_chunk}
+use Rattle.std.specs.Simd.Lanes.{chunk, put_chunk}
+use Rattle.std.proofs.lemmas.Simd.{take_more_put_chunk, length-put_chunk, length-chunk}
 use Rattle.liq_base.specs.declared.memory.Kind.TheVariants.{Stereo}
 use Rattle.sample_kernels.specs.Wide.{wide_bytes, encoded_wide}
+use Rattle.sample_kernels.proofs.Shuffles.{more_wide, length-encoded_wide}
 use Rattle.sample_kernels.proofs.Threes.{wide_more}
 use Rattle.sample_kernels.proofs.wide.encode_wide_stereo.Goals as goal
+
+pub loop-done-preserved : goal.loop-done-preserved
+loop-done-preserved c =
+    let at = c.loop-done.done in
+    let left = c.args.left.now in
+    let right = c.args.right.now in
+    let into = c.loop-done.into in
+    let ys = encoded_wide Stereo (chunk at 8 left) (chunk at 8 right) in
+    let is : c.encode_wide_eight.new.into ≡ put_chunk (6 * at) into ys = c.encode_wide_eight.ensures in
+    let long_left = length-chunk at 8 left (omega arith) in
+    let long_right = length-chunk at 8 right (omega (arith, c.requires.same)) in
+    let long_ys = length-encoded_wide (chunk at 8 left) (chunk at 8 right) (long_right ∙ sym long_left) in
+    let long_new : length c.encode_wide_eight.new.into ≡ length into = ap length is ∙ length-put_chunk (6 * at) into ys in (
+      long_new ∙ c.loop-done.invariant.0,
+      omega arith,
+      ap (take (6 * (at + 8))) is
+          ∙ take_more_put_chunk (6 * at) into ys (6 * (at + 8)) (omega (arith, long_ys, long_left)) (omega arith)
+          ∙ ap (λ l. l ++ ys) c.loop-done.invariant.2
+          ∙ sym (more_wide left right at 8 c.requires.same),
+    )
 
 pub loop-at-preserved : goal.loop-at-preserved
 loop-at-preserved c =
