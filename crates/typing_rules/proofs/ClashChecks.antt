@@ -95,7 +95,7 @@ amplify_clashes = record {
 }
 
 -- what a list holds
-list_same : (t u : Ground) → list t ≡ list u → t ≡ u
+pub list_same : (t u : Ground) → list t ≡ list u → t ≡ u
 list_same t u h = cc
 
 -- x = [], def f() = [x, [1]] end, y = [x, ["a"]]

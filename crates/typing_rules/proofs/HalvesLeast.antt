@@ -14,9 +14,10 @@ use Rattle.typing_rules.specs.Table.{IsCallOf, params_of}
 use Rattle.typing_rules.specs.Scoping.{Name, target_of}
 use Rattle.typing_rules.specs.Typing.{DefHas, Types, type_at}
 use Rattle.typing_rules.specs.Scripts.{Entry, Places, function, sight, IsTypedTo}
-use Rattle.typing_rules.specs.Kinds.{Block, IsLess, IsUsedIn, MonoOnly, blocks, read, target_at}
+use Rattle.typing_rules.specs.Kinds.{Block, IsLess, IsUsedIn, MonoOnly, Stands, blocks, read, target_at}
 use Rattle.typing_rules.specs.Answers.{IsTyped}
 use Rattle.typing_rules.proofs.Halves.{half, halves, uses, typed, numbered}
+use Rattle.typing_rules.proofs.Lesser.{uses_same}
 use Rattle.typing_rules.proofs.HalvesOpen.{All, first_names, one_of, in_def, opened}
 
 output_takes : (f t u : Ground) (types : List Ground) (k : Kind) → base_type base.Text ∷ base_type base.Bool ∷ base_type base.Format ∷ base_type base.Text ∷ source k ∷ [] ≡ types → Matched (params_of builtin.OutputFile) ((None, f) ∷ (None, t) ∷ (None, u) ∷ []) types → u ≡ source k
@@ -53,7 +54,7 @@ body_kind d kinds chain w v u h =
     let is : second.0 ≡ source k = amplify_takes first.0 second.0 row.types k row.params (subst (λ (gs : List (Given Ground)). Matched (params_of builtin.Amplify) gs row.types) all row.matched) in
     (k, call.2.1 ∙ ap (λ (ks : List Kind). Some ks) (sym row.kinds), (let f : v ≡ second.0 = cc in f ∙ is), sym row.result)
 
-one_source : (j k : Kind) → source j ≡ source k → j ≡ k
+pub one_source : (j k : Kind) → source j ≡ source k → j ≡ k
 one_source j k h = cc
 
 -- what an output takes
@@ -116,7 +117,7 @@ abbrev HalfAt : Decimal → Places → List ℕ → List Ground → Ground → T
 HalfAt d kinds chain ts u = DefHas (sight (target_at uses) kinds [] chain) (half d) ts u
 
 -- the row's kinds are those of the place
-same_kinds : (o : Option (List Kind)) (ks js : List Kind) → o ≡ Some ks → js ≡ ks → o ≡ Some js
+pub same_kinds : (o : Option (List Kind)) (ks js : List Kind) → o ≡ Some ks → js ≡ ks → o ≡ Some js
 same_kinds o ks js so is = so ∙ ap (λ (ls : List Kind). Some ls) (sym is)
 
 says : (d e : Decimal) (kinds : Places) (es : List Entry) → IsTypedTo (target_at uses) kinds [] (halves d e) es → Says kinds
@@ -170,6 +171,7 @@ halves_typed d e = record {
   entries = function (half d) ∷ [];
   typing = typed d e;
   least = λ kinds es h. less d e kinds (says d e kinds es h);
+  least_inside = λ kinds es h. (uses, uses_same uses, λ def before st. opened d e def before (subst (λ fs. Stands fs def before) h.1.1.1 st));
   numbered = numbered d e;
   opened = opened d e;
 }

@@ -60,21 +60,21 @@ first_missing [] gs = None
 first_missing (p ∷ ps) gs = missing_or p (argument (label_of p) gs) (first_missing ps (others gs (argument (label_of p) gs)))
 
 -- what each parameter takes, if it takes an argument
-abbrev pub taken : {T : Type 0} → List Parameter → List (Given T) → List (Option T)
-taken [] gs = []
-taken (p ∷ ps) gs = option_map (λ x. x.0) (argument (label_of p) gs) ∷ taken ps (others gs (argument (label_of p) gs))
+abbrev pub arguments_taken : {T : Type 0} → List Parameter → List (Given T) → List (Option T)
+arguments_taken [] gs = []
+arguments_taken (p ∷ ps) gs = option_map (λ x. x.0) (argument (label_of p) gs) ∷ arguments_taken ps (others gs (argument (label_of p) gs))
 
 -- what is taken is what stands in its place; what is not may be any
-abbrev pub Fits : {T : Type 0} → List (Option T) → List T → Type 0
-Fits [] [] = ⊤
-Fits [] (t ∷ ts) = ⊥
-Fits (o ∷ os) [] = ⊥
-Fits (None ∷ os) (t ∷ ts) = Fits os ts
-Fits (Some x ∷ os) (t ∷ ts) = (x ≡ t) × Fits os ts
+abbrev pub TakenAs : {T : Type 0} → List (Option T) → List T → Type 0
+TakenAs [] [] = ⊤
+TakenAs [] (t ∷ ts) = ⊥
+TakenAs (o ∷ os) [] = ⊥
+TakenAs (None ∷ os) (t ∷ ts) = TakenAs os ts
+TakenAs (Some x ∷ os) (t ∷ ts) = (x ≡ t) × TakenAs os ts
 
 -- Arguments match parameters that stand for these: none is missing, and none is left over.
 abbrev pub Matched : {T : Type 0} → List Parameter → List (Given T) → List T → Type 0
-Matched ps gs ts = (first_missing ps gs ≡ None) × (left_over ps gs ≡ []) × Fits (taken ps gs) ts
+Matched ps gs ts = (first_missing ps gs ≡ None) × (left_over ps gs ≡ []) × TakenAs (arguments_taken ps gs) ts
 
 -- the parameters of a def
 abbrev pub parameter_of : Tree AParam → Parameter

@@ -166,3 +166,27 @@ pub record IsOpen (bs : List Block) (uses : List Use) (before : List Entry) (d :
   pub number : open_kinds bs uses (def_token d) ≡ Some count
   pub each : (given : List Kind) → length given ≡ count → (ts : List Ground) × (g : Ground) × DefHas (sight (target_at uses) (read given uses) before []) d ts g
   pub only : (kinds : Places) (ts : List Ground) (g : Ground) → DefHas (sight (target_at uses) kinds before []) d ts g → (given : List Kind) × (length given ≡ count) × AreSame bs (def_token d) (read given uses) kinds
+
+-- the same open kind, or the first is mono only where the second is
+abbrev pub IsLessKind : KindOf → KindOf → Type 0
+IsLessKind (Fixed j) (Fixed k) = j ≡ Mono → k ≡ Mono
+IsLessKind (Fixed j) (Given n) = ⊥
+IsLessKind (Given m) (Fixed k) = ⊥
+IsLessKind (Given m) (Given n) = m ≡ n
+
+abbrev pub AreLessKinds : List KindOf → List KindOf → Type 0
+AreLessKinds [] [] = Unit {0}
+AreLessKinds [] (w ∷ ws) = ⊥
+AreLessKinds (v ∷ vs) [] = ⊥
+AreLessKinds (v ∷ vs) (w ∷ ws) = IsLessKind v w × AreLessKinds vs ws
+
+-- the same uses with the same open kinds; what is fixed is mono only where it is in the second ones
+abbrev pub AreLessUses : List Use → List Use → Type 0
+AreLessUses [] [] = Unit {0}
+AreLessUses [] (v ∷ vs) = ⊥
+AreLessUses (u ∷ us) [] = ⊥
+AreLessUses (u ∷ us) (v ∷ vs) = (u.at ≡ v.at) × (u.target ≡ v.target) × AreLessKinds u.kinds v.kinds × AreLessUses us vs
+
+-- Among these entries each def is open as other uses say, which are mono at least where these are.
+abbrev pub IsLessInside : List Block → List Use → List Entry → Type 0
+IsLessInside bs uses es = (others : List Use) × AreLessUses uses others × ((d : Tree ADef) (before : List Entry) → Stands es d before → IsOpen bs others before d)
