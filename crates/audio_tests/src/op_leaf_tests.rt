@@ -1,5 +1,5 @@
 //! Leaves and readers over a few instants, from the rules of `docs/streams.md`.
-ghost use Rattle.std.specs.Prelude.{◌≡◌, length, IfOk};
+ghost use Rattle.std.specs.Prelude.{◌≡◌, ◌≤◌, length, IfOk};
 ghost use Rattle.frame_core.specs.Library.{IsLibrary};
 ghost use Rattle.frame_core.specs.Sounds.{IsSound};
 ghost use Rattle.op_leaf.specs.Leaves.{HasRate, HasTracksOf};
@@ -155,4 +155,97 @@ fn check_reader(rt: &impl Abort, alloc: Global, reader: &mut ReaderState) -> Res
 fn a_reader_plays_once_it_holds_its_prefill(rt: HostRuntime) -> Result<(), Fail> {
     let mut reader = ReaderState::new(rt.alloc(), 2, 4)?;
     check_reader(&rt, rt.alloc(), &mut reader)
+}
+
+// A chunk of these cells.
+fn chunk_of(alloc: Global, cells: &[Option<Cell>]) -> Result<Option<Chunk>, Memory>
+    requires { length cells.now ≤ 8 }
+{
+    let mut frame = Frame::new(alloc, cells.len() as u32)?;
+    for at in 0..cells.len() {
+        frame.set(at as u32, cells[at]);
+    }
+    Chunk::from_frame(alloc, &frame)
+}
+
+// A reader with a prefill of two, in ticks of four, that plays: it holds the samples 1 to 5, of which the third begins a
+// track by its own mark, and the first since the reader begins to play.
+fn playing_reader(rt: &impl Abort, alloc: Global) -> Result<ReaderState, Fail> {
+    let mut reader = ReaderState::new(alloc, 2, 4)?;
+    let one = [inner(1, -1)];
+    let more = [inner(2, -2), first(3, -3), inner(4, -4), inner(5, -5)];
+    let (Some(one), Some(more)) = (chunk_of(alloc, &one)?, chunk_of(alloc, &more)?) else {
+        return Err(Fail::from("no chunk"));
+    };
+    assert!(rt; reader.wants());
+    reader.accept(one);
+    reader.begin();
+    assert_eq!(rt; reader.offer(), None);
+    assert!(rt; reader.wants());
+    reader.accept(more);
+    reader.begin();
+    Ok(reader)
+}
+
+// Its stretches of at most 1, 2, 3 and 9 cells.
+fn check_stretches(rt: &impl Abort, reader: &ReaderState, wanted: [u32; 4]) {
+    let stretches = [
+        reader.stretch(1),
+        reader.stretch(2),
+        reader.stretch(3),
+        reader.stretch(9),
+    ];
+    assert_eq!(rt; stretches, wanted);
+}
+
+// Gives a stretch at once, with these samples, as one that offers and advances gives them one by one.
+fn check_run(rt: &impl Abort, reader: &mut ReaderState, single: &mut ReaderState, samples: &[i16]) {
+    let mut left = [0; 8];
+    let mut right = [0; 8];
+    let count = samples.len();
+    assert!(rt; 0 < count && count <= 8);
+    assert!(rt; reader.offer().is_some());
+    assert_eq!(rt; reader.stretch(count as u32), count as u32);
+    reader.run(&mut left[..count], &mut right[..count]);
+    for at in 0..count {
+        assert_eq!(rt;
+            (left[at], right[at]),
+            (samples[at], samples[at].wrapping_neg())
+        );
+        let cell = single.offer();
+        assert_eq!(rt; cell.map(|cell| cell.left), Some(left[at]));
+        assert_eq!(rt; cell.map(|cell| cell.right), Some(right[at]));
+        single.advance();
+    }
+    assert_eq!(rt; reader.offer(), single.offer());
+}
+
+#[test]
+fn a_reader_gives_its_cells_in_stretches_up_to_the_next_mark(rt: HostRuntime) -> Result<(), Fail> {
+    let mut reader = playing_reader(&rt, rt.alloc())?;
+    let mut single = playing_reader(&rt, rt.alloc())?;
+    assert_eq!(rt; reader.offer(), first(1, -1));
+    assert_eq!(rt; reader.rest(9), 0);
+    check_stretches(&rt, &reader, [1, 2, 2, 2]);
+    check_run(&rt, &mut reader, &mut single, &[1]);
+    assert_eq!(rt; reader.offer(), inner(2, -2));
+    check_stretches(&rt, &reader, [1, 1, 1, 1]);
+    check_run(&rt, &mut reader, &mut single, &[2]);
+    assert_eq!(rt; reader.offer(), first(3, -3));
+    check_stretches(&rt, &reader, [1, 2, 3, 3]);
+    check_run(&rt, &mut reader, &mut single, &[3, 4, 5]);
+    assert_eq!(rt; reader.offer(), None);
+    Ok(())
+}
+
+#[test]
+fn a_run_over_all_of_a_first_stretch(rt: HostRuntime) -> Result<(), Fail> {
+    let mut reader = playing_reader(&rt, rt.alloc())?;
+    let mut single = playing_reader(&rt, rt.alloc())?;
+    check_run(&rt, &mut reader, &mut single, &[1, 2]);
+    assert_eq!(rt; reader.offer(), first(3, -3));
+    check_run(&rt, &mut reader, &mut single, &[3, 4]);
+    assert_eq!(rt; reader.offer(), inner(5, -5));
+    check_stretches(&rt, &reader, [1, 1, 1, 1]);
+    Ok(())
 }
