@@ -61,7 +61,7 @@ pub small_abs : (a : ℤ) → FitsSigned w16 a → unsigned_abs a ≤ 32768
 small_abs (pos m) fits = let out = fits_out w16 (pos m) fits in omega (arith, out.0)
 small_abs (negsuc m) fits = let out = fits_out w16 (negsuc m) fits in omega (arith, out.1)
 
-product_fits : (a : ℤ) (times : ℕ) → FitsSigned w16 a → times < 2 ^ 32 → FitsSigned w64 (a *ℤ pos times)
+pub product_fits : (a : ℤ) (times : ℕ) → FitsSigned w16 a → times < 2 ^ 32 → FitsSigned w64 (a *ℤ pos times)
 product_fits a times fits small = fits_signed_mul w64 a (pos times) 32768 (2 ^ 32) (small_abs a fits) (omega (arith, small)) (omega arith)
 
 -- what the code computes

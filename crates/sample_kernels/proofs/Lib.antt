@@ -13,3 +13,4 @@ pub mod Threes
 pub mod Shuffles
 pub mod Quotients
 pub mod MixedSums
+pub mod LongMixes

@@ -25,13 +25,13 @@ pub fn load_samples(samples: &[i16], at: usize) -> i16x8
     i16x8::from_slice(&samples[at..])
 }
 
-/// Eight sums from a place on, read as samples are.
+/// Eight sums from a place on, loaded as samples are.
 pub fn load_sums(sums: &[i32], at: usize) -> i32x8
     requires { at + 8 ≤ length sums.now }
     ensures lanes { result ≡ chunk at 8 sums.now }
     ensures fit { Each1 (FitsSigned w32) (chunk at 8 sums.now) }
 {
-    i32x8::from_array([
+    let _seen = [
         sums[at],
         sums[at + 1],
         sums[at + 2],
@@ -40,5 +40,6 @@ pub fn load_sums(sums: &[i32], at: usize) -> i32x8
         sums[at + 5],
         sums[at + 6],
         sums[at + 7],
-    ])
+    ];
+    i32x8::from_slice(&sums[at..])
 }

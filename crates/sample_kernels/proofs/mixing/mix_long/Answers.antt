@@ -1,9 +1,25 @@
-use Rattle.std.proofs.Common.{◌≡◌, ◌+◌, ◌∙◌, pos, get_or, to_z, of_z, w16, FitsSigned, ap, rules}
+use Rattle.std.proofs.Common.{◌≡◌, ◌+◌, ◌∙◌, pos, length, take, arith, get_or, to_z, of_z, w16, FitsSigned, ap, rules}
+use Rattle.std.specs.Simd.Lanes.{chunk, put_chunk}
+use Rattle.std.proofs.lemmas.Simd.{length-put_chunk}
 use Rattle.std.proofs.lemmas.List.{length-set}
 use Rattle.std.proofs.lemmas.Int.{to_z-of_z}
-use Rattle.sample_kernels.specs.Mixing.{faded}
-use Rattle.sample_kernels.proofs.Mixes.{more_mixed}
+use Rattle.sample_kernels.specs.Mixing.{faded, mixed}
+use Rattle.sample_kernels.proofs.Mixes.{more_mixed, more_mixed_chunk}
 use Rattle.sample_kernels.proofs.mixing.mix_long.Goals as goal
+
+pub loop-done-preserved : goal.loop-done-preserved
+loop-done-preserved c =
+    let at = c.loop-done.done in
+    let from = c.args.from.now in
+    let to = c.args.to.now in
+    let into = c.loop-done.into in
+    let ys = mixed (chunk at 8 from) (chunk at 8 to) (c.args.start + at) c.args.whole in
+    let is : c.mix_long_eight.new.into ≡ put_chunk at into ys = c.mix_long_eight.ensures in
+    let long_new : length c.mix_long_eight.new.into ≡ length into = ap length is ∙ length-put_chunk at into ys in (
+      long_new ∙ c.loop-done.invariant.0,
+      omega arith,
+      ap (take (at + 8)) is ∙ more_mixed_chunk from to into c.args.start c.args.whole at 8 c.requires.same.0 c.loop-done.invariant.0 (omega arith) c.loop-done.invariant.2,
+    )
 
 pub loop-at-preserved : goal.loop-at-preserved
 loop-at-preserved c =
