@@ -43,9 +43,6 @@ held_one k n e = by (or_cases (nat_eq k n) false e)
     by (inl f) = same_number k n f
     by (inr f) = absurd (let g : false ≡ true = f in cc)
 
-pub one_held : (n : ℕ) → is_held (n ∷ []) n ≡ true
-one_held n = or_left (nat_eq n n) false (number_same n)
-
 -- ---- a set that grows by one number
 
 cond_yes : (b c : Bool) → c ≡ true → cond b true c ≡ true

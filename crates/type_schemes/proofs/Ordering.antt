@@ -13,7 +13,7 @@ use Rattle.type_schemes.specs.Generals.{open_of}
 use Rattle.type_schemes.specs.Holding.{HeldVariables}
 use Rattle.type_schemes.specs.Numbering.{kind_parameters, place_of}
 use Rattle.type_schemes.specs.Schemes.{open_numbers}
-use Rattle.type_schemes.specs.Texts.{text_kind, text_of}
+use Rattle.type_schemes.specs.Texts.{text_kind, variable_in_text}
 use Rattle.type_schemes.proofs.KindLists.{open_among_first}
 use Rattle.type_schemes.proofs.Members.{number_same}
 use Rattle.type_schemes.proofs.Reading.{none_is, some_is}
@@ -145,16 +145,16 @@ rank_below m (OuterKind k ∷ ps) (suc j) (suc n) l e = rank_below (suc m) ps j 
 
 module _ (ps : List KindParameter) (i : ℕ) (rest : List ℕ) where
   -- a place that was named before
-  old_kind : (n : ℕ) → i < n → (o : Option KindParameter) → slice_get ps i ≡ o → counted (rank ps n) (open_of (text_of i (rank ps i) o) ++ rest) ≡ counted (rank ps n) rest
+  old_kind : (n : ℕ) → i < n → (o : Option KindParameter) → slice_get ps i ≡ o → counted (rank ps n) (open_of (variable_in_text i (rank ps i) o) ++ rest) ≡ counted (rank ps n) rest
   old_kind n l None e = refl
   old_kind n l (Some OpenKind) e = counted_old (rank ps n) (rank ps i) rest (rank_below 0 ps i n l e)
   old_kind n l (Some Unread) e = refl
   old_kind n l (Some (OuterKind k)) e = refl
 
   -- a new one
-  new_kind : (n : ℕ) → i ≡ n → (o : Option KindParameter) → slice_get ps i ≡ o → counted (rank ps n) (open_of (text_of i (rank ps i) o) ++ rest) ≡ counted (rank ps (suc n)) rest
+  new_kind : (n : ℕ) → i ≡ n → (o : Option KindParameter) → slice_get ps i ≡ o → counted (rank ps n) (open_of (variable_in_text i (rank ps i) o) ++ rest) ≡ counted (rank ps (suc n)) rest
   new_kind n same o e = by o e (subst (λ j. rank ps (suc j) ≡ rank ps j + added (slice_get ps i)) same (rank_more 0 ps i) ∙ ap (λ (x : Option KindParameter). rank ps n + added x) e) where
-    by : (o : Option KindParameter) → slice_get ps i ≡ o → rank ps (suc n) ≡ rank ps n + added o → counted (rank ps n) (open_of (text_of i (rank ps i) o) ++ rest) ≡ counted (rank ps (suc n)) rest
+    by : (o : Option KindParameter) → slice_get ps i ≡ o → rank ps (suc n) ≡ rank ps n + added o → counted (rank ps n) (open_of (variable_in_text i (rank ps i) o) ++ rest) ≡ counted (rank ps (suc n)) rest
     by None e r = ap (λ j. counted j rest) (let z : rank ps n ≡ rank ps (suc n) = omega (arith, r) in z)
     by (Some OpenKind) e r = counted_new (rank ps n) (rank ps i) rest (ap (rank ps) same) ∙ ap (λ j. counted j rest) (let z : suc (rank ps n) ≡ rank ps (suc n) = omega (arith, r) in z)
     by (Some Unread) e r = ap (λ j. counted j rest) (let z : rank ps n ≡ rank ps (suc n) = omega (arith, r) in z)

@@ -17,15 +17,15 @@ use Rattle.type_schemes.specs.Numbering.{AreSettled, IsFront, kind_parameters, p
 use Rattle.type_schemes.specs.Schemes.{Scheme, open_numbers}
 
 -- variable i, of which this is known, in a text; so many open ones are before it
-abbrev pub text_of : ℕ → ℕ → Option KindParameter → TextKind
-text_of i before None = Outer (Var i)
-text_of i before (Some OpenKind) = Open before
-text_of i before (Some Unread) = Outer (Var i)
-text_of i before (Some (OuterKind n)) = Outer (Var n)
+abbrev pub variable_in_text : ℕ → ℕ → Option KindParameter → TextKind
+variable_in_text i before None = Outer (Var i)
+variable_in_text i before (Some OpenKind) = Open before
+variable_in_text i before (Some Unread) = Outer (Var i)
+variable_in_text i before (Some (OuterKind n)) = Outer (Var n)
 
 abbrev pub text_kind : List KindParameter → KindTerm → TextKind
 text_kind ps (Fixed k) = Outer (Fixed k)
-text_kind ps (Var i) = text_of i (length (open_numbers 0 (take i ps))) (slice_get ps i)
+text_kind ps (Var i) = variable_in_text i (length (open_numbers 0 (take i ps))) (slice_get ps i)
 
 -- types over the variables of these numbers, seen at their places
 pub record AreOpened (s : Table) (ts ks : List ℕ) (xs us : List Term) : Type 0 where

@@ -1,21 +1,20 @@
 -- At each place of a text's expansion the kinds of a typing are those that the uses say.
-use Rattle.std.proofs.Common.{◌≡◌, inl, inr, ◌∙◌, sym, ap, subst, refl, ℕ, suc, zero, List, [], ◌∷◌, map, Option, Some, None, Bool, true, false, nat_eq, eqb-true}
-use Rattle.std.specs.Prelude.{slice_get}
+use Rattle.std.proofs.Common.{◌≡◌, inl, inr, ◌∙◌, sym, subst, refl, ℕ, List, [], ◌∷◌, map, Option, Some, None, Bool, true, false, nat_eq, eqb-true}
 use Rattle.liq_base.specs.declared.memory.Kind.{Kind}
 use Rattle.liq_base.specs.declared.memory.Kind.TheVariants.{Mono}
 use Rattle.type_terms.specs.Ground.{Assignment}
 use Rattle.type_terms.specs.Term.{kind_meaning}
 use Rattle.type_terms.specs.declared.ty.KindTerm.{KindTerm}
 use Rattle.script_grammar.specs.Tree.{Tree, ADef, Script, none, more, Stmt, BindPart, DefPart, CallPart, IfPart, Bind}
-use Rattle.typing_rules.specs.declared.uses.KindOf.{KindOf}
-use Rattle.typing_rules.specs.declared.uses.KindOf.TheVariants.{Fixed, Given}
+use Rattle.typing_rules.specs.declared.uses.KindOf.TheVariants.{Fixed}
 use Rattle.typing_rules.specs.declared.uses.Builtin.{Builtin}
 use Rattle.typing_rules.specs.declared.uses.Target.{Target}
 use Rattle.typing_rules.specs.declared.uses.Target.TheVariants as target
 use Rattle.typing_rules.specs.declared.uses.Use.{Use}
-use Rattle.typing_rules.specs.Kinds.{Block, IsPlace, IsUsedIn, MonoOnly, MonoWhere, around, blocks, kind_at, kinds_of, put, read}
+use Rattle.typing_rules.specs.Kinds.{AreLessKinds, Block, IsPlace, IsUsedIn, MonoOnly, MonoWhere, around, blocks, read}
 use Rattle.typing_rules.specs.Scoping.{Name, Scope, names, target_of, with_statement}
 use Rattle.typing_rules.specs.Scripts.{Places, def_token}
+use Rattle.typing_rules.proofs.Lesser.{kinds_less}
 use Rattle.type_steps.specs.Environment.{CallTakes, EachTakes, Found, Known, Pending, Takes, TextTakes, TextUse, function, of_def, of_term, settled, settled_use, texts_under, value}
 use Rattle.type_steps.specs.Statements.{AreApart, AreTaken, Done, bound, defined, found_use, known_after, known_with, ran, uses_in, uses_under}
 use Rattle.type_steps.specs.Whole.{AreDone}
@@ -23,70 +22,17 @@ use Rattle.type_steps.proofs.Uses.{AreIn, in_left, in_right}
 use Rattle.type_steps.proofs.Readings.{TextsRead, fixed_kinds, read_is}
 use Rattle.type_steps.proofs.Wholes.{HasFound, HasTextUse, IsThere, UsedInDef, has_found, same_text, there_after}
 
--- ---- kinds of one use
-
-pub mono_same : (ks : List Kind) → MonoWhere ks ks
-mono_same [] = tt
-mono_same (k ∷ ks) = (λ e. e, mono_same ks)
-
--- the kinds of a use, under a lesser assignment and with lesser kinds of the text's own
-pub record LessKinds (ls : List Kind) (ws : List KindOf) (ks : List Kind) : Type 0 where
-  pub kinds : List Kind
-  pub are : kinds_of ls ws ≡ Some kinds
-  pub less : MonoWhere kinds ks
-
--- a kind and others
-pub record Puts (js : List Kind) (w : KindOf) (ws : List KindOf) (ks : List Kind) : Type 0 where
-  pub first : Kind
-  pub rest : List Kind
-  pub first_is : kind_at js w ≡ Some first
-  pub rest_are : kinds_of js ws ≡ Some rest
-  pub all : ks ≡ first ∷ rest
-
-none_are : {A : Type 0} (ks : List Kind) → ◌≡◌ {A = Option (List Kind)} None (Some ks) → A
-none_are ks e = cc
-
-kinds_are : (js ks : List Kind) → Some js ≡ Some ks → js ≡ ks
-kinds_are js ks e = cc
-
-puts : (js : List Kind) (w : KindOf) (ws : List KindOf) (ks : List Kind) → kinds_of js (w ∷ ws) ≡ Some ks → Puts js w ws ks
-puts js w ws ks e = by (kind_at js w) (kinds_of js ws) refl refl e where
-  by : (o : Option Kind) (p : Option (List Kind)) → kind_at js w ≡ o → kinds_of js ws ≡ p → put o p ≡ Some ks → Puts js w ws ks
-  by None p f g h = none_are ks h
-  by (Some k) None f g h = none_are ks h
-  by (Some k) (Some ls) f g h = record { first = k; rest = ls; first_is = f; rest_are = g; all = sym (kinds_are (k ∷ ls) ks h) }
-
-kind_is : (j k : Kind) → Some j ≡ Some k → j ≡ k
-kind_is j k e = cc
-
-no_kind : {A : Type 0} (k : Kind) → ◌≡◌ {A = Option Kind} None (Some k) → A
-no_kind k e = cc
-
-less_at : (ls js : List Kind) (i : ℕ) (k : Kind) → MonoWhere ls js → slice_get js i ≡ Some k → (l : Kind) × (slice_get ls i ≡ Some l) × (l ≡ Mono → k ≡ Mono)
-less_at [] [] i k m e = no_kind k e
-less_at [] (j ∷ js) i k m e = absurd m
-less_at (l ∷ ls) [] i k m e = absurd m
-less_at (l ∷ ls) (j ∷ js) zero k m e = (l, refl, λ is. sym (kind_is j k e) ∙ m.0 is)
-less_at (l ∷ ls) (j ∷ js) (suc i) k m e = less_at ls js i k m.1 e
-
-less_both : (ls : List Kind) (w : KindOf) (ws : List KindOf) (l : Kind) (k : Kind) (ks qs : List Kind) → kind_at ls w ≡ Some l → (l ≡ Mono → k ≡ Mono) → qs ≡ k ∷ ks → LessKinds ls ws ks → LessKinds ls (w ∷ ws) qs
-less_both ls w ws l k ks qs e m a r = record {
-  kinds = l ∷ r.kinds;
-  are = ap (λ o. put o (kinds_of ls ws)) e ∙ ap (put (Some l)) r.are;
-  less = subst (λ (zs : List Kind). MonoWhere (l ∷ r.kinds) zs) (sym a) (m, r.less);
-}
+-- ---- kinds of one use, under an assignment and a lesser one
 
 module _ (d a : Assignment) (mono : (k : KindTerm) → kind_meaning d k ≡ Mono → kind_meaning a k ≡ Mono) where
-  pub less_kinds : (ls js : List Kind) → MonoWhere ls js → (ps : List Pending) (ks : List Kind) → kinds_of js (map (settled a) ps) ≡ Some ks → LessKinds ls (map (settled d) ps) ks
-  less_kinds ls js m [] ks e = record { kinds = []; are = refl; less = subst (λ (zs : List Kind). MonoWhere [] zs) (kinds_are [] ks e) tt }
-  less_kinds ls js m (of_term k ∷ ps) ks e =
-      let p = puts js (Fixed (kind_meaning a k)) (map (settled a) ps) ks e in
-      let same : kind_meaning a k ≡ p.first = kind_is (kind_meaning a k) p.first p.first_is in
-      less_both ls (Fixed (kind_meaning d k)) (map (settled d) ps) (kind_meaning d k) p.first p.rest ks refl (λ is. sym same ∙ mono k is) p.all (less_kinds ls js m ps p.rest p.rest_are)
-  less_kinds ls js m (of_def i ∷ ps) ks e =
-      let p = puts js (Given i) (map (settled a) ps) ks e in
-      let l = less_at ls js i p.first m p.first_is in
-      less_both ls (Given i) (map (settled d) ps) l.0 p.first p.rest ks l.1 l.2 p.all (less_kinds ls js m ps p.rest p.rest_are)
+  pub less_pending : (ps : List Pending) → AreLessKinds (map (settled d) ps) (map (settled a) ps)
+  less_pending [] = tt
+  less_pending (of_term k ∷ ps) = (mono k, less_pending ps)
+  less_pending (of_def j ∷ ps) = (refl, less_pending ps)
+
+  pub less_fixed : (ks : List KindTerm) → AreLessKinds (map (λ k. Fixed (kind_meaning d k)) ks) (map (λ k. Fixed (kind_meaning a k)) ks)
+  less_fixed [] = tt
+  less_fixed (k ∷ ks) = (mono k, less_fixed ks)
 
   less_terms : (ks : List KindTerm) → MonoWhere (map (kind_meaning d) ks) (map (kind_meaning a) ks)
   less_terms [] = tt
@@ -156,7 +102,7 @@ module _ (d a : Assignment) (mono : (k : KindTerm) → kind_meaning d k ≡ Mono
   text_place ks old chain ls js al aj m (w ∷ ws) iu iv h n (inr o) = text_place ks old chain ls js al aj m ws iu.1 iv.1 h.1 n o
   text_place ks old chain ls js al aj m (w ∷ ws) iu iv h n (inl o) =
       let ms = h.0.0 in
-      let l = less_kinds d a mono ls js m w.kinds ms h.0.1 in
+      let l = kinds_less ls js m (map (settled d) w.kinds) (map (settled a) w.kinds) (less_pending d a mono w.kinds) ms h.0.1 in
       let ru : read gs us chain w.at ≡ Some l.kinds = read_is gs us chain w.at (settled_use d w) ls l.kinds iu.0 al l.are in
       let rv : read hs vs chain w.at ≡ Some ms = read_is hs vs chain w.at (settled_use a w) js ms iv.0 aj h.0.1 in
       record {

@@ -8,7 +8,7 @@ use Rattle.type_terms.specs.Ground.{Ground, Assignment}
 use Rattle.type_terms.specs.Term.{Term, meaning}
 use Rattle.type_terms.specs.Table.{Table, Solves}
 use Rattle.type_terms.specs.Agrees.{Agrees, Follows}
-use Rattle.typing_rules.specs.Arguments.{Parameter, Given, Matched, Fits, after, argument, first_missing, is_label, is_needed, label_of, left_over, missing_or, others, taken}
+use Rattle.typing_rules.specs.Arguments.{Parameter, Given, Matched, TakenAs, after, argument, first_missing, is_label, is_needed, label_of, left_over, missing_or, others, arguments_taken}
 use Rattle.type_steps.specs.Flow.{Restricts, Never, IsMade, AreInside, AreTermsOver, given_under}
 use Rattle.type_steps.specs.Fitting.{FitsOne, IsInside}
 use Rattle.type_steps.proofs.Tables.{over_later, follows_same, follows_both, agrees_same, agrees_both, meaning_over}
@@ -38,7 +38,7 @@ argument_under a label (g ∷ gs) = by_label (argument_under a label gs) (is_lab
 
 -- a match where the first parameter takes what x says
 abbrev pub MatchedBy : Parameter → List Parameter → List (Given Ground) → Option (Ground × List (Given Ground)) → Ground → List Ground → Type 0
-MatchedBy p ps gs x t ts = (missing_or p x (first_missing ps (others gs x)) ≡ None) × (left_over ps (others gs x) ≡ []) × Fits (option_map (λ y. y.0) x ∷ taken ps (others gs x)) (t ∷ ts)
+MatchedBy p ps gs x t ts = (missing_or p x (first_missing ps (others gs x)) ≡ None) × (left_over ps (others gs x) ≡ []) × TakenAs (option_map (λ y. y.0) x ∷ arguments_taken ps (others gs x)) (t ∷ ts)
 
 needed_not : (b : Bool) (name : List ℕ) (later : Option (List ℕ)) → cond b (Some name) later ≡ None → (b ≡ false) × (later ≡ None)
 needed_not true name later e = absurd (let c : ◌≡◌ {A = Option (List ℕ)} (Some name) None = e in cc)
@@ -63,19 +63,19 @@ one_matched a p ps gs t ts h = of_one a p ps gs t ts (argument (label_of p) gs) 
 
 -- ---- as many types as parameters
 
-fits_length : (os : List (Option Ground)) (ts : List Ground) → Fits os ts → length os ≡ length ts
+fits_length : (os : List (Option Ground)) (ts : List Ground) → TakenAs os ts → length os ≡ length ts
 fits_length [] [] h = refl
 fits_length [] (t ∷ ts) h = absurd h
 fits_length (o ∷ os) [] h = absurd h
 fits_length (None ∷ os) (t ∷ ts) h = ap suc (fits_length os ts h)
 fits_length (Some x ∷ os) (t ∷ ts) h = ap suc (fits_length os ts h.1)
 
-taken_length : (ps : List Parameter) (gs : List (Given Ground)) → length (taken ps gs) ≡ length ps
+taken_length : (ps : List Parameter) (gs : List (Given Ground)) → length (arguments_taken ps gs) ≡ length ps
 taken_length [] gs = refl
 taken_length (p ∷ ps) gs = ap suc (taken_length ps (others gs (argument (label_of p) gs)))
 
 pub matched_length : (ps : List Parameter) (gs : List (Given Ground)) (ts : List Ground) → Matched ps gs ts → length ps ≡ length ts
-matched_length ps gs ts h = sym (taken_length ps gs) ∙ fits_length (taken ps gs) ts h.2
+matched_length ps gs ts h = sym (taken_length ps gs) ∙ fits_length (arguments_taken ps gs) ts h.2
 
 pub map_length : {A B : Type 0} (f : A → B) (xs : List A) → length (map f xs) ≡ length xs
 map_length f [] = refl
