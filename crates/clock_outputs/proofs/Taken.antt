@@ -2,9 +2,10 @@
 use Rattle.std.proofs.Common.{◌≡◌, ◌<◌, ◌≤◌, ◌+◌, ◌∙◌, ℕ, zero, suc, Some, None, Option, List, [], ◌∷◌, length, get_or, set, slice_get, arith, refl, ap, sym, subst, inl, inr}
 use Rattle.std.proofs.lemmas.List.{append-nil, get_or-set_other, get_or-set_same}
 use Rattle.std.proofs.lemmas.Option.{slice_get_within}
+use Rattle.liq_base.specs.Counts.{counted}
 use Rattle.liq_base.specs.Pieces.{Took, TookPart, grown, narrowed}
 use Rattle.clock_outputs.specs.declared.port.Port.{Port}
-use Rattle.clock_outputs.specs.Appends.{AreKept, LeftFrom, NoneFell, TookAll, TookParts}
+use Rattle.clock_outputs.specs.Appends.{AreKept, GotOnePiece, LeftFrom, NoneFell, TookAll, TookParts}
 use Rattle.clock_outputs.proofs.Places.{low_or_high, same_or_other, slice_get-set_other, slice_get-set_same}
 
 grown_nothing : (held : Option (List ℕ)) → held ≡ grown [] held
@@ -43,7 +44,36 @@ kept_none name faults outs = record {
 pub took_none : {S : Type 0} (held : S → Option (List ℕ)) (room : S → Option ℕ) (ports : List Port) (outs : List S) → TookAll held room ports 0 outs outs
 took_none held room ports outs = record { each = λ k port before after below at_port at_old at_new. absurd (omega (arith, below)) }
 
+pub once_none : {S : Type 0} (appends : S → Option ℕ) (outs : List S) → GotOnePiece appends 0 outs outs
+once_none appends outs = record {
+  first = λ k before after below was is. absurd (omega (arith, below));
+  others = λ k before after from was is.
+      let one : Some before ≡ Some after = sym was ∙ is in
+      let same : before ≡ after = cc in
+      ap appends (sym same);
+}
+
 -- one sink more was called
+pub once_more : {S : Type 0} (appends : S → Option ℕ) (k : ℕ) (old now : List S) (before after : S) → k < length now
+    → slice_get now k ≡ Some before → LeftFrom k old now → appends after ≡ counted (appends before)
+    → GotOnePiece appends k old now → GotOnePiece appends (k + 1) old (set now k after)
+once_more {S} appends k old now before after within was left once got = record {
+  first = λ j b a below at_old at_new. elim (same_or_other k j) [
+    | inl same ↦ subst (λ i. slice_get old i ≡ Some b → slice_get (set now k after) i ≡ Some a → appends a ≡ counted (appends b)) same (here b a) at_old at_new
+    | inr apart ↦ got.first j b a (omega (arith, below, apart)) at_old (sym (slice_get-set_other now k j after apart) ∙ at_new)
+  ];
+  others = λ j b a from at_old at_new.
+      got.others j b a (omega (arith, from)) at_old (sym (slice_get-set_other now k j after (λ e. omega (arith, from, e))) ∙ at_new);
+}
+  where
+    here : (b a : S) → slice_get old k ≡ Some b → slice_get (set now k after) k ≡ Some a → appends a ≡ counted (appends b)
+    here b a at_old at_new =
+        let two : Some before ≡ Some b = sym was ∙ left.each k (omega arith) ∙ at_old in
+        let three : Some after ≡ Some a = sym (slice_get-set_same now k after within) ∙ at_new in
+        let same_b : before ≡ b = cc in
+        let same_a : after ≡ a = cc in
+        ap appends (sym same_a) ∙ once ∙ ap (λ s. counted (appends s)) same_b
+
 pub kept_more : {S : Type 0} (name : S → Option (List ℕ)) (faults : S → ℕ) (k : ℕ) (old now : List S) (before after : S) → k < length now
     → slice_get now k ≡ Some before → LeftFrom k old now → name after ≡ name before → faults before ≤ faults after
     → AreKept name faults old now → AreKept name faults old (set now k after)

@@ -1,6 +1,6 @@
 -- What the sinks of a clock took of its pieces, sink by sink. S is the sinks' type, `held` and `room` are what they tell.
 use Rattle.std.specs.Prelude.{◌≡◌, ◌<◌, ◌≤◌, ℕ, Some, List, Option, length, slice_get, slice_index_or}
-use Rattle.liq_base.specs.Counts.{Rose}
+use Rattle.liq_base.specs.Counts.{Rose, counted}
 use Rattle.liq_base.specs.Pieces.{HasRoom, Took, TookPart}
 use Rattle.clock_outputs.specs.declared.port.Port.{Port}
 
@@ -39,3 +39,8 @@ pub record AreKept {S : Type 0} (name : S → Option (List ℕ)) (faults : S →
 -- no sink's count of faults fell
 pub record NoneFell {S : Type 0} (faults : S → ℕ) (old new : List S) : Type 0 where
   pub each : (k : ℕ) (d : S) → faults (slice_index_or old k d) ≤ faults (slice_index_or new k d)
+
+-- the first `below` sinks got one piece each, and the others none; `appends` tells how many pieces a sink got, as far as a u64 counts
+pub record GotOnePiece {S : Type 0} (appends : S → Option ℕ) (below : ℕ) (old new : List S) : Type 0 where
+  pub first : (k : ℕ) (before after : S) → k < below → slice_get old k ≡ Some before → slice_get new k ≡ Some after → appends after ≡ counted (appends before)
+  pub others : (k : ℕ) (before after : S) → below ≤ k → slice_get old k ≡ Some before → slice_get new k ≡ Some after → appends after ≡ appends before
