@@ -31,6 +31,7 @@ impl ReadLists {
         ensures within { IfOk result (λ at. at < length (lists_of self.new)) }
         ensures fault { IfErr result (Ends (S.files shelf.old) (S.read_count shelf.old) (S.read_count shelf.new) (λ _. FirstRead (lists_of self.old) name.now) (λ files. use_list files (lists_of self.old) name.now)) }
         ensures files { S.files shelf.new ≡ S.files shelf.old }
+        ensures created { S.created shelf.new ≡ S.created shelf.old }
         ensures reads { S.read_count shelf.old ≤ S.read_count shelf.new }
         ensures writes { S.write_count shelf.old ≤ S.write_count shelf.new }
     {

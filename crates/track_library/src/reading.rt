@@ -32,6 +32,7 @@ pub fn fetch<S: Shelf>(
     ensures few { IfOk result (λ found. IfOk found (λ bytes. length bytes.items ≤ most)) }
     ensures fault { IfErr result (λ fault. IsReading name.now (S.read_count shelf.old) (S.read_count shelf.new) fault) }
     ensures files { S.files shelf.new ≡ S.files shelf.old }
+    ensures created { S.created shelf.new ≡ S.created shelf.old }
     ensures reads { S.read_count shelf.old ≤ S.read_count shelf.new }
     ensures writes { S.write_count shelf.old ≤ S.write_count shelf.new }
 {
@@ -95,6 +96,7 @@ fn read_recording<S: Shelf>(
     ensures recording { IfOk result (λ found. IfOk found IsRecording) }
     ensures fault { IfErr result (λ fault. IsReading name.now (S.read_count shelf.old) (S.read_count shelf.new) fault) }
     ensures files { S.files shelf.new ≡ S.files shelf.old }
+    ensures created { S.created shelf.new ≡ S.created shelf.old }
     ensures reads { S.read_count shelf.old ≤ S.read_count shelf.new }
     ensures writes { S.write_count shelf.old ≤ S.write_count shelf.new }
 {
@@ -117,6 +119,7 @@ pub fn read_audio<S: Shelf>(
     ensures sound { IfOk result (λ found. IfOk found (λ audio. IsSound audio.0)) }
     ensures fault { IfErr result (λ fault. IsReading name.now (S.read_count shelf.old) (S.read_count shelf.new) fault) }
     ensures files { S.files shelf.new ≡ S.files shelf.old }
+    ensures created { S.created shelf.new ≡ S.created shelf.old }
     ensures reads { S.read_count shelf.old ≤ S.read_count shelf.new }
     ensures writes { S.write_count shelf.old ≤ S.write_count shelf.new }
 {

@@ -57,6 +57,7 @@ impl Walk {
         ensures plays { IfOk result (λ leaf. Plays (heard_of self.old.audio) (heard_of self.new.audio) leaf.items) }
         ensures single { IfOk result (λ leaf. HasOne op.now leaf.items) }
         ensures files { S.files shelf.new ≡ S.files shelf.old }
+        ensures created { S.created shelf.new ≡ S.created shelf.old }
         ensures reads { S.read_count shelf.old ≤ S.read_count shelf.new }
         ensures writes { S.write_count shelf.old ≤ S.write_count shelf.new }
     {
@@ -107,6 +108,7 @@ pub fn load<S: Shelf>(
         (λ files. LoadReads (record { rate = plan.now.rate; file = sizes.file; all = sizes.all }) files plan.now.nodes)
         (λ files. load_of (record { rate = plan.now.rate; file = sizes.file; all = sizes.all }) files plan.now.nodes)) }
     ensures files { S.files shelf.new ≡ S.files shelf.old }
+    ensures created { S.created shelf.new ≡ S.created shelf.old }
     ensures reads { S.read_count shelf.old ≤ S.read_count shelf.new }
     ensures writes { S.write_count shelf.old ≤ S.write_count shelf.new }
 {
@@ -139,6 +141,7 @@ fn find_single<S: Shelf>(
     ensures plays { IfOk result (λ leaf. Plays (heard_of audio.old) (heard_of audio.new) leaf.items) }
     ensures one { IfOk result (λ leaf. length leaf.items ≡ 1) }
     ensures files { S.files shelf.new ≡ S.files shelf.old }
+    ensures created { S.created shelf.new ≡ S.created shelf.old }
     ensures reads { S.read_count shelf.old ≤ S.read_count shelf.new }
     ensures writes { S.write_count shelf.old ≤ S.write_count shelf.new }
 {
@@ -176,6 +179,7 @@ fn play_entries<S: Shelf>(
     ensures fault { IfErr result (Ends (S.files shelf.old) (S.read_count shelf.old) (S.read_count shelf.new) (λ files. EntriesRead rules files names.now (Ok (heard_of audio.old, []))) (λ files. entries_played rules files names.now (Ok (heard_of audio.old, [])))) }
     ensures plays { IfOk result (λ leaf. Plays (heard_of audio.old) (heard_of audio.new) leaf.items) }
     ensures files { S.files shelf.new ≡ S.files shelf.old }
+    ensures created { S.created shelf.new ≡ S.created shelf.old }
     ensures reads { S.read_count shelf.old ≤ S.read_count shelf.new }
     ensures writes { S.write_count shelf.old ≤ S.write_count shelf.new }
 {

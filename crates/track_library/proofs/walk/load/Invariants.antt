@@ -21,3 +21,4 @@ invariant-loop-node g l =
     → LoadReads l.rules files l.plan.nodes read)
     × (length (map (λ leaf. leaf.items) l.leaves.items) ≡ l.node-index)
     × SinglesSoFar l.node-index l.plan.nodes (map (λ leaf. leaf.items) l.leaves.items)
+    × (g.S.Shelf.created l.shelf ≡ g.S.Shelf.created l.fn.shelf)
