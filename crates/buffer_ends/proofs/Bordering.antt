@@ -1,10 +1,10 @@
 -- Two ends of one queue are closed together.
-use Rattle.std.proofs.Common.{◌≡◌, ℕ, ◌<◌, List, [], length, get_or, set, slice_index_or, slice_set, sym, refl, ap, ◌∙◌, subst}
+use Rattle.std.proofs.Common.{◌≡◌, ℕ, ◌<◌, List, length, slice_index_or, slice_set, ap, ◌∙◌}
 use Rattle.std.proofs.lemmas.List.{get_or_default}
-use Rattle.buffer_queue.specs.Window.{Window, Closes, is_chunk}
+use Rattle.buffer_queue.specs.Window.{Window}
 use Rattle.buffer_ends.specs.Local.{Answers}
 use Rattle.buffer_ends.specs.Sides.{Side}
-use Rattle.buffer_ends.specs.Borders.{HasAt, HaveEnds, HasEnd, ClosesSides, WasClosed}
+use Rattle.buffer_ends.specs.Borders.{HasAt, HasEnd, ClosesSides, WasClosed}
 
 pub end_missing : (sides : List Side) (b : ℕ) (w : Window) → HasEnd sides b w → ((k : ℕ) (d : Side) → k < length sides → (slice_index_or sides k d).buffer ≡ b → ⊥) → ⊥
 end_missing sides b w e none = let d : Side = record { buffer = b; window = w } in none e.place d e.at.within (ap (λ (s : Side). s.buffer) (e.at.is d))

@@ -4,30 +4,31 @@ use Rattle.std.proofs.lemmas.List.{get_or_default}
 use Rattle.buffer_queue.specs.Window.{is_chunk}
 use Rattle.buffer_ends.specs.declared.counts.Counts.{Counts}
 use Rattle.buffer_ends.specs.Local.{LocalBuffer, yes}
-use Rattle.buffer_ends.specs.Sides.{Side, Apart}
+use Rattle.buffer_ends.specs.Sides.{Side, Falling}
+use Rattle.buffer_ends.proofs.Places.{one_place}
 use Rattle.buffer_ends.specs.Ends.{PutsCounted, TakesCounted}
 
 -- the end of this buffer, wherever it is found
-found : (sides : List Side) (b place : ℕ) (x : Side) → Apart sides → place < length sides → ((d : Side) → (slice_index_or sides place d).buffer ≡ b) → x ≡ get_or sides place x
+found : (sides : List Side) (b place : ℕ) (x : Side) → Falling sides → place < length sides → ((d : Side) → (slice_index_or sides place d).buffer ≡ b) → x ≡ get_or sides place x
     → (k : ℕ) (d : Side) → k < length sides → (slice_index_or sides k d).buffer ≡ b → x ≡ get_or sides k d
-found sides b place x apart room at old k d h e =
-    old ∙ get_or_default sides place x d room ∙ ap (λ n. get_or sides n d) (sym (apart k place d h room (e ∙ sym (at d))))
+found sides b place x falling room at old k d h e =
+    old ∙ get_or_default sides place x d room ∙ ap (λ n. get_or sides n d) (sym (one_place sides falling k place d h room (e ∙ sym (at d))))
 
-pub puts_counted : (sides : List Side) (list : LocalBuffer) (b place : ℕ) (x : Side) (counts : Counts) → Apart sides → place < length sides
+pub puts_counted : (sides : List Side) (list : LocalBuffer) (b place : ℕ) (x : Side) (counts : Counts) → Falling sides → place < length sides
     → ((d : Side) → (slice_index_or sides place d).buffer ≡ b) → x ≡ get_or sides place x
     → counts.accepted ≡ count_by yes (map is_chunk x.window.answers) → counts.full ≡ count_by not (map is_chunk x.window.answers) → PutsCounted sides list b counts
-puts_counted sides list b place x counts apart room at old accepted full = (
+puts_counted sides list b place x counts falling room at old accepted full = (
   (λ k d h e. subst (λ (s : Side). (counts.accepted ≡ count_by yes (map is_chunk s.window.answers)) × (counts.full ≡ count_by not (map is_chunk s.window.answers)))
-      (found sides b place x apart room at old k d h e) (accepted, full)),
+      (found sides b place x falling room at old k d h e) (accepted, full)),
   λ none. absurd (none (place, room, at)),
 )
 
-pub takes_counted : (sides : List Side) (list : LocalBuffer) (b place : ℕ) (x : Side) (counts : Counts) → Apart sides → place < length sides
+pub takes_counted : (sides : List Side) (list : LocalBuffer) (b place : ℕ) (x : Side) (counts : Counts) → Falling sides → place < length sides
     → ((d : Side) → (slice_index_or sides place d).buffer ≡ b) → x ≡ get_or sides place x
     → counts.got ≡ count_by yes (map is_chunk x.window.answers) → counts.empty ≡ count_by not (map is_chunk x.window.answers) → TakesCounted sides list b counts
-takes_counted sides list b place x counts apart room at old got empty = (
+takes_counted sides list b place x counts falling room at old got empty = (
   (λ k d h e. subst (λ (s : Side). (counts.got ≡ count_by yes (map is_chunk s.window.answers)) × (counts.empty ≡ count_by not (map is_chunk s.window.answers)))
-      (found sides b place x apart room at old k d h e) (got, empty)),
+      (found sides b place x falling room at old k d h e) (got, empty)),
   λ none. absurd (none (place, room, at)),
 )
 

@@ -8,8 +8,9 @@ use Rattle.frame_core.specs.declared.chunk.Gave.{Gave}
 use Rattle.frame_core.specs.declared.chunk.Gave.TheVariants.{Accepted, Full}
 use Rattle.frame_core.specs.declared.cell.Cell.{Cell}
 use Rattle.buffer_ends.specs.Local.{LocalBuffer}
-use Rattle.buffer_ends.specs.Sides.{Side, Apart, PutsSide, TakesSide, SameSide, SameSides}
+use Rattle.buffer_ends.specs.Sides.{Side, Falling, PutsSide, TakesSide, SameSide, SameSides}
 use Rattle.buffer_ends.specs.Ends.{ListsStand, PutsStand, TakesStand, EndsStand, Has}
+use Rattle.buffer_ends.proofs.Places.{one_place}
 use Rattle.buffer_ends.proofs.Steps.{if_true, if_false, lists_other, list_took, list_gave, TakesOf, GivesTo}
 
 puts_to-append : (b : ℕ) (cs ds : List Call) → puts_to b (cs ++ ds) ≡ puts_to b cs ++ puts_to b ds
@@ -64,15 +65,16 @@ each_set F ends k e room mine others j d h =
     ⊎_elim (λ (t : (eqb j k ≡ true) × (j ≡ k)). subst F (sym (ap (λ i. get_or (set ends k e) i d) t.1 ∙ get_or-set_same ends k e d room)) mine)
     (λ t. subst F (sym (get_or-set_other ends k j e d t.1)) (others j d t.1 (omega (arith, length-set ends k e)))) (eqb_tells j k)
 
--- the buffers stay apart where an end keeps its own
+-- the buffers stay in their order where an end keeps its own
 buffers_set : (ends : List Side) (k : ℕ) (e : Side) → k < length ends → ((d : Side) → e.buffer ≡ (slice_index_or ends k d).buffer) → (j : ℕ) (d : Side) → (slice_index_or (set ends k e) j d).buffer ≡ (slice_index_or ends j d).buffer
 buffers_set ends k e room same j d =
     ⊎_elim (λ (t : (eqb j k ≡ true) × (j ≡ k)). ap (λ i. (get_or (set ends k e) i d).buffer) t.1 ∙ ap (λ (x : Side). x.buffer) (get_or-set_same ends k e d room) ∙ same d ∙ ap (λ i. (get_or ends i d).buffer) (sym t.1))
     (λ t. ap (λ (x : Side). x.buffer) (get_or-set_other ends k j e d t.1)) (eqb_tells j k)
 
-pub apart_set : (ends after : List Side) (k : ℕ) (e : Side) → after ≡ set ends k e → k < length ends → ((d : Side) → e.buffer ≡ (slice_index_or ends k d).buffer) → Apart ends → Apart after
-apart_set ends after k e is room same apart = subst Apart (sym is)
-    (λ i j d h g b. apart i j d (omega (arith, length-set ends k e)) (omega (arith, length-set ends k e)) (sym (buffers_set ends k e room same i d) ∙ b ∙ buffers_set ends k e room same j d))
+pub falling_set : (ends after : List Side) (k : ℕ) (e : Side) → after ≡ set ends k e → k < length ends → ((d : Side) → e.buffer ≡ (slice_index_or ends k d).buffer) → Falling ends → Falling after
+falling_set ends after k e is room same falling = subst Falling (sym is)
+    (λ i j d less low. let f = falling i j d less (omega (arith, low, length-set ends k e)) in
+    omega (arith, f, buffers_set ends k e room same i d, buffers_set ends k e room same j d))
 
 has_set : (ends : List Side) (k : ℕ) (e : Side) → k < length ends → ((d : Side) → e.buffer ≡ (slice_index_or ends k d).buffer) → (b : ℕ) → Has ends b → Has (set ends k e) b
 has_set ends k e room same b h = (h.0, omega (arith, length-set ends k e, h.1), λ d. buffers_set ends k e room same h.0 d ∙ h.2 d)
@@ -96,9 +98,9 @@ TakesAt ends k after o = (e : Side) × (after ≡ set ends k e) × ((d : Side) �
 abbrev pub Answers : List Side → List Side → List LocalBuffer → List Side → List Side → List LocalBuffer → List Call → Type 0
 Answers puts takes lists puts' takes' lists' more = (calls : List Call) → EndsStand puts takes lists calls → EndsStand puts' takes' lists' (calls ++ more)
 
-pub end_gave : (puts takes : List Side) (lists : List LocalBuffer) (k b : ℕ) (c : List Cell) (g : Gave) (after : List Side) → Apart puts → k < length puts → ((d : Side) → (slice_index_or puts k d).buffer ≡ b)
+pub end_gave : (puts takes : List Side) (lists : List LocalBuffer) (k b : ℕ) (c : List Cell) (g : Gave) (after : List Side) → Falling puts → k < length puts → ((d : Side) → (slice_index_or puts k d).buffer ≡ b)
     → GivesAt puts k c after g → (call : Call) × IsGive b c g call × Answers puts takes lists after takes lists (call ∷ [])
-end_gave puts takes lists k b c g after apart room at t =
+end_gave puts takes lists k b c g after falling room at t =
     let e = t.0 in let old : Side = get_or puts k e in
     let ga = gives_answers old c e g (t.2 e) in
     let same : (d : Side) → e.buffer ≡ (slice_index_or puts k d).buffer = λ d. ga.2 ∙ at e ∙ sym (at d) in
@@ -109,7 +111,7 @@ end_gave puts takes lists k b c g after apart room at t =
           let F : Side → Type 0 = λ x. x.window.answers ≡ puts_to x.buffer (calls ++ call ∷ []) in
           let mine : F e = ga.3 ∙ ap (λ l. l ++ put_of c ga.0 ∷ []) (s.0 k e room) ∙ (λ i. puts_to (at e i) calls ++ put_of c ga.0 ∷ []) ∙ sym (puts_here b calls c ga.0) ∙ (λ i. puts_to (sym (ga.2 ∙ at e) i) (calls ++ call ∷ [])) in
           let others : (j : ℕ) (d : Side) → j ≢ k → j < length puts → F (slice_index_or puts j d) =
-          λ j d n h. s.0 j d h ∙ sym (puts_else (slice_index_or puts j d).buffer b calls c ga.0 (λ q. n (apart j k d h room (q ∙ sym (at d))))) in
+          λ j d n h. s.0 j d h ∙ sym (puts_else (slice_index_or puts j d).buffer b calls c ga.0 (λ q. n (one_place puts falling j k d h room (q ∙ sym (at d))))) in
           let P : List Side → Type 0 = λ l. PutsStand l (calls ++ call ∷ []) × ListsStand (λ x. Has l x ⊎ Has takes x) lists (calls ++ call ∷ []) in
           let put_there : PutsStand (set puts k e) (calls ++ call ∷ []) = λ j d h. each_set F puts k e room mine others j d h in
           let wide : ListsStand (λ x. Has (set puts k e) x ⊎ Has takes x) lists calls =
@@ -123,9 +125,9 @@ takes_answers : (e : Side) (o : Option (List Cell)) (f : Side) → TakesSide e o
 takes_answers e None f t = (t.0, t.1.1.answers)
 takes_answers e (Some c) f t = (t.0, t.1.answers)
 
-pub end_took : (puts takes : List Side) (lists : List LocalBuffer) (k b : ℕ) (o : Option (List Cell)) (after : List Side) → Apart takes → k < length takes → ((d : Side) → (slice_index_or takes k d).buffer ≡ b)
+pub end_took : (puts takes : List Side) (lists : List LocalBuffer) (k b : ℕ) (o : Option (List Cell)) (after : List Side) → Falling takes → k < length takes → ((d : Side) → (slice_index_or takes k d).buffer ≡ b)
     → TakesAt takes k after o → Answers puts takes lists puts after lists (Took b o ∷ [])
-end_took puts takes lists k b o after apart room at t calls s =
+end_took puts takes lists k b o after falling room at t calls s =
     let e = t.0 in let old : Side = get_or takes k e in
     let ta = takes_answers old o e (t.2 e) in
     let same : (d : Side) → e.buffer ≡ (slice_index_or takes k d).buffer = λ d. ta.0 ∙ at e ∙ sym (at d) in
@@ -133,7 +135,7 @@ end_took puts takes lists k b o after apart room at t calls s =
     let F : Side → Type 0 = λ x. x.window.answers ≡ takes_of x.buffer (calls ++ call ∷ []) in
     let mine : F e = ta.1 ∙ ap (λ l. l ++ o ∷ []) (s.1 k e room) ∙ (λ i. takes_of (at e i) calls ++ o ∷ []) ∙ sym (takes_here b calls o) ∙ (λ i. takes_of (sym (ta.0 ∙ at e) i) (calls ++ call ∷ [])) in
     let others : (j : ℕ) (d : Side) → j ≢ k → j < length takes → F (slice_index_or takes j d) =
-    λ j d n h. s.1 j d h ∙ sym (takes_else (slice_index_or takes j d).buffer b calls o (λ q. n (apart j k d h room (q ∙ sym (at d))))) in
+    λ j d n h. s.1 j d h ∙ sym (takes_else (slice_index_or takes j d).buffer b calls o (λ q. n (one_place takes falling j k d h room (q ∙ sym (at d))))) in
     let P : List Side → Type 0 = λ l. TakesStand l (calls ++ call ∷ []) × ListsStand (λ x. Has puts x ⊎ Has l x) lists (calls ++ call ∷ []) in
     let take_there : TakesStand (set takes k e) (calls ++ call ∷ []) = λ j d h. each_set F takes k e room mine others j d h in
     let wide : ListsStand (λ x. Has puts x ⊎ Has (set takes k e) x) lists calls =

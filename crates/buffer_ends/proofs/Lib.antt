@@ -1,3 +1,4 @@
+pub mod Places
 pub mod Steps
 pub mod EndSteps
 pub mod Windows

@@ -4,7 +4,7 @@ ghost use Rattle.buffer_queue.specs.Window.{Puts, Takes, Closes, is_chunk};
 ghost use Rattle.buffer_ends.specs.Local.{LocalBuffer, all_answers, counts_of, yes};
 ghost use Rattle.buffer_ends.specs.Ends.{PutsCounted, TakesCounted};
 ghost use Rattle.buffer_ends.specs.Borders.{ClosesSides};
-ghost use Rattle.buffer_ends.specs.Sides.{Side, PutsSide, TakesSide, Apart, SameSide, SameSides};
+ghost use Rattle.buffer_ends.specs.Sides.{Side, PutsSide, TakesSide, Falling, SameSide, SameSides};
 
 use crate::counts::Counts;
 use crate::logs::WindowLog;
@@ -163,7 +163,7 @@ impl<'a> TakeEnd<'a> {
 
 // The counts of a buffer with those of the puts of its end, if one is there.
 pub(crate) fn with_puts(ends: &Vec<PutEnd<'_>>, buffer: u32, counts: Counts) -> Counts
-    requires { Apart ends.now.items }
+    requires { Falling ends.now.items }
     ensures puts { (list : LocalBuffer) → counts ≡ counts_of (all_answers list) → PutsCounted ends.now.items list buffer result }
     ensures takes { (result.got ≡ counts.got) × (result.empty ≡ counts.empty) }
 {
@@ -182,7 +182,7 @@ pub(crate) fn with_puts(ends: &Vec<PutEnd<'_>>, buffer: u32, counts: Counts) -> 
 
 // The counts of a buffer with those of the takes of its end, if one is there.
 pub(crate) fn with_takes(ends: &Vec<TakeEnd<'_>>, buffer: u32, counts: Counts) -> Counts
-    requires { Apart ends.now.items }
+    requires { Falling ends.now.items }
     ensures takes { (list : LocalBuffer) → (counts.got ≡ count_by yes (all_answers list).takes) → (counts.empty ≡ count_by not (all_answers list).takes) → TakesCounted ends.now.items list buffer result }
     ensures puts { (result.accepted ≡ counts.accepted) × (result.full ≡ counts.full) }
 {
@@ -199,30 +199,32 @@ pub(crate) fn with_takes(ends: &Vec<TakeEnd<'_>>, buffer: u32, counts: Counts) -
     }
 }
 
-// Where the end of a buffer stands, if one is there.
+// Where the end of a buffer stands, if one is there. It halves the ends at each step.
 pub(crate) fn put_place(ends: &Vec<PutEnd<'_>>, buffer: u32) -> Option<usize>
+    requires { Falling ends.now.items }
     ensures some { IfSome result (λ k. (k < length ends.now.items) × ((d : Side) → (slice_index_or ends.now.items k d).buffer ≡ buffer)) }
     ensures none { IfNone result ((k : ℕ) (d : Side) → k < length ends.now.items → (slice_index_or ends.now.items k d).buffer ≢ buffer) }
 {
-    for i in 0..ends.len() {
-        if ends[i].buffer() == buffer {
-            return Some(i);
-        }
+    let place = ends.partition_point(|end| end.buffer() > buffer);
+    if place < ends.len() && ends[place].buffer() == buffer {
+        Some(place)
+    } else {
+        None
     }
-    None
 }
 
-// Where the end of a buffer stands, if one is there.
+// Where the end of a buffer stands, if one is there. It halves the ends at each step.
 pub(crate) fn take_place(ends: &Vec<TakeEnd<'_>>, buffer: u32) -> Option<usize>
+    requires { Falling ends.now.items }
     ensures some { IfSome result (λ k. (k < length ends.now.items) × ((d : Side) → (slice_index_or ends.now.items k d).buffer ≡ buffer)) }
     ensures none { IfNone result ((k : ℕ) (d : Side) → k < length ends.now.items → (slice_index_or ends.now.items k d).buffer ≢ buffer) }
 {
-    for i in 0..ends.len() {
-        if ends[i].buffer() == buffer {
-            return Some(i);
-        }
+    let place = ends.partition_point(|end| end.buffer() > buffer);
+    if place < ends.len() && ends[place].buffer() == buffer {
+        Some(place)
+    } else {
+        None
     }
-    None
 }
 
 // Gives a chunk to the end at this place.
@@ -236,7 +238,7 @@ pub(crate) fn give_at<R: Wait>(
     ensures ok { IfOk result (λ gave. (s : Side) × (ends.new.items ≡ slice_set ends.old.items place s) × ((d : Side) → PutsSide (slice_index_or ends.old.items place d) chunk s gave)) }
     ensures memory { IfErr result (λ e. (e.0 ≡ chunk) × (ends.new.items ≡ ends.old.items)) }
     ensures same { SameSides ends.old.items ends.new.items }
-    ensures apart { Apart ends.old.items → Apart ends.new.items }
+    ensures falling { Falling ends.old.items → Falling ends.new.items }
 {
     ends[place].give(rt, chunk)
 }
@@ -251,7 +253,7 @@ pub(crate) fn take_at<R: Wait>(
     ensures ok { IfOk result (λ answer. (s : Side) × (ends.new.items ≡ slice_set ends.old.items place s) × ((d : Side) → TakesSide (slice_index_or ends.old.items place d) answer s)) }
     ensures memory { OnErr result (ends.new.items ≡ ends.old.items) }
     ensures same { SameSides ends.old.items ends.new.items }
-    ensures apart { Apart ends.old.items → Apart ends.new.items }
+    ensures falling { Falling ends.old.items → Falling ends.new.items }
 {
     ends[place].take(rt)
 }

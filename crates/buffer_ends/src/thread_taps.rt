@@ -1,10 +1,10 @@
 // The buffers of one clock beside other clocks.
-ghost use Rattle.std.specs.Prelude.{◌≡◌, ◌≢◌, ◌++◌, ◌∷◌, [], ◌<◌, ◌⊎◌, ℕ, List, length, map, slice_index_or, OnOk, OnErr};
+ghost use Rattle.std.specs.Prelude.{◌≡◌, ◌++◌, ◌∷◌, [], ◌<◌, ◌⊎◌, ℕ, List, length, map, slice_index_or, OnOk, OnErr};
 ghost use Rattle.buffer_ends.specs.Borders.{HaveEnds, WasClosed};
 ghost use Rattle.frame_core.specs.Calls.{Call};
 ghost use Rattle.buffer_ends.specs.Local.{LocalBuffer, closed};
 ghost use Rattle.buffer_ends.specs.Ends.{AreNew, EndsStand, Has, ListsStand, LocalStands, PutsCounted, TakesCounted};
-ghost use Rattle.buffer_ends.specs.Sides.{Apart};
+ghost use Rattle.buffer_ends.specs.Sides.{Falling};
 
 use crate::counts::Counts;
 use crate::ends::{
@@ -25,19 +25,19 @@ pub struct ThreadTaps<'a, R> {
     local: LocalTaps,
     puts: Vec<PutEnd<'a>>,
     takes: Vec<TakeEnd<'a>>,
-    ghost apart: { Apart puts.items × Apart takes.items },
+    ghost falling: { Falling puts.items × Falling takes.items },
 }
 
 impl<'a, R> ThreadTaps<'a, R> {
-    /// The ends of one clock: each buffer stands at most once in a list.
+    /// The ends of one clock: each list goes from the last buffer to the first, and has each at most once.
     pub fn new(
         rt: &'a R,
         local: LocalTaps,
         puts: Vec<PutEnd<'a>>,
         takes: Vec<TakeEnd<'a>>,
     ) -> ThreadTaps<'a, R>
-        requires puts { Apart puts.items }
-        requires takes { Apart takes.items }
+        requires puts { Falling puts.items }
+        requires takes { Falling takes.items }
         ensures parts { (result.local ≡ local) × (result.puts ≡ puts.entry) × (result.takes ≡ takes.entry) }
         ensures stands { AreNew puts.entry.items local → AreNew takes.entry.items local → (calls : List Call) → LocalStands local calls
             → EndsStand result.puts.items result.takes.items result.local calls }
@@ -50,10 +50,10 @@ impl<'a, R> ThreadTaps<'a, R> {
         }
     }
 
-    /// Adds the end of a buffer to which the clock gives, and of which it has no such end. Where memory is refused the end
-    /// is lost.
+    /// Adds the end of a buffer to which the clock gives, behind those of later buffers. Where memory is refused the end is
+    /// lost.
     pub fn add_put(&mut self, end: PutEnd<'a>) -> Result<(), Memory>
-        requires { (k : ℕ) (d : _) → k < length self.old.puts.items → (slice_index_or self.old.puts.items k d).buffer ≢ end.buffer }
+        requires { (k : ℕ) (d : _) → k < length self.old.puts.items → end.buffer < (slice_index_or self.old.puts.items k d).buffer }
         ensures added { OnOk result (self.new.puts.items ≡ self.old.puts.items ++ end.entry ∷ []) }
         ensures others { (self.new.takes ≡ self.old.takes) × (self.new.local ≡ self.old.local) }
     {
@@ -61,10 +61,10 @@ impl<'a, R> ThreadTaps<'a, R> {
         Ok(())
     }
 
-    /// Adds the end of a buffer from which the clock takes, and of which it has no such end. Where memory is refused the end
-    /// is lost.
+    /// Adds the end of a buffer from which the clock takes, behind those of later buffers. Where memory is refused the end is
+    /// lost.
     pub fn add_take(&mut self, end: TakeEnd<'a>) -> Result<(), Memory>
-        requires { (k : ℕ) (d : _) → k < length self.old.takes.items → (slice_index_or self.old.takes.items k d).buffer ≢ end.buffer }
+        requires { (k : ℕ) (d : _) → k < length self.old.takes.items → end.buffer < (slice_index_or self.old.takes.items k d).buffer }
         ensures added { OnOk result (self.new.takes.items ≡ self.old.takes.items ++ end.entry ∷ []) }
         ensures others { (self.new.puts ≡ self.old.puts) × (self.new.local ≡ self.old.local) }
     {
@@ -94,10 +94,10 @@ impl<'a, R> ThreadTaps<'a, R> {
         buffer: u32,
     ) -> WindowLog
         requires ends { HaveEnds self.old.puts.items takes.old.items buffer }
-        requires apart { Apart takes.old.items }
+        requires falling { Falling takes.old.items }
         ensures closed { WasClosed buffer self.old.puts.items self.new.puts.items takes.old.items takes.new.items result }
         ensures mine { (self.new.takes ≡ self.old.takes) × (self.new.local ≡ self.old.local) }
-        ensures apart { Apart takes.new.items }
+        ensures falling { Falling takes.new.items }
     {
         let Some(place) = put_place(&self.puts, buffer) else {
             unreachable!();
@@ -111,7 +111,7 @@ impl<'a, R> ThreadTaps<'a, R> {
     /// Takes the ends out that take, so that their windows can be closed.
     pub fn lend_takes(&mut self, alloc: Global) -> Vec<TakeEnd<'a>>
         ensures lent { result.items ≡ self.old.takes.items }
-        ensures apart { Apart result.items }
+        ensures falling { Falling result.items }
         ensures others { (self.new.puts ≡ self.old.puts) × (self.new.local ≡ self.old.local) }
     {
         mem::replace(&mut self.takes, Vec::new(alloc))
@@ -119,7 +119,7 @@ impl<'a, R> ThreadTaps<'a, R> {
 
     /// Puts them back.
     pub fn put_back(&mut self, takes: Vec<TakeEnd<'a>>)
-        requires { Apart takes.items }
+        requires { Falling takes.items }
         ensures back { self.new.takes ≡ takes.entry }
         ensures others { (self.new.puts ≡ self.old.puts) × (self.new.local ≡ self.old.local) }
     {

@@ -138,19 +138,10 @@ module _ {S R : Type 0} where
 
   module _ (wires : List Wire) (many b : ℕ) (old now : List (Task S (ThreadTaps R))) (is : many ≡ b + 1) (low_b : b < length wires) (apart : (wire_at wires b).from ≢ (wire_at wires b).to)
       (from_in : (wire_at wires b).from < length now) (to_in : (wire_at wires b).to < length now) (j : AreJoined wires many old now) where
-    pub put_free : (d : Task S (ThreadTaps R)) (p : ℕ) (e : Side) → p < length (put_ends (slice_index_or now (wire_at wires b).from d)) → (slice_index_or (put_ends (slice_index_or now (wire_at wires b).from d)) p e).buffer ≢ b
-    put_free d p e low same = let f = (j.puts (wire_at wires b).from p d e (let m = j.many in omega (arith, from_in, m)) low).0 in omega (arith, f, is, same)
-
     module _ (x y : Task S (ThreadTaps R)) (queue : TableId) (capacity : capacity_of queue ≡ (wire_at wires b).capacity)
         (put : (d : Task S (ThreadTaps R)) → PutAdded (slice_index_or now (wire_at wires b).from d) x (side b (opened queue []))) where
       one : List (Task S (ThreadTaps R))
       one = set now (wire_at wires b).from x
-
-      take_free_one : (d : Task S (ThreadTaps R)) (p : ℕ) (e : Side) → p < length (take_ends (slice_index_or (set now (wire_at wires b).from x) (wire_at wires b).to d)) → (slice_index_or (take_ends (slice_index_or (set now (wire_at wires b).from x) (wire_at wires b).to d)) p e).buffer ≢ b
-      take_free_one d p e low same =
-          let here = get_or-set_other now (wire_at wires b).from (wire_at wires b).to x d (λ h. apart (sym h)) in
-          let f = (j.takes (wire_at wires b).to p d e (let m = j.many in omega (arith, to_in, m)) (subst (λ t. p < length (take_ends t)) here low)).0 in
-          omega (arith, f, is, subst (λ (t : Task S (ThreadTaps R)). (slice_index_or (take_ends t) p e).buffer ≡ b) here same)
 
       module _ (take : (d : Task S (ThreadTaps R)) → TakeAdded (slice_index_or (set now (wire_at wires b).from x) (wire_at wires b).to d) y (side b (opened queue []))) where
         abbrev two : List (Task S (ThreadTaps R))
@@ -254,9 +245,16 @@ module _ {S R : Type 0} where
       (joined_more wires many b old now is low apart f t j added.giver added.taker queue capacity added.put_added
       (λ d. subst (λ (x : Task S (ThreadTaps R)). TakeAdded x added.taker (side b (opened queue []))) (sym (get_or-set_other now (wire_at wires b).from (wire_at wires b).to added.giver d (λ h. apart (sym h)))) (added.take_added d)))
 
-  pub take_free : (wires : List Wire) (many b : ℕ) (old now : List (Task S (ThreadTaps R))) → many ≡ b + 1 → (wire_at wires b).to < length now → AreJoined wires many old now
-      → (d : Task S (ThreadTaps R)) (p : ℕ) (e : Side) → p < length (take_ends (slice_index_or now (wire_at wires b).to d)) → (slice_index_or (take_ends (slice_index_or now (wire_at wires b).to d)) p e).buffer ≢ b
-  take_free wires many b old now is to_in j d p e low same = let f = (j.takes (wire_at wires b).to p d e (let m = j.many in omega (arith, to_in, m)) low).0 in omega (arith, f, is, same)
+  -- the ends that a clock has are of later buffers
+  pub puts_later : (wires : List Wire) (many b : ℕ) (old now : List (Task S (ThreadTaps R))) → many ≡ b + 1 → AreJoined wires many old now → (end : Side) (window : Window) → end ≡ side b window
+      → (k p : ℕ) (d : Task S (ThreadTaps R)) (e : Side) → k < length now → p < length (put_ends (slice_index_or now k d)) → end.buffer < (slice_index_or (put_ends (slice_index_or now k d)) p e).buffer
+  puts_later wires many b old now is j end window end_is k p d e low in_ends =
+      let m = j.many in let f = (j.puts k p d e (omega (arith, low, m)) in_ends).0 in omega (arith, f, is, ap (λ (s : Side). s.buffer) end_is)
+
+  pub takes_later : (wires : List Wire) (many b : ℕ) (old now : List (Task S (ThreadTaps R))) → many ≡ b + 1 → AreJoined wires many old now → (end : Side) (window : Window) → end ≡ side b window
+      → (k p : ℕ) (d : Task S (ThreadTaps R)) (e : Side) → k < length now → p < length (take_ends (slice_index_or now k d)) → end.buffer < (slice_index_or (take_ends (slice_index_or now k d)) p e).buffer
+  takes_later wires many b old now is j end window end_is k p d e low in_ends =
+      let m = j.many in let f = (j.takes k p d e (omega (arith, low, m)) in_ends).0 in omega (arith, f, is, ap (λ (s : Side). s.buffer) end_is)
 
   pub engines_set : (now : List (Task S (ThreadTaps R))) (k : ℕ) (x : Task S (ThreadTaps R)) → k < length now → ((d : Task S (ThreadTaps R)) → x.engine ≡ (slice_index_or now k d).engine) → SameEngines now (set now k x)
   engines_set now k x within same = record {

@@ -15,7 +15,7 @@ fn add_put<'q, O, R>(
     task: &mut Task<'_, O, ThreadTaps<'q, R>>,
     end: PutEnd<'q>,
 ) -> Result<(), Memory>
-    requires { (k : ℕ) (d : _) → k < length task.old.taps.puts.items → (slice_index_or task.old.taps.puts.items k d).buffer ≢ end.buffer }
+    requires { (k : ℕ) (d : _) → k < length task.old.taps.puts.items → end.buffer < (slice_index_or task.old.taps.puts.items k d).buffer }
     ensures added { OnOk result (PutAdded task.old task.new end.entry) }
     ensures engine { task.new.engine ≡ task.old.engine }
 {
@@ -26,7 +26,7 @@ fn add_take<'q, O, R>(
     task: &mut Task<'_, O, ThreadTaps<'q, R>>,
     end: TakeEnd<'q>,
 ) -> Result<(), Memory>
-    requires { (k : ℕ) (d : _) → k < length task.old.taps.takes.items → (slice_index_or task.old.taps.takes.items k d).buffer ≢ end.buffer }
+    requires { (k : ℕ) (d : _) → k < length task.old.taps.takes.items → end.buffer < (slice_index_or task.old.taps.takes.items k d).buffer }
     ensures added { OnOk result (TakeAdded task.old task.new end.entry) }
     ensures engine { task.new.engine ≡ task.old.engine }
 {
@@ -42,8 +42,8 @@ fn join_one<'q, O, R>(
     take: TakeEnd<'q>,
 ) -> Result<(), Memory>
     requires places { (from < length tasks.old) × (to < length tasks.old) × (from ≢ to) }
-    requires put_free { (d : _) (k : ℕ) (e : _) → k < length (slice_index_or tasks.old from d).taps.puts.items → (slice_index_or (slice_index_or tasks.old from d).taps.puts.items k e).buffer ≢ put.buffer }
-    requires take_free { (d : _) (k : ℕ) (e : _) → k < length (slice_index_or tasks.old to d).taps.takes.items → (slice_index_or (slice_index_or tasks.old to d).taps.takes.items k e).buffer ≢ take.buffer }
+    requires put_last { (d : _) (k : ℕ) (e : _) → k < length (slice_index_or tasks.old from d).taps.puts.items → put.buffer < (slice_index_or (slice_index_or tasks.old from d).taps.puts.items k e).buffer }
+    requires take_last { (d : _) (k : ℕ) (e : _) → k < length (slice_index_or tasks.old to d).taps.takes.items → take.buffer < (slice_index_or (slice_index_or tasks.old to d).taps.takes.items k e).buffer }
     ensures added { OnOk result (BothAdded from to put.entry take.entry tasks.old tasks.new) }
     ensures engines { SameEngines tasks.old tasks.new }
 {

@@ -90,9 +90,9 @@ module _ {S R : Type 0} where
     pub closed_here : (wire : Wire) (put take : Window) → wire.from ≡ from → wire.to ≡ to → JoinRan wire b put take old → JoinTurned wire b put take new
     closed_here wire put take f t ran =
         let w = c.tasks.closed in
-        let p : put ≡ w.put = one_window (puts_of c.giver) b w.puts_turned.place put w.put c.giver.taps.apart.0
+        let p : put ≡ w.put = one_window (puts_of c.giver) b w.puts_turned.place put w.put c.giver.taps.falling.0
         (subst (λ x. HasEnd (puts_of x) b put) (ap (λ n. slice_index_or old n c.giver) f ∙ c.gives c.giver) (ran.put_end c.giver)) w.puts_turned.at in
-        let q : take ≡ w.take = one_window (takes_of c.taker) b w.takes_turned.place take w.take c.taker.taps.apart.1
+        let q : take ≡ w.take = one_window (takes_of c.taker) b w.takes_turned.place take w.take c.taker.taps.falling.1
         (subst (λ x. HasEnd (takes_of x) b take) (ap (λ n. slice_index_or old n c.taker) t ∙ c.takes c.taker) (ran.take_end c.taker)) w.takes_turned.at in
         record {
           rest = w.closes.rest;
@@ -112,9 +112,9 @@ module _ {S R : Type 0} where
     pub log_is : (wire : Wire) (put take : Window) → wire.from ≡ from → wire.to ≡ to → JoinRan wire b put take old → log ≡ told (put.answers, take.answers)
     log_is wire put take f t ran =
         let w = c.tasks.closed in
-        let p : put ≡ w.put = one_window (puts_of c.giver) b w.puts_turned.place put w.put c.giver.taps.apart.0
+        let p : put ≡ w.put = one_window (puts_of c.giver) b w.puts_turned.place put w.put c.giver.taps.falling.0
         (subst (λ x. HasEnd (puts_of x) b put) (ap (λ n. slice_index_or old n c.giver) f ∙ c.gives c.giver) (ran.put_end c.giver)) w.puts_turned.at in
-        let q : take ≡ w.take = one_window (takes_of c.taker) b w.takes_turned.place take w.take c.taker.taps.apart.1
+        let q : take ≡ w.take = one_window (takes_of c.taker) b w.takes_turned.place take w.take c.taker.taps.falling.1
         (subst (λ x. HasEnd (takes_of x) b take) (ap (λ n. slice_index_or old n c.taker) t ∙ c.takes c.taker) (ran.take_end c.taker)) w.takes_turned.at in
         let a : log.puts ≡ map is_chunk put.answers = w.log_puts ∙ ap (λ (v : Window). map is_chunk v.answers) (sym p) in
         let e : log.takes ≡ map is_chunk take.answers = w.log_takes ∙ ap (λ (v : Window). map is_chunk v.answers) (sym q) in

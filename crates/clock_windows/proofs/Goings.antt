@@ -282,13 +282,13 @@ module _ {S R : Type 0} (held name : S → Option (List ℕ)) (room : S → Opti
                     let w = wired.puts p f low in let b = (slice_index_or (put_ends u) p f).buffer in let g' = join_on b w.0 (λ eq. w.2 (sym eq ∙ w.1)) in
                     let q : HasEnd (put_ends u) b (opened g'.opens.queue g'.chunks) = subst (λ n. HasEnd (put_ends (slice_index_or last n d)) b (opened g'.opens.queue g'.chunks)) w.1 (g'.opens.put d) in
                     let one : opened g'.opens.queue g'.chunks ≡ (slice_index_or (put_ends u) p f).window =
-                    one_window (put_ends u) b p (opened g'.opens.queue g'.chunks) (slice_index_or (put_ends u) p f).window u.taps.apart.0 q (record { within = low; is = λ f'. get_or_default (put_ends u) p f' f low }) in
+                    one_window (put_ends u) b p (opened g'.opens.queue g'.chunks) (slice_index_or (put_ends u) p f).window u.taps.falling.0 q (record { within = low; is = λ f'. get_or_default (put_ends u) p f' f low }) in
                     ap (λ (v : QueueWindow). v.answers) (sym one) ∙ sym (puts_kept wires k b calls (ends_from (wire_at wires b) k w.1 w.2))),
                 (λ p f low.
                     let w = wired.takes p f low in let b = (slice_index_or (take_ends u) p f).buffer in let g' = join_on b w.0 (λ eq. w.2 (eq ∙ w.1)) in
                     let q : HasEnd (take_ends u) b (opened g'.opens.queue g'.chunks) = subst (λ n. HasEnd (take_ends (slice_index_or last n d)) b (opened g'.opens.queue g'.chunks)) w.1 (g'.opens.take d) in
                     let one : opened g'.opens.queue g'.chunks ≡ (slice_index_or (take_ends u) p f).window =
-                    one_window (take_ends u) b p (opened g'.opens.queue g'.chunks) (slice_index_or (take_ends u) p f).window u.taps.apart.1 q (record { within = low; is = λ f'. get_or_default (take_ends u) p f' f low }) in
+                    one_window (take_ends u) b p (opened g'.opens.queue g'.chunks) (slice_index_or (take_ends u) p f).window u.taps.falling.1 q (record { within = low; is = λ f'. get_or_default (take_ends u) p f' f low }) in
                     ap (λ (v : QueueWindow). v.answers) (sym one) ∙ sym (takes_kept wires k b calls (ends_to (wire_at wires b) k w.1 w.2))),
                 lists_on k h,
               );

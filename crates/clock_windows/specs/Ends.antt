@@ -5,7 +5,7 @@ use Rattle.frame_core.specs.Legal.{Legal}
 use Rattle.atomic_table.specs.Seated.{TableId}
 use Rattle.buffer_queue.specs.Window.{Window, opened, capacity_of}
 use Rattle.buffer_ends.specs.Local.{Answers}
-use Rattle.buffer_ends.specs.Sides.{Side, Apart}
+use Rattle.buffer_ends.specs.Sides.{Side, Falling}
 use Rattle.buffer_ends.specs.Borders.{HasEnd, WasClosed}
 use Rattle.buffer_ends.specs.declared.thread_taps.ThreadTaps.{ThreadTaps}
 use Rattle.buffer_sides.specs.Logs.{told}
@@ -35,7 +35,7 @@ pub record TasksClosed {S R : Type 0} (buffer : ℕ) (giver taker next_giver nex
 -- the ends that take were taken out
 pub record WasLent {S R : Type 0} (old new : Task S (ThreadTaps R)) (takes : List Side) : Type 0 where
   pub lent : takes ≡ takes_of old
-  pub apart : Apart takes
+  pub falling : Falling takes
   pub puts : puts_of new ≡ puts_of old
   pub same : SameButEnds old new
 
@@ -50,7 +50,7 @@ pub record GiverClosed {S R : Type 0} (buffer : ℕ) (old new : Task S (ThreadTa
   pub takes_kept : takes_of new ≡ takes_of old
   pub same : SameButEnds old new
   pub closed : WasClosed buffer (puts_of old) (puts_of new) takes after log
-  pub apart : Apart after
+  pub falling : Falling after
 
 -- the window of a buffer between two clocks of a list was closed
 pub record JoinClosed {S R : Type 0} (from to buffer : ℕ) (old new : List (Task S (ThreadTaps R))) (log : Answers) : Type 0 where

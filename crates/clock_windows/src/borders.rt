@@ -1,7 +1,7 @@
 // Between two windows.
 ghost use Rattle.std.specs.Prelude.{◌≡◌, ◌≢◌, ◌<◌, ◌++◌, ◌∷◌, [], length, slice_index_or, OnOk};
 ghost use Rattle.buffer_ends.specs.Borders.{HaveEnds};
-ghost use Rattle.buffer_ends.specs.Sides.{Apart};
+ghost use Rattle.buffer_ends.specs.Sides.{Falling};
 ghost use Rattle.clock_windows.specs.Ends.{AllClosed, GiverClosed, JoinClosed, MayClose, WasLent, WasPutBack};
 ghost use Rattle.clock_windows.specs.Records.{SameEngines};
 
@@ -20,7 +20,7 @@ fn lent<'a, O, R>(alloc: Global, task: &mut Task<'_, O, ThreadTaps<'a, R>>) -> V
 
 // Puts them back.
 fn put_back<'a, O, R>(task: &mut Task<'_, O, ThreadTaps<'a, R>>, takes: Vec<TakeEnd<'a>>)
-    requires { Apart takes.items }
+    requires { Falling takes.items }
     ensures { WasPutBack task.old task.new takes.entry.items }
 {
     task.taps.put_back(takes);
@@ -34,7 +34,7 @@ fn close_giver<O, R>(
     buffer: u32,
 ) -> WindowLog
     requires ends { HaveEnds task.old.taps.puts.items takes.old.items buffer }
-    requires apart { Apart takes.old.items }
+    requires falling { Falling takes.old.items }
     ensures { GiverClosed buffer task.old task.new takes.old.items takes.new.items result }
 {
     task.taps.close_with(alloc, takes, buffer)

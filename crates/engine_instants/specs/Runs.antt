@@ -1,7 +1,6 @@
 -- Instants that go on as the latest one of a clock did, made at once.
 use Rattle.std.specs.Prelude.{◌≡◌, ◌<◌, ◌≤◌, ◌*◌, ◌&&◌, ◌||◌, Bool, true, Some, List, ◌∷◌, ℕ, ℤ, suc, length, slice_get}
 use Rattle.plan_core.specs.declared.node.Node.{Node}
-use Rattle.plan_core.specs.declared.plan.Plan.{Plan}
 use Rattle.clock_infer.specs.declared.clock_map.NodeClock.{NodeClock}
 use Rattle.frame_core.specs.Slots.{Slot}
 use Rattle.frame_core.specs.Library.{Sounds}
@@ -16,12 +15,11 @@ use Rattle.node_states.specs.Passing.{LaneFeeds, given_part, passes}
 use Rattle.node_states.specs.Runs.{LiesAhead, fed_on}
 use Rattle.node_states.specs.States.{AreLong, StateStands, reads, reads_at}
 use Rattle.node_states.specs.Times.{TimeStands}
-use Rattle.engine_instants.specs.declared.latest.Latest.{Latest}
 use Rattle.engine_instants.specs.declared.runs.Runs.{Runs}
 use Rattle.engine_instants.specs.Held.{AreFedOn, AreSupplied, IsHeld, gave_at, goes_through}
 use Rattle.engine_instants.specs.Nodes.{lies_at}
 use Rattle.engine_instants.specs.Resting.{AreReadTo}
-use Rattle.engine_instants.specs.States.{AreRoots, ClockStands, over}
+use Rattle.engine_instants.specs.States.{ClockStands}
 
 -- room for the runs of so many nodes; between two runs no node has a part
 pub record HasRunRoom (nodes : ℕ) (runs : Runs) : Type 0 where
@@ -31,13 +29,6 @@ pub record HasRunRoom (nodes : ℕ) (runs : Runs) : Type 0 where
   pub in_rests : length runs.rests.items ≡ nodes
   pub in_parts : length runs.parts.items ≡ nodes
   pub clear : (j : ℕ) → part_at runs.parts.items j ≡ silent
-
--- the marks of the latest instant are the demands that its parts imply
-pub record IsMarked (plan : Plan) (library : Sounds) (clocks : List NodeClock) (own : List Bool) (clock : NodeClock) (latest : Latest) : Type 0 where
-  pub marks : (other : Setting) (sub : ℕ → ℕ → List Slot) (past : List Moment) →
-      let setting = over plan library clocks other in
-      AreRoots setting clock own → latest.parts.items ≡ (moment_after setting sub clock past).parts
-      → latest.marks.items ≡ (moment_after setting sub clock past).demands
 
 -- so many cells or items of each node of a clock that gave, of those below this one, are there and begin no track, but where cells pass
 pub record AllLieAhead (library : Sounds) (clocks : List NodeClock) (clock : NodeClock) (held : List Part) (states : List NodeState)

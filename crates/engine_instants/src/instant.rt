@@ -6,7 +6,6 @@ ghost use Rattle.stream_meaning.specs.Instants.{Setting, Moment, moment_after, p
 ghost use Rattle.node_states.specs.States.{AreLong};
 ghost use Rattle.engine_instants.specs.Held.{IsHeld};
 ghost use Rattle.engine_instants.specs.Nodes.{AreNodesOf, IsLatest, lies_at};
-ghost use Rattle.engine_instants.specs.Runs.{IsMarked};
 ghost use Rattle.engine_instants.specs.States.{AllFit, AreRoots, AreSettled, ClockStands, HasRoomFor, over};
 
 use crate::advance::advance_all;
@@ -48,7 +47,6 @@ pub fn finish_instant(
     ensures latest { IsLatest shape.now.clocks.now latest.new }
     ensures fit { AllFit shape.now.plan.now shape.now.library.now states.new }
     ensures others { (i : ℕ) → lies_at shape.now.clocks.now clock i ≡ false → slice_get states.new i ≡ slice_get states.old i }
-    ensures marked { IsMarked shape.now.plan.now shape.now.library.now shape.now.clocks.now own.now clock latest.new }
     ensures parts { (setting : Setting) (sub : ℕ → ℕ → List TheSlot) (past : List Moment) (fed : ℕ → ℕ) →
         let setting = over shape.now.plan.now shape.now.library.now shape.now.clocks.now setting in
         at.second ≡ second_at setting (length past) → AreLong sub → ClockStands setting sub clock past fed states.old
@@ -113,10 +111,6 @@ fn finish_over(
     ensures unmarked { (j : ℕ) → lies_at shape.now.clocks.now clock j ≡ false → slice_index_or marks.new j false ≡ false }
     ensures fit { AllFit shape.now.plan.now shape.now.library.now states.new }
     ensures others { (i : ℕ) → lies_at shape.now.clocks.now clock i ≡ false → slice_get states.new i ≡ slice_get states.old i }
-    ensures marks { (setting : Setting) (sub : ℕ → ℕ → List TheSlot) (past : List Moment) →
-        let setting = over shape.now.plan.now shape.now.library.now shape.now.clocks.now setting in
-        AreRoots setting clock own.now → parts.new ≡ (moment_after setting sub clock past).parts
-        → marks.new ≡ (moment_after setting sub clock past).demands }
     ensures parts { (setting : Setting) (sub : ℕ → ℕ → List TheSlot) (past : List Moment) (fed : ℕ → ℕ) →
         let setting = over shape.now.plan.now shape.now.library.now shape.now.clocks.now setting in
         at.second ≡ second_at setting (length past) → AreLong sub → ClockStands setting sub clock past fed states.old

@@ -1,4 +1,4 @@
-use Rattle.std.proofs.Common.{◌≡◌, ◌∙◌, false, length, get_or, arith, ap, sym}
+use Rattle.std.proofs.Common.{◌≡◌, ◌∙◌, false, length, get_or, arith, ap}
 use Rattle.std.proofs.lemmas.List.{with_items_is}
 use Rattle.stream_meaning.specs.Instants.{part_at}
 use Rattle.engine_instants.proofs.instant.finish_instant.Goals as goal
@@ -18,13 +18,3 @@ pub returns-clause-parts : goal.returns-clause-parts
 returns-clause-parts c setting sub past fed at long stands settled roots =
     let parts : length c.finish_over.new.parts ≡ c.args.latest.now.parts.len = omega (arith, c.deref_mut.ensures.len) in
     with_items_is c.args.latest.now.parts c.finish_over.new.parts parts ∙ c.finish_over.ensures.parts setting sub past fed at long stands settled roots
-
-pub returns-clause-marked : goal.returns-clause-marked
-returns-clause-marked c =
-    let parts : length c.finish_over.new.parts ≡ c.args.latest.now.parts.len = omega (arith, c.deref_mut.ensures.len) in
-    let marks : length c.finish_over.new.marks ≡ c.args.latest.now.marks.len = omega (arith, c.deref_mut-2.ensures.len) in
-    record {
-      marks = λ other sub past roots are.
-          with_items_is c.args.latest.now.marks c.finish_over.new.marks marks
-          ∙ c.finish_over.ensures.marks other sub past roots (sym (with_items_is c.args.latest.now.parts c.finish_over.new.parts parts) ∙ are);
-    }

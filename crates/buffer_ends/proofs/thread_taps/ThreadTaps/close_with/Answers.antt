@@ -1,6 +1,5 @@
 use Rattle.buffer_ends.proofs.Bordering.{end_missing, closed_at}
-use Rattle.buffer_ends.proofs.EndSteps.{apart_set}
-use Rattle.std.proofs.Common.{◌∙◌, sym}
+use Rattle.buffer_ends.proofs.EndSteps.{falling_set}
 use Rattle.buffer_ends.proofs.thread_taps.ThreadTaps.close_with.Goals as goal
 
 pub unreachable-requires : goal.unreachable-requires
@@ -12,7 +11,7 @@ unreachable-requires-in_default-take_place g c = end_missing c.args.takes.now.it
 pub invariant_of-self : goal.invariant_of-self
 invariant_of-self g c =
     let k = c.close_at.ensures.closed in
-    record { apart = (apart_set c.args.self.now.puts.items c.close_at.new.puts.items c.in-Some.place k.0 k.2 c.in-Some.ensures.some.0 (λ d. (k.4 d d).put_buffer) c.args.self.now.apart.0, c.args.self.now.apart.1) }
+    record { falling = (falling_set c.args.self.now.puts.items c.close_at.new.puts.items c.in-Some.place k.0 k.2 c.in-Some.ensures.some.0 (λ d. (k.4 d d).put_buffer) c.args.self.now.falling.0, c.args.self.now.falling.1) }
 
 pub returns-clause-closed : goal.returns-clause-closed
 returns-clause-closed g c =
@@ -20,7 +19,7 @@ returns-clause-closed g c =
     closed_at c.args.self.now.puts.items c.args.takes.now.items c.close_at.new.puts.items c.close_at.new.takes.items c.args.buffer c.in-Some.place c.in-Some-take_place.at k.0 k.1 c.close_at.result
     c.in-Some.ensures.some.0 c.in-Some-take_place.ensures.some.0 c.in-Some.ensures.some.1 c.in-Some-take_place.ensures.some.1 k.2 k.3 k.4
 
-pub returns-clause-apart : goal.returns-clause-apart
-returns-clause-apart g c =
+pub returns-clause-falling : goal.returns-clause-falling
+returns-clause-falling g c =
     let k = c.close_at.ensures.closed in
-    apart_set c.args.takes.now.items c.close_at.new.takes.items c.in-Some-take_place.at k.1 k.3 c.in-Some-take_place.ensures.some.0 (λ d. (k.4 d d).take_buffer) c.requires.apart
+    falling_set c.args.takes.now.items c.close_at.new.takes.items c.in-Some-take_place.at k.1 k.3 c.in-Some-take_place.ensures.some.0 (λ d. (k.4 d d).take_buffer) c.requires.falling

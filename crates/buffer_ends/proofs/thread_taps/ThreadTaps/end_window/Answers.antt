@@ -1,7 +1,5 @@
-use Rattle.std.proofs.Common.{◌⊎◌, ℕ, List, sym, subst, OnOk, Result, Ok, Err, map, ◌≡◌}
-use Rattle.frame_core.specs.Calls.{Call}
-use Rattle.buffer_ends.specs.Local.{LocalBuffer, closed}
-use Rattle.buffer_ends.specs.Ends.{Has, ListsStand}
+use Rattle.std.proofs.Common.{◌⊎◌}
+use Rattle.buffer_ends.specs.Ends.{Has}
 use Rattle.buffer_ends.proofs.Windows.{ended_stand}
 use Rattle.buffer_ends.proofs.thread_taps.ThreadTaps.end_window.Goals as goal
 

@@ -7,7 +7,7 @@ pub returns-in-Some-clause-call : goal.returns-in-Some-clause-call
 returns-in-Some-clause-call g c =
     let s = c.args.self.now in
     ok_map c.take_at.result
-    (λ r h. end_took s.puts.items s.takes.items s.local c.in-Some.place c.args.buffer r c.take_at.new.ends.items s.apart.1 c.in-Some.ensures.some.0 c.in-Some.ensures.some.1 h)
+    (λ r h. end_took s.puts.items s.takes.items s.local c.in-Some.place c.args.buffer r c.take_at.new.ends.items s.falling.1 c.in-Some.ensures.some.0 c.in-Some.ensures.some.1 h)
     c.take_at.ensures.ok
 
 pub returns-in-Some-clause-memory : goal.returns-in-Some-clause-memory
