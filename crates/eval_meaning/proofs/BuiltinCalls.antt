@@ -13,7 +13,7 @@ use Rattle.type_terms.specs.declared.ty.Base.TheVariants as base
 use Rattle.typing_rules.specs.declared.uses.Builtin.{Builtin}
 use Rattle.typing_rules.specs.declared.uses.Builtin.TheVariants as builtins
 use Rattle.typing_rules.specs.Arguments as arguments
-use Rattle.typing_rules.specs.Arguments.{taken, Fits}
+use Rattle.typing_rules.specs.Arguments.{arguments_taken, TakenAs}
 use Rattle.typing_rules.specs.Table.{IsCallOf, params_of, signature}
 use Rattle.script_values.specs.declared.machine.Machine.{Machine}
 use Rattle.script_values.specs.Machines.{some_millionths}
@@ -207,7 +207,7 @@ set_safe given m t whole =
 
 -- the arguments of a call by its row
 taking_of : (b : Builtin) (gs : List (arguments.Given Ground)) (ks : List Kind) (g : Ground) (call : IsCallOf b gs ks g) (ns : List Node) (given : List Given) → AreA ns given gs → Taking all ns (params_of b) (map (λ p. meaning call.at p.1) (signature b).params) given
-taking_of b gs ks g call ns given are = record { gs = gs; are = are; none = call.matched.0; fits = subst (λ (ts : List Ground). Fits (taken (params_of b) gs) ts) (sym call.params) call.matched.2 }
+taking_of b gs ks g call ns given are = record { gs = gs; are = are; none = call.matched.0; fits = subst (λ (ts : List Ground). TakenAs (arguments_taken (params_of b) gs) ts) (sym call.params) call.matched.2 }
 
 pub builtins_are_safe : BuiltinsAreSafe
 unfolding builtin

@@ -6,7 +6,7 @@ use Rattle.plan_core.specs.declared.node.Node.{Node}
 use Rattle.type_terms.specs.Ground.{Ground}
 use Rattle.typing_rules.specs.declared.form.Form.TheVariants.{InPlace, Perhaps}
 use Rattle.typing_rules.specs.Arguments as arguments
-use Rattle.typing_rules.specs.Arguments.{Parameter, argument, after, others, is_label, first_missing, missing_or, taken, Fits}
+use Rattle.typing_rules.specs.Arguments.{Parameter, argument, after, others, is_label, first_missing, missing_or, arguments_taken, TakenAs}
 use Rattle.script_values.specs.Slots.{Given}
 use Rattle.script_values.specs.Values.{Value}
 use Rattle.eval_meaning.specs.BuiltinSafety.{IsA, AreA}
@@ -128,7 +128,7 @@ pub record Taking (S : List Given → List Given) (ns : List Node) (ps : List Pa
   pub gs : List (arguments.Given Ground)
   pub are : AreA ns (S given) gs
   pub none : first_missing ps gs ≡ None
-  pub fits : Fits (taken ps gs) ts
+  pub fits : TakenAs (arguments_taken ps gs) ts
 
 abbrev pub in_place : List ℕ → Parameter
 in_place name = record { name = name; form = InPlace }
@@ -144,7 +144,7 @@ pub record Found (S : List Given → List Given) (ns : List Node) (ps : List Par
   pub others : Taking S ns ps ts taken.1
 
 found_by : (S : List Given → List Given) (ns : List Node) (name : List ℕ) (ps : List Parameter) (t : Ground) (ts : List Ground) (o : Taken) (gs : List (arguments.Given Ground)) (q : Typed) → Same ns (through S o) q
-    → missing_or (in_place name) q (first_missing ps (others gs q)) ≡ None → Fits (option_map (λ x. x.0) q ∷ taken ps (others gs q)) (t ∷ ts) → Found S ns ps t ts o
+    → missing_or (in_place name) q (first_missing ps (others gs q)) ≡ None → TakenAs (option_map (λ x. x.0) q ∷ arguments_taken ps (others gs q)) (t ∷ ts) → Found S ns ps t ts o
 found_by S ns name ps t ts o gs None same none fits = absurd cc
 found_by S ns name ps t ts None gs (Some y) same none fits = absurd same
 found_by S ns name ps t ts (Some x) gs (Some y) same none fits = record {
@@ -164,7 +164,7 @@ pub data Perhaps_found (S : List Given → List Given) (ns : List Node) (ps : Li
   there : Found S ns ps t ts o → Perhaps_found S ns ps t ts given o
 
 perhaps_by : (S : List Given → List Given) (ns : List Node) (name : List ℕ) (ps : List Parameter) (t : Ground) (ts : List Ground) (given : List Given) (o : Taken) (gs : List (arguments.Given Ground)) (q : Typed) → AreA ns (S given) gs → Same ns (through S o) q
-    → missing_or (perhaps name) q (first_missing ps (others gs q)) ≡ None → Fits (option_map (λ x. x.0) q ∷ taken ps (others gs q)) (t ∷ ts) → Perhaps_found S ns ps t ts given o
+    → missing_or (perhaps name) q (first_missing ps (others gs q)) ≡ None → TakenAs (option_map (λ x. x.0) q ∷ arguments_taken ps (others gs q)) (t ∷ ts) → Perhaps_found S ns ps t ts given o
 perhaps_by S ns name ps t ts given None gs None are same none fits = missing refl (record { gs = gs; are = are; none = none; fits = fits })
 perhaps_by S ns name ps t ts given (Some x) gs None are same none fits = absurd same
 perhaps_by S ns name ps t ts given None gs (Some y) are same none fits = absurd same

@@ -7,7 +7,7 @@ use Rattle.type_terms.specs.Ground.{Ground}
 use Rattle.typing_rules.specs.declared.form.Form.{Form}
 use Rattle.typing_rules.specs.declared.form.Form.TheVariants.{InPlace, ByLabel}
 use Rattle.typing_rules.specs.Arguments as arguments
-use Rattle.typing_rules.specs.Arguments.{Parameter, after as behind, argument, first_missing, is_label, is_needed, label_of, left_over, missing_or, others, parameter_of, parameters_of, taken as what_is_taken, Matched}
+use Rattle.typing_rules.specs.Arguments.{Parameter, after as behind, argument, first_missing, is_label, is_needed, label_of, left_over, missing_or, others, parameter_of, parameters_of, arguments_taken, Matched}
 use Rattle.typing_rules.specs.Scripts.{params_of}
 use Rattle.typing_rules.specs.Typing as typing
 use Rattle.typing_rules.specs.Typing.{Sight, Types, DefHas, DefaultHas, DefaultsHave, Has, InnersHave, token_of, type_at, typed_params}
@@ -109,11 +109,11 @@ none_later : (p : Parameter) (o : Option (Ground × List (arguments.Given Ground
 none_later p None later is = needed_later (is_needed p.form) p.name later is
 none_later p (Some y) later is = is
 
-fits_first : (o : Option (Ground × List (arguments.Given Ground))) (os : List (Option Ground)) (u : Ground) (us : List Ground) → arguments.Fits (option_map (λ x. x.0) o ∷ os) (u ∷ us) → Takes o u
+fits_first : (o : Option (Ground × List (arguments.Given Ground))) (os : List (Option Ground)) (u : Ground) (us : List Ground) → arguments.TakenAs (option_map (λ x. x.0) o ∷ os) (u ∷ us) → Takes o u
 fits_first None os u us fits = tt
 fits_first (Some y) os u us fits = fits.0
 
-fits_rest : (o : Option (Ground × List (arguments.Given Ground))) (os : List (Option Ground)) (u : Ground) (us : List Ground) → arguments.Fits (option_map (λ x. x.0) o ∷ os) (u ∷ us) → arguments.Fits os us
+fits_rest : (o : Option (Ground × List (arguments.Given Ground))) (os : List (Option Ground)) (u : Ground) (us : List Ground) → arguments.TakenAs (option_map (λ x. x.0) o ∷ os) (u ∷ us) → arguments.TakenAs os us
 fits_rest None os u us fits = fits
 fits_rest (Some y) os u us fits = fits.1
 
@@ -150,7 +150,7 @@ safe_parameter bs s t (Labelled at name) u given gs later m knows held missing t
 safe_parameter bs s t (Optional at name d) u given gs later m knows held missing takes has = default_safe at u given gs (argument (Some name) given) (argument (Some name) gs) (full s d m) m held takes (argument_found m.plan.nodes (Some name) given gs held) (safe_full bs s t d u has m knows)
 
 safe_parameters : BuiltinsAreSafe → (s : Scope) (t : Sight) (ps : Tree (Many AParam)) (us : List Ground) (given : List Given) (gs : List (arguments.Given Ground)) (ss : List Slot) (done : Types) (m : Machine) → Knows s t m.plan.nodes → AreA m.plan.nodes given gs
-    → first_missing (parameters_of ps) gs ≡ None → arguments.Fits (what_is_taken (parameters_of ps) gs) us → DefaultsHave t ps us → SlotsAre m.plan.nodes ss done
+    → first_missing (parameters_of ps) gs ≡ None → arguments.TakenAs (arguments_taken (parameters_of ps) gs) us → DefaultsHave t ps us → SlotsAre m.plan.nodes ss done
     → Safe m.plan.nodes (λ ks out. SlotsAre ks out (done ++ typed_params ps us)) (meaning.parameters s ps given ss m)
 unfolding meaning.parameters
 safe_parameters bs s t none us given gs ss done m knows held missing fits has slots = (stays m.plan.nodes, subst (λ (l : Types). SlotsAre m.plan.nodes ss l) (sym (append-nil done)) slots)
@@ -158,7 +158,7 @@ safe_parameters bs s t (more p ps) [] given gs ss done m knows held missing fits
 safe_parameters bs s t (more p ps) (u ∷ us) given gs ss done m knows held missing fits has slots =
     let o = argument (label_of (parameter_of p)) gs in
     let later = first_missing (parameters_of ps) (others gs o) in
-    let taken_later = what_is_taken (parameters_of ps) (others gs o) in
+    let taken_later = arguments_taken (parameters_of ps) (others gs o) in
     subst (λ (l : Types). Safe m.plan.nodes (λ ks out. SlotsAre ks out l) (meaning.parameters s (more p ps) given ss m)) (append_assoc done ((token_of p, u) ∷ []) (typed_params ps us))
     (after m.plan.nodes (Took (token_of p) u (others gs o)) (λ ks out. SlotsAre ks out ((done ++ (token_of p, u) ∷ []) ++ typed_params ps us)) (meaning.parameter s p given m) (λ x. meaning.parameters s ps x.0.1 (ss ++ x.0.0 ∷ []) x.1)
     (safe_parameter bs s t p u given gs later m knows held missing (fits_first o taken_later u us fits) has.0)

@@ -11,7 +11,7 @@ use Rattle.type_terms.specs.declared.ty.Base.TheVariants as base
 use Rattle.typing_rules.specs.Typing.{truth, literal_type}
 use Rattle.script_values.specs.declared.fault.Fault.{Fault}
 use Rattle.script_values.specs.declared.fault.Fault.TheVariants as faults
-use Rattle.script_values.specs.Numbers.{int_at, decimal_of, decimal_or, decimal_at, negative, added, plus_or_minus, multiplied, quotient, quotient_at, compared, either, both, opposite, truth_of}
+use Rattle.script_values.specs.Numbers.{int_at, of_millionths, or_bad_value, decimal_at, negative, added, plus_or_minus, multiplied, quotient, quotient_at, compared, either, both, opposite, truth_of}
 use Rattle.script_values.specs.Values as value
 use Rattle.script_values.specs.Values.{Value}
 use Rattle.eval_meaning.specs.BuiltinSafety.{IsA, NotStuck}
@@ -86,7 +86,7 @@ int_safe ns at n =
       | false ↦ tt
     ]
 
-decimal_safe : (ns : List Node) (at : ℕ) (o : Option Decimal) → NotStuck (λ (u : Value). IsA ns u decimal) (decimal_or at o)
+decimal_safe : (ns : List Node) (at : ℕ) (o : Option Decimal) → NotStuck (λ (u : Value). IsA ns u decimal) (or_bad_value at o)
 decimal_safe ns at (Some d) = refl
 decimal_safe ns at None = tt
 
@@ -97,7 +97,7 @@ quotient_safe P at made (Some n) later = later n
 pub negative_safe : (ns : List Node) (at : ℕ) (n : Literal) → NotStuck (λ (u : Value). IsA ns u (literal_type n)) (negative at n)
 unfolding negative
 negative_safe ns at (literal.Int n) = int_safe ns at (neg_ℤ n)
-negative_safe ns at (literal.Number d) = decimal_safe ns at (decimal_of (neg_ℤ d.millionths))
+negative_safe ns at (literal.Number d) = decimal_safe ns at (of_millionths (neg_ℤ d.millionths))
 
 -- an operator on two numbers of one type, seen by its values
 two_ints : (ns : List Node) (P : Value → Value → Type 0) (v w : Value) → IsA ns v int → IsA ns w int → ((a b : ℤ) → P (value.Int a) (value.Int b)) → P v w
@@ -124,18 +124,18 @@ unfolding added
 added_safe ns minus at =
     of_numbers (λ g. (v w : Value) → IsA ns v g → IsA ns w g → NotStuck (λ (u : Value). IsA ns u g) (added minus at v w))
     (λ v w a b. two_ints ns (λ x y. NotStuck (λ (u : Value). IsA ns u int) (added minus at x y)) v w a b (λ n k. int_safe ns at (plus_or_minus minus n k)))
-    (λ v w a b. two_decimals ns (λ x y. NotStuck (λ (u : Value). IsA ns u decimal) (added minus at x y)) v w a b (λ d e. decimal_safe ns at (decimal_of (plus_or_minus minus d.millionths e.millionths))))
+    (λ v w a b. two_decimals ns (λ x y. NotStuck (λ (u : Value). IsA ns u decimal) (added minus at x y)) v w a b (λ d e. decimal_safe ns at (of_millionths (plus_or_minus minus d.millionths e.millionths))))
 
 pub multiplied_safe : (ns : List Node) (divide : Bool) (at : ℕ) (g : Ground) → IsNumber g → (v w : Value) → IsA ns v g → IsA ns w g → NotStuck (λ (u : Value). IsA ns u g) (multiplied divide at v w)
 unfolding multiplied
 multiplied_safe ns true at =
     of_numbers (λ g. (v w : Value) → IsA ns v g → IsA ns w g → NotStuck (λ (u : Value). IsA ns u g) (multiplied true at v w))
     (λ v w a b. two_ints ns (λ x y. NotStuck (λ (u : Value). IsA ns u int) (multiplied true at x y)) v w a b (λ n k. quotient_safe (λ (u : Value). IsA ns u int) at (int_at at) (quotient n k) (int_safe ns at)))
-    (λ v w a b. two_decimals ns (λ x y. NotStuck (λ (u : Value). IsA ns u decimal) (multiplied true at x y)) v w a b (λ d e. quotient_safe (λ (u : Value). IsA ns u decimal) at (decimal_at at) (quotient (d.millionths *ℤ pos 1000000) e.millionths) (λ n. decimal_safe ns at (decimal_of n))))
+    (λ v w a b. two_decimals ns (λ x y. NotStuck (λ (u : Value). IsA ns u decimal) (multiplied true at x y)) v w a b (λ d e. quotient_safe (λ (u : Value). IsA ns u decimal) at (decimal_at at) (quotient (d.millionths *ℤ pos 1000000) e.millionths) (λ n. decimal_safe ns at (of_millionths n))))
 multiplied_safe ns false at =
     of_numbers (λ g. (v w : Value) → IsA ns v g → IsA ns w g → NotStuck (λ (u : Value). IsA ns u g) (multiplied false at v w))
     (λ v w a b. two_ints ns (λ x y. NotStuck (λ (u : Value). IsA ns u int) (multiplied false at x y)) v w a b (λ n k. int_safe ns at (n *ℤ k)))
-    (λ v w a b. two_decimals ns (λ x y. NotStuck (λ (u : Value). IsA ns u decimal) (multiplied false at x y)) v w a b (λ d e. decimal_safe ns at (decimal_of (int_div (d.millionths *ℤ e.millionths) (pos 1000000)))))
+    (λ v w a b. two_decimals ns (λ x y. NotStuck (λ (u : Value). IsA ns u decimal) (multiplied false at x y)) v w a b (λ d e. decimal_safe ns at (of_millionths (int_div (d.millionths *ℤ e.millionths) (pos 1000000)))))
 
 pub compared_safe : (ns : List Node) (o : CompareOp) (g : Ground) → IsNumber g → (v w : Value) → IsA ns v g → IsA ns w g → NotStuck (λ (u : Value). IsA ns u truth) (compared o v w)
 unfolding compared

@@ -26,7 +26,7 @@ use Rattle.eval_meaning.specs.Meaning.{Scope, applied, applied_to, call_by, run}
 use Rattle.eval_meaning.specs.Scripts.{Ending, and_then, evaluation, in_statement, numbered, plan_of, settled, statement, statements, top_scope, turned}
 use Rattle.eval_meaning.proofs.UsesAlike.{Alike, body_same, part_same}
 use Rattle.eval_meaning.proofs.UsesReadable.{AreBelow, are_read, counted_below, mono_same, numbers_below}
-use Rattle.eval_meaning.proofs.UsesTokens.{AtsAreWithin, Found, IsBlock, block_used, found_in, text_of}
+use Rattle.eval_meaning.proofs.UsesTokens.{AtsAreWithin, Found, IsBlock, block_used, found_in, text_block}
 
 -- ---- what the uses of two typings share
 
@@ -170,7 +170,7 @@ run_same : (script : Script) (a b : List Use) → Pair script a b → (slots : L
     → (o : Option (Tree ADef)) → def_at t script ≡ o → run (scope_with script a slots k ja) o given m ≡ run (scope_with script b slots k jb) o given m
 run_same script a b pair slots k same t chain ja jb given m arounda aroundb opena openb place None is = refl
 run_same script a b pair slots k same t chain ja jb given m arounda aroundb opena openb place (Some d) is =
-    let x = text_of [] script t d is in
+    let x = text_block [] script t d is in
     let ns : List Name = names x.scope d in
     body_same (scope_with script a slots k ja) (scope_with script b slots k jb) x.scope d given m
     (text_alike script a b pair slots k same (Some t) chain ns ja jb x.block (reaches_text script a chain t ja ns x.found arounda opena) (reaches_text script b chain t jb ns x.found aroundb openb) (λ n inside. place n (block_used (blocks [] script) (Some t, ns) n x.block inside)))

@@ -200,9 +200,9 @@ text_later b bs t d other x = record {
   block = inr x.block;
 }
 
-pub text_of : (sc : Scope) (script : Script) (t : ℕ) (d : Tree ADef) → def_at t script ≡ Some d → Text (blocks sc script) t d
-text_of sc none t d is = absurd cc
-text_of sc (more (Stmt (DefPart e) semicolon) rest) t d is = by_test (λ same. text_of (with_statement (Stmt (DefPart e) semicolon) sc) rest t d same) (nat_eq (def_token e) t) refl is where
+pub text_block : (sc : Scope) (script : Script) (t : ℕ) (d : Tree ADef) → def_at t script ≡ Some d → Text (blocks sc script) t d
+text_block sc none t d is = absurd cc
+text_block sc (more (Stmt (DefPart e) semicolon) rest) t d is = by_test (λ same. text_block (with_statement (Stmt (DefPart e) semicolon) sc) rest t d same) (nat_eq (def_token e) t) refl is where
   by_test : (def_at t rest ≡ Some d → Text (blocks (with_statement (Stmt (DefPart e) semicolon) sc) rest) t d) → (w : Bool) → nat_eq (def_token e) t ≡ w → ◌≡◌ {A = Option (Tree ADef)} (elim w [ true ↦ Some e | false ↦ def_at t rest ]) (Some d) → Text (blocks sc (more (Stmt (DefPart e) semicolon) rest)) t d
   by_test further true here same =
       let token : def_token e ≡ t = eqb-true (def_token e) t here in
@@ -215,6 +215,6 @@ text_of sc (more (Stmt (DefPart e) semicolon) rest) t d is = by_test (λ same. t
         block = inl block;
       }
   by_test further false other same = text_later (Some (def_token e), names sc e) (blocks (with_statement (Stmt (DefPart e) semicolon) sc) rest) t d other (further same)
-text_of sc (more (Stmt (BindPart b) semicolon) rest) t d is = text_later (None, names sc b) (blocks (with_statement (Stmt (BindPart b) semicolon) sc) rest) t d refl (text_of (with_statement (Stmt (BindPart b) semicolon) sc) rest t d is)
-text_of sc (more (Stmt (CallPart c) semicolon) rest) t d is = text_later (None, names sc c) (blocks (with_statement (Stmt (CallPart c) semicolon) sc) rest) t d refl (text_of (with_statement (Stmt (CallPart c) semicolon) sc) rest t d is)
-text_of sc (more (Stmt (IfPart i) semicolon) rest) t d is = text_later (None, names sc i) (blocks (with_statement (Stmt (IfPart i) semicolon) sc) rest) t d refl (text_of (with_statement (Stmt (IfPart i) semicolon) sc) rest t d is)
+text_block sc (more (Stmt (BindPart b) semicolon) rest) t d is = text_later (None, names sc b) (blocks (with_statement (Stmt (BindPart b) semicolon) sc) rest) t d refl (text_block (with_statement (Stmt (BindPart b) semicolon) sc) rest t d is)
+text_block sc (more (Stmt (CallPart c) semicolon) rest) t d is = text_later (None, names sc c) (blocks (with_statement (Stmt (CallPart c) semicolon) sc) rest) t d refl (text_block (with_statement (Stmt (CallPart c) semicolon) sc) rest t d is)
+text_block sc (more (Stmt (IfPart i) semicolon) rest) t d is = text_later (None, names sc i) (blocks (with_statement (Stmt (IfPart i) semicolon) sc) rest) t d refl (text_block (with_statement (Stmt (IfPart i) semicolon) sc) rest t d is)

@@ -5,7 +5,7 @@ use Rattle.std.specs.Prelude.{◌<ℤ◌, int_le}
 use Rattle.fixed_text.specs.declared.decimal.Decimal.{Decimal}
 use Rattle.script_values.specs.declared.fault.Fault.TheVariants.{BadValue}
 use Rattle.script_values.specs.Values.{Int, Number}
-use Rattle.script_values.specs.Numbers.{int_at, decimal_by, decimal_of, decimal_at, decimal_or}
+use Rattle.script_values.specs.Numbers.{int_at, decimal_by, of_millionths, decimal_at, or_bad_value}
 
 pub int_within : (at : ℕ) (n m : ℤ) → m ≡ n → negsuc 9223372036854775807 ≤ℤ n → n ≤ℤ pos 9223372036854775807 → int_at at n ≡ Ok (Int m)
 unfolding int_at
@@ -31,12 +31,12 @@ made m true false above below x y = absurd y
 made m false true above below x y = absurd x
 made m false false above below x y = absurd x
 
-pub decimal_is : (d : Decimal) → decimal_of d.millionths ≡ Some d
-unfolding decimal_of
+pub decimal_is : (d : Decimal) → of_millionths d.millionths ≡ Some d
+unfolding of_millionths
 decimal_is d = made d.millionths _ _ _ _ d.low.le d.high.le
 
 pub decimal_within : (at : ℕ) (n : ℤ) (d : Decimal) → d.millionths ≡ n → decimal_at at n ≡ Ok (Number d)
-decimal_within at n d is = ap (decimal_at at) (sym is) ∙ ap (decimal_or at) (decimal_is d)
+decimal_within at n d is = ap (decimal_at at) (sym is) ∙ ap (or_bad_value at) (decimal_is d)
 
 none_by : (m : ℤ) (low high : Bool) (above : T low → negsuc 999999999999999 ≤ℤ m) (below : T high → m ≤ℤ pos 1000000000000000) → (low && high) ≡ false → decimal_by m low high above below ≡ None
 none_by m true true above below e = absurd cc
@@ -45,13 +45,13 @@ none_by m false true above below e = refl
 none_by m false false above below e = refl
 
 pub decimal_below : (at : ℕ) (n : ℤ) → n <ℤ negsuc 999999999999999 → decimal_at at n ≡ Err (BadValue at)
-unfolding decimal_of
+unfolding of_millionths
 decimal_below at n low =
     let test : (int_le (negsuc 999999999999999) n && int_le n (pos 1000000000000000)) ≡ false = grind (arith, ints) in
-    ap (decimal_or at) (none_by n _ _ _ _ test)
+    ap (or_bad_value at) (none_by n _ _ _ _ test)
 
 pub decimal_above : (at : ℕ) (n : ℤ) → pos 1000000000000000 <ℤ n → decimal_at at n ≡ Err (BadValue at)
-unfolding decimal_of
+unfolding of_millionths
 decimal_above at n high =
     let test : (int_le (negsuc 999999999999999) n && int_le n (pos 1000000000000000)) ≡ false = grind (arith, ints) in
-    ap (decimal_or at) (none_by n _ _ _ _ test)
+    ap (or_bad_value at) (none_by n _ _ _ _ test)

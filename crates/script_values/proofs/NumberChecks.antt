@@ -3,7 +3,7 @@ use Rattle.std.proofs.Common.{◌≡◌, pos, negsuc, true, false, [], ◌∷◌
 use Rattle.script_grammar.specs.declared.tree.CompareOp.TheVariants as op
 use Rattle.script_values.specs.declared.fault.Fault.TheVariants.{BadValue, TooMuchWork, Stuck}
 use Rattle.script_values.specs.Values.{many, size, Int, Number, Text, Truth, Nothing, Listed, Tuple}
-use Rattle.script_values.specs.Numbers.{int_at, decimal_of, quotient, added, multiplied, compared}
+use Rattle.script_values.specs.Numbers.{int_at, of_millionths, quotient, added, multiplied, compared}
 use Rattle.script_values.specs.Machines.{some_millionths, first_machine, count}
 
 -- `1 / 0` at the token 3
@@ -28,12 +28,12 @@ least_int = refl
 
 -- `0.5 * 0.000001` is 0.
 below_a_millionth : multiplied false 3 (Number (some_millionths 500000 tt)) (Number (some_millionths 1 tt)) ≡ Ok (Number (some_millionths 0 tt))
-unfolding multiplied decimal_of
+unfolding multiplied of_millionths
 below_a_millionth = refl
 
 -- `1000000000. + 0.000001`
 past_a_billion : added false 3 (Number (some_millionths 1000000000000000 tt)) (Number (some_millionths 1 tt)) ≡ Err (BadValue 3)
-unfolding added decimal_of
+unfolding added of_millionths
 past_a_billion = refl
 
 -- `1 < 2.` has no value: typing refuses it

@@ -23,15 +23,15 @@ decimal_by m true true above below = Some (record { millionths = m; low = above 
 decimal_by m true false above below = None
 decimal_by m false high above below = None
 
-unfoldable pub decimal_of : ℤ → Option Decimal
-decimal_of m = decimal_by m (int_le (negsuc 999999999999999) m) (int_le m (pos 1000000000000000)) (λ t. record { le = t }) (λ t. record { le = t })
+unfoldable pub of_millionths : ℤ → Option Decimal
+of_millionths m = decimal_by m (int_le (negsuc 999999999999999) m) (int_le m (pos 1000000000000000)) (λ t. record { le = t }) (λ t. record { le = t })
 
-abbrev pub decimal_or : ℕ → Option Decimal → Result Value Fault
-decimal_or at (Some d) = Ok (Number d)
-decimal_or at None = Err (BadValue at)
+abbrev pub or_bad_value : ℕ → Option Decimal → Result Value Fault
+or_bad_value at (Some d) = Ok (Number d)
+or_bad_value at None = Err (BadValue at)
 
 abbrev pub decimal_at : ℕ → ℤ → Result Value Fault
-decimal_at at m = decimal_or at (decimal_of m)
+decimal_at at m = or_bad_value at (of_millionths m)
 
 abbrev pub literal_value : Literal → Value
 literal_value (literal.Int n) = Int n
