@@ -3,6 +3,7 @@ pub mod Dealing
 pub mod Closing
 pub mod Fits
 pub mod Creating
+pub mod Naming
 pub mod Reporting
 pub mod Pools
 pub mod Pooling

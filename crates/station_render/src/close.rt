@@ -1,5 +1,5 @@
 // The sinks of the outputs are closed.
-ghost use Rattle.std.specs.Prelude.{◌≡◌, ◌<◌, ◌≤◌, ◌⊎◌, ◌∷◌, [], ℕ, List, Option, length, slice_get, Some, IfOk, IsErrOf, IsSomeAnd, OnOk, OnErr};
+ghost use Rattle.std.specs.Prelude.{◌≡◌, ◌<◌, ◌≤◌, ◌⊎◌, ◌∷◌, [], ℕ, List, Option, length, slice_get, Some, IfOk, IsErrOf, IsSomeAnd, OnOk, OnErr, is_ok, true};
 ghost use Rattle.std.specs.Option.{ForSome};
 ghost use Rattle.liq_base.specs.Counts.{Rose};
 ghost use Rattle.liq_base.specs.Files.{Files};
@@ -28,6 +28,8 @@ pub(crate) fn close_all<S: Shelf>(
         → ForSome before (λ files. WroteOutputsPart station (Rose count (S.write_count shelf.new)) files (S.files shelf.new)) }
     ensures cause { IsErrOf result RenderFault.Write → IsErrOf wrote RenderFault.Write ⊎ Rose (S.write_count shelf.old) (S.write_count shelf.new) }
     ensures failed { HasFailed S.Out.faults (lists_of groups.items) → Rose (S.write_count shelf.old) (S.write_count shelf.new) }
+    ensures well { OnOk result (is_ok wrote ≡ true) }
+    ensures created { S.created shelf.new ≡ S.created shelf.old }
     ensures reads { S.read_count shelf.old ≤ S.read_count shelf.new }
     ensures writes { S.write_count shelf.old ≤ S.write_count shelf.new }
 {
@@ -51,6 +53,7 @@ fn close_each<S: Shelf>(
         → IsSomeAnd (S.files shelf.new) (HoldsParts (Rose (S.write_count shelf.old) (S.write_count shelf.new)) files outputs)) }
     ensures cause { OnErr result (Rose (S.write_count shelf.old) (S.write_count shelf.new)) }
     ensures failed { HasFailed S.Out.faults (lists_of groups.items) → Rose (S.write_count shelf.old) (S.write_count shelf.new) }
+    ensures created { S.created shelf.new ≡ S.created shelf.old }
     ensures reads { S.read_count shelf.old ≤ S.read_count shelf.new }
     ensures writes { S.write_count shelf.old ≤ S.write_count shelf.new }
 {

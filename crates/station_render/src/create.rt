@@ -3,6 +3,7 @@ ghost use Rattle.std.specs.Prelude.{◌≡◌, ◌<◌, ◌≤◌, ◌+◌, ◌�
 ghost use Rattle.liq_base.specs.Counts.{Rose};
 ghost use Rattle.frame_core.specs.Library.{Sounds};
 ghost use Rattle.run_records.specs.Records.{Run};
+ghost use Rattle.stations.specs.Creations.{MadeFront, after_making, names_in};
 ghost use Rattle.stations.specs.Findings.{IsFit};
 ghost use Rattle.station_render.specs.Sinks.{AreCreated, AreEmpty, HasFailed, lists_of};
 ghost use Rattle.station_render.specs.Renders.{AreBegun, IsReady, NoneCreated, WasBroken, WasCreated, order_of, setting_for, written};
@@ -36,6 +37,8 @@ pub(crate) fn create_each<S: Shelf>(
     ensures size { length (lists_of groups.new.items) ≡ clocks.now.running }
     ensures cause { IsErrOf result RenderFault.Write → Rose (S.write_count shelf.old) (S.write_count shelf.new) ⊎ HasFailed S.Out.faults (lists_of groups.new.items) }
     ensures files { S.files shelf.new ≡ S.files shelf.old }
+    ensures made { OnOk result (S.created shelf.new ≡ after_making (names_in plan.now.sinks) (S.created shelf.old)) }
+    ensures front { MadeFront (names_in plan.now.sinks) (S.created shelf.old) (S.created shelf.new) }
     ensures reads { S.read_count shelf.old ≤ S.read_count shelf.new }
     ensures writes { S.write_count shelf.old ≤ S.write_count shelf.new }
 {
@@ -66,6 +69,8 @@ fn create_one<S: Shelf>(
         order.old.items order.new.items (lists_of groups.old.items) (lists_of groups.new.items)) }
     ensures cause { IsErrOf result RenderFault.Write → Rose (S.write_count shelf.old) (S.write_count shelf.new) ⊎ HasFailed S.Out.faults (lists_of groups.new.items) }
     ensures files { S.files shelf.new ≡ S.files shelf.old }
+    ensures made { OnOk result (S.created shelf.new ≡ after_making (name.now ∷ []) (S.created shelf.old)) }
+    ensures front { MadeFront (name.now ∷ []) (S.created shelf.old) (S.created shelf.new) }
     ensures reads { S.read_count shelf.old ≤ S.read_count shelf.new }
     ensures writes { S.write_count shelf.old ≤ S.write_count shelf.new }
 {

@@ -1,6 +1,7 @@
 // The outputs of a plan are opened, with the engines that write into them.
-ghost use Rattle.std.specs.Prelude.{◌≡◌, ◌≤◌, ◌⊎◌, [], List, Option, ℕ, IfOk, IsErrOf, OnErr};
+ghost use Rattle.std.specs.Prelude.{◌≡◌, ◌≤◌, ◌⊎◌, [], List, Option, ℕ, IfOk, IsErrOf, OnErr, OnOk};
 ghost use Rattle.liq_base.specs.Counts.{Rose};
+ghost use Rattle.stations.specs.Creations.{MadeFront, after_making, names_in};
 ghost use Rattle.stations.specs.Findings.{IsFit};
 ghost use Rattle.stations.specs.Stations.{station_of};
 ghost use Rattle.station_render.specs.Renders.{setting_for};
@@ -37,6 +38,8 @@ pub(crate) fn open_all<'a, S: Shelf>(
     ensures part { OnErr result ((window : Option ℕ) (trace : Option (List ℕ)) → RanPart S.Out.name S.Out.held (S.files shelf.old) (station_of plan.now ready.now start.second ticks window trace) order.new.items (lists_of groups.new.items)) }
     ensures cause { IsErrOf result RenderFault.Write → Rose (S.write_count shelf.old) (S.write_count shelf.new) ⊎ HasFailed S.Out.faults (lists_of groups.new.items) }
     ensures files { S.files shelf.new ≡ S.files shelf.old }
+    ensures made { OnOk result (S.created shelf.new ≡ after_making (names_in plan.now.sinks) (S.created shelf.old)) }
+    ensures front { MadeFront (names_in plan.now.sinks) (S.created shelf.old) (S.created shelf.new) }
     ensures reads { S.read_count shelf.old ≤ S.read_count shelf.new }
     ensures writes { S.write_count shelf.old ≤ S.write_count shelf.new }
 {

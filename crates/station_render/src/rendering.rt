@@ -1,7 +1,8 @@
 // A station is rendered.
-ghost use Rattle.std.specs.Prelude.{◌≡◌, ◌≤◌, ◌⊎◌, [], None, IfOk, IsErrOf};
+ghost use Rattle.std.specs.Prelude.{◌≡◌, ◌≤◌, ◌⊎◌, [], None, IfOk, IsErrOf, OnOk};
 ghost use Rattle.std.specs.Option.{ForSome};
 ghost use Rattle.liq_base.specs.Counts.{Rose};
+ghost use Rattle.stations.specs.Creations.{MadeFront, after_making, names_in, names_of};
 ghost use Rattle.stations.specs.Findings.{IsFit};
 ghost use Rattle.stations.specs.Renderings.{WroteOutputsPart, WrotePart};
 ghost use Rattle.stations.specs.Stations.{station_of};
@@ -47,6 +48,8 @@ pub fn render<S: Shelf, G: Gate + Sync, R: Threads + Wait + Sync>(
     ensures part { ForSome (S.files shelf.old) (λ files. WrotePart (station_by plan.now ready.now start.second ticks threading.entry)
         (Rose (S.write_count shelf.old) (S.write_count shelf.new)) files (S.files shelf.new)) }
     ensures cause { IsErrOf result RenderFault.Write → Rose (S.write_count shelf.old) (S.write_count shelf.new) }
+    ensures made { OnOk result (S.created shelf.new ≡ after_making (names_of (station_by plan.now ready.now start.second ticks threading.entry)) (S.created shelf.old)) }
+    ensures front { MadeFront (names_of (station_by plan.now ready.now start.second ticks threading.entry)) (S.created shelf.old) (S.created shelf.new) }
     ensures reads { S.read_count shelf.old ≤ S.read_count shelf.new }
     ensures writes { S.write_count shelf.old ≤ S.write_count shelf.new }
 {
@@ -68,6 +71,8 @@ pub fn render_alone<S: Shelf>(
     ensures part { ForSome (S.files shelf.old) (λ files. WrotePart (station_of plan.now ready.now start.second ticks None None)
         (Rose (S.write_count shelf.old) (S.write_count shelf.new)) files (S.files shelf.new)) }
     ensures cause { IsErrOf result RenderFault.Write → Rose (S.write_count shelf.old) (S.write_count shelf.new) }
+    ensures made { OnOk result (S.created shelf.new ≡ after_making (names_of (station_of plan.now ready.now start.second ticks None None)) (S.created shelf.old)) }
+    ensures front { MadeFront (names_of (station_of plan.now ready.now start.second ticks None None)) (S.created shelf.old) (S.created shelf.new) }
     ensures reads { S.read_count shelf.old ≤ S.read_count shelf.new }
     ensures writes { S.write_count shelf.old ≤ S.write_count shelf.new }
 {
@@ -103,6 +108,8 @@ fn render_outputs<S: Shelf, G: Gate + Sync, R: Threads + Wait + Sync>(
     ensures part { ForSome (S.files shelf.old) (λ files. WroteOutputsPart (station_by plan.now ready.now start.second ticks threading.entry)
         (Rose (S.write_count shelf.old) (S.write_count shelf.new)) files (S.files shelf.new)) }
     ensures cause { IsErrOf result RenderFault.Write → Rose (S.write_count shelf.old) (S.write_count shelf.new) }
+    ensures made { OnOk result (S.created shelf.new ≡ after_making (names_in plan.now.sinks) (S.created shelf.old)) }
+    ensures front { MadeFront (names_in plan.now.sinks) (S.created shelf.old) (S.created shelf.new) }
     ensures reads { S.read_count shelf.old ≤ S.read_count shelf.new }
     ensures writes { S.write_count shelf.old ≤ S.write_count shelf.new }
 {
@@ -146,6 +153,8 @@ fn write_by_threads<S: Shelf, G: Gate + Sync, R: Threads + Wait + Sync>(
     ensures part { RanPart S.Out.name S.Out.held (S.files shelf.old) (station_by plan.now ready.now start.second ticks threading.entry) order.new.items (lists_of groups.new.items) }
     ensures cause { IsErrOf result RenderFault.Write → Rose (S.write_count shelf.old) (S.write_count shelf.new) ⊎ HasFailed S.Out.faults (lists_of groups.new.items) }
     ensures files { S.files shelf.new ≡ S.files shelf.old }
+    ensures made { OnOk result (S.created shelf.new ≡ after_making (names_in plan.now.sinks) (S.created shelf.old)) }
+    ensures front { MadeFront (names_in plan.now.sinks) (S.created shelf.old) (S.created shelf.new) }
     ensures reads { S.read_count shelf.old ≤ S.read_count shelf.new }
     ensures writes { S.write_count shelf.old ≤ S.write_count shelf.new }
 {
@@ -181,6 +190,8 @@ fn write_alone<S: Shelf>(
     ensures part { RanPart S.Out.name S.Out.held (S.files shelf.old) (station_of plan.now ready.now start.second ticks None None) order.new.items (lists_of groups.new.items) }
     ensures cause { IsErrOf result RenderFault.Write → Rose (S.write_count shelf.old) (S.write_count shelf.new) ⊎ HasFailed S.Out.faults (lists_of groups.new.items) }
     ensures files { S.files shelf.new ≡ S.files shelf.old }
+    ensures made { OnOk result (S.created shelf.new ≡ after_making (names_in plan.now.sinks) (S.created shelf.old)) }
+    ensures front { MadeFront (names_in plan.now.sinks) (S.created shelf.old) (S.created shelf.new) }
     ensures reads { S.read_count shelf.old ≤ S.read_count shelf.new }
     ensures writes { S.write_count shelf.old ≤ S.write_count shelf.new }
 {

@@ -1,10 +1,11 @@
 // The trace of a rendering.
-ghost use Rattle.std.specs.Prelude.{◌≡◌, ◌≤◌, ◌⊎◌, Some, IfOk, IsErrOf, IsSomeAnd, OnOk};
+ghost use Rattle.std.specs.Prelude.{◌≡◌, ◌≤◌, ◌⊎◌, ◌∷◌, [], Some, IfOk, IsErrOf, IsSomeAnd, OnOk};
 ghost use Rattle.std.specs.Option.{ForSome};
 ghost use Rattle.liq_base.specs.Counts.{Rose};
 ghost use Rattle.liq_base.specs.Files.{with_file};
 ghost use Rattle.liq_base.specs.Kept.{HoldsPartOr};
 ghost use Rattle.trace_log.specs.Texts.{IsTrace, trace_text};
+ghost use Rattle.stations.specs.Creations.{MadeFront, after_making, trace_name};
 ghost use Rattle.stations.specs.Outputs.{with_outputs};
 ghost use Rattle.stations.specs.Traces.{traced};
 ghost use Rattle.station_render.specs.Runs.{LeftPart, name_in};
@@ -32,6 +33,8 @@ pub(crate) fn leave_trace<S: Shelf>(
         ⊎ LeftPart (name_in threading.entry) (record { ticks = ticks; window = threading.entry.window; buffers = rendered.logs.items })
         (Rose (S.write_count shelf.old) (S.write_count shelf.new)) (S.files shelf.old) (S.files shelf.new) }
     ensures cause { IsErrOf result RenderFault.Write → Rose (S.write_count shelf.old) (S.write_count shelf.new) }
+    ensures made { OnOk result (S.created shelf.new ≡ after_making (trace_name (name_in threading.entry)) (S.created shelf.old)) }
+    ensures front { MadeFront (trace_name (name_in threading.entry)) (S.created shelf.old) (S.created shelf.new) }
     ensures reads { S.read_count shelf.old ≤ S.read_count shelf.new }
     ensures writes { S.write_count shelf.old ≤ S.write_count shelf.new }
 {
@@ -63,6 +66,8 @@ fn write_trace<S: Shelf>(
     ensures part { (S.files shelf.new ≡ S.files shelf.old)
         ⊎ ForSome (S.files shelf.old) (λ files. IsSomeAnd (S.files shelf.new) (HoldsPartOr (Rose (S.write_count shelf.old) (S.write_count shelf.new)) files name.now (trace_text trace.now))) }
     ensures cause { IsErrOf result RenderFault.Write → Rose (S.write_count shelf.old) (S.write_count shelf.new) }
+    ensures made { OnOk result (S.created shelf.new ≡ after_making (name.now ∷ []) (S.created shelf.old)) }
+    ensures front { MadeFront (name.now ∷ []) (S.created shelf.old) (S.created shelf.new) }
     ensures reads { S.read_count shelf.old ≤ S.read_count shelf.new }
     ensures writes { S.write_count shelf.old ≤ S.write_count shelf.new }
 {
@@ -78,6 +83,8 @@ fn write_file<S: Shelf>(shelf: &mut S, name: &str, text: &[u8]) -> Result<(), Re
     ensures part { (S.files shelf.new ≡ S.files shelf.old)
         ⊎ ForSome (S.files shelf.old) (λ files. IsSomeAnd (S.files shelf.new) (HoldsPartOr (Rose (S.write_count shelf.old) (S.write_count shelf.new)) files name.now text.now)) }
     ensures cause { IsErrOf result RenderFault.Write → Rose (S.write_count shelf.old) (S.write_count shelf.new) }
+    ensures made { OnOk result (S.created shelf.new ≡ after_making (name.now ∷ []) (S.created shelf.old)) }
+    ensures front { MadeFront (name.now ∷ []) (S.created shelf.old) (S.created shelf.new) }
     ensures reads { S.read_count shelf.old ≤ S.read_count shelf.new }
     ensures writes { S.write_count shelf.old ≤ S.write_count shelf.new }
 {

@@ -2,3 +2,4 @@ mod Walked
 mod Lengths
 mod Gapless
 mod AsOne
+pub mod Making

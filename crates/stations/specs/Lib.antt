@@ -5,3 +5,4 @@ pub mod Reports
 pub mod Findings
 pub mod Traces
 pub mod Renderings
+pub mod Creations

@@ -19,7 +19,7 @@ HoldsParts cause files [] after = after ≡ files
 HoldsParts cause files (output ∷ outputs) after =
     (midway : Files) × HoldsPartOr cause files output.name output.bytes midway × HoldsParts cause midway outputs after
 
--- So it is for the first of the outputs, which were created; the others were not. Nothing tells which were created, so
+-- So it is for the first of the outputs, which were created; the others were not. Files do not tell which were created, so
 -- of a single output this says that it holds a prefix of its bytes or what it held, and the cause adds nothing.
 pub record HoldsSome (cause : Type 0) (files : Files) (outputs : List OutputFile) (after : Files) : Type 0 where
   pub created : List OutputFile

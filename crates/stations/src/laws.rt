@@ -5,6 +5,7 @@ ghost use Rattle.frame_core.specs.Library.{Sounds};
 ghost use Rattle.liq_base.specs.Files.{Files};
 ghost use Rattle.plan_core.specs.Plans.{IsWellFormed};
 ghost use Rattle.plan_core.specs.declared.plan.Plan.{Plan as ThePlan};
+ghost use Rattle.stations.specs.Creations.{AreNamesOfFiles};
 ghost use Rattle.stations.specs.Findings.{IsAccepted};
 ghost use Rattle.run_records.specs.Records.{Run};
 ghost use Rattle.run_records.specs.Rounds.{HasNoJoin};
@@ -42,4 +43,9 @@ pub fn outputs_are_whole()
         → bytes_of station run node ≡ header_for (setting_of_run station run) station.ticks node ++ ticks_bytes (setting_of_run station run) node station.ticks }
     ensures long { (station : Station) (run : Run) (node : ℕ) → length (bytes_of station run node)
         ≡ 44 + station.ticks * station.plan.frame * block_size (kind_of (setting_of_run station run) node) }
+{}
+
+/// The names under which a rendering creates its files are those of the files that each run writes, in their order.
+pub fn files_are_created_by_name()
+    ensures { (station : Station) (run : Run) → AreNamesOfFiles station run }
 {}

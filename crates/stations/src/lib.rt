@@ -7,5 +7,8 @@ mod laws;
 mod ready;
 
 pub use fault::StationFault;
-pub use laws::{infallible_outputs_have_no_gaps, outputs_are_whole, threads_render_as_one_thread};
+pub use laws::{
+    files_are_created_by_name, infallible_outputs_have_no_gaps, outputs_are_whole,
+    threads_render_as_one_thread,
+};
 pub use ready::Ready;

@@ -7,6 +7,8 @@ use Rattle.station_render.specs.Renders.{order_of, setting_for, written}
 use Rattle.station_render.proofs.Lists.{got}
 use Rattle.station_render.proofs.Fits.{are_main, clock_below, header_fits}
 use Rattle.station_render.proofs.Creating.{added_many, begun_here, broken_off, created_by, next_ready, order_more, take_whole, written_next, written_still}
+use Rattle.station_render.proofs.Naming.{front_next, made_next, made_still, made_whole}
+use Rattle.stations.proofs.Making.{all_made}
 use Rattle.station_render.proofs.create.create_each.Goals as goal
 
 pub loop-sink-preserved-in_default : goal.loop-sink-preserved-in_default
@@ -22,6 +24,7 @@ loop-sink-preserved-in_default g c =
       order = λ library start. c.loop-sink.invariant.order library start ∙ ap (order_of (setting_for c.args.plan.now library c.args.clocks.now start)) (sym same);
       size = c.loop-sink.invariant.size;
       files = c.loop-sink.invariant.files;
+      made = made_still c.args.plan.now.sinks c.loop-sink.sink-index _ _ c.loop-sink.invariant.made c.in_default.field-0 c.in_default.field-1 at;
       reads = c.loop-sink.invariant.reads;
       writes = c.loop-sink.invariant.writes;
     }
@@ -85,6 +88,8 @@ loop-sink-preserved g c =
           ∙ ap (order_of (setting_for c.args.plan.now library c.args.clocks.now start)) (sym (written_next c.args.plan.now.sinks c.loop-sink.sink-index c.in-Output.name c.in-Output.node c.in-Output.fallible at));
       size = added_many c.opening_of-opening.result.clock made.sink (lists_of c.loop-sink.groups.items) (lists_of c.create_one.new.groups.items) made.added ∙ c.loop-sink.invariant.size;
       files = c.create_one.ensures.files ∙ c.loop-sink.invariant.files;
+      made = made_next c.args.plan.now.sinks c.loop-sink.sink-index _ _ c.loop-sink.invariant.made c.in-Output.name c.as_str.result.now c.in-Output.node c.in-Output.fallible at c.as_str.ensures.same _
+          c.in_ok-create_one.ensures.made;
       reads = omega (arith, c.create_one.ensures.reads, c.loop-sink.invariant.reads);
       writes = omega (arith, c.create_one.ensures.writes, c.loop-sink.invariant.writes);
     }
@@ -103,3 +108,21 @@ returns-clause-order g c =
 pub returns-clause-begun : goal.returns-clause-begun
 returns-clause-begun g c = λ library start run made. begun_here g.S.Out.Sink.name g.S.Out.Sink.held g.S.Out.Sink.room g.S.Out.Sink.faults (g.S.Shelf.files c.args.shelf.now)
     (setting_for c.args.plan.now library c.args.clocks.now start) c.args.ticks run made c.loop-sink.sink-index c.loop-sink.order.items (lists_of c.loop-sink.groups.items) (c.loop-sink.invariant.created library start)
+
+pub returns-in_err-create_one-clause-front : goal.returns-in_err-create_one-clause-front
+returns-in_err-create_one-clause-front g c =
+    let low : c.loop-sink.sink-index < length c.args.plan.now.sinks = subst (λ (xs : List SinkPlan). c.loop-sink.sink-index < length xs) c.as_slice-sink-items.ensures c.loop-sink-test.true in
+    let item : c.sink-item.result ≡ slice_index_or c.args.plan.now.sinks c.loop-sink.sink-index c.sink-item.result = c.sink-item.is ∙ ap (λ (xs : List SinkPlan). slice_index_or xs c.loop-sink.sink-index c.sink-item.result) c.as_slice-sink-items.ensures in
+    let at : slice_get c.args.plan.now.sinks c.loop-sink.sink-index ≡ Some (Output c.in-Output.name c.in-Output.node c.in-Output.fallible) =
+    got c.args.plan.now.sinks c.loop-sink.sink-index c.sink-item.result low ∙ ap Some (sym item ∙ c.in-Output.is) in
+    front_next c.args.plan.now.sinks c.loop-sink.sink-index _ _ c.loop-sink.invariant.made c.in-Output.name c.as_str.result.now c.in-Output.node c.in-Output.fallible at c.as_str.ensures.same _ c.create_one.ensures.front
+
+pub returns-clause-made : goal.returns-clause-made
+returns-clause-made g c =
+    let all : length c.args.plan.now.sinks ≤ c.loop-sink.sink-index = subst (λ (xs : List SinkPlan). length xs ≤ c.loop-sink.sink-index) c.as_slice-sink-items.ensures c.loop-sink-test.false in
+    made_whole c.args.plan.now.sinks c.loop-sink.sink-index _ _ c.loop-sink.invariant.made all
+
+pub returns-clause-front : goal.returns-clause-front
+returns-clause-front g c =
+    let all : length c.args.plan.now.sinks ≤ c.loop-sink.sink-index = subst (λ (xs : List SinkPlan). length xs ≤ c.loop-sink.sink-index) c.as_slice-sink-items.ensures c.loop-sink-test.false in
+    all_made _ _ _ (made_whole c.args.plan.now.sinks c.loop-sink.sink-index _ _ c.loop-sink.invariant.made all)

@@ -1,6 +1,7 @@
-use Rattle.std.proofs.Common.{rules, arith, ◌<◌, length, sym, subst, inr}
+use Rattle.std.proofs.Common.{rules, arith, ◌<◌, length, sym, subst, inr, ◌∙◌, refl}
 use Rattle.station_render.specs.Sinks.{lists_of}
 use Rattle.station_render.proofs.Creating.{added_failed}
+use Rattle.stations.proofs.Making.{all_made, none_made, one_more}
 use Rattle.station_render.proofs.create.create_one.Goals as goal
 
 pub returns-in_err-wrote-clause-cause : goal.returns-in_err-wrote-clause-cause
@@ -8,3 +9,21 @@ returns-in_err-wrote-clause-cause g c =
     let low : c.args.opening.now.clock < length (lists_of c.reserve_one.new.groups.items) = subst (λ gs. c.args.opening.now.clock < length gs) (sym c.reserve_one.ensures.same) c.requires.below in
     let failed : 0 < g.S.Out.Sink.faults c.append-wrote.new.self = search (rules, arith) in
     λ e. inr (added_failed g.S.Out.Sink.faults c.args.opening.now.clock c.append-wrote.new.self (lists_of c.reserve_one.new.groups.items) (lists_of c.add_one.new.groups.items) low c.add_one.ensures failed)
+
+pub returns-in_err-reserve-clause-front : goal.returns-in_err-reserve-clause-front
+returns-in_err-reserve-clause-front g c = none_made _ _ _ refl
+
+pub returns-in_err-reserve_one-clause-front : goal.returns-in_err-reserve_one-clause-front
+returns-in_err-reserve_one-clause-front g c = none_made _ _ _ refl
+
+pub returns-in_err-sink-clause-front : goal.returns-in_err-sink-clause-front
+returns-in_err-sink-clause-front g c = none_made _ _ _ c.in_err-sink.ensures.unnoted
+
+pub returns-in_err-wrote-clause-front : goal.returns-in_err-wrote-clause-front
+returns-in_err-wrote-clause-front g c = all_made _ _ _ (c.in_ok-sink.ensures.noted ∙ one_more c.args.name.now _)
+
+pub returns-clause-front : goal.returns-clause-front
+returns-clause-front g c = all_made _ _ _ (c.in_ok-sink.ensures.noted ∙ one_more c.args.name.now _)
+
+pub returns-clause-made : goal.returns-clause-made
+returns-clause-made g c = c.in_ok-sink.ensures.noted ∙ one_more c.args.name.now _

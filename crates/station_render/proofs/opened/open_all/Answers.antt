@@ -10,6 +10,7 @@ use Rattle.station_render.proofs.Gathering.{not_begun}
 use Rattle.station_render.proofs.Pooling.{outs_many}
 use Rattle.station_render.proofs.Returning.{in_main, starved}
 use Rattle.station_render.proofs.Running.{many_sinks}
+use Rattle.stations.proofs.Making.{all_made}
 use Rattle.station_render.proofs.opened.open_all.Goals as goal
 
 pub returns-in_err-create_each-clause-part : goal.returns-in_err-create_each-clause-part
@@ -61,3 +62,6 @@ returns-clause-opened g c =
       many = c.in_ok-make_engines.ensures.size ∙ sym many;
       taken = c.in_ok-make_engines.ensures.taken;
     }
+
+pub returns-in_err-make_engines-clause-front : goal.returns-in_err-make_engines-clause-front
+returns-in_err-make_engines-clause-front g c = all_made _ _ _ c.in_ok-create_each.ensures.made

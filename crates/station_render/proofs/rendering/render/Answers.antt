@@ -1,7 +1,10 @@
 use Rattle.std.proofs.Common.{arith, inl, refl}
 use Rattle.liq_base.specs.Kept.{rose_within}
-use Rattle.station_render.specs.Runs.{station_by}
+use Rattle.station_render.specs.Runs.{station_by, name_in}
 use Rattle.station_render.proofs.Tracing.{files_written, is_trace, part_written}
+use Rattle.stations.proofs.Making.{front_made, then_front, then_made}
+use Rattle.station_render.proofs.Lists.{on_ok}
+use Rattle.stations.specs.Creations.{names_in, trace_name}
 use Rattle.station_render.proofs.rendering.render.Goals as goal
 
 pub returns-in_err-rendered-clause-part : goal.returns-in_err-rendered-clause-part
@@ -27,3 +30,15 @@ returns-clause-part g c =
 
 pub returns-clause-cause : goal.returns-clause-cause
 returns-clause-cause g c = λ e. rose_within _ _ _ _ c.render_outputs.ensures.writes (omega arith) (c.leave_trace.ensures.cause e)
+
+pub returns-in_err-rendered-clause-front : goal.returns-in_err-rendered-clause-front
+returns-in_err-rendered-clause-front g c = front_made (names_in c.args.plan.now.sinks) (trace_name (name_in c.args.threading)) _ _ c.render_outputs.ensures.front
+
+pub returns-clause-made : goal.returns-clause-made
+returns-clause-made g c =
+    on_ok c.leave_trace.result _ _
+    (λ made. then_made (names_in c.args.plan.now.sinks) (trace_name (name_in c.args.threading)) _ _ _ c.in_ok-rendered.ensures.made made) c.leave_trace.ensures.made
+
+pub returns-clause-front : goal.returns-clause-front
+returns-clause-front g c =
+    then_front (names_in c.args.plan.now.sinks) (trace_name (name_in c.args.threading)) _ _ _ c.in_ok-rendered.ensures.made c.leave_trace.ensures.front

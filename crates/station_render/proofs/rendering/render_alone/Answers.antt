@@ -9,6 +9,10 @@ use Rattle.station_render.proofs.Dealing.{sizes}
 use Rattle.station_render.proofs.Ending.{cause_of, none_begun}
 use Rattle.station_render.proofs.Gathering.{not_begun}
 use Rattle.station_render.proofs.Tracing.{if_ok, untraced}
+use Rattle.station_render.proofs.Naming.{closed_made, front_kept}
+use Rattle.stations.proofs.Making.{front_made, none_made, none_more, then_made}
+use Rattle.station_render.proofs.Lists.{on_ok}
+use Rattle.stations.specs.Creations.{names_in}
 use Rattle.station_render.proofs.rendering.render_alone.Goals as goal
 
 pub returns-in_err-groups-clause-part : goal.returns-in_err-groups-clause-part
@@ -40,3 +44,14 @@ returns-clause-done g c =
 pub returns-clause-cause : goal.returns-clause-cause
 returns-clause-cause g c = λ e.
     cause_of (g.S.Shelf.write_count c.args.shelf.now) _ _ _ _ c.write_alone-wrote.ensures.writes c.close_all.ensures.writes (c.close_all.ensures.cause e) c.write_alone-wrote.ensures.cause c.close_all.ensures.failed
+
+pub returns-in_err-groups-clause-front : goal.returns-in_err-groups-clause-front
+returns-in_err-groups-clause-front g c = none_made _ _ _ refl
+
+pub returns-clause-made : goal.returns-clause-made
+returns-clause-made g c =
+    on_ok c.close_all.result _ _ (λ made. then_made (names_in c.args.plan.now.sinks) [] _ _ _ made (none_more _))
+    (closed_made c.close_all.result c.write_alone-wrote.result (names_in c.args.plan.now.sinks) _ _ _ c.close_all.ensures.well c.write_alone-wrote.ensures.made c.close_all.ensures.created)
+
+pub returns-clause-front : goal.returns-clause-front
+returns-clause-front g c = front_made (names_in c.args.plan.now.sinks) [] _ _ (front_kept _ _ _ _ c.close_all.ensures.created c.write_alone-wrote.ensures.front)

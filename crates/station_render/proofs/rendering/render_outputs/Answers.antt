@@ -8,6 +8,8 @@ use Rattle.station_render.specs.Runs.{RanPart, RanWhole, station_by}
 use Rattle.station_render.proofs.Dealing.{sizes}
 use Rattle.station_render.proofs.Ending.{cause_of, none_begun}
 use Rattle.station_render.proofs.Gathering.{not_begun}
+use Rattle.station_render.proofs.Naming.{closed_made, front_kept}
+use Rattle.stations.proofs.Making.{none_made}
 use Rattle.station_render.proofs.rendering.render_outputs.Goals as goal
 
 pub returns-in_err-groups-clause-part : goal.returns-in_err-groups-clause-part
@@ -38,3 +40,12 @@ returns-clause-done g c =
 pub returns-clause-cause : goal.returns-clause-cause
 returns-clause-cause g c = λ e.
     cause_of (g.S.Shelf.write_count c.args.shelf.now) _ _ _ _ c.write_by_threads-wrote.ensures.writes c.close_all.ensures.writes (c.close_all.ensures.cause e) c.write_by_threads-wrote.ensures.cause c.close_all.ensures.failed
+
+pub returns-in_err-groups-clause-front : goal.returns-in_err-groups-clause-front
+returns-in_err-groups-clause-front g c = none_made _ _ _ refl
+
+pub returns-clause-made : goal.returns-clause-made
+returns-clause-made g c = closed_made c.close_all.result c.write_by_threads-wrote.result _ _ _ _ c.close_all.ensures.well c.write_by_threads-wrote.ensures.made c.close_all.ensures.created
+
+pub returns-clause-front : goal.returns-clause-front
+returns-clause-front g c = front_kept _ _ _ _ c.close_all.ensures.created c.write_by_threads-wrote.ensures.front

@@ -4,6 +4,7 @@ use Rattle.clock_infer.proofs.Merging.{written_back}
 use Rattle.station_render.proofs.Fits.{are_main}
 use Rattle.station_render.proofs.Gathering.{rounds_all, rounds_some}
 use Rattle.station_render.proofs.Returning.{failed_back, last_many, opened_at, over_plan, part_back, places_empty, places_many, stand_so, whole_told}
+use Rattle.station_render.proofs.Naming.{on_ok_so}
 use Rattle.station_render.proofs.rendering.write_alone.Goals as goal
 
 pub returns-in_err-engines-clause-part : goal.returns-in_err-engines-clause-part
@@ -83,3 +84,6 @@ returns-clause-cause g c =
     let len : vec_len c.in_ok-engines.engines ≡ length c.run_rounds-run.new.engines = c.in_ok-engines.engines.ok.0 ∙ ap length (sym c.deref_mut.ensures.value) ∙ sym some.part.size in
     let last = written_back _ c.run_rounds-run.new.engines _ len in
     λ e. (let write = c.take_back.ensures.write e in inr (failed_back c.requires.fit opened last c.take_back.ensures.back some write.0 write.1 write.2))
+
+pub returns-clause-made : goal.returns-clause-made
+returns-clause-made g c = on_ok_so c.take_back.result _ c.in_ok-engines.ensures.made

@@ -3,6 +3,7 @@ use Rattle.std.specs.Prelude.{Some}
 use Rattle.station_render.proofs.Fits.{are_main}
 use Rattle.station_render.proofs.Gathering.{threads_all, threads_some}
 use Rattle.station_render.proofs.Returning.{engines_are, failed_back, last_many, part_back, places_empty, places_many, stand_so, whole_told}
+use Rattle.station_render.proofs.Naming.{on_ok_so}
 use Rattle.station_render.proofs.rendering.write_by_threads.Goals as goal
 
 pub returns-in_err-engines-clause-part : goal.returns-in_err-engines-clause-part
@@ -69,3 +70,6 @@ returns-clause-cause g c =
     let are = engines_are c.requires.fit opened c.args.start.in_week in
     let some = threads_some opened.at (c.run_threads-engines.ensures.part _ are) in
     λ e. (let write = c.take_back.ensures.write e in inr (failed_back c.requires.fit opened refl c.take_back.ensures.back some write.0 write.1 write.2))
+
+pub returns-clause-made : goal.returns-clause-made
+returns-clause-made g c = on_ok_so c.take_back.result _ c.in_ok-engines.ensures.made

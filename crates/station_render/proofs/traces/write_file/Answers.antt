@@ -1,6 +1,7 @@
-use Rattle.std.proofs.Common.{rules, arith, ◌<◌, inl, inr}
+use Rattle.std.proofs.Common.{rules, arith, ◌<◌, inl, inr, ◌∙◌}
 use Rattle.liq_base.specs.Kept.{rose_within}
 use Rattle.station_render.proofs.Tracing.{part_left, took_whole, whole_left}
+use Rattle.stations.proofs.Making.{all_made, none_made, one_more}
 use Rattle.station_render.proofs.traces.write_file.Goals as goal
 
 pub returns-in_err-sink-clause-part : goal.returns-in_err-sink-clause-part
@@ -36,3 +37,18 @@ pub returns-clause-written : goal.returns-clause-written
 returns-clause-written g c =
     whole_left g.S.Out.Sink.held g.S.Out.Sink.name c.in_ok-sink.sink c.append-wrote.new.self _ _ _ c.args.name.now c.args.text.now c.create.ensures.files
     c.in_ok-sink.ensures.tells c.in_ok-sink.ensures.name c.in_ok-sink.ensures.held c.append-wrote.ensures.name c.in_ok-wrote.ensures.took c.in_ok-closed.ensures.closed
+
+pub returns-in_err-sink-clause-front : goal.returns-in_err-sink-clause-front
+returns-in_err-sink-clause-front g c = none_made _ _ _ c.in_err-sink.ensures.unnoted
+
+pub returns-in_err-wrote-clause-front : goal.returns-in_err-wrote-clause-front
+returns-in_err-wrote-clause-front g c = all_made _ _ _ (c.close-closed.ensures.created ∙ c.in_ok-sink.ensures.noted ∙ one_more c.args.name.now _)
+
+pub returns-in_err-closed-clause-front : goal.returns-in_err-closed-clause-front
+returns-in_err-closed-clause-front g c = all_made _ _ _ (c.close-closed.ensures.created ∙ c.in_ok-sink.ensures.noted ∙ one_more c.args.name.now _)
+
+pub returns-clause-front : goal.returns-clause-front
+returns-clause-front g c = all_made _ _ _ (c.close-closed.ensures.created ∙ c.in_ok-sink.ensures.noted ∙ one_more c.args.name.now _)
+
+pub returns-clause-made : goal.returns-clause-made
+returns-clause-made g c = c.close-closed.ensures.created ∙ c.in_ok-sink.ensures.noted ∙ one_more c.args.name.now _

@@ -5,6 +5,7 @@ use Rattle.liq_base.specs.Counts.{Rose}
 use Rattle.liq_base.specs.Files.{with_file}
 use Rattle.liq_base.specs.Kept.{HoldsPartOr}
 use Rattle.trace_log.specs.Texts.{trace_text}
+use Rattle.stations.proofs.Making.{none_made}
 use Rattle.station_render.proofs.traces.write_trace.Goals as goal
 
 pub returns-in_err-print-clause-part : goal.returns-in_err-print-clause-part
@@ -21,3 +22,6 @@ returns-clause-part g c =
     let before = c.args.shelf.now in let after = c.write_file.new.shelf in
     subst (λ t. (g.S.Shelf.files after ≡ g.S.Shelf.files before)
     ⊎ ForSome (g.S.Shelf.files before) (λ files. IsSomeAnd (g.S.Shelf.files after) (HoldsPartOr (Rose (g.S.Shelf.write_count before) (g.S.Shelf.write_count after)) files c.args.name.now t))) is c.write_file.ensures.part
+
+pub returns-in_err-print-clause-front : goal.returns-in_err-print-clause-front
+returns-in_err-print-clause-front g c = none_made _ _ _ refl

@@ -1,0 +1,84 @@
+-- What a shelf tells of the sinks that it made, sink after sink.
+use Rattle.std.proofs.Common.{◌≡◌, ◌∙◌, ◌++◌, ℕ, List, [], ◌∷◌, map, refl, ap, sym, append_assoc}
+use Rattle.std.specs.Prelude.{Option, Some, None}
+use Rattle.std.proofs.lemmas.List.{append-nil, map-append}
+use Rattle.liq_base.specs.Files.{noted}
+use Rattle.plan_core.specs.declared.sink.SinkPlan.{SinkPlan}
+use Rattle.plan_core.specs.declared.sink.SinkPlan.TheVariants.{Output, Feed}
+use Rattle.stream_meaning.specs.Instants.{Setting}
+use Rattle.run_records.specs.Records.{Run}
+use Rattle.trace_log.specs.Values.{TraceValue}
+use Rattle.stations.specs.Creations.{AreNamesOfFiles, MadeFront, after_making, names_in, trace_name, trace_name_in}
+use Rattle.stations.specs.Outputs.{OutputFile}
+use Rattle.stations.specs.Stations.{Station, setting_of_run}
+use Rattle.stations.specs.Streams.{outputs_in}
+use Rattle.stations.specs.Traces.{traced, traces_in}
+
+-- nothing more was made
+pub none_more : (told : Option (List (List ℕ))) → told ≡ after_making [] told
+none_more None = refl
+none_more (Some before) = ap Some (sym (append-nil before))
+
+-- one more was
+pub one_more : (name : List ℕ) (told : Option (List (List ℕ))) → noted name told ≡ after_making (name ∷ []) told
+one_more name None = refl
+one_more name (Some before) = refl
+
+-- these were, and then those
+pub both_made : (xs ys : List (List ℕ)) (told : Option (List (List ℕ))) → after_making ys (after_making xs told) ≡ after_making (xs ++ ys) told
+both_made xs ys None = refl
+both_made xs ys (Some before) = ap Some (append_assoc before xs ys)
+
+pub then_made : (xs ys : List (List ℕ)) (before between after : Option (List (List ℕ))) → between ≡ after_making xs before → after ≡ after_making ys between → after ≡ after_making (xs ++ ys) before
+then_made xs ys before between after first then_others = then_others ∙ ap (after_making ys) first ∙ both_made xs ys before
+
+-- all of them are a front of them, and so are none
+pub all_made : (names : List (List ℕ)) (before after : Option (List (List ℕ))) → after ≡ after_making names before → MadeFront names before after
+all_made names before after is = record { made = names; others = []; names_are = sym (append-nil names); told = is }
+
+pub none_made : (names : List (List ℕ)) (before after : Option (List (List ℕ))) → after ≡ before → MadeFront names before after
+none_made names before after is = record { made = []; others = names; names_are = refl; told = is ∙ none_more before }
+
+-- a front is one of more names
+pub front_made : (names more : List (List ℕ)) (before after : Option (List (List ℕ))) → MadeFront names before after → MadeFront (names ++ more) before after
+front_made names more before after front = record {
+  made = front.made;
+  others = front.others ++ more;
+  names_are = ap (λ ns. ns ++ more) front.names_are ∙ append_assoc front.made front.others more;
+  told = front.told;
+}
+
+-- all of some names, and then a front of others
+pub then_front : (names more : List (List ℕ)) (before between after : Option (List (List ℕ))) → between ≡ after_making names before → MadeFront more between after → MadeFront (names ++ more) before after
+then_front names more before between after first front = record {
+  made = names ++ front.made;
+  others = front.others;
+  names_are = ap (λ ns. names ++ ns) front.names_are ∙ sym (append_assoc names front.made front.others);
+  told = then_made names front.made before between after first front.told;
+}
+
+-- the names of two rows of sinks
+pub names_both : (xs ys : List SinkPlan) → names_in (xs ++ ys) ≡ names_in xs ++ names_in ys
+names_both [] ys = refl
+names_both (Output name node fallible ∷ xs) ys = ap (λ zs. name ∷ zs) (names_both xs ys)
+names_both (Feed buffer node ∷ xs) ys = names_both xs ys
+
+-- the names of files
+outputs_named : (setting : Setting) (ticks : ℕ) (sinks : List SinkPlan) → map (λ (file : OutputFile). file.name) (outputs_in setting ticks sinks) ≡ names_in sinks
+outputs_named setting ticks [] = refl
+outputs_named setting ticks (Output name node fallible ∷ sinks) = ap (λ zs. name ∷ zs) (outputs_named setting ticks sinks)
+outputs_named setting ticks (Feed buffer node ∷ sinks) = outputs_named setting ticks sinks
+
+trace_named : (name : Option (List ℕ)) (trace : TraceValue) → map (λ (file : OutputFile). file.name) (traced name trace) ≡ trace_name name
+trace_named None trace = refl
+trace_named (Some name) trace = refl
+
+traces_named : (window : Option ℕ) (station : Station) (run : Run) → map (λ (file : OutputFile). file.name) (traces_in window station run) ≡ trace_name_in window station.trace
+traces_named None station run = refl
+traces_named (Some window) station run = trace_named station.trace _
+
+pub files_named : (station : Station) (run : Run) → AreNamesOfFiles station run
+files_named station run =
+    map-append (λ (file : OutputFile). file.name) (outputs_in (setting_of_run station run) station.ticks station.plan.sinks) (traces_in station.window station run)
+    ∙ ap (λ names. names ++ map (λ (file : OutputFile). file.name) (traces_in station.window station run)) (outputs_named (setting_of_run station run) station.ticks station.plan.sinks)
+    ∙ ap (λ names. names_in station.plan.sinks ++ names) (traces_named station.window station run)

@@ -1,0 +1,43 @@
+-- The names under which a rendering creates its files, in order, and what a shelf tells of them.
+use Rattle.std.specs.Prelude.{◌≡◌, ℕ, List, [], ◌∷◌, ◌++◌, Option, Some, None, map}
+use Rattle.plan_core.specs.declared.sink.SinkPlan.{SinkPlan}
+use Rattle.plan_core.specs.declared.sink.SinkPlan.TheVariants.{Output, Feed}
+use Rattle.run_records.specs.Records.{Run}
+use Rattle.stations.specs.Stations.{Station}
+use Rattle.stations.specs.Traces.{files_of}
+
+-- the names of the outputs among these sinks, in their order
+abbrev pub names_in : List SinkPlan → List (List ℕ)
+names_in [] = []
+names_in (Output name node fallible ∷ sinks) = name ∷ names_in sinks
+names_in (Feed buffer node ∷ sinks) = names_in sinks
+
+-- the name of a trace, where one is wanted
+abbrev pub trace_name : Option (List ℕ) → List (List ℕ)
+trace_name None = []
+trace_name (Some name) = name ∷ []
+
+-- the name of the trace, where a run by threads is to leave one
+abbrev pub trace_name_in : (window : Option ℕ) → (trace : Option (List ℕ)) → List (List ℕ)
+trace_name_in None trace = []
+trace_name_in (Some window) trace = trace_name trace
+
+-- the names of all files of a rendering: of the outputs in sink order, and then of the trace
+abbrev pub names_of : Station → List (List ℕ)
+names_of station = names_in station.plan.sinks ++ trace_name_in station.window station.trace
+
+-- they are the names of the files that each run writes, in their order
+abbrev pub AreNamesOfFiles : Station → Run → Type 0
+AreNamesOfFiles station run = map (λ file. file.name) (files_of station run) ≡ names_of station
+
+-- what a shelf tells of the sinks that it made, after those of these names, one after another
+abbrev pub after_making : List (List ℕ) → Option (List (List ℕ)) → Option (List (List ℕ))
+after_making names None = None
+after_making names (Some before) = Some (before ++ names)
+
+-- the first of these names were made, one after another, and no other: maybe none, and maybe all
+pub record MadeFront (names : List (List ℕ)) (before after : Option (List (List ℕ))) : Type 0 where
+  pub made : List (List ℕ)
+  pub others : List (List ℕ)
+  pub names_are : names ≡ made ++ others
+  pub told : after ≡ after_making made before
