@@ -7,7 +7,7 @@
 enum { LENGTH = 1764, PASSES = 20000, SAMPLES = 35280000, EIGHTS = 4400000 };
 
 static int16_t left[LENGTH], right[LENGTH], into[LENGTH];
-static uint8_t bytes[4 * LENGTH];
+static uint8_t bytes[4 * LENGTH], wide[6 * LENGTH];
 static int32_t sum[LENGTH];
 static volatile uint32_t unknown_length = 44100;
 static volatile int unknown = 0;
@@ -38,6 +38,23 @@ __attribute__((noinline)) static void encode(const int16_t *l, const int16_t *r,
         to[4 * i + 2] = (uint8_t)r[i];
         to[4 * i + 3] = (uint8_t)((uint16_t)r[i] >> 8);
     }
+}
+static void lay_wide(int16_t sample, uint8_t *to) {
+    to[0] = 0;
+    to[1] = (uint8_t)sample;
+    to[2] = (uint8_t)((uint16_t)sample >> 8);
+}
+__attribute__((noinline)) static void encode_wide(const int16_t *l, const int16_t *r, uint8_t *to, size_t n) {
+    for (size_t i = 0; i < n; i++) {
+        lay_wide(l[i], to + 6 * i);
+        lay_wide(r[i], to + 6 * i + 3);
+    }
+}
+__attribute__((noinline)) static void encode_wide_mono(const int16_t *samples, uint8_t *to, size_t n) {
+    for (size_t i = 0; i < n; i++) lay_wide(samples[i], to + 3 * i);
+}
+__attribute__((noinline)) static void decode_wide(const uint8_t *from, int16_t *to, size_t n) {
+    for (size_t i = 0; i < n; i++) to[i] = (int16_t)(uint16_t)(from[3 * i + 1] | from[3 * i + 2] << 8);
 }
 __attribute__((noinline)) static void divide(const int32_t *s, const uint16_t *d, int16_t *to, size_t n) {
     for (size_t i = 0; i < n; i++) to[i] = (int16_t)(s[i] / d[i]);
@@ -82,8 +99,21 @@ int main(void) {
     for (int pass = 0; pass < PASSES; pass++) mix(left, right, (uint32_t)pass, whole, into, LENGTH);
     tell("mix", start, SAMPLES, into, LENGTH);
     start = now();
+    whole = 44100 + unknown_length;
+    for (int pass = 0; pass < PASSES; pass++) mix(left, right, (uint32_t)pass, whole, into, LENGTH);
+    tell("long_mix", start, SAMPLES, into, LENGTH);
+    start = now();
     for (int pass = 0; pass < PASSES; pass++) encode(left, right, bytes, LENGTH);
     tell("encode", start, SAMPLES, left, LENGTH);
+    start = now();
+    for (int pass = 0; pass < PASSES; pass++) encode_wide(left, right, wide, LENGTH);
+    tell("encode_wide", start, SAMPLES, left, LENGTH);
+    start = now();
+    for (int pass = 0; pass < PASSES; pass++) encode_wide_mono(left, wide, LENGTH);
+    tell("wide_mono", start, SAMPLES, left, LENGTH);
+    start = now();
+    for (int pass = 0; pass < PASSES; pass++) decode_wide(wide, into, LENGTH);
+    tell("decode_wide", start, SAMPLES, into, LENGTH);
     start = now();
     eight_sums[7] += unknown;
     eight_by[7] += unknown;

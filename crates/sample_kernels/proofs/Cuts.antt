@@ -54,7 +54,7 @@ scaled_by_cut (negsuc k) sample =
 pub clamped_fits : (number : ℤ) → FitsSigned w16 (clamped number)
 clamped_fits number = omega (arith, ints, clamps)
 
-cut_abs : (millionths : ℤ) → negsuc 32767999999 ≤ℤ millionths → millionths ≤ℤ pos 32768000000 → unsigned_abs millionths ≤ 32768000000
+pub cut_abs : (millionths : ℤ) → negsuc 32767999999 ≤ℤ millionths → millionths ≤ℤ pos 32768000000 → unsigned_abs millionths ≤ 32768000000
 cut_abs (pos k) low high = omega (arith, ints, high)
 cut_abs (negsuc k) low high = omega (arith, ints, low)
 

@@ -14,3 +14,4 @@ pub mod Shuffles
 pub mod Quotients
 pub mod MixedSums
 pub mod LongMixes
+pub mod LongScales

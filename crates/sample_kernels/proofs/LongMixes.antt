@@ -30,7 +30,7 @@ abbrev pub divided_long : ℕ → ℕ → ℕ
 divided_long = act2 (div signed) (s_int w64) (s_int w64) (s_int w64)
 
 -- ---- one lane
-long_fits : (a : ℤ) → FitsSigned w16 a → FitsSigned w64 a
+pub long_fits : (a : ℤ) → FitsSigned w16 a → FitsSigned w64 a
 long_fits a fits = omega (arith, ints, fits)
 
 rising_long : (at : ℕ) → at + 8 ≤ 4294967296 → zip2 added_long (replicate 8 at) (0 ∷ 1 ∷ 2 ∷ 3 ∷ 4 ∷ 5 ∷ 6 ∷ 7 ∷ []) ≡ counted 8 at
@@ -120,7 +120,7 @@ long_asked (x ∷ xs) fit =
     let is : FitsSigned w64 (to_z w16 (of_z w16 x)) = rw (to_z-of_z w16 x fit.0) (long_fits x fit.0) in
     (is, long_asked xs fit.1)
 
-widened_long_is : (xs : List ℤ) → Each1 (FitsSigned w16) xs → map widened_long (map (of_z w16) xs) ≡ map (of_z w64) xs
+pub widened_long_is : (xs : List ℤ) → Each1 (FitsSigned w16) xs → map widened_long (map (of_z w16) xs) ≡ map (of_z w64) xs
 widened_long_is [] fit = refl
 widened_long_is (x ∷ xs) fit =
     ap (λ y. of_z w64 y ∷ map widened_long (map (of_z w16) xs)) (to_z-of_z w16 x fit.0) ∙ ap (λ l. of_z w64 x ∷ l) (widened_long_is xs fit.1)

@@ -22,7 +22,7 @@ pub fn scale(factor: Decimal, from: &[i16], into: &mut [i16])
     if millionths.unsigned_abs() <= MOST {
         scale_by_eights(millionths, from, into);
     } else {
-        scale_singly(millionths, from, into);
+        scale_long(millionths, from, into);
     }
 }
 
@@ -58,14 +58,19 @@ fn scale_by_eights(millionths: i64, from: &[i16], into: &mut [i16])
 }
 
 // A factor of any size up to 32768 units either way.
-fn scale_singly(millionths: i64, from: &[i16], into: &mut [i16])
+fn scale_long(millionths: i64, from: &[i16], into: &mut [i16])
     requires same { length into.old ≡ length from.now }
     requires low { negsuc 32767999999 ≤ℤ millionths }
     requires high { millionths ≤ℤ pos 32768000000 }
     ensures { into.new ≡ map (scaled millionths) from.now }
 {
-    for (at, sample) in into.iter_mut().enumerate() {
-        *sample = scaled(from[at], millionths);
+    let mut done = 0;
+    while into.len() - done >= 8 {
+        scale_long_eight(millionths, from, into, done);
+        done += 8;
+    }
+    for at in done..into.len() {
+        into[at] = scaled(from[at], millionths);
     }
 }
 
@@ -83,6 +88,20 @@ fn scale_eight(millionths: i64, from: &[i16], into: &mut [i16], at: usize)
     let lower = (samples * i32x8::splat(middle) + lowest) >> i32x8::splat(15);
     let floors = (samples * i32x8::splat(high) + lower) >> i32x8::splat(5);
     let quotients = floors - (floors >> i32x8::splat(31));
+    let cut = quotients.simd_clamp(i32x8::splat(-32768), i32x8::splat(32767));
+    cut.cast::<i16>().copy_to_slice(&mut into[at..]);
+}
+
+// Eight samples times a factor of any size up to 32768 units either way.
+fn scale_long_eight(millionths: i64, from: &[i16], into: &mut [i16], at: usize)
+    requires low { negsuc 32767999999 ≤ℤ millionths }
+    requires high { millionths ≤ℤ pos 32768000000 }
+    requires within { (at + 8 ≤ length into.old) × (length into.old ≡ length from.now) }
+    ensures { into.new ≡ put_chunk at into.old (map (scaled millionths) (chunk at 8 from.now)) }
+{
+    let samples = load_samples(from, at).cast::<i64>();
+    let products = samples * i64x8::splat(millionths);
+    let quotients = (products / i64x8::splat(1_000_000)).cast::<i32>();
     let cut = quotients.simd_clamp(i32x8::splat(-32768), i32x8::splat(32767));
     cut.cast::<i16>().copy_to_slice(&mut into[at..]);
 }

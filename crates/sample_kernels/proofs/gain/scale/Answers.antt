@@ -11,6 +11,6 @@ returns-else-unsigned_abs-le-MOST c =
     let fits_factor : FitsSigned w64 c.args.factor.millionths = search rules in
     let is : to_z w64 (of_z w64 c.clamp-millionths.result) ≡ cut c.args.factor.millionths =
     to_z-of_z w64 c.clamp-millionths.result fits ∙ c.clamp-millionths.ensures.value ∙ ap cut (to_z-of_z w64 c.args.factor.millionths fits_factor) in
-    c.scale_singly.ensures
+    c.scale_long.ensures
     ∙ ap (λ m. map (scaled m) c.args.from.now) is
     ∙ same_map (scaled (cut c.args.factor.millionths)) (scaled c.args.factor.millionths) c.args.from.now (scaled_by_cut c.args.factor.millionths)
