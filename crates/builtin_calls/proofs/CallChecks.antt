@@ -14,7 +14,7 @@ use Rattle.script_values.specs.Slots.{Given}
 use Rattle.script_values.specs.Values.{Value, Int, Number, Text, Nothing, Source, Listed, none, more}
 use Rattle.plan_core.specs.Plans.{with_node}
 use Rattle.builtin_calls.specs.Nodes.{few, push, add}
-use Rattle.builtin_calls.specs.Parts.{int_of, text_of, decimal_of, source_of, sources_of, nodes_from, plain, plain_text, plain_decimal, plain_source, plain_sources, bool_or, int_or, text_or, decimal_or}
+use Rattle.builtin_calls.specs.Parts.{as_int, as_text, as_decimal, source_of, sources_of, nodes_from, plain, plain_text, plain_decimal, plain_source, plain_sources, bool_or, int_or, text_or, decimal_or}
 use Rattle.builtin_calls.specs.Settings.{rate_of, set_rate, set_duration, setting}
 use Rattle.builtin_calls.specs.Sinks.{add_output}
 use Rattle.builtin_calls.specs.Times.{overlap_of, track_of, pitch_of, samples_of}
@@ -51,7 +51,7 @@ other_key = refl
 
 -- 0.0001 seconds are no sample at 8000 a second, and 0.000125 are one
 no_sample : blank 7 (Mono ∷ []) (labelled (codes "duration") (Number (some_millionths 100 tt)) ∷ []) slow ≡ Err (BadValue 7)
-unfolding blank decimal_or decimal_of track_of
+unfolding blank decimal_or as_decimal track_of
 no_sample = refl
 
 one_sample : track_of 7 8000 (some_millionths 125 tt) ≡ Ok 1
@@ -63,11 +63,11 @@ unfolding track_of
 endless = refl
 
 no_pitch : square 7 (Mono ∷ []) ((None, Number (some_millionths 0 tt)) ∷ []) slow ≡ Err (BadValue 7)
-unfolding square plain_decimal plain decimal_of pitch_of
+unfolding square plain_decimal plain as_decimal pitch_of
 no_pitch = refl
 
 random_mode : playlist 7 (Mono ∷ []) (labelled (codes "mode") (Text (codes "random")) ∷ (None, Text (codes "L")) ∷ []) slow ≡ Err (BadValue 7)
-unfolding playlist bool_or text_or text_of plain_text plain
+unfolding playlist bool_or text_or as_text plain_text plain
 random_mode = refl
 
 -- a blank under so many crossfades
@@ -80,22 +80,22 @@ under n = record slow { plan = record slow.plan { nodes = faded n } }
 
 -- the fifth crossfade of a path is too many, before its overlap is looked at
 five_crossfades : crossfade 7 (Mono ∷ []) (labelled (codes "duration") (Number (some_millionths 999000000 tt)) ∷ (None, Source 4) ∷ []) (under 4) ≡ Err (TooLarge Crossfades)
-unfolding crossfade decimal_or decimal_of plain_source plain source_of short_overlap overlap_of
+unfolding crossfade decimal_or as_decimal plain_source plain source_of short_overlap overlap_of
 five_crossfades = refl
 
 -- and the fourth is not, so the overlap is told
 long_overlap : crossfade 7 (Mono ∷ []) (labelled (codes "duration") (Number (some_millionths 999000000 tt)) ∷ (None, Source 3) ∷ []) (under 3) ≡ Err (TooLarge Overlap)
-unfolding crossfade decimal_or decimal_of plain_source plain source_of short_overlap overlap_of
+unfolding crossfade decimal_or as_decimal plain_source plain source_of short_overlap overlap_of
 long_overlap = refl
 
 -- a bad value comes before a limit
 no_overlap : crossfade 7 (Mono ∷ []) (labelled (codes "duration") (Number (some_millionths 100 tt)) ∷ (None, Source 4) ∷ []) (under 4) ≡ Err (BadValue 7)
-unfolding crossfade decimal_or decimal_of plain_source plain source_of short_overlap overlap_of
+unfolding crossfade decimal_or as_decimal plain_source plain source_of short_overlap overlap_of
 no_overlap = refl
 
 -- a source of another kind is no value of this call
 other_kind : crossfade 7 (Stereo ∷ []) ((None, Source 0) ∷ []) (under 0) ≡ Err Stuck
-unfolding crossfade decimal_or decimal_of plain_source plain source_of
+unfolding crossfade decimal_or as_decimal plain_source plain source_of
 other_kind = refl
 
 -- `buffer(buffer=0., max=0.01, s)` at 8000 samples a second and ticks of 8 samples
@@ -114,12 +114,12 @@ blanks = (None, Listed (more (Source 0) none))
 
 -- a seed below zero is bad
 negative_seed : random 7 (Mono ∷ []) (labelled (codes "seed") (Int (negsuc 0)) ∷ blanks ∷ []) (under 0) ≡ Err (BadValue 7)
-unfolding random int_or int_of plain_sources plain sources_of nodes_from source_of
+unfolding random int_or as_int plain_sources plain sources_of nodes_from source_of
 negative_seed = refl
 
 -- the seed is that of the argument, and 0 where none is given
 a_seed : random 7 (Mono ∷ []) (blanks ∷ labelled (codes "seed") (Int (pos 12)) ∷ []) (under 0) ≡ Ok (Source 1, record (under 0) { plan = with_node (under 0).plan (node (op.Random 12) Mono (0 ∷ [])) })
-unfolding random int_or int_of plain_sources plain sources_of nodes_from source_of add push
+unfolding random int_or as_int plain_sources plain sources_of nodes_from source_of add push
 a_seed = refl
 
 no_seed : random 7 (Mono ∷ []) (blanks ∷ []) (under 0) ≡ Ok (Source 1, record (under 0) { plan = with_node (under 0).plan (node (op.Random 0) Mono (0 ∷ [])) })

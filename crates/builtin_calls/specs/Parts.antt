@@ -18,25 +18,25 @@ one_kind [] = Err Stuck
 one_kind (k ∷ ks) = Ok k
 
 -- values of one type
-unfoldable pub text_of : Value → Result (List ℕ) Fault
-text_of (Text t) = Ok t
-text_of v = Err Stuck
+unfoldable pub as_text : Value → Result (List ℕ) Fault
+as_text (Text t) = Ok t
+as_text v = Err Stuck
 
-unfoldable pub decimal_of : Value → Result Decimal Fault
-decimal_of (Number d) = Ok d
-decimal_of v = Err Stuck
+unfoldable pub as_decimal : Value → Result Decimal Fault
+as_decimal (Number d) = Ok d
+as_decimal v = Err Stuck
 
-unfoldable pub int_of : Value → Result ℤ Fault
-int_of (Int n) = Ok n
-int_of v = Err Stuck
+unfoldable pub as_int : Value → Result ℤ Fault
+as_int (Int n) = Ok n
+as_int v = Err Stuck
 
-unfoldable pub bool_of : Value → Result Bool Fault
-bool_of (Truth b) = Ok b
-bool_of v = Err Stuck
+unfoldable pub as_bool : Value → Result Bool Fault
+as_bool (Truth b) = Ok b
+as_bool v = Err Stuck
 
-unfoldable pub format_of : Value → Result (Unit {0}) Fault
-format_of Format = Ok tt
-format_of v = Err Stuck
+unfoldable pub as_format : Value → Result (Unit {0}) Fault
+as_format Format = Ok tt
+as_format v = Err Stuck
 
 abbrev pub is_kind : Kind → Kind → Bool
 is_kind Mono Mono = true
@@ -101,19 +101,19 @@ plain given = needed (argument None given)
 unfoldable pub plain_text : List Given → Result (List ℕ × List Given) Fault
 plain_text given = do
   x ← plain given
-  text ← text_of x.0
+  text ← as_text x.0
   Ok (text, x.1)
 
 unfoldable pub plain_decimal : List Given → Result (Decimal × List Given) Fault
 plain_decimal given = do
   x ← plain given
-  number ← decimal_of x.0
+  number ← as_decimal x.0
   Ok (number, x.1)
 
 unfoldable pub plain_format : List Given → Result (Unit {0} × List Given) Fault
 plain_format given = do
   x ← plain given
-  format ← format_of x.0
+  format ← as_format x.0
   Ok (format, x.1)
 
 unfoldable pub plain_source : List Node → Kind → List Given → Result (ℕ × List Given) Fault
@@ -140,13 +140,13 @@ or_default read default given None = Ok (default, given)
 or_default read default given (Some x) = read x.0 >>= λ a. Ok (a, x.1)
 
 unfoldable pub bool_or : List ℕ → Bool → List Given → Result (Bool × List Given) Fault
-bool_or label default given = or_default bool_of default given (argument (Some label) given)
+bool_or label default given = or_default as_bool default given (argument (Some label) given)
 
 unfoldable pub decimal_or : List ℕ → Decimal → List Given → Result (Decimal × List Given) Fault
-decimal_or label default given = or_default decimal_of default given (argument (Some label) given)
+decimal_or label default given = or_default as_decimal default given (argument (Some label) given)
 
 unfoldable pub int_or : List ℕ → ℤ → List Given → Result (ℤ × List Given) Fault
-int_or label default given = or_default int_of default given (argument (Some label) given)
+int_or label default given = or_default as_int default given (argument (Some label) given)
 
 unfoldable pub text_or : List ℕ → List ℕ → List Given → Result (List ℕ × List Given) Fault
-text_or label default given = or_default text_of default given (argument (Some label) given)
+text_or label default given = or_default as_text default given (argument (Some label) given)

@@ -3,7 +3,7 @@ ghost use Rattle.std.specs.Prelude.{◌≡◌, map};
 ghost use Rattle.script_values.specs.Gives.{Gives};
 ghost use Rattle.script_values.specs.View.{view_value};
 ghost use Rattle.script_values.specs.Views.{view_given};
-ghost use Rattle.builtin_calls.specs.Parts.{bool_of, bool_or, decimal_of, decimal_or, format_of, int_of, int_or, one_kind, plain, plain_decimal, plain_format, plain_text, text_of, text_or};
+ghost use Rattle.builtin_calls.specs.Parts.{as_bool, bool_or, as_decimal, decimal_or, as_format, as_int, int_or, one_kind, plain, plain_decimal, plain_format, plain_text, as_text, text_or};
 
 use fixed_text::Decimal;
 use liq_base::{Kind, Text};
@@ -36,7 +36,7 @@ pub(crate) fn plain_text(given: &mut Vec<Given>) -> Result<Text, Fault>
     ensures { Gives (λ t. (t, map view_given given.new.items)) result (plain_text (map view_given given.old.items)) }
 {
     let value = plain(given)?;
-    let text = text_of(value)?;
+    let text = as_text(value)?;
     Ok(text)
 }
 
@@ -46,7 +46,7 @@ pub(crate) fn plain_decimal(given: &mut Vec<Given>) -> Result<Decimal, Fault>
     ensures { Gives (λ d. (d, map view_given given.new.items)) result (plain_decimal (map view_given given.old.items)) }
 {
     let value = plain(given)?;
-    let number = decimal_of(&value)?;
+    let number = as_decimal(&value)?;
     Ok(number)
 }
 
@@ -56,7 +56,7 @@ pub(crate) fn plain_format(given: &mut Vec<Given>) -> Result<(), Fault>
     ensures { Gives (λ _. (tt, map view_given given.new.items)) result (plain_format (map view_given given.old.items)) }
 {
     let value = plain(given)?;
-    format_of(&value)?;
+    as_format(&value)?;
     Ok(())
 }
 
@@ -68,7 +68,7 @@ pub(crate) fn bool_or(given: &mut Vec<Given>, label: &str, default: bool) -> Res
     match argument(given, Some(label)) {
         None => Ok(default),
         Some(value) => {
-            let truth = bool_of(&value)?;
+            let truth = as_bool(&value)?;
             Ok(truth)
         }
     }
@@ -86,7 +86,7 @@ pub(crate) fn decimal_or(
     match argument(given, Some(label)) {
         None => Ok(default),
         Some(value) => {
-            let number = decimal_of(&value)?;
+            let number = as_decimal(&value)?;
             Ok(number)
         }
     }
@@ -100,7 +100,7 @@ pub(crate) fn int_or(given: &mut Vec<Given>, label: &str, default: i64) -> Resul
     match argument(given, Some(label)) {
         None => Ok(default),
         Some(value) => {
-            let number = int_of(&value)?;
+            let number = as_int(&value)?;
             Ok(number)
         }
     }
@@ -114,15 +114,15 @@ pub(crate) fn text_or(given: &mut Vec<Given>, label: &str, default: Text) -> Res
     match argument(given, Some(label)) {
         None => Ok(default),
         Some(value) => {
-            let text = text_of(value)?;
+            let text = as_text(value)?;
             Ok(text)
         }
     }
 }
 
-#[tactic(auto, unfolding(crate::specs::Parts::text_of))]
-fn text_of(value: Value) -> Result<Text, Fault>
-    ensures { Gives (λ t. t) result (text_of (view_value value)) }
+#[tactic(auto, unfolding(crate::specs::Parts::as_text))]
+fn as_text(value: Value) -> Result<Text, Fault>
+    ensures { Gives (λ t. t) result (as_text (view_value value)) }
 {
     match value {
         Value::Text(text) => Ok(text),
@@ -130,9 +130,9 @@ fn text_of(value: Value) -> Result<Text, Fault>
     }
 }
 
-#[tactic(auto, unfolding(crate::specs::Parts::decimal_of))]
-fn decimal_of(value: &Value) -> Result<Decimal, Fault>
-    ensures { Gives (λ d. d) result (decimal_of (view_value value.now)) }
+#[tactic(auto, unfolding(crate::specs::Parts::as_decimal))]
+fn as_decimal(value: &Value) -> Result<Decimal, Fault>
+    ensures { Gives (λ d. d) result (as_decimal (view_value value.now)) }
 {
     match value {
         Value::Decimal(number) => Ok(*number),
@@ -140,9 +140,9 @@ fn decimal_of(value: &Value) -> Result<Decimal, Fault>
     }
 }
 
-#[tactic(auto, unfolding(crate::specs::Parts::int_of))]
-fn int_of(value: &Value) -> Result<i64, Fault>
-    ensures { Gives (λ n. n) result (int_of (view_value value.now)) }
+#[tactic(auto, unfolding(crate::specs::Parts::as_int))]
+fn as_int(value: &Value) -> Result<i64, Fault>
+    ensures { Gives (λ n. n) result (as_int (view_value value.now)) }
 {
     match value {
         Value::Int(number) => Ok(*number),
@@ -150,9 +150,9 @@ fn int_of(value: &Value) -> Result<i64, Fault>
     }
 }
 
-#[tactic(auto, unfolding(crate::specs::Parts::bool_of))]
-fn bool_of(value: &Value) -> Result<bool, Fault>
-    ensures { Gives (λ b. b) result (bool_of (view_value value.now)) }
+#[tactic(auto, unfolding(crate::specs::Parts::as_bool))]
+fn as_bool(value: &Value) -> Result<bool, Fault>
+    ensures { Gives (λ b. b) result (as_bool (view_value value.now)) }
 {
     match value {
         Value::Truth(truth) => Ok(*truth),
@@ -160,9 +160,9 @@ fn bool_of(value: &Value) -> Result<bool, Fault>
     }
 }
 
-#[tactic(auto, unfolding(crate::specs::Parts::format_of))]
-fn format_of(value: &Value) -> Result<(), Fault>
-    ensures { Gives (λ _. tt) result (format_of (view_value value.now)) }
+#[tactic(auto, unfolding(crate::specs::Parts::as_format))]
+fn as_format(value: &Value) -> Result<(), Fault>
+    ensures { Gives (λ _. tt) result (as_format (view_value value.now)) }
 {
     match value {
         Value::Format => Ok(()),

@@ -25,7 +25,7 @@ use Rattle.script_values.specs.Outcomes.{◌>>=◌, Outcome}
 use Rattle.script_values.specs.Slots.{Given}
 use Rattle.script_values.specs.Values as value
 use Rattle.script_values.specs.Values.{Value}
-use Rattle.builtin_calls.specs.Parts.{one_kind, is_kind, of_kind, text_of, decimal_of, int_of, bool_of, format_of, source_of, nodes_from, sources_of, pred_of, pair_in, pair_of, pairs_from, pairs_of, needed, or_default, plain, plain_text, plain_decimal, plain_format, plain_source, plain_sources, plain_pairs, bool_or, int_or, decimal_or, text_or}
+use Rattle.builtin_calls.specs.Parts.{one_kind, is_kind, of_kind, as_text, as_decimal, as_int, as_bool, as_format, source_of, nodes_from, sources_of, pred_of, pair_in, pair_of, pairs_from, pairs_of, needed, or_default, plain, plain_text, plain_decimal, plain_format, plain_source, plain_sources, plain_pairs, bool_or, int_or, decimal_or, text_or}
 use Rattle.builtin_calls.specs.Nodes.{at_most, few, push, add, add_buffer, crossfades_with}
 use Rattle.builtin_calls.specs.Times.{some_samples, overlap_of, track_of, samples_of, pitch_of, chunks}
 use Rattle.builtin_calls.specs.Sinks.{is_named, add_output}
@@ -54,8 +54,8 @@ weaker P Q (Err e) q is = is
 
 -- ---- values of their types
 
-text_read : (ns : List Node) (v : Value) → IsA ns v (base_type base.Text) → NotStuck (λ _. ⊤) (text_of v)
-unfolding text_of
+text_read : (ns : List Node) (v : Value) → IsA ns v (base_type base.Text) → NotStuck (λ _. ⊤) (as_text v)
+unfolding as_text
 text_read ns (value.Text t) is = tt
 text_read ns (value.Int n) is = absurd cc
 text_read ns (value.Number d) is = absurd cc
@@ -67,8 +67,8 @@ text_read ns (value.Source n) is = let e = is.2 in absurd cc
 text_read ns (value.Listed vs) is = let e = is.1 in absurd cc
 text_read ns (value.Tuple vs) is = let e = is.1 in absurd cc
 
-decimal_read : (ns : List Node) (v : Value) → IsA ns v (base_type base.Decimal) → NotStuck (λ _. ⊤) (decimal_of v)
-unfolding decimal_of
+decimal_read : (ns : List Node) (v : Value) → IsA ns v (base_type base.Decimal) → NotStuck (λ _. ⊤) (as_decimal v)
+unfolding as_decimal
 decimal_read ns (value.Number d) is = tt
 decimal_read ns (value.Text t) is = absurd cc
 decimal_read ns (value.Int n) is = absurd cc
@@ -80,8 +80,8 @@ decimal_read ns (value.Source n) is = let e = is.2 in absurd cc
 decimal_read ns (value.Listed vs) is = let e = is.1 in absurd cc
 decimal_read ns (value.Tuple vs) is = let e = is.1 in absurd cc
 
-int_read : (ns : List Node) (v : Value) → IsA ns v (base_type base.Int) → NotStuck (λ _. ⊤) (int_of v)
-unfolding int_of
+int_read : (ns : List Node) (v : Value) → IsA ns v (base_type base.Int) → NotStuck (λ _. ⊤) (as_int v)
+unfolding as_int
 int_read ns (value.Int n) is = tt
 int_read ns (value.Number d) is = absurd cc
 int_read ns (value.Text t) is = absurd cc
@@ -93,8 +93,8 @@ int_read ns (value.Source n) is = let e = is.2 in absurd cc
 int_read ns (value.Listed vs) is = let e = is.1 in absurd cc
 int_read ns (value.Tuple vs) is = let e = is.1 in absurd cc
 
-bool_read : (ns : List Node) (v : Value) → IsA ns v (base_type base.Bool) → NotStuck (λ _. ⊤) (bool_of v)
-unfolding bool_of
+bool_read : (ns : List Node) (v : Value) → IsA ns v (base_type base.Bool) → NotStuck (λ _. ⊤) (as_bool v)
+unfolding as_bool
 bool_read ns (value.Truth b) is = tt
 bool_read ns (value.Text t) is = absurd cc
 bool_read ns (value.Int n) is = absurd cc
@@ -106,8 +106,8 @@ bool_read ns (value.Source n) is = let e = is.2 in absurd cc
 bool_read ns (value.Listed vs) is = let e = is.1 in absurd cc
 bool_read ns (value.Tuple vs) is = let e = is.1 in absurd cc
 
-format_read : (ns : List Node) (v : Value) → IsA ns v (base_type base.Format) → NotStuck (λ _. ⊤) (format_of v)
-unfolding format_of
+format_read : (ns : List Node) (v : Value) → IsA ns v (base_type base.Format) → NotStuck (λ _. ⊤) (as_format v)
+unfolding as_format
 format_read ns value.Format is = tt
 format_read ns (value.Text t) is = absurd cc
 format_read ns (value.Int n) is = absurd cc
@@ -242,15 +242,15 @@ module _ (S : List Given → List Given) (ns : List Node) (name : List ℕ) (ps 
 
   pub text_step : Commutes S None → Taking S ns (in_place name ∷ ps) (base_type base.Text ∷ ts) given → NotStuck (λ (y : List ℕ × List Given). Taking S ns ps ts y.1) (plain_text given)
   unfolding plain_text plain
-  text_step commutes taking = needed_step (base_type base.Text) text_of (text_read ns) commutes taking
+  text_step commutes taking = needed_step (base_type base.Text) as_text (text_read ns) commutes taking
 
   pub decimal_step : Commutes S None → Taking S ns (in_place name ∷ ps) (base_type base.Decimal ∷ ts) given → NotStuck (λ (y : Decimal × List Given). Taking S ns ps ts y.1) (plain_decimal given)
   unfolding plain_decimal plain
-  decimal_step commutes taking = needed_step (base_type base.Decimal) decimal_of (decimal_read ns) commutes taking
+  decimal_step commutes taking = needed_step (base_type base.Decimal) as_decimal (decimal_read ns) commutes taking
 
   pub format_step : Commutes S None → Taking S ns (in_place name ∷ ps) (base_type base.Format ∷ ts) given → NotStuck (λ (y : Unit {0} × List Given). Taking S ns ps ts y.1) (plain_format given)
   unfolding plain_format plain
-  format_step commutes taking = needed_step (base_type base.Format) format_of (format_read ns) commutes taking
+  format_step commutes taking = needed_step (base_type base.Format) as_format (format_read ns) commutes taking
 
   pub source_step : (k : Kind) → Commutes S None → Taking S ns (in_place name ∷ ps) (source k ∷ ts) given → NotStuck (λ (y : ℕ × List Given). Taking S ns ps ts y.1) (plain_source ns k given)
   unfolding plain_source plain
@@ -281,19 +281,19 @@ module _ (S : List Given → List Given) (ns : List Node) (name : List ℕ) (ps 
 
   pub text_or_step : (default : List ℕ) → Commutes S (Some name) → Taking S ns (perhaps name ∷ ps) (base_type base.Text ∷ ts) given → NotStuck (λ (y : List ℕ × List Given). Taking S ns ps ts y.1) (text_or name default given)
   unfolding text_or
-  text_or_step default commutes taking = optional_by (base_type base.Text) text_of default (text_read ns) (argument (Some name) given) (take_labelled S ns name ps (base_type base.Text) ts given commutes taking)
+  text_or_step default commutes taking = optional_by (base_type base.Text) as_text default (text_read ns) (argument (Some name) given) (take_labelled S ns name ps (base_type base.Text) ts given commutes taking)
 
   pub bool_or_step : (default : Bool) → Commutes S (Some name) → Taking S ns (perhaps name ∷ ps) (base_type base.Bool ∷ ts) given → NotStuck (λ (y : Bool × List Given). Taking S ns ps ts y.1) (bool_or name default given)
   unfolding bool_or
-  bool_or_step default commutes taking = optional_by (base_type base.Bool) bool_of default (bool_read ns) (argument (Some name) given) (take_labelled S ns name ps (base_type base.Bool) ts given commutes taking)
+  bool_or_step default commutes taking = optional_by (base_type base.Bool) as_bool default (bool_read ns) (argument (Some name) given) (take_labelled S ns name ps (base_type base.Bool) ts given commutes taking)
 
   pub decimal_or_step : (default : Decimal) → Commutes S (Some name) → Taking S ns (perhaps name ∷ ps) (base_type base.Decimal ∷ ts) given → NotStuck (λ (y : Decimal × List Given). Taking S ns ps ts y.1) (decimal_or name default given)
   unfolding decimal_or
-  decimal_or_step default commutes taking = optional_by (base_type base.Decimal) decimal_of default (decimal_read ns) (argument (Some name) given) (take_labelled S ns name ps (base_type base.Decimal) ts given commutes taking)
+  decimal_or_step default commutes taking = optional_by (base_type base.Decimal) as_decimal default (decimal_read ns) (argument (Some name) given) (take_labelled S ns name ps (base_type base.Decimal) ts given commutes taking)
 
   pub int_or_step : (default : ℤ) → Commutes S (Some name) → Taking S ns (perhaps name ∷ ps) (base_type base.Int ∷ ts) given → NotStuck (λ (y : ℤ × List Given). Taking S ns ps ts y.1) (int_or name default given)
   unfolding int_or
-  int_or_step default commutes taking = optional_by (base_type base.Int) int_of default (int_read ns) (argument (Some name) given) (take_labelled S ns name ps (base_type base.Int) ts given commutes taking)
+  int_or_step default commutes taking = optional_by (base_type base.Int) as_int default (int_read ns) (argument (Some name) given) (take_labelled S ns name ps (base_type base.Int) ts given commutes taking)
 
 -- ---- kinds, bad values and limits
 

@@ -20,7 +20,7 @@ use Rattle.script_values.specs.Machines.{count, first_machine, some_millionths}
 use Rattle.script_values.specs.Numbers.{multiplied, quotient, truth_of}
 use Rattle.builtin_calls.specs.Builtins.{builtin, set, blank, output_file}
 use Rattle.builtin_calls.specs.Nodes.{add, push}
-use Rattle.builtin_calls.specs.Parts.{bool_or, decimal_or, format_of, plain, plain_format, plain_source, plain_text, source_of, text_of}
+use Rattle.builtin_calls.specs.Parts.{bool_or, decimal_or, as_format, plain, plain_format, plain_source, plain_text, source_of, as_text}
 use Rattle.builtin_calls.specs.Settings.{duration_of, rate_of, set_duration, set_rate, setting}
 use Rattle.builtin_calls.specs.Sinks.{add_output}
 use Rattle.builtin_calls.specs.Times.{track_of}
@@ -106,22 +106,22 @@ sets = use_of 0 (target.Builtin builtins.Set) ∷ use_of 10 (target.Builtin buil
 
 -- set("frame.duration", 0.)  set("log", 1)  x = true: a bad tick is blamed on the last statement that set one
 bad_tick : evaluation (more (seconds 0 (some_millionths 0 tt)) (more (set_to 10 (codes "log") (Constant 14 (literal.Int (pos 1)))) (more (bound 20 (Truth 22 true)) none))) sets ≡ Err (Some (told.BadSetting 1))
-unfolding statements turned statement full expr ors conj ands nega compare sum addeds product multiplieds prim call arguments argued applied builtin set plain_text plain text_of setting set_duration duration_of count ended
+unfolding statements turned statement full expr ors conj ands nega compare sum addeds product multiplieds prim call arguments argued applied builtin set plain_text plain as_text setting set_duration duration_of count ended
 bad_tick = refl
 
 -- set("frame.duration", 0.): the settings end with the script too
 last_setting : evaluation (more (seconds 0 (some_millionths 0 tt)) none) sets ≡ Err (Some (told.BadSetting 1))
-unfolding statements turned statement full expr ors conj ands nega compare sum addeds product multiplieds prim call arguments argued applied builtin set plain_text plain text_of setting set_duration duration_of count ended
+unfolding statements turned statement full expr ors conj ands nega compare sum addeds product multiplieds prim call arguments argued applied builtin set plain_text plain as_text setting set_duration duration_of count ended
 last_setting = refl
 
 -- set("frame.duration", 0.00001)  set("frame.audio.samplerate", 192000): no sample at 44100 samples a second, and one at 192000
 rate_in_force : evaluation (more (seconds 0 (some_millionths 10 tt)) (more (rate 10 192000) none)) sets ≡ Err (Some told.NoOutput)
-unfolding statements turned statement full expr ors conj ands nega compare sum addeds product multiplieds prim call arguments argued applied builtin set plain_text plain text_of setting set_duration duration_of set_rate rate_of count ended
+unfolding statements turned statement full expr ors conj ands nega compare sum addeds product multiplieds prim call arguments argued applied builtin set plain_text plain as_text setting set_duration duration_of set_rate rate_of count ended
 rate_in_force = refl
 
 -- x = true  set("frame.audio.samplerate", 8000)
 late_setting : evaluation (more (bound 0 (Truth 2 true)) (more (rate 10 8000) none)) sets ≡ Err (Some (told.BadSetting 2))
-unfolding statements turned statement full expr ors conj ands nega compare sum addeds product multiplieds prim call arguments argued applied builtin set plain_text plain text_of setting set_rate rate_of count ended
+unfolding statements turned statement full expr ors conj ands nega compare sum addeds product multiplieds prim call arguments argued applied builtin set plain_text plain as_text setting set_rate rate_of count ended
 late_setting = refl
 
 -- ---- the limit of the work
@@ -195,5 +195,5 @@ uses_of_kinds =
     ∷ record { at = 36; target = target.Def 11; kinds = kind_of.Fixed Stereo ∷ [] } ∷ []
 
 each_kind : evaluation two_kinds uses_of_kinds ≡ Ok (record { rate = 44100; frame = 1764; nodes = record { op = node_op.Blank 0; kind = Mono; children = [] } ∷ record { op = node_op.Blank 0; kind = Stereo; children = [] } ∷ []; sinks = Output (codes "A") 0 false ∷ Output (codes "B") 1 false ∷ []; buffers = [] })
-unfolding statements turned statement full expr ors conj ands nega compare sum addeds product multiplieds prim call arguments argued applied builtin blank output_file decimal_or bool_or plain plain_format plain_text plain_source format_of text_of source_of track_of add push add_output parameters inners body call_by count ended
+unfolding statements turned statement full expr ors conj ands nega compare sum addeds product multiplieds prim call arguments argued applied builtin blank output_file decimal_or bool_or plain plain_format plain_text plain_source as_format as_text source_of track_of add push add_output parameters inners body call_by count ended
 each_kind = refl
