@@ -12,5 +12,6 @@ mod Workloads
 mod Summing
 mod Ended
 mod Finished
+mod Ordered
 mod Complete
 mod Counted

@@ -1,6 +1,7 @@
 -- What is found of a script before anything is rendered. Only what is private cites this.
-use Rattle.std.specs.Prelude.{◌≡◌, ◌≤◌, ℕ, List, Result, Err, Option, Some, IsErrOf, true, false}
+use Rattle.std.specs.Prelude.{◌≡◌, ◌≤◌, ℕ, List, Result, Ok, Err, Option, Some, String, IsErrOf, true, false}
 use Rattle.std.specs.Option.{ForSome}
+use Rattle.std.specs.declared.alloc.Global.{Global}
 use Rattle.liq_base.specs.Counts.{Rose}
 use Rattle.liq_base.specs.Files.{Files}
 use Rattle.frame_core.specs.Library.{Sounds}
@@ -8,6 +9,7 @@ use Rattle.plan_core.specs.declared.plan.Plan.{Plan}
 use Rattle.clock_infer.specs.declared.clock_map.ClockMap.{ClockMap}
 use Rattle.script_plan.specs.declared.fault.ScriptFault.{ScriptFault}
 use Rattle.script_plan.specs.declared.fault.ScriptFault.TheVariants as script_fault
+use Rattle.stations.specs.Creations.{MadeFront, after_making}
 use Rattle.stations.specs.Findings.{IsAccepted}
 use Rattle.stations.specs.Stations.{Station}
 use Rattle.station_check.specs.declared.halt.Halt.{Halt as CheckHalt}
@@ -19,6 +21,7 @@ use Rattle.refusal_lines.specs.declared.fault.Fault.TheVariants.{SameTrace, Scri
 use Rattle.liq_cli.specs.Words.{Asked, Check, Make, Render, file_of, start_of, ticks_of, trace_of, window_of}
 use Rattle.liq_cli.specs.Answer.{Answer, Refused, Checked, Accepted, Made, HasPlan, IsFault, IsAnswerTo, clashes, files_for, files_made}
 use Rattle.liq_cli.specs.Call.{Broken, Starved}
+use Rattle.liq_cli.specs.Creating.{creations}
 use Rattle.liq_cli.specs.declared.halt.Halt.{Halt}
 use Rattle.liq_cli.specs.declared.halt.Halt.TheVariants.{Read, Write, Memory, Refused as refused_for}
 use Rattle.liq_cli.specs.declared.prepare.Work.{Work}
@@ -106,6 +109,15 @@ pub record Stops {T : Type 0} (asked : Asked) (told left : Option Files) (reads_
   pub write : IsErrOf result Write → Rose writes_before writes_after
   pub broken : IsErrOf result Write → ForSome told (λ files. ForOne asked files (λ answer. Broken answer (Rose writes_before writes_after) files left))
   pub memory : IsErrOf result Memory → ForSome told (λ files. ForEach asked files (λ answer. Starved answer (Rose writes_before writes_after) files left))
+
+-- what a job created, by the way that it ended: with its report all that is to be created for the answer, in order; with a fault, and after
+-- a read that failed, nothing; else a front of it
+abbrev pub CreatedFor : Asked → (told : Option Files) (before after : Option (List (List ℕ))) → Result (String Global) Halt → Type 0
+CreatedFor asked told before after (Ok report) = ForSome told (λ files. ForOne asked files (λ answer. after ≡ after_making (creations answer) before))
+CreatedFor asked told before after (Err (refused_for fault)) = after ≡ before
+CreatedFor asked told before after (Err Read) = after ≡ before
+CreatedFor asked told before after (Err Write) = ForSome told (λ files. ForOne asked files (λ answer. MadeFront (creations answer) before after))
+CreatedFor asked told before after (Err Memory) = ForSome told (λ files. ForEach asked files (λ answer. MadeFront (creations answer) before after))
 
 -- how the ends of lower steps go on
 abbrev pub halt_of_script : ScriptFault → Halt

@@ -40,6 +40,7 @@ pub fn prepare<S: Shelf>(
     ensures fit { IfOk result (λ work. IsFit work.plan work.ready.library work.ready.clocks ticks) }
     ensures ends { EndsFor (S.files shelf.old) file.now (named trace.entry) ticks (S.read_count shelf.old) (S.read_count shelf.new) result }
     ensures shelf { OnlyRead S.files S.read_count S.write_count shelf.old shelf.new }
+    ensures created { S.created shelf.new ≡ S.created shelf.old }
 {
     let script = read_script(alloc, file, shelf)?;
     one_answer();
@@ -54,6 +55,7 @@ fn read_script<S: Shelf>(alloc: Global, file: &str, shelf: &mut S) -> Result<Vec
     ensures script { IfOk result (λ script. ForSome (S.files shelf.old) (λ files. file_at files file.now ≡ Some script.items)) }
     ensures ends { (trace : Option (List ℕ)) (ticks : ℕ) → EndsFor (S.files shelf.old) file.now trace ticks (S.read_count shelf.old) (S.read_count shelf.new) result }
     ensures shelf { OnlyRead S.files S.read_count S.write_count shelf.old shelf.new }
+    ensures created { S.created shelf.new ≡ S.created shelf.old }
 {
     let mut script = Vec::new(alloc);
     one_answer();

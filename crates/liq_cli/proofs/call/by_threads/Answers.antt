@@ -7,6 +7,7 @@ use Rattle.liq_cli.proofs.Complete.{completes}
 use Rattle.liq_cli.proofs.Finished.{finished}
 use Rattle.liq_cli.proofs.Workloads.{told_of}
 use Rattle.liq_cli.proofs.Asking.{AsksOne}
+use Rattle.liq_cli.proofs.Ordered.{created_none, make_creates_none, ordered}
 use Rattle.liq_cli.proofs.call.by_threads.Goals as goal
 
 pub returns-in-Render-clause-ends : goal.returns-in-Render-clause-ends
@@ -47,3 +48,24 @@ returns-in-Make-clause-made g c = λ asks_to.
 
 pub returns-in-Make-clause-untouched : goal.returns-in-Make-clause-untouched
 returns-in-Make-clause-untouched g c = λ asks. refl
+
+pub returns-in-Render-clause-order : goal.returns-in-Render-clause-order
+returns-in-Render-clause-order g c =
+    let asks : AsksOne (texts c.args.words.now) (asked_by_threads c.read_threaded.result) = record { is = c.read_threaded.ensures.found; only = c.read_threaded.ensures.only } in
+    ordered (texts c.args.words.now) (g.S.Shelf.files c.args.shelf.now) (g.S.Shelf.created c.args.shelf.now) (g.S.Shelf.created c.threads_job-job.new.shelf)
+    (asked_to_render c.in-Render.asked) (rw c.in-Render.is at asks)
+    g.O.Sink.held g.O.Sink.faults g.E.Sink.held g.E.Sink.faults c.args.out.now c.finish.new.out c.args.err.now c.finish.new.err _ _ _ _ _ c.threads_job-job.result c.finish.result
+    c.threads_job-job.ensures.order c.threads_job-job.ensures.stops c.finish.ensures
+
+pub returns-in-Make-clause-order : goal.returns-in-Make-clause-order
+returns-in-Make-clause-order g c =
+    let asks : AsksOne (texts c.args.words.now) (asked_by_threads c.read_threaded.result) = record { is = c.read_threaded.ensures.found; only = c.read_threaded.ensures.only } in
+    let asked = Make c.in-Make.seed c.in-Make.size.files in
+    let shelf = c.args.shelf.now in
+    let told = g.S.Shelf.files shelf in
+    let made = g.S.Shelf.created shelf in
+    let stops = c.make_job-job.ensures.stops told (g.S.Shelf.read_count shelf) (g.S.Shelf.write_count shelf) in
+    ordered (texts c.args.words.now) told made made asked (rw c.in-Make.is at asks)
+    g.O.Sink.held g.O.Sink.faults g.E.Sink.held g.E.Sink.faults c.args.out.now c.finish-in-Make.new.out c.args.err.now c.finish-in-Make.new.err told _ _ _ _ c.make_job-job.result c.finish-in-Make.result
+    (created_none asked (make_creates_none c.in-Make.seed c.in-Make.size.files) made made refl told told _ _ _ _ c.make_job-job.result (told_of asked told c.make_job-job.result c.make_job-job.ensures.done) stops)
+    stops c.finish-in-Make.ensures

@@ -6,6 +6,7 @@ use Rattle.liq_cli.proofs.Asking.{asks_one}
 use Rattle.liq_cli.proofs.Complete.{completes}
 use Rattle.liq_cli.proofs.Finished.{finished}
 use Rattle.liq_cli.proofs.Threading.{read_takes, takes_threads}
+use Rattle.liq_cli.proofs.Ordered.{check_creates_none, created_none, ordered, ordered_usage, unread}
 use Rattle.liq_cli.proofs.call.liq_alone.Goals as goal
 use Rattle.liq_cli.proofs.call.liq_alone.Goals.{in-Check, in-Alone}
 
@@ -44,3 +45,20 @@ returns-clause-ends g c =
 
 pub returns-clause-complete : goal.returns-clause-complete
 returns-clause-complete g c = completes _ _ _ _ (returns-clause-ends g c)
+
+pub returns-in_default-clause-order : goal.returns-in_default-clause-order
+returns-in_default-clause-order g c =
+    ordered_usage (texts c.args.words.now) _ _ _ g.E.Sink.held g.E.Sink.faults _ c.args.err.now c.tell.new.sink c.tell.result (unread (texts c.args.words.now) c.in_default.ensures.only) refl c.tell.ensures
+
+pub returns-clause-order : goal.returns-clause-order
+returns-clause-order g c =
+    let asks = asks_one _ c.in-Some.form c.in-Some.ensures.found c.in-Some.ensures.only in
+    elim c.match-form.branch [
+      | in-Check w ↦ rw w.shelf-is (ordered (texts c.args.words.now) (g.S.Shelf.files c.args.shelf.now) (g.S.Shelf.created c.args.shelf.now) (g.S.Shelf.created w.check_job-job.new.shelf) (Check w.in-Check.file.now) (rw w.in-Check.is at asks)
+          g.O.Sink.held g.O.Sink.faults g.E.Sink.held g.E.Sink.faults c.args.out.now c.finish.new.out c.args.err.now c.finish.new.err _ _ _ _ _ w.check_job-job.result c.finish.result
+          (created_none (Check w.in-Check.file.now) (check_creates_none w.in-Check.file.now) _ _ w.check_job-job.ensures.created _ _ _ _ _ _ w.check_job-job.result w.check_job-job.ensures.done w.check_job-job.ensures.stops)
+          w.check_job-job.ensures.stops (rw w.job-is at c.finish.ensures))
+      | in-Alone w ↦ rw w.shelf-is (ordered (texts c.args.words.now) (g.S.Shelf.files c.args.shelf.now) (g.S.Shelf.created c.args.shelf.now) (g.S.Shelf.created w.alone_job-job.new.shelf) (Render w.in-Alone.file.now w.in-Alone.start.second w.in-Alone.ticks.count None None) (rw w.in-Alone.is at asks)
+          g.O.Sink.held g.O.Sink.faults g.E.Sink.held g.E.Sink.faults c.args.out.now c.finish.new.out c.args.err.now c.finish.new.err _ _ _ _ _ w.alone_job-job.result c.finish.result
+          w.alone_job-job.ensures.order w.alone_job-job.ensures.stops (rw w.job-is at c.finish.ensures))
+    ]

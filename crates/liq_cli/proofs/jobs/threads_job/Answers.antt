@@ -5,6 +5,7 @@ use Rattle.stations.specs.Stations.{station_of}
 use Rattle.liq_cli.specs.Read.{asked_to_render, named}
 use Rattle.liq_cli.proofs.Counted.{as_many}
 use Rattle.liq_cli.proofs.Leavings.{broke_off, ended_written, of_report, rendered, stopped_early}
+use Rattle.liq_cli.proofs.Ordered.{created_all, created_broken, created_early}
 use Rattle.liq_cli.proofs.jobs.threads_job.Goals as goal
 
 pub returns-in_err-work-clause-stops : goal.returns-in_err-work-clause-stops
@@ -40,3 +41,19 @@ report-requires-clause-many g c =
     let a = c.args.asked.now in
     let is = c.in_ok-rendered.ensures.done in
     as_many (station_of c.in_ok-work.work.plan c.in_ok-work.work.ready a.start.second a.ticks.count (Some a.window.ticks) (named a.trace)) is.run _ is.told.gaps_are
+
+pub returns-in_err-work-clause-order : goal.returns-in_err-work-clause-order
+returns-in_err-work-clause-order g c =
+    let p = err_from_is_err_and c.from_residual.result c.from_residual.ensures.1 in rw (p.1, p.2)
+    (created_early (asked_to_render c.args.asked.now) _ _ _ _ _ _ c.in_err-work.ensures.ends c.prepare.ensures.created)
+
+pub returns-in_err-rendered-clause-order : goal.returns-in_err-rendered-clause-order
+returns-in_err-rendered-clause-order g c =
+    let p = err_from_is_err_and c.from_residual-in_err-rendered.result c.from_residual-in_err-rendered.ensures.1 in rw (p.1, p.2)
+    (let a = c.args.asked.now in
+    created_broken a.file.now a.start.second a.ticks.count (Some a.window.ticks) (named a.trace) _ _ _ _ c.in_ok-work.ensures.found _ _ _ c.prepare.ensures.created _ c.render.ensures.front)
+
+pub returns-clause-order : goal.returns-clause-order
+returns-clause-order g c =
+    let a = c.args.asked.now in
+    created_all a.file.now a.start.second a.ticks.count (Some a.window.ticks) (named a.trace) _ _ _ _ c.in_ok-work.ensures.found _ _ _ c.prepare.ensures.created c.report_or_halt.result c.report_or_halt.ensures.starved c.in_ok-rendered.ensures.made

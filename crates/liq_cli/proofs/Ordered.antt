@@ -1,0 +1,189 @@
+-- What a call creates, by the way that its job ended.
+use Rattle.std.proofs.Common.{◌≡◌, ◌∙◌, ℕ, List, [], refl, sym, ap, subst, ⊎_elim, arith}
+use Rattle.std.specs.Prelude.{Option, Some, None, Result, Ok, Err, IfOk, IfErr, String, string_bytes}
+use Rattle.std.specs.Option.{ForSome}
+use Rattle.std.specs.declared.alloc.Global.{Global}
+use Rattle.liq_base.specs.Files.{Files}
+use Rattle.frame_core.specs.Library.{Sounds}
+use Rattle.plan_core.specs.declared.plan.Plan.{Plan}
+use Rattle.clock_infer.specs.declared.clock_map.ClockMap.{ClockMap}
+use Rattle.stations.specs.Creations.{MadeFront, after_making, names_of}
+use Rattle.stations.specs.Stations.{Station}
+use Rattle.stations.proofs.Making.{all_made, none_made, none_more}
+use Rattle.station_render.specs.declared.fault.RenderFault.{RenderFault}
+use Rattle.station_render.specs.declared.fault.RenderFault.TheVariants.{Write as render_write, Memory as render_memory}
+use Rattle.liq_cli.specs.Words.{Asked, Check, Make, Render, HasNoForm, IsAsked, file_of, ticks_of, trace_of}
+use Rattle.liq_cli.specs.Answer.{Answer, Usage, Refused, Checked, Accepted, Made, ForAnswer, ForEachAnswer, IsAnswerTo}
+use Rattle.liq_cli.specs.Call.{Rendered}
+use Rattle.liq_cli.specs.Creating.{CreatesInOrder, creations}
+use Rattle.liq_cli.specs.Prepared.{CreatedFor, EndsFor, ForEach, ForOne, Found, IsOneOutcome, Stops, halt_of_render, station_for}
+use Rattle.liq_cli.specs.Telling.{Finishes, Tells}
+use Rattle.liq_cli.specs.declared.halt.Halt.{Halt}
+use Rattle.liq_cli.specs.declared.halt.Halt.TheVariants.{Read, Write, Memory, Refused as refused_for}
+use Rattle.liq_cli.proofs.Asking.{AsksOne, for_answer, for_each_answer, for_usage, one_more}
+use Rattle.liq_cli.proofs.Outcomes.{for_each, for_one}
+
+-- a step before the rendering ended
+pub created_early : {T : Type 0} (asked : Asked) (told : Option Files) (reads_before reads_after : ℕ) (before after : Option (List (List ℕ))) (e : Halt)
+    → EndsFor {T = T} told (file_of asked) (trace_of asked) (ticks_of asked) reads_before reads_after (Err e) → after ≡ before → CreatedFor asked told before after (Err e)
+created_early asked told reads_before reads_after before after (refused_for fault) ends same = same
+created_early asked told reads_before reads_after before after Read ends same = same
+created_early asked told reads_before reads_after before after Write ends same = absurd (ends.no_write (cc))
+created_early asked told reads_before reads_after before after Memory ends same = λ files t answer is. none_made (creations answer) before after same
+
+module _ (file : List ℕ) (start ticks : ℕ) (window : Option ℕ) (trace : Option (List ℕ)) (told : Option Files) (plan : Plan) (library : Sounds) (clocks : ClockMap)
+    (one : ForSome told (λ files. IsOneOutcome files file trace ticks (Found plan library clocks))) (before between after : Option (List (List ℕ))) (same : between ≡ before) where
+  abbrev station : Station
+  station = station_for (Render file start ticks window trace) plan library clocks
+
+  -- a rendering broke off
+  pub created_broken : (e : RenderFault) → MadeFront (names_of station) between after → CreatedFor (Render file start ticks window trace) told before after (Err (halt_of_render e))
+  created_broken render_write front = λ files t.
+      for_one (Render file start ticks window trace) files (Found plan library clocks) (λ a. MadeFront (creations a) before after) (one files t) (subst (λ b. MadeFront (names_of station) b after) same front)
+  created_broken render_memory front = λ files t.
+      for_each (Render file start ticks window trace) files (Found plan library clocks) (λ a. MadeFront (creations a) before after) (one files t) (subst (λ b. MadeFront (names_of station) b after) same front)
+
+  -- a rendering whose last step is its report: memory may be refused for that
+  pub created_all : (r : Result (String Global) Halt) → IfErr r (λ e. e ≡ Memory) → after ≡ after_making (names_of station) between → CreatedFor (Render file start ticks window trace) told before after r
+  created_all (Ok v) starved made = λ files t.
+      for_one (Render file start ticks window trace) files (Found plan library clocks) (λ a. after ≡ after_making (creations a) before) (one files t) (made ∙ ap (after_making (names_of station)) same)
+  created_all (Err e) starved made =
+      subst (λ x. CreatedFor (Render file start ticks window trace) told before after (Err x)) (sym starved) (created_broken render_memory (all_made (names_of station) between after made))
+
+-- where nothing was read of the words, they have no form
+pub unread : (words : List (List ℕ)) → ((asked : Asked) → IsAsked words asked → ◌≡◌ {A = Option Asked} None (Some asked)) → HasNoForm words
+unread words only asked is = let e : ◌≡◌ {A = Option Asked} None (Some asked) = only asked is in (cc)
+
+-- for no answer is anything to be created
+abbrev CreatesNone : Asked → Type 0
+CreatesNone asked = (files : Files) (answer : Answer) → IsAnswerTo asked files answer → creations answer ≡ []
+
+pub check_creates_none : (file : List ℕ) → CreatesNone (Check file)
+check_creates_none file files Usage is = refl
+check_creates_none file files (Refused fault) is = refl
+check_creates_none file files (Checked station) is = refl
+check_creates_none file files (Accepted station) is = absurd is
+check_creates_none file files (Made made station) is = refl
+
+pub make_creates_none : (seed size : ℕ) → CreatesNone (Make seed size)
+make_creates_none seed size files Usage is = refl
+make_creates_none seed size files (Refused fault) is = refl
+make_creates_none seed size files (Checked station) is = refl
+make_creates_none seed size files (Accepted station) is = absurd is
+make_creates_none seed size files (Made made station) is = refl
+
+module _ (asked : Asked) (none : CreatesNone asked) (before after : Option (List (List ℕ))) (same : after ≡ before) where
+  whole_of_none : (files : Files) (P : Answer → Type 0) → ForOne asked files P → ForOne asked files (λ a. after ≡ after_making (creations a) before)
+  whole_of_none files P one = record {
+    answer = one.answer;
+    is_answer = one.is_answer;
+    only = one.only;
+    holds = same ∙ none_more before ∙ ap (λ names. after_making names before) (sym (none files one.answer one.is_answer));
+  }
+
+  front_of_none : (files : Files) (P : Answer → Type 0) → ForOne asked files P → ForOne asked files (λ a. MadeFront (creations a) before after)
+  front_of_none files P one = one_more asked files P (λ a. MadeFront (creations a) before after) (λ a p. none_made (creations a) before after same) one
+
+  -- what is no rendering into the shelf created nothing there
+  pub created_none : (told left : Option Files) (reads_before reads_after writes_before writes_after : ℕ) (job : Result (String Global) Halt)
+      → IfOk job (λ report. ForSome told (λ files. ForOne asked files (λ a. Rendered a files left (string_bytes report))))
+      → Stops asked told left reads_before reads_after writes_before writes_after job → CreatedFor asked told before after job
+  created_none told left reads_before reads_after writes_before writes_after (Ok report) done stops = λ files t. whole_of_none files (λ a. Rendered a files left (string_bytes report)) (done files t)
+  created_none told left reads_before reads_after writes_before writes_after (Err (refused_for fault)) done stops = same
+  created_none told left reads_before reads_after writes_before writes_after (Err Read) done stops = same
+  created_none told left reads_before reads_after writes_before writes_after (Err Write) done stops = λ files t. front_of_none files _ (stops.broken refl files t)
+  created_none told left reads_before reads_after writes_before writes_after (Err Memory) done stops = λ files t answer is. none_made (creations answer) before after same
+
+module _ (words : List (List ℕ)) (told : Option Files) (before after : Option (List (List ℕ))) where
+  order_done : ForSome told (λ files. ForAnswer words files (λ a. after ≡ after_making (creations a) before)) → CreatesInOrder words told before after 0
+  order_done all = record {
+    done = λ at. all;
+    refused = λ at. absurd (omega arith);
+    usage = λ at. absurd (omega arith);
+    read_fault = λ at. absurd (omega arith);
+    write_fault = λ at. absurd (omega arith);
+    memory = λ at. absurd (omega arith);
+  }
+
+  order_broken : ForSome told (λ files. ForAnswer words files (λ a. MadeFront (creations a) before after)) → CreatesInOrder words told before after 4
+  order_broken front = record {
+    done = λ at. absurd (omega arith);
+    refused = λ at. absurd (omega arith);
+    usage = λ at. absurd (omega arith);
+    read_fault = λ at. absurd (omega arith);
+    write_fault = λ at. front;
+    memory = λ at. absurd (omega arith);
+  }
+
+  order_starved : ForSome told (λ files. ForEachAnswer words files (λ a. MadeFront (creations a) before after)) → CreatesInOrder words told before after 5
+  order_starved front = record {
+    done = λ at. absurd (omega arith);
+    refused = λ at. absurd (omega arith);
+    usage = λ at. absurd (omega arith);
+    read_fault = λ at. absurd (omega arith);
+    write_fault = λ at. absurd (omega arith);
+    memory = λ at. front;
+  }
+
+  order_refused : after ≡ before → CreatesInOrder words told before after 1
+  order_refused same = record {
+    done = λ at. absurd (omega arith);
+    refused = λ at. same;
+    usage = λ at. absurd (omega arith);
+    read_fault = λ at. absurd (omega arith);
+    write_fault = λ at. absurd (omega arith);
+    memory = λ at. absurd (omega arith);
+  }
+
+  order_usage : after ≡ before → CreatesInOrder words told before after 2
+  order_usage same = record {
+    done = λ at. absurd (omega arith);
+    refused = λ at. absurd (omega arith);
+    usage = λ at. same;
+    read_fault = λ at. absurd (omega arith);
+    write_fault = λ at. absurd (omega arith);
+    memory = λ at. absurd (omega arith);
+  }
+
+  order_unread : after ≡ before → CreatesInOrder words told before after 3
+  order_unread same = record {
+    done = λ at. absurd (omega arith);
+    refused = λ at. absurd (omega arith);
+    usage = λ at. absurd (omega arith);
+    read_fault = λ at. same;
+    write_fault = λ at. absurd (omega arith);
+    memory = λ at. absurd (omega arith);
+  }
+
+  -- words of no form
+  pub ordered_usage : {W : Type 0} (held : W → Option (List ℕ)) (faults : W → ℕ) (line : List ℕ) (err err' : W) (status : ℕ) → HasNoForm words → after ≡ before
+      → Tells held faults line 2 err err' status → CreatesInOrder words told before after status
+  ordered_usage held faults line err err' status none same tells =
+      ⊎_elim (λ all. rw all.0 (order_usage same))
+      (λ part. rw part.0 (order_broken (λ files t. for_usage words files (λ a. MadeFront (creations a) before after) none (none_made [] before after same)))) tells
+
+  module _ (asked : Asked) (asks : AsksOne words asked) where
+    front_of_all : ForSome told (λ files. ForOne asked files (λ a. after ≡ after_making (creations a) before)) → ForSome told (λ files. ForAnswer words files (λ a. MadeFront (creations a) before after))
+    front_of_all all = λ files t. for_answer words asked files (λ a. MadeFront (creations a) before after) asks
+        (one_more asked files (λ a. after ≡ after_making (creations a) before) (λ a. MadeFront (creations a) before after) (λ a made. all_made (creations a) before after made) (all files t))
+
+    starved_of : ForSome told (λ files. ForEach asked files (λ a. MadeFront (creations a) before after)) → CreatesInOrder words told before after 5
+    starved_of each = order_starved (λ files t. for_each_answer words asked files (λ a. MadeFront (creations a) before after) asks (each files t))
+
+    -- words of a form
+    pub ordered : {O E : Type 0} (out_held : O → Option (List ℕ)) (out_faults : O → ℕ) (err_held : E → Option (List ℕ)) (err_faults : E → ℕ) (out out' : O) (err err' : E) (left : Option Files)
+        (reads_before reads_after writes_before writes_after : ℕ) (job : Result (String Global) Halt) (status : ℕ) → CreatedFor asked told before after job
+        → Stops asked told left reads_before reads_after writes_before writes_after job
+        → Finishes out_held out_faults err_held err_faults job out out' err err' status → CreatesInOrder words told before after status
+    ordered out_held out_faults err_held err_faults out out' err err' left reads_before reads_after writes_before writes_after (Ok report) status made stops ends =
+        ⊎_elim (λ all. rw all.0 (order_done (λ files t. for_answer words asked files (λ a. after ≡ after_making (creations a) before) asks (made files t))))
+        (λ part. rw part.0 (order_broken (front_of_all made))) ends.0
+    ordered out_held out_faults err_held err_faults out out' err err' left reads_before reads_after writes_before writes_after (Err (refused_for fault)) status made stops ends =
+        ⊎_elim (λ unsaid. rw unsaid.0 (starved_of (λ files t answer is. none_made (creations answer) before after made)))
+        (⊎_elim (λ all. rw all.0 (order_refused made))
+        (λ part. rw part.0 (order_broken (λ files t. for_answer words asked files (λ a. MadeFront (creations a) before after) asks
+        (one_more asked files (λ a. a ≡ Refused fault) (λ a. MadeFront (creations a) before after) (λ a is. none_made (creations a) before after made) (stops.fault fault refl files t)))))) ends.0
+    ordered out_held out_faults err_held err_faults out out' err err' left reads_before reads_after writes_before writes_after (Err Read) status made stops ends = rw ends.0 (order_unread made)
+    ordered out_held out_faults err_held err_faults out out' err err' left reads_before reads_after writes_before writes_after (Err Write) status made stops ends =
+        rw ends.0 (order_broken (λ files t. for_answer words asked files (λ a. MadeFront (creations a) before after) asks (made files t)))
+    ordered out_held out_faults err_held err_faults out out' err err' left reads_before reads_after writes_before writes_after (Err Memory) status made stops ends = rw ends.0 (starved_of made)
