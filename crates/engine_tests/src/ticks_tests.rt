@@ -4,7 +4,7 @@ ghost use Rattle.std.specs.Prelude.{◌≡◌, ◌<◌, ◌≤◌, ◌∷◌, []
 ghost use Rattle.plan_core.specs.Plans.{IsWellFormed};
 ghost use Rattle.clock_infer.specs.Answers.{IsClockMap};
 ghost use Rattle.frame_core.specs.Library.{IsLibrary};
-ghost use Rattle.clock_engine.specs.Engines.{AreParts, setting_of};
+ghost use Rattle.clock_engine.specs.Engines.{setting_of};
 
 use buffer_ends::LocalTaps;
 use clock_engine::{ClockEngine, TickFault};
@@ -182,8 +182,6 @@ fn begun<'a>(
     requires sinks { plan.now.sinks ≡ SinkPlan.Output [] node false ∷ [] }
     requires clock { slice_get clocks.now.of node ≡ Some (NodeClock.Main 0) }
     requires one { length outs.items ≡ 1 }
-    ensures parts { IfOk result (λ engine. AreParts engine.parts) }
-    ensures sinks { IfOk result (λ engine. length engine.outs.items ≡ length engine.parts.ports.items) }
     ensures setting { IfOk result (λ engine. (setting_of engine.parts).plan ≡ plan.now) }
 {
     ClockEngine::new(alloc, plan, clocks, 0, library, outs, start)
@@ -196,16 +194,12 @@ fn tick(
     engine: &mut ClockEngine<'_, MemSink>,
     taps: &mut LocalTaps,
 ) -> Result<(), TickFault>
-    requires parts { AreParts engine.old.parts }
-    requires sinks { length engine.old.outs.items ≡ length engine.old.parts.ports.items }
     requires buffers { length taps.old ≡ length (setting_of engine.old.parts).plan.buffers }
-    ensures parts { AreParts engine.new.parts }
-    ensures sinks { length engine.new.outs.items ≡ length engine.new.parts.ports.items }
     ensures buffers { length taps.new ≡ length taps.old }
     ensures setting { setting_of engine.new.parts ≡ setting_of engine.old.parts }
 {
-    assert!(rt; engine.parts.ticks < 1_000_000_000);
-    assert!(rt; engine.parts.stopped.is_none());
+    assert!(rt; engine.ticks() < 1_000_000_000);
+    assert!(rt; engine.stopped().is_none());
     engine.tick(alloc, taps)
 }
 
@@ -217,11 +211,7 @@ fn check_ticks(
     taps: &mut LocalTaps,
     ending: Result<(), TickFault>,
 )
-    requires parts { AreParts engine.old.parts }
-    requires sinks { length engine.old.outs.items ≡ length engine.old.parts.ports.items }
     requires buffers { length taps.old ≡ length (setting_of engine.old.parts).plan.buffers }
-    ensures parts { AreParts engine.new.parts }
-    ensures sinks { length engine.new.outs.items ≡ length engine.new.parts.ports.items }
     ensures buffers { length taps.new ≡ length taps.old }
     ensures setting { setting_of engine.new.parts ≡ setting_of engine.old.parts }
 {

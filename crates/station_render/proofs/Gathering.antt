@@ -59,13 +59,13 @@ lawful_many setting clocks ticks (Some window) run lawful = lawful.buffers
 
 -- a sink whose count of faults rose has failed
 pub failed_at : {S : Type 0} (faults : S → ℕ) (clock place : ℕ) (new : List (ClockEngine S)) (before after : ClockEngine S) → slice_get new clock ≡ Some after
-    → RoseAt faults place before.outs.items after.outs.items → HasFailed faults (outs_of new)
+    → RoseAt faults place before.outs after.outs → HasFailed faults (outs_of new)
 failed_at faults clock place new before after is rose = record {
   clock = clock;
   place = place;
-  group = after.outs.items;
+  group = after.outs;
   sink = rose.after;
-  there = mapped (λ engine. engine.outs.items) new clock after is;
+  there = mapped (λ engine. engine.outs) new clock after is;
   stands = rose.is;
   failed = (let more : Rose (faults rose.before) (faults rose.after) = rose.rose in omega (arith, more));
 }
@@ -116,7 +116,6 @@ module _ {S : Type 0} {held name : S → Option (List ℕ)} {faults : S → ℕ}
           let made = ran.part.each k before after was is in
           let most = ticks_by ticks ran.round (ran.clock + 1) k in
           record {
-            parts = made.parts;
             setting = made.setting;
             clock = made.clock;
             part = λ rest sink node out.
@@ -155,8 +154,6 @@ module _ {S : Type 0} {held name : S → Option (List ℕ)} {faults : S → ℕ}
           let fresh = at.each k before was in
           let made = subst (λ (z : ClockEngine S × ClockEngine S). threads.HasMadeAll held name faults setting ran.run ticks k z.0 z.1) (both_are old new k before after was is) (ran.has_run.engines k before (within old k before was)) in
           record {
-            parts = made.whole.parts;
-            sinks = made.whole.sinks;
             over = made.same.setting;
             clock = made.same.clock;
             answers = made.answers;
@@ -183,7 +180,6 @@ module _ {S : Type 0} {held name : S → Option (List ℕ)} {faults : S → ℕ}
           let fresh = at.each k before was in
           let made = subst (λ (z : ClockEngine S × ClockEngine S). threads.HasMadePart held name faults setting ran.run window ticks ran.begun.closed k z.0 z.1) (both_are old new k before after was is) (ran.engines k before (within old k before was)) in
           record {
-            parts = made.whole.parts;
             setting = made.same.setting;
             clock = made.same.clock;
             part = λ rest sink node out.

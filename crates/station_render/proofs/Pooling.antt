@@ -24,19 +24,19 @@ module _ {S : Type 0} where
   put_again (list ∷ lists) zero out again at same = (let is : list ≡ out = (cc) in ap (λ l. l ∷ lists) (same ∙ sym is))
   put_again (list ∷ lists) (suc k) out again at same = ap (λ ls. list ∷ ls) (put_again lists k out again at same)
 
-  pub outs_more : (engines : List (ClockEngine S)) (engine : ClockEngine S) → outs_of (engines ++ engine ∷ []) ≡ outs_of engines ++ engine.outs.items ∷ []
-  outs_more engines engine = map-append (λ (e : ClockEngine S). e.outs.items) engines (engine ∷ [])
+  pub outs_more : (engines : List (ClockEngine S)) (engine : ClockEngine S) → outs_of (engines ++ engine ∷ []) ≡ outs_of engines ++ engine.outs ∷ []
+  outs_more engines engine = map-append (λ (e : ClockEngine S). e.outs) engines (engine ∷ [])
 
   pub outs_many : (engines : List (ClockEngine S)) → length (outs_of engines) ≡ length engines
-  outs_many engines = many_mapped (λ (e : ClockEngine S). e.outs.items) engines
+  outs_many engines = many_mapped (λ (e : ClockEngine S). e.outs) engines
 
   -- the last engine gives its sinks back
-  pub back_one : (engines front : List (ClockEngine S)) (engine : ClockEngine S) (lists : List (List S)) (outs : List S) → engines ≡ front ++ engine ∷ [] → outs ≡ engine.outs.items
+  pub back_one : (engines front : List (ClockEngine S)) (engine : ClockEngine S) (lists : List (List S)) (outs : List S) → engines ≡ front ++ engine ∷ [] → outs ≡ engine.outs
       → length engines ≤ length lists → pooled (outs_of engines) lists ≡ pooled (outs_of front) (set lists (length front) outs)
   back_one engines front engine lists outs is same few =
       let low : length (outs_of front) < length lists = (let many = outs_many front in let all = ap length is ∙ length-append front (engine ∷ []) in omega (arith, many, all, few)) in
-      ap (λ es. pooled (outs_of es) lists) is ∙ ap (λ os. pooled os lists) (outs_more front engine) ∙ pool_back (outs_of front) lists engine.outs.items low
-      ∙ ap (λ n. pooled (outs_of front) (set lists n engine.outs.items)) (outs_many front) ∙ ap (λ o. pooled (outs_of front) (set lists (length front) o)) (sym same)
+      ap (λ es. pooled (outs_of es) lists) is ∙ ap (λ os. pooled os lists) (outs_more front engine) ∙ pool_back (outs_of front) lists engine.outs low
+      ∙ ap (λ n. pooled (outs_of front) (set lists n engine.outs)) (outs_many front) ∙ ap (λ o. pooled (outs_of front) (set lists (length front) o)) (sym same)
 
   at_place : (setting : Setting) (es : List (ClockEngine S)) (last : ClockEngine S) (m : ℕ) (other : ClockEngine S) (from : ℕ) → ((k : ℕ) (e : ClockEngine S) → slice_get es k ≡ Some e → IsAt setting (from + k) e)
       → IsAt setting (from + length es) last → slice_get (es ++ last ∷ []) m ≡ Some other → IsAt setting (from + m) other
@@ -67,7 +67,7 @@ module _ {S : Type 0} where
       empty_last n lists (omega (arith, one_more, few)) (subst (λ k. AreEmptyBelow k lists) one_more empty)
 
   -- the last engine gives its sinks back
-  module _ (engines front : List (ClockEngine S)) (engine : ClockEngine S) (lists lists_new : List (List S)) (outs : List S) (n : ℕ) (is : engines ≡ front ++ engine ∷ []) (same : outs ≡ engine.outs.items)
+  module _ (engines front : List (ClockEngine S)) (engine : ClockEngine S) (lists lists_new : List (List S)) (outs : List S) (n : ℕ) (is : engines ≡ front ++ engine ∷ []) (same : outs ≡ engine.outs)
       (n_is : n ≡ length front) (new_is : lists_new ≡ set lists n outs) (few : length engines ≤ length lists) where
     one_fewer : length engines ≡ length front + 1
     one_fewer = ap length is ∙ length-append front (engine ∷ [])
@@ -88,7 +88,7 @@ module _ {S : Type 0} where
 
   -- one more engine takes its sinks
   module _ (engines engines_new : List (ClockEngine S)) (engine : ClockEngine S) (lists lists_new : List (List S)) (clock : ℕ) (is : engines_new ≡ engines ++ engine ∷ []) (count : length engines ≡ clock)
-      (there : slice_get lists clock ≡ Some engine.outs.items) (taken : lists_new ≡ set lists clock []) where
+      (there : slice_get lists clock ≡ Some engine.outs) (taken : lists_new ≡ set lists clock []) where
     pub taking_many : length lists_new ≡ length lists
     taking_many = ap length taken ∙ set_many lists clock []
 
@@ -98,14 +98,14 @@ module _ {S : Type 0} where
     pub taking_empty : AreEmptyBelow clock lists → AreEmptyBelow (clock + 1) lists_new
     taking_empty empty =
         subst (λ n. AreEmptyBelow n lists_new) (sym (add-one clock))
-        (subst (λ ls. AreEmptyBelow (suc clock) ls) (sym taken) (empty_below_more clock lists (within lists clock engine.outs.items there) empty))
+        (subst (λ ls. AreEmptyBelow (suc clock) ls) (sym taken) (empty_below_more clock lists (within lists clock engine.outs there) empty))
 
     pub taking_pool : pooled (outs_of engines_new) lists_new ≡ pooled (outs_of engines) lists
     taking_pool =
         let place : length (outs_of engines) ≡ clock = outs_many engines ∙ count in
-        ap (λ es. pooled (outs_of es) lists_new) is ∙ ap (λ os. pooled os lists_new) (outs_more engines engine) ∙ ap (pooled (outs_of engines ++ engine.outs.items ∷ [])) taken
-        ∙ ap (λ n. pooled (outs_of engines ++ engine.outs.items ∷ []) (set lists n [])) (sym place)
-        ∙ pool_more (outs_of engines) lists engine.outs.items (ap (slice_get lists) place ∙ there)
+        ap (λ es. pooled (outs_of es) lists_new) is ∙ ap (λ os. pooled os lists_new) (outs_more engines engine) ∙ ap (pooled (outs_of engines ++ engine.outs ∷ [])) taken
+        ∙ ap (λ n. pooled (outs_of engines ++ engine.outs ∷ []) (set lists n [])) (sym place)
+        ∙ pool_more (outs_of engines) lists engine.outs (ap (slice_get lists) place ∙ there)
 
     pub taking_left : (m : ℕ) (group : List S) → clock + 1 ≤ m → slice_get lists_new m ≡ Some group → slice_get lists m ≡ Some group
     taking_left m group above at = sym (set_other lists clock m [] (λ e. omega (arith, above, e))) ∙ ap (λ ls. slice_get ls m) (sym taken) ∙ at

@@ -106,7 +106,6 @@ module _ {plan : Plan} {library : Sounds} {clocks : ClockMap} {start ticks : ℕ
         let there = got old k d below in
         let is = opened.at.each k (get_or old k d) there in
         record {
-          whole = record { parts = is.parts; sinks = is.sinks };
           over = is.over;
           clock = is.clock_is;
           stands = is.stands;

@@ -1,27 +1,25 @@
 -- What a run leaves in the sinks of a clock, place by place.
-use Rattle.std.proofs.Common.{◌≡◌, ◌<◌, ◌≤◌, ◌*◌, ◌∙◌, ◌++◌, ℕ, zero, suc, Bool, true, false, List, [], ◌∷◌, length, map, slice_get, get_or, nat_eq, arith, refl, ap, sym, subst, append_assoc, if◌then◌else◌}
+use Rattle.std.proofs.Common.{◌≡◌, ◌<◌, ◌∙◌, ◌++◌, ℕ, zero, suc, Bool, true, false, List, [], ◌∷◌, length, slice_get, get_or, nat_eq, arith, refl, ap, sym, subst, append_assoc, if◌then◌else◌}
 use Rattle.std.specs.Prelude.{Option, Some, None}
 use Rattle.std.specs.List.{AllZip}
 use Rattle.std.proofs.lemmas.Bool.{eq-eqb, false_from_ne_true, eqb-true}
 use Rattle.liq_base.specs.Files.{Files}
-use Rattle.liq_base.specs.Kinds.{channels_of}
 use Rattle.liq_base.specs.Pieces.{HasRoom, IsPrefix, grown}
 use Rattle.plan_core.specs.declared.plan.Plan.{Plan}
 use Rattle.plan_core.specs.declared.sink.SinkPlan.{SinkPlan}
 use Rattle.plan_core.specs.declared.sink.SinkPlan.TheVariants.{Output, Feed}
 use Rattle.clock_infer.specs.declared.clock_map.NodeClock.TheVariants.{Main}
 use Rattle.stream_meaning.specs.Instants.{Setting, answered, clock_of, lies_in, same_clock}
-use Rattle.stream_meaning.specs.Sinks.{gaps, kind_of, ticks_bytes}
+use Rattle.stream_meaning.specs.Sinks.{gaps, ticks_bytes}
 use Rattle.op_leaf.specs.Readers.{Answer}
 use Rattle.clock_infer.specs.declared.clock_map.ClockMap.{ClockMap}
 use Rattle.stream_meaning.proofs.Existence.{same_clock-true}
 use Rattle.node_states.specs.Ticks.{IsOutput, with_rest}
-use Rattle.clock_outputs.specs.declared.port.Port.{Port}
 use Rattle.clock_engine.specs.declared.engine.ClockEngine.{ClockEngine}
-use Rattle.clock_engine.specs.Engines.{AreParts, EngineStands, held_in, output_of, outputs_from, outputs_of, setting_of}
+use Rattle.clock_engine.specs.Engines.{EngineStands, held_in, held_of, outputs_from, outputs_of, setting_of}
 use Rattle.clock_engine.specs.Ticks.{HaveTicksRoom}
-use Rattle.clock_engine.proofs.Numbered.{are_there, from_mapped}
-use Rattle.rounds_run.specs.Rounds.{AreEngines, HasRunPart, HaveRunPart, held_of}
+use Rattle.clock_engine.proofs.Numbered.{are_there}
+use Rattle.rounds_run.specs.Rounds.{AreEngines, HasRunPart, HaveRunPart}
 use Rattle.rounds_run.specs.Runs.{HasRunTicks, HaveRunTicks}
 use Rattle.run_records.specs.Records.{Run, setting_then}
 use Rattle.stations.specs.Streams.{header_for}
@@ -81,111 +79,96 @@ rising setting m i (Output name node fallible ∷ sinks) =
 rising setting m i (Feed buffer node ∷ sinks) = rising setting m (suc i) sinks
 
 -- what the sink of a number holds, by its place
-pub held_at : {S : Type 0} (held : S → Option (List ℕ)) (ports : List Port) (outs : List S) (j : ℕ) (port : Port) (out : S)
-    → ((k : ℕ) (other : Port) → k < j → slice_get ports k ≡ Some other → nat_eq other.sink port.sink ≡ false)
-    → slice_get ports j ≡ Some port → slice_get outs j ≡ Some out → held_in held ports outs port.sink ≡ held out
-held_at held [] outs j port out before at there = absurd (cc)
-held_at held (p ∷ ports) [] j port out before at there = absurd (cc)
-held_at held (p ∷ ports) (o ∷ outs) zero port out before at there =
-    let same : p ≡ port = (cc) in
+held_at : {S : Type 0} (held : S → Option (List ℕ)) (outputs : List (ℕ × ℕ)) (outs : List S) (j : ℕ) (output : ℕ × ℕ) (out : S)
+    → ((k : ℕ) (other : ℕ × ℕ) → k < j → slice_get outputs k ≡ Some other → nat_eq other.0 output.0 ≡ false)
+    → slice_get outputs j ≡ Some output → slice_get outs j ≡ Some out → held_in held outputs outs output.0 ≡ held out
+held_at held [] outs j output out before at there = absurd (cc)
+held_at held (p ∷ outputs) [] j output out before at there = absurd (cc)
+held_at held (p ∷ outputs) (o ∷ outs) zero output out before at there =
+    let same : p ≡ output = (cc) in
     let same_out : o ≡ out = (cc) in
-    ap (λ b. if b then held o else held_in held ports outs port.sink) (eq-eqb p.sink port.sink (ap (λ (q : Port). q.sink) same)) ∙ ap held same_out
-held_at held (p ∷ ports) (o ∷ outs) (suc j) port out before at there =
-    ap (λ b. if b then held o else held_in held ports outs port.sink) (before 0 p (omega arith) refl)
-    ∙ held_at held ports outs j port out (λ k other low found. before (suc k) other (omega (arith, low)) found) at there
+    ap (λ b. if b then held o else held_in held outputs outs output.0) (eq-eqb p.0 output.0 (ap (λ (q : ℕ × ℕ). q.0) same)) ∙ ap held same_out
+held_at held (p ∷ outputs) (o ∷ outs) (suc j) output out before at there =
+    ap (λ b. if b then held o else held_in held outputs outs output.0) (before 0 p (omega arith) refl)
+    ∙ held_at held outputs outs j output out (λ k other low found. before (suc k) other (omega (arith, low)) found) at there
 
--- the port of an output of an engine, at its place
-pub record IsPort (setting : Setting) (m j : ℕ) (output : Written) (ports : List Port) : Type 0 where
-  pub port : Port
-  pub there : slice_get ports j ≡ Some port
-  pub same_node : port.node ≡ output.node
-  pub is_output : IsOutput setting m port.sink output.node
-  pub before : (k : ℕ) (other : Port) → k < j → slice_get ports k ≡ Some other → nat_eq other.sink port.sink ≡ false
+-- the place of an output among those of a clock
+record IsPlaced (setting : Setting) (m j : ℕ) (output : Written) : Type 0 where
+  sink : ℕ
+  there : slice_get (outputs_of setting m) j ≡ Some (sink, output.node)
+  is_output : IsOutput setting m sink output.node
+  before : (k : ℕ) (other : ℕ × ℕ) → k < j → slice_get (outputs_of setting m) k ≡ Some other → nat_eq other.0 sink ≡ false
 
-pub port_at : (setting : Setting) (m : ℕ) (ports : List Port) → map output_of ports ≡ outputs_of setting m → LieInMain setting setting.plan.sinks → (j : ℕ) (output : Written)
-    → slice_get (of_clock m (order_of setting (written setting.plan.sinks)) (written setting.plan.sinks)) j ≡ Some output → IsPort setting m j output ports
-port_at setting m ports outputs main j output at =
+placed_at : (setting : Setting) (m : ℕ) → LieInMain setting setting.plan.sinks → (j : ℕ) (output : Written)
+    → slice_get (of_clock m (order_of setting (written setting.plan.sinks)) (written setting.plan.sinks)) j ≡ Some output → IsPlaced setting m j output
+placed_at setting m main j output at =
     let places = same_places setting m 0 setting.plan.sinks main in
     let size = zip_size same_node (of_clock m (order_of setting (written setting.plan.sinks)) (written setting.plan.sinks)) (outputs_of setting m) places in
     let low = within (of_clock m (order_of setting (written setting.plan.sinks)) (written setting.plan.sinks)) j output at in
     let found = in_list (outputs_of setting m) j (omega (arith, size, low)) in
     let node_is : output.node ≡ found.0.1 = zip_at same_node (of_clock m (order_of setting (written setting.plan.sinks)) (written setting.plan.sinks)) (outputs_of setting m) j output found.0 places at found.1 in
-    let port = from_mapped output_of ports j found.0 (ap (λ pairs. slice_get pairs j) outputs ∙ found.1) in
-    let number : port.0.sink ≡ found.0.0 = ap (λ (p : ℕ × ℕ). p.0) port.2 in
     let there = are_there setting m 0 setting.plan.sinks j found.0 found.1 in
     record {
-      port = port.0;
-      there = port.1;
-      same_node = ap (λ (p : ℕ × ℕ). p.1) port.2 ∙ sym node_is;
+      sink = found.0.0;
+      there = found.1 ∙ ap (λ node. Some (found.0.0, node)) (sym node_is);
       is_output = record {
         name = there.name;
         fallible = there.fallible;
-        there = ap (slice_get setting.plan.sinks) (number ∙ (let n = there.number in omega (arith, n))) ∙ there.there ∙ ap (λ node. Some (Output there.name node there.fallible)) (sym node_is);
+        there = ap (slice_get setting.plan.sinks) (let n = there.number in omega (arith, n)) ∙ there.there ∙ ap (λ node. Some (Output there.name node there.fallible)) (sym node_is);
         in_clock = ap (clock_of setting) node_is ∙ same_clock-true (clock_of setting found.0.1) (Main m) there.inside;
       };
       before = λ k other lower at_other.
-          let other_found : slice_get (outputs_of setting m) k ≡ Some (output_of other) = ap (λ pairs. slice_get pairs k) (sym outputs) ∙ mapped output_of ports k other at_other in
-          let less : other.sink < found.0.0 = rising setting m 0 setting.plan.sinks k j (output_of other) found.0 lower other_found found.1 in
-          false_from_ne_true (nat_eq other.sink port.0.sink) (λ e. let same : other.sink ≡ port.0.sink = eqb-true other.sink port.0.sink e in omega (arith, less, same, number));
+          let less : other.0 < found.0.0 = rising setting m 0 setting.plan.sinks k j other found.0 lower at_other found.1 in
+          false_from_ne_true (nat_eq other.0 found.0.0) (λ e. let same : other.0 ≡ found.0.0 = eqb-true other.0 found.0.0 e in omega (arith, less, same));
     }
 
-module _ {S : Type 0} (held name : S → Option (List ℕ)) (faults : S → ℕ) (ticks : ℕ) (old new : ClockEngine S) (parts : AreParts old.parts) (main : LieInMain (setting_of old.parts) (setting_of old.parts).plan.sinks) where
+module _ {S : Type 0} (held name : S → Option (List ℕ)) (faults : S → ℕ) (ticks : ℕ) (old new : ClockEngine S) (main : LieInMain (setting_of old.parts) (setting_of old.parts).plan.sinks) where
   abbrev here : Setting
   here = setting_of old.parts
 
   abbrev mine : List Written
   mine = of_clock old.parts.clock (order_of here (written here.plan.sinks)) (written here.plan.sinks)
 
-  now_outputs : AreParts new.parts → setting_of new.parts ≡ here → new.parts.clock ≡ old.parts.clock → map output_of new.parts.ports.items ≡ outputs_of here old.parts.clock
-  now_outputs now over clock = now.outputs ∙ ap (λ s. outputs_of s new.parts.clock) over ∙ ap (outputs_of here) clock
-
-  held_both : AreParts new.parts → setting_of new.parts ≡ here → new.parts.clock ≡ old.parts.clock → (j : ℕ) (output : Written) (before after : S)
-      → slice_get mine j ≡ Some output → slice_get old.outs.items j ≡ Some before → slice_get new.outs.items j ≡ Some after
+  held_both : setting_of new.parts ≡ here → new.parts.clock ≡ old.parts.clock → (j : ℕ) (output : Written) (before after : S)
+      → slice_get mine j ≡ Some output → slice_get old.outs j ≡ Some before → slice_get new.outs j ≡ Some after
       → (sink : ℕ) × IsOutput here old.parts.clock sink output.node × (held_of held old sink ≡ held before) × (held_of held new sink ≡ held after)
-  held_both now over clock j output before after at was is =
-      let first = port_at here old.parts.clock old.parts.ports.items parts.outputs main j output at in
-      let last = port_at here old.parts.clock new.parts.ports.items (now_outputs now over clock) main j output at in
-      let numbers : output_of first.port ≡ output_of last.port =
-      (let a : slice_get (outputs_of here old.parts.clock) j ≡ Some (output_of first.port) = ap (λ pairs. slice_get pairs j) (sym parts.outputs) ∙ mapped output_of old.parts.ports.items j first.port first.there in
-      let b : slice_get (outputs_of here old.parts.clock) j ≡ Some (output_of last.port) = ap (λ pairs. slice_get pairs j) (sym (now_outputs now over clock)) ∙ mapped output_of new.parts.ports.items j last.port last.there in
-      let c : Some (output_of first.port) ≡ Some (output_of last.port) = sym a ∙ b in cc) in
-      let same : first.port.sink ≡ last.port.sink = ap (λ (p : ℕ × ℕ). p.0) numbers in (
-        first.port.sink,
-        first.is_output,
-        held_at held old.parts.ports.items old.outs.items j first.port before first.before first.there was,
-        ap (held_of held new) same ∙ held_at held new.parts.ports.items new.outs.items j last.port after last.before last.there is,
+  held_both over clock j output before after at was is =
+      let place = placed_at here old.parts.clock main j output at in (
+        place.sink,
+        place.is_output,
+        held_at held (outputs_of here old.parts.clock) old.outs j (place.sink, output.node) before place.before place.there was,
+        ap (λ s. held_in held (outputs_of s new.parts.clock) new.outs place.sink) over
+            ∙ ap (λ c. held_in held (outputs_of here c) new.outs place.sink) clock
+            ∙ held_at held (outputs_of here old.parts.clock) new.outs j (place.sink, output.node) after place.before place.there is,
       )
 
   -- after all ticks
   pub whole_at : (world : Setting) → HasRunTicks held name faults world ticks old new → (j : ℕ) (output : Written) (before after : S)
-      → slice_get mine j ≡ Some output → slice_get old.outs.items j ≡ Some before → slice_get new.outs.items j ≡ Some after
+      → slice_get mine j ≡ Some output → slice_get old.outs j ≡ Some before → slice_get new.outs j ≡ Some after
       → (name after ≡ name before) × (held after ≡ grown (ticks_bytes world output.node ticks) (held before))
   whole_at world run j output before after at was is =
-      let both = held_both run.parts run.over run.clock j output before after at was is in
+      let both = held_both run.over run.clock j output before after at was is in
       ((run.kept.each j before after was is).0, sym both.3 ∙ run.grew both.0 output.node both.1 ∙ ap (grown (ticks_bytes world output.node ticks)) both.2)
 
   -- after a part of them
   pub part_at : (worlds : (ℕ → List Answer) → Setting) (least most : ℕ) → HasRunPart held name faults worlds least most old new → (rest : ℕ → List Answer) (j : ℕ) (output : Written) (before after : S)
-      → slice_get mine j ≡ Some output → slice_get old.outs.items j ≡ Some before → slice_get new.outs.items j ≡ Some after
+      → slice_get mine j ≡ Some output → slice_get old.outs j ≡ Some before → slice_get new.outs j ≡ Some after
       → (name after ≡ name before) × ((bytes : List ℕ) × IsPrefix bytes (ticks_bytes (worlds rest) output.node most) × (held after ≡ grown bytes (held before)))
   part_at worlds least most run rest j output before after at was is =
-      let both = held_both run.parts run.setting run.clock j output before after at was is in
+      let both = held_both run.setting run.clock j output before after at was is in
       let part = run.part rest both.0 output.node both.1 in
       ((run.kept.each j before after was is).0, (part.0, part.2, sym both.3 ∙ part.3 ∙ ap (grown part.0) both.2))
 
-  -- the room of each sink is that of its port
-  pub rooms_at : (left : S → Option ℕ) → ((j : ℕ) (output : Written) (out : S) → slice_get mine j ≡ Some output → slice_get old.outs.items j ≡ Some out → HasRoom (left out) (body_size here ticks output.node))
-      → length old.outs.items ≡ length mine → HaveTicksRoom left old.parts old.outs.items ticks
+  -- the room of each sink is that for its output
+  pub rooms_at : (left : S → Option ℕ) → ((j : ℕ) (output : Written) (out : S) → slice_get mine j ≡ Some output → slice_get old.outs j ≡ Some out → HasRoom (left out) (body_size here ticks output.node))
+      → length old.outs ≡ length mine → HaveTicksRoom left old.parts old.outs ticks
   rooms_at left each size = record {
-    each = λ k port out at there.
-        let low = within old.outs.items k out there in
+    each = λ k sink node out at there.
+        let low = within old.outs k out there in
         let found = in_list mine k (omega (arith, size, low)) in
-        let mine_port = port_at here old.parts.clock old.parts.ports.items parts.outputs main k found.0 found.1 in
-        let same : mine_port.port ≡ port = (let e : Some mine_port.port ≡ Some port = sym mine_port.there ∙ at in cc) in
-        let node_is : port.node ≡ found.0.node = ap (λ (p : Port). p.node) (sym same) ∙ mine_port.same_node in
-        let kind_is : port.kind ≡ kind_of here port.node =
-        (let kinds = parts.kinds k port (within old.parts.ports.items k port at) in subst (λ (p : Port). p.kind ≡ kind_of here p.node) (got_is old.parts.ports.items k port port at) kinds) in
-        subst (λ kind. HasRoom (left out) (ticks * (here.plan.frame * (2 * channels_of kind)))) (sym (kind_is ∙ ap (kind_of here) node_is)) (each k found.0 out found.1 there);
+        let place = placed_at here old.parts.clock main k found.0 found.1 in
+        let pairs : (place.sink, found.0.node) ≡ (sink, node) = (let e : Some (place.sink, found.0.node) ≡ Some (sink, node) = sym place.there ∙ at in cc) in
+        subst (λ n. HasRoom (left out) (body_size here ticks n)) (ap (λ (p : ℕ × ℕ). p.1) pairs) (each k found.0 out found.1 there);
   }
 
 -- a front stays one behind a header
@@ -214,17 +197,15 @@ module _ {S : Type 0} (setting : Setting) (ticks : ℕ) (main : LieInMain settin
   may_run left engines at rooms = record {
     each = λ m engine there.
         let is = at.each m engine there in
-        let zip = rooms.each m engine.outs.items (mapped (λ (e : ClockEngine S). e.outs.items) engines m engine there) in
+        let zip = rooms.each m engine.outs (mapped (λ (e : ClockEngine S). e.outs) engines m engine there) in
         record {
-          parts = is.parts;
-          sinks = is.sinks;
           fresh = is.stands;
-          rooms = rooms_at (λ s. None) (λ s. None) (λ s. 0) ticks engine engine is.parts (main_here engine is.over) left
+          rooms = rooms_at (λ s. None) (λ s. None) (λ s. 0) ticks engine engine (main_here engine is.over) left
               (λ j output out mine_at out_at.
               subst (λ s. HasRoom (left out) (body_size s ticks output.node)) (sym is.over)
-              (zip_at (λ output sink. HasRoom (left sink) (body_size setting ticks output.node)) (of_clock m (order_of setting (written setting.plan.sinks)) (written setting.plan.sinks)) engine.outs.items j output out zip
+              (zip_at (λ output sink. HasRoom (left sink) (body_size setting ticks output.node)) (of_clock m (order_of setting (written setting.plan.sinks)) (written setting.plan.sinks)) engine.outs j output out zip
               (ap (λ ws. slice_get ws j) (sym (mine_is engine m is)) ∙ mine_at) out_at))
-              (zip_size (λ output sink. HasRoom (left sink) (body_size setting ticks output.node)) (of_clock m (order_of setting (written setting.plan.sinks)) (written setting.plan.sinks)) engine.outs.items zip ∙ sym (ap length (mine_is engine m is)));
+              (zip_size (λ output sink. HasRoom (left sink) (body_size setting ticks output.node)) (of_clock m (order_of setting (written setting.plan.sinks)) (written setting.plan.sinks)) engine.outs zip ∙ sym (ap length (mine_is engine m is)));
         };
     in_order = λ m engine there. (at.each m engine there).clock_is;
     over = λ m engine there. (at.each m engine there).over;
@@ -232,9 +213,9 @@ module _ {S : Type 0} (setting : Setting) (ticks : ℕ) (main : LieInMain settin
 
   -- an engine before a run, at the place of one after it
   before_at : (old new : List (ClockEngine S)) → length new ≡ length old → (m : ℕ) (group : List S) → slice_get (outs_of new) m ≡ Some group
-      → (before : ClockEngine S) × (after : ClockEngine S) × (slice_get old m ≡ Some before) × (slice_get new m ≡ Some after) × (after.outs.items ≡ group)
+      → (before : ClockEngine S) × (after : ClockEngine S) × (slice_get old m ≡ Some before) × (slice_get new m ≡ Some after) × (after.outs ≡ group)
   before_at old new size m group at =
-      let after = unmapped (λ (e : ClockEngine S). e.outs.items) new m group at in
+      let after = unmapped (λ (e : ClockEngine S). e.outs) new m group at in
       let low = within new m after.0 after.1 in
       let before = in_list old m (omega (arith, low, size)) in
       (before.0, after.0, before.1, after.1, after.2)
@@ -242,7 +223,7 @@ module _ {S : Type 0} (setting : Setting) (ticks : ℕ) (main : LieInMain settin
   module _ (name held : S → Option (List ℕ)) (left : S → Option ℕ) (faults : S → ℕ) (files : Option Files) (old new : List (ClockEngine S)) (at : AreAt setting old)
       (ready : AreCreated (IsReady name held left files setting ticks) (written setting.plan.sinks) (order_of setting (written setting.plan.sinks)) (outs_of old)) where
     same_many : length new ≡ length old → length (outs_of new) ≡ length (outs_of old)
-    same_many size = many_mapped (λ (e : ClockEngine S). e.outs.items) new ∙ size ∙ sym (many_mapped (λ (e : ClockEngine S). e.outs.items) old)
+    same_many size = many_mapped (λ (e : ClockEngine S). e.outs) new ∙ size ∙ sym (many_mapped (λ (e : ClockEngine S). e.outs) old)
 
     pub all_whole : (answers : ℕ → List Answer) → HaveRunTicks held name faults (answered setting answers) ticks old new → AreCreated (IsWhole name held files (answered setting answers) ticks) (written setting.plan.sinks) (order_of setting (written setting.plan.sinks)) (outs_of new)
     all_whole answers run = record {
@@ -252,16 +233,16 @@ module _ {S : Type 0} (setting : Setting) (ticks : ℕ) (main : LieInMain settin
           let found = before_at old new run.size m group there in
           let is = at.each m found.0 found.2 in
           let ran = run.each m found.0 found.1 found.2 found.3 in
-          let zip = ready.each m found.0.outs.items (mapped (λ (e : ClockEngine S). e.outs.items) old m found.0 found.2) in
+          let zip = ready.each m found.0.outs (mapped (λ (e : ClockEngine S). e.outs) old m found.0 found.2) in
           subst (λ g. AllZip (IsWhole name held files (answered setting answers) ticks) (of_clock m (order_of setting (written setting.plan.sinks)) (written setting.plan.sinks)) g) found.4
-          (zip_from (IsWhole name held files (answered setting answers) ticks) (of_clock m (order_of setting (written setting.plan.sinks)) (written setting.plan.sinks)) found.1.outs.items
-          (ran.outs ∙ zip_size (IsReady name held left files setting ticks) (of_clock m (order_of setting (written setting.plan.sinks)) (written setting.plan.sinks)) found.0.outs.items zip)
+          (zip_from (IsWhole name held files (answered setting answers) ticks) (of_clock m (order_of setting (written setting.plan.sinks)) (written setting.plan.sinks)) found.1.outs
+          (ran.outs ∙ zip_size (IsReady name held left files setting ticks) (of_clock m (order_of setting (written setting.plan.sinks)) (written setting.plan.sinks)) found.0.outs zip)
           (λ j output after mine_at after_at.
-          let low = within found.1.outs.items j after after_at in
+          let low = within found.1.outs j after after_at in
           let size = ran.outs in
-          let before = in_list found.0.outs.items j (omega (arith, low, size)) in
-          let told = zip_at (IsReady name held left files setting ticks) (of_clock m (order_of setting (written setting.plan.sinks)) (written setting.plan.sinks)) found.0.outs.items j output before.0 zip mine_at before.1 in
-          let did = whole_at held name faults ticks found.0 found.1 is.parts (main_here found.0 is.over) (answered setting answers) ran j output before.0 after
+          let before = in_list found.0.outs j (omega (arith, low, size)) in
+          let told = zip_at (IsReady name held left files setting ticks) (of_clock m (order_of setting (written setting.plan.sinks)) (written setting.plan.sinks)) found.0.outs j output before.0 zip mine_at before.1 in
+          let did = whole_at held name faults ticks found.0 found.1 (main_here found.0 is.over) (answered setting answers) ran j output before.0 after
           (ap (λ ws. slice_get ws j) (mine_is found.0 m is) ∙ mine_at) before.1 after_at in
           λ all here. record {
             named = did.0 ∙ (told.told all here).named;
@@ -279,16 +260,16 @@ module _ {S : Type 0} (setting : Setting) (ticks : ℕ) (main : LieInMain settin
           let found = before_at old new run.size m group there in
           let is = at.each m found.0 found.2 in
           let ran = run.each m found.0 found.1 found.2 found.3 in
-          let zip = ready.each m found.0.outs.items (mapped (λ (e : ClockEngine S). e.outs.items) old m found.0 found.2) in
+          let zip = ready.each m found.0.outs (mapped (λ (e : ClockEngine S). e.outs) old m found.0 found.2) in
           subst (λ g. AllZip (IsPart name held files world ticks made) (of_clock m (order_of setting (written setting.plan.sinks)) (written setting.plan.sinks)) g) found.4
-          (zip_from (IsPart name held files world ticks made) (of_clock m (order_of setting (written setting.plan.sinks)) (written setting.plan.sinks)) found.1.outs.items
-          (ran.outs ∙ zip_size (IsReady name held left files setting ticks) (of_clock m (order_of setting (written setting.plan.sinks)) (written setting.plan.sinks)) found.0.outs.items zip)
+          (zip_from (IsPart name held files world ticks made) (of_clock m (order_of setting (written setting.plan.sinks)) (written setting.plan.sinks)) found.1.outs
+          (ran.outs ∙ zip_size (IsReady name held left files setting ticks) (of_clock m (order_of setting (written setting.plan.sinks)) (written setting.plan.sinks)) found.0.outs zip)
           (λ j output after mine_at after_at.
-          let low = within found.1.outs.items j after after_at in
+          let low = within found.1.outs j after after_at in
           let size = ran.outs in
-          let before = in_list found.0.outs.items j (omega (arith, low, size)) in
-          let told = zip_at (IsReady name held left files setting ticks) (of_clock m (order_of setting (written setting.plan.sinks)) (written setting.plan.sinks)) found.0.outs.items j output before.0 zip mine_at before.1 in
-          let did = part_at held name faults ticks found.0 found.1 is.parts (main_here found.0 is.over) (setting_then setting record_of) (least m) made ran rest j output before.0 after
+          let before = in_list found.0.outs j (omega (arith, low, size)) in
+          let told = zip_at (IsReady name held left files setting ticks) (of_clock m (order_of setting (written setting.plan.sinks)) (written setting.plan.sinks)) found.0.outs j output before.0 zip mine_at before.1 in
+          let did = part_at held name faults ticks found.0 found.1 (main_here found.0 is.over) (setting_then setting record_of) (least m) made ran rest j output before.0 after
           (ap (λ ws. slice_get ws j) (mine_is found.0 m is) ∙ mine_at) before.1 after_at in
           let front = did.1.1 in
           λ all here. record {
@@ -313,7 +294,6 @@ stand_after held name faults setting world ticks old new at run = record {
       let is = at.each m before.0 before.1 in
       let ran = run.each m before.0 after before.1 there in
       record {
-        parts = ran.parts;
         over = ran.over ∙ is.over;
         clock_is = ran.clock ∙ is.clock_is;
         answers = ran.answers;

@@ -1,15 +1,15 @@
 -- The engines of all clocks, which hold the sinks of the outputs.
-use Rattle.std.specs.Prelude.{◌≡◌, ◌<◌, ℕ, List, [], ◌∷◌, Some, length, map, slice_get}
+use Rattle.std.specs.Prelude.{◌≡◌, ◌<◌, ℕ, List, [], ◌∷◌, Some, map, slice_get}
 use Rattle.stream_meaning.specs.Instants.{Setting}
 use Rattle.clock_engine.specs.declared.engine.ClockEngine.{ClockEngine}
-use Rattle.clock_engine.specs.Engines.{AreParts, EngineStands, setting_of}
+use Rattle.clock_engine.specs.Engines.{EngineStands, setting_of}
 use Rattle.op_leaf.specs.Readers.{Answer}
 use Rattle.node_states.specs.Ticks.{with_rest}
 use Rattle.rounds_run.specs.Rounds.{nothing}
 
 -- the sinks of each engine
 abbrev pub outs_of : {S : Type 0} → List (ClockEngine S) → List (List S)
-outs_of engines = map (λ engine. engine.outs.items) engines
+outs_of engines = map (λ engine. engine.outs) engines
 
 -- lists, the first of which are others
 abbrev pub pooled : {S : Type 0} → List (List S) → List (List S) → List (List S)
@@ -23,8 +23,6 @@ AreEmptyBelow n lists = (m : ℕ) (list : List _) → m < n → slice_get lists 
 
 -- an engine of main clock m, before any tick
 pub record IsAt {S : Type 0} (setting : Setting) (m : ℕ) (engine : ClockEngine S) : Type 0 where
-  pub parts : AreParts engine.parts
-  pub sinks : length engine.outs.items ≡ length engine.parts.ports.items
   pub over : setting_of engine.parts ≡ setting
   pub clock_is : engine.parts.clock ≡ m
   pub stands : EngineStands engine.parts 0 nothing
@@ -35,7 +33,6 @@ pub record AreAt {S : Type 0} (setting : Setting) (engines : List (ClockEngine S
 
 -- an engine of main clock m has made so many ticks, with answers of buffers that are those of `world`
 pub record IsPast {S : Type 0} (setting world : Setting) (ticks m : ℕ) (engine : ClockEngine S) : Type 0 where
-  pub parts : AreParts engine.parts
   pub over : setting_of engine.parts ≡ setting
   pub clock_is : engine.parts.clock ≡ m
   pub answers : ℕ → List Answer

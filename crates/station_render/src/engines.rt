@@ -54,7 +54,7 @@ fn make_engine<'a, O: Sink>(
     requires sinks { (group : List O) → slice_get (lists_of groups.old.items) clock ≡ Some group
         → length group ≡ length (outputs_of (setting_for plan.now ready.now.library ready.now.clocks start.second) clock) }
     ensures made { IfOk result (IsAt (setting_for plan.now ready.now.library ready.now.clocks start.second) clock) }
-    ensures outs { IfOk result (λ engine. slice_get (lists_of groups.old.items) clock ≡ Some engine.outs.items) }
+    ensures outs { IfOk result (λ engine. slice_get (lists_of groups.old.items) clock ≡ Some engine.outs) }
     ensures taken { OnOk result (lists_of groups.new.items ≡ slice_set (lists_of groups.old.items) clock []) }
     ensures back { OnErr result (lists_of groups.new.items ≡ lists_of groups.old.items) }
 {
