@@ -1,11 +1,10 @@
 -- What rounds and threads leave, as one record of a run.
-use Rattle.std.proofs.Common.{◌≡◌, ◌+◌, ◌∙◌, ◌++◌, true, false, ℕ, Bool, List, [], ◌∷◌, length, map, flat_map, slice_get, slice_index_or, arith, refl, ap, sym, subst}
+use Rattle.std.proofs.Common.{◌≡◌, ◌+◌, ◌∙◌, ◌++◌, true, ℕ, Bool, List, [], ◌∷◌, length, map, flat_map, slice_get, slice_index_or, arith, refl, ap, sym, subst}
 use Rattle.std.specs.Prelude.{Option, Some, None, count_by, is_none, is_some, not}
 use Rattle.std.proofs.lemmas.List.{map-append}
 use native.Mathlib.Nat.{min-le_left}
 use Rattle.liq_base.specs.Counts.{Rose}
 use Rattle.clock_infer.specs.declared.clock_map.ClockMap.{ClockMap}
-use Rattle.frame_core.specs.declared.cell.Cell.{Cell}
 use Rattle.stream_meaning.specs.Instants.{Setting}
 use Rattle.stream_meaning.specs.Sinks.{ticks_bytes}
 use Rattle.stream_meaning.proofs.Answering.{begin_none}

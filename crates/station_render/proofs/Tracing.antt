@@ -1,5 +1,5 @@
 -- The trace behind the outputs: what it leaves, and that a run's logs are one.
-use Rattle.std.proofs.Common.{◌≡◌, ◌<◌, ◌≤◌, ◌+◌, ◌*◌, ◌-◌, ◌/◌, ◌∙◌, ◌++◌, ◌⊎◌, ℕ, zero, suc, min, Bool, List, [], ◌∷◌, length, map, slice_get, slice_index_or, append-nil, arith, refl, ap, sym, subst, inl, inr}
+use Rattle.std.proofs.Common.{◌≡◌, ◌<◌, ◌≤◌, ◌+◌, ◌*◌, ◌-◌, ◌/◌, ◌∙◌, ◌++◌, ◌⊎◌, ℕ, zero, suc, Bool, List, [], ◌∷◌, length, map, slice_index_or, append-nil, arith, refl, ap, sym, subst, inl, inr}
 use Rattle.std.specs.Prelude.{Option, Some, None, Result, Ok, Err, OnOk, OnErr, IfOk, IsSome, IsSomeAnd, is_some}
 use Rattle.std.specs.Option.{ForSome}
 use Rattle.std.proofs.lemmas.Nat.{div-mul-add}
@@ -8,7 +8,7 @@ use Rattle.liq_base.specs.Counts.{Rose}
 use Rattle.liq_base.specs.Created.{is_told, part_left_or}
 use Rattle.liq_base.specs.Files.{Files, Closed, ClosedPart, with_file}
 use Rattle.liq_base.specs.Kept.{HoldsPartOr, later_cause, rose_within, some_and}
-use Rattle.liq_base.specs.Pieces.{IsPrefix, Took, TookPart, grown}
+use Rattle.liq_base.specs.Pieces.{Took, TookPart, grown}
 use Rattle.plan_core.specs.Plans.{IsWellFormed, ReadsBuffer}
 use Rattle.plan_core.specs.declared.node.Node.{Node}
 use Rattle.plan_core.specs.declared.node.Op.{Op}

@@ -1,4 +1,4 @@
-use Rattle.std.proofs.Common.{List, ℕ, ap, refl, inl}
+use Rattle.std.proofs.Common.{List, ℕ, ap, refl}
 use Rattle.std.specs.Borrow.{Bor}
 use Rattle.std.specs.Prelude.{option_map}
 use Rattle.station_render.specs.Runs.{name_in}
