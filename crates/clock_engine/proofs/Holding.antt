@@ -3,16 +3,7 @@ use Rattle.std.proofs.Common.{◌≡◌, ◌<◌, ◌∙◌, ℕ, suc, Bool, tru
 use Rattle.std.proofs.lemmas.Bool.{eqb-true}
 use Rattle.liq_base.specs.Pieces.{IsPrefix, Took, TookPart, grown}
 use Rattle.clock_outputs.specs.declared.port.Port.{Port}
-use Rattle.clock_engine.specs.Engines.{held_in}
-
--- ports with the same numbers
-pub held_same : {S : Type 0} (held : S → Option (List ℕ)) (f : Port → Port) → ((port : Port) → (f port).sink ≡ port.sink) → (ports : List Port) (outs : List S) (sink : ℕ)
-    → held_in held (map f ports) outs sink ≡ held_in held ports outs sink
-held_same held f same [] outs sink = refl
-held_same held f same (port ∷ ports) [] sink = refl
-held_same held f same (port ∷ ports) (out ∷ outs) sink =
-    ap (λ n. cond (nat_eq n sink) (held out) (held_in held (map f ports) outs sink)) (same port)
-    ∙ ap (λ rest. cond (nat_eq port.sink sink) (held out) rest) (held_same held f same ports outs sink)
+use Rattle.clock_engine.specs.Engines.{held_in, output_of}
 
 grew_step : (b : Bool) (bytes : List ℕ) (held now rest more : Option (List ℕ)) → (b ≡ true → now ≡ grown bytes held) → more ≡ grown bytes rest → cond b now more ≡ grown bytes (cond b held rest)
 grew_step true bytes held now rest more one other = one refl
@@ -22,12 +13,12 @@ module _ {S : Type 0} (held : S → Option (List ℕ)) (room : S → Option ℕ)
   pub held_grew : (ports : List Port) (old new : List S) → length old ≡ length ports → length new ≡ length ports
       → ((k : ℕ) (port : Port) → slice_get ports k ≡ Some port → port.sink ≡ sink → port.piece.bytes ≡ bytes)
       → ((k : ℕ) (port : Port) (before after : S) → k < length ports → slice_get ports k ≡ Some port → slice_get old k ≡ Some before → slice_get new k ≡ Some after → Took held room port.piece.bytes before after)
-      → held_in held ports new sink ≡ grown bytes (held_in held ports old sink)
+      → held_in held (map output_of ports) new sink ≡ grown bytes (held_in held (map output_of ports) old sink)
   held_grew [] old new one two are took = refl
   held_grew (port ∷ ports) [] new one two are took = absurd (omega (arith, one))
   held_grew (port ∷ ports) (o ∷ old) [] one two are took = absurd (omega (arith, two))
   held_grew (port ∷ ports) (o ∷ old) (w ∷ new) one two are took =
-      grew_step (nat_eq port.sink sink) bytes (held o) (held w) (held_in held ports old sink) (held_in held ports new sink)
+      grew_step (nat_eq port.sink sink) bytes (held o) (held w) (held_in held (map output_of ports) old sink) (held_in held (map output_of ports) new sink)
       (λ e. (took 0 port o w (omega arith) refl refl refl).held_grew ∙ ap (λ more. grown more (held o)) (are 0 port refl (eqb-true port.sink sink e)))
       (held_grew ports old new (omega (arith, one)) (omega (arith, two)) (λ k p at. are (suc k) p at) (λ k p b a below. took (suc k) p b a (omega (arith, below))))
 
@@ -51,11 +42,11 @@ module _ {S : Type 0} (held : S → Option (List ℕ)) (room : S → Option ℕ)
   pub held_part : (ports : List Port) (old new : List S) → length old ≡ length ports → length new ≡ length ports
       → ((k : ℕ) (port : Port) → slice_get ports k ≡ Some port → port.sink ≡ sink → port.piece.bytes ≡ bytes)
       → ((k : ℕ) (port : Port) (before after : S) → slice_get ports k ≡ Some port → slice_get old k ≡ Some before → slice_get new k ≡ Some after → TookPart held room port.piece.bytes before after)
-      → GrewPart (held_in held ports old sink) (held_in held ports new sink)
+      → GrewPart (held_in held (map output_of ports) old sink) (held_in held (map output_of ports) new sink)
   held_part [] old new one two are took = record { part = []; front = record { rest = bytes; whole_is = refl }; is = refl }
   held_part (port ∷ ports) [] new one two are took = absurd (omega (arith, one))
   held_part (port ∷ ports) (o ∷ old) [] one two are took = absurd (omega (arith, two))
   held_part (port ∷ ports) (o ∷ old) (w ∷ new) one two are took =
-      part_step (nat_eq port.sink sink) (held o) (held w) (held_in held ports old sink) (held_in held ports new sink)
+      part_step (nat_eq port.sink sink) (held o) (held w) (held_in held (map output_of ports) old sink) (held_in held (map output_of ports) new sink)
       (λ e. part_at port.piece.bytes (are 0 port refl (eqb-true port.sink sink e)) o w (took 0 port o w refl refl refl))
       (held_part ports old new (omega (arith, one)) (omega (arith, two)) (λ k p at. are (suc k) p at) (λ k p b a. took (suc k) p b a))

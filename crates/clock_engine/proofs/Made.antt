@@ -1,5 +1,5 @@
 -- An engine after a tick.
-use Rattle.std.proofs.Common.{◌≡◌, ◌++◌, drop, append_assoc, Bool, ◌<◌, ◌≤◌, ◌+◌, ◌*◌, ◌∙◌, ℕ, zero, suc, Some, Option, List, [], ◌∷◌, flat_map, All, length, get_or, map, slice_get, true, false, arith, refl, ap, sym, subst, ◌-◌, None, add-one}
+use Rattle.std.proofs.Common.{◌≡◌, ◌++◌, drop, append_assoc, Bool, ◌<◌, ◌≤◌, ◌+◌, ◌*◌, ◌∙◌, ℕ, suc, Some, Option, List, [], ◌∷◌, flat_map, All, length, get_or, map, slice_get, true, false, arith, refl, ap, sym, subst, ◌-◌, None, add-one}
 use mathlib.Core.Path.{fun_ext}
 use Rattle.std.proofs.Math.Nat.{suc-mul}
 use Rattle.std.proofs.lemmas.List.{append-nil, get_or_default, get_or-map, length-map}
@@ -26,12 +26,12 @@ use Rattle.clock_engine.specs.ClockStates.{IsClockState, ClockStateStands}
 use Rattle.clock_engine.specs.Runs.{HasRunInstants, Heard, HeardSome, IsMeant, with_slots}
 use Rattle.clock_engine.specs.declared.engine.EngineParts.{EngineParts}
 use Rattle.clock_engine.specs.declared.fault.TickFault.{TickFault}
-use Rattle.clock_engine.specs.Engines.{AreParts, EngineStands, EngineStopped, after_tick, feed_of, feeds_of, held_in, output_of, scene_of, setting_of}
-use Rattle.clock_engine.specs.Ticks.{HaveTickRoom, RoomsFell, HaveTicksRoom}
+use Rattle.clock_engine.specs.Engines.{AreParts, EngineStands, EngineStopped, after_tick, feed_of, feeds_of, held_in, output_of, outputs_of, scene_of, setting_of}
+use Rattle.clock_engine.specs.Ticks.{HasFailed, HaveTickRoom, RoomsFell, HaveTicksRoom, piece_size}
 use Rattle.clock_engine.proofs.Giving.{gives_are, gives_flat}
 use Rattle.clock_engine.proofs.Filling.{filled_before, filled_kind, filled_long, filled_room, filled_sink}
 use Rattle.clock_engine.proofs.Numbered.{all_at, from_mapped, got_mapped, port_inside, port_node}
-use Rattle.clock_engine.proofs.Holding.{held_grew, held_part, held_same}
+use Rattle.clock_engine.proofs.Holding.{GrewPart, held_grew, held_part}
 use Rattle.clock_engine.proofs.Mapped.{goes_down, meaning_of}
 use Rattle.clock_engine.proofs.Feeding.{feed_inside, own_buffers, own_readers}
 use Rattle.clock_engine.proofs.Rooted.{feed_root, port_root}
@@ -47,22 +47,21 @@ room_less (Some left) ticks size has = λ x e.
     let same : left - size ≡ x = cc in
     omega (arith, enough, more, same)
 
+-- outputs that heard their nodes are the same ones
+heard_outputs : (slots : ℕ → List Slot) (ports : List Port) → map output_of (map (λ port. after_slots (emptied port) (slots port.node)) ports) ≡ map output_of ports
+heard_outputs slots [] = refl
+heard_outputs slots (port ∷ ports) =
+    ap (λ n. (n, (after_slots (emptied port) (slots port.node)).node) ∷ map output_of (map (λ port. after_slots (emptied port) (slots port.node)) ports)) (filled_sink (emptied port) (slots port.node))
+    ∙ ap (λ n. (port.sink, n) ∷ map output_of (map (λ port. after_slots (emptied port) (slots port.node)) ports)) (after_slots-node (emptied port) (slots port.node))
+    ∙ ap (λ os. output_of port ∷ os) (heard_outputs slots ports)
+
 -- an engine whose outputs heard some slots of their nodes
 module _ (parts other : EngineParts) (fit : AreParts parts)
-    (are_lanes : IsClockState parts.shape.plan.now parts.shape.library.now parts.shape.clocks.now other.lanes)
+    (are_lanes : IsClockState parts.shape.plan.now parts.shape.library.now parts.shape.clocks.now other.state)
     (slots : ℕ → List Slot) (ports_are : other.ports.items ≡ map (λ port. after_slots (emptied port) (slots port.node)) parts.ports.items) where
   -- an output that has heard its node in the tick
   abbrev hear : Port → Port
   hear port = after_slots (emptied port) (slots port.node)
-
-  hear_output : (port : Port) → output_of (hear port) ≡ output_of port
-  hear_output port =
-      ap (λ n. (n, (hear port).node)) (filled_sink (emptied port) (slots port.node))
-      ∙ ap (λ n. (port.sink, n)) (after_slots-node (emptied port) (slots port.node))
-
-  same_outputs : (old : List Port) → map output_of (map hear old) ≡ map output_of old
-  same_outputs [] = refl
-  same_outputs (port ∷ old) = ap (λ o. o ∷ map output_of (map hear old)) (hear_output port) ∙ ap (λ os. output_of port ∷ os) (same_outputs old)
 
   -- a fact of each output that hearing keeps
   kept : (P : Port → Type 0) → ((port : Port) → P port → P (hear port)) → All P parts.ports.items → All P other.ports.items
@@ -82,10 +81,10 @@ module _ (parts other : EngineParts) (fit : AreParts parts)
     few = fit.few;
     in_clocks = fit.in_clocks;
     clocks = fit.clocks;
-    lanes = are_lanes;
+    state = are_lanes;
     in_own = fit.in_own;
     own = record { each = fit.own.each };
-    outputs = ap (map output_of) ports_are ∙ same_outputs parts.ports.items ∙ fit.outputs;
+    outputs = ap (map output_of) ports_are ∙ heard_outputs slots parts.ports.items ∙ fit.outputs;
     kinds = kept (λ port. port.kind ≡ kind_of (setting_of parts) port.node)
         (λ port is. filled_kind (emptied port) (slots port.node) ∙ is ∙ ap (kind_of (setting_of parts)) (sym (after_slots-node (emptied port) (slots port.node)))) fit.kinds;
     rooms = kept (λ port. parts.shape.plan.now.frame * (2 * channels_of port.kind) ≤ port.piece.room)
@@ -105,7 +104,7 @@ module _ (parts other : EngineParts) (fit : AreParts parts)
       (found.0, found.1, sym found.2)
 
   -- it stopped in a tick, whose gaps are not counted
-  pub halted_by : (t : ℕ) (answers : ℕ → List Answer) (made : List Call) (held now : ℕ → Option (List ℕ)) (fault : TickFault) → EngineStands parts t answers
+  halted_by : (t : ℕ) (answers : ℕ → List Answer) (made : List Call) (held now : ℕ → Option (List ℕ)) (fault : TickFault) → EngineStands parts t answers
       → HasStopped (setting_of parts) parts.clock t answers made held now → EngineStopped (after_tick parts other parts.ticks (Some fault)) t answers made
   halted_by t answers made held now fault stands stopped = record {
     ticks_are = stands.made;
@@ -120,36 +119,68 @@ module _ (parts other : EngineParts) (fit : AreParts parts)
         before ∙ stands.gaps_are rest k found.0 found.1 ∙ ap (λ i. gaps (with_rest (setting_of parts) answers rest) i t) node;
   }
 
+  -- what it owes then
+  pub failed_by : {X T : Type 0} (held : X → Option (List ℕ)) (stands_for : T → List Call → Type 0) (old new : List X) (a c : T) (made : List Call) (fault : TickFault)
+      → ((t : ℕ) (answers : ℕ → List Answer) → EngineStands parts t answers
+      → HasStopped (setting_of parts) parts.clock t answers made (held_in held (outputs_of (setting_of parts) parts.clock) old) (held_in held (outputs_of (setting_of parts) parts.clock) new))
+      → ((calls : List Call) → stands_for a calls → stands_for c (calls ++ made))
+      → HasFailed held stands_for parts (after_tick parts other parts.ticks (Some fault)) old new a c
+  failed_by held stands_for old new a c made fault stopped taps = record {
+    made = made;
+    engine = λ t answers stands. stopped t answers stands;
+    halted = λ t answers stands. halted_by t answers made _ _ fault stands (stopped t answers stands);
+    taps = taps;
+  }
+
   pub sink_before : (old : Port) → (hear old).sink ≡ old.sink
   sink_before old = filled_sink (emptied old) (slots old.node)
+
+  -- an output stands at its place among those of the clock
+  pub output_at : (k : ℕ) (port : Port) → slice_get other.ports.items k ≡ Some port
+      → (node : ℕ) × (slice_get (outputs_of (setting_of parts) parts.clock) k ≡ Some (port.sink, node))
+  output_at k port at =
+      let found = port_before k port at in (
+        found.0.node,
+        ap (λ xs. slice_get xs k) (sym fit.outputs) ∙ got_mapped output_of parts.ports.items k found.0 found.1
+            ∙ ap (λ n. Some (n, found.0.node)) (sym (ap (λ p. p.sink) found.2 ∙ sink_before found.0)),
+      )
 
   pub as_many : length other.ports.items ≡ length parts.ports.items
   as_many = ap length ports_are ∙ length-map parts.ports.items hear
 
-  pub held_before : {S : Type 0} (held : S → Option (List ℕ)) (old : List S) (sink : ℕ) → held_in held other.ports.items old sink ≡ held_in held parts.ports.items old sink
-  held_before held old sink =
-      ap (λ xs. held_in held xs old sink) ports_are
-      ∙ held_same held hear (λ port. filled_sink (emptied port) (slots port.node)) parts.ports.items old sink
-
   module _ (long : (i : ℕ) → length (slots i) ≡ parts.shape.plan.now.frame) where
+    -- the length of a piece
+    size_is : (k : ℕ) (port : Port) → slice_get parts.ports.items k ≡ Some port → length (hear port).piece.bytes ≡ piece_size (setting_of parts) port.node
+    size_is k port at =
+        filled_long (emptied port) (slots port.node) parts.shape.plan.now.frame refl (long port.node)
+        ∙ ap (λ q. parts.shape.plan.now.frame * (2 * channels_of q)) (all_at (λ p. p.kind ≡ kind_of (setting_of parts) p.node) parts.ports.items fit.kinds k port at)
+
     -- the pieces have room where pieces of a tick have
     pub have_room : {S : Type 0} (room : S → Option ℕ) (outs : List S) → HaveTickRoom room parts outs → HaveRoom room other.ports.items outs
     have_room room outs tick = record {
       each = λ k port out at_port at_out.
           let found = port_before k port at_port in
-          subst (λ n. HasRoom (room out) n)
-          (sym (ap (λ p. length p.piece.bytes) found.2 ∙ filled_long (emptied found.0) (slots found.0.node) parts.shape.plan.now.frame refl (long found.0.node)))
-          (tick.each k found.0 out found.1 at_out);
+          subst (λ n. HasRoom (room out) n) (sym (ap (λ p. length p.piece.bytes) found.2 ∙ size_is k found.0 found.1))
+          (tick.each k found.0.sink found.0.node out (ap (λ xs. slice_get xs k) (sym fit.outputs) ∙ got_mapped output_of parts.ports.items k found.0 found.1) at_out);
     }
 
-    -- and take as much of it
+    -- the output at a place, and what a sink took of it
+    output_port : (k sink node : ℕ) → slice_get (outputs_of (setting_of parts) parts.clock) k ≡ Some (sink, node)
+        → (port : Port) × (slice_get other.ports.items k ≡ Some (hear port)) × (length (hear port).piece.bytes ≡ piece_size (setting_of parts) node)
+    output_port k sink node at =
+        let its = from_mapped output_of parts.ports.items k (sink, node) (ap (λ xs. slice_get xs k) fit.outputs ∙ at) in (
+          its.0,
+          ap (λ xs. slice_get xs k) ports_are ∙ got_mapped hear parts.ports.items k its.0 its.1,
+          size_is k its.0 its.1 ∙ ap (λ o. piece_size (setting_of parts) o.1) its.2,
+        )
+
     pub rooms_fell : {S : Type 0} (held : S → Option (List ℕ)) (room : S → Option ℕ) (old new : List S) → TookAll held room other.ports.items (length other.ports.items) old new
         → RoomsFell room parts old new
     rooms_fell held room old new took = record {
-      each = λ k port before after at_port at_old at_new.
-          let at : slice_get other.ports.items k ≡ Some (hear port) = ap (λ xs. slice_get xs k) ports_are ∙ got_mapped hear parts.ports.items k port at_port in
-          (took.each k (hear port) before after (slice_get_within other.ports.items k (hear port) at) at at_old at_new).room_fell
-          ∙ ap (λ n. narrowed n (room before)) (filled_long (emptied port) (slots port.node) parts.shape.plan.now.frame refl (long port.node));
+      each = λ k sink node before after at_output at_old at_new.
+          let its = output_port k sink node at_output in
+          (took.each k (hear its.0) before after (slice_get_within other.ports.items k (hear its.0) its.1) its.1 at_old at_new).room_fell
+          ∙ ap (λ n. narrowed n (room before)) its.2;
     }
 
     -- what the sinks took in the tick is off the room for so many ticks
@@ -157,20 +188,15 @@ module _ (parts other : EngineParts) (fit : AreParts parts)
         → TookAll held room other.ports.items (length other.ports.items) old new
         → (stopped : Option TickFault) (count ticks : ℕ) → HaveTicksRoom room parts old (ticks + 1) → HaveTicksRoom room (after_tick parts other count stopped) new ticks
     room_after held room old new old_size new_size took stopped count ticks all = record {
-      each = λ k port out at_port at_out.
-          let found = port_before k port at_port in
-          let here : k < length other.ports.items = slice_get_within other.ports.items k port at_port in
-          let many = as_many in
-          let within : k < length old = omega (arith, here, many, old_size) in
+      each = λ k sink node out at_output at_out.
+          let its = output_port k sink node at_output in
+          let within : k < length old = (let here = slice_get_within new k out at_out in omega (arith, here, new_size)) in
           let before = get_or old k out in
           let was : slice_get old k ≡ Some before = slice_get_read old (length old) k before refl within (get_or_default old k out before within) in
-          let fell = (took.each k port before out here at_port was at_out).room_fell in
-          let size = ap (λ p. length p.piece.bytes) found.2 ∙ filled_long (emptied found.0) (slots found.0.node) parts.shape.plan.now.frame refl (long found.0.node) in
-          let kind = ap (λ p. p.kind) found.2 ∙ filled_kind (emptied found.0) (slots found.0.node) in
-          subst (λ r. HasRoom r (ticks * (parts.shape.plan.now.frame * (2 * channels_of port.kind)))) (sym fell)
-          (subst (λ q. HasRoom (narrowed (length port.piece.bytes) (room before)) (ticks * (parts.shape.plan.now.frame * (2 * channels_of q)))) (sym kind)
-          (subst (λ n. HasRoom (narrowed n (room before)) (ticks * (parts.shape.plan.now.frame * (2 * channels_of found.0.kind)))) (sym size)
-          (room_less (room before) ticks (parts.shape.plan.now.frame * (2 * channels_of found.0.kind)) (all.each k found.0 before found.1 was))));
+          let fell = (took.each k (hear its.0) before out (slice_get_within other.ports.items k (hear its.0) its.1) its.1 was at_out).room_fell in
+          subst (λ r. HasRoom r (ticks * piece_size (setting_of parts) node)) (sym fell)
+          (subst (λ n. HasRoom (narrowed n (room before)) (ticks * piece_size (setting_of parts) node)) (sym its.2)
+          (room_less (room before) ticks (piece_size (setting_of parts) node) (all.each k sink node before at_output was)));
     }
 
 filled_whole : (slots frame : List Slot) → length slots ≡ length frame → slots ++ drop (length slots) frame ≡ slots
@@ -228,8 +254,8 @@ module _ (parts other : EngineParts) (fit : AreParts parts) {T : Type 0} (stands
     abbrev S : Setting
     S = with_rest (setting_of parts) answers rest
 
-    ran : HasRunInstants S (sub_of S) parts.own.items (Main parts.clock) (t * parts.shape.plan.now.frame) parts.shape.plan.now.frame heard.slots answers heard.more other.lanes
-    ran = heard.run S (sub_of S) (t * parts.shape.plan.now.frame) answers (meant_by parts fit answers rest) has (stands.lanes rest)
+    ran : HasRunInstants S (sub_of S) parts.own.items (Main parts.clock) (t * parts.shape.plan.now.frame) parts.shape.plan.now.frame heard.slots answers heard.more other.state
+    ran = heard.run S (sub_of S) (t * parts.shape.plan.now.frame) answers (meant_by parts fit answers rest) has (stands.state rest)
 
     slots_are : (i : ℕ) → clock_of S i ≡ Main parts.clock → get_or parts.own.items i false ≡ true → heard.slots i ≡ tick_slots S i t
     slots_are i inside root = tick_heard S parts.clock t i (heard.slots i) inside (ran.slots_are i root)
@@ -264,8 +290,8 @@ module _ (parts other : EngineParts) (fit : AreParts parts) {T : Type 0} (stands
         ∙ bytes_are S t found.0 (heard.slots found.0.node) (all_at (λ p. p.kind ≡ kind_of (setting_of parts) p.node) parts.ports.items fit.kinds k found.0 found.1) (output_slots k found.0 found.1)
         ∙ ap (λ i. tick_bytes S i t) its
 
-    pub lanes_after : ClockStateStands S (sub_of S) (Main parts.clock) (suc t * parts.shape.plan.now.frame) (after_calls answers heard.more) other.lanes
-    lanes_after = subst (λ n. ClockStateStands S (sub_of S) (Main parts.clock) n (after_calls answers heard.more) other.lanes) (sym (suc-mul t parts.shape.plan.now.frame)) ran.lanes_stand
+    pub lanes_after : ClockStateStands S (sub_of S) (Main parts.clock) (suc t * parts.shape.plan.now.frame) (after_calls answers heard.more) other.state
+    lanes_after = subst (λ n. ClockStateStands S (sub_of S) (Main parts.clock) n (after_calls answers heard.more) other.state) (sym (suc-mul t parts.shape.plan.now.frame)) ran.lanes_stand
 
     pub takes_are : heard.more ≡ takes_of_tick S parts.clock t
     takes_are = ran.calls
@@ -286,6 +312,9 @@ module _ (parts other : EngineParts) (fit : AreParts parts) {T : Type 0} (stands
     -- the gives are those of the definition
     pub gives_of : (accepted : ℕ → Bool) → joined_upto (λ k. given_by accepted (slice_get other.feeds.items k)) (length other.feeds.items) ≡ flat_map (give_by S accepted parts.clock t) S.plan.sinks
     gives_of accepted = gives_flat accepted other.feeds.items ∙ gives_are S accepted parts.clock t S.plan.sinks other.feeds.items same_feeds feed_cells_are
+
+  outputs_are : map output_of other.ports.items ≡ outputs_of (setting_of parts) parts.clock
+  outputs_are = ap (map output_of) heard.ports_are ∙ heard_outputs heard.slots parts.ports.items ∙ fit.outputs
 
   pub own_feeds : HaveOwnBuffers other.feeds.items
   own_feeds = own_buffers (setting_of parts) parts.clock fit.plan other.feeds.items (ap (map feed_of) heard.feeds_are ∙ keys_same heard.slots parts.feeds.items ∙ fit.feeds)
@@ -327,10 +356,10 @@ module _ (parts other : EngineParts) (fit : AreParts parts) {T : Type 0} (stands
       made = (let made = stands.made in omega (arith, made));
       runs = stands.runs;
       others = λ buffer unread. none_unread buffer (record { none = unread.none });
-      lanes = λ rest.
-          subst (λ W. ClockStateStands W (sub_of W) (Main parts.clock) (suc t * parts.shape.plan.now.frame) (after_calls answers all_calls) other.lanes) (world_is (setting_of parts) answers all_calls rest)
+      state = λ rest.
+          subst (λ W. ClockStateStands W (sub_of W) (Main parts.clock) (suc t * parts.shape.plan.now.frame) (after_calls answers all_calls) other.state) (world_is (setting_of parts) answers all_calls rest)
           (subst (λ (f : ℕ → List Answer). ClockStateStands (with_rest (setting_of parts) answers (behind_calls all_calls rest)) (sub_of (with_rest (setting_of parts) answers (behind_calls all_calls rest))) (Main parts.clock)
-          (suc t * parts.shape.plan.now.frame) f other.lanes) front_is (lanes_after (behind_calls all_calls rest) (has_first rest)));
+          (suc t * parts.shape.plan.now.frame) f other.state) front_is (lanes_after (behind_calls all_calls rest) (has_first rest)));
       gaps_are = λ rest k port at.
           gaps_after (behind_calls all_calls rest) (has_first rest) k port at ∙ ap (λ W. gaps W port.node (suc t)) (world_is (setting_of parts) answers all_calls rest);
     }
@@ -338,7 +367,7 @@ module _ (parts other : EngineParts) (fit : AreParts parts) {T : Type 0} (stands
     pub has_ticked : {X : Type 0} (held : X → Option (List ℕ)) (room : X → Option ℕ) (old new : List X) → length old ≡ length parts.ports.items → length new ≡ length old
         → TookAll held room other.ports.items (length other.ports.items) old new
         → HasTicked (EngineStands (after_tick parts other (parts.ticks + 1) parts.stopped)) (setting_of parts) parts.clock t answers all_calls
-        (held_in held parts.ports.items old) (held_in held other.ports.items new)
+        (held_in held (outputs_of (setting_of parts) parts.clock) old) (held_in held (outputs_of (setting_of parts) parts.clock) new)
     has_ticked held room old new old_size new_size took =
         let in_ports : length other.ports.items ≡ length parts.ports.items = ap length heard.ports_are ∙ length-map parts.ports.items (λ port. after_slots (emptied port) (heard.slots port.node)) in
         record {
@@ -346,18 +375,17 @@ module _ (parts other : EngineParts) (fit : AreParts parts) {T : Type 0} (stands
           are = calls_are_tick;
           stand = stands_after;
           grew = λ rest sink node output.
-              held_grew held room sink (tick_bytes (with_rest (setting_of parts) (after_calls answers all_calls) rest) node t) other.ports.items old new
+              subst (λ os. held_in held os new sink ≡ grown (tick_bytes (with_rest (setting_of parts) (after_calls answers all_calls) rest) node t) (held_in held os old sink)) outputs_are
+              (held_grew held room sink (tick_bytes (with_rest (setting_of parts) (after_calls answers all_calls) rest) node t) other.ports.items old new
               (old_size ∙ sym in_ports) (new_size ∙ old_size ∙ sym in_ports)
               (λ k port at same. bytes_after (behind_calls all_calls rest) (has_first rest) sink node output k port at same
-              ∙ ap (λ W. tick_bytes W node t) (world_is (setting_of parts) answers all_calls rest)) took.each
-              ∙ ap (grown (tick_bytes (with_rest (setting_of parts) (after_calls answers all_calls) rest) node t))
-              (ap (λ xs. held_in held xs old sink) heard.ports_are ∙ held_same held (λ port. after_slots (emptied port) (heard.slots port.node)) (λ port. filled_sink (emptied port) (heard.slots port.node)) parts.ports.items old sink);
+              ∙ ap (λ W. tick_bytes W node t) (world_is (setting_of parts) answers all_calls rest)) took.each);
         }
 
   -- an output failed: no chunk was given
   pub has_stopped : {X : Type 0} (held : X → Option (List ℕ)) (room : X → Option ℕ) (old new : List X) → length old ≡ length parts.ports.items → length new ≡ length old
       → TookParts held room other.ports.items old new
-      → HasStopped (setting_of parts) parts.clock t answers heard.more (held_in held parts.ports.items old) (held_in held other.ports.items new)
+      → HasStopped (setting_of parts) parts.clock t answers heard.more (held_in held (outputs_of (setting_of parts) parts.clock) old) (held_in held (outputs_of (setting_of parts) parts.clock) new)
   has_stopped held room old new old_size new_size took =
       let in_ports : length other.ports.items ≡ length parts.ports.items = ap length heard.ports_are ∙ length-map parts.ports.items (λ port. after_slots (emptied port) (heard.slots port.node)) in
       record {
@@ -369,20 +397,20 @@ module _ (parts other : EngineParts) (fit : AreParts parts) {T : Type 0} (stands
             (subst (λ (cs : List Call). IsBegin heard.more cs) (takes_are (behind_calls heard.more rest) (world_has (setting_of parts) answers heard.more rest)) (begin_all heard.more)));
         part = λ rest sink node output.
             let S = with_rest (setting_of parts) answers (behind_calls heard.more rest) in
-            let grew = held_part held room sink (tick_bytes S node t) other.ports.items old new
+            let grew = subst (λ os. GrewPart held room sink (tick_bytes S node t) (held_in held os old sink) (held_in held os new sink)) outputs_are
+            (held_part held room sink (tick_bytes S node t) other.ports.items old new
             (old_size ∙ sym in_ports) (new_size ∙ old_size ∙ sym in_ports)
-            (λ k port at same. bytes_after (behind_calls heard.more rest) (world_has (setting_of parts) answers heard.more rest) sink node output k port at same) took.each in (
+            (λ k port at same. bytes_after (behind_calls heard.more rest) (world_has (setting_of parts) answers heard.more rest) sink node output k port at same) took.each) in (
               grew.part,
               subst (λ W. IsPrefix grew.part (tick_bytes W node t)) (world_is (setting_of parts) answers heard.more rest) grew.front,
-              grew.is ∙ ap (grown grew.part) (ap (λ xs. held_in held xs old sink) heard.ports_are
-                  ∙ held_same held (λ port. after_slots (emptied port) (heard.slots port.node)) (λ port. filled_sink (emptied port) (heard.slots port.node)) parts.ports.items old sink),
+              grew.is,
             );
       }
 
   -- memory was refused at a feed: the outputs are whole
   pub has_stopped_giving : {X : Type 0} (held : X → Option (List ℕ)) (room : X → Option ℕ) (old new : List X) → length old ≡ length parts.ports.items → length new ≡ length old
       → TookAll held room other.ports.items (length other.ports.items) old new → (c : T) (some : HaveGivenSome stands_for other.feeds.items b c)
-      → HasStopped (setting_of parts) parts.clock t answers (heard.more ++ some.made) (held_in held parts.ports.items old) (held_in held other.ports.items new)
+      → HasStopped (setting_of parts) parts.clock t answers (heard.more ++ some.made) (held_in held (outputs_of (setting_of parts) parts.clock) old) (held_in held (outputs_of (setting_of parts) parts.clock) new)
   has_stopped_giving held room old new old_size new_size took c some =
       let in_ports : length other.ports.items ≡ length parts.ports.items = ap length heard.ports_are ∙ length-map parts.ports.items (λ port. after_slots (emptied port) (heard.slots port.node)) in
       let made = heard.more ++ some.made in
@@ -400,11 +428,10 @@ module _ (parts other : EngineParts) (fit : AreParts parts) {T : Type 0} (stands
             let S = with_rest (setting_of parts) answers (behind_calls made rest) in (
               tick_bytes (with_rest (setting_of parts) (after_calls answers made) rest) node t,
               record { rest = []; whole_is = sym (append-nil (tick_bytes (with_rest (setting_of parts) (after_calls answers made) rest) node t)) },
-              held_grew held room sink (tick_bytes (with_rest (setting_of parts) (after_calls answers made) rest) node t) other.ports.items old new
+              subst (λ os. held_in held os new sink ≡ grown (tick_bytes (with_rest (setting_of parts) (after_calls answers made) rest) node t) (held_in held os old sink)) outputs_are
+                  (held_grew held room sink (tick_bytes (with_rest (setting_of parts) (after_calls answers made) rest) node t) other.ports.items old new
                   (old_size ∙ sym in_ports) (new_size ∙ old_size ∙ sym in_ports)
-                  (λ k port at same. bytes_after (behind_calls made rest) (first rest) sink node output k port at same ∙ ap (λ W. tick_bytes W node t) (world_is (setting_of parts) answers made rest)) took.each
-                  ∙ ap (grown (tick_bytes (with_rest (setting_of parts) (after_calls answers made) rest) node t))
-                  (ap (λ xs. held_in held xs old sink) heard.ports_are ∙ held_same held (λ port. after_slots (emptied port) (heard.slots port.node)) (λ port. filled_sink (emptied port) (heard.slots port.node)) parts.ports.items old sink),
+                  (λ k port at same. bytes_after (behind_calls made rest) (first rest) sink node output k port at same ∙ ap (λ W. tick_bytes W node t) (world_is (setting_of parts) answers made rest)) took.each),
             );
       }
 
@@ -412,19 +439,17 @@ module _ (parts other : EngineParts) (fit : AreParts parts) {T : Type 0} (stands
 pub has_broken : (parts other : EngineParts) (fit : AreParts parts) {T : Type 0} (stands_for : T → List Call → Type 0) (a b : T)
     (heard : HeardSome stands_for parts.shape.plan.now parts.shape.library.now parts.shape.clocks.now (Main parts.clock) parts.own.items parts.shape.plan.now.frame (scene_of parts a) (scene_of other b))
     (t : ℕ) (answers : ℕ → List Answer) → EngineStands parts t answers → {X : Type 0} (held : X → Option (List ℕ)) (outs : List X)
-    → HasStopped (setting_of parts) parts.clock t answers heard.made (held_in held parts.ports.items outs) (held_in held other.ports.items outs)
+    → HasStopped (setting_of parts) parts.clock t answers heard.made (held_in held (outputs_of (setting_of parts) parts.clock) outs) (held_in held (outputs_of (setting_of parts) parts.clock) outs)
 has_broken parts other fit stands_for a b heard t answers stands held outs = record {
   accepted = λ buffer. true;
   begun = λ rest.
       let S = with_rest (setting_of parts) answers (behind_calls heard.made rest) in
       subst (λ W. IsBegin heard.made (calls_of_tick W (λ buffer. true) parts.clock t)) (world_is (setting_of parts) answers heard.made rest)
       (begin_more heard.made (takes_of_tick S parts.clock t) (flat_map (give_by S (λ buffer. true) parts.clock t) S.plan.sinks)
-      (heard.begins S (sub_of S) (t * parts.shape.plan.now.frame) answers (meant_by parts fit answers (behind_calls heard.made rest)) (world_has (setting_of parts) answers heard.made rest) (stands.lanes (behind_calls heard.made rest))));
+      (heard.begins S (sub_of S) (t * parts.shape.plan.now.frame) answers (meant_by parts fit answers (behind_calls heard.made rest)) (world_has (setting_of parts) answers heard.made rest) (stands.state (behind_calls heard.made rest))));
   part = λ rest sink node output. (
     [],
     record { rest = tick_bytes (with_rest (setting_of parts) (after_calls answers heard.made) rest) node t; whole_is = refl },
-    ap (λ xs. held_in held xs outs sink) heard.ports_are
-        ∙ held_same held (λ port. after_slots (emptied port) (heard.slots port.node)) (λ port. filled_sink (emptied port) (heard.slots port.node)) parts.ports.items outs sink
-        ∙ grown_none (held_in held parts.ports.items outs sink),
+    grown_none (held_in held (outputs_of (setting_of parts) parts.clock) outs sink),
   );
 }

@@ -1,5 +1,5 @@
 -- The nodes of a clock's outputs and feeds: their own clock demands them of itself.
-use Rattle.std.proofs.Common.{◌≡◌, ◌<◌, ◌∙◌, ℕ, Some, true, false, List, All, length, get_or, nat_eq, slice_get, refl, ap, sym}
+use Rattle.std.proofs.Common.{◌≡◌, ◌<◌, ◌∙◌, ℕ, Some, true, false, List, All, length, get_or, nat_eq, slice_get, ap, sym}
 use Rattle.std.specs.List.{list_any}
 use Rattle.std.proofs.lemmas.Bool.{eq-eqb}
 use Rattle.std.proofs.lemmas.List.Folds.{list_any_at}

@@ -62,14 +62,14 @@ feeds_of setting m = feeds_from setting m setting.plan.sinks
 abbrev pub feed_of : FeedPort → ℕ × ℕ
 feed_of feed = (feed.buffer, feed.node)
 
--- an engine with the lanes, outputs and feeds of another one
+-- an engine with the state, outputs and feeds of another one
 abbrev pub after_tick : EngineParts → (other : EngineParts) → (ticks : ℕ) → Option TickFault → EngineParts
 after_tick parts other ticks stopped = record {
   shape = parts.shape;
   clock = parts.clock;
   start = parts.start;
   own = parts.own;
-  lanes = other.lanes;
+  state = other.state;
   ports = other.ports;
   feeds = other.feeds;
   ticks = ticks;
@@ -90,7 +90,7 @@ pub record AreParts (parts : EngineParts) : Type 0 where
   pub few : length parts.shape.plan.now.nodes ≤ MAX_NODES
   pub in_clocks : length parts.shape.clocks.now ≡ length parts.shape.plan.now.nodes
   pub clocks : AreClocksOf parts.shape.plan.now parts.shape.clocks.now
-  pub lanes : IsClockState parts.shape.plan.now parts.shape.library.now parts.shape.clocks.now parts.lanes
+  pub state : IsClockState parts.shape.plan.now parts.shape.library.now parts.shape.clocks.now parts.state
   pub in_own : length parts.own.items ≡ length parts.shape.plan.now.nodes
   pub own : AreOwnRoots (setting_of parts) parts.own.items
   pub outputs : map output_of parts.ports.items ≡ outputs_of (setting_of parts) parts.clock
@@ -99,14 +99,24 @@ pub record AreParts (parts : EngineParts) : Type 0 where
   pub feeds : map feed_of parts.feeds.items ≡ feeds_of (setting_of parts) parts.clock
   pub frames : All (λ feed. length feed.frame ≡ parts.shape.plan.now.frame) parts.feeds.items
 
+-- an engine, as contracts see it: its parts, and the sinks of its outputs
+pub record Engine (S : Type 0) : Type 0 where
+  pub parts : EngineParts
+  pub outs : List S
+
+-- what each engine is: its parts fit together, and each output has a sink
+pub record IsWhole {S : Type 0} (engine : Engine S) : Type 0 where
+  pub parts : AreParts engine.parts
+  pub sinks : length engine.outs ≡ length engine.parts.ports.items
+
 -- an engine that stands for so many ticks and these answers: no tick of it had a fault; whatever answers follow, its readers have taken
 -- exactly these, and its state is the one that the instants imply. No answers are those of buffers that its clock does not read
 pub record EngineStands (parts : EngineParts) (ticks : ℕ) (answers : ℕ → List Answer) : Type 0 where
   pub made : parts.ticks ≡ ticks
   pub runs : parts.stopped ≡ None
   pub others : (buffer : ℕ) → IsUnread (setting_of parts) (Main parts.clock) buffer → answers buffer ≡ []
-  pub lanes : (rest : ℕ → List Answer) → ClockStateStands (with_rest (setting_of parts) answers rest) (sub_of (with_rest (setting_of parts) answers rest)) (Main parts.clock)
-      (ticks * parts.shape.plan.now.frame) answers parts.lanes
+  pub state : (rest : ℕ → List Answer) → ClockStateStands (with_rest (setting_of parts) answers rest) (sub_of (with_rest (setting_of parts) answers rest)) (Main parts.clock)
+      (ticks * parts.shape.plan.now.frame) answers parts.state
   pub gaps_are : (rest : ℕ → List Answer) (k : ℕ) (port : Port) → slice_get parts.ports.items k ≡ Some port
       → port.gaps ≡ gaps (with_rest (setting_of parts) answers rest) port.node ticks
 
@@ -121,12 +131,16 @@ pub record EngineStopped (parts : EngineParts) (t : ℕ) (answers : ℕ → List
   pub gaps_are : (rest : ℕ → List Answer) (k : ℕ) (port : Port) → slice_get parts.ports.items k ≡ Some port
       → port.gaps_before ≡ gaps (with_rest (setting_of parts) answers rest) port.node t
 
--- what the sink of this number holds, where it tells it: `held` tells it of a sink
-abbrev pub held_in : {S : Type 0} → (S → Option (List ℕ)) → List Port → List S → ℕ → Option (List ℕ)
+-- what the sink of this number holds, where it tells it: `held` tells it of a sink. There is a sink for each output, in the same order
+abbrev pub held_in : {S : Type 0} → (S → Option (List ℕ)) → (outputs : List (ℕ × ℕ)) → List S → ℕ → Option (List ℕ)
 held_in held [] outs sink = None
-held_in held (port ∷ ports) [] sink = None
-held_in held (port ∷ ports) (out ∷ outs) sink = if nat_eq port.sink sink then held out else held_in held ports outs sink
+held_in held (output ∷ outputs) [] sink = None
+held_in held (output ∷ outputs) (out ∷ outs) sink = if nat_eq output.0 sink then held out else held_in held outputs outs sink
+
+-- what the outputs of an engine hold, by their numbers
+abbrev pub held_of : {S : Type 0} → (S → Option (List ℕ)) → Engine S → ℕ → Option (List ℕ)
+held_of held engine = held_in held (outputs_of (setting_of engine.parts) engine.parts.clock) engine.outs
 
 -- what changes in a tick
 abbrev pub scene_of : {T : Type 0} → EngineParts → T → Scene T
-scene_of parts taps = record { lanes = parts.lanes; ports = parts.ports.items; feeds = parts.feeds.items; taps = taps }
+scene_of parts taps = record { lanes = parts.state; ports = parts.ports.items; feeds = parts.feeds.items; taps = taps }

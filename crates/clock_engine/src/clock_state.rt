@@ -8,11 +8,11 @@ ghost use Rattle.clock_engine.specs.ClockStates.{IsClockState, IsMain};
 ghost use Rattle.clock_engine.specs.Runs.{SegmentBroken, SegmentRun};
 
 use clock_infer::NodeClock;
-use sub_clocks::{ClockLanes, make_instant, make_run};
 use engine_instants::Shape;
 use frame_core::Taps;
 use liq_base::Memory;
 use node_states::WeekTime;
+use sub_clocks::{ClockLanes, make_instant, make_run};
 
 /// What changes from instant to instant in a clock: the lanes of its nodes and of those in the sub-clocks below it, and the
 /// time of its next instant.

@@ -11,13 +11,12 @@ ghost use Rattle.clock_engine.specs.ClockStates.{IsClockState};
 ghost use Rattle.clock_engine.specs.Runs.{Heard, HeardSome};
 ghost use Rattle.clock_infer.specs.declared.clock_map.NodeClock.TheVariants.{Main as InMain};
 ghost use Rattle.op_leaf.specs.Readers.{Answer};
-ghost use Rattle.clock_outputs.specs.Appends.{AreKept};
-ghost use Rattle.clock_engine.specs.Engines.{AreClocksOf, AreParts, EngineStands, EngineStopped, after_tick, feed_of, outputs_of, scene_of, setting_of};
-ghost use Rattle.clock_outputs.specs.Appends.{NoneFell};
+ghost use Rattle.clock_engine.specs.Engines.{AreClocksOf, AreParts, EngineStands, EngineStopped, IsWhole, after_tick, feed_of, outputs_of, scene_of, setting_of};
+ghost use Rattle.clock_outputs.specs.Appends.{AreKept, GotOnePiece, NoneFell};
 ghost use Rattle.stream_meaning.specs.Sinks.{gaps};
 ghost use Rattle.node_states.specs.Ticks.{IsOutput, with_rest};
 ghost use Rattle.engine_instants.specs.Takes.{HasReader};
-ghost use Rattle.clock_engine.specs.Ticks.{HasEnds, HasFailed, HasMade, HaveTickRoom, IsWriteFault, RoomsFell, HaveTicksRoom};
+ghost use Rattle.clock_engine.specs.Ticks.{GotSomePieces, HasEnds, HasFailed, HasMade, HaveTickRoom, IsWriteFault, RoomsFell, HaveTicksRoom};
 
 use crate::TickFault;
 use crate::clock_state::ClockState;
@@ -33,6 +32,7 @@ use liq_base::{Memory, Sink};
 use node_states::{Desk, WeekTime};
 use plan_core::Plan;
 use std::alloc::Global;
+use std::marker::Model;
 use stream_meaning::Part;
 use sub_clocks::ClockLanes;
 
@@ -47,7 +47,7 @@ pub struct EngineParts<'a> {
 
     /// For each node, whether its own clock demands it of itself: the nodes of sinks, and the children of crossfades.
     pub own: Vec<bool>,
-    pub lanes: ClockState,
+    pub state: ClockState,
 
     /// The outputs of the clock, in sink order.
     pub ports: Vec<Port>,
@@ -60,10 +60,25 @@ pub struct EngineParts<'a> {
     pub stopped: Option<TickFault>,
 }
 
-/// The engine of one main clock, with the sinks of its outputs.
+/// The engine of one main clock, with the sinks of its outputs, in sink order. Contracts see an `Engine`: its parts and the list
+/// of its sinks. Each one is whole: its parts fit together, and it has a sink for each output of the clock.
 pub struct ClockEngine<'a, O> {
-    pub parts: EngineParts<'a>,
-    pub outs: Vec<O>,
+    parts: EngineParts<'a>,
+    outs: Vec<O>,
+}
+
+impl<'a, O> Model for ClockEngine<'a, O> {
+    ghost use Rattle.std.specs.Coded.{codes};
+    ghost use Rattle.time_pred.specs.Stored.{predicate_code};
+    ghost use Rattle.clock_engine.specs.Engines.{Engine, IsWhole};
+
+    ghost Value = { Engine O };
+
+    ghost coded = { Prim.hlevel (codes, predicate_code) };
+
+    ghost view = { λ e. record { parts = e.parts; outs = e.outs.items } };
+
+    ghost invariant = { λ e. IsWhole (record { parts = e.parts; outs = e.outs.items }) };
 }
 
 // The parts of a new engine.
@@ -103,7 +118,7 @@ fn make_parts<'a>(
         clock,
         start,
         own,
-        lanes: ClockState {
+        state: ClockState {
             clocks: ClockLanes {
                 states,
                 times,
@@ -131,7 +146,7 @@ fn run_parts<T: Taps>(parts: &mut EngineParts<'_>, taps: &mut T) -> Result<(), M
     requires parts { AreParts parts.old }
     requires buffers { T.buffers taps.old ≡ length parts.old.shape.plan.now.buffers }
     ensures kept { parts.new ≡ after_tick parts.old parts.new parts.old.ticks parts.old.stopped }
-    ensures lanes { IsClockState parts.old.shape.plan.now parts.old.shape.library.now parts.old.shape.clocks.now parts.new.lanes }
+    ensures state { IsClockState parts.old.shape.plan.now parts.old.shape.library.now parts.old.shape.clocks.now parts.new.state }
     ensures frames { All (λ feed. length feed.frame ≡ parts.old.shape.plan.now.frame) parts.new.feeds.items }
     ensures feeds { map feed_of parts.new.feeds.items ≡ map feed_of parts.old.feeds.items }
     ensures buffers { T.buffers taps.new ≡ T.buffers taps.old }
@@ -147,7 +162,7 @@ fn run_parts<T: Taps>(parts: &mut EngineParts<'_>, taps: &mut T) -> Result<(), M
         &parts.shape,
         clock,
         &parts.own,
-        &mut parts.lanes,
+        &mut parts.state,
         &mut parts.ports,
         &mut parts.feeds,
         taps,
@@ -160,7 +175,7 @@ fn run_or_stop<T: Taps>(parts: &mut EngineParts<'_>, taps: &mut T) -> Result<(),
     requires buffers { T.buffers taps.old ≡ length parts.old.shape.plan.now.buffers }
     ensures kept { OnOk result (parts.new ≡ after_tick parts.old parts.new parts.old.ticks parts.old.stopped) }
     ensures ended { IfErr result (λ fault. (fault ≡ OutOfMemory) × (parts.new ≡ after_tick parts.old parts.new parts.old.ticks (Some OutOfMemory))) }
-    ensures lanes { IsClockState parts.old.shape.plan.now parts.old.shape.library.now parts.old.shape.clocks.now parts.new.lanes }
+    ensures state { IsClockState parts.old.shape.plan.now parts.old.shape.library.now parts.old.shape.clocks.now parts.new.state }
     ensures frames { All (λ feed. length feed.frame ≡ parts.old.shape.plan.now.frame) parts.new.feeds.items }
     ensures feeds { map feed_of parts.new.feeds.items ≡ map feed_of parts.old.feeds.items }
     ensures buffers { T.buffers taps.new ≡ T.buffers taps.old }
@@ -232,12 +247,10 @@ impl<'a, O: Sink> ClockEngine<'a, O> {
         requires library { IsLibrary library.now }
         requires leaves { length library.now.leaves ≡ length plan.now.nodes }
         requires outs { length outs.items ≡ length (outputs_of (record { plan = plan.now; library = library.now; clocks = clocks.now.of; start = start.second; answers = λ buffer. [] }) clock) }
-        ensures parts { IfOk result (λ engine. AreParts engine.parts) }
-        ensures sinks { IfOk result (λ engine. length engine.outs.items ≡ length engine.parts.ports.items) }
         ensures setting { IfOk result (λ engine. setting_of engine.parts ≡ record { plan = plan.now; library = library.now; clocks = clocks.now.of; start = start.second; answers = λ buffer. [] }) }
         ensures clock { IfOk result (λ engine. engine.parts.clock ≡ clock) }
         ensures stands { IfOk result (λ engine. EngineStands engine.parts 0 (λ buffer. [])) }
-        ensures outs { IfOk result (λ engine. engine.outs.items ≡ outs.items) }
+        ensures outs { IfOk result (λ engine. engine.outs ≡ outs.items) }
         ensures back { IfErr result (λ refused. refused.0.items ≡ outs.items) }
     {
         let shape = Shape {
@@ -254,26 +267,25 @@ impl<'a, O: Sink> ClockEngine<'a, O> {
     /// Makes a tick: its readers take from the taps, each output of the clock takes its bytes, in one piece and in sink order,
     /// and then each feed gives its chunk, in sink order. A fault stops the engine.
     pub fn tick<T: Taps>(&mut self, alloc: Global, taps: &mut T) -> Result<(), TickFault>
-        requires parts { AreParts self.old.parts }
-        requires sinks { length self.old.outs.items ≡ length self.old.parts.ports.items }
         requires runs { self.old.parts.stopped ≡ None }
         requires few { self.old.parts.ticks < 1000000000 }
-        requires room { HaveTickRoom O.room self.old.parts self.old.outs.items }
+        requires room { HaveTickRoom O.room self.old.parts self.old.outs }
         requires buffers { T.buffers taps.old ≡ length self.old.parts.shape.plan.now.buffers }
-        ensures parts { AreParts self.new.parts }
-        ensures sinks { length self.new.outs.items ≡ length self.new.parts.ports.items }
-        ensures outs { length self.new.outs.items ≡ length self.old.outs.items }
+        ensures whole { IsWhole self.old }
+        ensures outs { length self.new.outs ≡ length self.old.outs }
         ensures setting { setting_of self.new.parts ≡ setting_of self.old.parts }
         ensures clock { self.new.parts.clock ≡ self.old.parts.clock }
-        ensures faults { NoneFell O.faults self.old.outs.items self.new.outs.items }
-        ensures room { OnOk result ((ticks : ℕ) → HaveTicksRoom O.room self.old.parts self.old.outs.items (ticks + 1) → HaveTicksRoom O.room self.new.parts self.new.outs.items ticks) }
-        ensures ticked { OnOk result (HasMade O.held T.stands self.old.parts self.new.parts self.old.outs.items self.new.outs.items taps.old taps.new) }
-        ensures stopped { OnErr result (HasFailed O.held T.stands self.old.parts self.new.parts self.old.outs.items self.new.outs.items taps.old taps.new) }
+        ensures faults { NoneFell O.faults self.old.outs self.new.outs }
+        ensures room { OnOk result ((ticks : ℕ) → HaveTicksRoom O.room self.old.parts self.old.outs (ticks + 1) → HaveTicksRoom O.room self.new.parts self.new.outs ticks) }
+        ensures ticked { OnOk result (HasMade O.held T.stands self.old.parts self.new.parts self.old.outs self.new.outs taps.old taps.new) }
+        ensures stopped { OnErr result (HasFailed O.held T.stands self.old.parts self.new.parts self.old.outs self.new.outs taps.old taps.new) }
         ensures taps { T.same taps.old taps.new }
         ensures buffers { T.buffers taps.new ≡ T.buffers taps.old }
-        ensures kept { AreKept O.name O.faults self.old.outs.items self.new.outs.items }
-        ensures rooms { OnOk result (RoomsFell O.room self.old.parts self.old.outs.items self.new.outs.items) }
-        ensures cause { IfErr result (λ fault. (sink : ℕ) → fault ≡ Write sink → IsWriteFault O.faults self.old.parts self.old.outs.items self.new.outs.items fault) }
+        ensures once { OnOk result (GotOnePiece O.appends (length self.old.outs) self.old.outs self.new.outs) }
+        ensures once_upto { OnErr result (GotSomePieces O.appends self.old.outs self.new.outs) }
+        ensures kept { AreKept O.name O.faults self.old.outs self.new.outs }
+        ensures rooms { OnOk result (RoomsFell O.room self.old.parts self.old.outs self.new.outs) }
+        ensures cause { IfErr result (λ fault. (sink : ℕ) → fault ≡ Write sink → IsWriteFault O.faults O.appends self.old.parts self.old.outs self.new.outs fault) }
         ensures memory { IfErr result (λ fault. fault ≡ OutOfMemory → HasEnds self.old.parts) }
         ensures fault { IfErr result (λ fault. self.new.parts.stopped ≡ Some fault) }
         ensures runs { OnOk result (self.new.parts.stopped ≡ None) }
@@ -294,7 +306,6 @@ impl<'a, O: Sink> ClockEngine<'a, O> {
     /// At how many instants of the ticks made the node of this output, which is one of the clock, offered nothing. A tick
     /// that stopped the engine is not among them.
     pub fn gaps(&self, sink: u32) -> u64
-        requires parts { AreParts self.now.parts }
         requires output { (node : ℕ) × IsOutput (setting_of self.now.parts) self.now.parts.clock sink node }
         ensures made { (ticks : ℕ) (answers rest : ℕ → List Answer) (node : ℕ) → EngineStands self.now.parts ticks answers
             → IsOutput (setting_of self.now.parts) self.now.parts.clock sink node → result ≡ gaps (with_rest (setting_of self.now.parts) answers rest) node ticks }
@@ -309,6 +320,24 @@ impl<'a, O: Sink> ClockEngine<'a, O> {
         0
     }
 
+    /// The sinks of its outputs, in sink order.
+    pub fn into_outs(self) -> Vec<O>
+        ensures { result.items ≡ self.entry.outs }
+    {
+        let ClockEngine { parts, outs } = self;
+        drop(parts);
+        outs
+    }
+}
+
+impl<'a, O> ClockEngine<'a, O> {
+    /// The number of its main clock.
+    pub fn clock(&self) -> u32
+        ensures { result ≡ self.now.parts.clock }
+    {
+        self.parts.clock
+    }
+
     /// The fault that stopped the engine.
     pub fn stopped(&self) -> Option<TickFault>
         ensures { result ≡ self.now.parts.stopped }
@@ -318,8 +347,7 @@ impl<'a, O: Sink> ClockEngine<'a, O> {
 
     /// How many ticks were made. A tick that stopped the engine is not among them.
     pub fn ticks(&self) -> u64
-        ensures made { (ticks : ℕ) (answers : ℕ → List Answer) → EngineStands self.now.parts ticks answers → result ≡ ticks }
-        ensures stopped { (ticks : ℕ) (answers : ℕ → List Answer) (made : List Call) → EngineStopped self.now.parts ticks answers made → result ≡ ticks }
+        ensures { result ≡ self.now.parts.ticks }
     {
         self.parts.ticks
     }
@@ -327,17 +355,8 @@ impl<'a, O: Sink> ClockEngine<'a, O> {
     /// How many segments were made: an instant of the clock each, and behind it a run of instants that were made at once, as they
     /// go on as it did.
     pub fn segments(&self) -> u64
-        ensures { result ≡ self.now.parts.lanes.segments }
+        ensures { result ≡ self.now.parts.state.segments }
     {
-        self.parts.lanes.segments
-    }
-
-    /// The sinks of its outputs, in sink order.
-    pub fn into_outs(self) -> Vec<O>
-        ensures { result.items ≡ self.entry.outs.items }
-    {
-        let ClockEngine { parts, outs } = self;
-        drop(parts);
-        outs
+        self.parts.state.segments
     }
 }

@@ -6,8 +6,8 @@ ghost use Rattle.clock_outputs.specs.Ports.{AllHaveRoomLeft, HasRoomLeft, after_
 ghost use Rattle.clock_engine.specs.Runs.{segment_of};
 
 use clock_outputs::{FeedPort, Port};
-use sub_clocks::ClockLanes;
 use stream_meaning::slot_of;
+use sub_clocks::ClockLanes;
 
 /// Each output takes the slots of its node in the latest segment, which had so many instants behind its first one. There are
 /// `nodes` nodes.

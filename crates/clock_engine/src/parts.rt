@@ -13,12 +13,12 @@ ghost use Rattle.sub_clocks.specs.Clocks.{AreOwnRoots};
 ghost use Rattle.clock_engine.specs.Beginnings.{AreNewStates, IsNewState};
 
 use clock_infer::NodeClock;
-use sub_clocks::child_of;
 use engine_instants::Shape;
 use liq_base::Memory;
 use node_states::{NodeState, WeekTime};
 use plan_core::{Node, Plan, SinkPlan};
 use std::alloc::Global;
+use sub_clocks::child_of;
 
 /// The states of the nodes before the first instant, where those that the main clock of this number does not drive are idle.
 pub fn states_of(alloc: Global, shape: &Shape<'_>, clock: u32) -> Result<Vec<NodeState>, Memory>

@@ -15,6 +15,8 @@ use Rattle.std.below.std_heap.proofs.GlobalAllocator.TheSendSync as AllocatorSen
 use Rattle.clock_outputs.specs.contracts.feed.FeedPort
 use Rattle.clock_outputs.specs.contracts.port.Port
 use Rattle.clock_engine.specs.contracts.fault.TickFault
+use Rattle.clock_engine.specs.contracts.engine.ClockEngine
+use Rattle.clock_engine.specs.contracts.engine.ClockEngine.TheInside as Fields
 use Rattle.clock_engine.specs.contracts.engine.EngineParts
 use Rattle.engine_instants.specs.contracts.shape.Shape
 use Rattle.clock_engine.proofs.clock_state.ClockState.TheSendSync as ClockStateSent
@@ -92,3 +94,9 @@ parts_send a = Send.struct_send (Declared.shape (EngineParts.the_type a)) (
     ),
   ),
 )
+
+-- an engine is seen through a model; below it are its fields
+pub engine_send : (a : NamedLft) (R : RattleType) → IsSend R → IsSend (ClockEngine.the_row a R)
+engine_send a R s =
+    Send.view_send _ _ _ _ _
+    (Send.recorded_send (Fields.the_field a R).row _ _ (Fields.the_type a R).to_one (Send.struct_send (Declared.shape (Fields.the_type a R)) (parts_send a, (vec_send R s, tt))))

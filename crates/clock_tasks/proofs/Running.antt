@@ -1,84 +1,41 @@
 -- A task's ticks.
-use Rattle.std.proofs.Common.{◌≡◌, ℕ, zero, suc, ◌<◌, ◌≤◌, ◌+◌, ◌*◌, List, [], ◌∷◌, ◌++◌, length, slice_get, sym, refl, ap, ◌∙◌, subst, arith, append_assoc, append-nil, add-zero, add-suc, Option, Some, None}
+use Rattle.std.proofs.Common.{◌≡◌, ℕ, suc, ◌<◌, ◌≤◌, ◌+◌, ◌*◌, List, ◌++◌, sym, refl, ◌∙◌, subst, arith, append_assoc, append-nil, add-zero, add-suc, Option, Some, None}
 use Rattle.frame_core.specs.Calls.{Call}
 use Rattle.op_leaf.specs.Readers.{Answer}
 use Rattle.stream_meaning.specs.Instants.{Setting}
 use Rattle.stream_meaning.specs.Calls.{after_calls}
-use Rattle.clock_outputs.specs.Appends.{AreKept, NoneFell}
+use Rattle.clock_outputs.proofs.Since.{fell_then, kept_then}
+use Rattle.clock_outputs.proofs.Taken.{fell_none, kept_none}
 use Rattle.clock_engine.specs.declared.engine.ClockEngine.{ClockEngine}
-use Rattle.clock_engine.specs.Engines.{EngineStands, setting_of}
-use Rattle.clock_engine.specs.Ticks.{HasMade, HasFailed, HaveTicksRoom, HaveTickRoom, IsWriteFault}
+use Rattle.clock_engine.specs.Engines.{EngineStands, setting_of, held_of}
+use Rattle.clock_engine.specs.Ticks.{HasMade, HasFailed, HaveTicksRoom, HaveTickRoom, IsWriteFault, piece_size}
 use Rattle.clock_engine.specs.declared.fault.TickFault.{TickFault}
 use Rattle.clock_engine.specs.declared.fault.TickFault.TheVariants.{Write}
 use Rattle.clock_engine.specs.declared.engine.EngineParts.{EngineParts}
-use Rattle.liq_base.specs.Kinds.{channels_of}
 use Rattle.std.proofs.Math.Nat.{mul-le-mul_right}
 use Rattle.clock_tasks.specs.declared.task.Task.{Task}
 use Rattle.clock_tasks.specs.Histories.{History, joined_from, Agree, HasGone, HasGonePart}
-use Rattle.clock_tasks.specs.Tasks.{IsWhole, IsSameClock, held_of, stands_for, EngineGone, WentOn, WasRun}
+use Rattle.clock_tasks.specs.Tasks.{IsSameClock, stands_for, EngineGone, WentOn, WasRun}
 use Rattle.clock_tasks.proofs.Writing.{write_of, write_since}
 use Rattle.clock_tasks.proofs.Walking.{agree_none, agree_then, joined_alike, extended, extended_at, extended_below, gone_more, gone_part}
-
--- nothing changed, and one change after another
-kept_not : {S : Type 0} (name : S → Option (List ℕ)) (faults : S → ℕ) (outs : List S) → AreKept name faults outs outs
-kept_not name faults outs = record { each = λ k before after was is. (let e = some_one was is in (ap name e, (let n = ap faults e in omega (arith, n)))) }
-  where
-    some_one : {A : Type 0} {o : Option A} {x y : A} → o ≡ Some x → o ≡ Some y → y ≡ x
-    some_one p q = cc
-
-fell_not : {S : Type 0} (faults : S → ℕ) (outs : List S) → NoneFell faults outs outs
-fell_not faults outs = record { each = λ k d. omega arith }
-
-fell_then : {S : Type 0} (faults : S → ℕ) (a b c : List S) → NoneFell faults a b → NoneFell faults b c → NoneFell faults a c
-fell_then faults a b c first next = record { each = λ k d. (let x = first.each k d in let y = next.each k d in omega (arith, x, y)) }
-
-there : {A : Type 0} (xs ys : List A) (k : ℕ) (x : A) → slice_get xs k ≡ Some x → length ys ≡ length xs → (y : A) × (slice_get ys k ≡ Some y)
-there xs ys k x e long = go (slice_get ys k) refl
-  where
-    within : {B : Type 0} (zs : List B) (i : ℕ) (z : B) → slice_get zs i ≡ Some z → i < length zs
-    within [] i z e' = absurd (none_some e')
-      where
-        none_some : {C : Type 0} {c : C} → None ≡ Some c → ⊥
-        none_some q = cc
-    within (w ∷ zs) zero z e' = omega arith
-    within (w ∷ zs) (suc i) z e' = let h = within zs i z e' in omega (arith, h)
-
-    past : {B : Type 0} (zs : List B) (i : ℕ) → slice_get zs i ≡ None → length zs ≤ i
-    past [] i e' = omega arith
-    past (w ∷ zs) zero e' = absurd (some_none e')
-      where
-        some_none : {C : Type 0} {c : C} → Some c ≡ None → ⊥
-        some_none q = cc
-    past (w ∷ zs) (suc i) e' = let h = past zs i e' in omega (arith, h)
-
-    go : (o : Option _) → slice_get ys k ≡ o → (y : _) × (slice_get ys k ≡ Some y)
-    go None e' = absurd (let h = within xs k x e in let p = past ys k e' in omega (arith, h, p, long))
-    go (Some y) e' = (y, e')
-
-kept_then : {S : Type 0} (name : S → Option (List ℕ)) (faults : S → ℕ) (a b c : List S) → length b ≡ length a → AreKept name faults a b → AreKept name faults b c → AreKept name faults a c
-kept_then name faults a b c long first next = record {
-  each = λ k before after was is. (
-      let mid = there a b k before was long in let x = first.each k before mid.0 was mid.1 in let y = next.each k mid.0 after mid.1 is in (y.0 ∙ x.0, (let p = x.1 in let q = y.1 in omega (arith, p, q))));
-}
 
 pub same_then : {S : Type 0} (name : S → Option (List ℕ)) (faults : S → ℕ) (a b c : ClockEngine S) → IsSameClock name faults a b → IsSameClock name faults b c → IsSameClock name faults a c
 same_then name faults a b c x y = record {
   setting = y.setting ∙ x.setting;
   clock = y.clock ∙ x.clock;
   outs = y.outs ∙ x.outs;
-  kept = kept_then name faults a.outs.items b.outs.items c.outs.items x.outs x.kept y.kept;
-  none_fell = fell_then faults a.outs.items b.outs.items c.outs.items x.none_fell y.none_fell;
+  kept = kept_then name faults a.outs b.outs c.outs x.outs x.kept y.kept;
+  none_fell = fell_then faults a.outs b.outs c.outs x.none_fell y.none_fell;
 }
 
 -- what is known of a task after so many ticks without a fault
 pub record Running {S T : Type 0} (held name : S → Option (List ℕ)) (room : S → Option ℕ) (faults : S → ℕ) (stands : T → List Call → Type 0) (buffers : T → ℕ) (same : T → T → Type 0)
     (count : ℕ) (old new : Task S T) : Type 0 where
-  pub whole : IsWhole new.engine
   pub clock : IsSameClock name faults old.engine new.engine
   pub taps : same old.taps new.taps
   pub many : buffers new.taps ≡ buffers old.taps
   pub on : (t : ℕ) (history : History) (first : ℕ → Option (List ℕ)) → EngineGone held t history first old.engine → WentOn held stands count t history first old new
-  pub rooms : (n : ℕ) → HaveTicksRoom room old.engine.parts old.engine.outs.items (n + count) → HaveTicksRoom room new.engine.parts new.engine.outs.items n
+  pub rooms : (n : ℕ) → HaveTicksRoom room old.engine.parts old.engine.outs (n + count) → HaveTicksRoom room new.engine.parts new.engine.outs n
   pub engine : (t : ℕ) (answers : ℕ → List Answer) → EngineStands old.engine.parts t answers → (more : ℕ → List Answer) × EngineStands new.engine.parts (t + count) more
   pub runs : new.engine.parts.stopped ≡ None
 
@@ -90,10 +47,9 @@ some_is : {A : Type 0} {o : Option A} (x y : A) → o ≡ Some x → o ≡ Some 
 some_is x y one other = cc
 
 module _ {S T : Type 0} (held name : S → Option (List ℕ)) (room : S → Option ℕ) (faults : S → ℕ) (stands : T → List Call → Type 0) (buffers : T → ℕ) (same : T → T → Type 0) where
-  pub running_none : (x : Task S T) → IsWhole x.engine → same x.taps x.taps → x.engine.parts.stopped ≡ None → Running held name room faults stands buffers same 0 x x
-  running_none x whole s runs = record {
-    whole = whole;
-    clock = record { setting = refl; clock = refl; outs = refl; kept = kept_not name faults x.engine.outs.items; none_fell = fell_not faults x.engine.outs.items };
+  pub running_none : (x : Task S T) → same x.taps x.taps → x.engine.parts.stopped ≡ None → Running held name room faults stands buffers same 0 x x
+  running_none x s runs = record {
+    clock = record { setting = refl; clock = refl; outs = refl; kept = kept_none name faults x.engine.outs; none_fell = fell_none faults x.engine.outs };
     taps = s;
     many = refl;
     on = λ t h first gone. record {
@@ -102,18 +58,17 @@ module _ {S T : Type 0} (held name : S → Option (List ℕ)) (room : S → Opti
       gone = subst (λ n. EngineGone held n h first x.engine) (sym (add-zero t)) gone;
       taps = λ calls st. subst (λ l. stands x.taps l) (sym (append-nil calls)) st;
     };
-    rooms = λ n r. subst (λ k. HaveTicksRoom room x.engine.parts x.engine.outs.items k) (add-zero n) r;
+    rooms = λ n r. subst (λ k. HaveTicksRoom room x.engine.parts x.engine.outs k) (add-zero n) r;
     engine = λ t answers st. (answers, subst (λ n. EngineStands x.engine.parts n answers) (sym (add-zero t)) st);
     runs = runs;
   }
 
-  module _ (count : ℕ) (x y : Task S T) (e : ClockEngine S) (s : T) (running : Running held name room faults stands buffers same count x y) (same_clock : IsSameClock name faults y.engine e) (whole_e : IsWhole e) where
+  module _ (count : ℕ) (x y : Task S T) (e : ClockEngine S) (s : T) (running : Running held name room faults stands buffers same count x y) (same_clock : IsSameClock name faults y.engine e) where
     pub running_more : same x.taps s → buffers s ≡ buffers y.taps
-        → HasMade held stands y.engine.parts e.parts y.engine.outs.items e.outs.items y.taps s
-        → ((n : ℕ) → HaveTicksRoom room y.engine.parts y.engine.outs.items (n + 1) → HaveTicksRoom room e.parts e.outs.items n) → e.parts.stopped ≡ None
+        → HasMade held stands y.engine.parts e.parts y.engine.outs e.outs y.taps s
+        → ((n : ℕ) → HaveTicksRoom room y.engine.parts y.engine.outs (n + 1) → HaveTicksRoom room e.parts e.outs n) → e.parts.stopped ≡ None
         → Running held name room faults stands buffers same (suc count) x (record { engine = e; taps = s })
     running_more taps many made rooms runs = record {
-      whole = whole_e;
       clock = same_then name faults x.engine y.engine e running.clock same_clock;
       taps = taps;
       many = many ∙ running.many;
@@ -134,18 +89,17 @@ module _ {S T : Type 0} (held name : S → Option (List ℕ)) (room : S → Opti
                 let at : after.calls (t + count) ≡ made.more = extended_at w.after (t + count) made.more ticked.accepted in
                 subst (λ l. stands s l) (append_assoc calls (joined_from w.after.calls t count) made.more ∙ (λ i. calls ++ (sym old i ++ sym at i))) (made.taps (calls ++ joined_from w.after.calls t count) (w.taps calls st));
           };
-      rooms = λ n r. rooms n (running.rooms (n + 1) (subst (λ k. HaveTicksRoom room x.engine.parts x.engine.outs.items k) (grind arith) r));
+      rooms = λ n r. rooms n (running.rooms (n + 1) (subst (λ k. HaveTicksRoom room x.engine.parts x.engine.outs k) (grind arith) r));
       engine = λ t answers st. (let m = running.engine t answers st in let ticked = made.engine (t + count) m.0 m.1 in
           (after_calls m.0 made.more, subst (λ n. EngineStands e.parts n (after_calls m.0 made.more)) (sym (add-suc t count)) ticked.stand));
       runs = runs;
     }
 
-    pub running_broke : (whole : ℕ) → count < whole → same x.taps s → buffers s ≡ buffers y.taps
-        → HasFailed held stands y.engine.parts e.parts y.engine.outs.items e.outs.items y.taps s
-        → (fault : TickFault) → e.parts.stopped ≡ Some fault → ((sink : ℕ) → fault ≡ Write sink → IsWriteFault faults y.engine.parts y.engine.outs.items e.outs.items fault)
+    pub running_broke : (appends : S → Option ℕ) (whole : ℕ) → count < whole → same x.taps s → buffers s ≡ buffers y.taps
+        → HasFailed held stands y.engine.parts e.parts y.engine.outs e.outs y.taps s
+        → (fault : TickFault) → e.parts.stopped ≡ Some fault → ((sink : ℕ) → fault ≡ Write sink → IsWriteFault faults appends y.engine.parts y.engine.outs e.outs fault)
         → WasRun held name room faults stands buffers same whole x (record { engine = e; taps = s })
-    running_broke whole fewer taps many failed fault stopped cause = record {
-      whole = whole_e;
+    running_broke appends whole fewer taps many failed fault stopped cause = record {
       clock = same_then name faults x.engine y.engine e running.clock same_clock;
       taps = taps;
       many = many ∙ running.many;
@@ -165,13 +119,12 @@ module _ {S T : Type 0} (held name : S → Option (List ℕ)) (room : S → Opti
       };
       write = λ sink is. (let e' : fault ≡ Write sink = some_is fault (Write sink) stopped is in
           write_since name faults x.engine y.engine e sink running.clock
-          (write_of name faults y.engine e sink running.whole.parts (subst (IsWriteFault faults y.engine.parts y.engine.outs.items e.outs.items) e' (cause sink e'))));
+          (write_of name faults y.engine e sink appends (subst (IsWriteFault faults appends y.engine.parts y.engine.outs e.outs) e' (cause sink e'))));
       rooms = λ n runs. absurd (some_not_none stopped runs);
     }
 
   pub running_all : (count whole : ℕ) (x y : Task S T) → count ≡ whole → Running held name room faults stands buffers same count x y → WasRun held name room faults stands buffers same whole x y
   running_all count whole x y is running = subst (λ n. WasRun held name room faults stands buffers same n x y) is (record {
-    whole = running.whole;
     clock = running.clock;
     taps = running.taps;
     many = running.many;
@@ -183,12 +136,12 @@ module _ {S T : Type 0} (held name : S → Option (List ℕ)) (room : S → Opti
 module _ {S : Type 0} (room : S → Option ℕ) (parts : EngineParts) (outs : List S) where
   pub rooms_fewer : (m n : ℕ) → m ≤ n → HaveTicksRoom room parts outs n → HaveTicksRoom room parts outs m
   rooms_fewer m n h r = record {
-    each = λ k port out p o left e. (let most = r.each k port out p o left e in
-        let less : m * (parts.shape.plan.now.frame * (2 * channels_of port.kind)) ≤ n * (parts.shape.plan.now.frame * (2 * channels_of port.kind)) = mul-le-mul_right (parts.shape.plan.now.frame * (2 * channels_of port.kind)) h in omega (arith, most, less));
+    each = λ k sink node out p o left e. (let most = r.each k sink node out p o left e in
+        let less : m * piece_size (setting_of parts) node ≤ n * piece_size (setting_of parts) node = mul-le-mul_right (piece_size (setting_of parts) node) h in omega (arith, most, less));
   }
 
   pub room_one : HaveTicksRoom room parts outs 1 → HaveTickRoom room parts outs
   room_one r = record {
-    each = λ k port out p o left e. (let most = r.each k port out p o left e in
-        let one : 1 * (parts.shape.plan.now.frame * (2 * channels_of port.kind)) ≡ parts.shape.plan.now.frame * (2 * channels_of port.kind) = grind arith in omega (arith, most, one));
+    each = λ k sink node out p o left e. (let most = r.each k sink node out p o left e in
+        let one : 1 * piece_size (setting_of parts) node ≡ piece_size (setting_of parts) node = grind arith in omega (arith, most, one));
   }

@@ -5,36 +5,28 @@ use Rattle.op_leaf.specs.Readers.{Answer}
 use Rattle.clock_outputs.specs.Appends.{AreKept, NoneFell, RoseAt}
 use Rattle.clock_engine.specs.declared.engine.ClockEngine.{ClockEngine}
 use Rattle.clock_engine.specs.declared.fault.TickFault.TheVariants.{Write}
-use Rattle.clock_engine.specs.Engines.{AreParts, EngineStands, held_in, outputs_of, setting_of}
+use Rattle.clock_engine.specs.Engines.{EngineStands, held_of, outputs_of, setting_of}
 use Rattle.clock_engine.specs.Ticks.{HaveTicksRoom}
 use Rattle.clock_tasks.specs.declared.task.Task.{Task}
 use Rattle.clock_tasks.specs.Histories.{History, joined_from, Agree, HasGone, HasGonePart}
 
-abbrev pub held_of : {S : Type 0} → (S → Option (List ℕ)) → ClockEngine S → ℕ → Option (List ℕ)
-held_of held e = held_in held e.parts.ports.items e.outs.items
-
 abbrev pub stands_for : {S : Type 0} → ClockEngine S → ℕ → (ℕ → List Answer) → Type 0
 stands_for e t answers = EngineStands e.parts t answers
-
--- the engine's parts fit together
-pub record IsWhole {S : Type 0} (e : ClockEngine S) : Type 0 where
-  pub parts : AreParts e.parts
-  pub sinks : length e.outs.items ≡ length e.parts.ports.items
 
 -- the same clock of the same plan, with the same sinks
 pub record IsSameClock {S : Type 0} (name : S → Option (List ℕ)) (faults : S → ℕ) (old new : ClockEngine S) : Type 0 where
   pub setting : setting_of new.parts ≡ setting_of old.parts
   pub clock : new.parts.clock ≡ old.parts.clock
-  pub outs : length new.outs.items ≡ length old.outs.items
-  pub kept : AreKept name faults old.outs.items new.outs.items
-  pub none_fell : NoneFell faults old.outs.items new.outs.items
+  pub outs : length new.outs ≡ length old.outs
+  pub kept : AreKept name faults old.outs new.outs
+  pub none_fell : NoneFell faults old.outs new.outs
 
 -- this is the sink of an output of the clock, and its count of faults rose
 pub record IsWriteOf {S : Type 0} (faults : S → ℕ) (sink : ℕ) (old new : ClockEngine S) : Type 0 where
   pub place : ℕ
   pub node : ℕ
   pub there : slice_get (outputs_of (setting_of old.parts) old.parts.clock) place ≡ Some (sink, node)
-  pub rose : RoseAt faults place old.outs.items new.outs.items
+  pub rose : RoseAt faults place old.outs new.outs
 
 -- the engine stands for some ticks and answers
 pub record DoesStand {S : Type 0} (e : ClockEngine S) : Type 0 where
@@ -44,11 +36,10 @@ pub record DoesStand {S : Type 0} (e : ClockEngine S) : Type 0 where
 
 -- it may make so many ticks
 pub record CanRun {S T : Type 0} (room : S → Option ℕ) (buffers : T → ℕ) (count : ℕ) (x : Task S T) : Type 0 where
-  pub whole : IsWhole x.engine
   pub many : buffers x.taps ≡ length x.engine.parts.shape.plan.now.buffers
   pub stands : DoesStand x.engine
   pub few : x.engine.parts.ticks + count ≤ 1000000000
-  pub rooms : HaveTicksRoom room x.engine.parts x.engine.outs.items count
+  pub rooms : HaveTicksRoom room x.engine.parts x.engine.outs count
 
 abbrev pub EngineGone : {S : Type 0} → (S → Option (List ℕ)) → (t : ℕ) → History → (ℕ → Option (List ℕ)) → ClockEngine S → Type 0
 EngineGone held t history first e = HasGone (setting_of e.parts) stands_for (held_of held) e.parts.clock t history first e
@@ -80,10 +71,9 @@ pub record RanTask {S T : Type 0} (held : S → Option (List ℕ)) (stands : T �
 
 pub record WasRun {S T : Type 0} (held name : S → Option (List ℕ)) (room : S → Option ℕ) (faults : S → ℕ) (stands : T → List Call → Type 0) (buffers : T → ℕ) (same : T → T → Type 0)
     (count : ℕ) (old new : Task S T) : Type 0 where
-  pub whole : IsWhole new.engine
   pub clock : IsSameClock name faults old.engine new.engine
   pub taps : same old.taps new.taps
   pub many : buffers new.taps ≡ buffers old.taps
   pub ran : RanTask held stands count old new
   pub write : (sink : ℕ) → new.engine.parts.stopped ≡ Some (Write sink) → IsWriteOf faults sink old.engine new.engine
-  pub rooms : (n : ℕ) → new.engine.parts.stopped ≡ None → HaveTicksRoom room old.engine.parts old.engine.outs.items (n + count) → HaveTicksRoom room new.engine.parts new.engine.outs.items n
+  pub rooms : (n : ℕ) → new.engine.parts.stopped ≡ None → HaveTicksRoom room old.engine.parts old.engine.outs (n + count) → HaveTicksRoom room new.engine.parts new.engine.outs n

@@ -19,7 +19,7 @@ impl<'a, O: Sink, T: Taps> Task<'a, O, T> {
         ensures { WasRun O.held O.name O.room O.faults T.stands T.buffers T.same count self.old self.new }
     {
         for _ in 0..count {
-            gate.enter(self.engine.parts.clock, self.engine.parts.ticks);
+            gate.enter(self.engine.clock(), self.engine.ticks());
             if let Err(_) = self.engine.tick(alloc, &mut self.taps) {
                 return;
             }

@@ -12,7 +12,7 @@ use Rattle.stream_meaning.specs.Sinks.{ticks_bytes}
 use Rattle.run_records.specs.Records.{AreWindowsBegun, IsLawful, Run, Window, calls_in, setting_then, start}
 use Rattle.run_records.proofs.Alone.{feeder_runs}
 use Rattle.clock_engine.specs.declared.engine.ClockEngine.{ClockEngine}
-use Rattle.clock_tasks.specs.Tasks.{held_of}
+use Rattle.clock_engine.specs.Engines.{held_of}
 use Rattle.clock_windows.specs.Listed.{listed}
 use Rattle.clock_windows.proofs.Meeting.{low_or_high}
 use Rattle.clock_windows.proofs.Starts.{start_most, start_next, start_zero}
@@ -56,7 +56,6 @@ none_made held name room faults plan setting clocks W N engines end other are = 
   many = refl;
   engines = λ k d h. (let engine = slice_index_or engines k d in
       record {
-        whole = (are.each k d h).whole;
         same = same_not name faults engine;
         part = λ rest sink node out. (
           [],

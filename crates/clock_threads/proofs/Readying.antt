@@ -13,12 +13,12 @@ use Rattle.buffer_ends.specs.declared.thread_taps.ThreadTaps.{ThreadTaps}
 use Rattle.stream_meaning.specs.Instants.{Setting, answered}
 use Rattle.stream_meaning.specs.Sinks.{ticks_bytes}
 use Rattle.stream_meaning.specs.Calls.{joined_upto}
-use Rattle.clock_engine.specs.Engines.{EngineStands, outputs_of, setting_of}
+use Rattle.clock_engine.specs.Engines.{EngineStands, outputs_of, setting_of, held_of}
 use Rattle.clock_engine.specs.Ticks.{HaveTicksRoom}
 use Rattle.clock_engine.specs.declared.engine.ClockEngine.{ClockEngine}
 use Rattle.clock_tasks.specs.declared.task.Task.{Task}
 use Rattle.clock_tasks.specs.Histories.{History}
-use Rattle.clock_tasks.specs.Tasks.{EngineGone, IsSameClock, held_of}
+use Rattle.clock_tasks.specs.Tasks.{EngineGone, IsSameClock}
 use Rattle.clock_windows.specs.declared.wires.Wire.{Wire}
 use Rattle.clock_windows.specs.Wires.{wire_at, kept}
 use Rattle.clock_windows.specs.Ends.{puts_of as put_ends, takes_of as take_ends}
@@ -106,9 +106,8 @@ module _ {S R : Type 0} (held name : S → Option (List ℕ)) (room : S → Opti
       let x = slice_index_or joined k d in let f = fresh_at k d (in_bare k h) in let zero_is = start_zero W N in let l = local_is k d (in_bare k h) in
       record {
         gone = subst (λ t. EngineGone held t nothing (held_of held x.engine) x.engine) (sym zero_is) (gone_none held x.engine f.stands);
-        whole = f.whole;
         same = same_not name faults x.engine;
-        rooms = λ n is. subst (λ m. HaveTicksRoom room x.engine.parts x.engine.outs.items m) (let e : N ≡ n = omega (arith, is, zero_is) in e) f.rooms;
+        rooms = λ n is. subst (λ m. HaveTicksRoom room x.engine.parts x.engine.outs m) (let e : N ≡ n = omega (arith, is, zero_is) in e) f.rooms;
         wired = record {
           puts = λ p e low. (let g = j.puts k p d e (in_bare k h) low in (g.1, g.2, g.3));
           takes = λ p e low. (let g = j.takes k p d e (in_bare k h) low in (g.1, g.2, g.3));
@@ -167,7 +166,6 @@ module _ {S R : Type 0} (held name : S → Option (List ℕ)) (room : S → Opti
         let c = done.going.clocks k h in
         let st = done_stands held name room faults wires W N joined now logs d done setting map_of fresh.engines_are.is fresh.wires_are long inside (shared d) places_joined k h in
         record {
-          whole = c.whole;
           same = c.same;
           answers = st.0;
           rest = st.1;
@@ -203,7 +201,6 @@ module _ {S R : Type 0} (held name : S → Option (List ℕ)) (room : S → Opti
 
     made_part : (k : ℕ) → k < length joined → HasMadePart held name faults setting begun_run W N p.closed k (slice_index_or joined k d).engine (slice_index_or now k d).engine
     made_part k h = record {
-      whole = (p.clocks k h).whole;
       same = (p.clocks k h).same;
       part = part_fronts held name faults wires W N joined now d p setting map_of fresh.engines_are.is fresh.wires_are long (shared d) k h;
     }

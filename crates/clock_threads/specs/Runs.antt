@@ -14,21 +14,20 @@ use Rattle.stream_meaning.specs.Sinks.{ticks_bytes}
 use Rattle.node_states.specs.Ticks.{IsOutput, with_rest}
 use Rattle.run_records.specs.Records.{AreWindowsBegun, IsLawful, Run, setting_in, setting_then, start}
 use Rattle.clock_outputs.specs.Appends.{RoseAt}
-use Rattle.clock_engine.specs.Engines.{EngineStands, outputs_of, setting_of}
+use Rattle.clock_engine.specs.Engines.{EngineStands, outputs_of, setting_of, held_of}
 use Rattle.clock_engine.specs.Ticks.{HaveTicksRoom}
 use Rattle.clock_engine.specs.declared.engine.ClockEngine.{ClockEngine}
 use Rattle.clock_engine.specs.declared.fault.TickFault.TheVariants.{Write as Refused}
-use Rattle.clock_tasks.specs.Tasks.{IsSameClock, IsWhole, held_of}
+use Rattle.clock_tasks.specs.Tasks.{IsSameClock}
 use Rattle.buffer_sides.specs.Logs.{told}
 use Rattle.clock_threads.specs.Logs.{counts_in}
 
 -- the engine of clock k, which has made no tick, with room for N
 pub record IsFresh {S : Type 0} (room : S → Option ℕ) (setting : Setting) (N k : ℕ) (engine : ClockEngine S) : Type 0 where
-  pub whole : IsWhole engine
   pub over : setting_of engine.parts ≡ setting
   pub clock : engine.parts.clock ≡ k
   pub stands : EngineStands engine.parts 0 (λ buffer. [])
-  pub rooms : HaveTicksRoom room engine.parts engine.outs.items N
+  pub rooms : HaveTicksRoom room engine.parts engine.outs N
 
 -- the engines of all running clocks, in their order, over one setting of this plan
 pub record AreEngines {S : Type 0} (room : S → Option ℕ) (plan : Plan) (clocks : ClockMap) (N : ℕ) (setting : Setting) (engines : List (ClockEngine S)) : Type 0 where
@@ -44,7 +43,6 @@ pub record AreAlike {S : Type 0} (room : S → Option ℕ) (plan : Plan) (clocks
 -- An engine has made all its ticks of a run: it stands for them, and for what its takes got in the run; and each output has grown by
 -- what its node means then.
 pub record HasMadeAll {S : Type 0} (held name : S → Option (List ℕ)) (faults : S → ℕ) (setting : Setting) (run : Run) (N k : ℕ) (old new : ClockEngine S) : Type 0 where
-  pub whole : IsWhole new
   pub same : IsSameClock name faults old new
   pub answers : ℕ → List Answer
   pub rest : ℕ → List Answer
@@ -73,7 +71,6 @@ pub record HasRunAll {S : Type 0} (held name : S → Option (List ℕ)) (faults 
 -- An engine came into the window that follows so many: each output has grown by its bytes of the windows before, and then by a front of
 -- those of this one, whatever answers follow those that the run got.
 pub record HasMadePart {S : Type 0} (held name : S → Option (List ℕ)) (faults : S → ℕ) (setting : Setting) (run : Run) (W N closed k : ℕ) (old new : ClockEngine S) : Type 0 where
-  pub whole : IsWhole new
   pub same : IsSameClock name faults old new
   pub part : (rest : ℕ → List Answer) (sink node : ℕ) → IsOutput setting k sink node
       → (bytes : List ℕ)
@@ -92,7 +89,7 @@ pub record IsWriteEnd {S : Type 0} (faults : S → ℕ) (setting : Setting) (clo
   pub place : ℕ
   pub node : ℕ
   pub there : slice_get (outputs_of setting clock) place ≡ Some (sink, node)
-  pub rose : RoseAt faults place before.outs.items after.outs.items
+  pub rose : RoseAt faults place before.outs after.outs
 
 -- A run came so far, and this is its record: each clock made the windows that were closed whole, and none is past the one that follows
 -- them.

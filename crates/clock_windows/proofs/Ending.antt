@@ -10,7 +10,8 @@ use Rattle.clock_engine.specs.declared.fault.TickFault.{TickFault}
 use Rattle.clock_engine.specs.declared.fault.TickFault.TheVariants.{Memory as OutOfMemory, Write as Refused}
 use Rattle.clock_tasks.specs.declared.task.Task.{Task}
 use Rattle.clock_tasks.specs.Histories.{History, Agree, answers_by}
-use Rattle.clock_tasks.specs.Tasks.{CanRun, WasRun, EngineGone, EngineGonePart, IsSameClock, IsWhole, held_of}
+use Rattle.clock_engine.specs.Engines.{held_of}
+use Rattle.clock_tasks.specs.Tasks.{CanRun, WasRun, EngineGone, EngineGonePart, IsSameClock}
 use Rattle.clock_tasks.proofs.Walking.{agree_none}
 use Rattle.clock_tasks.proofs.Running.{rooms_fewer, same_then}
 use Rattle.clock_tasks.proofs.Writing.{write_since}
@@ -112,7 +113,7 @@ module _ {S R : Type 0} where
           histories = l.going.histories;
           many = loop.many;
           clocks = λ k h. (let c = l.going.clocks k h in
-              record { whole = c.whole; same = c.same; ticks = start W N l.windows; least = omega arith; came = inl (start_up W N l.windows, c.gone) });
+              record { same = c.same; ticks = start W N l.windows; least = omega arith; came = inl (start_up W N l.windows, c.gone) });
           runs = λ b low. going_runs held name room faults wires W N l.windows first now logs d l.going ready.places b low;
         }
 
@@ -128,11 +129,10 @@ module _ {S R : Type 0} where
         let next = start_next W N l.windows made count l.is less is in let most = start_most W N (suc l.windows) in let at = l.is in
         let most_left : made + count ≤ N = omega (arith, next, most, at) in
         record {
-          whole = c.whole;
           many = c.lists ∙ sym r ∙ ap (λ set. length set.plan.buffers) (sym c.same.setting);
           stands = record { ticks = start W N l.windows; answers = answers_by (l.going.histories k) (start W N l.windows); stand = c.gone.stand };
           few = (let t = c.gone.stand.made in omega (arith, t, at, most_left, few));
-          rooms = rooms_fewer room (slice_index_or now k d).engine.parts (slice_index_or now k d).engine.outs.items count (N - made) (omega (arith, most_left)) (c.rooms (N - made) (omega (arith, at, less)));
+          rooms = rooms_fewer room (slice_index_or now k d).engine.parts (slice_index_or now k d).engine.outs count (N - made) (omega (arith, most_left)) (c.rooms (N - made) (omega (arith, at, less)));
         })
 
     module _ (made count : ℕ) (first now mid : List (Task S (ThreadTaps R))) (start_logs logs : List (List Answers)) (ready : IsReady held name room faults wires W N first start_logs) (less : made < N) (count_is : count ≡ min W (N - made)) (loop : Loop made first now logs)
@@ -177,12 +177,12 @@ module _ {S R : Type 0} where
           let c = (loop.at d).going in let t = start W N (loop.at d).windows in let m = loop.many in let within : k < length now = omega (arith, less', m) in
           let r = ran k d within in let n = next_at d in
           let w = r.ran.on t (c.histories k) (held_of held (slice_index_or first k d).engine) (c.clocks k less').gone e in
-          (w.after, record { agree = w.agree; reached = λ again. record { whole = r.whole; same = same_from d k less'; ticks = t + count; least = omega arith; came = inl (omega (arith, n), w.gone) } })
+          (w.after, record { agree = w.agree; reached = λ again. record { same = same_from d k less'; ticks = t + count; least = omega arith; came = inl (omega (arith, n), w.gone) } })
       stops d k less' (Some fault) e =
           let c = (loop.at d).going in let t = start W N (loop.at d).windows in let m = loop.many in let within : k < length now = omega (arith, less', m) in
           let r = ran k d within in let n = next_at d in
           let w = r.ran.halted t (c.histories k) (held_of held (slice_index_or first k d).engine) (c.clocks k less').gone (λ n. some_none (sym e ∙ n)) in
-          (w.after, record { agree = w.agree; reached = λ again. record { whole = r.whole; same = same_from d k less'; ticks = t + w.made; least = omega arith; came = inr ((let f = w.fewer in omega (arith, f, n)), w.part) } })
+          (w.after, record { agree = w.agree; reached = λ again. record { same = same_from d k less'; ticks = t + w.made; least = omega arith; came = inr ((let f = w.fewer in omega (arith, f, n)), w.part) } })
 
       abbrev chosen : (d : Task S (ThreadTaps R)) (k : ℕ) → (g : History) × At d k g
       chosen d k = elim (low_or_high k (length first)) [
@@ -234,7 +234,6 @@ module _ {S R : Type 0} where
             clocks = λ k h. (let c = p.clocks k h in
                 let is : (slice_index_or mid k d).engine ≡ (slice_index_or last k d).engine = sym (same.each k d (let m = p.many in omega (arith, h, m))) in
                 record {
-                  whole = subst IsWhole is c.whole;
                   same = subst (IsSameClock name faults (slice_index_or first k d).engine) is c.same;
                   ticks = c.ticks;
                   least = c.least;

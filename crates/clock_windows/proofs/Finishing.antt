@@ -9,11 +9,10 @@ use Rattle.stream_meaning.specs.Instants.{Setting, answered}
 use Rattle.stream_meaning.specs.Sinks.{ticks_bytes}
 use Rattle.stream_meaning.specs.Calls.{joined_upto}
 use Rattle.node_states.specs.Ticks.{IsOutput}
-use Rattle.clock_engine.specs.Engines.{EngineStands, setting_of}
+use Rattle.clock_engine.specs.Engines.{EngineStands, setting_of, held_of}
 use Rattle.clock_engine.specs.declared.engine.ClockEngine.{ClockEngine}
 use Rattle.clock_tasks.specs.declared.task.Task.{Task}
 use Rattle.clock_tasks.specs.Histories.{History, answers_by}
-use Rattle.clock_tasks.specs.Tasks.{held_of}
 use Rattle.clock_windows.specs.declared.wires.Wire.{Wire}
 use Rattle.clock_windows.specs.Wires.{wire_at}
 use Rattle.run_records.specs.Records.{Follows, Window}

@@ -16,7 +16,8 @@ use Rattle.clock_engine.specs.Ticks.{HaveTicksRoom}
 use Rattle.clock_tasks.specs.declared.task.Task.{Task}
 use Rattle.clock_tasks.specs.Histories.{History, joined_from, Agree}
 use Rattle.stream_meaning.specs.Calls.{joined_upto}
-use Rattle.clock_tasks.specs.Tasks.{EngineGone, WentOn, WasRun, IsWhole, IsSameClock, held_of}
+use Rattle.clock_engine.specs.Engines.{held_of}
+use Rattle.clock_tasks.specs.Tasks.{EngineGone, WentOn, WasRun, IsSameClock}
 use Rattle.clock_tasks.proofs.Walking.{joined_alike, agree_none}
 use Rattle.clock_windows.proofs.Keeping.{takes-append}
 use Rattle.clock_tasks.proofs.Running.{same_then}
@@ -273,9 +274,8 @@ module _ {S R : Type 0} (held name : S → Option (List ℕ)) (room : S → Opti
             let all = kept wires k (joined_upto (going.histories k).calls (start W N j)) ++ joined_from (after k).calls (start W N j) count in
             record {
               gone = subst (λ (q : ℕ × _). EngineGone held q.0 (after k) (held_of held (slice_index_or first k d).engine) q.1) (λ i. (sym next i, sym engine i)) g.0;
-              whole = subst IsWhole (sym engine) r.whole;
               same = same_then name faults (slice_index_or first k d).engine x.engine u.engine c.same (subst (λ f. IsSameClock name faults x.engine f) (sym engine) r.clock);
-              rooms = λ n is. subst (λ f. HaveTicksRoom room f.parts f.outs.items n) (sym engine) (r.rooms n running (c.rooms (n + count) (omega (arith, is, next))));
+              rooms = λ n is. subst (λ f. HaveTicksRoom room f.parts f.outs n) (sym engine) (r.rooms n running (c.rooms (n + count) (omega (arith, is, next))));
               wired = wired;
               stand = (
                 (λ p f low.

@@ -11,11 +11,11 @@ use Rattle.stream_meaning.specs.Calls.{after_calls, calls_of_tick}
 use Rattle.stream_meaning.specs.Settings.{IsSetting}
 use Rattle.node_states.specs.Ticks.{IsOutput, with_rest}
 use Rattle.run_records.specs.Records.{AreWindowsBegun, Run, setting_then, start}
-use Rattle.clock_engine.specs.Engines.{setting_of}
+use Rattle.clock_engine.specs.Engines.{setting_of, held_of}
 use Rattle.clock_engine.specs.declared.engine.ClockEngine.{ClockEngine}
 use Rattle.clock_tasks.specs.declared.task.Task.{Task}
 use Rattle.clock_tasks.specs.Histories.{History, HasGone, HasGonePart, answers_by, joined_from}
-use Rattle.clock_tasks.specs.Tasks.{EngineGone, EngineGonePart, held_of, stands_for}
+use Rattle.clock_tasks.specs.Tasks.{EngineGone, EngineGonePart, stands_for}
 use Rattle.clock_windows.specs.declared.wires.Wire.{Wire}
 use Rattle.clock_windows.specs.Runs.{PartAt}
 use Rattle.clock_windows.specs.Lawful.{Answers, AreWires}

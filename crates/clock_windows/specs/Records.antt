@@ -13,7 +13,8 @@ use Rattle.buffer_sides.specs.Logs.{told}
 use Rattle.clock_tasks.specs.declared.task.Task.{Task}
 use Rattle.clock_tasks.specs.Histories.{History, joined_from}
 use Rattle.stream_meaning.specs.Calls.{joined_upto}
-use Rattle.clock_tasks.specs.Tasks.{EngineGone, IsWhole, IsSameClock, held_of}
+use Rattle.clock_engine.specs.Engines.{held_of}
+use Rattle.clock_tasks.specs.Tasks.{EngineGone, IsSameClock}
 use Rattle.clock_windows.specs.declared.wires.Wire.{Wire}
 use Rattle.clock_windows.specs.Wires.{wire_at, kept}
 use Rattle.clock_windows.specs.Ends.{puts_of as put_ends, takes_of as take_ends, JoinOpen}
@@ -40,9 +41,8 @@ pub record IsWired {S R : Type 0} (wires : List Wire) (k : ℕ) (task : Task S (
 pub record ClockGoing {S R : Type 0} (held name : S → Option (List ℕ)) (room : S → Option ℕ) (faults : S → ℕ) (wires : List Wire) (N t k : ℕ) (history : History)
     (first now : Task S (ThreadTaps R)) : Type 0 where
   pub gone : EngineGone held t history (held_of held first.engine) now.engine
-  pub whole : IsWhole now.engine
   pub same : IsSameClock name faults first.engine now.engine
-  pub rooms : (n : ℕ) → t + n ≡ N → HaveTicksRoom room now.engine.parts now.engine.outs.items n
+  pub rooms : (n : ℕ) → t + n ≡ N → HaveTicksRoom room now.engine.parts now.engine.outs n
   pub wired : IsWired wires k now
   pub stand : EndsStand (put_ends now) (take_ends now) now.taps.local (kept wires k (joined_upto history.calls t))
   pub lists : length now.taps.local ≡ length wires

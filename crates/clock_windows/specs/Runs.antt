@@ -10,7 +10,8 @@ use Rattle.clock_engine.specs.declared.fault.TickFault.{TickFault}
 use Rattle.clock_engine.specs.declared.fault.TickFault.TheVariants.{Memory as OutOfMemory, Write as Refused}
 use Rattle.clock_tasks.specs.declared.task.Task.{Task}
 use Rattle.clock_tasks.specs.Histories.{History}
-use Rattle.clock_tasks.specs.Tasks.{EngineGone, EngineGonePart, IsSameClock, IsWhole, IsWriteOf, held_of}
+use Rattle.clock_engine.specs.Engines.{held_of}
+use Rattle.clock_tasks.specs.Tasks.{EngineGone, EngineGonePart, IsSameClock, IsWriteOf}
 use Rattle.clock_windows.specs.declared.wires.Wire.{Wire}
 use Rattle.clock_windows.specs.Wires.{wire_at}
 use Rattle.run_records.specs.Records.{start}
@@ -37,7 +38,6 @@ RunDone {S} {R} held name room faults wires W N first now logs = (d : Task S (Th
 -- How far a clock came in the window that follows so many: it has made so many ticks, and maybe a part of the next one, which is still
 -- of that window.
 pub record CameTo {S R : Type 0} (held name : S → Option (List ℕ)) (faults : S → ℕ) (W N closed : ℕ) (history : History) (first now : Task S (ThreadTaps R)) : Type 0 where
-  pub whole : IsWhole now.engine
   pub same : IsSameClock name faults first.engine now.engine
   pub ticks : ℕ
   pub least : start W N closed ≤ ticks

@@ -32,8 +32,8 @@ fn stopped_in<O, R>(tasks: &[Task<'_, O, ThreadTaps<'_, R>>]) -> Option<End>
     ensures some { IfSome result (IsToldByLowest tasks.now) }
 {
     for k in 0..tasks.len() {
-        if let Some(fault) = tasks[k].engine.parts.stopped {
-            return Some(end_of(tasks[k].engine.parts.clock, fault));
+        if let Some(fault) = tasks[k].engine.stopped() {
+            return Some(end_of(tasks[k].engine.clock(), fault));
         }
     }
     None

@@ -20,13 +20,13 @@ use Rattle.stream_meaning.proofs.Answering.{begin_none}
 use Rattle.run_records.specs.Records.{Follows, Window, capacity_of, on as calls_on, setting_in}
 use Rattle.node_states.specs.Ticks.{with_rest}
 use Rattle.clock_engine.specs.declared.engine.ClockEngine.{ClockEngine}
-use Rattle.clock_engine.specs.Engines.{setting_of}
+use Rattle.clock_engine.specs.Engines.{setting_of, held_of}
 use Rattle.buffer_ends.specs.Ends.{LocalStands}
 use Rattle.buffer_ends.specs.Local.{Answers, Leads, LocalBuffer, all_answers, closed, closed_windows, counts_of, empty_list, held as list_held, on, planned}
 use Rattle.buffer_ends.specs.Same.{SameBuffers}
 use Rattle.buffer_ends.specs.declared.run_end.End.{End}
 use Rattle.buffer_ends.specs.declared.run_end.End.TheVariants.{Done, Write, Memory as NoMemory}
-use Rattle.rounds_run.specs.Rounds.{AreTurnsBegun, HasRunTurns, HasRunPart, HaveRunPart, IsWriteEnd, RoundsMade, RoundsStopped, held_of, made_by, nothing, ticks_by, world}
+use Rattle.rounds_run.specs.Rounds.{AreTurnsBegun, HasRunTurns, HasRunPart, HaveRunPart, IsWriteEnd, RoundsMade, RoundsStopped, made_by, nothing, ticks_by, world}
 use Rattle.buffer_sides.specs.Logs.{told}
 use Rattle.rounds_run.specs.Runs.{AreOver, HasRunAll, HasRunSome, HasRunTicks, counts_of_windows}
 use Rattle.rounds_run.proofs.Worlds.{meets, meets_is}
@@ -143,8 +143,6 @@ module _ {S : Type 0} (held name : S → Option (List ℕ)) (room : S → Option
       let given : with_rest (setting_of before.parts) run.answers rest ≡ V =
       meets_is (setting_of before.parts) (Main before.parts.clock) calls run.answers run.own nothing (none_read held name room faults t calls before after after run) ∙ ap (λ s. world s calls nothing) same ∙ sym is in
       record {
-        parts = run.parts;
-        sinks = run.sinks;
         over = run.setting;
         clock = run.clock;
         answers = run.answers;

@@ -1,13 +1,10 @@
 -- A run between two ticks.
-use Rattle.std.proofs.Common.{◌≡◌, ◌<◌, ◌≤◌, ◌+◌, ◌-◌, ◌*◌, ◌/◌, ◌%◌, ◌∙◌, ◌++◌, ℕ, suc, true, false, Some, Option, List, [], length, get_or, map, nat_lt, set, slice_get, add-one, arith, refl, ap, sym, subst, ◌⊎◌, inl, inr}
-use Rattle.std.specs.Option.{option_map}
-use Rattle.std.proofs.lemmas.List.{length-map}
+use Rattle.std.proofs.Common.{◌≡◌, ◌<◌, ◌≤◌, ◌+◌, ◌-◌, ◌*◌, ◌/◌, ◌%◌, ◌∙◌, ◌++◌, ℕ, suc, true, false, Some, Option, List, [], length, get_or, nat_lt, set, slice_get, add-one, arith, refl, ap, sym, subst, ◌⊎◌, inl, inr}
 use Rattle.std.proofs.lemmas.Bool.{le-ltb, lt-ltb}
-use Rattle.std.proofs.lemmas.Option.{slice_get-get_or as read, slice_get-map, slice_get_within}
+use Rattle.std.proofs.lemmas.Option.{slice_get-get_or as read, slice_get_within}
 use native.Mathlib.Nat.{min-eq_right, min-le_right}
 use Rattle.std.proofs.Math.ListN.{length-set}
 use Rattle.std.proofs.Math.Nat.{suc-mul}
-use Rattle.liq_base.specs.Kinds.{channels_of}
 use Rattle.liq_base.specs.Pieces.{IsPrefix, grown}
 use Rattle.frame_core.specs.Calls.{Call}
 use Rattle.stream_meaning.specs.Sinks.{tick_bytes, ticks_bytes}
@@ -17,21 +14,23 @@ use Rattle.stream_meaning.specs.Instants.{Setting}
 use Rattle.stream_meaning.specs.Calls.{IsBegin, IsUnread, after_calls, answers_in, calls_of_tick}
 use Rattle.stream_meaning.proofs.Unread.{no_tick_takes}
 use Rattle.clock_outputs.proofs.Gives.{adds_more, adds_nothing}
+use Rattle.clock_outputs.proofs.Since.{fell_then, kept_then, rose_since}
+use Rattle.clock_outputs.proofs.Taken.{fell_none, kept_none}
 use Rattle.node_states.specs.Ticks.{IsOutput, with_rest}
 use Rattle.clock_outputs.specs.Appends.{AreKept, NoneFell}
 use Rattle.clock_outputs.proofs.Places.{low_or_high, same_or_other, slice_get-set_other, slice_get-set_same}
 use Rattle.clock_engine.specs.declared.engine.ClockEngine.{ClockEngine}
 use Rattle.clock_engine.specs.declared.fault.TickFault.{TickFault}
 use Rattle.clock_engine.specs.declared.fault.TickFault.TheVariants.{Memory as OutOfMemory, Write as TickWrite}
-use Rattle.clock_engine.specs.Engines.{AreParts, output_of, outputs_of, setting_of}
-use Rattle.clock_engine.specs.Ticks.{HasFailed, HasMade, HaveTickRoom, HaveTicksRoom, IsWriteFault}
+use Rattle.clock_engine.specs.Engines.{AreParts, held_of, outputs_of, setting_of}
+use Rattle.clock_engine.specs.Ticks.{HasFailed, HasMade, HaveTickRoom, HaveTicksRoom, IsWriteFault, piece_size}
 use Rattle.clock_engine.proofs.Made.{behind_calls, world_is}
 use Rattle.buffer_ends.specs.declared.run_end.End.{End}
 use Rattle.buffer_ends.specs.declared.run_end.End.TheVariants.{Write, Memory as NoMemory}
-use Rattle.rounds_run.specs.Rounds.{AreEngines, AreGoing, HasRunTurns, HasRunPart, IsWriteEnd, MayRun, RoundsMade, RoundsStopped, held_of, made_by, nothing, ticks_by, world}
+use Rattle.rounds_run.specs.Rounds.{AreEngines, AreGoing, HasRunTurns, HasRunPart, IsWriteEnd, MayRun, RoundsMade, RoundsStopped, made_by, nothing, ticks_by, world}
 use Rattle.rounds_run.proofs.Worlds.{meets, meets_is, none_begun, own_other, own_this, turned_more, turned_part}
 use Rattle.rounds_run.proofs.Apart.{unread_or}
-use Rattle.rounds_run.proofs.Fronts.{fell_not, fell_then, front_of, grown_nothing, grown_twice, kept_not, kept_then, next_front, rose_since, ticks_front}
+use Rattle.rounds_run.proofs.Fronts.{front_of, grown_nothing, grown_twice, next_front, ticks_front}
 
 -- a fault is an output's or memory's
 pub fault_is : (fault : TickFault) → ((sink : ℕ) × (fault ≡ TickWrite sink)) ⊎ (fault ≡ OutOfMemory)
@@ -40,38 +39,33 @@ fault_is OutOfMemory = inr refl
 
 -- what a tick of an engine that answered Ok owes
 pub record DidTick {S T : Type 0} (held name : S → Option (List ℕ)) (room : S → Option ℕ) (faults : S → ℕ) (taps_stand : T → List Call → Type 0) (old new : ClockEngine S) (taps_old taps_new : T) : Type 0 where
-  pub parts : AreParts new.parts
-  pub sinks : length new.outs.items ≡ length new.parts.ports.items
+  pub fit : AreParts old.parts
   pub setting : setting_of new.parts ≡ setting_of old.parts
   pub clock : new.parts.clock ≡ old.parts.clock
-  pub ticked : HasMade held taps_stand old.parts new.parts old.outs.items new.outs.items taps_old taps_new
-  pub none_fell : NoneFell faults old.outs.items new.outs.items
-  pub outs : length new.outs.items ≡ length old.outs.items
-  pub kept : AreKept name faults old.outs.items new.outs.items
-  pub rooms : (ticks : ℕ) → HaveTicksRoom room old.parts old.outs.items (ticks + 1) → HaveTicksRoom room new.parts new.outs.items ticks
+  pub ticked : HasMade held taps_stand old.parts new.parts old.outs new.outs taps_old taps_new
+  pub none_fell : NoneFell faults old.outs new.outs
+  pub outs : length new.outs ≡ length old.outs
+  pub kept : AreKept name faults old.outs new.outs
+  pub rooms : (ticks : ℕ) → HaveTicksRoom room old.parts old.outs (ticks + 1) → HaveTicksRoom room new.parts new.outs ticks
 
 module _ {S : Type 0} (held name : S → Option (List ℕ)) (room : S → Option ℕ) (faults : S → ℕ) where
   pub run_none : (total : ℕ) (engine : ClockEngine S) → MayRun room total engine → HasRunTurns held name faults [] 0 engine engine
   run_none total engine may = record {
-    parts = may.parts;
-    sinks = may.sinks;
     setting = refl;
     clock = refl;
     answers = nothing;
     own = λ buffer. inl refl;
     stands = may.fresh;
     grew = record { each = λ rest sink node output. grown_nothing (held_of held engine sink) };
-    none_fell = fell_not faults engine.outs.items;
+    none_fell = fell_none faults engine.outs;
     outs = refl;
-    kept = kept_not name faults engine.outs.items;
+    kept = kept_none name faults engine.outs;
   }
 
   -- the same run with calls that bring this engine no answers
   pub run_idle : (calls more : List Call) (t : ℕ) (first now : ClockEngine S) → ((buffer : ℕ) → (answers_in buffer more ≡ []) ⊎ IsUnread (setting_of first.parts) (Main first.parts.clock) buffer)
       → HasRunTurns held name faults calls t first now → HasRunTurns held name faults (calls ++ more) t first now
   run_idle calls more t first now apart run = record {
-    parts = run.parts;
-    sinks = run.sinks;
     setting = run.setting;
     clock = run.clock;
     answers = run.answers;
@@ -100,8 +94,6 @@ module _ {S : Type 0} (held name : S → Option (List ℕ)) (room : S → Option
         let made = did.ticked in
         let ticked = made.engine t run.answers run.stands in
         record {
-          parts = did.parts;
-          sinks = did.sinks;
           setting = did.setting ∙ run.setting;
           clock = did.clock ∙ run.clock;
           answers = after_calls run.answers made.more;
@@ -118,15 +110,14 @@ module _ {S : Type 0} (held name : S → Option (List ℕ)) (room : S → Option
                 ∙ ap (λ V. grown (ticks_bytes V node t) (held_of held first sink)) (world_is (setting_of first.parts) run.answers made.more rest) in
                 here ∙ ap (grown (tick_bytes W node t)) before ∙ grown_twice (tick_bytes W node t) (ticks_bytes W node t) (held_of held first sink);
           };
-          none_fell = fell_then faults first.outs.items old.outs.items new.outs.items run.none_fell did.none_fell;
+          none_fell = fell_then faults first.outs old.outs new.outs run.none_fell did.none_fell;
           outs = did.outs ∙ run.outs;
-          kept = kept_then name faults first.outs.items old.outs.items new.outs.items run.outs run.kept did.kept;
+          kept = kept_then name faults first.outs old.outs new.outs run.outs run.kept did.kept;
         }
 
     -- a run of so many ticks is one of at least and at most so many
     pub run_part : (least most : ℕ) → least ≤ t → t ≤ most → HasRunPart held name faults (world (setting_of first.parts) calls) least most first old
     run_part least most low high = record {
-      parts = run.parts;
       setting = run.setting;
       clock = run.clock;
       part = λ rest sink node output.
@@ -144,11 +135,11 @@ module _ {S : Type 0} (held name : S → Option (List ℕ)) (room : S → Option
 
     -- so are those ticks and a part of the next one
     pub run_failed : {T : Type 0} (taps_stand : T → List Call → Type 0) (taps_old taps_new : T) (least most : ℕ) → least ≤ t → t < most
-        → (failed : HasFailed held taps_stand old.parts new.parts old.outs.items new.outs.items taps_old taps_new) → NoneFell faults old.outs.items new.outs.items
-        → length new.outs.items ≡ length old.outs.items → AreKept name faults old.outs.items new.outs.items
-        → AreParts new.parts → setting_of new.parts ≡ setting_of old.parts → new.parts.clock ≡ old.parts.clock
+        → (failed : HasFailed held taps_stand old.parts new.parts old.outs new.outs taps_old taps_new) → NoneFell faults old.outs new.outs
+        → length new.outs ≡ length old.outs → AreKept name faults old.outs new.outs
+        → setting_of new.parts ≡ setting_of old.parts → new.parts.clock ≡ old.parts.clock
         → HasRunPart held name faults (world (setting_of first.parts) (calls ++ failed.made)) least most first new
-    run_failed taps_stand taps_old taps_new least most low high failed fell many kept parts setting clock =
+    run_failed taps_stand taps_old taps_new least most low high failed fell many kept setting clock =
         let stopped = failed.engine t run.answers run.stands in
         let F = setting_of first.parts in
         let M = Main first.parts.clock in
@@ -163,7 +154,6 @@ module _ {S : Type 0} (held name : S → Option (List ℕ)) (room : S → Option
         (ap (answers_in buffer) (sym begun.are) ∙ no_tick_takes W stopped.accepted old.parts.clock t buffer (record { none = un.none })) in
         ap (λ (xs : List Answer). xs ++ answers_in buffer failed.made) (none_read buffer unread) ∙ quiet in
         record {
-          parts = parts;
           setting = setting ∙ run.setting;
           clock = clock ∙ run.clock;
           part = λ rest sink node output.
@@ -184,14 +174,10 @@ module _ {S : Type 0} (held name : S → Option (List ℕ)) (room : S → Option
                     (next_front W node t part.0 inside) (ticks_front W node (suc t) most (omega (arith, high))),
                 part.2 ∙ ap (grown part.0) before ∙ grown_twice part.0 (ticks_bytes W node t) (held_of held first sink),
               );
-          none_fell = fell_then faults first.outs.items old.outs.items new.outs.items run.none_fell fell;
+          none_fell = fell_then faults first.outs old.outs new.outs run.none_fell fell;
           outs = many ∙ run.outs;
-          kept = kept_then name faults first.outs.items old.outs.items new.outs.items run.outs run.kept kept;
+          kept = kept_then name faults first.outs old.outs new.outs run.outs run.kept kept;
         }
-
-  outs_many : (engine : ClockEngine S) → AreParts engine.parts → length engine.outs.items ≡ length engine.parts.ports.items
-      → length engine.outs.items ≡ length (outputs_of (setting_of engine.parts) engine.parts.clock)
-  outs_many engine parts sinks = sinks ∙ sym (length-map engine.parts.ports.items output_of) ∙ ap length parts.outputs
 
   below : (k m : ℕ) → k < m → nat_lt k m ≡ true
   below k m h = lt-ltb k m h
@@ -215,7 +201,7 @@ module _ {S : Type 0} (held name : S → Option (List ℕ)) (room : S → Option
       };
       rooms = λ k left engine is made.
           let all : total ≡ left = (let none = not_below k 0 (omega arith) in let m : made_by 0 0 k ≡ 0 = rw none refl in omega (arith, made, m)) in
-          subst (HaveTicksRoom room engine.parts engine.outs.items) all (are.each k engine is).rooms;
+          subst (HaveTicksRoom room engine.parts engine.outs) all (are.each k engine is).rooms;
     }
 
     module _ (total r m turns : ℕ) (first now : List (ClockEngine S)) (old : ClockEngine S) (a b : T) (going : AreGoing held name room faults stands setting total (made_by r m) turns first now a b)
@@ -236,21 +222,21 @@ module _ {S : Type 0} (held name : S → Option (List ℕ)) (room : S → Option
         | inr high ↦ rw (not_below k (m + 1) (omega (arith, high, other)), not_below k m high) refl
       ]
 
-      left_here : (left : ℕ) → r + left ≡ total → HaveTicksRoom room old.parts old.outs.items left
+      left_here : (left : ℕ) → r + left ≡ total → HaveTicksRoom room old.parts old.outs left
       left_here left is = going.rooms m left old was (ap (λ n. n + left) made_here ∙ is)
 
       -- there is room for the next tick
-      pub tick_room : r < total → HaveTickRoom room old.parts old.outs.items
+      pub tick_room : r < total → HaveTickRoom room old.parts old.outs
       tick_room low = one_of (r_left r total low)
         where
           r_left : (r total : ℕ) → r < total → (left : ℕ) × (r + (left + 1) ≡ total)
           r_left r total low = (total - r - 1, omega (arith, low))
 
-          one_of : ((left : ℕ) × (r + (left + 1) ≡ total)) → HaveTickRoom room old.parts old.outs.items
+          one_of : ((left : ℕ) × (r + (left + 1) ≡ total)) → HaveTickRoom room old.parts old.outs
           one_of (left, is) = record {
-            each = λ k port out at_port at_out n e.
-                let size : ℕ = old.parts.shape.plan.now.frame * (2 * channels_of port.kind) in
-                let more : (left + 1) * size ≤ n = (left_here (left + 1) is).each k port out at_port at_out n e in
+            each = λ k sink node out at_output at_out n e.
+                let size : ℕ = piece_size (setting_of old.parts) node in
+                let more : (left + 1) * size ≤ n = (left_here (left + 1) is).each k sink node out at_output at_out n e in
                 let parts : (left + 1) * size ≡ left * size + size = ap (λ n. n * size) (add-one left) ∙ suc-mul left size in
                 omega (arith, more, parts);
           }
@@ -270,16 +256,15 @@ module _ {S : Type 0} (held name : S → Option (List ℕ)) (room : S → Option
 
         -- what calls bring the other engines
         module _ (may : AreEngines room total setting first) (before : ClockEngine S) (at_first : slice_get first m ≡ Some before) (more : List Call)
-            (quiet : (buffer : ℕ) → IsUnread setting (Main m) buffer → answers_in buffer more ≡ []) where
+            (quiet : (buffer : ℕ) → IsUnread setting (Main m) buffer → answers_in buffer more ≡ []) (fit : AreParts old.parts) where
           apart_here : (k : ℕ) (engine : ClockEngine S) → (m ≡ k → ⊥) → slice_get first k ≡ Some engine → (buffer : ℕ)
               → (answers_in buffer more ≡ []) ⊎ IsUnread (setting_of engine.parts) (Main engine.parts.clock) buffer
           apart_here k engine other at buffer =
-              let ready = (may.each m before at_first).parts in
-              let world_of : setting_of before.parts ≡ setting = may.over m before at_first in
-              elim (unread_or (setting_of before.parts) ready.clocks ready.in_clocks ready.plan buffer m k other) [
+              let world_of : setting_of old.parts ≡ setting = (run_here before at_first).setting ∙ may.over m before at_first in
+              elim (unread_or (setting_of old.parts) fit.clocks fit.in_clocks fit.plan buffer m k other) [
                 | inl unread ↦ inl (quiet buffer (subst (λ s. IsUnread s (Main m) buffer) world_of unread))
                 | inr unread ↦ inr (subst (λ s. IsUnread s (Main engine.parts.clock) buffer) (world_of ∙ sym (may.over k engine at))
-                    (subst (λ c. IsUnread (setting_of before.parts) (Main c) buffer) (sym (may.in_order k engine at)) unread))
+                    (subst (λ c. IsUnread (setting_of old.parts) (Main c) buffer) (sym (may.in_order k engine at)) unread))
               ]
 
         -- the answers of the engine whose turn it is, and of more calls
@@ -328,13 +313,13 @@ module _ {S : Type 0} (held name : S → Option (List ℕ)) (room : S → Option
                       let count : suc r ≡ made_by r (m + 1) k = sym made_next ∙ ap (made_by r (m + 1)) same in
                       subst (λ e. HasRunTurns held name faults (going.calls ++ made.more) (made_by r (m + 1) k) engine e) (this_at k after same is) (subst (λ n. HasRunTurns held name faults (going.calls ++ made.more) n engine new) count run))
                   | inr other ↦ subst (λ n. HasRunTurns held name faults (going.calls ++ made.more) n engine after) (sym (made_more k other))
-                      (run_idle going.calls made.more (made_by r m k) engine after (apart_here may before at_first made.more quiet k engine other at) (going.run.each k engine after at (other_at k after other is)))
+                      (run_idle going.calls made.more (made_by r m k) engine after (apart_here may before at_first made.more quiet did.fit k engine other at) (going.run.each k engine after at (other_at k after other is)))
                 ];
               };
               rooms = λ k left engine is made. elim (same_or_other m k) [
                 | inl same ↦ (let count : suc r ≡ made_by r (m + 1) k = sym made_next ∙ ap (made_by r (m + 1)) same in
                     let all : r + (left + 1) ≡ total = omega (arith, made, count) in
-                    subst (λ e. HaveTicksRoom room e.parts e.outs.items left) (this_at k engine same is) (did.rooms left (left_here (left + 1) all)))
+                    subst (λ e. HaveTicksRoom room e.parts e.outs left) (this_at k engine same is) (did.rooms left (left_here (left + 1) all)))
                 | inr other ↦ going.rooms k left engine (other_at k engine other is) (ap (λ n. n + left) (sym (made_more k other)) ∙ made)
               ];
             }
@@ -342,13 +327,13 @@ module _ {S : Type 0} (held name : S → Option (List ℕ)) (room : S → Option
         -- a fault of a tick leaves each engine where it was, and this one with at most a part of its tick
         pub tick_failed : (may : AreEngines room total setting first) (before : ClockEngine S) → slice_get first m ≡ Some before → (c : T) → r < total
             → turns % length first ≡ m → turns / length first ≡ r → (all : ℕ) → turns < all
-            → HasFailed held stands old.parts new.parts old.outs.items new.outs.items b c → NoneFell faults old.outs.items new.outs.items
-            → length new.outs.items ≡ length old.outs.items → AreKept name faults old.outs.items new.outs.items
-            → AreParts new.parts → setting_of new.parts ≡ setting_of old.parts → new.parts.clock ≡ old.parts.clock
+            → HasFailed held stands old.parts new.parts old.outs new.outs b c → NoneFell faults old.outs new.outs
+            → length new.outs ≡ length old.outs → AreKept name faults old.outs new.outs
+            → AreParts old.parts → setting_of new.parts ≡ setting_of old.parts → new.parts.clock ≡ old.parts.clock
             → (end : End) → (end ≡ NoMemory) ⊎ IsWriteEnd faults m first (set now m new) end
             → RoundsStopped held name faults stands setting total all first (set now m new) a c end
         unfolding run_here
-        tick_failed may before at_first c low this_clock this_round all turn_low failed fell same_outs kept parts setting' clock end cause =
+        tick_failed may before at_first c low this_clock this_round all turn_low failed fell same_outs kept fit setting' clock end cause =
             let run_m = run_here before at_first in
             let stopped = failed.engine r run_m.answers run_m.stands in
             let setting_is : setting_of old.parts ≡ setting = run_m.setting ∙ may.over m before at_first in
@@ -375,9 +360,9 @@ module _ {S : Type 0} (held name : S → Option (List ℕ)) (room : S → Option
                     subst (λ s. HasRunPart held name faults (world s (going.calls ++ failed.made)) (ticks_by total r m k) (ticks_by total r (m + 1) k) engine after) over
                     (elim (same_or_other m k) [
                       | inl same ↦ subst (λ e. HasRunPart held name faults (world (setting_of engine.parts) (going.calls ++ failed.made)) (ticks_by total r m k) (ticks_by total r (m + 1) k) engine e) (this_at k after same is)
-                          (run_failed r going.calls engine old new (run_here engine (ap (slice_get first) same ∙ at)) stands b c (ticks_by total r m k) (ticks_by total r (m + 1) k) (least_here k same) (most_here k same) failed fell same_outs kept parts setting' clock)
+                          (run_failed r going.calls engine old new (run_here engine (ap (slice_get first) same ∙ at)) stands b c (ticks_by total r m k) (ticks_by total r (m + 1) k) (least_here k same) (most_here k same) failed fell same_outs kept setting' clock)
                       | inr other ↦ run_part (made_by r m k) (going.calls ++ failed.made) engine after after
-                          (run_idle going.calls failed.made (made_by r m k) engine after (apart_here may before at_first failed.made quiet k engine other at) (going.run.each k engine after at (other_at k after other is)))
+                          (run_idle going.calls failed.made (made_by r m k) engine after (apart_here may before at_first failed.made quiet fit k engine other at) (going.run.each k engine after at (other_at k after other is)))
                           (ticks_by total r m k) (ticks_by total r (m + 1) k) (min-le_right total (made_by r m k)) (most_other k other)
                     ]);
               };
@@ -410,29 +395,23 @@ module _ {S : Type 0} (held name : S → Option (List ℕ)) (room : S → Option
                 omega (arith, is, all)
 
         -- the end names the sink of the fault
-        pub write_end : (may : AreEngines room total setting first) (before : ClockEngine S) → slice_get first m ≡ Some before → (fault : TickFault) (end : End)
-            → IsWriteFault faults old.parts old.outs.items new.outs.items fault → ((sink : ℕ) → fault ≡ TickWrite sink → end ≡ Write new.parts.clock sink)
+        pub write_end : (may : AreEngines room total setting first) (before : ClockEngine S) → slice_get first m ≡ Some before → (fault : TickFault) (end : End) (appends : S → Option ℕ)
+            → IsWriteFault faults appends old.parts old.outs new.outs fault → ((sink : ℕ) → fault ≡ TickWrite sink → end ≡ Write new.parts.clock sink)
             → new.parts.clock ≡ old.parts.clock → IsWriteEnd faults m first (set now m new) end
-        write_end may before at fault end cause tells clock =
+        write_end may before at fault end appends cause tells clock =
             let run = run_here before at in
             let order : before.parts.clock ≡ m = may.in_order m before at in
-            let outputs : map output_of old.parts.ports.items ≡ outputs_of (setting_of before.parts) m =
-            run.parts.outputs ∙ ap (λ s. outputs_of s old.parts.clock) run.setting ∙ ap (outputs_of (setting_of before.parts)) (run.clock ∙ order) in
-            let ready = may.each m before at in
             record {
               before = before;
               after = new;
               was = at;
               is = slice_get-set_same now m new (slice_get_within now m old was);
               place = cause.place;
-              sink = cause.port.sink;
-              node = cause.port.node;
-              there = ap (λ xs. slice_get xs cause.place) (sym outputs) ∙ slice_get-map output_of old.parts.ports.items cause.place ∙ ap (option_map output_of) cause.there;
-              end_is = tells cause.port.sink cause.fault_is ∙ ap (λ c. Write c cause.port.sink) (clock ∙ run.clock ∙ order);
-              rose = rose_since faults cause.place before.outs.items old.outs.items new.outs.items
-                  (outs_many before ready.parts ready.sinks
-                  ∙ ap (λ s. length (outputs_of s before.parts.clock)) (sym run.setting) ∙ ap (λ c. length (outputs_of (setting_of old.parts) c)) (sym run.clock)
-                  ∙ sym (outs_many old run.parts run.sinks)) run.none_fell cause.rose;
+              sink = cause.sink;
+              node = cause.node;
+              there = ap (λ s. slice_get (outputs_of s m) cause.place) (sym run.setting) ∙ ap (λ c. slice_get (outputs_of (setting_of old.parts) c) cause.place) (sym (run.clock ∙ order)) ∙ cause.there;
+              end_is = tells cause.sink cause.fault_is ∙ ap (λ c. Write c cause.sink) (clock ∙ run.clock ∙ order);
+              rose = rose_since faults cause.place before.outs old.outs new.outs run.outs run.none_fell cause.rose;
             }
 
     -- what the engine whose turn it is has run

@@ -10,7 +10,7 @@ use Rattle.stream_meaning.specs.Sinks.{ticks_bytes}
 use Rattle.node_states.specs.Ticks.{HoldTicks, IsOutput, with_rest}
 use Rattle.clock_outputs.specs.Appends.{AreKept, NoneFell, RoseAt}
 use Rattle.clock_engine.specs.declared.engine.ClockEngine.{ClockEngine}
-use Rattle.clock_engine.specs.Engines.{AreParts, EngineStands, held_in, outputs_of, setting_of}
+use Rattle.clock_engine.specs.Engines.{EngineStands, held_of, outputs_of, setting_of}
 use Rattle.clock_engine.specs.Ticks.{HaveTicksRoom}
 use Rattle.buffer_ends.specs.declared.run_end.End.{End}
 use Rattle.buffer_ends.specs.declared.run_end.End.TheVariants.{Write, Memory as NoMemory}
@@ -34,10 +34,6 @@ pub record AreTurnsBegun (setting : Setting) (clocks turns : ℕ) (calls : List 
   pub accepted : ℕ → ℕ → Bool
   pub begun : (rest : ℕ → List Answer) → IsBegin calls (calls_of_turns (world setting calls rest) accepted clocks turns)
 
--- what the outputs of an engine hold, by their numbers
-abbrev pub held_of : {S : Type 0} → (S → Option (List ℕ)) → ClockEngine S → ℕ → Option (List ℕ)
-held_of held engine = held_in held engine.parts.ports.items engine.outs.items
-
 -- how many ticks clock k has made, where so many rounds are whole, and in the next one the clocks below `clock` have made theirs
 abbrev pub made_by : (rounds clock k : ℕ) → ℕ
 made_by rounds clock k = if nat_lt k clock then suc rounds else rounds
@@ -46,12 +42,10 @@ made_by rounds clock k = if nat_lt k clock then suc rounds else rounds
 abbrev pub nothing : ℕ → List Answer
 nothing buffer = []
 
--- an engine may begin: its parts fit together, it made no tick and did not stop, and its sinks have room for so many ticks
+-- an engine may begin: it made no tick and did not stop, and its sinks have room for so many ticks
 pub record MayRun {S : Type 0} (room : S → Option ℕ) (ticks : ℕ) (engine : ClockEngine S) : Type 0 where
-  pub parts : AreParts engine.parts
-  pub sinks : length engine.outs.items ≡ length engine.parts.ports.items
   pub fresh : EngineStands engine.parts 0 nothing
-  pub rooms : HaveTicksRoom room engine.parts engine.outs.items ticks
+  pub rooms : HaveTicksRoom room engine.parts engine.outs ticks
 
 -- the engines of a run, one per clock, in clock order, over one plan with its files, clocks and start
 pub record AreEngines {S : Type 0} (room : S → Option ℕ) (ticks : ℕ) (setting : Setting) (engines : List (ClockEngine S)) : Type 0 where
@@ -63,30 +57,27 @@ pub record AreEngines {S : Type 0} (room : S → Option ℕ) (ticks : ℕ) (sett
 -- answers of the buffers that it reads; each output holds its bytes of these ticks more, no count of faults fell, and its sinks are
 -- those that they were, by their names
 pub record HasRunTurns {S : Type 0} (held name : S → Option (List ℕ)) (faults : S → ℕ) (calls : List Call) (ticks : ℕ) (old new : ClockEngine S) : Type 0 where
-  pub parts : AreParts new.parts
-  pub sinks : length new.outs.items ≡ length new.parts.ports.items
   pub setting : setting_of new.parts ≡ setting_of old.parts
   pub clock : new.parts.clock ≡ old.parts.clock
   pub answers : ℕ → List Answer
   pub own : (buffer : ℕ) → (answers buffer ≡ answers_in buffer calls) ⊎ IsUnread (setting_of old.parts) (Main old.parts.clock) buffer
   pub stands : EngineStands new.parts ticks answers
   pub grew : HoldTicks (setting_of old.parts) old.parts.clock ticks answers (held_of held old) (held_of held new)
-  pub none_fell : NoneFell faults old.outs.items new.outs.items
-  pub outs : length new.outs.items ≡ length old.outs.items
-  pub kept : AreKept name faults old.outs.items new.outs.items
+  pub none_fell : NoneFell faults old.outs new.outs
+  pub outs : length new.outs ≡ length old.outs
+  pub kept : AreKept name faults old.outs new.outs
 
 -- an engine has gone from `old` to `new` by at least and at most so many ticks: each output holds its bytes of the first more, and
 -- then a front of those of the others, whatever answers follow those that were got; no count of faults fell, and its sinks are those
 -- that they were, by their names
 pub record HasRunPart {S : Type 0} (held name : S → Option (List ℕ)) (faults : S → ℕ) (world : (ℕ → List Answer) → Setting) (least most : ℕ) (old new : ClockEngine S) : Type 0 where
-  pub parts : AreParts new.parts
   pub setting : setting_of new.parts ≡ setting_of old.parts
   pub clock : new.parts.clock ≡ old.parts.clock
   pub part : (rest : ℕ → List Answer) (sink node : ℕ) → IsOutput (setting_of old.parts) old.parts.clock sink node
       → (bytes : List ℕ) × IsPrefix (ticks_bytes (world rest) node least) bytes × IsPrefix bytes (ticks_bytes (world rest) node most) × (held_of held new sink ≡ grown bytes (held_of held old sink))
-  pub none_fell : NoneFell faults old.outs.items new.outs.items
-  pub outs : length new.outs.items ≡ length old.outs.items
-  pub kept : AreKept name faults old.outs.items new.outs.items
+  pub none_fell : NoneFell faults old.outs new.outs
+  pub outs : length new.outs ≡ length old.outs
+  pub kept : AreKept name faults old.outs new.outs
 
 -- each engine has run so many ticks
 pub record HaveRun {S : Type 0} (held name : S → Option (List ℕ)) (faults : S → ℕ) (calls : List Call) (ticks : ℕ → ℕ) (old new : List (ClockEngine S)) : Type 0 where
@@ -113,7 +104,7 @@ pub record IsWriteEnd {S : Type 0} (faults : S → ℕ) (clock : ℕ) (old new :
   pub node : ℕ
   pub there : slice_get (outputs_of (setting_of before.parts) clock) place ≡ Some (sink, node)
   pub end_is : end ≡ Write clock sink
-  pub rose : RoseAt faults place before.outs.items after.outs.items
+  pub rose : RoseAt faults place before.outs after.outs
 
 -- between two ticks of a run: the calls so far, what each engine has run, and the room that is left for the ticks that are not made
 pub record AreGoing {S T : Type 0} (held name : S → Option (List ℕ)) (room : S → Option ℕ) (faults : S → ℕ) (stands : T → List Call → Type 0) (setting : Setting)
@@ -122,7 +113,7 @@ pub record AreGoing {S T : Type 0} (held name : S → Option (List ℕ)) (room :
   pub taps : Adds stands taps_first taps_now calls
   pub turned : AreTurns setting (length first) turns calls
   pub run : HaveRun held name faults calls made first now
-  pub rooms : (k left : ℕ) (engine : ClockEngine S) → slice_get now k ≡ Some engine → made k + left ≡ total → HaveTicksRoom room engine.parts engine.outs.items left
+  pub rooms : (k left : ℕ) (engine : ClockEngine S) → slice_get now k ≡ Some engine → made k + left ≡ total → HaveTicksRoom room engine.parts engine.outs left
 
 -- all rounds were made, by these calls
 pub record RoundsMade {S T : Type 0} (held name : S → Option (List ℕ)) (faults : S → ℕ) (stands : T → List Call → Type 0) (setting : Setting)

@@ -11,13 +11,13 @@ use Rattle.run_records.specs.Records.{AreRoundsBegun, IsRounds, Run, Window, set
 use Rattle.node_states.specs.Ticks.{IsOutput, with_rest}
 use Rattle.clock_outputs.specs.Appends.{AreKept, NoneFell}
 use Rattle.clock_engine.specs.declared.engine.ClockEngine.{ClockEngine}
-use Rattle.clock_engine.specs.Engines.{AreParts, EngineStands, setting_of}
+use Rattle.clock_engine.specs.Engines.{EngineStands, held_of, setting_of}
 use Rattle.buffer_ends.specs.Local.{Answers}
 use Rattle.buffer_ends.specs.declared.counts.Counts.{Counts}
 use Rattle.buffer_ends.specs.declared.run_end.End.{End}
 use Rattle.buffer_ends.specs.declared.run_end.End.TheVariants.{Write}
 use Rattle.buffer_sides.specs.Logs.{told}
-use Rattle.rounds_run.specs.Rounds.{AreEngines, HaveRunPart, IsWriteEnd, held_of, ticks_by}
+use Rattle.rounds_run.specs.Rounds.{AreEngines, HaveRunPart, IsWriteEnd, ticks_by}
 
 -- the engines of a run, one per clock, in clock order, over this plan with its files, clocks and start
 pub record AreOver {S : Type 0} (room : S → Option ℕ) (plan : Plan) (ticks : ℕ) (setting : Setting) (engines : List (ClockEngine S)) : Type 0 where
@@ -29,8 +29,6 @@ pub record AreOver {S : Type 0} (room : S → Option ℕ) (plan : Plan) (ticks :
 -- buffers that it reads; each output holds its bytes of these ticks more, no count of faults fell, and its sinks are those that they
 -- were, by their names
 pub record HasRunTicks {S : Type 0} (held name : S → Option (List ℕ)) (faults : S → ℕ) (setting : Setting) (ticks : ℕ) (old new : ClockEngine S) : Type 0 where
-  pub parts : AreParts new.parts
-  pub sinks : length new.outs.items ≡ length new.parts.ports.items
   pub over : setting_of new.parts ≡ setting_of old.parts
   pub clock : new.parts.clock ≡ old.parts.clock
   pub answers : ℕ → List Answer
@@ -38,9 +36,9 @@ pub record HasRunTicks {S : Type 0} (held name : S → Option (List ℕ)) (fault
   pub given : with_rest (setting_of old.parts) answers rest ≡ setting
   pub stands : EngineStands new.parts ticks answers
   pub grew : (sink node : ℕ) → IsOutput (setting_of old.parts) old.parts.clock sink node → held_of held new sink ≡ grown (ticks_bytes setting node ticks) (held_of held old sink)
-  pub none_fell : NoneFell faults old.outs.items new.outs.items
-  pub outs : length new.outs.items ≡ length old.outs.items
-  pub kept : AreKept name faults old.outs.items new.outs.items
+  pub none_fell : NoneFell faults old.outs new.outs
+  pub outs : length new.outs ≡ length old.outs
+  pub kept : AreKept name faults old.outs new.outs
 
 -- each engine has run so many ticks in this setting
 pub record HaveRunTicks {S : Type 0} (held name : S → Option (List ℕ)) (faults : S → ℕ) (setting : Setting) (ticks : ℕ) (old new : List (ClockEngine S)) : Type 0 where

@@ -44,7 +44,7 @@ pub fn make_rounds<O: Sink, T: Taps>(
     for _round in 0..ticks {
         for k in 0..engines.len() {
             if let Err(fault) = engines[k].tick(alloc, taps) {
-                return Err(end_of(engines[k].parts.clock, fault));
+                return Err(end_of(engines[k].clock(), fault));
             }
         }
     }

@@ -5,7 +5,7 @@ use Rattle.node_states.specs.Times.{TimeStands}
 use Rattle.node_states.proofs.Chunks.{on_err}
 use Rattle.engine_instants.specs.States.{over}
 use Rattle.clock_engine.proofs.Segments.{segment_run}
-use Rattle.clock_engine.proofs.lanes.make_segment.Goals as goal
+use Rattle.clock_engine.proofs.clock_state.make_segment.Goals as goal
 
 pub returns-clause-run : goal.returns-clause-run
 returns-clause-run g c =

@@ -20,7 +20,7 @@ returns-clause-parts c =
       few = c.requires.plan.few_nodes;
       in_clocks = c.requires.in_clocks;
       clocks = c.requires.clocks;
-      lanes = record {
+      state = record {
         below = record {
           fit = record {
             size = c.in_ok-states.ensures.size;
@@ -63,6 +63,6 @@ returns-clause-stands c =
       made = refl;
       runs = refl;
       others = λ buffer unread. refl;
-      lanes = λ rest. new_stand (with_rest S (λ buffer. []) rest) c.args.clock _ (length c.args.shape.plan.now.nodes) _ (has_ranks c.args.shape.plan.now c.args.shape.clocks.now c.requires.clocks c.requires.in_clocks) (rank_low c.args.shape.plan.now c.args.shape.clocks.now c.requires.clocks c.requires.in_clocks) c.in_ok-states.ensures c.new-time.ensures.stands c.in_ok-times.ensures.each c.in_ok-runs.ensures.none;
+      state = λ rest. new_stand (with_rest S (λ buffer. []) rest) c.args.clock _ (length c.args.shape.plan.now.nodes) _ (has_ranks c.args.shape.plan.now c.args.shape.clocks.now c.requires.clocks c.requires.in_clocks) (rank_low c.args.shape.plan.now c.args.shape.clocks.now c.requires.clocks c.requires.in_clocks) c.in_ok-states.ensures c.new-time.ensures.stands c.in_ok-times.ensures.each c.in_ok-runs.ensures.none;
       gaps_are = λ rest k port at. (all_at (IsNewPort S) c.in_ok-ports.ports.items (c.in_ok-ports.ensures.new S) k port at).gaps;
     }

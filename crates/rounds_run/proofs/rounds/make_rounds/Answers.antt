@@ -29,20 +29,6 @@ loop-k-init g c = record {
       subst (λ n. AreGoing g.O.Sink.held g.O.Sink.name g.O.Sink.room g.O.Sink.faults g.T.Taps.stands setting c.args.ticks (made_by c.loop-round._round 0) n c.args.engines.now c.loop-round.engines c.args.taps.now c.loop-round.taps) same (c.loop-round.invariant.goes setting are);
 }
 
-pub tick-requires-clause-parts : goal.tick-requires-clause-parts
-tick-requires-clause-parts g c =
-    let within : c.loop-k.k < length c.loop-k.engines = search rules in
-    let setting = c.requires.engines.0 in
-    let going = c.loop-k.invariant.goes setting c.requires.engines.1 in
-    (turn g.O.Sink.held g.O.Sink.name g.O.Sink.room g.O.Sink.faults g.T.Taps.stands setting c.args.ticks c.loop-round._round c.loop-k.k _ c.args.engines.now c.loop-k.engines c.index-engines-k.result _ _ within going).parts
-
-pub tick-requires-clause-sinks : goal.tick-requires-clause-sinks
-tick-requires-clause-sinks g c =
-    let within : c.loop-k.k < length c.loop-k.engines = search rules in
-    let setting = c.requires.engines.0 in
-    let going = c.loop-k.invariant.goes setting c.requires.engines.1 in
-    (turn g.O.Sink.held g.O.Sink.name g.O.Sink.room g.O.Sink.faults g.T.Taps.stands setting c.args.ticks c.loop-round._round c.loop-k.k _ c.args.engines.now c.loop-k.engines c.index-engines-k.result _ _ within going).sinks
-
 pub tick-requires-clause-runs : goal.tick-requires-clause-runs
 tick-requires-clause-runs g c =
     let within : c.loop-k.k < length c.loop-k.engines = search rules in
@@ -95,13 +81,13 @@ returns-in-Err-clause-stopped g c = λ setting are.
     (mod-mul-add c.loop-round._round (length c.args.engines.now) c.loop-k.k low) (div-mul-add c.loop-round._round (length c.args.engines.now) c.loop-k.k low)
     (c.args.ticks * length c.args.engines.now) turns
     c.in-Err.ensures.stopped c.tick.ensures.faults c.tick.ensures.outs c.tick.ensures.kept
-    c.tick.ensures.parts c.tick.ensures.setting c.tick.ensures.clock c.end_of.result
+    c.tick.ensures.whole.parts c.tick.ensures.setting c.tick.ensures.clock c.end_of.result
     (elim (fault_is c.in-Err.fault) [
       | inr memory ↦ inl (c.end_of.ensures.memory memory)
       | inl write ↦ inr (write_end g.O.Sink.held g.O.Sink.name g.O.Sink.room g.O.Sink.faults g.T.Taps.stands setting c.args.ticks c.loop-round._round c.loop-k.k _ c.args.engines.now c.loop-k.engines
           (get_or c.loop-k.engines c.loop-k.k c.index-engines-k.result) _ _ going here
-          c.tick.new.self are (get_or c.args.engines.now c.loop-k.k c.index-engines-k.result) before c.in-Err.fault c.end_of.result (c.in-Err.ensures.cause write.0 write.1)
-          (λ sink e. c.end_of.ensures.write sink e
+          c.tick.new.self are (get_or c.args.engines.now c.loop-k.k c.index-engines-k.result) before c.in-Err.fault c.end_of.result g.O.Sink.appends (c.in-Err.ensures.cause write.0 write.1)
+          (λ sink e. c.end_of.ensures.write sink e ∙ ap (λ n. Write n sink) c.clock.ensures
           ∙ ap (λ x. Write x.parts.clock sink) (get_or-set_same c.loop-k.engines c.loop-k.k c.tick.new.self c.index-engines-k-in-Err.result within))
           c.tick.ensures.clock)
     ])
@@ -123,8 +109,7 @@ loop-k-preserved g c =
           c.tick.new.self are (get_or c.args.engines.now c.loop-k.k c.index-engines-k.result) (read c.args.engines.now c.loop-k.k c.index-engines-k.result low) c.tick.new.taps
           (mod-mul-add c.loop-round._round (length c.args.engines.now) c.loop-k.k low) (div-mul-add c.loop-round._round (length c.args.engines.now) c.loop-k.k low)
           (record {
-            parts = c.tick.ensures.parts;
-            sinks = c.tick.ensures.sinks;
+            fit = c.tick.ensures.whole.parts;
             setting = c.tick.ensures.setting;
             clock = c.tick.ensures.clock;
             ticked = c.in_default.ensures.ticked;
@@ -172,5 +157,5 @@ returns-in-Err-clause-memory g c = λ is.
       | inr memory ↦ memory
       | inl write ↦ absurd (let w = c.end_of.ensures.write write.0 write.1 in cc)
     ] in
-    let some = has_buffers _ run.parts (c.in-Err.ensures.memory refused) in
+    let some = has_buffers _ c.tick.ensures.whole.parts (c.in-Err.ensures.memory refused) in
     omega (arith, many, some)

@@ -3,4 +3,4 @@ use Rattle.clock_outputs.specs.declared.port.Port.{Port}
 use Rattle.clock_engine.proofs.engine.ClockEngine.gaps.Given as goal
 
 abbrev pub invariant-loop-port : goal.invariant-loop-port
-invariant-loop-port g l = (k : ℕ) (port : Port) → k < l.port-index → slice_get l.self.parts.ports.items k ≡ Some port → port.sink ≡ l.sink → ⊥
+invariant-loop-port g l = (k : ℕ) (port : Port) → k < l.port-index → slice_get l.self-inside.parts.ports.items k ≡ Some port → port.sink ≡ l.sink → ⊥

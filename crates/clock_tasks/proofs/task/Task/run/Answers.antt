@@ -4,13 +4,13 @@ use Rattle.clock_tasks.proofs.task.Task.run.Goals as goal
 
 pub loop-init : goal.loop-init
 loop-init g c =
-    running_none g.O.Sink.held g.O.Sink.name g.O.Sink.room g.O.Sink.faults g.T.Taps.stands g.T.Taps.buffers g.T.Taps.same c.args.self.now c.requires.whole (g.met.T.Taps.same_refl c.args.self.now.taps) c.requires.stands.stand.runs
+    running_none g.O.Sink.held g.O.Sink.name g.O.Sink.room g.O.Sink.faults g.T.Taps.stands g.T.Taps.buffers g.T.Taps.same c.args.self.now (g.met.T.Taps.same_refl c.args.self.now.taps) c.requires.stands.stand.runs
 
 pub returns-in-Err : goal.returns-in-Err
 returns-in-Err g c =
     let n = c.tick.ensures in
     running_broke g.O.Sink.held g.O.Sink.name g.O.Sink.room g.O.Sink.faults g.T.Taps.stands g.T.Taps.buffers g.T.Taps.same c.loop.counter c.args.self.now c.loop.self c.tick.new.self c.tick.new.taps
-    c.loop.invariant (record { setting = n.setting; clock = n.clock; outs = n.outs; kept = n.kept; none_fell = n.faults }) (record { parts = n.parts; sinks = n.sinks }) c.args.count c.loop-test.true
+    c.loop.invariant (record { setting = n.setting; clock = n.clock; outs = n.outs; kept = n.kept; none_fell = n.faults }) g.O.Sink.appends c.args.count c.loop-test.true
     (g.met.T.Taps.same_trans c.args.self.now.taps c.loop.self.taps c.tick.new.taps c.loop.invariant.taps n.taps) n.buffers c.in-Err.ensures.stopped
     _ c.in-Err.ensures.fault c.in-Err.ensures.cause
 
@@ -19,7 +19,7 @@ loop-preserved g c =
     let n = c.tick.ensures in
     subst (λ k. Running g.O.Sink.held g.O.Sink.name g.O.Sink.room g.O.Sink.faults g.T.Taps.stands g.T.Taps.buffers g.T.Taps.same k c.args.self.now (record { engine = c.tick.new.self; taps = c.tick.new.taps })) (sym (add-one c.loop.counter))
     (running_more g.O.Sink.held g.O.Sink.name g.O.Sink.room g.O.Sink.faults g.T.Taps.stands g.T.Taps.buffers g.T.Taps.same c.loop.counter c.args.self.now c.loop.self c.tick.new.self c.tick.new.taps
-    c.loop.invariant (record { setting = n.setting; clock = n.clock; outs = n.outs; kept = n.kept; none_fell = n.faults }) (record { parts = n.parts; sinks = n.sinks })
+    c.loop.invariant (record { setting = n.setting; clock = n.clock; outs = n.outs; kept = n.kept; none_fell = n.faults })
     (g.met.T.Taps.same_trans c.args.self.now.taps c.loop.self.taps c.tick.new.taps c.loop.invariant.taps n.taps) n.buffers c.in_default.ensures.ticked
     c.in_default.ensures.room c.in_default.ensures.runs)
 
@@ -31,8 +31,8 @@ returns g c =
 pub tick-requires-clause-room : goal.tick-requires-clause-room
 tick-requires-clause-room g c =
     let less = c.loop-test.true in
-    room_one g.O.Sink.room c.loop.self.engine.parts c.loop.self.engine.outs.items
-    (c.loop.invariant.rooms 1 (rooms_fewer g.O.Sink.room c.args.self.now.engine.parts c.args.self.now.engine.outs.items (1 + c.loop.counter) c.args.count (omega (arith, less)) c.requires.rooms))
+    room_one g.O.Sink.room c.loop.self.engine.parts c.loop.self.engine.outs
+    (c.loop.invariant.rooms 1 (rooms_fewer g.O.Sink.room c.args.self.now.engine.parts c.args.self.now.engine.outs (1 + c.loop.counter) c.args.count (omega (arith, less)) c.requires.rooms))
 
 pub tick-requires-clause-few : goal.tick-requires-clause-few
 tick-requires-clause-few g c =
