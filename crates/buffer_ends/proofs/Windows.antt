@@ -1,5 +1,6 @@
 -- Windows are closed one buffer after the other, and opened again in the other order.
-use Rattle.std.proofs.Common.{◌≡◌, ℕ, zero, suc, ◌+◌, ◌<◌, List, [], ◌∷◌, length, map, get_or, set, sym, refl, ap, ◌∙◌, subst, arith, append-nil, Result, Ok, Err, OnOk, is_err, false}
+use Rattle.std.proofs.Common.{◌≡◌, ℕ, zero, suc, eqb, true, ⊎_elim, get_or-set_same, get_or-set_other, length-set, ◌+◌, ◌<◌, List, [], ◌∷◌, length, map, get_or, set, sym, refl, ap, ◌∙◌, subst, arith, append-nil, Result, Ok, Err, OnOk, is_err, false}
+use Rattle.std.proofs.lemmas.Bool.Decides.{eqb_tells}
 use Rattle.std.proofs.lemmas.Grind.{common_steps, flat_map-append}
 use Rattle.frame_core.specs.Calls.{Call}
 use Rattle.plan_core.specs.declared.sink.BufferPlan.{BufferPlan}
@@ -79,6 +80,21 @@ pub not_err : {T E P : Type 0} (r : Result T E) → is_err r ≡ false → OnOk 
 not_err (Ok x) e p = p
 not_err (Err x) e p = cc
 
-pub ended_stand : {T E : Type 0} (away : ℕ → Type 0) (bs after : List LocalBuffer) (r : Result T E) → OnOk r (after ≡ map closed bs) → OnOk r ((calls : List Call) → ListsStand away bs calls → ListsStand away after calls)
-ended_stand away bs after (Ok x) is = λ calls s. subst (λ l. ListsStand away l calls) (sym is) (stand_closed away bs calls s)
-ended_stand away bs after (Err x) is = tt
+-- the same where the window of one buffer is closed
+pub one_stand : (E : ℕ → Type 0) (bs after : List LocalBuffer) (k : ℕ) (calls : List Call) → k < length bs → ((d : LocalBuffer) → after ≡ set bs k (closed (get_or bs k d)))
+    → ListsStand E bs calls → ListsStand E after calls
+one_stand E bs after k calls room is s b d h away =
+    let x = closed (get_or bs k d) in
+    let low : b < length bs = (let m = ap length (is d) ∙ length-set bs k x in omega (arith, h, m)) in
+    let kept : held (get_or after b d) ≡ held (get_or bs b d) =
+    ⊎_elim
+    (λ (t : (eqb b k ≡ true) × (b ≡ k)). ap held (ap (λ l. get_or l b d) (is d) ∙ ap (λ n. get_or (set bs k x) n d) t.1 ∙ get_or-set_same bs k x d room) ∙ held_closed (get_or bs k d)
+    ∙ ap (λ n. held (get_or bs n d)) (sym t.1))
+    (λ t. ap held (ap (λ l. get_or l b d) (is d) ∙ get_or-set_other bs k b x d t.1))
+    (eqb_tells b k) in
+    subst (λ y. Leads (empty_list y.capacity) (on b calls) y) (sym kept) (s b d low away)
+
+pub ended_stand : {T E : Type 0} (away : ℕ → Type 0) (bs after : List LocalBuffer) (k : ℕ) (r : Result T E) → k < length bs → OnOk r ((d : LocalBuffer) → after ≡ set bs k (closed (get_or bs k d)))
+    → OnOk r ((calls : List Call) → ListsStand away bs calls → ListsStand away after calls)
+ended_stand away bs after k (Ok x) room is = λ calls s. one_stand away bs after k calls room is s
+ended_stand away bs after k (Err x) room is = tt

@@ -189,6 +189,16 @@ pub(crate) fn empty_lists(alloc: Global, buffers: &[BufferPlan]) -> Result<Vec<L
     Ok(lists)
 }
 
+// Closes the window of one of the lists.
+pub(crate) fn close_in(alloc: Global, lists: &mut Vec<LocalList>, buffer: u32) -> Result<(), Memory>
+    requires { buffer < length lists.old.items }
+    ensures closed { OnOk result ((d : LocalBuffer) → lists.new.items ≡ slice_set lists.old.items buffer (closed (slice_index_or lists.old.items buffer d))) }
+    ensures memory { OnErr result (lists.new.items ≡ lists.old.items) }
+    ensures many { length lists.new.items ≡ length lists.old.items }
+{
+    lists[buffer as usize].close(alloc)
+}
+
 // Closes the window of each list, or, where memory is refused, of none.
 pub(crate) fn close_all(alloc: Global, lists: &mut Vec<LocalList>) -> Result<(), Memory>
     ensures closed { OnOk result (lists.new.items ≡ map closed lists.old.items) }

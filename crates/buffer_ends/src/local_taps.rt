@@ -7,7 +7,7 @@ ghost use Rattle.buffer_ends.specs.Ends.{LocalStands};
 ghost use Rattle.buffer_ends.specs.Same.{SameBuffers};
 
 use crate::counts::Counts;
-use crate::local::{LocalList, close_all, empty_lists, give_into, into_logs, take_from};
+use crate::local::{LocalList, close_all, close_in, empty_lists, give_into, into_logs, take_from};
 use crate::logs::BufferLog;
 use frame_core::{Chunk, Gave, Taps};
 use liq_base::Memory;
@@ -72,6 +72,15 @@ impl LocalTaps {
         ensures { result.items ≡ map closed_windows self }
     {
         into_logs(self.lists, self.logs)
+    }
+
+    // Closes the window of the list of this buffer.
+    pub(crate) fn close_one(&mut self, alloc: Global, buffer: u32) -> Result<(), Memory>
+        requires { buffer < length self.old }
+        ensures closed { OnOk result ((d : LocalBuffer) → self.new ≡ slice_set self.old buffer (closed (slice_index_or self.old buffer d))) }
+        ensures memory { OnErr result (self.new ≡ self.old) }
+    {
+        close_in(alloc, &mut self.lists, buffer)
     }
 
     // Takes from the list of this buffer.

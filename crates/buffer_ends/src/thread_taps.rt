@@ -1,5 +1,5 @@
 // The buffers of one clock beside other clocks.
-ghost use Rattle.std.specs.Prelude.{◌≡◌, ◌++◌, ◌∷◌, [], ◌<◌, ◌⊎◌, ℕ, List, length, map, slice_index_or, OnOk, OnErr};
+ghost use Rattle.std.specs.Prelude.{◌≡◌, ◌++◌, ◌∷◌, [], ◌<◌, ◌⊎◌, ℕ, List, length, slice_index_or, slice_set, OnOk, OnErr};
 ghost use Rattle.buffer_ends.specs.Borders.{HaveEnds, WasClosed};
 ghost use Rattle.frame_core.specs.Calls.{Call};
 ghost use Rattle.buffer_ends.specs.Local.{LocalBuffer, closed};
@@ -126,15 +126,16 @@ impl<'a, R> ThreadTaps<'a, R> {
         self.takes = takes;
     }
 
-    /// Closes the window of each list and opens the next one. Where memory is refused all is as before.
-    pub fn end_window(&mut self, alloc: Global) -> Result<(), Memory>
-        ensures closed { OnOk result (self.new.local ≡ map closed self.old.local) }
+    /// Closes the window of the list of a buffer and opens the next one. Where memory is refused all is as before.
+    pub fn close_list(&mut self, alloc: Global, buffer: u32) -> Result<(), Memory>
+        requires { buffer < length self.old.local }
+        ensures closed { OnOk result ((d : LocalBuffer) → self.new.local ≡ slice_set self.old.local buffer (closed (slice_index_or self.old.local buffer d))) }
         ensures memory { OnErr result (self.new.local ≡ self.old.local) }
         ensures ends { (self.new.puts ≡ self.old.puts) × (self.new.takes ≡ self.old.takes) }
         ensures stands { OnOk result ((calls : List Call) → ListsStand (λ b. Has self.old.puts.items b ⊎ Has self.old.takes.items b) self.old.local calls
             → ListsStand (λ b. Has self.old.puts.items b ⊎ Has self.old.takes.items b) self.new.local calls) }
     {
-        self.local.end_window(alloc)
+        self.local.close_one(alloc, buffer)
     }
 
     /// How often the calls on a buffer had which answer, by the answers that are held: those of its end's window, or those

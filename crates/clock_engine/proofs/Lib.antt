@@ -14,3 +14,4 @@ pub mod Starting
 pub mod Mapped
 pub mod Hearing
 pub mod Segments
+pub mod Needing

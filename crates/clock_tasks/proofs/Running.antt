@@ -1,5 +1,5 @@
 -- A task's ticks.
-use Rattle.std.proofs.Common.{◌≡◌, ℕ, suc, ◌<◌, ◌≤◌, ◌+◌, ◌*◌, List, ◌++◌, sym, refl, ◌∙◌, subst, arith, append_assoc, append-nil, add-zero, add-suc, Option, Some, None}
+use Rattle.std.proofs.Common.{◌≡◌, ℕ, suc, ◌<◌, ◌≤◌, ◌+◌, ◌*◌, List, ◌++◌, length, sym, refl, ap, ◌∙◌, subst, arith, append_assoc, append-nil, add-zero, add-suc, Option, Some, None}
 use Rattle.frame_core.specs.Calls.{Call}
 use Rattle.op_leaf.specs.Readers.{Answer}
 use Rattle.stream_meaning.specs.Instants.{Setting}
@@ -10,7 +10,7 @@ use Rattle.clock_engine.specs.declared.engine.ClockEngine.{ClockEngine}
 use Rattle.clock_engine.specs.Engines.{EngineStands, setting_of, held_of}
 use Rattle.clock_engine.specs.Ticks.{HasMade, HasFailed, HaveTicksRoom, HaveTickRoom, IsWriteFault, piece_size}
 use Rattle.clock_engine.specs.declared.fault.TickFault.{TickFault}
-use Rattle.clock_engine.specs.declared.fault.TickFault.TheVariants.{Write}
+use Rattle.clock_engine.specs.declared.fault.TickFault.TheVariants.{Memory as OutOfMemory, Write}
 use Rattle.clock_engine.specs.declared.engine.EngineParts.{EngineParts}
 use Rattle.std.proofs.Math.Nat.{mul-le-mul_right}
 use Rattle.clock_tasks.specs.declared.task.Task.{Task}
@@ -98,8 +98,9 @@ module _ {S T : Type 0} (held name : S → Option (List ℕ)) (room : S → Opti
     pub running_broke : (appends : S → Option ℕ) (whole : ℕ) → count < whole → same x.taps s → buffers s ≡ buffers y.taps
         → HasFailed held stands y.engine.parts e.parts y.engine.outs e.outs y.taps s
         → (fault : TickFault) → e.parts.stopped ≡ Some fault → ((sink : ℕ) → fault ≡ Write sink → IsWriteFault faults appends y.engine.parts y.engine.outs e.outs fault)
+        → (fault ≡ OutOfMemory → 0 < length y.engine.parts.shape.plan.now.buffers)
         → WasRun held name room faults stands buffers same whole x (record { engine = e; taps = s })
-    running_broke appends whole fewer taps many failed fault stopped cause = record {
+    running_broke appends whole fewer taps many failed fault stopped cause memory = record {
       clock = same_then name faults x.engine y.engine e running.clock same_clock;
       taps = taps;
       many = many ∙ running.many;
@@ -121,6 +122,7 @@ module _ {S T : Type 0} (held name : S → Option (List ℕ)) (room : S → Opti
           write_since name faults x.engine y.engine e sink running.clock
           (write_of name faults y.engine e sink appends (subst (IsWriteFault faults appends y.engine.parts y.engine.outs e.outs) e' (cause sink e'))));
       rooms = λ n runs. absurd (some_not_none stopped runs);
+      memory = λ is. subst (λ n. 0 < n) (ap (λ (set : Setting). length set.plan.buffers) running.clock.setting) (memory (some_is fault OutOfMemory stopped is));
     }
 
   pub running_all : (count whole : ℕ) (x y : Task S T) → count ≡ whole → Running held name room faults stands buffers same count x y → WasRun held name room faults stands buffers same whole x y
@@ -131,6 +133,7 @@ module _ {S T : Type 0} (held name : S → Option (List ℕ)) (room : S → Opti
     ran = record { on = λ t h first gone runs. running.on t h first gone; halted = λ t h first gone no. absurd (no running.runs) };
     write = λ sink is. absurd (some_not_none is running.runs);
     rooms = λ n runs. running.rooms n;
+    memory = λ is. absurd (some_not_none is running.runs);
   })
 
 module _ {S : Type 0} (room : S → Option ℕ) (parts : EngineParts) (outs : List S) where

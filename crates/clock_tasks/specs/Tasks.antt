@@ -4,7 +4,7 @@ use Rattle.frame_core.specs.Calls.{Call}
 use Rattle.op_leaf.specs.Readers.{Answer}
 use Rattle.clock_outputs.specs.Appends.{AreKept, NoneFell, RoseAt}
 use Rattle.clock_engine.specs.declared.engine.ClockEngine.{ClockEngine}
-use Rattle.clock_engine.specs.declared.fault.TickFault.TheVariants.{Write}
+use Rattle.clock_engine.specs.declared.fault.TickFault.TheVariants.{Memory as OutOfMemory, Write}
 use Rattle.clock_engine.specs.Engines.{EngineStands, held_of, outputs_of, setting_of}
 use Rattle.clock_engine.specs.Ticks.{HaveTicksRoom}
 use Rattle.clock_tasks.specs.declared.task.Task.{Task}
@@ -77,3 +77,4 @@ pub record WasRun {S T : Type 0} (held name : S → Option (List ℕ)) (room : S
   pub ran : RanTask held stands count old new
   pub write : (sink : ℕ) → new.engine.parts.stopped ≡ Some (Write sink) → IsWriteOf faults sink old.engine new.engine
   pub rooms : (n : ℕ) → new.engine.parts.stopped ≡ None → HaveTicksRoom room old.engine.parts old.engine.outs (n + count) → HaveTicksRoom room new.engine.parts new.engine.outs n
+  pub memory : new.engine.parts.stopped ≡ Some OutOfMemory → 0 < length old.engine.parts.shape.plan.now.buffers

@@ -8,6 +8,7 @@ mod queues;
 mod run;
 mod tasks;
 mod threads;
+mod unwired;
 mod wires;
 
 pub use run::run_threads;

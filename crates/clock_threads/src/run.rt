@@ -1,10 +1,11 @@
 // The run of a plan's clocks.
 ghost use Rattle.std.specs.Prelude.{◌≡◌, ◌<◌, ◌≤◌, length};
-ghost use Rattle.buffer_ends.specs.declared.run_end.End.TheVariants.{Done};
+ghost use Rattle.buffer_ends.specs.declared.run_end.End.TheVariants.{Done, Memory as NoMemory};
 ghost use Rattle.stream_meaning.specs.Instants.{Setting};
 ghost use Rattle.clock_threads.specs.Runs.{AreAlike, AreEngines, HasRunAll, HasRunSome};
 
 use crate::threads::{ended, run_wired};
+use crate::unwired::run_unwired;
 use crate::wires::wires_of;
 use buffer_ends::{End, RunEnd};
 use clock_engine::ClockEngine;
@@ -19,6 +20,7 @@ use std::thread::Threads;
 /// one. The engines are those of all running clocks of this plan, in clock order, and made no tick; before each tick the gate is
 /// entered. A clock that stops does so at its tick; the others end their window, and no further one begins. The same engines
 /// come back in the same order, whatever the end is. Where a sink refused bytes, the end names the lowest clock that stopped.
+/// On a plan without buffers it takes no memory.
 pub fn run_threads<'a, O: Sink + Send, G: Gate + Sync, R: Threads + Wait + Sync>(
     rt: &R,
     alloc: Global,
@@ -37,11 +39,16 @@ pub fn run_threads<'a, O: Sink + Send, G: Gate + Sync, R: Threads + Wait + Sync>
         → HasRunAll O.held O.name O.faults setting clocks.now window ticks engines.entry.items result.0.items result.1.counts.items result.1.logs.items }
     ensures part { (setting : Setting) → AreEngines O.room plan.now clocks.now ticks setting engines.entry.items
         → HasRunSome O.held O.name O.faults setting clocks.now window ticks engines.entry.items result.0.items result.1.end }
+    ensures memory { result.1.end ≡ NoMemory → 0 < length plan.now.buffers }
 {
     if engines.is_empty() {
         return (engines, ended(alloc, End::Done));
     }
     let mut engines = engines;
+    if plan.buffers.len() == 0 {
+        let end = run_unwired(rt, alloc, &mut engines, ticks, window, gate);
+        return (engines, end);
+    }
     let Ok(wires) = wires_of(alloc, plan, clocks) else {
         return (engines, ended(alloc, End::Memory));
     };

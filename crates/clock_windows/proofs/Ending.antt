@@ -19,7 +19,7 @@ use Rattle.clock_windows.specs.declared.wires.Wire.{Wire}
 use Rattle.clock_windows.specs.Wires.{wire_at}
 use Rattle.clock_windows.specs.Ends.{MayClose, AllClosed}
 use Rattle.run_records.specs.Records.{start}
-use Rattle.clock_windows.specs.Records.{Going, EndedTask, AllEndedTasks, SameEngines}
+use Rattle.clock_windows.specs.Records.{Going, AllEndedTasks, HaveLists, SameEngines}
 use Rattle.clock_windows.specs.Runs.{CameTo, IsReady, IsToldByLowest, IsWriteAt, RunDone, RunPart, end_by}
 use Rattle.clock_windows.proofs.Sets.{same_or_other}
 use Rattle.clock_windows.proofs.Starts.{start_zero, start_most, start_up, start_next, start_climbs}
@@ -51,46 +51,6 @@ with_one [] less f = absurd (omega (arith, less))
 with_one (x ∷ xs) less f = f x
 
 module _ {S R : Type 0} where
-  pub record EndedUpto (below : ℕ) (first now : List (Task S (ThreadTaps R))) : Type 0 where
-    pub many : length now ≡ length first
-    pub done : (k : ℕ) (d : Task S (ThreadTaps R)) → k < below → k < length first → EndedTask (slice_index_or first k d) (slice_index_or now k d)
-    pub engines : (k : ℕ) (d : Task S (ThreadTaps R)) → k < length first → (slice_index_or now k d).engine ≡ (slice_index_or first k d).engine
-    pub todo : (k : ℕ) (d : Task S (ThreadTaps R)) → below ≤ k → slice_index_or now k d ≡ slice_index_or first k d
-
-  pub ended_none : (first : List (Task S (ThreadTaps R))) → EndedUpto 0 first first
-  ended_none first = record { many = refl; done = λ k d low. absurd (omega (arith, low)); engines = λ k d less. refl; todo = λ k d h. refl }
-
-  module _ (below : ℕ) (first now : List (Task S (ThreadTaps R))) (x : Task S (ThreadTaps R)) (u : EndedUpto below first now) (within : below < length now) where
-    at_below : (d : Task S (ThreadTaps R)) → slice_index_or (set now below x) below d ≡ x
-    at_below d = get_or-set_same now below x d within
-
-    engines_on : ((d : Task S (ThreadTaps R)) → x.engine ≡ (slice_index_or now below d).engine) → (k : ℕ) (d : Task S (ThreadTaps R)) → k < length first → (slice_index_or (set now below x) k d).engine ≡ (slice_index_or first k d).engine
-    engines_on e k d less = elim (same_or_other k below) [
-      | inl is ↦ subst (λ n. (slice_index_or (set now below x) n d).engine ≡ (slice_index_or first n d).engine) (sym is) (ap (λ (t : Task S (ThreadTaps R)). t.engine) (at_below d) ∙ e d ∙ ap (λ (t : Task S (ThreadTaps R)). t.engine) (u.todo below d (omega arith)))
-      | inr off ↦ ap (λ (t : Task S (ThreadTaps R)). t.engine) (get_or-set_other now below k x d off) ∙ u.engines k d less
-    ]
-
-    pub ended_engines : ((d : Task S (ThreadTaps R)) → x.engine ≡ (slice_index_or now below d).engine) → SameEngines first (set now below x)
-    ended_engines e = record { many = length-set now below x ∙ u.many; each = engines_on e }
-
-    pub ended_more : ((d : Task S (ThreadTaps R)) → EndedTask (slice_index_or now below d) x) → EndedUpto (below + 1) first (set now below x)
-    ended_more e = record {
-      many = length-set now below x ∙ u.many;
-      done = λ k d low less. (elim (same_or_other k below) [
-        | inl is ↦ subst (λ n. EndedTask (slice_index_or first n d) (slice_index_or (set now below x) n d)) (sym is)
-            (subst (λ (z : Task S (ThreadTaps R) × Task S (ThreadTaps R)). EndedTask z.0 z.1) (λ i. (u.todo below d (omega arith) i, sym (at_below d) i)) (e d))
-        | inr off ↦ subst (EndedTask (slice_index_or first k d)) (sym (get_or-set_other now below k x d off)) (u.done k d (omega (arith, low, off)) less)
-      ]);
-      engines = engines_on (λ d. (e d).engine);
-      todo = λ k d high. (let off : k ≢ below = λ is. omega (arith, high, is) in get_or-set_other now below k x d off ∙ u.todo k d (omega (arith, high)));
-    }
-
-  pub ended_all : (below : ℕ) (first now : List (Task S (ThreadTaps R))) → length now ≤ below → EndedUpto below first now → AllEndedTasks first now
-  ended_all below first now high u = record { many = u.many; each = λ k d less. (let m = u.many in u.done k d (omega (arith, less, high, m)) less) }
-
-  pub ended_same : (below : ℕ) (first now : List (Task S (ThreadTaps R))) → EndedUpto below first now → SameEngines first now
-  ended_same below first now u = record { many = u.many; each = u.engines }
-
   module _ (held name : S → Option (List ℕ)) (room : S → Option ℕ) (faults : S → ℕ) (wires : List Wire) (W N : ℕ) where
     pub record LoopAt (made : ℕ) (first now : List (Task S (ThreadTaps R))) (logs : List (List Answers)) (d : Task S (ThreadTaps R)) : Type 0 where
       pub windows : ℕ
@@ -147,8 +107,18 @@ module _ {S R : Type 0} where
       pub loop_logs : length logs ≡ length wires
       loop_logs = with_one mid (let s = ready.some in let m = loop.many in omega (arith, s, m, mid_many)) (λ d. (loop.at d).going.logged.many)
 
+      pub loop_lists : (shut : List (Task S (ThreadTaps R))) (after : List (List Answers)) → AllClosed wires mid shut logs after → HaveLists wires shut
+      loop_lists shut after closed = record {
+        few = ready.few;
+        places = λ b low. (let p = (ready.places b low).0 in let m = loop.many in let n = closed.tasks.many in omega (arith, p, m, n, mid_many));
+        lists = λ k d h.
+            let n = closed.tasks.many in let in_mid : k < length mid = omega (arith, h, n) in let in_now : k < length now = omega (arith, in_mid, mid_many) in
+            let in_first : k < length first = (let m = loop.many in omega (arith, in_now, m)) in
+            ap length (closed.tasks.same k d in_mid).local ∙ (ran k d in_now).many ∙ ((loop.at d).going.clocks k in_first).lists;
+      }
+
       pub loop_more : (all_run : (k : ℕ) (d : Task S (ThreadTaps R)) → k < length mid → (slice_index_or mid k d).engine.parts.stopped ≡ None)
-          (shut last : List (Task S (ThreadTaps R))) (after : List (List Answers)) → AllClosed wires mid shut logs after → AllEndedTasks shut last → Loop (made + count) first last after
+          (shut last : List (Task S (ThreadTaps R))) (after : List (List Answers)) → AllClosed wires mid shut logs after → AllEndedTasks wires shut last → Loop (made + count) first last after
       loop_more all_run shut last after closed ends = record {
         many = (let a = ends.many in let b = closed.tasks.many in let c = loop.many in omega (arith, a, b, c, mid_many));
         at = λ d. record {

@@ -30,16 +30,8 @@ use Rattle.clock_windows.specs.Records.{window_of, windows_upto, IsWired, IsLogg
 use Rattle.clock_windows.proofs.Sets.{side, one_window}
 use Rattle.clock_windows.proofs.Keeping.{puts_kept, takes_kept, on_kept, puts-append, on-append}
 use Rattle.clock_windows.proofs.Logging.{map_joined, current_is, has_back, not_ended}
+use Rattle.clock_windows.proofs.Ended.{ended_capacity}
 use Rattle.clock_windows.proofs.Meeting.{joined_split, windows_alike, ends_from, ends_to, ends_tell, true_or_false, low_or_high, has_moved, has_end}
-
-mapped_length : (xs : List LocalBuffer) → length (map closed_list xs) ≡ length xs
-mapped_length [] = refl
-mapped_length (x ∷ xs) = ap suc (mapped_length xs)
-
-mapped : (xs : List LocalBuffer) (k : ℕ) (e : LocalBuffer) → k < length xs → get_or (map closed_list xs) k e ≡ closed_list (get_or xs k e)
-mapped [] k e h = absurd (omega (arith, h))
-mapped (x ∷ xs) zero e h = refl
-mapped (x ∷ xs) (suc k) e h = mapped xs k e (omega (arith, h))
 
 abbrev pub SameTaps : {R : Type 0} → ThreadTaps R → ThreadTaps R → Type 0
 SameTaps s t = SameSides s.puts.items t.puts.items × SameSides s.takes.items t.takes.items × SameBuffers s.local t.local
@@ -192,7 +184,7 @@ module _ {S R : Type 0} (held name : S → Option (List ℕ)) (room : S → Opti
             t.opens,
           )
 
-      module _ (last : List (Task S (ThreadTaps R))) (ends : AllEndedTasks shut last) where
+      module _ (last : List (Task S (ThreadTaps R))) (ends : AllEndedTasks wires shut last) where
         in_mid : (k : ℕ) → k < length first → k < length mid
         in_mid k h = let m = within k h in omega (arith, m, mid_many)
 
@@ -244,7 +236,7 @@ module _ {S R : Type 0} (held name : S → Option (List ℕ)) (room : S → Opti
 
             few : b < length wires
             few = let a = ends.each k d (in_shut k h) in let s' = ap length (closed.tasks.same k d (in_mid k h)).local in let r' = (ran k (within k h)).many in let c' = (going.clocks k h).lists in
-                let m = ap length a.local ∙ mapped_length (slice_index_or shut k d).taps.local in omega (arith, low, m, s', r', c')
+                let m = a.many in omega (arith, low, m, s', r', c')
 
             end_there : ended wires k b ≡ true → Has (put_ends (slice_index_or last k d)) b ⊎ Has (take_ends (slice_index_or last k d)) b
             end_there is_end = let t = ends_tell (wire_at wires b) k is_end in let g' = join_on b few t.0 in
@@ -292,11 +284,10 @@ module _ {S R : Type 0} (held name : S → Option (List ℕ)) (room : S → Opti
                     ap (λ (v : QueueWindow). v.answers) (sym one) ∙ sym (takes_kept wires k b calls (ends_to (wire_at wires b) k w.1 w.2))),
                 lists_on k h,
               );
-              lists = ap length e.local ∙ mapped_length z.taps.local ∙ ap length s.local ∙ r.many ∙ c.lists;
+              lists = e.many ∙ ap length s.local ∙ r.many ∙ c.lists;
               capacities = λ b f low.
                   let mid_in : b < length y.taps.local = (let n = r.many in let m = c.lists in omega (arith, low, n, m)) in
-                  let shut_in : b < length z.taps.local = (let n = ap length s.local in omega (arith, mid_in, n)) in
-                  ap (λ (l : List LocalBuffer). (slice_index_or l b f).capacity) e.local ∙ ap (λ (l : LocalBuffer). l.capacity) (mapped z.taps.local b f shut_in) ∙ ap (λ (l : List LocalBuffer). (slice_index_or l b f).capacity) s.local
+                  ended_capacity wires k z u e b f (omega (arith, low)) ∙ ap (λ (l : List LocalBuffer). (slice_index_or l b f).capacity) s.local
                   ∙ (r.taps.2.each b f (let n = r.many in omega (arith, mid_in, n))).capacity ∙ c.capacities b f low;
             }
 
@@ -327,7 +318,6 @@ module _ {S R : Type 0} (held name : S → Option (List ℕ)) (room : S → Opti
             let l = slice_index_or x.taps.local b f in let m = slice_index_or y.taps.local b f in
             let in_x : b < length x.taps.local = (let n = c.lists in omega (arith, less, n)) in
             let in_y : b < length y.taps.local = (let n = r.many in omega (arith, in_x, n)) in
-            let in_z : b < length z.taps.local = (let n = ap length s.local in omega (arith, in_y, n)) in
             let was = going.logged.local b f less is in let same = r.taps.2.each b f in_x in
             let old = kept wires k (joined_upto (going.histories k).calls (start W N j)) in let more = joined_from (after k).calls (start W N j) count in
             let away : Has (put_ends x) b ⊎ Has (take_ends x) b → ⊥ = not_ended wires k b x c.wired is in
@@ -335,7 +325,7 @@ module _ {S R : Type 0} (held name : S → Option (List ℕ)) (room : S → Opti
             λ has. ⊎_elim (λ (p : Has (put_ends y) b). away (inl (has_back (put_ends x) (put_ends y) b r.taps.0 p))) (λ (p : Has (take_ends y) b). away (inr (has_back (take_ends x) (take_ends y) b r.taps.1 p))) has in
             let now_is : m.current ≡ told (puts_to b more, takes_of b more) = current_is b old more l m same.closed was.opens (c.stand.2 b f in_x away) ((goes k h).1.2 b f in_y away_after) in
             let list_is : slice_index_or u.taps.local b f ≡ closed_list m =
-            ap (λ (ls : List LocalBuffer). slice_index_or ls b f) e.local ∙ mapped z.taps.local b f in_z ∙ ap (λ (ls : List LocalBuffer). closed_list (slice_index_or ls b f)) s.local in
+            e.own b f less (refl, sym is) ∙ ap (λ (ls : List LocalBuffer). closed_list (slice_index_or ls b f)) s.local in
             let long : count ≡ start W N (suc j) - start W N j = omega (arith, next) in
             record {
               closed_are = told_more b l.closed (slice_index_or u.taps.local b f).closed m.current (ap (λ (q : LocalBuffer). q.closed) list_is ∙ ap (λ q. q ++ m.current ∷ []) same.closed) was.closed_are

@@ -1,5 +1,5 @@
 -- What the clocks have done, window by window.
-use Rattle.std.specs.Prelude.{◌≡◌, ◌≢◌, ◌⊎◌, ◌<◌, ◌+◌, ◌-◌, ℕ, zero, suc, Option, List, [], ◌∷◌, ◌++◌, length, map, slice_index_or}
+use Rattle.std.specs.Prelude.{◌≡◌, ◌≢◌, ◌⊎◌, ◌<◌, ◌+◌, ◌-◌, ◌^◌, ℕ, zero, suc, Option, List, [], ◌∷◌, ◌++◌, length, map, slice_index_or, slice_set}
 use Rattle.frame_core.specs.declared.cell.Cell.{Cell}
 use Rattle.frame_core.specs.Legal.{IsRun}
 use Rattle.frame_core.specs.Calls.{Call, takes_of, puts_to}
@@ -75,18 +75,40 @@ pub record Going {S R : Type 0} (held name : S → Option (List ℕ)) (room : S 
       → JoinGoing (wire_at wires b) b (windows_upto (wire_at wires b) histories b W N j) now
   pub logged : LogsGoing wires (λ b. windows_upto (wire_at wires b) histories b W N j) now logs d
 
--- a task whose lists' windows were closed
-pub record EndedTask {S R : Type 0} (old new : Task S (ThreadTaps R)) : Type 0 where
+-- the list of a buffer was closed
+pub record ListClosed {S R : Type 0} (b : ℕ) (old new : Task S (ThreadTaps R)) : Type 0 where
   pub engine : new.engine ≡ old.engine
   pub puts : put_ends new ≡ put_ends old
   pub takes : take_ends new ≡ take_ends old
-  pub local : new.taps.local ≡ map closed old.taps.local
-  pub lists : (calls : List Call) → ListsStand (λ b. Has (put_ends old) b ⊎ Has (take_ends old) b) old.taps.local calls
-      → ListsStand (λ b. Has (put_ends old) b ⊎ Has (take_ends old) b) new.taps.local calls
+  pub local : (d : LocalBuffer) → new.taps.local ≡ slice_set old.taps.local b (closed (slice_index_or old.taps.local b d))
+  pub lists : (calls : List Call) → ListsStand (λ n. Has (put_ends old) n ⊎ Has (take_ends old) n) old.taps.local calls
+      → ListsStand (λ n. Has (put_ends old) n ⊎ Has (take_ends old) n) new.taps.local calls
 
-pub record AllEndedTasks {S R : Type 0} (old new : List (Task S (ThreadTaps R))) : Type 0 where
+-- both ends of a buffer are in clock k
+abbrev pub IsOwn : (wires : List Wire) → (k b : ℕ) → Type 0
+IsOwn wires k b = ((wire_at wires b).from ≡ k) × ((wire_at wires b).to ≡ k)
+
+-- task k, of which the lists of its own buffers below `below` were closed, and no others
+pub record EndedTask {S R : Type 0} (wires : List Wire) (below k : ℕ) (old new : Task S (ThreadTaps R)) : Type 0 where
+  pub engine : new.engine ≡ old.engine
+  pub puts : put_ends new ≡ put_ends old
+  pub takes : take_ends new ≡ take_ends old
+  pub many : length new.taps.local ≡ length old.taps.local
+  pub own : (b : ℕ) (d : LocalBuffer) → b < below → IsOwn wires k b → slice_index_or new.taps.local b d ≡ closed (slice_index_or old.taps.local b d)
+  pub others : (b : ℕ) (d : LocalBuffer) → (IsOwn wires k b → ⊥) → slice_index_or new.taps.local b d ≡ slice_index_or old.taps.local b d
+  pub lists : (calls : List Call) → ListsStand (λ n. Has (put_ends old) n ⊎ Has (take_ends old) n) old.taps.local calls
+      → ListsStand (λ n. Has (put_ends old) n ⊎ Has (take_ends old) n) new.taps.local calls
+
+-- the window of each buffer with both ends in one clock was closed
+pub record AllEndedTasks {S R : Type 0} (wires : List Wire) (old new : List (Task S (ThreadTaps R))) : Type 0 where
   pub many : length new ≡ length old
-  pub each : (k : ℕ) (d : Task S (ThreadTaps R)) → k < length old → EndedTask (slice_index_or old k d) (slice_index_or new k d)
+  pub each : (k : ℕ) (d : Task S (ThreadTaps R)) → k < length old → EndedTask wires (length wires) k (slice_index_or old k d) (slice_index_or new k d)
+
+-- the tasks have the lists of these wires' buffers
+pub record HaveLists {S R : Type 0} (wires : List Wire) (tasks : List (Task S (ThreadTaps R))) : Type 0 where
+  pub few : length wires < 2 ^ 32
+  pub places : (b : ℕ) → b < length wires → (wire_at wires b).from < length tasks
+  pub lists : (k : ℕ) (d : Task S (ThreadTaps R)) → k < length tasks → length (slice_index_or tasks k d).taps.local ≡ length wires
 
 -- the engines as they were
 pub record SameEngines {S R : Type 0} (old new : List (Task S (ThreadTaps R))) : Type 0 where

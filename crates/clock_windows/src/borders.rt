@@ -3,7 +3,7 @@ ghost use Rattle.std.specs.Prelude.{◌≡◌, ◌≢◌, ◌<◌, ◌++◌, ◌
 ghost use Rattle.buffer_ends.specs.Borders.{HaveEnds};
 ghost use Rattle.buffer_ends.specs.Sides.{Falling};
 ghost use Rattle.clock_windows.specs.Ends.{AllClosed, GiverClosed, JoinClosed, MayClose, WasLent, WasPutBack};
-ghost use Rattle.clock_windows.specs.Records.{SameEngines};
+ghost use Rattle.clock_windows.specs.Records.{AllEndedTasks, HaveLists, ListClosed, SameEngines};
 
 use crate::wires::Wire;
 use buffer_ends::{BufferLog, TakeEnd, ThreadTaps, WindowLog};
@@ -85,6 +85,39 @@ pub(crate) fn close_joins<O, R>(
         }
         let window = close_join(alloc, tasks, wire.from as usize, wire.to as usize, b as u32);
         add_window(&mut logs[b], window)?;
+    }
+    Ok(())
+}
+
+// Closes the window of a clock's list of a buffer.
+fn close_list<O, R>(
+    alloc: Global,
+    task: &mut Task<'_, O, ThreadTaps<'_, R>>,
+    buffer: u32,
+) -> Result<(), Memory>
+    requires { buffer < length task.old.taps.local }
+    ensures closed { OnOk result (ListClosed buffer task.old task.new) }
+    ensures engine { task.new.engine ≡ task.old.engine }
+{
+    task.taps.close_list(alloc, buffer)
+}
+
+// Closes the window of each buffer with both ends in one clock, whose answers stay in the clock's list.
+pub(crate) fn close_lists<O, R>(
+    alloc: Global,
+    wires: &[Wire],
+    tasks: &mut [Task<'_, O, ThreadTaps<'_, R>>],
+) -> Result<(), Memory>
+    requires { HaveLists wires.now tasks.old }
+    ensures ended { OnOk result (AllEndedTasks wires.now tasks.old tasks.new) }
+    ensures engines { SameEngines tasks.old tasks.new }
+{
+    for b in 0..wires.len() {
+        let wire = wires[b];
+        if wire.from != wire.to {
+            continue;
+        }
+        close_list(alloc, &mut tasks[wire.from as usize], b as u32)?;
     }
     Ok(())
 }

@@ -3,10 +3,10 @@ ghost use Rattle.std.specs.Prelude.{◌≡◌, ◌<◌, ◌≤◌, ◌^◌, ℕ,
 ghost use Rattle.buffer_ends.specs.declared.run_end.End.TheVariants.{Done, Write};
 ghost use Rattle.clock_windows.specs.Wires.{wire_at};
 ghost use Rattle.run_records.specs.Records.{start};
-ghost use Rattle.clock_windows.specs.Records.{Going, EndedTask, AllEndedTasks, SameEngines};
+ghost use Rattle.clock_windows.specs.Records.{Going};
 ghost use Rattle.clock_windows.specs.Runs.{IsReady, IsToldByLowest, IsWriteAt, RunDone, RunPart, end_by};
 
-use crate::borders::close_joins;
+use crate::borders::{close_joins, close_lists};
 use crate::wires::Wire;
 use buffer_ends::{BufferLog, End, ThreadTaps};
 use clock_engine::TickFault;
@@ -17,7 +17,7 @@ use std::sync::Wait;
 use std::thread::Threads;
 
 // How the run ends at a fault of this clock.
-fn end_of(clock: u32, fault: TickFault) -> End
+pub(crate) fn end_of(clock: u32, fault: TickFault) -> End
     ensures { result ≡ end_by clock fault }
 {
     match fault {
@@ -37,27 +37,6 @@ fn stopped_in<O, R>(tasks: &[Task<'_, O, ThreadTaps<'_, R>>]) -> Option<End>
         }
     }
     None
-}
-
-fn end_one<O, R>(alloc: Global, task: &mut Task<'_, O, ThreadTaps<'_, R>>) -> Result<(), Memory>
-    ensures ended { OnOk result (EndedTask task.old task.new) }
-    ensures engine { task.new.engine ≡ task.old.engine }
-{
-    task.taps.end_window(alloc)
-}
-
-// Closes the windows of the lists.
-fn end_windows<O, R>(
-    alloc: Global,
-    tasks: &mut [Task<'_, O, ThreadTaps<'_, R>>],
-) -> Result<(), Memory>
-    ensures ended { OnOk result (AllEndedTasks tasks.old tasks.new) }
-    ensures engines { SameEngines tasks.old tasks.new }
-{
-    for k in 0..tasks.len() {
-        end_one(alloc, &mut tasks[k])?;
-    }
-    Ok(())
 }
 
 /// All clocks make so many ticks, in windows of so many.
@@ -88,7 +67,7 @@ pub fn run_windows<O: Sink + Send, G: Gate + Sync, R: Threads + Wait + Sync>(
         if let Err(Memory) = close_joins(alloc, tasks, wires, logs) {
             return End::Memory;
         }
-        if let Err(Memory) = end_windows(alloc, tasks) {
+        if let Err(Memory) = close_lists(alloc, wires, tasks) {
             return End::Memory;
         }
         made += count;

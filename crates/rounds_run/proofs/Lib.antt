@@ -4,5 +4,4 @@ pub mod Worlds
 pub mod Going
 pub mod Lawful
 pub mod Endings
-pub mod Needing
 pub mod Records

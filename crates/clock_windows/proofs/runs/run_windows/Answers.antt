@@ -1,5 +1,5 @@
 use Rattle.std.proofs.Common.{◌≤◌, ◌∙◌, rules, sym, arith}
-use Rattle.clock_windows.proofs.Ending.{loop_none, loop_can, loop_close, loop_logs, loop_more, loop_part, loop_stopped, loop_broke, loop_write, loop_all, not_done, with_one}
+use Rattle.clock_windows.proofs.Ending.{loop_none, loop_can, loop_close, loop_lists, loop_logs, loop_more, loop_part, loop_stopped, loop_broke, loop_write, loop_all, not_done, with_one}
 use Rattle.clock_windows.proofs.Logging.{engines_then}
 use Rattle.clock_windows.proofs.runs.run_windows.Goals as goal
 
@@ -36,22 +36,27 @@ close_joins-requires-clause-logs g c =
     loop_logs g.O.Sink.held g.O.Sink.name g.O.Sink.room g.O.Sink.faults c.args.wires.now c.args.window c.args.ticks c.loop-made.made c.min-count.result c.args.tasks.now c.loop-made.tasks c.run_window.new.tasks c.args.logs.now c.loop-made.logs c.requires.ready
     c.loop-made-test.true c.min-count.ensures c.loop-made.invariant c.run_window.ensures.ran c.run_window.auto.tasks
 
+pub close_lists-requires : goal.close_lists-requires
+close_lists-requires g c =
+    loop_lists g.O.Sink.held g.O.Sink.name g.O.Sink.room g.O.Sink.faults c.args.wires.now c.args.window c.args.ticks c.loop-made.made c.min-count.result c.args.tasks.now c.loop-made.tasks c.run_window.new.tasks c.args.logs.now c.loop-made.logs c.requires.ready
+    c.loop-made-test.true c.min-count.ensures c.loop-made.invariant c.run_window.ensures.ran c.run_window.auto.tasks c.close_joins.new.tasks c.close_joins.new.logs c.in_default-close_joins.ensures.closed
+
 pub returns-in-Err-clause-part : goal.returns-in-Err-clause-part
 returns-in-Err-clause-part g c =
     loop_broke g.O.Sink.held g.O.Sink.name g.O.Sink.room g.O.Sink.faults c.args.wires.now c.args.window c.args.ticks c.loop-made.made c.min-count.result c.args.tasks.now c.loop-made.tasks c.run_window.new.tasks c.args.logs.now c.loop-made.logs c.requires.ready
     c.loop-made-test.true c.min-count.ensures c.loop-made.invariant c.run_window.ensures.ran c.run_window.auto.tasks c.close_joins.new.tasks c.close_joins.ensures.engines
 
-pub returns-in-Err-end_windows-clause-part : goal.returns-in-Err-end_windows-clause-part
-returns-in-Err-end_windows-clause-part g c =
+pub returns-in-Err-close_lists-clause-part : goal.returns-in-Err-close_lists-clause-part
+returns-in-Err-close_lists-clause-part g c =
     loop_broke g.O.Sink.held g.O.Sink.name g.O.Sink.room g.O.Sink.faults c.args.wires.now c.args.window c.args.ticks c.loop-made.made c.min-count.result c.args.tasks.now c.loop-made.tasks c.run_window.new.tasks c.args.logs.now c.loop-made.logs c.requires.ready
-    c.loop-made-test.true c.min-count.ensures c.loop-made.invariant c.run_window.ensures.ran c.run_window.auto.tasks c.end_windows.new.tasks
-    (engines_then c.run_window.new.tasks c.close_joins.new.tasks c.end_windows.new.tasks c.close_joins.ensures.engines c.end_windows.ensures.engines)
+    c.loop-made-test.true c.min-count.ensures c.loop-made.invariant c.run_window.ensures.ran c.run_window.auto.tasks c.close_lists.new.tasks
+    (engines_then c.run_window.new.tasks c.close_joins.new.tasks c.close_lists.new.tasks c.close_joins.ensures.engines c.close_lists.ensures.engines)
 
 pub loop-made-preserved : goal.loop-made-preserved
 loop-made-preserved g c =
     loop_more g.O.Sink.held g.O.Sink.name g.O.Sink.room g.O.Sink.faults c.args.wires.now c.args.window c.args.ticks c.loop-made.made c.min-count.result c.args.tasks.now c.loop-made.tasks c.run_window.new.tasks c.args.logs.now c.loop-made.logs c.requires.ready
-    c.loop-made-test.true c.min-count.ensures c.loop-made.invariant c.run_window.ensures.ran c.run_window.auto.tasks c.in_default.ensures.none c.close_joins.new.tasks c.end_windows.new.tasks c.close_joins.new.logs
-    c.in_default-close_joins.ensures.closed c.in_default-end_windows.ensures.ended
+    c.loop-made-test.true c.min-count.ensures c.loop-made.invariant c.run_window.ensures.ran c.run_window.auto.tasks c.in_default.ensures.none c.close_joins.new.tasks c.close_lists.new.tasks c.close_joins.new.logs
+    c.in_default-close_joins.ensures.closed c.in_default-close_lists.ensures.ended
 
 pub returns-clause-done : goal.returns-clause-done
 returns-clause-done g c = λ e.

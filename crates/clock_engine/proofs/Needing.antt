@@ -18,7 +18,3 @@ has_buffers parts are (inr some) =
     let feeds : 0 < length parts.feeds.items = omega (arith, long, same, some) in
     let low = feeds_within (setting_of parts) parts.clock (length parts.shape.plan.now.buffers) are.plan refl parts.feeds.items are.feeds 0 (first_item parts.feeds.items feeds) feeds in
     omega (arith, low)
-
-pub some_items : {A : Type 0} (xs : List A) → (xs ≡ [] → ⊥) → 0 < length xs
-some_items [] some = absurd (some refl)
-some_items (x ∷ xs) some = omega arith

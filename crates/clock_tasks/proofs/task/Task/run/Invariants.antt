@@ -1,5 +1,0 @@
-use Rattle.clock_tasks.proofs.Running.{Running}
-use Rattle.clock_tasks.proofs.task.Task.run.Given as goal
-
-abbrev pub invariant-loop : goal.invariant-loop
-invariant-loop g l = Running g.O.Sink.held g.O.Sink.name g.O.Sink.room g.O.Sink.faults g.T.Taps.stands g.T.Taps.buffers g.T.Taps.same l.counter l.fn.self l.self

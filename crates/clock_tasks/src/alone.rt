@@ -1,0 +1,65 @@
+// The engines of a plan without buffers.
+ghost use Rattle.std.specs.Prelude.{◌<◌, ℕ, All, length, slice_index_or};
+ghost use Rattle.clock_tasks.specs.Alone.{CanRunAlone, WasRunAlone};
+
+use crate::task::run_ticks;
+use clock_engine::ClockEngine;
+use frame_core::{Chunk, Gave, Taps};
+use liq_base::{Gate, Memory, Sink};
+use std::alloc::Global;
+use std::thread;
+use std::thread::Threads;
+
+// Taps of no buffer.
+#[derive(Drop)]
+struct NoTaps;
+
+impl Taps for NoTaps {
+    ghost use Rattle.std.specs.Prelude.{◌≡◌, [], ⊤};
+
+    ghost stands = { λ s calls. calls ≡ [] };
+
+    ghost buffers = { λ s. 0 };
+
+    ghost same = { λ s t. ⊤ };
+
+    ghost same_refl = { λ s. tt };
+
+    ghost same_trans = { λ s t u a b. tt };
+
+    fn take(&mut self, _buffer: u32) -> Result<Option<Chunk>, Memory> {
+        unreachable!()
+    }
+
+    fn give(&mut self, _buffer: u32, _chunk: Chunk) -> Result<Gave, (Chunk, Memory)> {
+        unreachable!()
+    }
+}
+
+// So many ticks of one engine, each after the gate. An engine with a fault stops at its tick.
+fn run_alone<O: Sink, G: Gate>(alloc: Global, engine: &mut ClockEngine<'_, O>, gate: &G, count: u64)
+    requires { CanRunAlone O.room count engine.old }
+    ensures { WasRunAlone O.held O.name O.room O.faults count engine.old engine.new }
+{
+    run_ticks(alloc, engine, &mut NoTaps, gate, count);
+}
+
+/// Each engine makes so many ticks, over a plan without buffers, at the same time as the others.
+pub fn run_engines<O: Sink + Send, G: Gate + Sync, R: Threads + Sync>(
+    rt: &R,
+    alloc: Global,
+    engines: &mut [ClockEngine<'_, O>],
+    gate: &G,
+    count: u64,
+)
+    requires some { 0 < length engines.old }
+    requires can { All (CanRunAlone O.room count) engines.old }
+    ensures ran { (i : ℕ) (d : _) → i < length engines.old → WasRunAlone O.held O.name O.room O.faults count (slice_index_or engines.old i d) (slice_index_or engines.new i d) }
+{
+    thread::for_each_mut(
+        rt,
+        engines,
+        engines.len(),
+        &|_, engine| run_alone(alloc, engine, gate, count),
+    );
+}

@@ -1,0 +1,86 @@
+-- A run of engines over a plan without buffers is one of tasks without wires.
+use Rattle.std.proofs.Common.{◌≡◌, ℕ, ◌<◌, ◌≤◌, ◌+◌, ◌-◌, All, List, [], length, min, slice_index_or, sym, refl, ap, ◌∙◌, subst, arith, Option, Some, None}
+use Rattle.std.proofs.lemmas.List.{get_or-map, length-map}
+use Rattle.std.specs.Prelude.{⊤}
+use Rattle.frame_core.specs.Calls.{Call}
+use Rattle.buffer_ends.specs.Sides.{same_sides_refl}
+use Rattle.buffer_ends.specs.Same.{same_buffers_refl}
+use Rattle.buffer_ends.specs.declared.run_end.End.{End}
+use Rattle.buffer_ends.specs.declared.run_end.End.TheVariants.{Memory as NoMemory}
+use Rattle.buffer_ends.specs.declared.thread_taps.ThreadTaps.{ThreadTaps}
+use Rattle.clock_engine.specs.declared.engine.ClockEngine.{ClockEngine}
+use Rattle.clock_engine.specs.declared.fault.TickFault.{TickFault}
+use Rattle.clock_engine.specs.declared.fault.TickFault.TheVariants.{Memory as OutOfMemory, Write as Refused}
+use Rattle.stream_meaning.specs.Instants.{Setting}
+use Rattle.clock_tasks.specs.declared.task.Task.{Task}
+use Rattle.clock_tasks.specs.Alone.{CanRunAlone, WasRunAlone, any_calls, any_taps, no_buffers, with_taps}
+use Rattle.clock_tasks.specs.Tasks.{CanRun, WasRun}
+use Rattle.clock_tasks.proofs.Retapping.{can_with, ran_with}
+use Rattle.clock_windows.specs.Alone.{all_alone, alone, no_taps}
+use Rattle.clock_windows.specs.Ends.{AllClosed}
+use Rattle.clock_windows.specs.Records.{AllEndedTasks}
+use Rattle.clock_windows.specs.Runs.{IsReady, IsToldByLowest, end_by}
+use Rattle.clock_windows.proofs.Closing.{same_tasks_refl}
+use Rattle.clock_windows.proofs.Ended.{ended_all, ended_none}
+use Rattle.clock_windows.proofs.Ending.{Loop, loop_more, with_one}
+use Rattle.clock_windows.proofs.Goings.{TapsStand, TapsBuffers, SameTaps}
+
+out_of_memory : (clock : ℕ) (fault : TickFault) → end_by clock fault ≡ NoMemory → fault ≡ OutOfMemory
+out_of_memory clock (Refused sink) e = absurd cc
+out_of_memory clock OutOfMemory e = refl
+
+module _ {S : Type 0} where
+  pub alone_at : (engines : List (ClockEngine S)) (k : ℕ) (d : Task S (ThreadTaps ⊤)) → k < length engines → slice_index_or (all_alone engines) k d ≡ alone (slice_index_or engines k d.engine)
+  alone_at engines k d h = get_or-map alone engines k d.engine d h
+
+  pub alone_long : (engines : List (ClockEngine S)) → length (all_alone engines) ≡ length engines
+  alone_long engines = length-map engines alone
+
+  pub alone_runs : (engines : List (ClockEngine S)) → ((k : ℕ) (d : ClockEngine S) → k < length engines → (slice_index_or engines k d).parts.stopped ≡ None)
+      → (k : ℕ) (d : Task S (ThreadTaps ⊤)) → k < length (all_alone engines) → (slice_index_or (all_alone engines) k d).engine.parts.stopped ≡ None
+  alone_runs engines runs k d h = let low : k < length engines = (let n = alone_long engines in omega (arith, h, n)) in
+      ap (λ (x : Task S (ThreadTaps ⊤)). x.engine.parts.stopped) (alone_at engines k d low) ∙ runs k d.engine low
+
+  pub none_closed : (tasks : List (Task S (ThreadTaps ⊤))) → AllClosed [] tasks tasks [] []
+  none_closed tasks = record {
+    tasks = same_tasks_refl tasks;
+    each = λ b put take low apart ran. absurd (omega (arith, low));
+    logs_many = refl;
+    logged = λ b put take d low apart ran. absurd (omega (arith, low));
+  }
+
+  pub none_ended : (tasks : List (Task S (ThreadTaps ⊤))) → AllEndedTasks [] tasks tasks
+  none_ended tasks = ended_all [] 0 tasks tasks (omega arith) (ended_none [] tasks)
+
+  module _ (held name : S → Option (List ℕ)) (room : S → Option ℕ) (faults : S → ℕ) (W N : ℕ) where
+    pub alone_can : (count : ℕ) (now : List (ClockEngine S)) → All (CanRun room TapsBuffers count) (all_alone now) → All (CanRunAlone room count) now
+    alone_can count now can k d low =
+        can_with room count TapsBuffers no_buffers (alone (slice_index_or now k d)) tt refl
+        (subst (CanRun room TapsBuffers count) (alone_at now k (alone d) low) (can k (alone d) (let n = alone_long now in omega (arith, low, n))))
+
+    pub alone_ran : (count : ℕ) (now mid : List (ClockEngine S)) → length mid ≡ length now
+        → ((i : ℕ) (d : ClockEngine S) → i < length now → WasRunAlone held name room faults count (slice_index_or now i d) (slice_index_or mid i d))
+        → (k : ℕ) (d : Task S (ThreadTaps ⊤)) → k < length (all_alone now) → WasRun held name room faults TapsStand TapsBuffers SameTaps count (slice_index_or (all_alone now) k d) (slice_index_or (all_alone mid) k d)
+    alone_ran count now mid many ran k d h =
+        let low : k < length now = (let n = alone_long now in omega (arith, h, n)) in
+        let old = slice_index_or now k d.engine in let new = slice_index_or mid k d.engine in
+        subst (λ (z : Task S (ThreadTaps ⊤) × Task S (ThreadTaps ⊤)). WasRun held name room faults TapsStand TapsBuffers SameTaps count z.0 z.1)
+        (λ i. (sym (alone_at now k d low) i, sym (alone_at mid k d (omega (arith, low, many))) i))
+        (ran_with room count held name faults any_calls no_buffers any_taps TapsStand TapsBuffers SameTaps (with_taps tt old) (with_taps tt new) no_taps
+        (same_sides_refl [], same_sides_refl [], same_buffers_refl [])
+        (λ calls. ((λ p e within. absurd (omega (arith, within))), (λ p e within. absurd (omega (arith, within))), (λ b e within away. absurd (omega (arith, within)))))
+        (ran k d.engine low))
+
+    -- no fault was want of memory
+    pub alone_memory : (made count : ℕ) (first now mid : List (ClockEngine S)) → IsReady held name room faults [] W N (all_alone first) [] → Loop held name room faults [] W N made (all_alone first) (all_alone now) []
+        → length mid ≡ length now → ((i : ℕ) (d : ClockEngine S) → i < length now → WasRunAlone held name room faults count (slice_index_or now i d) (slice_index_or mid i d))
+        → (end : End) → IsToldByLowest (all_alone mid) end → end ≡ NoMemory → ⊥
+    alone_memory made count first now mid ready loop many ran end told e = with_one (all_alone mid) (let w = told.within in omega (arith, w)) (λ d.
+        let k = told.place in let within = told.within in
+        let in_now : k < length (all_alone now) = (let n = alone_long now in let m = alone_long mid in omega (arith, within, n, m, many)) in
+        let in_first : k < length (all_alone first) = (let n = loop.many in omega (arith, in_now, n)) in
+        let refused : told.fault ≡ OutOfMemory = out_of_memory (slice_index_or (all_alone mid) k d).engine.parts.clock told.fault (sym (told.end_is d) ∙ e) in
+        let some = (alone_ran count now mid many ran k d in_now).memory (told.stopped d ∙ ap Some refused) in
+        let same = ap (λ (set : Setting). length set.plan.buffers) ((loop.at d).going.clocks k in_first).same.setting in
+        let none = ready.buffers k d in_first in
+        omega (arith, some, same, none))

@@ -1,0 +1,56 @@
+// All windows of a run without buffers.
+ghost use Rattle.std.specs.Prelude.{◌≡◌, ◌≢◌, ◌<◌, ◌≤◌, ℕ, [], None, length, slice_index_or, IfNone, IfSome};
+ghost use Rattle.buffer_ends.specs.declared.run_end.End.TheVariants.{Done, Memory, Write};
+ghost use Rattle.clock_windows.specs.Alone.{all_alone};
+ghost use Rattle.clock_windows.specs.Runs.{IsReady, IsToldByLowest, IsWriteAt, RunDone, RunPart};
+
+use crate::runs::end_of;
+use buffer_ends::End;
+use clock_engine::ClockEngine;
+use clock_tasks::run_engines;
+use liq_base::{Gate, Sink};
+use std::alloc::Global;
+use std::thread::Threads;
+
+// How the run ends, where a clock stopped: the lowest tells.
+fn stopped_among<O>(engines: &[ClockEngine<'_, O>]) -> Option<End>
+    ensures none { IfNone result ((k : ℕ) (d : _) → k < length engines.now → (slice_index_or engines.now k d).parts.stopped ≡ None) }
+    ensures some { IfSome result (IsToldByLowest (all_alone engines.now)) }
+{
+    for k in 0..engines.len() {
+        if let Some(fault) = engines[k].stopped() {
+            return Some(end_of(engines[k].clock(), fault));
+        }
+    }
+    None
+}
+
+/// All engines make so many ticks over a plan without buffers, in windows of so many. It takes no memory.
+pub fn run_alone<O: Sink + Send, G: Gate + Sync, R: Threads + Sync>(
+    rt: &R,
+    alloc: Global,
+    engines: &mut [ClockEngine<'_, O>],
+    ticks: u64,
+    window: u64,
+    gate: &G,
+) -> End
+    requires ready { IsReady O.held O.name O.room O.faults [] window ticks (all_alone engines.old) [] }
+    requires few { ticks ≤ 1000000000 }
+    requires window { 0 < window }
+    ensures many { length engines.new ≡ length engines.old }
+    ensures done { result ≡ Done → RunDone O.held O.name O.room O.faults [] window ticks (all_alone engines.old) (all_alone engines.new) [] }
+    ensures part { RunPart O.held O.name O.faults [] window ticks (all_alone engines.old) (all_alone engines.new) }
+    ensures write { (clock sink : ℕ) → result ≡ Write clock sink → IsWriteAt O.faults clock sink (all_alone engines.old) (all_alone engines.new) }
+    ensures memory { result ≢ Memory }
+{
+    let mut made = 0;
+    while made < ticks {
+        let count = window.min(ticks - made);
+        run_engines(rt, alloc, engines, gate, count);
+        if let Some(end) = stopped_among(engines) {
+            return end;
+        }
+        made += count;
+    }
+    End::Done
+}
