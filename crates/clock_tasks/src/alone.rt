@@ -10,16 +10,19 @@ use std::alloc::Global;
 use std::thread;
 use std::thread::Threads;
 
-// Taps of no buffer.
+// Taps that refuse each call, as for want of memory. An engine without readers and feeds makes none.
 #[derive(Drop)]
-struct NoTaps;
+struct IdleTaps {
+    // How many buffers there are.
+    buffers: u32,
+}
 
-impl Taps for NoTaps {
-    ghost use Rattle.std.specs.Prelude.{◌≡◌, [], ⊤};
+impl Taps for IdleTaps {
+    ghost use Rattle.std.specs.Prelude.{⊤};
 
-    ghost stands = { λ s calls. calls ≡ [] };
+    ghost stands = { λ s calls. ⊤ };
 
-    ghost buffers = { λ s. 0 };
+    ghost buffers = { λ s. s.buffers };
 
     ghost same = { λ s t. ⊤ };
 
@@ -28,11 +31,11 @@ impl Taps for NoTaps {
     ghost same_trans = { λ s t u a b. tt };
 
     fn take(&mut self, _buffer: u32) -> Result<Option<Chunk>, Memory> {
-        unreachable!()
+        Err(Memory)
     }
 
-    fn give(&mut self, _buffer: u32, _chunk: Chunk) -> Result<Gave, (Chunk, Memory)> {
-        unreachable!()
+    fn give(&mut self, _buffer: u32, chunk: Chunk) -> Result<Gave, (Chunk, Memory)> {
+        Err((chunk, Memory))
     }
 }
 
@@ -41,7 +44,7 @@ fn run_alone<O: Sink, G: Gate>(alloc: Global, engine: &mut ClockEngine<'_, O>, g
     requires { CanRunAlone O.room count engine.old }
     ensures { WasRunAlone O.held O.name O.room O.faults count engine.old engine.new }
 {
-    run_ticks(alloc, engine, &mut NoTaps, gate, count);
+    run_ticks(alloc, engine, &mut IdleTaps { buffers: 0 }, gate, count);
 }
 
 /// Each engine makes so many ticks, over a plan without buffers, at the same time as the others.
