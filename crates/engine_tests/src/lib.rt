@@ -21,6 +21,10 @@ mod random_ops_tests;
 #[cfg(test)]
 mod seed_words_tests;
 #[cfg(test)]
+mod small_plans;
+#[cfg(test)]
+mod stopped_clock_tests;
+#[cfg(test)]
 mod ticks_tests;
 #[cfg(test)]
 mod trace_log_tests;

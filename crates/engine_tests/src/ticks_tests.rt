@@ -1,49 +1,30 @@
 //! Ticks of the engine of one clock, from the rules of `docs/streams.md`: three ticks of two samples each, and ones of eight.
 //! The file has the samples 1, 2 and 3; each is written as two bytes, the low one first.
-ghost use Rattle.std.specs.Prelude.{◌≡◌, ◌<◌, ◌≤◌, ◌∷◌, [], Some, length, slice_get, false, true, IfOk};
+ghost use Rattle.std.specs.Prelude.{◌≡◌, ◌<◌, ◌≤◌, ◌∷◌, [], Some, length, slice_get, false, IfOk};
 ghost use Rattle.plan_core.specs.Plans.{IsWellFormed};
+ghost use Rattle.plan_core.specs.declared.sink.SinkPlan.TheVariants.{Output};
 ghost use Rattle.clock_infer.specs.Answers.{IsClockMap};
+ghost use Rattle.clock_infer.specs.declared.clock_map.NodeClock.TheVariants.{Main as InMain};
 ghost use Rattle.frame_core.specs.Library.{IsLibrary};
 ghost use Rattle.clock_engine.specs.Engines.{setting_of};
 
+use crate::small_plans::{lies_in, mono, output};
 use buffer_ends::LocalTaps;
 use clock_engine::{ClockEngine, TickFault};
-use clock_infer::{ClockMap, NodeClock, assign};
+use clock_infer::{ClockMap, assign};
 use fixed_text::WeekSecond;
 use frame_core::{Library, Track};
 use liq_base::{Kind, MemSink, Memory, Text};
-use plan_core::{Items, Node, Op, Plan, SinkPlan};
+use plan_core::{Items, Op, Plan};
 use std::alloc::{AllocError, Global};
 use std::process::Abort;
 use std::test::Fail;
-
-fn mono(op: Op, children: Vec<u32>) -> Node
-    ensures op { result.op ≡ op }
-    ensures kind { result.kind ≡ Kind.Mono }
-    ensures children { result.children ≡ children.items }
-{
-    Node {
-        op,
-        kind: Kind::Mono,
-        children: Items::from_vec(children),
-    }
-}
-
-fn output(alloc: Global, node: u32) -> SinkPlan
-    ensures { result ≡ SinkPlan.Output [] node false }
-{
-    SinkPlan::Output {
-        name: Text::from_string(String::new(alloc)),
-        node,
-        fallible: false,
-    }
-}
 
 // The file alone, played again and again.
 fn looped(alloc: Global) -> Result<Plan, AllocError>
     ensures well_formed { IfOk result IsWellFormed }
     ensures size { IfOk result (λ plan. length plan.nodes ≡ 1) }
-    ensures sinks { IfOk result (λ plan. plan.sinks ≡ SinkPlan.Output [] 0 false ∷ []) }
+    ensures sinks { IfOk result (λ plan. plan.sinks ≡ Output [] 0 false ∷ []) }
 {
     let sinks = Items::from_vec(vec![in alloc; output(alloc, 0)]?);
     let file = Text::from_string(String::new(alloc));
@@ -63,7 +44,7 @@ fn once(alloc: Global, frame: u32) -> Result<Plan, AllocError>
     requires few { frame ≤ 65536 }
     ensures well_formed { IfOk result IsWellFormed }
     ensures size { IfOk result (λ plan. length plan.nodes ≡ 3) }
-    ensures sinks { IfOk result (λ plan. plan.sinks ≡ SinkPlan.Output [] 2 false ∷ []) }
+    ensures sinks { IfOk result (λ plan. plan.sinks ≡ Output [] 2 false ∷ []) }
 {
     let sinks = Items::from_vec(vec![in alloc; output(alloc, 2)]?);
     let both = vec![in alloc; 0, 1]?;
@@ -85,7 +66,7 @@ fn turns(alloc: Global, seed: u64, node: u32) -> Result<Plan, AllocError>
     requires { node < 4 }
     ensures well_formed { IfOk result IsWellFormed }
     ensures size { IfOk result (λ plan. length plan.nodes ≡ 4) }
-    ensures sinks { IfOk result (λ plan. plan.sinks ≡ SinkPlan.Output [] node false ∷ []) }
+    ensures sinks { IfOk result (λ plan. plan.sinks ≡ Output [] node false ∷ []) }
 {
     let sinks = Items::from_vec(vec![in alloc; output(alloc, node)]?);
     let both = vec![in alloc; 0, 1]?;
@@ -136,26 +117,6 @@ fn one_of_four(alloc: Global) -> Result<Library, AllocError>
     Ok(Library::new(Vec::from_array(alloc, [file])?, leaves))
 }
 
-// Whether this is the main clock 0.
-fn is_first(clock: NodeClock) -> bool
-    ensures { result ≡ true → clock ≡ NodeClock.Main 0 }
-{
-    match clock {
-        NodeClock::Main(number) => number == 0,
-        NodeClock::Sub(_) => false,
-    }
-}
-
-// Whether a node lies in the main clock 0.
-fn lies_in_first(clocks: &ClockMap, node: u32) -> bool
-    ensures { result ≡ true → slice_get clocks.now.of node ≡ Some (NodeClock.Main 0) }
-{
-    match clocks.of.as_slice().get(node as usize) {
-        Some(clock) => is_first(*clock),
-        None => false,
-    }
-}
-
 // A sink with ample room that fails so.
 fn one_sink(alloc: Global, fails: Vec<(u64, u64)>) -> Result<Vec<MemSink>, Fail>
     ensures { IfOk result (λ outs. length outs.items ≡ 1) }
@@ -179,8 +140,8 @@ fn begun<'a>(
     requires clocks { IsClockMap plan.now clocks.now }
     requires library { IsLibrary library.now }
     requires leaves { length library.now.leaves ≡ length plan.now.nodes }
-    requires sinks { plan.now.sinks ≡ SinkPlan.Output [] node false ∷ [] }
-    requires clock { slice_get clocks.now.of node ≡ Some (NodeClock.Main 0) }
+    requires sinks { plan.now.sinks ≡ Output [] node false ∷ [] }
+    requires clock { slice_get clocks.now.of node ≡ Some (InMain 0) }
     requires one { length outs.items ≡ 1 }
     ensures setting { IfOk result (λ engine. (setting_of engine.parts).plan ≡ plan.now) }
 {
@@ -247,8 +208,8 @@ fn check_clock(
     requires clocks { IsClockMap plan.now clocks.now }
     requires library { IsLibrary library.now }
     requires leaves { length library.now.leaves ≡ length plan.now.nodes }
-    requires sinks { plan.now.sinks ≡ SinkPlan.Output [] node false ∷ [] }
-    requires clock { slice_get clocks.now.of node ≡ Some (NodeClock.Main 0) }
+    requires sinks { plan.now.sinks ≡ Output [] node false ∷ [] }
+    requires clock { slice_get clocks.now.of node ≡ Some (InMain 0) }
     requires buffers { length taps.old ≡ length plan.now.buffers }
 {
     let outs = one_sink(alloc, fails)?;
@@ -277,10 +238,10 @@ fn check(
     requires plan { IsWellFormed plan.now }
     requires library { IsLibrary library.now }
     requires leaves { length library.now.leaves ≡ length plan.now.nodes }
-    requires sinks { plan.now.sinks ≡ SinkPlan.Output [] node false ∷ [] }
+    requires sinks { plan.now.sinks ≡ Output [] node false ∷ [] }
 {
     let clocks = assign(alloc, plan)?;
-    assert!(rt; lies_in_first(&clocks, node));
+    assert!(rt; lies_in(&clocks, node, 0));
     let mut taps = LocalTaps::new(alloc, plan)?;
     check_clock(
         rt, alloc, plan, &clocks, node, library, &mut taps, fails, ending, held,
@@ -298,7 +259,7 @@ fn check_looped(
 ) -> Result<(), Fail>
     requires plan { IsWellFormed plan.now }
     requires size { length plan.now.nodes ≡ 1 }
-    requires sinks { plan.now.sinks ≡ SinkPlan.Output [] 0 false ∷ [] }
+    requires sinks { plan.now.sinks ≡ Output [] 0 false ∷ [] }
 {
     let library = one_file(alloc)?;
     check(rt, alloc, plan, 0, &library, fails, ending, held)
@@ -320,8 +281,8 @@ fn check_segments(
     requires clocks { IsClockMap plan.now clocks.now }
     requires library { IsLibrary library.now }
     requires leaves { length library.now.leaves ≡ length plan.now.nodes }
-    requires sinks { plan.now.sinks ≡ SinkPlan.Output [] node false ∷ [] }
-    requires clock { slice_get clocks.now.of node ≡ Some (NodeClock.Main 0) }
+    requires sinks { plan.now.sinks ≡ Output [] node false ∷ [] }
+    requires clock { slice_get clocks.now.of node ≡ Some (InMain 0) }
     requires buffers { length taps.old ≡ length plan.now.buffers }
 {
     let outs = one_sink(alloc, Vec::new(alloc))?;
@@ -350,10 +311,10 @@ fn check_tick(
     requires plan { IsWellFormed plan.now }
     requires library { IsLibrary library.now }
     requires leaves { length library.now.leaves ≡ length plan.now.nodes }
-    requires sinks { plan.now.sinks ≡ SinkPlan.Output [] node false ∷ [] }
+    requires sinks { plan.now.sinks ≡ Output [] node false ∷ [] }
 {
     let clocks = assign(alloc, plan)?;
-    assert!(rt; lies_in_first(&clocks, node));
+    assert!(rt; lies_in(&clocks, node, 0));
     let mut taps = LocalTaps::new(alloc, plan)?;
     check_segments(
         rt, alloc, plan, &clocks, node, library, &mut taps, segments, held,
