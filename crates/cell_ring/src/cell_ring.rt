@@ -1,6 +1,6 @@
 // A ring of cells.
 ghost use Rattle.std.specs.Prelude.{◌≡◌, ◌+◌, ◌<◌, ◌≤◌, ◌^◌, [], ◌∷◌, ◌++◌, ℕ, true, false, length, map, take, drop, slice_get, IfOk};
-ghost use Rattle.cell_ring.specs.Rings.{Ring, inner_cells, is_inner};
+ghost use Rattle.cell_ring.specs.Rings.{Ring, goes_on, has_title, inner_cells};
 
 use circular_buffer::HeapCircularBuffer;
 use frame_core::Cell;
@@ -49,16 +49,31 @@ impl CellRing {
         self.cells.front().copied()
     }
 
-    /// How many cells, from this one on and at most so many, begin no track. The front cell is number 0.
-    pub fn inner(&self, from: u32, most: u32) -> u32
-        ensures inner { (j : ℕ) → j < result → is_inner (slice_get self.now.cells (from + j)) ≡ true }
-        ensures ends { result < most → is_inner (slice_get self.now.cells (from + result)) ≡ false }
+    /// How many cells, from this one on and at most so many, have this title and begin no track. The front cell is number 0.
+    pub fn inner(&self, title: u32, from: u32, most: u32) -> u32
+        ensures inner { (j : ℕ) → j < result → goes_on title (slice_get self.now.cells (from + j)) ≡ true }
+        ensures ends { result < most → goes_on title (slice_get self.now.cells (from + result)) ≡ false }
         ensures within { result ≤ most }
     {
         let from = from as usize;
         let most = most as usize;
         let mut count = 0;
-        while count < most && is_inner(self.cells.get(from + count).copied()) {
+        while count < most && goes_on(title, self.cells.get(from + count).copied()) {
+            count += 1;
+        }
+        count as u32
+    }
+
+    /// How many cells, from this one on and at most so many, have this title. The front cell is number 0.
+    pub fn titled(&self, title: u32, from: u32, most: u32) -> u32
+        ensures titled { (j : ℕ) → j < result → has_title title (slice_get self.now.cells (from + j)) ≡ true }
+        ensures ends { result < most → has_title title (slice_get self.now.cells (from + result)) ≡ false }
+        ensures within { result ≤ most }
+    {
+        let from = from as usize;
+        let most = most as usize;
+        let mut count = 0;
+        while count < most && has_title(title, self.cells.get(from + count).copied()) {
             count += 1;
         }
         count as u32
@@ -72,17 +87,18 @@ impl CellRing {
         self.cells.push_back(cell);
     }
 
-    /// Appends cells with these samples, none of which begins a track.
-    pub fn push_run(&mut self, left: &[i16], right: &[i16])
+    /// Appends cells with this title and these samples, none of which begins a track.
+    pub fn push_run(&mut self, title: u32, left: &[i16], right: &[i16])
         requires same { length right.now ≡ length left.now }
         requires there { length self.old.cells + length left.now ≤ self.old.room }
-        ensures { self.new ≡ record { cells = self.old.cells ++ inner_cells left.now right.now; room = self.old.room } }
+        ensures { self.new ≡ record { cells = self.old.cells ++ inner_cells title left.now right.now; room = self.old.room } }
     {
         for at in 0..left.len() {
             self.push(Cell {
                 left: left[at],
                 right: right[at],
                 first: false,
+                title,
             });
         }
     }
@@ -125,12 +141,22 @@ fn lay(cells: &[Cell], left: &mut [i16], right: &mut [i16])
     }
 }
 
-// A cell that begins no track.
-fn is_inner(slot: Option<Cell>) -> bool
-    ensures { result ≡ is_inner slot }
+// A cell of this title that begins no track.
+fn goes_on(title: u32, slot: Option<Cell>) -> bool
+    ensures { result ≡ goes_on title slot }
 {
     match slot {
-        Some(cell) => !cell.first,
+        Some(cell) => !cell.first && cell.title == title,
+        None => false,
+    }
+}
+
+// A cell of this title.
+fn has_title(title: u32, slot: Option<Cell>) -> bool
+    ensures { result ≡ has_title title slot }
+{
+    match slot {
+        Some(cell) => cell.title == title,
         None => false,
     }
 }

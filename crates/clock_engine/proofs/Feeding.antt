@@ -1,5 +1,5 @@
 -- The feeds of a clock, among the sinks of its plan.
-use Rattle.std.proofs.Common.{◌≡◌, ◌<◌, ◌∙◌, ℕ, zero, suc, Bool, true, false, Some, List, [], ◌∷◌, All, length, get_or, map, slice_get, cond, arith, refl, ap, sym, subst, inr}
+use Rattle.std.proofs.Common.{◌≡◌, ◌<◌, ◌∙◌, ℕ, zero, suc, Bool, true, false, Some, List, [], ◌∷◌, All, length, get_or, map, slice_get, cond, arith, refl, ap, sym, subst, inl, inr, ◌⊎◌}
 use Rattle.std.specs.Prelude.{IfErr, Result, Ok, Err}
 use Rattle.std.proofs.lemmas.List.{length-map}
 use Rattle.clock_engine.specs.declared.engine.EngineParts.{EngineParts}
@@ -13,7 +13,7 @@ use Rattle.stream_meaning.specs.Instants.{Setting, clock_of, lies_in}
 use Rattle.stream_meaning.proofs.Existence.{same_clock-true}
 use Rattle.clock_outputs.specs.declared.feed.FeedPort.{FeedPort}
 use Rattle.clock_outputs.specs.Feeds.{HaveOwnBuffers}
-use Rattle.engine_instants.specs.Takes.{HasOwnReaders}
+use Rattle.engine_instants.specs.Takes.{HasOwnReaders, HasReader}
 use Rattle.engine_instants.proofs.Reading.{op_of_reads}
 use Rattle.clock_engine.specs.Engines.{feed_of, feeds_from, feeds_of, setting_of}
 use Rattle.clock_engine.proofs.Numbered.{got_mapped, no_item}
@@ -116,4 +116,9 @@ pub feeds_some : (parts other : EngineParts) → map feed_of other.feeds.items �
 feeds_some parts other feeds some =
     let long = length-map other.feeds.items feed_of in
     let same = ap length feeds in
-    inr (omega (arith, long, same, some))
+    inr (inl (omega (arith, long, same, some)))
+
+-- an engine with a reader, or that keeps marks
+pub needs_ends : (parts : EngineParts) → HasReader parts.shape.plan.now parts.shape.clocks.now (Main parts.clock) ⊎ (parts.cues.keeping ≡ true) → HasEnds parts
+needs_ends parts (inl reads) = inl reads
+needs_ends parts (inr keeping) = inr (inr keeping)

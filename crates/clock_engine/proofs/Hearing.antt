@@ -1,6 +1,8 @@
 -- What the outputs and feeds of a clock hear, one segment at a time.
-use Rattle.std.proofs.Common.{◌≡◌, ◌<◌, ◌≤◌, ◌+◌, ◌*◌, ◌∙◌, ◌++◌, ℕ, zero, suc, All, drop, Some, None, Bool, List, [], ◌∷◌, length, get_or, map, take, append_assoc, append-nil, arith, refl, ap, sym, subst}
+use Rattle.std.proofs.Common.{◌≡◌, ◌<◌, ◌≤◌, ◌+◌, ◌*◌, ◌∙◌, ◌++◌, ℕ, zero, suc, All, drop, Some, None, Bool, List, [], ◌∷◌, length, get_or, map, slice_get, take, append_assoc, append-nil, arith, refl, ap, sym, subst, inl, inr}
 use Rattle.std.specs.List.{range_with_len}
+use Rattle.std.proofs.lemmas.Bool.{cases_lt}
+use Rattle.std.proofs.lemmas.Option.{slice_get_within, slice_get-get_or}
 use Rattle.std.specs.Simd.Lanes.{put_chunk}
 use Rattle.std.proofs.lemmas.List.{get_or-map, length-append, length-map}
 use Rattle.std.proofs.lemmas.Simd.{length-put_chunk}
@@ -14,9 +16,9 @@ use Rattle.frame_core.specs.Slots.{Slot}
 use Rattle.frame_core.specs.Library.{Sounds}
 use Rattle.frame_core.specs.Calls.{Call}
 use Rattle.op_leaf.specs.Readers.{Answer}
-use Rattle.stream_meaning.specs.Instants.{history}
-use Rattle.stream_meaning.specs.Calls.{IsBegin, after_calls, calls_of, joined_upto}
-use Rattle.stream_meaning.proofs.Answering.{after_calls-none, after_calls-then, answers_first, answers_then, begin_joined, joined_same}
+use Rattle.stream_meaning.specs.Instants.{Setting, history, part_at}
+use Rattle.stream_meaning.specs.Calls.{HasAnswers, IsBegin, after_calls, calls_of, joined_upto}
+use Rattle.stream_meaning.proofs.Answering.{after_calls-none, after_calls-then, answers_first, answers_then, begin_all, begin_joined, begin_none, joined_same}
 use Rattle.stream_meaning.specs.Sinks.{slot_block}
 use Rattle.clock_outputs.specs.declared.port.Port.{Port}
 use Rattle.clock_outputs.specs.declared.feed.FeedPort.{FeedPort}
@@ -27,7 +29,12 @@ use Rattle.engine_instants.specs.States.{over}
 use Rattle.sub_clocks.specs.declared.lanes.ClockLanes.{ClockLanes}
 use Rattle.clock_engine.specs.declared.clock_state.ClockState.{ClockState}
 use Rattle.clock_engine.specs.ClockStates.{ClockStateStands}
-use Rattle.clock_engine.specs.Runs.{Heard, HeardSome, Scene, SegmentBroken, SegmentRun, calls_from, feed_key, segment_of, slot_in, with_slots}
+use Rattle.clock_engine.specs.declared.cues.CueList.{CueList}
+use Rattle.clock_engine.specs.declared.cues.Cues.{Cues}
+use Rattle.clock_engine.specs.Cues.{HasGrown, HasKept, HasMarked, marks_if}
+use Rattle.clock_engine.proofs.Cueing.{marked_more, marked_some, marks_more, marks_none}
+use Rattle.clock_engine.proofs.Numbered.{got_mapped}
+use Rattle.clock_engine.specs.Runs.{HasRunInstants, Heard, HeardSome, IsMeant, Scene, SegmentBroken, SegmentRun, calls_from, feed_key, segment_of, slot_in, with_slots}
 
 pub after_slots-append : (port : Port) (slots more : List Slot) → after_slots port (slots ++ more) ≡ after_slots (after_slots port slots) more
 after_slots-append port [] more = refl
@@ -188,14 +195,27 @@ joined_more calls n (suc m) =
     ∙ ap (λ (cs : List Call). cs ++ calls (n + m)) (joined_more calls n m)
     ∙ ap (joined_upto calls) (sym same)
 
+-- the calls of some first ones
+begin_upto : (calls : ℕ → List Call) (i n : ℕ) → i ≤ n → IsBegin (joined_upto calls i) (joined_upto calls n)
+begin_upto calls i n low = elim (cases_lt i n) [
+  | inl less ↦ subst (λ cs. IsBegin cs (joined_upto calls n)) (append-nil (joined_upto calls i)) (begin_joined calls i n [] less (begin_none (calls i)))
+  | inr high ↦ (let same : i ≡ n = omega (arith, low, high) in subst (λ m. IsBegin (joined_upto calls i) (joined_upto calls m)) same (begin_all (joined_upto calls i)))
+]
+
 module _ {T : Type 0} (stands : T → List Call → Type 0) (plan : Plan) (library : Sounds) (clocks : List NodeClock) (clock : NodeClock) (own : List Bool) where
-  pub heard_none : (lanes : ClockState) (first now : List Port) (feeds : List FeedPort) (a : T) → now ≡ map emptied first
-      → Heard stands plan library clocks clock own 0 (record { lanes = lanes; ports = first; feeds = feeds; taps = a }) (record { lanes = lanes; ports = now; feeds = feeds; taps = a })
-  heard_none lanes first now feeds a is = record {
+  pub heard_none : (lanes : ClockState) (first now : List Port) (feeds : List FeedPort) (cues begun : Cues) (start : ℕ) (a : T) → now ≡ map emptied first
+      → begun.keeping ≡ cues.keeping → length begun.lists.items ≡ length cues.lists.items
+      → ((k : ℕ) (old new : CueList) → slice_get cues.lists.items k ≡ Some old → slice_get begun.lists.items k ≡ Some new → HasMarked [] old new)
+      → Heard stands plan library clocks clock own 0 (record { lanes = lanes; ports = first; feeds = feeds; cues = cues; start = start; taps = a })
+      (record { lanes = lanes; ports = now; feeds = feeds; cues = begun; start = start; taps = a })
+  heard_none lanes first now feeds cues begun start a is keeping lists marked = record {
     slots = λ i. [];
     long = λ i. refl;
     ports_are = is;
     feeds_are = none_filled feeds;
+    keeping = keeping;
+    lists = lists;
+    cues_are = λ k port old new at_port at_old at_new. subst (λ marks. HasMarked marks old new) (sym (marks_none cues.keeping start)) (marked k old new at_old at_new);
     more = [];
     taps = adds_nothing stands a;
     run = λ other sub n front meant has stand. record {
@@ -206,21 +226,17 @@ module _ {T : Type 0} (stands : T → List Call → Type 0) (plan : Plan) (libra
     };
   }
 
-  pub heard_more : (count many upto : ℕ) (before mid after : Scene T) → upto ≡ count + suc many → SegmentRun stands plan library clocks clock own many mid.lanes after.lanes mid.taps after.taps
-      → after.ports ≡ map (λ port. after_slots port (segment_of after.lanes.clocks many port.node)) mid.ports
-      → after.feeds ≡ map (λ feed. with_slots_from count (segment_of after.lanes.clocks many feed.node) feed) mid.feeds
-      → ((i : ℕ) → length (segment_of after.lanes.clocks many i) ≡ suc many)
-      → All (λ feed. count + suc many ≤ length feed.frame) before.feeds
-      → Heard stands plan library clocks clock own count before mid → Heard stands plan library clocks clock own upto before after
-  heard_more count many upto before mid after sum one is filled size low heard = record {
-    slots = more_slots heard.slots after.lanes.clocks many;
-    long = λ i. (let both = length-append (heard.slots i) (segment_of after.lanes.clocks many i) in let first = heard.long i in let last = size i in omega (arith, both, first, last, sum));
-    ports_are = is ∙ ap (map (λ port. after_slots port (segment_of after.lanes.clocks many port.node))) heard.ports_are ∙ heard_all heard.slots after.lanes.clocks many before.ports;
-    feeds_are = filled ∙ ap (map (λ feed. with_slots_from count (segment_of after.lanes.clocks many feed.node) feed)) heard.feeds_are
-        ∙ fed_all heard.slots after.lanes.clocks many count before.feeds heard.long size low;
-    more = heard.more ++ one.more;
-    taps = adds_more stands before.taps mid.taps after.taps heard.more one.more heard.taps one.taps;
-    run = λ other sub n front meant has stand.
+  -- a segment more
+  module _ (count many upto : ℕ) (before mid after : Scene T) (sum : upto ≡ count + suc many) (one : SegmentRun stands plan library clocks clock own many mid.lanes after.lanes mid.taps after.taps)
+      (is : after.ports ≡ map (λ port. after_slots port (segment_of after.lanes.clocks many port.node)) mid.ports)
+      (heard : Heard stands plan library clocks clock own count before mid) where
+    ports_now : after.ports ≡ map (λ port. after_slots (emptied port) (more_slots heard.slots after.lanes.clocks many port.node)) before.ports
+    ports_now = is ∙ ap (map (λ port. after_slots port (segment_of after.lanes.clocks many port.node))) heard.ports_are ∙ heard_all heard.slots after.lanes.clocks many before.ports
+
+    run_now : (other : Setting) (sub : ℕ → ℕ → List Slot) (n : ℕ) (front : ℕ → List Answer) → IsMeant (over plan library clocks other) sub own
+        → HasAnswers (over plan library clocks other) (after_calls front (heard.more ++ one.more)) → ClockStateStands (over plan library clocks other) sub clock n front before.lanes
+        → HasRunInstants (over plan library clocks other) sub own clock n upto (more_slots heard.slots after.lanes.clocks many) front (heard.more ++ one.more) after.lanes
+    run_now other sub n front meant has stand =
         let S = over plan library clocks other in
         let ran = heard.run other sub n front meant (answers_first S front heard.more one.more has) stand in
         let done = one.run other sub (n + count) (after_calls front heard.more) meant (answers_then S front heard.more one.more has) ran.lanes_stand in
@@ -237,14 +253,81 @@ module _ {T : Type 0} (stands : T → List Call → Type 0) (plan : Plan) (libra
               (λ j below. let together : n + count + j ≡ n + (count + j) = omega arith in ap (λ m. calls_of S sub clock (history S sub clock m)) together))
               ∙ joined_more (λ j. calls_of S sub clock (history S sub clock (n + j))) count (suc many)
               ∙ ap (calls_from S sub clock n) (sym sum);
-        };
-  }
+        }
+
+    -- the list of an output before the segment
+    list_before : length mid.cues.lists.items ≡ length before.cues.lists.items → (k : ℕ) (old : CueList) → slice_get before.cues.lists.items k ≡ Some old
+        → (list : CueList) × (slice_get mid.cues.lists.items k ≡ Some list)
+    list_before lists k old at =
+        let within = slice_get_within before.cues.lists.items k old at in
+        (get_or mid.cues.lists.items k old, slice_get-get_or mid.cues.lists.items k old (omega (arith, within, lists)))
+
+    pub heard_more : after.feeds ≡ map (λ feed. with_slots_from count (segment_of after.lanes.clocks many feed.node) feed) mid.feeds
+        → ((i : ℕ) → length (segment_of after.lanes.clocks many i) ≡ suc many)
+        → All (λ feed. count + suc many ≤ length feed.frame) before.feeds
+        → after.cues.keeping ≡ mid.cues.keeping → length after.cues.lists.items ≡ length mid.cues.lists.items
+        → ((k : ℕ) (port : Port) (old new : CueList) → slice_get after.ports k ≡ Some port → slice_get mid.cues.lists.items k ≡ Some old → slice_get after.cues.lists.items k ≡ Some new
+        → HasKept (marks_if mid.cues.keeping (before.start + count) ((part_at after.lanes.clocks.latest.parts.items port.node).slot ∷ [])) old new)
+        → Heard stands plan library clocks clock own upto before after
+    heard_more filled size low keeping lists kept = record {
+      slots = more_slots heard.slots after.lanes.clocks many;
+      long = λ i. (let both = length-append (heard.slots i) (segment_of after.lanes.clocks many i) in let first = heard.long i in let last = size i in omega (arith, both, first, last, sum));
+      ports_are = ports_now;
+      feeds_are = filled ∙ ap (map (λ feed. with_slots_from count (segment_of after.lanes.clocks many feed.node) feed)) heard.feeds_are
+          ∙ fed_all heard.slots after.lanes.clocks many count before.feeds heard.long size low;
+      keeping = keeping ∙ heard.keeping;
+      lists = lists ∙ heard.lists;
+      cues_are = λ k port old new at_port at_old at_new.
+          let was = list_before heard.lists k old at_old in
+          let hear : Port → Port = λ p. after_slots (emptied p) (more_slots heard.slots after.lanes.clocks many p.node) in
+          let there : slice_get after.ports k ≡ Some (hear port) = ap (λ ps. slice_get ps k) ports_now ∙ got_mapped hear before.ports k port at_port in
+          let node : (hear port).node ≡ port.node = after_slots-node (emptied port) (more_slots heard.slots after.lanes.clocks many port.node) in
+          let slot = (part_at after.lanes.clocks.latest.parts.items port.node).slot in
+          marked_more (marks_if before.cues.keeping before.start (heard.slots port.node)) (marks_if before.cues.keeping (before.start + count) (slot ∷ [])) _ old was.0 new
+          (marks_more before.cues.keeping before.start count (before.start + count) (heard.slots port.node) slot many _ _ (heard.long port.node) refl)
+          (heard.cues_are k port old was.0 at_port at_old was.1)
+          (subst (λ (b : Bool). HasKept (marks_if b (before.start + count) (slot ∷ [])) was.0 new) heard.keeping
+          (subst (λ i. HasKept (marks_if mid.cues.keeping (before.start + count) ((part_at after.lanes.clocks.latest.parts.items i).slot ∷ [])) was.0 new) node
+          (kept k (hear port) was.0 new there was.1 at_new)));
+      more = heard.more ++ one.more;
+      taps = adds_more stands before.taps mid.taps after.taps heard.more one.more heard.taps one.taps;
+      run = run_now;
+    }
+
+    -- some of the marks of the segment were refused
+    pub heard_part : (total : ℕ) → upto ≤ total → after.cues.keeping ≡ mid.cues.keeping → length after.cues.lists.items ≡ length mid.cues.lists.items
+        → ((k : ℕ) (old new : CueList) → slice_get mid.cues.lists.items k ≡ Some old → slice_get after.cues.lists.items k ≡ Some new → HasGrown old new)
+        → (ports : (k : ℕ) (old : CueList) → slice_get before.cues.lists.items k ≡ Some old → (port : Port) × (slice_get before.ports k ≡ Some port))
+        → HeardSome stands plan library clocks clock own total before after
+    heard_part total low keeping lists grown ports = record {
+      slots = more_slots heard.slots after.lanes.clocks many;
+      ports_are = ports_now;
+      keeping = keeping ∙ heard.keeping;
+      lists = lists ∙ heard.lists;
+      cues_are = λ k old new at_old at_new.
+          let was = list_before heard.lists k old at_old in
+          let port = ports k old at_old in
+          marked_some _ old was.0 new (heard.cues_are k port.0 old was.0 port.1 at_old was.1) (grown k was.0 new was.1 at_new);
+      made = heard.more ++ one.more;
+      taps = adds_more stands before.taps mid.taps after.taps heard.more one.more heard.taps one.taps;
+      begins = λ other sub n front meant has stand.
+          let S = over plan library clocks other in
+          subst (λ (cs : List Call). IsBegin cs (calls_from S sub clock n total)) (sym (run_now other sub n front meant has stand).calls)
+          (begin_upto (λ j. calls_of S sub clock (history S sub clock (n + j))) upto total low);
+    }
 
   pub heard_broken : (count total : ℕ) (before mid after : Scene T) → count < total → SegmentBroken stands plan library clocks clock own mid.lanes mid.taps after.taps → after.ports ≡ mid.ports
+      → after.cues ≡ mid.cues
+      → ((k : ℕ) (old : CueList) → slice_get before.cues.lists.items k ≡ Some old → (port : Port) × (slice_get before.ports k ≡ Some port))
       → Heard stands plan library clocks clock own count before mid → HeardSome stands plan library clocks clock own total before after
-  heard_broken count total before mid after low one same heard = record {
+  heard_broken count total before mid after low one same same_cues ports heard = record {
     slots = heard.slots;
     ports_are = same ∙ heard.ports_are;
+    keeping = ap (λ (cues : Cues). cues.keeping) same_cues ∙ heard.keeping;
+    lists = ap (λ (cues : Cues). length cues.lists.items) same_cues ∙ heard.lists;
+    cues_are = λ k old new at_old at_new.
+        let port = ports k old at_old in
+        record { more = _; marked = heard.cues_are k port.0 old new port.1 at_old (sym (ap (λ (cues : Cues). slice_get cues.lists.items k) same_cues) ∙ at_new) };
     made = heard.more ++ one.made;
     taps = adds_more stands before.taps mid.taps after.taps heard.more one.made heard.taps one.taps;
     begins = λ other sub n front meant has stand.

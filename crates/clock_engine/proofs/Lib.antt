@@ -5,6 +5,9 @@ pub mod Holding
 pub mod Ticking
 pub mod Feeding
 pub mod Rooted
+pub mod Marking
+mod Keeping
+pub mod Cueing
 pub mod Made
 pub mod Beginning
 pub mod Driving

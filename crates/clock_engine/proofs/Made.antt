@@ -2,7 +2,8 @@
 use Rattle.std.proofs.Common.{◌≡◌, ◌++◌, drop, append_assoc, Bool, ◌<◌, ◌≤◌, ◌+◌, ◌*◌, ◌∙◌, ℕ, suc, Some, Option, List, [], ◌∷◌, flat_map, All, length, get_or, map, slice_get, true, false, arith, refl, ap, sym, subst, ◌-◌, None, add-one}
 use mathlib.Core.Path.{fun_ext}
 use Rattle.std.proofs.Math.Nat.{suc-mul}
-use Rattle.std.proofs.lemmas.List.{append-nil, get_or_default, get_or-map, length-map}
+use Rattle.std.proofs.lemmas.Bool.{true≢false}
+use Rattle.std.proofs.lemmas.List.{append-nil, get_or_default, get_or-map, length-map, map-append}
 use Rattle.std.proofs.lemmas.Option.{none-some, slice_get_read, slice_get_within}
 use Rattle.liq_base.specs.Kinds.{channels_of}
 use Rattle.liq_base.specs.Pieces.{HasRoom, IsPrefix, grown, narrowed}
@@ -12,7 +13,7 @@ use Rattle.frame_core.specs.Slots.{Slot}
 use Rattle.frame_core.specs.Calls.{Call}
 use Rattle.stream_meaning.specs.Arithmetic.{cells_of}
 use Rattle.stream_meaning.specs.Instants.{Setting, clock_of, sub_of}
-use Rattle.stream_meaning.specs.Sinks.{feed_cells, gaps, kind_of, tick_bytes, tick_slots}
+use Rattle.stream_meaning.specs.Sinks.{cues, feed_cells, gaps, kind_of, tick_bytes, tick_cues, tick_slots}
 use Rattle.stream_meaning.specs.Calls.{HasAnswers, IsBegin, IsUnread, after_calls, answers_in, calls_of_tick, give_by, joined_upto, takes_of_tick}
 use Rattle.stream_meaning.proofs.Answering.{answers_first, answers_in-append, begin_all, begin_behind, begin_more}
 use Rattle.stream_meaning.proofs.Unread.{no_given, no_tick_takes, none_in_joined}
@@ -24,6 +25,9 @@ use Rattle.clock_outputs.specs.Ports.{after_slots, emptied}
 use Rattle.clock_outputs.specs.Appends.{HaveRoom, TookAll, TookParts}
 use Rattle.clock_engine.specs.ClockStates.{IsClockState, ClockStateStands}
 use Rattle.clock_engine.specs.Runs.{HasRunInstants, Heard, HeardSome, IsMeant, with_slots}
+use Rattle.clock_engine.specs.declared.cues.CueList.{CueList}
+use Rattle.clock_engine.specs.Cues.{mark_of, marks_if, marks_of}
+use Rattle.clock_engine.proofs.Cueing.{AreHeld, its_port, taken_before, there_is}
 use Rattle.clock_engine.specs.declared.engine.EngineParts.{EngineParts}
 use Rattle.clock_engine.specs.declared.fault.TickFault.{TickFault}
 use Rattle.clock_engine.specs.Engines.{AreParts, EngineStands, EngineStopped, after_tick, feed_of, feeds_of, held_in, output_of, outputs_of, scene_of, setting_of}
@@ -55,6 +59,27 @@ heard_outputs slots (port ∷ ports) =
     ∙ ap (λ n. (port.sink, n) ∷ map output_of (map (λ port. after_slots (emptied port) (slots port.node)) ports)) (after_slots-node (emptied port) (slots port.node))
     ∙ ap (λ os. output_of port ∷ os) (heard_outputs slots ports)
 
+not_false : (b : Bool) → (b ≡ false → ⊥) → b ≡ true
+not_false true none = refl
+not_false false none = absurd (none refl)
+
+-- what is left of the marks
+pub held_of_heard : {T : Type 0} (stands_for : T → List Call → Type 0) (parts other : EngineParts) (a b : T) → AreParts parts
+    → Heard stands_for parts.shape.plan.now parts.shape.library.now parts.shape.clocks.now (Main parts.clock) parts.own.items parts.shape.plan.now.frame (scene_of parts a) (scene_of other b)
+    → AreHeld parts.cues other.cues
+held_of_heard stands_for parts other a b fit heard = record {
+  keeping = heard.keeping;
+  lists = heard.lists;
+  some = λ k old new at_old at_new.
+      let port = its_port parts.cues.lists.items parts.ports.items fit.lists k old at_old in
+      record { more = _; marked = heard.cues_are k port.0 old new port.1 at_old at_new };
+}
+
+pub held_of_some : {T : Type 0} (stands_for : T → List Call → Type 0) (parts other : EngineParts) (a b : T)
+    → HeardSome stands_for parts.shape.plan.now parts.shape.library.now parts.shape.clocks.now (Main parts.clock) parts.own.items parts.shape.plan.now.frame (scene_of parts a) (scene_of other b)
+    → AreHeld parts.cues other.cues
+held_of_some stands_for parts other a b heard = record { keeping = heard.keeping; lists = heard.lists; some = heard.cues_are }
+
 -- an engine whose outputs heard some slots of their nodes
 module _ (parts other : EngineParts) (fit : AreParts parts)
     (are_lanes : IsClockState parts.shape.plan.now parts.shape.library.now parts.shape.clocks.now other.state)
@@ -73,8 +98,9 @@ module _ (parts other : EngineParts) (fit : AreParts parts)
       within k h = let same = ap length ports_are ∙ length-map parts.ports.items hear in omega (arith, same, h)
 
   pub parts_after : (ticks : ℕ) (stopped : Option TickFault) → map feed_of other.feeds.items ≡ map feed_of parts.feeds.items
-      → All (λ feed. length feed.frame ≡ parts.shape.plan.now.frame) other.feeds.items → AreParts (after_tick parts other ticks stopped)
-  parts_after ticks stopped same_feeds frames = record {
+      → All (λ feed. length feed.frame ≡ parts.shape.plan.now.frame) other.feeds.items → length other.cues.lists.items ≡ length parts.cues.lists.items
+      → AreParts (after_tick parts other ticks stopped)
+  parts_after ticks stopped same_feeds frames lists = record {
     plan = fit.plan;
     nodes = fit.nodes;
     frame = fit.frame;
@@ -94,6 +120,7 @@ module _ (parts other : EngineParts) (fit : AreParts parts)
         omega (arith, is, kind, room)) fit.rooms;
     feeds = same_feeds ∙ fit.feeds;
     frames = frames;
+    lists = lists ∙ fit.lists ∙ sym (ap length ports_are ∙ length-map parts.ports.items hear);
   }
 
   -- an output, as it was before the tick
@@ -104,9 +131,9 @@ module _ (parts other : EngineParts) (fit : AreParts parts)
       (found.0, found.1, sym found.2)
 
   -- it stopped in a tick, whose gaps are not counted
-  halted_by : (t : ℕ) (answers : ℕ → List Answer) (made : List Call) (held now : ℕ → Option (List ℕ)) (fault : TickFault) → EngineStands parts t answers
+  halted_by : (t : ℕ) (answers : ℕ → List Answer) (made : List Call) (held now : ℕ → Option (List ℕ)) (fault : TickFault) → AreHeld parts.cues other.cues → EngineStands parts t answers
       → HasStopped (setting_of parts) parts.clock t answers made held now → EngineStopped (after_tick parts other parts.ticks (Some fault)) t answers made
-  halted_by t answers made held now fault stands stopped = record {
+  halted_by t answers made held now fault marks stands stopped = record {
     ticks_are = stands.made;
     fault = fault;
     stopped = refl;
@@ -117,18 +144,27 @@ module _ (parts other : EngineParts) (fit : AreParts parts)
         let before : port.gaps_before ≡ found.0.gaps = ap (λ p. p.gaps_before) found.2 ∙ filled_before (emptied found.0) (slots found.0.node) in
         let node : found.0.node ≡ port.node = sym (ap (λ p. p.node) found.2 ∙ after_slots-node (emptied found.0) (slots found.0.node)) in
         before ∙ stands.gaps_are rest k found.0 found.1 ∙ ap (λ i. gaps (with_rest (setting_of parts) answers rest) i t) node;
+    cues_are = λ new rest k port list at_port at_list.
+        let found = port_before k port at_port in
+        let node : found.0.node ≡ port.node = sym (ap (λ p. p.node) found.2 ∙ after_slots-node (emptied found.0) (slots found.0.node)) in
+        let within = slice_get_within other.cues.lists.items k list at_list in
+        let same = marks.lists in
+        let old = there_is parts.cues.lists.items k (omega (arith, within, same)) in
+        taken_before old.0 list (marks.some k old.0 list old.1 at_list)
+        ∙ stands.cues_are (λ e. new (marks.keeping ∙ e)) rest k found.0 old.0 found.1 old.1
+        ∙ ap (λ i. map mark_of (cues (with_rest (setting_of parts) answers rest) i t)) node;
   }
 
   -- what it owes then
-  pub failed_by : {X T : Type 0} (held : X → Option (List ℕ)) (stands_for : T → List Call → Type 0) (old new : List X) (a c : T) (made : List Call) (fault : TickFault)
+  pub failed_by : {X T : Type 0} (held : X → Option (List ℕ)) (stands_for : T → List Call → Type 0) (old new : List X) (a c : T) (made : List Call) (fault : TickFault) → AreHeld parts.cues other.cues
       → ((t : ℕ) (answers : ℕ → List Answer) → EngineStands parts t answers
       → HasStopped (setting_of parts) parts.clock t answers made (held_in held (outputs_of (setting_of parts) parts.clock) old) (held_in held (outputs_of (setting_of parts) parts.clock) new))
       → ((calls : List Call) → stands_for a calls → stands_for c (calls ++ made))
       → HasFailed held stands_for parts (after_tick parts other parts.ticks (Some fault)) old new a c
-  failed_by held stands_for old new a c made fault stopped taps = record {
+  failed_by held stands_for old new a c made fault marks stopped taps = record {
     made = made;
     engine = λ t answers stands. stopped t answers stands;
-    halted = λ t answers stands. halted_by t answers made _ _ fault stands (stopped t answers stands);
+    halted = λ t answers stands. halted_by t answers made _ _ fault marks stands (stopped t answers stands);
     taps = taps;
   }
 
@@ -280,6 +316,24 @@ module _ (parts other : EngineParts) (fit : AreParts parts) {T : Type 0} (stands
         ∙ gaps_more S t found.0 (heard.slots found.0.node) small fit.frame (stands.gaps_are rest k found.0 found.1) (output_slots k found.0 found.1)
         ∙ ap (λ i. gaps S i (suc t)) (sym (after_slots-node (emptied found.0) (heard.slots found.0.node)) ∙ ap (λ p. p.node) found.2)
 
+    -- the marks of an output after the tick
+    pub marks_after : parts.cues.keeping ≡ true → (k : ℕ) (port : Port) (list : CueList) → slice_get other.ports.items k ≡ Some port → slice_get other.cues.lists.items k ≡ Some list
+        → list.marks.items ≡ map mark_of (cues S port.node (suc t))
+    marks_after keeping k port list at_port at_list =
+        let found = port_after k port at_port in
+        let within = slice_get_within other.cues.lists.items k list at_list in
+        let same = heard.lists in
+        let old = there_is parts.cues.lists.items k (omega (arith, within, same)) in
+        let node : found.0.node ≡ port.node = sym (after_slots-node (emptied found.0) (heard.slots found.0.node)) ∙ ap (λ p. p.node) found.2 in
+        let start = t * parts.shape.plan.now.frame in
+        (heard.cues_are k found.0 old.0 list found.1 old.1 at_list).marks
+        ∙ ap (λ (b : Bool). old.0.marks.items ++ marks_if b (parts.ticks * parts.shape.plan.now.frame) (heard.slots found.0.node)) keeping
+        ∙ ap (λ n. old.0.marks.items ++ marks_of (n * parts.shape.plan.now.frame) (heard.slots found.0.node)) stands.made
+        ∙ ap (λ slots. old.0.marks.items ++ marks_of start slots) (output_slots k found.0 found.1)
+        ∙ ap (λ marks. marks ++ marks_of start (tick_slots S found.0.node t)) (stands.cues_are (λ e. absurd (true≢false (sym keeping ∙ e))) rest k found.0 old.0 found.1 old.1)
+        ∙ sym (map-append mark_of (cues S found.0.node t) (tick_cues S found.0.node t))
+        ∙ ap (λ i. map mark_of (cues S i (suc t))) node
+
     pub bytes_after : (sink node : ℕ) → IsOutput (setting_of parts) parts.clock sink node → (k : ℕ) (port : Port) → slice_get other.ports.items k ≡ Some port → port.sink ≡ sink
         → port.piece.bytes ≡ tick_bytes S node t
     bytes_after sink node output k port at same =
@@ -351,6 +405,9 @@ module _ (parts other : EngineParts) (fit : AreParts parts) {T : Type 0} (stands
         let none : answers_in buffer all_calls ≡ [] = ap (answers_in buffer) calls ∙ no_tick_takes W given.accepted parts.clock t buffer (record { none = unread.none }) in
         ap (λ (as' : List Answer). as' ++ answers_in buffer all_calls) (stands.others buffer unread) ∙ none
 
+    kept_marks : (parts.cues.keeping ≡ false → suc t ≡ 0) → parts.cues.keeping ≡ true
+    kept_marks none = not_false parts.cues.keeping (λ e. let wrong = none e in omega (arith, wrong))
+
     pub stands_after : EngineStands (after_tick parts other (parts.ticks + 1) parts.stopped) (suc t) (after_calls answers all_calls)
     stands_after = record {
       made = (let made = stands.made in omega (arith, made));
@@ -362,6 +419,9 @@ module _ (parts other : EngineParts) (fit : AreParts parts) {T : Type 0} (stands
           (suc t * parts.shape.plan.now.frame) f other.state) front_is (lanes_after (behind_calls all_calls rest) (has_first rest)));
       gaps_are = λ rest k port at.
           gaps_after (behind_calls all_calls rest) (has_first rest) k port at ∙ ap (λ W. gaps W port.node (suc t)) (world_is (setting_of parts) answers all_calls rest);
+      cues_are = λ new rest k port list at_port at_list.
+          marks_after (behind_calls all_calls rest) (has_first rest) (kept_marks (λ e. new (heard.keeping ∙ e))) k port list at_port at_list
+          ∙ ap (λ W. map mark_of (cues W port.node (suc t))) (world_is (setting_of parts) answers all_calls rest);
     }
 
     pub has_ticked : {X : Type 0} (held : X → Option (List ℕ)) (room : X → Option ℕ) (old new : List X) → length old ≡ length parts.ports.items → length new ≡ length old

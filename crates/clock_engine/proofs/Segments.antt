@@ -7,10 +7,10 @@ use Rattle.std.proofs.lemmas.Simd.{length-zip2}
 use Rattle.plan_core.specs.declared.plan.Plan.{Plan}
 use Rattle.clock_infer.specs.declared.clock_map.NodeClock.{NodeClock}
 use Rattle.cell_ring.specs.Rings.{inner_cell, inner_cells}
-use Rattle.frame_core.specs.Slots.{Slot}
+use Rattle.frame_core.specs.Slots.{Slot, title_of}
 use Rattle.frame_core.specs.Library.{Sounds}
 use Rattle.frame_core.specs.Calls.{Call}
-use Rattle.op_leaf.specs.Lanes.{IsLane}
+use Rattle.op_leaf.specs.Lanes.{AreTitled, IsLane}
 use Rattle.op_leaf.proofs.Laid.{lane_cells}
 use Rattle.stream_meaning.specs.Instants.{history, moment_after, offer, part_at, silent}
 use Rattle.stream_meaning.specs.Calls.{after_calls, calls_of, joined_upto}
@@ -38,7 +38,7 @@ slots_long None many lefts rights long = ap suc (length-replicate many None)
 slots_long (Some cell) many lefts rights long =
     let both = long refl in
     let same : length lefts ≡ length rights = both.0 ∙ sym both.1 in
-    ap suc (length-map (inner_cells lefts rights) Some ∙ length-zip2 inner_cell lefts rights same ∙ both.0)
+    ap suc (length-map (inner_cells cell.title lefts rights) Some ∙ length-zip2 (inner_cell cell.title) lefts rights same ∙ both.0)
 
 -- a node that there is not offers nothing
 within_parts : (lanes : ClockLanes) (nodes i : ℕ) → length lanes.latest.parts.items ≡ nodes → is_some (part_at lanes.latest.parts.items i).slot ≡ true → i < nodes
@@ -66,10 +66,10 @@ nones slots from (suc many) none =
 
 -- the slots of a run, behind that of the instant before it
 slots_by : (slot : Slot) (many : ℕ) (lefts rights : List ℤ) (slots : ℕ → Slot) → (is_some slot ≡ true → IsLane slots many lefts rights)
-    → (is_some slot ≡ false → (j : ℕ) → j < many → slots j ≡ None) → segment_slots slot many lefts rights ≡ slot ∷ map slots (range_with_len 0 many)
-slots_by None many lefts rights slots given empty =
+    → (is_some slot ≡ true → AreTitled slots many (title_of slot)) → (is_some slot ≡ false → (j : ℕ) → j < many → slots j ≡ None) → segment_slots slot many lefts rights ≡ slot ∷ map slots (range_with_len 0 many)
+slots_by None many lefts rights slots given titled empty =
     ap (λ (rest : List Slot). None ∷ rest) (nones slots 0 many (λ j low. let same : 0 + j ≡ j = omega arith in ap slots same ∙ empty refl j low))
-slots_by (Some cell) many lefts rights slots given empty = ap (λ (rest : List Slot). Some cell ∷ rest) (lane_cells slots many lefts rights (given refl))
+slots_by (Some cell) many lefts rights slots given titled empty = ap (λ (rest : List Slot). Some cell ∷ rest) (lane_cells slots many cell.title lefts rights (given refl) (titled refl))
 
 shifted : (f : ℕ → Slot) (from k many : ℕ) → map (λ j. f (from + j)) (range_with_len k many) ≡ map f (range_with_len (from + k) many)
 shifted f from k zero = refl
@@ -125,7 +125,8 @@ module _ {T : Type 0} (stands : T → List Call → Type 0) (plan : Plan) (libra
               let same : (part_at new.clocks.latest.parts.items i).slot ≡ offer (moment_after S sub clock (history S sub clock n)) i =
               ap (λ latest. (part_at latest.parts.items i).slot) kept ∙ ap (λ ps. (part_at ps i).slot) parts in
               slots_by (part_at new.clocks.latest.parts.items i).slot many (samples_of new.clocks.runs.left.items i many) (samples_of new.clocks.runs.right.items i many)
-              (λ j. slot_in S sub clock i (made.ran_now clock + j)) (λ there. is.given (sym (ap (λ (slot : Slot). is_some slot) same) ∙ there)) (λ none. is.silent (sym (ap (λ (slot : Slot). is_some slot) same) ∙ none))
+              (λ j. slot_in S sub clock i (made.ran_now clock + j)) (λ there. is.given (sym (ap (λ (slot : Slot). is_some slot) same) ∙ there))
+              (λ there j low. is.titled (sym (ap (λ (slot : Slot). is_some slot) same) ∙ there) j low ∙ sym (ap title_of same)) (λ none. is.silent (sym (ap (λ (slot : Slot). is_some slot) same) ∙ none))
               ∙ slots_from (slot_in S sub clock i) (part_at new.clocks.latest.parts.items i).slot n (made.ran_now clock) many
               (ap (λ latest. (part_at latest.parts.items i).slot) kept ∙ ap (λ ps. (part_at ps i).slot) parts) next;
           calls = made.calls ∙ ap (λ m. calls_of S sub clock (history S sub clock m)) stand.made

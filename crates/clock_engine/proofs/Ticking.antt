@@ -38,7 +38,7 @@ gaps_few setting i (suc ticks) =
     let more = suc-mul ticks setting.plan.frame in
     omega (arith, before, now, long, more)
 
-times_few : (ticks frame : ℕ) → ticks < 1000000000 → frame ≤ 65536 → ticks * frame ≤ 1000000000 * 65536
+pub times_few : (ticks frame : ℕ) → ticks < 1000000000 → frame ≤ 65536 → ticks * frame ≤ 1000000000 * 65536
 times_few ticks frame few small = grind (arith, few, small)
 
 -- the gaps of an output after a tick

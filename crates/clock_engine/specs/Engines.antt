@@ -1,5 +1,5 @@
 -- An engine's parts, and for what they stand.
-use Rattle.std.specs.Prelude.{◌≡◌, ◌≤◌, ◌*◌, ℕ, suc, Bool, Option, Some, None, List, [], ◌∷◌, All, length, map, nat_eq, slice_get, if◌then◌else◌}
+use Rattle.std.specs.Prelude.{◌≡◌, ◌≤◌, ◌*◌, ℕ, suc, Bool, false, Option, Some, None, List, [], ◌∷◌, All, length, map, nat_eq, slice_get, take, if◌then◌else◌}
 use Rattle.liq_base.specs.Kinds.{channels_of}
 use Rattle.liq_base.specs.declared.limits.TheConstants.{MAX_NODES}
 use Rattle.plan_core.specs.declared.plan.Plan.{Plan}
@@ -13,7 +13,7 @@ use Rattle.clock_infer.specs.Answers.{IsClockMap}
 use Rattle.frame_core.specs.Calls.{Call}
 use Rattle.op_leaf.specs.Readers.{Answer}
 use Rattle.stream_meaning.specs.Instants.{Setting, lies_in, sub_of}
-use Rattle.stream_meaning.specs.Sinks.{gaps, kind_of}
+use Rattle.stream_meaning.specs.Sinks.{cues, gaps, kind_of}
 use Rattle.stream_meaning.specs.Calls.{IsBegin, IsUnread, after_calls, calls_of_tick}
 use Rattle.node_states.specs.Ticks.{with_rest}
 use Rattle.clock_outputs.specs.declared.port.Port.{Port}
@@ -21,6 +21,8 @@ use Rattle.clock_outputs.specs.declared.feed.FeedPort.{FeedPort}
 use Rattle.sub_clocks.specs.Clocks.{AreOwnRoots}
 use Rattle.clock_engine.specs.ClockStates.{IsClockState, ClockStateStands}
 use Rattle.clock_engine.specs.Runs.{Scene}
+use Rattle.clock_engine.specs.Cues.{mark_of}
+use Rattle.clock_engine.specs.declared.cues.CueList.{CueList}
 use Rattle.clock_engine.specs.declared.fault.TickFault.{TickFault}
 use Rattle.clock_engine.specs.declared.engine.EngineParts.{EngineParts}
 
@@ -72,6 +74,7 @@ after_tick parts other ticks stopped = record {
   state = other.state;
   ports = other.ports;
   feeds = other.feeds;
+  cues = other.cues;
   ticks = ticks;
   stopped = stopped;
 }
@@ -98,6 +101,7 @@ pub record AreParts (parts : EngineParts) : Type 0 where
   pub rooms : All (λ port. parts.shape.plan.now.frame * (2 * channels_of port.kind) ≤ port.piece.room) parts.ports.items
   pub feeds : map feed_of parts.feeds.items ≡ feeds_of (setting_of parts) parts.clock
   pub frames : All (λ feed. length feed.frame ≡ parts.shape.plan.now.frame) parts.feeds.items
+  pub lists : length parts.cues.lists.items ≡ length parts.ports.items
 
 -- an engine, as contracts see it: its parts, and the sinks of its outputs
 pub record Engine (S : Type 0) : Type 0 where
@@ -110,7 +114,8 @@ pub record IsWhole {S : Type 0} (engine : Engine S) : Type 0 where
   pub sinks : length engine.outs ≡ length engine.parts.ports.items
 
 -- an engine that stands for so many ticks and these answers: no tick of it had a fault; whatever answers follow, its readers have taken
--- exactly these, and its state is the one that the instants imply. No answers are those of buffers that its clock does not read
+-- exactly these, and its state is the one that the instants imply. No answers are those of buffers that its clock does not read. An engine
+-- that keeps its marks has those of the ticks, and so has one without ticks
 pub record EngineStands (parts : EngineParts) (ticks : ℕ) (answers : ℕ → List Answer) : Type 0 where
   pub made : parts.ticks ≡ ticks
   pub runs : parts.stopped ≡ None
@@ -119,6 +124,8 @@ pub record EngineStands (parts : EngineParts) (ticks : ℕ) (answers : ℕ → L
       (ticks * parts.shape.plan.now.frame) answers parts.state
   pub gaps_are : (rest : ℕ → List Answer) (k : ℕ) (port : Port) → slice_get parts.ports.items k ≡ Some port
       → port.gaps ≡ gaps (with_rest (setting_of parts) answers rest) port.node ticks
+  pub cues_are : (parts.cues.keeping ≡ false → ticks ≡ 0) → (rest : ℕ → List Answer) (k : ℕ) (port : Port) (list : CueList) → slice_get parts.ports.items k ≡ Some port
+      → slice_get parts.cues.lists.items k ≡ Some list → list.marks.items ≡ map mark_of (cues (with_rest (setting_of parts) answers rest) port.node ticks)
 
 -- an engine that stopped in tick t, before which it stood for these answers, after these calls: they are the first ones of the tick's,
 -- whatever answers follow theirs; and its ticks and gaps are those of the t ticks before
@@ -130,6 +137,8 @@ pub record EngineStopped (parts : EngineParts) (t : ℕ) (answers : ℕ → List
   pub begun : (rest : ℕ → List Answer) → IsBegin made (calls_of_tick (with_rest (setting_of parts) (after_calls answers made) rest) accepted parts.clock t)
   pub gaps_are : (rest : ℕ → List Answer) (k : ℕ) (port : Port) → slice_get parts.ports.items k ≡ Some port
       → port.gaps_before ≡ gaps (with_rest (setting_of parts) answers rest) port.node t
+  pub cues_are : (parts.cues.keeping ≡ false → t ≡ 0) → (rest : ℕ → List Answer) (k : ℕ) (port : Port) (list : CueList) → slice_get parts.ports.items k ≡ Some port
+      → slice_get parts.cues.lists.items k ≡ Some list → take list.before list.marks.items ≡ map mark_of (cues (with_rest (setting_of parts) answers rest) port.node t)
 
 -- what the sink of this number holds, where it tells it: `held` tells it of a sink. There is a sink for each output, in the same order
 abbrev pub held_in : {S : Type 0} → (S → Option (List ℕ)) → (outputs : List (ℕ × ℕ)) → List S → ℕ → Option (List ℕ)
@@ -143,4 +152,11 @@ held_of held engine = held_in held (outputs_of (setting_of engine.parts) engine.
 
 -- what changes in a tick
 abbrev pub scene_of : {T : Type 0} → EngineParts → T → Scene T
-scene_of parts taps = record { lanes = parts.state; ports = parts.ports.items; feeds = parts.feeds.items; taps = taps }
+scene_of parts taps = record {
+  lanes = parts.state;
+  ports = parts.ports.items;
+  feeds = parts.feeds.items;
+  cues = parts.cues;
+  start = parts.ticks * parts.shape.plan.now.frame;
+  taps = taps;
+}

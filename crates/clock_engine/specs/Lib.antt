@@ -3,3 +3,4 @@ pub mod Ticks
 pub mod Beginnings
 pub mod ClockStates
 pub mod Runs
+pub mod Cues

@@ -1,5 +1,5 @@
 -- What the outputs and feeds of a clock hear in a tick.
-use Rattle.std.specs.Prelude.{◌≡◌, ℕ, suc, ◌+◌, Bool, true, false, List, ◌++◌, drop, length, map, slice_index_or}
+use Rattle.std.specs.Prelude.{◌≡◌, ℕ, suc, ◌+◌, Bool, true, false, Some, List, ◌++◌, drop, length, map, slice_get, slice_index_or}
 use Rattle.std.specs.List.{range_with_len}
 use Rattle.plan_core.specs.declared.plan.Plan.{Plan}
 use Rattle.clock_infer.specs.declared.clock_map.NodeClock.{NodeClock}
@@ -19,6 +19,9 @@ use Rattle.node_mixing.specs.Runs.{samples_of}
 use Rattle.sub_clocks.specs.Clocks.{AreOwnRoots}
 use Rattle.sub_clocks.specs.declared.lanes.ClockLanes.{ClockLanes}
 use Rattle.clock_engine.specs.declared.clock_state.ClockState.{ClockState}
+use Rattle.clock_engine.specs.declared.cues.CueList.{CueList}
+use Rattle.clock_engine.specs.declared.cues.Cues.{Cues}
+use Rattle.clock_engine.specs.Cues.{HasMarked, HasMarkedSome, marks_if}
 use Rattle.clock_engine.specs.ClockStates.{ClockStateStands}
 
 -- what holds of a setting, whatever its answers are
@@ -52,14 +55,16 @@ pub record HasRunInstants (setting : Setting) (sub : ℕ → ℕ → List Slot) 
   pub slots_are : (i : ℕ) → slice_index_or own i false ≡ true → slots i ≡ map (slot_in setting sub clock i) (range_with_len n count)
   pub calls : more ≡ calls_from setting sub clock n count
 
--- the lanes, the outputs and the feeds of a clock, and its taps
+-- the lanes, the outputs, the feeds and the marks of a clock, the first instant of the tick, and its taps
 pub record Scene (T : Type 0) : Type 0 where
   pub lanes : ClockState
   pub ports : List Port
   pub feeds : List FeedPort
+  pub cues : Cues
+  pub start : ℕ
   pub taps : T
 
--- so many instants were made, by these calls, and the outputs and feeds have heard the slots of their nodes; whatever instants the
+-- so many instants of a tick were made, by these calls, and the outputs, feeds and marks have heard the slots of their nodes; whatever instants the
 -- lanes stood for, these are the next ones
 pub record Heard {T : Type 0} (stands : T → List Call → Type 0) (plan : Plan) (library : Sounds) (clocks : List NodeClock) (clock : NodeClock) (own : List Bool) (count : ℕ)
     (before after : Scene T) : Type 0 where
@@ -67,6 +72,10 @@ pub record Heard {T : Type 0} (stands : T → List Call → Type 0) (plan : Plan
   pub long : (i : ℕ) → length (slots i) ≡ count
   pub ports_are : after.ports ≡ map (λ port. after_slots (emptied port) (slots port.node)) before.ports
   pub feeds_are : after.feeds ≡ map (λ feed. with_slots feed (slots feed.node)) before.feeds
+  pub keeping : after.cues.keeping ≡ before.cues.keeping
+  pub lists : length after.cues.lists.items ≡ length before.cues.lists.items
+  pub cues_are : (k : ℕ) (port : Port) (old new : CueList) → slice_get before.ports k ≡ Some port → slice_get before.cues.lists.items k ≡ Some old
+      → slice_get after.cues.lists.items k ≡ Some new → HasMarked (marks_if before.cues.keeping before.start (slots port.node)) old new
   pub more : List Call
   pub taps : Adds stands before.taps after.taps more
   pub run : (other : Setting) (sub : ℕ → ℕ → List Slot) (n : ℕ) (front : ℕ → List Answer) → IsMeant (over plan library clocks other) sub own
@@ -78,6 +87,9 @@ pub record HeardSome {T : Type 0} (stands : T → List Call → Type 0) (plan : 
     (before after : Scene T) : Type 0 where
   pub slots : ℕ → List Slot
   pub ports_are : after.ports ≡ map (λ port. after_slots (emptied port) (slots port.node)) before.ports
+  pub keeping : after.cues.keeping ≡ before.cues.keeping
+  pub lists : length after.cues.lists.items ≡ length before.cues.lists.items
+  pub cues_are : (k : ℕ) (old new : CueList) → slice_get before.cues.lists.items k ≡ Some old → slice_get after.cues.lists.items k ≡ Some new → HasMarkedSome old new
   pub made : List Call
   pub taps : Adds stands before.taps after.taps made
   pub begins : (other : Setting) (sub : ℕ → ℕ → List Slot) (n : ℕ) (front : ℕ → List Answer) → IsMeant (over plan library clocks other) sub own

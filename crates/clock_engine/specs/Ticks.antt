@@ -1,5 +1,5 @@
 -- What a tick of an engine owes.
-use Rattle.std.specs.Prelude.{◌≡◌, ◌<◌, ◌+◌, ◌*◌, ℕ, Option, Some, List, ◌++◌, length, slice_get, ◌⊎◌}
+use Rattle.std.specs.Prelude.{◌≡◌, ◌<◌, ◌+◌, ◌*◌, ℕ, Option, Some, true, List, ◌++◌, length, slice_get, ◌⊎◌}
 use Rattle.clock_infer.specs.declared.clock_map.NodeClock.TheVariants.{Main}
 use Rattle.engine_instants.specs.Takes.{HasReader}
 use Rattle.liq_base.specs.Kinds.{channels_of}
@@ -15,9 +15,9 @@ use Rattle.clock_engine.specs.declared.engine.EngineParts.{EngineParts}
 use Rattle.clock_engine.specs.declared.fault.TickFault.{TickFault}
 use Rattle.clock_engine.specs.declared.fault.TickFault.TheVariants.{Write}
 
--- an engine with a feed, or with a reader in its clock or below it
+-- an engine with a reader in its clock or below it, or with a feed, or that keeps marks
 abbrev pub HasEnds : EngineParts → Type 0
-HasEnds parts = HasReader parts.shape.plan.now parts.shape.clocks.now (Main parts.clock) ⊎ (0 < length (feeds_of (setting_of parts) parts.clock))
+HasEnds parts = HasReader parts.shape.plan.now parts.shape.clocks.now (Main parts.clock) ⊎ ((0 < length (feeds_of (setting_of parts) parts.clock)) ⊎ (parts.cues.keeping ≡ true))
 
 -- the length of the piece of a tick, of an output with this node
 abbrev pub piece_size : Setting → (node : ℕ) → ℕ

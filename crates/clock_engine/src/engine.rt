@@ -3,7 +3,7 @@ ghost use Rattle.clock_engine.specs.declared.fault.TickFault.{TickFault as Fault
 ghost use Rattle.clock_engine.specs.declared.fault.TickFault.TheVariants.{Memory as OutOfMemory, Write};
 ghost use Rattle.frame_core.specs.Calls.{Call};
 ghost use Rattle.clock_outputs.specs.Feeds.{HaveGiven, HaveGivenSome};
-ghost use Rattle.std.specs.Prelude.{◌≡◌, ◌<◌, ◌+◌, ℕ, Some, None, List, [], All, map, length, IfOk, OnOk, OnErr, IfErr};
+ghost use Rattle.std.specs.Prelude.{◌≡◌, ◌<◌, ◌+◌, ◌⊎◌, ℕ, Some, None, true, List, [], All, map, length, IfOk, OnOk, OnErr, IfErr};
 ghost use Rattle.plan_core.specs.Plans.{IsWellFormed};
 ghost use Rattle.clock_infer.specs.Answers.{IsClockMap};
 ghost use Rattle.frame_core.specs.Library.{IsLibrary};
@@ -13,13 +13,15 @@ ghost use Rattle.clock_infer.specs.declared.clock_map.NodeClock.TheVariants.{Mai
 ghost use Rattle.op_leaf.specs.Readers.{Answer};
 ghost use Rattle.clock_engine.specs.Engines.{AreClocksOf, AreParts, EngineStands, EngineStopped, IsWhole, after_tick, feed_of, outputs_of, scene_of, setting_of};
 ghost use Rattle.clock_outputs.specs.Appends.{AreKept, GotOnePiece, NoneFell};
-ghost use Rattle.stream_meaning.specs.Sinks.{gaps};
+ghost use Rattle.stream_meaning.specs.Sinks.{cues, gaps};
+ghost use Rattle.clock_engine.specs.Cues.{mark_of};
 ghost use Rattle.node_states.specs.Ticks.{IsOutput, with_rest};
 ghost use Rattle.engine_instants.specs.Takes.{HasReader};
 ghost use Rattle.clock_engine.specs.Ticks.{GotSomePieces, HasEnds, HasFailed, HasMade, HaveTickRoom, IsWriteFault, RoomsFell, HaveTicksRoom};
 
 use crate::TickFault;
 use crate::clock_state::ClockState;
+use crate::cues::{CueMark, Cues, cues_of, whole_marks};
 use crate::outputs::{feeds_of, ports_of};
 use crate::parts::{most_children, own_roots, states_of, times_of};
 use crate::run::run_tick;
@@ -54,6 +56,9 @@ pub struct EngineParts<'a> {
 
     /// The feeds of the clock, in sink order.
     pub feeds: Vec<FeedPort>,
+
+    /// The marks of the outputs.
+    pub cues: Cues,
 
     /// How many ticks were made.
     pub ticks: u64,
@@ -113,6 +118,7 @@ fn make_parts<'a>(
     let own = own_roots(alloc, &shape)?;
     let ports = ports_of(alloc, &shape, clock)?;
     let feeds = feeds_of(alloc, &shape, clock)?;
+    let cues = cues_of(alloc, ports.len())?;
     Ok(EngineParts {
         shape,
         clock,
@@ -136,6 +142,7 @@ fn make_parts<'a>(
         },
         ports,
         feeds,
+        cues,
         ticks: 0,
         stopped: None,
     })
@@ -144,6 +151,7 @@ fn make_parts<'a>(
 // Makes the instants of a tick.
 fn run_parts<T: Taps>(parts: &mut EngineParts<'_>, taps: &mut T) -> Result<(), Memory>
     requires parts { AreParts parts.old }
+    requires few { parts.old.ticks < 1000000000 }
     requires buffers { T.buffers taps.old ≡ length parts.old.shape.plan.now.buffers }
     ensures kept { parts.new ≡ after_tick parts.old parts.new parts.old.ticks parts.old.stopped }
     ensures state { IsClockState parts.old.shape.plan.now parts.old.shape.library.now parts.old.shape.clocks.now parts.new.state }
@@ -155,9 +163,11 @@ fn run_parts<T: Taps>(parts: &mut EngineParts<'_>, taps: &mut T) -> Result<(), M
         (scene_of parts.old taps.old) (scene_of parts.new taps.new)) }
     ensures stopped { OnErr result (HeardSome T.stands parts.old.shape.plan.now parts.old.shape.library.now parts.old.shape.clocks.now (InMain parts.old.clock) parts.old.own.items parts.old.shape.plan.now.frame
         (scene_of parts.old taps.old) (scene_of parts.new taps.new)) }
-    ensures reads { OnErr result (HasReader parts.old.shape.plan.now parts.old.shape.clocks.now (InMain parts.old.clock)) }
+    ensures cues { parts.new.cues.keeping ≡ parts.old.cues.keeping }
+    ensures needs { OnErr result (HasReader parts.old.shape.plan.now parts.old.shape.clocks.now (InMain parts.old.clock) ⊎ (parts.old.cues.keeping ≡ true)) }
 {
     let clock = NodeClock::Main(parts.clock);
+    let start = parts.ticks * parts.shape.plan.frame as u64;
     run_tick(
         &parts.shape,
         clock,
@@ -165,6 +175,8 @@ fn run_parts<T: Taps>(parts: &mut EngineParts<'_>, taps: &mut T) -> Result<(), M
         &mut parts.state,
         &mut parts.ports,
         &mut parts.feeds,
+        &mut parts.cues,
+        start,
         taps,
     )
 }
@@ -172,6 +184,7 @@ fn run_parts<T: Taps>(parts: &mut EngineParts<'_>, taps: &mut T) -> Result<(), M
 // The same, and a fault stops the engine.
 fn run_or_stop<T: Taps>(parts: &mut EngineParts<'_>, taps: &mut T) -> Result<(), TickFault>
     requires parts { AreParts parts.old }
+    requires few { parts.old.ticks < 1000000000 }
     requires buffers { T.buffers taps.old ≡ length parts.old.shape.plan.now.buffers }
     ensures kept { OnOk result (parts.new ≡ after_tick parts.old parts.new parts.old.ticks parts.old.stopped) }
     ensures ended { IfErr result (λ fault. (fault ≡ OutOfMemory) × (parts.new ≡ after_tick parts.old parts.new parts.old.ticks (Some OutOfMemory))) }
@@ -184,7 +197,8 @@ fn run_or_stop<T: Taps>(parts: &mut EngineParts<'_>, taps: &mut T) -> Result<(),
         (scene_of parts.old taps.old) (scene_of parts.new taps.new)) }
     ensures stopped { OnErr result (HeardSome T.stands parts.old.shape.plan.now parts.old.shape.library.now parts.old.shape.clocks.now (InMain parts.old.clock) parts.old.own.items parts.old.shape.plan.now.frame
         (scene_of parts.old taps.old) (scene_of parts.new taps.new)) }
-    ensures reads { OnErr result (HasReader parts.old.shape.plan.now parts.old.shape.clocks.now (InMain parts.old.clock)) }
+    ensures cues { parts.new.cues.keeping ≡ parts.old.cues.keeping }
+    ensures needs { OnErr result (HasReader parts.old.shape.plan.now parts.old.shape.clocks.now (InMain parts.old.clock) ⊎ (parts.old.cues.keeping ≡ true)) }
 {
     match run_parts(parts, taps) {
         Ok(()) => Ok(()),
@@ -289,6 +303,7 @@ impl<'a, O: Sink> ClockEngine<'a, O> {
         ensures memory { IfErr result (λ fault. fault ≡ OutOfMemory → HasEnds self.old.parts) }
         ensures fault { IfErr result (λ fault. self.new.parts.stopped ≡ Some fault) }
         ensures runs { OnOk result (self.new.parts.stopped ≡ None) }
+        ensures keeping { self.new.parts.cues.keeping ≡ self.old.parts.cues.keeping }
     {
         run_or_stop(&mut self.parts, taps)?;
         if let Err(place) = append_all(&mut self.outs, &self.parts.ports) {
@@ -301,6 +316,19 @@ impl<'a, O: Sink> ClockEngine<'a, O> {
         give_or_stop(alloc, &mut self.parts, taps)?;
         self.parts.ticks += 1;
         Ok(())
+    }
+
+    /// Lets an engine that made no tick keep the marks of its outputs.
+    pub fn keep_cues(&mut self)
+        requires new { self.old.parts.ticks ≡ 0 }
+        ensures keeping { self.new.parts.cues.keeping ≡ true }
+        ensures outs { self.new.outs ≡ self.old.outs }
+        ensures setting { setting_of self.new.parts ≡ setting_of self.old.parts }
+        ensures clock { self.new.parts.clock ≡ self.old.parts.clock }
+        ensures stopped { self.new.parts.stopped ≡ self.old.parts.stopped }
+        ensures stands { (ticks : ℕ) (answers : ℕ → List Answer) → EngineStands self.old.parts ticks answers → EngineStands self.new.parts ticks answers }
+    {
+        self.parts.cues.keeping = true;
     }
 
     /// At how many instants of the ticks made the node of this output, which is one of the clock, offered nothing. A tick
@@ -318,6 +346,25 @@ impl<'a, O: Sink> ClockEngine<'a, O> {
             }
         }
         0
+    }
+
+    /// The marks of this output, which is one of the clock: each instant of the ticks made at which its node offered a cell that
+    /// begins a track, and its title. A tick that stopped the engine is not among them. An engine that keeps no marks has none.
+    pub fn cues(&self, sink: u32) -> &[CueMark]
+        requires output { (node : ℕ) × IsOutput (setting_of self.now.parts) self.now.parts.clock sink node }
+        ensures made { (ticks : ℕ) (answers rest : ℕ → List Answer) (node : ℕ) → EngineStands self.now.parts ticks answers
+            → self.now.parts.cues.keeping ≡ true → IsOutput (setting_of self.now.parts) self.now.parts.clock sink node
+            → result.now ≡ map mark_of (cues (with_rest (setting_of self.now.parts) answers rest) node ticks) }
+        ensures stopped { (ticks : ℕ) (answers rest : ℕ → List Answer) (made : List Call) (node : ℕ) → EngineStopped self.now.parts ticks answers made
+            → self.now.parts.cues.keeping ≡ true → IsOutput (setting_of self.now.parts) self.now.parts.clock sink node
+            → result.now ≡ map mark_of (cues (with_rest (setting_of self.now.parts) answers rest) node ticks) }
+    {
+        for k in 0..self.parts.ports.len() {
+            if self.parts.ports[k].sink == sink {
+                return whole_marks(&self.parts.cues.lists[k], self.parts.stopped);
+            }
+        }
+        &[]
     }
 
     /// The sinks of its outputs, in sink order.

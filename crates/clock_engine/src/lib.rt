@@ -2,6 +2,7 @@
 #![tactic(auto)]
 
 mod clock_state;
+mod cues;
 mod engine;
 mod fault;
 mod heard;
@@ -9,5 +10,6 @@ mod outputs;
 mod parts;
 mod run;
 
+pub use cues::CueMark;
 pub use engine::ClockEngine;
 pub use fault::TickFault;

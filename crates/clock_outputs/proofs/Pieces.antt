@@ -16,7 +16,8 @@ use Rattle.frame_core.specs.Frames.{laid_slots}
 use Rattle.stream_meaning.specs.Sinks.{slot_block}
 use Rattle.clock_outputs.specs.Filled.{Filled}
 use Rattle.clock_outputs.specs.declared.port.Port.{Port}
-use Rattle.clock_outputs.specs.Ports.{after_slot, after_slots, with_bytes}
+use Rattle.frame_core.specs.declared.cell.Cell.{Cell}
+use Rattle.clock_outputs.specs.Ports.{HasRoomLeft, after_slot, after_slots, with_bytes}
 
 block_long : (kind : Kind) (left right : ℤ) → length (block_of kind left right) ≡ 2 * channels_of kind
 block_long Mono left right = refl
@@ -56,14 +57,22 @@ more_filled items now more start end was is long fits view =
     ∙ ap (λ n. filled_as (take start items ++ more) n) (length-put_chunk start items more)
     ∙ ap (λ (f : Filled). filled_as (f.bytes ++ more) f.room) view
 
+-- room for a cell and so many slots more
+pub room_after : (port : Port) (cell : Cell) (slots : ℕ) → HasRoomLeft (suc slots) port → HasRoomLeft slots (after_slot port (Some cell))
+room_after port cell slots room =
+    let block = block_long port.kind cell.left cell.right in
+    let both = length-append port.piece.bytes (block_of port.kind cell.left cell.right) in
+    let more = suc-mul slots (2 * channels_of port.kind) in
+    omega (arith, block, both, more, room)
+
 -- an output after cells that begin no track
-pub after_cells : (port : Port) (left right : List ℤ) → length right ≡ length left
-    → with_bytes port (port.piece.bytes ++ encoded port.kind left right) port.gaps ≡ after_slots port (map Some (inner_cells left right))
-after_cells port [] right same = ap (λ bytes. with_bytes port bytes port.gaps) (append-nil port.piece.bytes)
-after_cells port (l ∷ left) [] same = absurd (omega (arith, same))
-after_cells port (l ∷ left) (r ∷ right) same =
+pub after_cells : (port : Port) (title : ℕ) (left right : List ℤ) → length right ≡ length left
+    → with_bytes port (port.piece.bytes ++ encoded port.kind left right) port.gaps ≡ after_slots port (map Some (inner_cells title left right))
+after_cells port title [] right same = ap (λ bytes. with_bytes port bytes port.gaps) (append-nil port.piece.bytes)
+after_cells port title (l ∷ left) [] same = absurd (omega (arith, same))
+after_cells port title (l ∷ left) (r ∷ right) same =
     ap (λ bytes. with_bytes port bytes port.gaps) (sym (append_assoc port.piece.bytes (block_of port.kind l r) (encoded port.kind left right)))
-    ∙ after_cells (after_slot port (Some (inner_cell l r))) left right (omega (arith, same))
+    ∙ after_cells (after_slot port (Some (inner_cell title l r))) title left right (omega (arith, same))
 
 -- an output after slots without a cell
 after_more : (port : Port) (count : ℕ) → port.gaps ≤ 2 ^ 64 - 1
@@ -91,8 +100,8 @@ after_gaps port (suc count) some =
     ∙ after_more (after_slot port None) count less
 
 -- a run has as many slots as samples
-pub cells_long : (left right : List ℤ) → length right ≡ length left → length (map Some (inner_cells left right)) ≡ length left
-cells_long left right same = length-map (inner_cells left right) Some ∙ long_run left right same
+pub cells_long : (title : ℕ) (left right : List ℤ) → length right ≡ length left → length (map Some (inner_cells title left right)) ≡ length left
+cells_long title left right same = length-map (inner_cells title left right) Some ∙ long_run title left right same
 
 -- one slot is changed, and those behind it
 put_behind : {X : Type 0} (xs more : List X) (at : ℕ) (x : X) → at < length xs → put_chunk (suc at) (set xs at x) more ≡ put_chunk at xs (x ∷ more)
@@ -106,11 +115,11 @@ set_then_put xs more at x fits =
     ap (λ n. put_chunk n (set xs at x) more) next ∙ put_behind xs more at x (omega (arith, fits))
 
 -- cells of which none begins a track
-pub laid_inner : (lefts rights : List ℤ) → laid_slots false lefts rights ≡ map Some (inner_cells lefts rights)
-laid_inner [] [] = refl
-laid_inner [] (right ∷ rights) = refl
-laid_inner (left ∷ lefts) [] = refl
-laid_inner (left ∷ lefts) (right ∷ rights) = ap (λ slots. Some (inner_cell left right) ∷ slots) (laid_inner lefts rights)
+pub laid_inner : (title : ℕ) (lefts rights : List ℤ) → laid_slots false title lefts rights ≡ map Some (inner_cells title lefts rights)
+laid_inner title [] [] = refl
+laid_inner title [] (right ∷ rights) = refl
+laid_inner title (left ∷ lefts) [] = refl
+laid_inner title (left ∷ lefts) (right ∷ rights) = ap (λ slots. Some (inner_cell title left right) ∷ slots) (laid_inner title lefts rights)
 
 -- a write to a part of a list
 pub part_put : {X : Type 0} (at k n : ℕ) (xs whole ys zs : List X) → k ≡ n → whole ≡ xs → ys ≡ zs → length zs ≡ n → at + n ≤ length xs → put_mid at k whole ys ≡ put_chunk at xs zs

@@ -19,7 +19,7 @@ pub struct FeedPort {
 
 impl FeedPort {
     /// Takes the slots of its node in a segment that begins at a place of the tick: that of its first instant, and behind it
-    /// the cells of these samples, which begin no track; or as many slots without a cell where the first one has none.
+    /// the cells of these samples, which have its title and begin no track; or as many slots without a cell where the first one has none.
     pub fn hear(&mut self, at: u32, slot: Option<Cell>, left: &[i16], right: &[i16])
         requires same { length right.now ≡ length left.now }
         requires there { at + suc (length left.now) ≤ length self.old.frame }
@@ -28,18 +28,18 @@ impl FeedPort {
     {
         self.frame.set(at, slot);
         match slot {
-            Some(_) => self.hear_cells(at + 1, left, right),
+            Some(cell) => self.hear_cells(at + 1, cell.title, left, right),
             None => self.hear_gaps(at + 1, left.len() as u32),
         }
     }
 
-    // Takes cells with these samples, from a place of the tick on.
-    fn hear_cells(&mut self, at: u32, left: &[i16], right: &[i16])
+    // Takes cells with this title and these samples, from a place of the tick on.
+    fn hear_cells(&mut self, at: u32, title: u32, left: &[i16], right: &[i16])
         requires same { length right.now ≡ length left.now }
         requires there { at + length left.now ≤ length self.old.frame }
-        ensures { self.new ≡ with_slots_from at (map Some (inner_cells left.now right.now)) self.old }
+        ensures { self.new ≡ with_slots_from at (map Some (inner_cells title left.now right.now)) self.old }
     {
-        self.frame.lay(at, left, right, false);
+        self.frame.lay(at, left, right, false, title);
     }
 
     // Takes so many slots without a cell, from a place of the tick on.

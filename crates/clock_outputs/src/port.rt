@@ -1,5 +1,5 @@
 // An output of a clock.
-ghost use Rattle.std.specs.Prelude.{◌≡◌, ◌<◌, suc, Some, None, length, map, replicate};
+ghost use Rattle.std.specs.Prelude.{◌≡◌, ◌<◌, ℕ, suc, Some, None, length, map, replicate};
 ghost use Rattle.cell_ring.specs.Rings.{inner_cells};
 ghost use Rattle.clock_outputs.specs.Segments.{segment_slots};
 ghost use Rattle.clock_outputs.specs.Ports.{HasRoomLeft, after_slots, emptied};
@@ -48,11 +48,11 @@ impl Port {
         }
     }
 
-    // Takes cells with these samples.
+    // Takes cells with these samples, whatever their title is.
     fn hear_cells(&mut self, left: &[i16], right: &[i16])
         requires same { length right.now ≡ length left.now }
         requires room { HasRoomLeft (length left.now) self.old }
-        ensures { self.new ≡ after_slots self.old (map Some (inner_cells left.now right.now)) }
+        ensures { (title : ℕ) → self.new ≡ after_slots self.old (map Some (inner_cells title left.now right.now)) }
     {
         self.piece.add_cells(self.kind, left, right);
     }

@@ -20,6 +20,7 @@ use Rattle.clock_engine.specs.contracts.engine.ClockEngine.TheInside as Fields
 use Rattle.clock_engine.specs.contracts.engine.EngineParts
 use Rattle.engine_instants.specs.contracts.shape.Shape
 use Rattle.clock_engine.proofs.clock_state.ClockState.TheSendSync as ClockStateSent
+use Rattle.clock_engine.proofs.cues.Cues.TheSendSync as CuesSent
 use Rattle.clock_outputs.proofs.port.Port.TheSendSync as PortSent
 use Rattle.clock_outputs.proofs.feed.FeedPort.TheSendSync as FeedSent
 use Rattle.clock_engine.proofs.fault.TickFault.TheSendSync as FaultSent
@@ -86,7 +87,7 @@ parts_send a = Send.struct_send (Declared.shape (EngineParts.the_type a)) (
             vec_send Port.the_row PortSent.the_send,
             (
               vec_send FeedPort.the_row FeedSent.the_send,
-              (Send.plain_send _ _ _ _ _, (OptionSent.the_field_send TickFault.the_row FaultSent.the_send, tt)),
+              (CuesSent.the_field_send, (Send.plain_send _ _ _ _ _, (OptionSent.the_field_send TickFault.the_row FaultSent.the_send, tt))),
             ),
           ),
         ),

@@ -18,7 +18,7 @@ module _ {S T U : Type 0} (room : S → Option ℕ) (count : ℕ) where
     many = refl;
     ran = record {
       on = λ t history first gone runs. (let w = ran.ran.on t history first gone runs in record { after = w.after; agree = w.agree; gone = w.gone; taps = λ calls stand. any _ });
-      halted = λ t history first gone stops. (let w = ran.ran.halted t history first gone stops in record { made = w.made; fewer = w.fewer; after = w.after; agree = w.agree; part = w.part });
+      halted = λ t history first gone stops. (let w = ran.ran.halted t history first gone stops in record { made = w.made; fewer = w.fewer; after = w.after; agree = w.agree; part = w.part; taps = λ calls stand. any _ });
     };
     write = ran.write;
     rooms = ran.rooms;

@@ -1,9 +1,12 @@
 -- A task's ticks.
-use Rattle.std.proofs.Common.{◌≡◌, ℕ, suc, ◌<◌, ◌≤◌, ◌+◌, ◌*◌, List, ◌++◌, length, sym, refl, ap, ◌∙◌, subst, arith, append_assoc, append-nil, add-zero, add-suc, Option, Some, None}
+use Rattle.std.proofs.Common.{◌≡◌, ℕ, suc, ◌<◌, ◌≤◌, ◌+◌, ◌*◌, List, ◌++◌, length, sym, refl, ap, ◌∙◌, subst, arith, append_assoc, append-nil, add-zero, add-suc, Option, Some, None, true}
 use Rattle.frame_core.specs.Calls.{Call}
 use Rattle.op_leaf.specs.Readers.{Answer}
 use Rattle.stream_meaning.specs.Instants.{Setting}
-use Rattle.stream_meaning.specs.Calls.{after_calls}
+use Rattle.stream_meaning.specs.Calls.{IsBegin, after_calls, calls_of_tick}
+use Rattle.stream_meaning.specs.Sinks.{ticks_bytes}
+use Rattle.liq_base.specs.Pieces.{IsPrefix, grown}
+use Rattle.node_states.specs.Ticks.{IsOutput, with_rest}
 use Rattle.clock_outputs.proofs.Since.{fell_then, kept_then}
 use Rattle.clock_outputs.proofs.Taken.{fell_none, kept_none}
 use Rattle.clock_engine.specs.declared.engine.ClockEngine.{ClockEngine}
@@ -14,8 +17,8 @@ use Rattle.clock_engine.specs.declared.fault.TickFault.TheVariants.{Memory as Ou
 use Rattle.clock_engine.specs.declared.engine.EngineParts.{EngineParts}
 use Rattle.std.proofs.Math.Nat.{mul-le-mul_right}
 use Rattle.clock_tasks.specs.declared.task.Task.{Task}
-use Rattle.clock_tasks.specs.Histories.{History, joined_from, Agree, HasGone, HasGonePart}
-use Rattle.clock_tasks.specs.Tasks.{IsSameClock, stands_for, EngineGone, WentOn, WasRun}
+use Rattle.clock_tasks.specs.Histories.{AreTicks, History, answers_by, joined_from, Agree, HasGone, HasGonePart}
+use Rattle.clock_tasks.specs.Tasks.{IsSameClock, stands_for, stopped_for, EngineGone, WentOn, WasRun}
 use Rattle.clock_tasks.proofs.Writing.{write_of, write_since}
 use Rattle.clock_tasks.proofs.Walking.{agree_none, agree_then, joined_alike, extended, extended_at, extended_below, gone_more, gone_part}
 
@@ -26,6 +29,7 @@ same_then name faults a b c x y = record {
   outs = y.outs ∙ x.outs;
   kept = kept_then name faults a.outs b.outs c.outs x.outs x.kept y.kept;
   none_fell = fell_then faults a.outs b.outs c.outs x.none_fell y.none_fell;
+  keeping = y.keeping ∙ x.keeping;
 }
 
 -- what is known of a task after so many ticks without a fault
@@ -39,6 +43,23 @@ pub record Running {S T : Type 0} (held name : S → Option (List ℕ)) (room : 
   pub engine : (t : ℕ) (answers : ℕ → List Answer) → EngineStands old.engine.parts t answers → (more : ℕ → List Answer) × EngineStands new.engine.parts (t + count) more
   pub runs : new.engine.parts.stopped ≡ None
 
+-- an engine that stopped, by another name of its setting and its clock
+pub part_moved : {S : Type 0} (setting other : Setting) (m k : ℕ) (held : ClockEngine S → ℕ → Option (List ℕ)) (t : ℕ) (history : History) (first : ℕ → Option (List ℕ)) (e : ClockEngine S) → setting ≡ other → m ≡ k
+    → (part : HasGonePart setting stopped_for held m t history first e) → (moved : HasGonePart other stopped_for held k t history first e) × (moved.made ≡ part.made)
+part_moved setting other m k held t history first e same clock part = (
+  record {
+    ticks = subst (λ (z : Setting × ℕ). AreTicks z.0 z.1 t history) (λ i. (same i, clock i)) part.ticks;
+    made = part.made;
+    halted = part.halted;
+    accepted = part.accepted;
+    begun = subst (λ (z : Setting × ℕ). (rest : ℕ → List Answer) → IsBegin part.made (calls_of_tick (with_rest z.0 (after_calls (answers_by history t) part.made) rest) part.accepted z.1 t)) (λ i. (same i, clock i)) part.begun;
+    part = subst (λ (z : Setting × ℕ). (rest : ℕ → List Answer) (sink node : ℕ) → IsOutput z.0 z.1 sink node → (front : List ℕ)
+        × IsPrefix (ticks_bytes (with_rest z.0 (after_calls (answers_by history t) part.made) rest) node t) front
+        × IsPrefix front (ticks_bytes (with_rest z.0 (after_calls (answers_by history t) part.made) rest) node (suc t)) × (held e sink ≡ grown front (first sink))) (λ i. (same i, clock i)) part.part;
+  },
+  refl,
+)
+
 -- what stopped is not nothing, and is one fault
 some_not_none : {A : Type 0} {o : Option A} {x : A} → o ≡ Some x → o ≡ None → ⊥
 some_not_none is none = cc
@@ -49,7 +70,7 @@ some_is x y one other = cc
 module _ {S T : Type 0} (held name : S → Option (List ℕ)) (room : S → Option ℕ) (faults : S → ℕ) (stands : T → List Call → Type 0) (buffers : T → ℕ) (same : T → T → Type 0) where
   pub running_none : (x : Task S T) → same x.taps x.taps → x.engine.parts.stopped ≡ None → Running held name room faults stands buffers same 0 x x
   running_none x s runs = record {
-    clock = record { setting = refl; clock = refl; outs = refl; kept = kept_none name faults x.engine.outs; none_fell = fell_none faults x.engine.outs };
+    clock = record { setting = refl; clock = refl; outs = refl; kept = kept_none name faults x.engine.outs; none_fell = fell_none faults x.engine.outs; keeping = refl };
     taps = s;
     many = refl;
     on = λ t h first gone. record {
@@ -98,7 +119,7 @@ module _ {S T : Type 0} (held name : S → Option (List ℕ)) (room : S → Opti
     pub running_broke : (appends : S → Option ℕ) (whole : ℕ) → count < whole → same x.taps s → buffers s ≡ buffers y.taps
         → HasFailed held stands y.engine.parts e.parts y.engine.outs e.outs y.taps s
         → (fault : TickFault) → e.parts.stopped ≡ Some fault → ((sink : ℕ) → fault ≡ Write sink → IsWriteFault faults appends y.engine.parts y.engine.outs e.outs fault)
-        → (fault ≡ OutOfMemory → 0 < length y.engine.parts.shape.plan.now.buffers)
+        → ((y.engine.parts.cues.keeping ≡ true → ⊥) → fault ≡ OutOfMemory → 0 < length y.engine.parts.shape.plan.now.buffers)
         → WasRun held name room faults stands buffers same whole x (record { engine = e; taps = s })
     running_broke appends whole fewer taps many failed fault stopped cause memory = record {
       clock = same_then name faults x.engine y.engine e running.clock same_clock;
@@ -108,21 +129,25 @@ module _ {S T : Type 0} (held name : S → Option (List ℕ)) (room : S → Opti
         on = λ t h first gone runs. absurd (some_not_none stopped runs);
         halted = λ t h first gone no.
             let w = running.on t h first gone in
-            let part = gone_part (setting_of y.engine.parts) stands_for (held_of held) y.engine.parts.clock (t + count) w.after first y.engine e w.gone failed.made
-            (failed.engine (t + count) _ w.gone.stand) in
+            let part = gone_part (setting_of y.engine.parts) stands_for (held_of held) y.engine.parts.clock (t + count) w.after first y.engine e w.gone stopped_for failed.made
+            (failed.engine (t + count) _ w.gone.stand) (failed.halted (t + count) _ w.gone.stand) in
+            let moved = part_moved (setting_of y.engine.parts) (setting_of e.parts) y.engine.parts.clock e.parts.clock (held_of held) (t + count) w.after first e (sym same_clock.setting) (sym same_clock.clock) part.0 in
             record {
               made = count;
               fewer = fewer;
               after = w.after;
               agree = w.agree;
-              part = subst (λ (z : Setting × ℕ). HasGonePart z.0 (held_of held) z.1 (t + count) w.after first e) (λ i. (sym same_clock.setting i, sym same_clock.clock i)) part;
+              part = moved.0;
+              taps = λ calls st. subst (λ l. stands s l) (append_assoc calls (joined_from w.after.calls t count) failed.made ∙ ap (λ l. calls ++ (joined_from w.after.calls t count ++ l)) (sym (moved.1 ∙ part.1)))
+                  (failed.taps (calls ++ joined_from w.after.calls t count) (w.taps calls st));
             };
       };
       write = λ sink is. (let e' : fault ≡ Write sink = some_is fault (Write sink) stopped is in
           write_since name faults x.engine y.engine e sink running.clock
           (write_of name faults y.engine e sink appends (subst (IsWriteFault faults appends y.engine.parts y.engine.outs e.outs) e' (cause sink e'))));
       rooms = λ n runs. absurd (some_not_none stopped runs);
-      memory = λ is. subst (λ n. 0 < n) (ap (λ (set : Setting). length set.plan.buffers) running.clock.setting) (memory (some_is fault OutOfMemory stopped is));
+      memory = λ none is. subst (λ n. 0 < n) (ap (λ (set : Setting). length set.plan.buffers) running.clock.setting)
+          (memory (λ keeps. none (sym running.clock.keeping ∙ keeps)) (some_is fault OutOfMemory stopped is));
     }
 
   pub running_all : (count whole : ℕ) (x y : Task S T) → count ≡ whole → Running held name room faults stands buffers same count x y → WasRun held name room faults stands buffers same whole x y
@@ -133,7 +158,7 @@ module _ {S T : Type 0} (held name : S → Option (List ℕ)) (room : S → Opti
     ran = record { on = λ t h first gone runs. running.on t h first gone; halted = λ t h first gone no. absurd (no running.runs) };
     write = λ sink is. absurd (some_not_none is running.runs);
     rooms = λ n runs. running.rooms n;
-    memory = λ is. absurd (some_not_none is running.runs);
+    memory = λ none is. absurd (some_not_none is running.runs);
   })
 
 module _ {S : Type 0} (room : S → Option ℕ) (parts : EngineParts) (outs : List S) where

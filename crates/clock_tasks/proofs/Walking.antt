@@ -104,20 +104,25 @@ module _ {E : Type 0} (setting : Setting) (stands : E → ℕ → (ℕ → List 
               new ∙ ap (λ o. grown (tick_bytes all node t) o) old ∙ grown_twice (ticks_bytes all node t) (tick_bytes all node t) (first sink);
         }
 
-    pub gone_part : (made : List Call) (broke : HasStopped setting m t (answers_by h t) made (held e) (held e')) → HasGonePart setting held m t h first e'
-    gone_part made broke = record {
-      ticks = gone.ticks;
-      made = made;
-      accepted = broke.accepted;
-      begun = broke.begun;
-      part = λ rest sink node output.
-          let all : Setting = with_rest setting (after_calls (answers_by h t) made) rest in
-          let p = broke.part rest sink node output in
-          let old : held e sink ≡ grown (ticks_bytes all node t) (first sink) =
-          gone.holds (behind (answers_by h t) made rest) sink node output ∙ ap (λ (s : Setting). grown (ticks_bytes s node t) (first sink)) (later setting (answers_by h t) made rest) in (
-            ticks_bytes all node t ++ p.0,
-            record { rest = p.0; whole_is = refl },
-            record { rest = p.1.rest; whole_is = ap (λ l. ticks_bytes all node t ++ l) p.1.whole_is ∙ sym (append_assoc (ticks_bytes all node t) p.0 p.1.rest) },
-            p.2 ∙ ap (λ o. grown p.0 o) old ∙ grown_twice (ticks_bytes all node t) p.0 (first sink),
-          );
-    }
+    pub gone_part : (halts : E → ℕ → (ℕ → List Answer) → List Call → Type 0) (made : List Call) (broke : HasStopped setting m t (answers_by h t) made (held e) (held e')) → halts e' t (answers_by h t) made
+        → (part : HasGonePart setting halts held m t h first e') × (part.made ≡ made)
+    gone_part halts made broke halted = (
+      record {
+        ticks = gone.ticks;
+        made = made;
+        halted = halted;
+        accepted = broke.accepted;
+        begun = broke.begun;
+        part = λ rest sink node output.
+            let all : Setting = with_rest setting (after_calls (answers_by h t) made) rest in
+            let p = broke.part rest sink node output in
+            let old : held e sink ≡ grown (ticks_bytes all node t) (first sink) =
+            gone.holds (behind (answers_by h t) made rest) sink node output ∙ ap (λ (s : Setting). grown (ticks_bytes s node t) (first sink)) (later setting (answers_by h t) made rest) in (
+              ticks_bytes all node t ++ p.0,
+              record { rest = p.0; whole_is = refl },
+              record { rest = p.1.rest; whole_is = ap (λ l. ticks_bytes all node t ++ l) p.1.whole_is ∙ sym (append_assoc (ticks_bytes all node t) p.0 p.1.rest) },
+              p.2 ∙ ap (λ o. grown p.0 o) old ∙ grown_twice (ticks_bytes all node t) p.0 (first sink),
+            );
+      },
+      refl,
+    )

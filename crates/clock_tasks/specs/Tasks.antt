@@ -1,17 +1,20 @@
 -- What a task does in a window.
-use Rattle.std.specs.Prelude.{◌≡◌, ◌<◌, ◌≤◌, ◌+◌, Option, Some, None, List, ◌++◌, ℕ, length, slice_get}
+use Rattle.std.specs.Prelude.{◌≡◌, ◌<◌, ◌≤◌, ◌+◌, Option, Some, None, List, ◌++◌, ℕ, length, slice_get, true}
 use Rattle.frame_core.specs.Calls.{Call}
 use Rattle.op_leaf.specs.Readers.{Answer}
 use Rattle.clock_outputs.specs.Appends.{AreKept, NoneFell, RoseAt}
 use Rattle.clock_engine.specs.declared.engine.ClockEngine.{ClockEngine}
 use Rattle.clock_engine.specs.declared.fault.TickFault.TheVariants.{Memory as OutOfMemory, Write}
-use Rattle.clock_engine.specs.Engines.{EngineStands, held_of, outputs_of, setting_of}
+use Rattle.clock_engine.specs.Engines.{EngineStands, EngineStopped, held_of, outputs_of, setting_of}
 use Rattle.clock_engine.specs.Ticks.{HaveTicksRoom}
 use Rattle.clock_tasks.specs.declared.task.Task.{Task}
 use Rattle.clock_tasks.specs.Histories.{History, joined_from, Agree, HasGone, HasGonePart}
 
 abbrev pub stands_for : {S : Type 0} → ClockEngine S → ℕ → (ℕ → List Answer) → Type 0
 stands_for e t answers = EngineStands e.parts t answers
+
+abbrev pub stopped_for : {S : Type 0} → ClockEngine S → ℕ → (ℕ → List Answer) → List Call → Type 0
+stopped_for e t answers made = EngineStopped e.parts t answers made
 
 -- the same clock of the same plan, with the same sinks
 pub record IsSameClock {S : Type 0} (name : S → Option (List ℕ)) (faults : S → ℕ) (old new : ClockEngine S) : Type 0 where
@@ -20,6 +23,7 @@ pub record IsSameClock {S : Type 0} (name : S → Option (List ℕ)) (faults : S
   pub outs : length new.outs ≡ length old.outs
   pub kept : AreKept name faults old.outs new.outs
   pub none_fell : NoneFell faults old.outs new.outs
+  pub keeping : new.parts.cues.keeping ≡ old.parts.cues.keeping
 
 -- this is the sink of an output of the clock, and its count of faults rose
 pub record IsWriteOf {S : Type 0} (faults : S → ℕ) (sink : ℕ) (old new : ClockEngine S) : Type 0 where
@@ -45,7 +49,7 @@ abbrev pub EngineGone : {S : Type 0} → (S → Option (List ℕ)) → (t : ℕ)
 EngineGone held t history first e = HasGone (setting_of e.parts) stands_for (held_of held) e.parts.clock t history first e
 
 abbrev pub EngineGonePart : {S : Type 0} → (S → Option (List ℕ)) → (t : ℕ) → History → (ℕ → Option (List ℕ)) → ClockEngine S → Type 0
-EngineGonePart held t history first e = HasGonePart (setting_of e.parts) (held_of held) e.parts.clock t history first e
+EngineGonePart held t history first e = HasGonePart (setting_of e.parts) stopped_for (held_of held) e.parts.clock t history first e
 
 -- it made all ticks
 pub record WentOn {S T : Type 0} (held : S → Option (List ℕ)) (stands : T → List Call → Type 0) (count t : ℕ) (history : History) (first : ℕ → Option (List ℕ))
@@ -55,19 +59,20 @@ pub record WentOn {S T : Type 0} (held : S → Option (List ℕ)) (stands : T �
   pub gone : EngineGone held (t + count) after first new.engine
   pub taps : (calls : List Call) → stands old.taps calls → stands new.taps (calls ++ joined_from after.calls t count)
 
--- it stopped in a tick of this window
-pub record Halted {S T : Type 0} (held : S → Option (List ℕ)) (count t : ℕ) (history : History) (first : ℕ → Option (List ℕ)) (old new : Task S T) : Type 0 where
+-- it stopped in a tick of this window, after these calls
+pub record Halted {S T : Type 0} (held : S → Option (List ℕ)) (stands : T → List Call → Type 0) (count t : ℕ) (history : History) (first : ℕ → Option (List ℕ)) (old new : Task S T) : Type 0 where
   pub made : ℕ
   pub fewer : made < count
   pub after : History
   pub agree : Agree t history after
   pub part : EngineGonePart held (t + made) after first new.engine
+  pub taps : (calls : List Call) → stands old.taps calls → stands new.taps (calls ++ (joined_from after.calls t made ++ part.made))
 
 pub record RanTask {S T : Type 0} (held : S → Option (List ℕ)) (stands : T → List Call → Type 0) (count : ℕ) (old new : Task S T) : Type 0 where
   pub on : (t : ℕ) (history : History) (first : ℕ → Option (List ℕ)) → EngineGone held t history first old.engine → new.engine.parts.stopped ≡ None
       → WentOn held stands count t history first old new
   pub halted : (t : ℕ) (history : History) (first : ℕ → Option (List ℕ)) → EngineGone held t history first old.engine → (new.engine.parts.stopped ≡ None → ⊥)
-      → Halted held count t history first old new
+      → Halted held stands count t history first old new
 
 pub record WasRun {S T : Type 0} (held name : S → Option (List ℕ)) (room : S → Option ℕ) (faults : S → ℕ) (stands : T → List Call → Type 0) (buffers : T → ℕ) (same : T → T → Type 0)
     (count : ℕ) (old new : Task S T) : Type 0 where
@@ -77,4 +82,4 @@ pub record WasRun {S T : Type 0} (held name : S → Option (List ℕ)) (room : S
   pub ran : RanTask held stands count old new
   pub write : (sink : ℕ) → new.engine.parts.stopped ≡ Some (Write sink) → IsWriteOf faults sink old.engine new.engine
   pub rooms : (n : ℕ) → new.engine.parts.stopped ≡ None → HaveTicksRoom room old.engine.parts old.engine.outs (n + count) → HaveTicksRoom room new.engine.parts new.engine.outs n
-  pub memory : new.engine.parts.stopped ≡ Some OutOfMemory → 0 < length old.engine.parts.shape.plan.now.buffers
+  pub memory : (old.engine.parts.cues.keeping ≡ true → ⊥) → new.engine.parts.stopped ≡ Some OutOfMemory → 0 < length old.engine.parts.shape.plan.now.buffers

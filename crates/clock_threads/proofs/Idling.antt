@@ -1,5 +1,5 @@
 -- Runs in which no clock made a tick: memory was refused before the first, or no clock runs.
-use Rattle.std.proofs.Common.{◌≡◌, ◌⊎◌, ◌<◌, ◌≤◌, ℕ, zero, suc, ◌-◌, true, Option, List, [], ◌∷◌, ◌++◌, length, min, slice_index_or, arith, refl, ap, sym, subst, inl, inr}
+use Rattle.std.proofs.Common.{◌≡◌, ◌⊎◌, ◌<◌, ◌≤◌, ℕ, zero, suc, ◌-◌, true, Option, List, [], ◌∷◌, ◌++◌, length, min, slice_index_or, arith, refl, sym, subst, inl, inr}
 use Rattle.plan_core.specs.declared.plan.Plan.{Plan}
 use Rattle.clock_infer.specs.declared.clock_map.ClockMap.{ClockMap}
 use Rattle.buffer_ends.specs.Local.{Answers}
@@ -7,9 +7,10 @@ use Rattle.buffer_ends.specs.declared.counts.Counts.{Counts}
 use Rattle.buffer_ends.specs.declared.run_end.End.{End}
 use Rattle.buffer_ends.specs.declared.run_end.End.TheVariants.{Done, Memory, Write}
 use Rattle.stream_meaning.specs.Instants.{Setting}
-use Rattle.stream_meaning.specs.Calls.{joined_between}
-use Rattle.stream_meaning.specs.Sinks.{ticks_bytes}
-use Rattle.run_records.specs.Records.{AreWindowsBegun, IsLawful, Run, Window, calls_in, setting_then, start}
+use Rattle.stream_meaning.specs.Calls.{IsBegin, joined_between, joined_upto}
+use Rattle.frame_core.specs.Legal.{Legal, IsRun}
+use Rattle.run_records.specs.Buffers.{feeder}
+use Rattle.run_records.specs.Records.{AreWindowsBegun, Follows, IsLawful, Run, Window, calls_in, capacity_of, on, setting_then, start}
 use Rattle.run_records.proofs.Alone.{feeder_runs}
 use Rattle.clock_engine.specs.declared.engine.ClockEngine.{ClockEngine}
 use Rattle.clock_engine.specs.Engines.{held_of}
@@ -34,10 +35,17 @@ idle_begun setting clocks W N = record {
   buffers = listed_long (length setting.plan.buffers) idle_windows;
   accepted = λ m t b. true;
   closed = 0;
+  made = λ m. 0;
+  tried = λ m. 0;
   since = λ m. [];
-  begun = λ rest m. begin_none (joined_between (calls_in (setting_then setting (idle_run setting) rest) clocks (λ n t b. true) m) (start W N 0) (start W N 1));
+  within = λ m. record { least = (let z = start_zero W N in omega (arith, z)); most = omega arith; no_fewer = omega arith; one_more = omega arith };
+  level = λ m n low less same again. refl;
+  ended = λ m n low stopped same. absurd (omega (arith, stopped));
+  whole = λ rest m. subst (λ n. IsBegin (joined_between (calls_in (setting_then setting (idle_run setting) rest) clocks (λ n t b. true) m) n 0) []) (sym (start_zero W N)) (begin_none []);
+  begun = λ rest m. begin_none (joined_between (calls_in (setting_then setting (idle_run setting) rest) clocks (λ n t b. true) m) (start W N 0) 0);
   are = λ rest b less. listed_at (length setting.plan.buffers) idle_windows b [] less;
-  legal = λ rest b less. ([], refl);
+  legal = λ b less. ([], subst (λ (ws : List Window). IsRun (capacity_of setting b) [] ws []) (sym (listed_at (length setting.plan.buffers) idle_windows b [] less)) ([], Legal.ended, refl));
+  in_order = λ rest b less one. ([], subst (λ n. Follows (capacity_of setting b) [] (on b (joined_upto (calls_in (setting_then setting (idle_run setting) rest) clocks (λ n t b. true) (feeder setting b)) n ++ [])) []) (sym (start_zero W N)) refl);
 }
 
 -- other ends than a write
@@ -57,12 +65,10 @@ none_made held name room faults plan setting clocks W N engines end other are = 
   engines = λ k d h. (let engine = slice_index_or engines k d in
       record {
         same = same_not name faults engine;
-        part = λ rest sink node out. (
-          [],
-          record { rest = []; whole_is = sym (ap (λ n. ticks_bytes (setting_then setting (idle_run setting) rest) node n ++ []) (start_zero W N)) },
-          record { rest = ticks_bytes (setting_then setting (idle_run setting) rest) node (start W N 1); whole_is = refl },
-          grown_none (held_of held engine sink),
-        );
+        answers = λ b. [];
+        given = λ rest. ((setting_then setting (idle_run setting) rest).answers, refl);
+        stands = inl (refl, (are.each k d h).stands);
+        part = λ rest sink node out. ([], record { rest = []; whole_is = refl }, record { rest = []; whole_is = refl }, grown_none (held_of held engine sink));
       });
   write = λ clock sink e. absurd (other clock sink e);
 }

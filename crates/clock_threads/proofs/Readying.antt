@@ -17,7 +17,7 @@ use Rattle.clock_engine.specs.Engines.{EngineStands, outputs_of, setting_of, hel
 use Rattle.clock_engine.specs.Ticks.{HaveTicksRoom}
 use Rattle.clock_engine.specs.declared.engine.ClockEngine.{ClockEngine}
 use Rattle.clock_tasks.specs.declared.task.Task.{Task}
-use Rattle.clock_tasks.specs.Histories.{History}
+use Rattle.clock_tasks.specs.Histories.{History, answers_by}
 use Rattle.clock_tasks.specs.Tasks.{EngineGone, IsSameClock}
 use Rattle.clock_windows.specs.declared.wires.Wire.{Wire}
 use Rattle.clock_windows.specs.Wires.{wire_at, kept}
@@ -26,12 +26,13 @@ use Rattle.run_records.specs.Records.{Run, Window, start, answers_of as answers_
 use Rattle.clock_infer.specs.declared.clock_map.ClockMap.{ClockMap}
 use Rattle.frame_core.specs.declared.cell.Cell.{Cell}
 use Rattle.clock_windows.specs.Records.{ClockGoing, SameEngines}
-use Rattle.clock_windows.specs.Runs.{IsReady, IsWriteAt, DoneAt, RunDone, PartAt, RunPart}
+use Rattle.clock_windows.specs.Runs.{IsReady, IsWriteAt, DoneAt, RunDone, PartAt, RunPart, StandsOrStopped}
 use Rattle.clock_windows.specs.Lawful.{IsWiredRun, answers_of, meant}
 use Rattle.clock_windows.proofs.Starts.{start_zero}
 use Rattle.clock_windows.proofs.Ending.{with_one}
 use Rattle.clock_windows.proofs.Finishing.{done_windows, done_wired, done_bytes, done_stands}
-use Rattle.clock_windows.proofs.Partly.{part_begun, part_fronts, part_run}
+use Rattle.clock_windows.proofs.Breaking.{Reach}
+use Rattle.clock_windows.proofs.Partly.{part_begun, part_fronts, part_given, part_run, part_stood, reach}
 use Rattle.clock_windows.proofs.Recording.{run_of, run_answers, run_is_lawful}
 use Rattle.clock_threads.specs.Logs.{AreNoLogs}
 use Rattle.clock_threads.specs.Starts.{AreJoined, AreBare}
@@ -55,6 +56,7 @@ same_not name faults e = record {
   outs = refl;
   kept = record { each = λ k before after was is. (let e' = some_one was is in (ap name e', (let n = ap faults e' in omega (arith, n)))) };
   none_fell = record { each = λ k d. omega arith };
+  keeping = refl;
 }
   where
     some_one : {A : Type 0} {o : Option A} {x y : A} → o ≡ Some x → o ≡ Some y → y ≡ x
@@ -199,9 +201,15 @@ module _ {S R : Type 0} (held name : S → Option (List ℕ)) (room : S → Opti
     abbrev begun_run : Run
     begun_run = part_run held name faults wires W N joined now d p setting map_of fresh.engines_are.is fresh.wires_are long (shared d)
 
-    made_part : (k : ℕ) → k < length joined → HasMadePart held name faults setting begun_run W N p.closed k (slice_index_or joined k d).engine (slice_index_or now k d).engine
+    abbrev reached : (k : ℕ) → Reach setting map_of.running k (start W N p.closed) (start W N (suc p.closed)) (p.histories k) (StandsOrStopped (slice_index_or now k d).engine) (held_of held (slice_index_or joined k d).engine) (held_of held (slice_index_or now k d).engine)
+    reached = reach held name faults wires W N joined now d p setting map_of fresh.engines_are.is fresh.wires_are long (shared d)
+
+    made_part : (k : ℕ) → k < length joined → HasMadePart held name faults setting begun_run (reached k).ticks (reached k).tried k (slice_index_or joined k d).engine (slice_index_or now k d).engine
     made_part k h = record {
       same = (p.clocks k h).same;
+      answers = answers_by (p.histories k) (reached k).ticks;
+      given = part_given held name faults wires W N joined now d p setting map_of fresh.engines_are.is fresh.wires_are long (shared d) k h;
+      stands = part_stood held name faults wires W N joined now d p setting map_of fresh.engines_are.is fresh.wires_are long (shared d) k h;
       part = part_fronts held name faults wires W N joined now d p setting map_of fresh.engines_are.is fresh.wires_are long (shared d) k h;
     }
 
@@ -230,13 +238,13 @@ module _ {S R : Type 0} (held name : S → Option (List ℕ)) (room : S → Opti
 
     some_run : (end : End) → ((clock sink : ℕ) → end ≡ Write clock sink → IsWriteAt faults clock sink joined now)
         → HasRunSome held name faults setting map_of W N (map engine_of bare) (map engine_of now) end
-    some_run end write = let begun = part_begun held name faults wires W N joined now d p setting map_of fresh.engines_are.is fresh.wires_are long (shared d) in record {
+    some_run end write = record {
       run = begun_run;
-      begun = begun.0;
+      begun = part_begun held name faults wires W N joined now d p setting map_of fresh.engines_are.is fresh.wires_are long (shared d) places_joined;
       many = map_long engine_of now ∙ p.many ∙ j.many ∙ sym (map_long engine_of bare);
       engines = λ k e h. (let low : k < length bare = (let n = map_long (engine_of {S = S} {R = R}) bare in omega (arith, h, n)) in let m = j.many in let n = p.many in
-          subst (λ (z : ClockEngine S × ClockEngine S × ℕ). HasMadePart held name faults setting begun_run W N z.2 k z.0 z.1)
-          (λ i. ((engine_is k d low ∙ sym (map_get engine_of bare k d e low)) i, sym (map_get engine_of now k d e (omega (arith, low, m, n))) i, sym begun.1 i)) (made_part k (omega (arith, low, m))));
+          subst (λ (z : ClockEngine S × ClockEngine S). HasMadePart held name faults setting begun_run (reached k).ticks (reached k).tried k z.0 z.1)
+          (λ i. ((engine_is k d low ∙ sym (map_get engine_of bare k d e low)) i, sym (map_get engine_of now k d e (omega (arith, low, m, n))) i)) (made_part k (omega (arith, low, m))));
       write = λ clock sink e. write_end clock sink (write clock sink e);
     }
 

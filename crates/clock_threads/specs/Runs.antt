@@ -1,5 +1,5 @@
 -- Runs of the engines of all clocks by threads, in windows of ticks.
-use Rattle.std.specs.Prelude.{◌≡◌, ◌<◌, ℕ, suc, Option, Some, None, List, [], length, map, slice_get, slice_index_or}
+use Rattle.std.specs.Prelude.{◌≡◌, ◌<◌, ℕ, Option, Some, None, List, [], length, map, slice_get, slice_index_or}
 use Rattle.liq_base.specs.Pieces.{IsPrefix, grown}
 use Rattle.plan_core.specs.declared.plan.Plan.{Plan}
 use Rattle.clock_infer.specs.declared.clock_map.ClockMap.{ClockMap}
@@ -12,13 +12,14 @@ use Rattle.stream_meaning.specs.Instants.{Setting}
 use Rattle.stream_meaning.specs.Settings.{IsSetting}
 use Rattle.stream_meaning.specs.Sinks.{ticks_bytes}
 use Rattle.node_states.specs.Ticks.{IsOutput, with_rest}
-use Rattle.run_records.specs.Records.{AreWindowsBegun, IsLawful, Run, setting_in, setting_then, start}
+use Rattle.run_records.specs.Records.{AreWindowsBegun, IsLawful, Run, setting_in, setting_then}
 use Rattle.clock_outputs.specs.Appends.{RoseAt}
 use Rattle.clock_engine.specs.Engines.{EngineStands, outputs_of, setting_of, held_of}
 use Rattle.clock_engine.specs.Ticks.{HaveTicksRoom}
 use Rattle.clock_engine.specs.declared.engine.ClockEngine.{ClockEngine}
 use Rattle.clock_engine.specs.declared.fault.TickFault.TheVariants.{Write as Refused}
 use Rattle.clock_tasks.specs.Tasks.{IsSameClock}
+use Rattle.clock_windows.specs.Runs.{StandsOrStopped}
 use Rattle.buffer_sides.specs.Logs.{told}
 use Rattle.clock_threads.specs.Logs.{counts_in}
 
@@ -68,14 +69,18 @@ pub record HasRunAll {S : Type 0} (held name : S → Option (List ℕ)) (faults 
   pub has_run : HasRun held name faults setting clocks W N run old new
   pub tells : AreTold run counts logs
 
--- An engine came into the window that follows so many: each output has grown by its bytes of the windows before, and then by a front of
--- those of this one, whatever answers follow those that the run got.
-pub record HasMadePart {S : Type 0} (held name : S → Option (List ℕ)) (faults : S → ℕ) (setting : Setting) (run : Run) (W N closed k : ℕ) (old new : ClockEngine S) : Type 0 where
+-- How far an engine came in a run that was broken off: it stands for the ticks that it made, or stopped in the next one; with the answers
+-- that its takes got in the run. Each output has grown by its bytes of the ticks that were made, and then by a front of those that were
+-- tried, whatever answers follow.
+pub record HasMadePart {S : Type 0} (held name : S → Option (List ℕ)) (faults : S → ℕ) (setting : Setting) (run : Run) (made tried k : ℕ) (old new : ClockEngine S) : Type 0 where
   pub same : IsSameClock name faults old new
+  pub answers : ℕ → List Answer
+  pub given : (rest : ℕ → List Answer) → (more : ℕ → List Answer) × (with_rest setting answers more ≡ setting_then setting run rest)
+  pub stands : StandsOrStopped new made tried answers
   pub part : (rest : ℕ → List Answer) (sink node : ℕ) → IsOutput setting k sink node
       → (bytes : List ℕ)
-      × IsPrefix (ticks_bytes (setting_then setting run rest) node (start W N closed)) bytes
-      × IsPrefix bytes (ticks_bytes (setting_then setting run rest) node (start W N (suc closed)))
+      × IsPrefix (ticks_bytes (setting_then setting run rest) node made) bytes
+      × IsPrefix bytes (ticks_bytes (setting_then setting run rest) node tried)
       × (held_of held new sink ≡ grown bytes (held_of held old sink))
 
 -- The end names an output of this clock, the lowest that stopped, and the count of faults of its sink rose.
@@ -97,5 +102,5 @@ pub record HasRunSome {S : Type 0} (held name : S → Option (List ℕ)) (faults
   pub run : Run
   pub begun : AreWindowsBegun setting clocks.running W N run
   pub many : length new ≡ length old
-  pub engines : (k : ℕ) (d : ClockEngine S) → k < length old → HasMadePart held name faults setting run W N begun.closed k (slice_index_or old k d) (slice_index_or new k d)
+  pub engines : (k : ℕ) (d : ClockEngine S) → k < length old → HasMadePart held name faults setting run (begun.made k) (begun.tried k) k (slice_index_or old k d) (slice_index_or new k d)
   pub write : (clock sink : ℕ) → end ≡ Write clock sink → IsWriteEnd faults setting clock sink old new

@@ -1,5 +1,5 @@
 // The run of a plan's clocks.
-ghost use Rattle.std.specs.Prelude.{◌≡◌, ◌<◌, ◌≤◌, length};
+ghost use Rattle.std.specs.Prelude.{◌≡◌, ◌<◌, ◌≤◌, true, All, length};
 ghost use Rattle.buffer_ends.specs.declared.run_end.End.TheVariants.{Done, Memory as NoMemory};
 ghost use Rattle.stream_meaning.specs.Instants.{Setting};
 ghost use Rattle.clock_threads.specs.Runs.{AreAlike, AreEngines, HasRunAll, HasRunSome};
@@ -20,7 +20,7 @@ use std::thread::Threads;
 /// one. The engines are those of all running clocks of this plan, in clock order, and made no tick; before each tick the gate is
 /// entered. A clock that stops does so at its tick; the others end their window, and no further one begins. The same engines
 /// come back in the same order, whatever the end is. Where a sink refused bytes, the end names the lowest clock that stopped.
-/// On a plan without buffers it takes no memory.
+/// On a plan without buffers, where no engine keeps its marks, it takes no memory.
 pub fn run_threads<'a, O: Sink + Send, G: Gate + Sync, R: Threads + Wait + Sync>(
     rt: &R,
     alloc: Global,
@@ -39,7 +39,7 @@ pub fn run_threads<'a, O: Sink + Send, G: Gate + Sync, R: Threads + Wait + Sync>
         → HasRunAll O.held O.name O.faults setting clocks.now window ticks engines.entry.items result.0.items result.1.counts.items result.1.logs.items }
     ensures part { (setting : Setting) → AreEngines O.room plan.now clocks.now ticks setting engines.entry.items
         → HasRunSome O.held O.name O.faults setting clocks.now window ticks engines.entry.items result.0.items result.1.end }
-    ensures memory { result.1.end ≡ NoMemory → 0 < length plan.now.buffers }
+    ensures memory { All (λ engine. engine.parts.cues.keeping ≡ true → ⊥) engines.entry.items → result.1.end ≡ NoMemory → 0 < length plan.now.buffers }
 {
     if engines.is_empty() {
         return (engines, ended(alloc, End::Done));

@@ -1,5 +1,5 @@
 // The run over a plan without buffers: of the engines themselves.
-ghost use Rattle.std.specs.Prelude.{◌≡◌, ◌≢◌, ◌<◌, ◌≤◌, length};
+ghost use Rattle.std.specs.Prelude.{◌≡◌, ◌≢◌, ◌<◌, ◌≤◌, true, All, length};
 ghost use Rattle.buffer_ends.specs.declared.run_end.End.TheVariants.{Done, Memory};
 ghost use Rattle.clock_infer.specs.declared.clock_map.ClockMap.{ClockMap as Map};
 ghost use Rattle.plan_core.specs.declared.plan.Plan.{Plan as ThePlan};
@@ -15,7 +15,7 @@ use liq_base::{Gate, Sink};
 use std::alloc::Global;
 use std::thread::Threads;
 
-// All clocks make so many ticks, in windows of so many. It takes no memory.
+// All clocks make so many ticks, in windows of so many. Where no engine keeps its marks it takes no memory.
 pub(crate) fn run_unwired<O: Sink + Send, G: Gate + Sync, R: Threads + Sync>(
     rt: &R,
     alloc: Global,
@@ -33,7 +33,7 @@ pub(crate) fn run_unwired<O: Sink + Send, G: Gate + Sync, R: Threads + Sync>(
         → HasRunAll O.held O.name O.faults setting clocks window ticks engines.old engines.new result.counts.items result.logs.items }
     ensures part { (plan : ThePlan) (setting : Setting) (clocks : Map) → length plan.buffers ≡ 0 → AreEngines O.room plan clocks ticks setting engines.old
         → HasRunSome O.held O.name O.faults setting clocks window ticks engines.old engines.new result.end }
-    ensures memory { result.end ≢ Memory }
+    ensures memory { All (λ engine. engine.parts.cues.keeping ≡ true → ⊥) engines.old → result.end ≢ Memory }
 {
     ended(alloc, run_alone(rt, alloc, engines, ticks, window, gate))
 }

@@ -9,12 +9,12 @@ use Rattle.frame_core.specs.declared.cell.Cell.{Cell}
 use Rattle.frame_core.specs.Legal.{IsRun}
 use Rattle.frame_core.specs.Calls.{Call, takes_of, puts_to}
 use Rattle.stream_meaning.specs.Instants.{Setting, answered}
-use Rattle.stream_meaning.specs.Sinks.{tick_bytes, ticks_bytes}
+use Rattle.stream_meaning.specs.Sinks.{ticks_bytes}
 use Rattle.stream_meaning.specs.Calls.{IsBegin, after_calls, answers_in, calls_of_tick, joined_upto, joined_between}
 use Rattle.stream_meaning.specs.Settings.{IsSetting}
 use Rattle.node_states.specs.Ticks.{IsOutput, with_rest}
 use Rattle.run_records.specs.Buffers.{feeder, reader}
-use Rattle.run_records.specs.Records.{AreWindowsBegun, Run, Window, answers_of, calls_in, setting_then, start, windows_in, windows_of}
+use Rattle.run_records.specs.Records.{AreWindowsBegun, Follows, IsWithin, Run, Window, answers_of, calls_in, capacity_of, on, setting_then, start, windows_in, windows_of}
 use Rattle.run_records.proofs.Alone.{feeder_runs}
 use Rattle.run_records.proofs.Owning.{own_tick}
 use Rattle.run_records.proofs.Running.{runs_in, rests_in}
@@ -31,11 +31,16 @@ use Rattle.clock_windows.proofs.Meeting.{joined_split}
 use Rattle.clock_windows.proofs.Starts.{start_climbs, start_up}
 use Rattle.clock_windows.proofs.Owning.{in_takes, no_took, take_own, to_reader}
 use Rattle.clock_windows.proofs.Lawfully.{all_takes, flat_snoc, takes_none}
-use Rattle.clock_windows.proofs.Recording.{listed_at, listed_long, none_joined, past_end}
+use Rattle.buffer_ends.specs.Local.{on as on_ends}
+use Rattle.clock_windows.proofs.Recording.{on_same, listed_at, listed_long, none_joined, past_end}
 
 front_none : {A : Type 0} (xs ys : List A) → xs ++ ys ≡ [] → xs ≡ []
 front_none [] ys e = refl
 front_none (x ∷ xs) ys e = absurd cc
+
+behind_none : {A : Type 0} (xs ys : List A) → xs ++ ys ≡ [] → ys ≡ []
+behind_none [] ys e = e
+behind_none (x ∷ xs) ys e = absurd cc
 
 pub begin_none : (calls : List Call) → IsBegin [] calls
 begin_none calls = record { rest = calls; are = refl }
@@ -43,52 +48,32 @@ begin_none calls = record { rest = calls; are = refl }
 pub itself : (bytes : List ℕ) → IsPrefix bytes bytes
 itself bytes = record { rest = []; whole_is = sym (append-nil bytes) }
 
-pub front_of : (a b c : List ℕ) → IsPrefix a b → IsPrefix b c → IsPrefix a c
-front_of a b c first next = record {
-  rest = first.rest ++ next.rest;
-  whole_is = next.whole_is ∙ ap (λ l. l ++ next.rest) first.whole_is ∙ append_assoc a first.rest next.rest;
-}
-
--- the bytes of more ticks begin with those of fewer
-ticks_more : (setting : Setting) (node t k : ℕ) → (rest : List ℕ) × (ticks_bytes setting node (t + k) ≡ ticks_bytes setting node t ++ rest)
-ticks_more setting node t zero = (let e : t + 0 ≡ t = omega arith in ([], ap (ticks_bytes setting node) e ∙ sym (append-nil (ticks_bytes setting node t))))
-ticks_more setting node t (suc k) =
-    let e : t + suc k ≡ suc (t + k) = omega arith in let before = ticks_more setting node t k in (
-      before.0 ++ tick_bytes setting node (t + k),
-      ap (ticks_bytes setting node) e ∙ ap (λ l. l ++ tick_bytes setting node (t + k)) before.1 ∙ append_assoc (ticks_bytes setting node t) before.0 (tick_bytes setting node (t + k)),
-    )
-
-pub front_more : (setting : Setting) (node t n : ℕ) (front : List ℕ) → t ≤ n → IsPrefix front (ticks_bytes setting node t) → IsPrefix front (ticks_bytes setting node n)
-front_more setting node t n front most is =
-    let e : n ≡ t + (n - t) = omega (arith, most) in let more = ticks_more setting node t (n - t) in
-    record {
-      rest = is.rest ++ more.0;
-      whole_is = ap (ticks_bytes setting node) e ∙ more.1 ∙ ap (λ l. l ++ more.0) is.whole_is ∙ append_assoc front is.rest more.0;
-    }
-
--- A clock has made so many ticks from the last border on, and then these calls of the next one; each output has grown by its bytes up to
--- that border, and by a front of those up to the next one.
-pub record Came (setting : Setting) (m s e : ℕ) (history : History) (ticks : ℕ) (made : List Call) (accepted : ℕ → Bool) (old new : ℕ → Option (List ℕ)) : Type 0 where
-  pub least : s ≤ ticks
-  pub inside : ((ticks ≤ e) × (made ≡ [])) ⊎ (ticks < e)
+-- A clock has made so many ticks from the last border on, and tried no more or, after these calls, stopped in the next one; each output
+-- has grown by its bytes of the ticks that were made, and by a front of those of the ones that were tried.
+pub record Came (setting : Setting) (m s e : ℕ) (history : History) (ticks tried : ℕ) (made : List Call) (accepted : ℕ → Bool) (old new : ℕ → Option (List ℕ)) : Type 0 where
+  pub inside : ((tried ≡ ticks) × (made ≡ [])) ⊎ (tried ≡ suc ticks)
   pub ticks_are : AreTicks setting m ticks history
   pub begun : (rest : Answers) → IsBegin made (calls_of_tick (with_rest setting (after_calls (answers_by history ticks) made) rest) accepted m ticks)
   pub front : (rest : Answers) (sink node : ℕ) → IsOutput setting m sink node
-      → (bytes : List ℕ) × IsPrefix (ticks_bytes (with_rest setting (after_calls (answers_by history ticks) made) rest) node s) bytes
-      × IsPrefix bytes (ticks_bytes (with_rest setting (after_calls (answers_by history ticks) made) rest) node e) × (new sink ≡ grown bytes (old sink))
+      → (bytes : List ℕ) × IsPrefix (ticks_bytes (with_rest setting (after_calls (answers_by history ticks) made) rest) node ticks) bytes
+      × IsPrefix bytes (ticks_bytes (with_rest setting (after_calls (answers_by history ticks) made) rest) node tried) × (new sink ≡ grown bytes (old sink))
 
 -- what a clock called since the last border; one that does not run called nothing
-pub record Reach (setting : Setting) (running m s e : ℕ) (history : History) (old new : ℕ → Option (List ℕ)) : Type 0 where
+pub record Reach (setting : Setting) (running m s e : ℕ) (history : History) (Stands : (made tried : ℕ) → Answers → Type 0) (old new : ℕ → Option (List ℕ)) : Type 0 where
   pub ticks : ℕ
+  pub tried : ℕ
+  pub within : IsWithin s e ticks tried
   pub made : List Call
   pub accepted : ℕ → Bool
   pub since : List Call
   pub since_is : m < running → since ≡ joined_from history.calls s (ticks - s) ++ made
-  pub came : m < running → Came setting m s e history ticks made accepted old new
-  pub rests : running ≤ m → since ≡ []
+  pub came : m < running → Came setting m s e history ticks tried made accepted old new
+  pub stands : m < running → Stands ticks tried (answers_by history ticks)
+  pub rests : running ≤ m → (since ≡ []) × (ticks ≡ s)
 
-module _ (setting : Setting) (map : ClockMap) (is : IsSetting setting map) (wires : List Wire) (are : AreWires setting map.running wires) (W N closed : ℕ) (hs : ℕ → History) (old new : ℕ → ℕ → Option (List ℕ))
-    (reach : (m : ℕ) → Reach setting map.running m (start W N closed) (start W N (suc closed)) (hs m) (old m) (new m)) where
+module _ (setting : Setting) (map : ClockMap) (is : IsSetting setting map) (wires : List Wire) (are : AreWires setting map.running wires) (W N closed : ℕ) (hs : ℕ → History)
+    (Stands : ℕ → (made tried : ℕ) → Answers → Type 0) (old new : ℕ → ℕ → Option (List ℕ))
+    (reach : (m : ℕ) → Reach setting map.running m (start W N closed) (start W N (suc closed)) (hs m) (Stands m) (old m) (new m)) where
   abbrev s : ℕ
   s = start W N closed
 
@@ -97,6 +82,9 @@ module _ (setting : Setting) (map : ClockMap) (is : IsSetting setting map) (wire
 
   abbrev ticks : ℕ → ℕ
   ticks m = (reach m).ticks
+
+  abbrev tried : ℕ → ℕ
+  tried m = (reach m).tried
 
   abbrev made : ℕ → List Call
   made m = (reach m).made
@@ -121,7 +109,7 @@ module _ (setting : Setting) (map : ClockMap) (is : IsSetting setting map) (wire
   abbrev world : Answers → Setting
   world rest = setting_then setting broken_run rest
 
-  windows_are : (b : ℕ) → b < length wires → windows_of broken_run b ≡ windows b
+  pub windows_are : (b : ℕ) → b < length wires → windows_of broken_run b ≡ windows b
   windows_are b less = listed_at (length wires) windows b [] less
 
   none_beyond : (b : ℕ) → length wires ≤ b → answers_of broken_run b ≡ []
@@ -133,7 +121,7 @@ module _ (setting : Setting) (map : ClockMap) (is : IsSetting setting map) (wire
   silent m answers accepted t b (inr past) = (take_own setting map is wires are).none answers accepted m t b past
 
   module _ (m : ℕ) (runs : m < map.running) where
-    abbrev came : Came setting m s e (hs m) (ticks m) (made m) (reach m).accepted (old m) (new m)
+    abbrev came : Came setting m s e (hs m) (ticks m) (tried m) (made m) (reach m).accepted (old m) (new m)
     came = (reach m).came runs
 
     tick_quiet : (b : ℕ) → (reader setting b ≢ m) ⊎ (length wires ≤ b) → (i : ℕ) → i < ticks m → takes_of b ((hs m).calls i) ≡ []
@@ -150,7 +138,7 @@ module _ (setting : Setting) (map : ClockMap) (is : IsSetting setting map) (wire
 
     since_all : joined_upto (hs m).calls s ++ since m ≡ all m
     since_all =
-        let least = came.least in let calls = (hs m).calls in
+        let least = (reach m).within.least in let calls = (hs m).calls in
         let n : s + (ticks m - s) ≡ ticks m = omega (arith, least) in
         ap (λ l. joined_upto calls s ++ l) ((reach m).since_is runs) ∙ sym (append_assoc (joined_upto calls s) (joined_from calls s (ticks m - s)) (made m))
         ∙ ap (λ l. l ++ made m) (sym (joined_split calls s (ticks m - s)) ∙ ap (joined_upto calls) n)
@@ -215,39 +203,52 @@ module _ (setting : Setting) (map : ClockMap) (is : IsSetting setting map) (wire
     next_calls rest j = calls_in (world rest) map.running accepts m (s + j)
 
     since_is : (rest : Answers) → since m ≡ joined_upto (next_calls rest) (ticks m - s) ++ made m
-    since_is rest = (let least = came.least in
+    since_is rest = (let least = (reach m).within.least in
         (reach m).since_is runs ∙ ap (λ l. l ++ made m) (joined_alike (λ j. (hs m).calls (s + j)) (next_calls rest) (ticks m - s) (λ j low. calls_are rest (s + j) (omega (arith, low, least)))))
 
-    begins_by : (rest : Answers) → ((ticks m ≤ e) × (made m ≡ [])) ⊎ (ticks m < e) → IsBegin (since m) (joined_upto (next_calls rest) (e - s))
+    begins_by : (rest : Answers) → ((tried m ≡ ticks m) × (made m ≡ [])) ⊎ (tried m ≡ suc (ticks m)) → IsBegin (since m) (joined_upto (next_calls rest) (tried m - s))
     begins_by rest (inl whole) =
-        let least = came.least in let most = whole.0 in let k = e - ticks m in let n = ticks m - s in let f = next_calls rest in
-        let cut : e - s ≡ n + k = omega (arith, least, most) in
+        let n = ticks m - s in let f = next_calls rest in
         record {
-          rest = joined_from f n k;
-          are = ap (joined_upto f) cut ∙ joined_split f n k ∙ ap (λ l. l ++ joined_from f n k) (sym (since_is rest ∙ ap (λ l. joined_upto f n ++ l) whole.1 ∙ append-nil (joined_upto f n)));
+          rest = [];
+          are = ap (λ t. joined_upto f (t - s)) whole.0 ∙ sym (append-nil (joined_upto f n)) ∙ ap (λ l. joined_upto f n ++ l) (sym whole.1) ∙ sym (since_is rest) ∙ sym (append-nil (since m));
         }
-    begins_by rest (inr most) =
-        let least = came.least in let k = e - suc (ticks m) in let n = ticks m - s in let f = next_calls rest in let p = part_is rest in
-        let cut : e - s ≡ suc n + k = omega (arith, least, most) in
+    begins_by rest (inr one) =
+        let least = (reach m).within.least in let n = ticks m - s in let f = next_calls rest in let p = part_is rest in
+        let cut : tried m - s ≡ suc n = omega (arith, least, one) in
         let at : s + n ≡ ticks m = omega (arith, least) in
-        let one : f n ≡ made m ++ p.rest = ap (calls_in (world rest) map.running accepts m) at ∙ p.are in
-        let front = joined_upto f n in let behind = joined_from f (suc n) k in
+        let last : f n ≡ made m ++ p.rest = ap (calls_in (world rest) map.running accepts m) at ∙ p.are in
         record {
-          rest = p.rest ++ behind;
-          are = ap (joined_upto f) cut ∙ joined_split f (suc n) k ∙ ap (λ l. (front ++ l) ++ behind) one ∙ ap (λ l. l ++ behind) (sym (append_assoc front (made m) p.rest))
-              ∙ append_assoc (front ++ made m) p.rest behind ∙ ap (λ l. l ++ (p.rest ++ behind)) (sym (since_is rest));
+          rest = p.rest;
+          are = ap (joined_upto f) cut ∙ ap (λ l. joined_upto f n ++ l) last ∙ sym (append_assoc (joined_upto f n) (made m) p.rest) ∙ ap (λ l. l ++ p.rest) (sym (since_is rest));
         }
 
-    -- the calls since the border begin those of the window
-    since_begins : (rest : Answers) → IsBegin (since m) (joined_between (calls_in (world rest) map.running accepts m) s e)
+    -- the calls since the border begin with those of the ticks that were made, and begin those of the ticks that were tried
+    pub since_whole : (rest : Answers) → IsBegin (joined_between (calls_in (world rest) map.running accepts m) s (ticks m)) (since m)
+    since_whole rest = record { rest = made m; are = since_is rest }
+
+    pub since_begins : (rest : Answers) → IsBegin (since m) (joined_between (calls_in (world rest) map.running accepts m) s (tried m))
     since_begins rest = begins_by rest came.inside
 
-    -- each output of the clock has grown by its bytes up to the last border, and by a front of those up to the next one
+    -- each output of the clock has grown by its bytes of the ticks that were made, and by a front of those that were tried
     pub fronts : (rest : Answers) (sink node : ℕ) → IsOutput setting m sink node
-        → (bytes : List ℕ) × IsPrefix (ticks_bytes (world rest) node s) bytes × IsPrefix bytes (ticks_bytes (world rest) node e) × (new m sink ≡ grown bytes (old m sink))
+        → (bytes : List ℕ) × IsPrefix (ticks_bytes (world rest) node (ticks m)) bytes × IsPrefix bytes (ticks_bytes (world rest) node (tried m)) × (new m sink ≡ grown bytes (old m sink))
     fronts rest sink node out =
         let f = came.front (whole_later rest) sink node out in
-        (f.0, subst (λ (w : Setting). IsPrefix (ticks_bytes w node s) f.0) (whole_world rest) f.1, subst (λ (w : Setting). IsPrefix f.0 (ticks_bytes w node e)) (whole_world rest) f.2, f.3)
+        (f.0, subst (λ (w : Setting). IsPrefix (ticks_bytes w node (ticks m)) f.0) (whole_world rest) f.1, subst (λ (w : Setting). IsPrefix f.0 (ticks_bytes w node (tried m))) (whole_world rest) f.2, f.3)
+
+    -- it stands for the answers of the run that it got
+    pub stood : Stands m (ticks m) (tried m) (answers_by (hs m) (ticks m))
+    stood = (reach m).stands runs
+
+    pub given : (rest : Answers) → (more : Answers) × (with_rest setting (answers_by (hs m) (ticks m)) more ≡ world rest)
+    given rest =
+        let front = joined_upto (hs m).calls (ticks m) in
+        (later front (made m) refl rest, sym (world_is front (made m) refl rest))
+
+    -- what was taken since the border of a buffer that it does not read
+    since_quiet : (b : ℕ) → reader setting b ≢ m → takes_of b (since m) ≡ []
+    since_quiet b other = behind_none (takes_of b (joined_upto (hs m).calls s)) (takes_of b (since m)) (sym (takes-append b (joined_upto (hs m).calls s) (since m)) ∙ ap (takes_of b) since_all ∙ quiet b (inl other))
 
   in_plan : (b : ℕ) → b < length wires → b < length setting.plan.buffers
   in_plan b less = let n = are.many in omega (arith, less, n)
@@ -261,7 +262,7 @@ module _ (setting : Setting) (map : ClockMap) (is : IsSetting setting map) (wire
     from_runs = feeder_runs setting map is b (in_plan b less)
 
     same_calls : (m : ℕ) → m < map.running → (t n : ℕ) → t + n ≤ s → joined_from (hs m).calls t n ≡ joined_from (calls m) t n
-    same_calls m runs t n most = (let least = (came m runs).least in
+    same_calls m runs t n most = (let least = (reach m).within.least in
         joined_alike (λ j. (hs m).calls (t + j)) (λ j. calls m (t + j)) n (λ j low. calls_are m runs rest (t + j) (omega (arith, low, most, least))))
 
     puts_same : (t n : ℕ) → t + n ≤ s → puts_to b (joined_from (hs (wire_at wires b).from).calls t n) ≡ puts_to b (joined_from (calls (feeder setting b)) t n)
@@ -275,39 +276,84 @@ module _ (setting : Setting) (map : ClockMap) (is : IsSetting setting map) (wire
       | inr high ↦ (
           let to : (wire_at wires b).to ≡ feeder setting b = (are.each b less).to_is ∙ ap (λ (t : Bool). cond t (reader setting b) (feeder setting b)) (le-ltb (reader setting b) map.running high) in
           let other : reader setting b ≢ feeder setting b = λ same. (let f = from_runs in omega (arith, same, f, high)) in
-          let least = (came (feeder setting b) from_runs).least in
+          let least = (reach (feeder setting b)).within.least in
           (λ i. takes_of b (joined_from (hs (to i)).calls t n))
           ∙ takes_none (λ j. (hs (feeder setting b)).calls (t + j)) b n (λ j low. tick_quiet (feeder setting b) from_runs b (inl other) (t + j) (omega (arith, low, most, least)))
           ∙ sym (none_joined (λ j. calls (reader setting b) (t + j)) b n (λ j. ap (takes_of b) (rests_in (world rest) map.running accepts (reader setting b) (t + j) high))))
     ]
 
-    windows_same : (j : ℕ) → j ≤ closed → windows_upto (wire_at wires b) hs b W N j ≡ windows_in (world rest) map.running accepts b W N j
+    pub windows_same : (j : ℕ) → j ≤ closed → windows_upto (wire_at wires b) hs b W N j ≡ windows_in (world rest) map.running accepts b W N j
     windows_same zero low = refl
     windows_same (suc j) low =
         let up = start_up W N j in let climbs = start_climbs W N (suc j) (closed - suc j) closed (omega (arith, low)) in
         let most : start W N j + (start W N (suc j) - start W N j) ≤ s = omega (arith, up, climbs) in
         (λ i. windows_same j (omega (arith, low)) i ++ (puts_same (start W N j) (start W N (suc j) - start W N j) most i, takes_same (start W N j) (start W N (suc j) - start W N j) most i) ∷ [])
 
-  in_wires : (b : ℕ) → b < length setting.plan.buffers → b < length wires
+  pub in_wires : (b : ℕ) → b < length setting.plan.buffers → b < length wires
   in_wires b known = let n = are.many in omega (arith, known, n)
 
-  abbrev begun_by : ((b : ℕ) → b < length wires → (chunks : List (List Cell)) × IsRun (wire_at wires b).capacity [] (windows_upto (wire_at wires b) hs b W N closed) chunks) → AreWindowsBegun setting map.running W N broken_run
-  begun_by legal = record {
-    buffers = listed_long (length wires) windows ∙ are.many;
-    accepted = accepts;
-    closed = closed;
-    since = since;
-    begun = λ rest m. (elim (cases_lt m map.running) [
-      | inl runs ↦ since_begins m runs rest
-      | inr high ↦ subst (λ l. IsBegin l (joined_between (calls_in (world rest) map.running accepts m) s e)) (sym ((reach m).rests high)) (begin_none (joined_between (calls_in (world rest) map.running accepts m) s e))
-    ]);
-    are = λ rest b known. (let less = in_wires b known in
-        windows_are b less ∙ ap (λ l. l ++ (puts_to b (since (feeder setting b)), takes_of b (since (reader setting b))) ∷ []) (windows_same rest b less closed (omega arith)));
-    legal = λ rest b known. (let less = in_wires b known in let l = legal b less in
-        (l.0, subst (λ (z : ℕ × List Window). IsRun z.0 [] z.1 l.0) (λ i. ((are.each b less).capacity_is i, windows_same rest b less closed (omega arith) i)) l.1));
-  }
+  -- the takes of the open window
+  open_takes : (b : ℕ) (less : b < length wires) → takes_of b (since (wire_at wires b).to) ≡ takes_of b (since (reader setting b))
+  open_takes b less = elim (cases_lt (reader setting b) map.running) [
+    | inl runs ↦ (λ i. takes_of b (since (to_reader setting map is wires are (reader setting b) b less runs refl i)))
+    | inr high ↦ (
+        let from = feeder_runs setting map is b (in_plan b less) in
+        let to : (wire_at wires b).to ≡ feeder setting b = (are.each b less).to_is ∙ ap (λ (t : Bool). cond t (reader setting b) (feeder setting b)) (le-ltb (reader setting b) map.running high) in
+        (λ i. takes_of b (since (to i))) ∙ since_quiet (feeder setting b) from b (λ e. omega (arith, e, from, high)) ∙ ap (takes_of b) (sym ((reach (reader setting b)).rests high).0))
+  ]
 
-  -- the record of the run, with as many closed windows
-  pub windows_begun : ((b : ℕ) → b < length wires → (chunks : List (List Cell)) × IsRun (wire_at wires b).capacity [] (windows_upto (wire_at wires b) hs b W N closed) chunks)
-      → (begun : AreWindowsBegun setting map.running W N broken_run) × (begun.closed ≡ closed)
-  windows_begun legal = (begun_by legal, refl)
+  module _ (level_is : (m n : ℕ) → m < map.running → n < map.running → tried m ≡ ticks m → tried n ≡ ticks n → ticks m ≡ ticks n)
+      (ended_is : (m n : ℕ) → m < map.running → tried n ≡ suc (ticks n) → tried m ≡ ticks m → ticks m ≡ e)
+      (runs_are : (b : ℕ) → b < length wires → (chunks : List (List Cell))
+      × IsRun (wire_at wires b).capacity [] (windows_upto (wire_at wires b) hs b W N closed ++ (puts_to b (since (wire_at wires b).from), takes_of b (since (wire_at wires b).to)) ∷ []) chunks)
+      (ordered : (b : ℕ) → b < length wires → (wire_at wires b).from ≡ (wire_at wires b).to → (chunks : List (List Cell))
+      × Follows (wire_at wires b).capacity [] (on_ends b (joined_upto (hs (wire_at wires b).from).calls (start W N closed) ++ since (wire_at wires b).from)) chunks) where
+    pub legal_is : (b : ℕ) → b < length setting.plan.buffers → (chunks : List (List Cell)) × IsRun (capacity_of setting b) [] (windows_of broken_run b) chunks
+    legal_is b known =
+        let less = in_wires b known in let l = runs_are b less in
+        let same : windows_upto (wire_at wires b) hs b W N closed ++ (puts_to b (since (wire_at wires b).from), takes_of b (since (wire_at wires b).to)) ∷ [] ≡ windows b =
+        (λ i. windows_upto (wire_at wires b) hs b W N closed ++ (puts_to b (since ((are.each b less).from_is i)), open_takes b less i) ∷ []) in
+        (l.0, subst (λ (z : ℕ × List Window). IsRun z.0 [] z.1 l.0) (λ i. ((are.each b less).capacity_is i, (same ∙ sym (windows_are b less)) i)) l.1)
+
+    pub order_is : (rest : Answers) (b : ℕ) → b < length setting.plan.buffers → feeder setting b ≡ reader setting b
+        → (chunks : List (List Cell)) × Follows (capacity_of setting b) [] (on b (joined_upto (calls_in (world rest) map.running accepts (feeder setting b)) (start W N closed) ++ since (feeder setting b))) chunks
+    order_is rest b known one =
+        let less = in_wires b known in let w = are.each b less in
+        let from = feeder_runs setting map is b known in let runs : reader setting b < map.running = omega (arith, from, one) in
+        let to : (wire_at wires b).to ≡ reader setting b = to_reader setting map is wires are (reader setting b) b less runs refl in
+        let l = ordered b less (w.from_is ∙ one ∙ sym to) in
+        let least = (reach (feeder setting b)).within.least in
+        let calls : joined_upto (hs (feeder setting b)).calls s ≡ joined_upto (calls_in (world rest) map.running accepts (feeder setting b)) s =
+        joined_alike (hs (feeder setting b)).calls (calls_in (world rest) map.running accepts (feeder setting b)) s (λ i low. calls_are (feeder setting b) from rest i (omega (arith, low, least))) in
+        let same : on_ends b (joined_upto (hs (wire_at wires b).from).calls s ++ since (wire_at wires b).from) ≡ on b (joined_upto (calls_in (world rest) map.running accepts (feeder setting b)) s ++ since (feeder setting b)) =
+        (λ i. on_ends b (joined_upto (hs (w.from_is i)).calls s ++ since (w.from_is i))) ∙ on_same b (joined_upto (hs (feeder setting b)).calls s ++ since (feeder setting b)) ∙ ap (λ l. on b (l ++ since (feeder setting b))) calls in
+        (l.0, subst (λ (z : ℕ × List Call). Follows z.0 [] z.1 l.0) (λ i. (w.capacity_is i, same i)) l.1)
+
+    pub none_called : (calls : ℕ → List Call) (t : ℕ) → t ≡ s → joined_between calls s t ≡ []
+    none_called calls t e = let none : t - s ≡ 0 = omega (arith, e) in ap (joined_upto (λ j. calls (s + j))) none
+
+    -- the record of the run, with as many closed windows, and as many ticks of each clock
+    abbrev pub windows_begun : AreWindowsBegun setting map.running W N broken_run
+    windows_begun = record {
+      buffers = listed_long (length wires) windows ∙ are.many;
+      accepted = accepts;
+      closed = closed;
+      made = ticks;
+      tried = tried;
+      since = since;
+      within = λ m. (reach m).within;
+      level = level_is;
+      ended = ended_is;
+      whole = λ rest m. (elim (cases_lt m map.running) [
+        | inl runs ↦ since_whole m runs rest
+        | inr high ↦ subst (λ l. IsBegin l (since m)) (sym (none_called (calls_in (world rest) map.running accepts m) (ticks m) ((reach m).rests high).1)) (begin_none (since m))
+      ]);
+      begun = λ rest m. (elim (cases_lt m map.running) [
+        | inl runs ↦ since_begins m runs rest
+        | inr high ↦ subst (λ l. IsBegin l (joined_between (calls_in (world rest) map.running accepts m) s (tried m))) (sym ((reach m).rests high).0) (begin_none (joined_between (calls_in (world rest) map.running accepts m) s (tried m)))
+      ]);
+      are = λ rest b known. (let less = in_wires b known in
+          windows_are b less ∙ ap (λ l. l ++ (puts_to b (since (feeder setting b)), takes_of b (since (reader setting b))) ∷ []) (windows_same rest b less closed (omega arith)));
+      legal = legal_is;
+      in_order = order_is;
+    }

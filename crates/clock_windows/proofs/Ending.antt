@@ -1,34 +1,46 @@
 -- The whole run.
-use Rattle.std.proofs.Common.{◌≡◌, ◌≢◌, ◌⊎◌, ℕ, suc, ◌<◌, ◌≤◌, ◌+◌, ◌-◌, All, List, [], ◌∷◌, length, set, slice_index_or, min, sym, refl, ap, ◌∙◌, subst, arith, inl, inr, Option, Some, None, length-set, get_or-set_same, get_or-set_other}
+use Rattle.std.proofs.Common.{◌≡◌, ◌⊎◌, ℕ, suc, ◌<◌, ◌≤◌, ◌+◌, ◌-◌, All, List, [], ◌∷◌, length, slice_index_or, min, sym, refl, ap, ◌∙◌, subst, arith, inl, inr, Option, Some, None, ◌++◌, append-nil}
+use Rattle.std.specs.Prelude.{IfSome}
 use Rattle.clock_engine.specs.declared.engine.ClockEngine.{ClockEngine}
-use Rattle.frame_core.specs.Legal.{IsRun}
-use Rattle.buffer_ends.specs.Local.{Answers}
+use Rattle.frame_core.specs.Legal.{Legal, IsRun}
+use Rattle.frame_core.specs.Calls.{Call, takes_of, puts_to}
+use Rattle.frame_core.proofs.Laws.{run_more}
+use Rattle.buffer_ends.specs.Local.{Answers, on}
 use Rattle.buffer_ends.specs.declared.thread_taps.ThreadTaps.{ThreadTaps}
 use Rattle.buffer_ends.specs.declared.run_end.End.{End}
 use Rattle.buffer_ends.specs.declared.run_end.End.TheVariants.{Done, Write}
 use Rattle.clock_engine.specs.declared.fault.TickFault.{TickFault}
 use Rattle.clock_engine.specs.declared.fault.TickFault.TheVariants.{Memory as OutOfMemory, Write as Refused}
 use Rattle.clock_tasks.specs.declared.task.Task.{Task}
-use Rattle.clock_tasks.specs.Histories.{History, Agree, answers_by}
+use Rattle.clock_tasks.specs.Histories.{History, Agree, answers_by, joined_from}
+use Rattle.stream_meaning.specs.Calls.{joined_upto}
 use Rattle.clock_engine.specs.Engines.{held_of}
-use Rattle.clock_tasks.specs.Tasks.{CanRun, WasRun, EngineGone, EngineGonePart, IsSameClock}
-use Rattle.clock_tasks.proofs.Walking.{agree_none}
+use Rattle.clock_tasks.specs.Tasks.{CanRun, WasRun, EngineGone, EngineGonePart, IsSameClock, IsWriteOf}
+use Rattle.clock_tasks.proofs.Walking.{agree_none, joined_alike}
 use Rattle.clock_tasks.proofs.Running.{rooms_fewer, same_then}
 use Rattle.clock_tasks.proofs.Writing.{write_since}
 use Rattle.clock_windows.specs.declared.wires.Wire.{Wire}
-use Rattle.clock_windows.specs.Wires.{wire_at}
-use Rattle.clock_windows.specs.Ends.{MayClose, AllClosed}
-use Rattle.run_records.specs.Records.{start}
-use Rattle.clock_windows.specs.Records.{Going, AllEndedTasks, HaveLists, SameEngines}
+use Rattle.clock_windows.specs.Wires.{wire_at, kept}
+use Rattle.clock_windows.specs.Ends.{MayClose, AllClosed, AllShut}
+use Rattle.run_records.specs.Records.{Follows, start}
+use Rattle.clock_windows.specs.Records.{windows_upto, Going, AllEndedTasks, HaveLists, SameEngines}
 use Rattle.clock_windows.specs.Runs.{CameTo, IsReady, IsToldByLowest, IsWriteAt, RunDone, RunPart, end_by}
 use Rattle.clock_windows.proofs.Sets.{same_or_other}
 use Rattle.clock_windows.proofs.Starts.{start_zero, start_most, start_up, start_next, start_climbs}
-use Rattle.clock_windows.proofs.Lists.{going_runs}
+use Rattle.clock_windows.proofs.Lists.{going_local, going_runs}
 use Rattle.clock_windows.proofs.Meeting.{low_or_high, windows_alike}
-use Rattle.clock_windows.proofs.Goings.{TapsStand, TapsBuffers, SameTaps, may_close, going_more}
+use Rattle.clock_windows.proofs.Since.{TapsStand, TapsBuffers, SameTaps, all_shut, ends_close, list_follows}
+use Rattle.clock_windows.proofs.Goings.{going_more}
+
+joined_none : (calls : ℕ → List Call) (t : ℕ) → joined_from calls t (t - t) ≡ []
+joined_none calls t = let e : t - t ≡ 0 = omega arith in ap (joined_from calls t) e
 
 some_none : {A : Type 0} {x : A} → Some x ≡ None → ⊥
 some_none e = cc
+
+-- what is known of an answer that is there, or is not
+pub told_some : {A : Type 0} (P : A → Type 0) {o : Option A} {x : A} → o ≡ Some x → IfSome o P → P x
+told_some {A} P {o} {x} e p = subst (λ z. IfSome z P) e p
 
 -- the end of a fault
 pub not_done : (clock : ℕ) (fault : TickFault) → end_by clock fault ≡ Done → ⊥
@@ -71,10 +83,15 @@ module _ {S R : Type 0} where
         record {
           closed = l.windows;
           histories = l.going.histories;
+          since = λ k. [];
           many = loop.many;
           clocks = λ k h. (let c = l.going.clocks k h in
-              record { same = c.same; ticks = start W N l.windows; least = omega arith; came = inl (start_up W N l.windows, c.gone) });
-          runs = λ b low. going_runs held name room faults wires W N l.windows first now logs d l.going ready.places b low;
+              record { same = c.same; ticks = start W N l.windows; least = omega arith; came = inl (start_up W N l.windows, c.gone, sym (joined_none (l.going.histories k).calls (start W N l.windows))) });
+          ended = inl (λ k h. ((l.going.clocks k h).gone.stand.runs, refl));
+          runs = λ b low. (let g = going_runs held name room faults wires W N l.windows first now logs d l.going ready.places b low in
+              (g.0, run_more (wire_at wires b).capacity [] g.0 g.0 (windows_upto (wire_at wires b) l.going.histories b W N l.windows) [] [] g.1 Legal.ended));
+          in_order = λ b low e. (let f = going_local held name room faults wires W N l.windows first now logs d l.going ready.places b low e in
+              (f.0, subst (λ cs. Follows (wire_at wires b).capacity [] (on b cs) f.0) (sym (append-nil (joined_upto (l.going.histories (wire_at wires b).from).calls (start W N l.windows)))) f.1));
         }
 
     pub loop_all : (made : ℕ) (first now : List (Task S (ThreadTaps R))) (logs : List (List Answers)) → N ≤ made → Loop made first now logs → RunDone held name room faults wires W N first now logs
@@ -100,27 +117,23 @@ module _ {S R : Type 0} where
       next_at : (d : Task S (ThreadTaps R)) → start W N (suc (loop.at d).windows) ≡ start W N (loop.at d).windows + count
       next_at d = start_next W N (loop.at d).windows made count (loop.at d).is less count_is
 
-      pub loop_close : ((k : ℕ) (d : Task S (ThreadTaps R)) → k < length mid → (slice_index_or mid k d).engine.parts.stopped ≡ None) → MayClose wires mid
-      loop_close all_run = with_one mid (let s = ready.some in let m = loop.many in omega (arith, s, m, mid_many)) (λ d.
-          may_close held name room faults wires W N (loop.at d).windows d count first now mid logs (next_at d) ready.places (λ i h. start_up W N i) (loop.at d).going (λ k h. ran k d h) mid_many (λ k h. all_run k d h) ready.few)
-
       pub loop_logs : length logs ≡ length wires
       loop_logs = with_one mid (let s = ready.some in let m = loop.many in omega (arith, s, m, mid_many)) (λ d. (loop.at d).going.logged.many)
 
       pub loop_lists : (shut : List (Task S (ThreadTaps R))) (after : List (List Answers)) → AllClosed wires mid shut logs after → HaveLists wires shut
       loop_lists shut after closed = record {
         few = ready.few;
-        places = λ b low. (let p = (ready.places b low).0 in let m = loop.many in let n = closed.tasks.many in omega (arith, p, m, n, mid_many));
+        places = λ b low. (let p = (ready.places b low).0 in let m = loop.many in let n = closed.shut.tasks.many in omega (arith, p, m, n, mid_many));
         lists = λ k d h.
-            let n = closed.tasks.many in let in_mid : k < length mid = omega (arith, h, n) in let in_now : k < length now = omega (arith, in_mid, mid_many) in
+            let n = closed.shut.tasks.many in let in_mid : k < length mid = omega (arith, h, n) in let in_now : k < length now = omega (arith, in_mid, mid_many) in
             let in_first : k < length first = (let m = loop.many in omega (arith, in_now, m)) in
-            ap length (closed.tasks.same k d in_mid).local ∙ (ran k d in_now).many ∙ ((loop.at d).going.clocks k in_first).lists;
+            ap length (closed.shut.tasks.same k d in_mid).local ∙ (ran k d in_now).many ∙ ((loop.at d).going.clocks k in_first).lists;
       }
 
       pub loop_more : (all_run : (k : ℕ) (d : Task S (ThreadTaps R)) → k < length mid → (slice_index_or mid k d).engine.parts.stopped ≡ None)
           (shut last : List (Task S (ThreadTaps R))) (after : List (List Answers)) → AllClosed wires mid shut logs after → AllEndedTasks wires shut last → Loop (made + count) first last after
       loop_more all_run shut last after closed ends = record {
-        many = (let a = ends.many in let b = closed.tasks.many in let c = loop.many in omega (arith, a, b, c, mid_many));
+        many = (let a = ends.many in let b = closed.shut.tasks.many in let c = loop.many in omega (arith, a, b, c, mid_many));
         at = λ d. record {
           windows = suc (loop.at d).windows;
           is = (let n = next_at d in let i = (loop.at d).is in omega (arith, n, i));
@@ -137,44 +150,124 @@ module _ {S R : Type 0} where
           let m = loop.many in let within : k < length now = omega (arith, h, m) in
           same_then name faults (slice_index_or first k d).engine (slice_index_or now k d).engine (slice_index_or mid k d).engine ((loop.at d).going.clocks k h).same (ran k d within).clock
 
-      -- how far a clock came
+      -- how far a clock came, and what it called since the border
       record At (d : Task S (ThreadTaps R)) (k : ℕ) (g : History) : Type 0 where
         agree : Agree (start W N (loop.at d).windows) ((loop.at d).going.histories k) g
-        reached : k < length first → CameTo held name faults W N (loop.at d).windows g (slice_index_or first k d) (slice_index_or mid k d)
+        since : List Call
+        reached : k < length first → CameTo held name faults W N (loop.at d).windows g since (slice_index_or first k d) (slice_index_or mid k d)
+        ended : (low : k < length first) → (slice_index_or mid k d).engine.parts.stopped ≡ None → (reached low).ticks ≡ start W N (suc (loop.at d).windows)
+        stood : k < length first → TapsStand (slice_index_or mid k d).taps (kept wires k (joined_upto ((loop.at d).going.histories k).calls (start W N (loop.at d).windows)) ++ since)
 
       stops : (d : Task S (ThreadTaps R)) (k : ℕ) → k < length first → (o : Option TickFault) → (slice_index_or mid k d).engine.parts.stopped ≡ o → (g : History) × At d k g
       stops d k less' None e =
           let c = (loop.at d).going in let t = start W N (loop.at d).windows in let m = loop.many in let within : k < length now = omega (arith, less', m) in
           let r = ran k d within in let n = next_at d in
           let w = r.ran.on t (c.histories k) (held_of held (slice_index_or first k d).engine) (c.clocks k less').gone e in
-          (w.after, record { agree = w.agree; reached = λ again. record { same = same_from d k less'; ticks = t + count; least = omega arith; came = inl (omega (arith, n), w.gone) } })
+          let long : count ≡ t + count - t = omega arith in (
+            w.after,
+            record {
+              agree = w.agree;
+              since = joined_from w.after.calls t count;
+              reached = λ again. record { same = same_from d k less'; ticks = t + count; least = omega arith; came = inl (omega (arith, n), w.gone, ap (joined_from w.after.calls t) long) };
+              ended = λ again runs. sym n;
+              stood = λ again. w.taps (kept wires k (joined_upto (c.histories k).calls t)) (c.clocks k less').stand;
+            },
+          )
       stops d k less' (Some fault) e =
           let c = (loop.at d).going in let t = start W N (loop.at d).windows in let m = loop.many in let within : k < length now = omega (arith, less', m) in
           let r = ran k d within in let n = next_at d in
           let w = r.ran.halted t (c.histories k) (held_of held (slice_index_or first k d).engine) (c.clocks k less').gone (λ n. some_none (sym e ∙ n)) in
-          (w.after, record { agree = w.agree; reached = λ again. record { same = same_from d k less'; ticks = t + w.made; least = omega arith; came = inr ((let f = w.fewer in omega (arith, f, n)), w.part) } })
+          let long : w.made ≡ t + w.made - t = omega arith in (
+            w.after,
+            record {
+              agree = w.agree;
+              since = joined_from w.after.calls t w.made ++ w.part.made;
+              reached = λ again. record {
+                same = same_from d k less';
+                ticks = t + w.made;
+                least = omega arith;
+                came = inr ((let f = w.fewer in omega (arith, f, n)), w.part, ap (λ l. joined_from w.after.calls t l ++ w.part.made) long);
+              };
+              ended = λ again runs. absurd (some_none (sym e ∙ runs));
+              stood = λ again. w.taps (kept wires k (joined_upto (c.histories k).calls t)) (c.clocks k less').stand;
+            },
+          )
 
       abbrev chosen : (d : Task S (ThreadTaps R)) (k : ℕ) → (g : History) × At d k g
       chosen d k = elim (low_or_high k (length first)) [
         | inl low ↦ stops d k low (slice_index_or mid k d).engine.parts.stopped refl
-        | inr high ↦ ((loop.at d).going.histories k, record { agree = agree_none (start W N (loop.at d).windows) ((loop.at d).going.histories k); reached = λ low. absurd (omega (arith, low, high)) })
+        | inr high ↦ (
+          (loop.at d).going.histories k,
+          record {
+            agree = agree_none (start W N (loop.at d).windows) ((loop.at d).going.histories k);
+            since = [];
+            reached = λ low. absurd (omega (arith, low, high));
+            ended = λ low. absurd (omega (arith, low, high));
+            stood = λ low. absurd (omega (arith, low, high));
+          },
+        )
       ]
 
-      -- a clock stopped
-      pub loop_stopped : RunPart held name faults wires W N first mid
-      loop_stopped d =
-          let l = loop.at d in let j = l.windows in let t = start W N j in
-          record {
-            closed = j;
-            histories = λ k. (chosen d k).0;
-            many = (let m = loop.many in omega (arith, m, mid_many));
-            clocks = λ k h. (chosen d k).1.reached h;
-            runs = λ b low. (let g = going_runs held name room faults wires W N j first now logs d l.going ready.places b low in (
-              g.0,
-              subst (λ w. IsRun (wire_at wires b).capacity [] w g.0)
-                  (sym (windows_alike (wire_at wires b) l.going.histories (λ k. (chosen d k).0) b W N j t (λ k. (chosen d k).1.agree) (λ i low'. start_climbs W N (suc i) (j - suc i) j (omega (arith, low'))) (λ i low'. start_up W N i))) g.1,
-            ));
-          }
+      abbrev called : (d : Task S (ThreadTaps R)) (k : ℕ) → List Call
+      called d k = (chosen d k).1.since
+
+      stood_by : (d : Task S (ThreadTaps R)) (k : ℕ) → k < length first → TapsStand (slice_index_or mid k d).taps (kept wires k (joined_upto ((loop.at d).going.histories k).calls (start W N (loop.at d).windows)) ++ called d k)
+      stood_by d k h = (chosen d k).1.stood h
+
+      -- the windows may be closed, whatever the clocks did
+      pub loop_close : MayClose wires mid
+      loop_close = with_one mid (let s = ready.some in let m = loop.many in omega (arith, s, m, mid_many)) (λ d.
+          ends_close held name room faults wires W N (loop.at d).windows d count first now mid logs ready.places (loop.at d).going (λ k h. ran k d h) mid_many (called d) (stood_by d) ready.few)
+
+      module _ (shut : List (Task S (ThreadTaps R))) (closed : AllShut wires mid shut) where
+        -- how far the clocks came
+        came_to : RunPart held name faults wires W N first mid
+        came_to d =
+            let l = loop.at d in let j = l.windows in let t = start W N j in
+            let gs : ℕ → History = λ k. (chosen d k).0 in
+            let same : (b : ℕ) → windows_upto (wire_at wires b) gs b W N j ≡ windows_upto (wire_at wires b) l.going.histories b W N j =
+            λ b. windows_alike (wire_at wires b) l.going.histories gs b W N j t (λ k. (chosen d k).1.agree) (λ i low'. start_climbs W N (suc i) (j - suc i) j (omega (arith, low'))) (λ i low'. start_up W N i) in
+            record {
+              closed = j;
+              histories = gs;
+              since = called d;
+              many = (let m = loop.many in omega (arith, m, mid_many));
+              clocks = λ k h. (chosen d k).1.reached h;
+              ended = inr (λ k h. (chosen d k).1.ended h);
+              runs = λ b low. (let wire = wire_at wires b in
+                  let g = all_shut held name room faults wires W N j d count first now mid logs ready.places l.going (λ k h. ran k d h) mid_many (called d) (stood_by d) shut closed b low in
+                  (g.0, subst (λ ws. IsRun wire.capacity [] (ws ++ (puts_to b (called d wire.from), takes_of b (called d wire.to)) ∷ []) g.0) (sym (same b)) g.1));
+              in_order = λ b low e. (let k = (wire_at wires b).from in
+                  let f = list_follows held name room faults wires W N j d count first now mid logs ready.places l.going (λ k h. ran k d h) mid_many (called d) (stood_by d) b low e in
+                  (f.0, subst (λ cs. Follows (wire_at wires b).capacity [] (on b (cs ++ called d k)) f.0) (sym (joined_alike (gs k).calls (l.going.histories k).calls t (λ i less. (chosen d k).1.agree.calls i less))) f.1));
+            }
+
+        -- a clock stopped, or the log of a buffer could not take a window
+        pub loop_broke : (last : List (Task S (ThreadTaps R))) → SameEngines mid last → RunPart held name faults wires W N first last
+        loop_broke last same d =
+            let p = came_to d in
+            record {
+              closed = p.closed;
+              histories = p.histories;
+              since = p.since;
+              many = same.many ∙ p.many;
+              clocks = λ k h. (let c = p.clocks k h in
+                  let is : (slice_index_or mid k d).engine ≡ (slice_index_or last k d).engine = sym (same.each k d (let m = p.many in omega (arith, h, m))) in
+                  let from = start W N p.closed in let to = start W N (suc p.closed) in
+                  record {
+                    same = subst (IsSameClock name faults (slice_index_or first k d).engine) is c.same;
+                    ticks = c.ticks;
+                    least = c.least;
+                    came = subst (λ (e : ClockEngine S). ((c.ticks ≤ to) × EngineGone held c.ticks (p.histories k) (held_of held (slice_index_or first k d).engine) e × (p.since k ≡ joined_from (p.histories k).calls from (c.ticks - from)))
+                        ⊎ ((c.ticks < to) × (part : EngineGonePart held c.ticks (p.histories k) (held_of held (slice_index_or first k d).engine) e) × (p.since k ≡ joined_from (p.histories k).calls from (c.ticks - from) ++ part.made))) is c.came;
+                  });
+              ended = elim p.ended [
+                | inl all ↦ inl (λ k h. (ap (λ (e : ClockEngine S). e.parts.stopped) (same.each k d (let m = p.many in omega (arith, h, m))) ∙ (all k h).0, (all k h).1))
+                | inr each ↦ inr (λ k h runs. each k h (ap (λ (e : ClockEngine S). e.parts.stopped) (sym (same.each k d (let m = p.many in omega (arith, h, m)))) ∙ runs))
+              ];
+              runs = p.runs;
+              in_order = p.in_order;
+            }
 
       -- and its sink refused bytes
       pub loop_write : (end : End) → IsToldByLowest mid end → (clock sink : ℕ) → end ≡ Write clock sink → IsWriteAt faults clock sink first mid
@@ -193,22 +286,15 @@ module _ {S R : Type 0} where
                 ((loop.at d).going.clocks told.place within).same ((ran told.place d here).write sink (stopped d)));
           }
 
-      -- the log of a buffer could not take a window
-      pub loop_broke : (last : List (Task S (ThreadTaps R))) → SameEngines mid last → RunPart held name faults wires W N first last
-      loop_broke last same d =
-          let p = loop_stopped d in
+      -- the same engines in other tasks
+      pub write_moved : (last : List (Task S (ThreadTaps R))) → SameEngines mid last → (clock sink : ℕ) → IsWriteAt faults clock sink first mid → IsWriteAt faults clock sink first last
+      write_moved last same clock sink w =
+          let m = loop.many in let within = w.within in let here : w.place < length mid = omega (arith, within, m, mid_many) in
           record {
-            closed = p.closed;
-            histories = p.histories;
-            many = same.many ∙ p.many;
-            clocks = λ k h. (let c = p.clocks k h in
-                let is : (slice_index_or mid k d).engine ≡ (slice_index_or last k d).engine = sym (same.each k d (let m = p.many in omega (arith, h, m))) in
-                record {
-                  same = subst (IsSameClock name faults (slice_index_or first k d).engine) is c.same;
-                  ticks = c.ticks;
-                  least = c.least;
-                  came = subst (λ (e : ClockEngine S). ((c.ticks ≤ start W N (suc p.closed)) × EngineGone held c.ticks (p.histories k) (held_of held (slice_index_or first k d).engine) e)
-                      ⊎ ((c.ticks < start W N (suc p.closed)) × EngineGonePart held c.ticks (p.histories k) (held_of held (slice_index_or first k d).engine) e)) is c.came;
-                });
-            runs = p.runs;
+            place = w.place;
+            within = w.within;
+            clock_is = λ d. ap (λ (e : ClockEngine S). e.parts.clock) (same.each w.place d here) ∙ w.clock_is d;
+            stopped = λ d. ap (λ (e : ClockEngine S). e.parts.stopped) (same.each w.place d here) ∙ w.stopped d;
+            lowest = λ k d low. ap (λ (e : ClockEngine S). e.parts.stopped) (same.each k d (omega (arith, low, here))) ∙ w.lowest k d low;
+            write = λ d. subst (λ (e : ClockEngine S). IsWriteOf faults sink (slice_index_or first w.place d).engine e) (sym (same.each w.place d here)) (w.write d);
           }

@@ -1,8 +1,7 @@
 -- A run of engines over a plan without buffers is one of tasks without wires.
-use Rattle.std.proofs.Common.{◌≡◌, ℕ, ◌<◌, ◌≤◌, ◌+◌, ◌-◌, All, List, [], length, min, slice_index_or, sym, refl, ap, ◌∙◌, subst, arith, Option, Some, None}
+use Rattle.std.proofs.Common.{◌≡◌, ℕ, ◌<◌, All, List, [], length, slice_index_or, sym, refl, ap, ◌∙◌, subst, arith, Option, Some, None, true}
 use Rattle.std.proofs.lemmas.List.{get_or-map, length-map}
 use Rattle.std.specs.Prelude.{⊤}
-use Rattle.frame_core.specs.Calls.{Call}
 use Rattle.buffer_ends.specs.Sides.{same_sides_refl}
 use Rattle.buffer_ends.specs.Same.{same_buffers_refl}
 use Rattle.buffer_ends.specs.declared.run_end.End.{End}
@@ -17,13 +16,13 @@ use Rattle.clock_tasks.specs.Alone.{CanRunAlone, WasRunAlone, any_calls, any_tap
 use Rattle.clock_tasks.specs.Tasks.{CanRun, WasRun}
 use Rattle.clock_tasks.proofs.Retapping.{can_with, ran_with}
 use Rattle.clock_windows.specs.Alone.{all_alone, alone, no_taps}
-use Rattle.clock_windows.specs.Ends.{AllClosed}
+use Rattle.clock_windows.specs.Ends.{AllClosed, AllShut}
 use Rattle.clock_windows.specs.Records.{AllEndedTasks}
 use Rattle.clock_windows.specs.Runs.{IsReady, IsToldByLowest, end_by}
 use Rattle.clock_windows.proofs.Closing.{same_tasks_refl}
 use Rattle.clock_windows.proofs.Ended.{ended_all, ended_none}
-use Rattle.clock_windows.proofs.Ending.{Loop, loop_more, with_one}
-use Rattle.clock_windows.proofs.Goings.{TapsStand, TapsBuffers, SameTaps}
+use Rattle.clock_windows.proofs.Ending.{Loop, with_one}
+use Rattle.clock_windows.proofs.Since.{TapsStand, TapsBuffers, SameTaps}
 
 out_of_memory : (clock : ℕ) (fault : TickFault) → end_by clock fault ≡ NoMemory → fault ≡ OutOfMemory
 out_of_memory clock (Refused sink) e = absurd cc
@@ -41,10 +40,15 @@ module _ {S : Type 0} where
   alone_runs engines runs k d h = let low : k < length engines = (let n = alone_long engines in omega (arith, h, n)) in
       ap (λ (x : Task S (ThreadTaps ⊤)). x.engine.parts.stopped) (alone_at engines k d low) ∙ runs k d.engine low
 
-  pub none_closed : (tasks : List (Task S (ThreadTaps ⊤))) → AllClosed [] tasks tasks [] []
-  none_closed tasks = record {
+  pub none_shut : (tasks : List (Task S (ThreadTaps ⊤))) → AllShut [] tasks tasks
+  none_shut tasks = record {
     tasks = same_tasks_refl tasks;
     each = λ b put take low apart ran. absurd (omega (arith, low));
+  }
+
+  pub none_closed : (tasks : List (Task S (ThreadTaps ⊤))) → AllClosed [] tasks tasks [] []
+  none_closed tasks = record {
+    shut = none_shut tasks;
     logs_many = refl;
     logged = λ b put take d low apart ran. absurd (omega (arith, low));
   }
@@ -74,13 +78,15 @@ module _ {S : Type 0} where
     -- no fault was want of memory
     pub alone_memory : (made count : ℕ) (first now mid : List (ClockEngine S)) → IsReady held name room faults [] W N (all_alone first) [] → Loop held name room faults [] W N made (all_alone first) (all_alone now) []
         → length mid ≡ length now → ((i : ℕ) (d : ClockEngine S) → i < length now → WasRunAlone held name room faults count (slice_index_or now i d) (slice_index_or mid i d))
-        → (end : End) → IsToldByLowest (all_alone mid) end → end ≡ NoMemory → ⊥
-    alone_memory made count first now mid ready loop many ran end told e = with_one (all_alone mid) (let w = told.within in omega (arith, w)) (λ d.
+        → (end : End) → IsToldByLowest (all_alone mid) end → All (λ engine. engine.parts.cues.keeping ≡ true → ⊥) first → end ≡ NoMemory → ⊥
+    alone_memory made count first now mid ready loop many ran end told none_keeps e = with_one (all_alone mid) (let w = told.within in omega (arith, w)) (λ d.
         let k = told.place in let within = told.within in
         let in_now : k < length (all_alone now) = (let n = alone_long now in let m = alone_long mid in omega (arith, within, n, m, many)) in
         let in_first : k < length (all_alone first) = (let n = loop.many in omega (arith, in_now, n)) in
         let refused : told.fault ≡ OutOfMemory = out_of_memory (slice_index_or (all_alone mid) k d).engine.parts.clock told.fault (sym (told.end_is d) ∙ e) in
-        let some = (alone_ran count now mid many ran k d in_now).memory (told.stopped d ∙ ap Some refused) in
+        let engine_first : k < length first = (let n = alone_long first in omega (arith, in_first, n)) in
+        let keeping = ((loop.at d).going.clocks k in_first).same.keeping ∙ ap (λ (x : Task S (ThreadTaps ⊤)). x.engine.parts.cues.keeping) (alone_at first k d engine_first) in
+        let some = (alone_ran count now mid many ran k d in_now).memory (λ keeps. none_keeps k d.engine engine_first (sym keeping ∙ keeps)) (told.stopped d ∙ ap Some refused) in
         let same = ap (λ (set : Setting). length set.plan.buffers) ((loop.at d).going.clocks k in_first).same.setting in
         let none = ready.buffers k d in_first in
         omega (arith, some, same, none))

@@ -1,15 +1,13 @@
 -- From window to window.
-use Rattle.std.proofs.Common.{◌≡◌, ◌≢◌, ◌⊎◌, ℕ, zero, suc, ◌<◌, ◌≤◌, ◌+◌, ◌-◌, ◌^◌, true, false, List, [], ◌∷◌, ◌++◌, length, map, get_or, slice_index_or, sym, refl, ap, ◌∙◌, subst, arith, inl, inr, ⊎_elim, Option, None}
+use Rattle.std.proofs.Common.{◌≡◌, ◌≢◌, ◌⊎◌, ℕ, zero, suc, ◌<◌, ◌≤◌, ◌+◌, ◌-◌, true, false, List, [], ◌∷◌, ◌++◌, length, map, slice_index_or, sym, refl, ap, ◌∙◌, subst, arith, inl, inr, ⊎_elim, Option, None}
 use Rattle.std.proofs.lemmas.List.{get_or_default}
 use Rattle.frame_core.specs.declared.cell.Cell.{Cell}
-use Rattle.frame_core.specs.Legal.{Legal, IsRun}
+use Rattle.frame_core.specs.Legal.{IsRun}
 use Rattle.frame_core.specs.Calls.{Call, takes_of, puts_to}
-use Rattle.frame_core.proofs.Laws.{run_more}
-use Rattle.buffer_queue.specs.Window.{Window as QueueWindow, opened, capacity_of}
+use Rattle.buffer_queue.specs.Window.{Window as QueueWindow, opened}
 use Rattle.buffer_ends.specs.Local.{Answers, LocalBuffer, closed as closed_list, on, Leads, empty_list, held as held_by}
-use Rattle.buffer_ends.specs.Sides.{Side, SameSides}
-use Rattle.buffer_ends.specs.Same.{SameBuffers}
-use Rattle.buffer_ends.specs.Ends.{EndsStand, ListsStand, PutsStand, TakesStand, Has}
+use Rattle.buffer_ends.specs.Sides.{Side}
+use Rattle.buffer_ends.specs.Ends.{ListsStand, Has}
 use Rattle.buffer_ends.specs.Borders.{HasEnd}
 use Rattle.buffer_ends.specs.declared.thread_taps.ThreadTaps.{ThreadTaps}
 use Rattle.clock_engine.specs.Ticks.{HaveTicksRoom}
@@ -19,61 +17,19 @@ use Rattle.stream_meaning.specs.Calls.{joined_upto}
 use Rattle.clock_engine.specs.Engines.{held_of}
 use Rattle.clock_tasks.specs.Tasks.{EngineGone, WentOn, WasRun, IsSameClock}
 use Rattle.clock_tasks.proofs.Walking.{joined_alike, agree_none}
-use Rattle.clock_windows.proofs.Keeping.{takes-append}
 use Rattle.clock_tasks.proofs.Running.{same_then}
 use Rattle.clock_windows.specs.declared.wires.Wire.{Wire}
 use Rattle.clock_windows.specs.Wires.{wire_at, ended, kept}
-use Rattle.clock_windows.specs.Ends.{puts_of as put_ends, takes_of as take_ends, JoinOpen, JoinRan, MayClose, AllClosed}
+use Rattle.clock_windows.specs.Ends.{puts_of as put_ends, takes_of as take_ends, JoinOpen, JoinRan, AllClosed}
 use Rattle.run_records.specs.Records.{start, Window}
 use Rattle.buffer_sides.specs.Logs.{told}
 use Rattle.clock_windows.specs.Records.{window_of, windows_upto, IsWired, IsLogged, ClockGoing, JoinGoing, Going, AllEndedTasks}
-use Rattle.clock_windows.proofs.Sets.{side, one_window}
-use Rattle.clock_windows.proofs.Keeping.{puts_kept, takes_kept, on_kept, puts-append, on-append}
+use Rattle.clock_windows.proofs.Sets.{one_window}
+use Rattle.clock_windows.proofs.Since.{SameTaps, TapsBuffers, TapsStand, ends_ran, ends_shut}
+use Rattle.clock_windows.proofs.Keeping.{puts_kept, takes_kept, on_kept, on-append}
 use Rattle.clock_windows.proofs.Logging.{map_joined, current_is, has_back, not_ended}
 use Rattle.clock_windows.proofs.Ended.{ended_capacity}
 use Rattle.clock_windows.proofs.Meeting.{joined_split, windows_alike, ends_from, ends_to, ends_tell, true_or_false, low_or_high, has_moved, has_end}
-
-abbrev pub SameTaps : {R : Type 0} → ThreadTaps R → ThreadTaps R → Type 0
-SameTaps s t = SameSides s.puts.items t.puts.items × SameSides s.takes.items t.takes.items × SameBuffers s.local t.local
-
-abbrev pub TapsStand : {R : Type 0} → ThreadTaps R → List Call → Type 0
-TapsStand s calls = EndsStand s.puts.items s.takes.items s.local calls
-
-abbrev pub TapsBuffers : {R : Type 0} → ThreadTaps R → ℕ
-TapsBuffers s = length s.local
-
--- an end before and after a window in which its clock made these calls
-module _ (sides after : List Side) (b : ℕ) (w : QueueWindow) (same : SameSides sides after) (e : HasEnd sides b w) where
-  abbrev pub later_window : QueueWindow
-  later_window = (slice_index_or after e.place (side b w)).window
-
-  pub later_end : HasEnd after b later_window
-  later_end = record {
-    place = e.place;
-    at = record {
-      within = (let h = e.at.within in let m = same.many in omega (arith, h, m));
-      is = λ d. get_or_default after e.place d (side b w) (let h = e.at.within in let m = same.many in omega (arith, h, m))
-          ∙ (λ i. record { buffer = ((same.each e.place (side b w) e.at.within).buffer ∙ ap (λ (s : Side). s.buffer) (e.at.is (side b w))) i; window = later_window });
-    };
-  }
-
-  pub later_queue : later_window.queue ≡ w.queue
-  later_queue = (same.each e.place (side b w) e.at.within).queue ∙ ap (λ (s : Side). s.window.queue) (e.at.is (side b w))
-
-  pub later_opening : later_window.opening ≡ w.opening
-  later_opening = (same.each e.place (side b w) e.at.within).opening ∙ ap (λ (s : Side). s.window.opening) (e.at.is (side b w))
-
-  within_after : e.place < length after
-  within_after = let h = e.at.within in let m = same.many in omega (arith, h, m)
-
-  buffer_after : (slice_index_or after e.place (side b w)).buffer ≡ b
-  buffer_after = (same.each e.place (side b w) e.at.within).buffer ∙ ap (λ (s : Side). s.buffer) (e.at.is (side b w))
-
-  pub later_puts : (old more : List Call) → PutsStand after (old ++ more) → puts_to b old ≡ [] → later_window.answers ≡ puts_to b more
-  later_puts old more s none = s e.place (side b w) within_after ∙ ap (λ n. puts_to n (old ++ more)) buffer_after ∙ puts-append b old more ∙ ap (λ l. l ++ puts_to b more) none
-
-  pub later_takes : (old more : List Call) → TakesStand after (old ++ more) → takes_of b old ≡ [] → later_window.answers ≡ takes_of b more
-  later_takes old more s none = s e.place (side b w) within_after ∙ ap (λ n. takes_of n (old ++ more)) buffer_after ∙ takes-append b old more ∙ ap (λ l. l ++ takes_of b more) none
 
 module _ {S R : Type 0} (held name : S → Option (List ℕ)) (room : S → Option ℕ) (faults : S → ℕ) (wires : List Wire) (W N j : ℕ) (d : Task S (ThreadTaps R)) where
   module _ (count : ℕ) (first now mid : List (Task S (ThreadTaps R))) (logs : List (List Answers)) (next : start W N (suc j) ≡ start W N j + count)
@@ -127,38 +83,18 @@ module _ {S R : Type 0} (held name : S → Option (List ℕ)) (room : S → Opti
     here : (k : ℕ) (e : Task S (ThreadTaps R)) → k < length first → slice_index_or mid k e ≡ slice_index_or mid k d
     here k e h = get_or_default mid k e d (let m = within k h in omega (arith, m, mid_many))
 
+    abbrev since : ℕ → List Call
+    since k = joined_from (after k).calls (start W N j) count
+
+    stood : (k : ℕ) → k < length first → TapsStand (slice_index_or mid k d).taps (kept wires k (joined_upto (going.histories k).calls (start W N j)) ++ since k)
+    stood k less = (goes k less).1
+
     -- a buffer between clocks, after the window
-    pub join_ran : (b : ℕ) → b < length wires → (wire_at wires b).from ≢ (wire_at wires b).to
+    join_ran : (b : ℕ) → b < length wires → (wire_at wires b).from ≢ (wire_at wires b).to
         → (put : QueueWindow) × (take : QueueWindow) × JoinRan (wire_at wires b) b put take mid
         × (put.opening ≡ take.opening) × IsRun (wire_at wires b).capacity [] (windows_upto (wire_at wires b) going.histories b W N j) put.opening
-        × (put.answers ≡ puts_to b (joined_from (after (wire_at wires b).from).calls (start W N j) count)) × (take.answers ≡ takes_of b (joined_from (after (wire_at wires b).to).calls (start W N j) count))
-    join_ran b less apart =
-        let wire = wire_at wires b in let g = going.joins b less apart in let f = (places b less).0 in let t = (places b less).1 in
-        let put = g.opens.put d in let take = g.opens.take d in
-        let o = opened g.opens.queue g.chunks in
-        let same_f = (ran wire.from (within wire.from f)).taps.0 in let same_t = (ran wire.to (within wire.to t)).taps.1 in
-        let w = later_window _ _ b o same_f put in let v = later_window _ _ b o same_t take in
-        let end_f = ends_from wire wire.from refl (λ e. apart (sym e)) in let end_t = ends_to wire wire.to refl apart in (
-          w,
-          v,
-          record {
-            capacity = ap capacity_of (later_queue _ _ b o same_f put) ∙ g.opens.capacity;
-            queue = later_queue _ _ b o same_t take ∙ sym (later_queue _ _ b o same_f put);
-            put_end = λ e. subst (λ (x : Task S (ThreadTaps R)). HasEnd (put_ends x) b w) (sym (here wire.from e f)) (later_end _ _ b o same_f put);
-            take_end = λ e. subst (λ (x : Task S (ThreadTaps R)). HasEnd (take_ends x) b v) (sym (here wire.to e t)) (later_end _ _ b o same_t take);
-          },
-          later_opening _ _ b o same_f put ∙ sym (later_opening _ _ b o same_t take),
-          subst (λ l. IsRun wire.capacity [] (windows_upto wire going.histories b W N j) l) (sym (later_opening _ _ b o same_f put)) g.run,
-          later_puts _ _ b o same_f put (kept wires wire.from (joined_upto (going.histories wire.from).calls (start W N j))) (joined_from (after wire.from).calls (start W N j) count) (goes wire.from f).1.0 (puts_kept wires wire.from b (joined_upto (going.histories wire.from).calls (start W N j)) end_f),
-          later_takes _ _ b o same_t take (kept wires wire.to (joined_upto (going.histories wire.to).calls (start W N j))) (joined_from (after wire.to).calls (start W N j) count) (goes wire.to t).1.1 (takes_kept wires wire.to b (joined_upto (going.histories wire.to).calls (start W N j)) end_t),
-        )
-
-    pub may_close : length wires < 2 ^ 32 → MayClose wires mid
-    may_close few = record {
-      few = few;
-      places = λ b less. ((let x = (places b less).0 in let m = going.many in omega (arith, x, m, mid_many)), (let x = (places b less).1 in let m = going.many in omega (arith, x, m, mid_many)));
-      ran = λ b less apart. (let r = join_ran b less apart in (r.0, r.1, r.2));
-    }
+        × (put.answers ≡ puts_to b (since (wire_at wires b).from)) × (take.answers ≡ takes_of b (since (wire_at wires b).to))
+    join_ran = ends_ran held name room faults wires W N j d count first now mid logs places going ran mid_many since stood
 
     module _ (shut : List (Task S (ThreadTaps R))) (after_logs : List (List Answers)) (closed : AllClosed wires mid shut logs after_logs) where
       climbs : (i n : ℕ) → i + n ≡ j → start W N i ≤ start W N j
@@ -172,24 +108,18 @@ module _ {S R : Type 0} (held name : S → Option (List ℕ)) (room : S → Opti
       pub join_shut : (b : ℕ) (less : b < length wires) (apart : (wire_at wires b).from ≢ (wire_at wires b).to)
           → (rest : List (List Cell)) × IsRun (wire_at wires b).capacity [] (windows_upto (wire_at wires b) after b W N (suc j)) rest × JoinOpen (wire_at wires b) b rest shut
       join_shut b less apart =
-          let wire = wire_at wires b in let r = join_ran b less apart in let t = closed.each b r.0 r.1 less apart r.2 in
-          let old = windows_upto wire going.histories b W N j in
+          let wire = wire_at wires b in let old = windows_upto wire going.histories b W N j in
+          let r = ends_shut held name room faults wires W N j d count first now mid logs places going ran mid_many since stood shut closed.shut b less apart in
           let more : count ≡ start W N (suc j) - start W N j = omega (arith, next) in
-          let legal : Legal wire.capacity t.rest r.0.opening (puts_to b (joined_from (after wire.from).calls (start W N j) count)) (takes_of b (joined_from (after wire.to).calls (start W N j) count)) =
-          subst (λ (z : List (Option (List Cell)) × List (Option (List Cell))). Legal wire.capacity t.rest r.0.opening z.0 z.1) (λ i. (r.5 i, r.6 i)) t.legal in
-          let run = run_more wire.capacity [] r.0.opening t.rest old _ _ r.4 legal in
-          let same : windows_upto wire after b W N j ≡ old = windows_alike wire going.histories after b W N j (start W N j) agrees (λ i low. reaches i low) (λ i low. up i (omega (arith, low))) in (
-            t.rest,
-            subst (λ (l : List Window). IsRun wire.capacity [] l t.rest) (λ i. sym same i ++ window_of wire after b (start W N j) (more i) ∷ []) run,
-            t.opens,
-          )
+          let same : windows_upto wire after b W N j ≡ old = windows_alike wire going.histories after b W N j (start W N j) agrees (λ i low. reaches i low) (λ i low. up i (omega (arith, low))) in
+          (r.0, subst (λ (l : List Window). IsRun wire.capacity [] l r.0) (λ i. sym same i ++ window_of wire after b (start W N j) (more i) ∷ []) r.1, r.2)
 
       module _ (last : List (Task S (ThreadTaps R))) (ends : AllEndedTasks wires shut last) where
         in_mid : (k : ℕ) → k < length first → k < length mid
         in_mid k h = let m = within k h in omega (arith, m, mid_many)
 
         in_shut : (k : ℕ) → k < length first → k < length shut
-        in_shut k h = let m = in_mid k h in let n = closed.tasks.many in omega (arith, m, n)
+        in_shut k h = let m = in_mid k h in let n = closed.shut.tasks.many in omega (arith, m, n)
 
         join_on : (b : ℕ) (less : b < length wires) (apart : (wire_at wires b).from ≢ (wire_at wires b).to) → JoinGoing (wire_at wires b) b (windows_upto (wire_at wires b) after b W N (suc j)) last
         join_on b less apart =
@@ -210,7 +140,7 @@ module _ {S R : Type 0} (held name : S → Option (List ℕ)) (room : S → Opti
             (kept wires k (joined_upto (after k).calls (start W N (suc j))))
         lists_on k h b f low away =
             let c = going.clocks k h in let r = ran k (within k h) in let g = goes k h in
-            let s = closed.tasks.same k d (in_mid k h) in let e = ends.each k d (in_shut k h) in
+            let s = closed.shut.tasks.same k d (in_mid k h) in let e = ends.each k d (in_shut k h) in
             let y = slice_index_or mid k d in let z = slice_index_or shut k d in let u = slice_index_or last k d in
             let old = kept wires k (joined_upto (going.histories k).calls (start W N j)) in let more = joined_from (after k).calls (start W N j) count in
             -- the lists after the ticks, at the closed ends, and after the border
@@ -227,15 +157,15 @@ module _ {S R : Type 0} (held name : S → Option (List ℕ)) (room : S → Opti
             subst (λ l. Leads (empty_list (slice_index_or u.taps.local b f).capacity) l (held_by (slice_index_or u.taps.local b f))) same there
           where
             moved : {x : ℕ} → Has (put_ends (slice_index_or mid k d)) x ⊎ Has (take_ends (slice_index_or mid k d)) x → Has (put_ends (slice_index_or shut k d)) x ⊎ Has (take_ends (slice_index_or shut k d)) x
-            moved {x} (inl has) = inl (has_moved _ _ x (closed.tasks.puts_many k d (in_mid k h)) (λ p e. closed.tasks.puts k p d e (in_mid k h)) has)
-            moved {x} (inr has) = inr (has_moved _ _ x (closed.tasks.takes_many k d (in_mid k h)) (λ p e. closed.tasks.takes k p d e (in_mid k h)) has)
+            moved {x} (inl has) = inl (has_moved _ _ x (closed.shut.tasks.puts_many k d (in_mid k h)) (λ p e. closed.shut.tasks.puts k p d e (in_mid k h)) has)
+            moved {x} (inr has) = inr (has_moved _ _ x (closed.shut.tasks.takes_many k d (in_mid k h)) (λ p e. closed.shut.tasks.takes k p d e (in_mid k h)) has)
 
             gone_on : Has (put_ends (slice_index_or shut k d)) b ⊎ Has (take_ends (slice_index_or shut k d)) b → Has (put_ends (slice_index_or last k d)) b ⊎ Has (take_ends (slice_index_or last k d)) b
             gone_on (inl has) = inl (subst (λ l. Has l b) (sym (ends.each k d (in_shut k h)).puts) has)
             gone_on (inr has) = inr (subst (λ l. Has l b) (sym (ends.each k d (in_shut k h)).takes) has)
 
             few : b < length wires
-            few = let a = ends.each k d (in_shut k h) in let s' = ap length (closed.tasks.same k d (in_mid k h)).local in let r' = (ran k (within k h)).many in let c' = (going.clocks k h).lists in
+            few = let a = ends.each k d (in_shut k h) in let s' = ap length (closed.shut.tasks.same k d (in_mid k h)).local in let r' = (ran k (within k h)).many in let c' = (going.clocks k h).lists in
                 let m = a.many in omega (arith, low, m, s', r', c')
 
             end_there : ended wires k b ≡ true → Has (put_ends (slice_index_or last k d)) b ⊎ Has (take_ends (slice_index_or last k d)) b
@@ -248,16 +178,16 @@ module _ {S R : Type 0} (held name : S → Option (List ℕ)) (room : S → Opti
         clock_on : (k : ℕ) → k < length first → ClockGoing held name room faults wires N (start W N (suc j)) k (after k) (slice_index_or first k d) (slice_index_or last k d)
         clock_on k h =
             let c = going.clocks k h in let r = ran k (within k h) in let g = goes k h in
-            let s = closed.tasks.same k d (in_mid k h) in let e = ends.each k d (in_shut k h) in
+            let s = closed.shut.tasks.same k d (in_mid k h) in let e = ends.each k d (in_shut k h) in
             let engine : (slice_index_or last k d).engine ≡ (slice_index_or mid k d).engine = e.engine ∙ s.engine in
             let x = slice_index_or now k d in let y = slice_index_or mid k d in let z = slice_index_or shut k d in let u = slice_index_or last k d in
             let running = all_run k (in_mid k h) in
-            let put_many : length (put_ends u) ≡ length (put_ends x) = ap length e.puts ∙ closed.tasks.puts_many k d (in_mid k h) ∙ r.taps.0.many in
-            let take_many : length (take_ends u) ≡ length (take_ends x) = ap length e.takes ∙ closed.tasks.takes_many k d (in_mid k h) ∙ r.taps.1.many in
+            let put_many : length (put_ends u) ≡ length (put_ends x) = ap length e.puts ∙ closed.shut.tasks.puts_many k d (in_mid k h) ∙ r.taps.0.many in
+            let take_many : length (take_ends u) ≡ length (take_ends x) = ap length e.takes ∙ closed.shut.tasks.takes_many k d (in_mid k h) ∙ r.taps.1.many in
             let put_buffer : (p : ℕ) (f : Side) → p < length (put_ends u) → (slice_index_or (put_ends u) p f).buffer ≡ (slice_index_or (put_ends x) p f).buffer =
-            λ p f low. ap (λ l. (slice_index_or l p f).buffer) e.puts ∙ closed.tasks.puts k p d f (in_mid k h) ∙ (r.taps.0.each p f (omega (arith, low, put_many))).buffer in
+            λ p f low. ap (λ l. (slice_index_or l p f).buffer) e.puts ∙ closed.shut.tasks.puts k p d f (in_mid k h) ∙ (r.taps.0.each p f (omega (arith, low, put_many))).buffer in
             let take_buffer : (p : ℕ) (f : Side) → p < length (take_ends u) → (slice_index_or (take_ends u) p f).buffer ≡ (slice_index_or (take_ends x) p f).buffer =
-            λ p f low. ap (λ l. (slice_index_or l p f).buffer) e.takes ∙ closed.tasks.takes k p d f (in_mid k h) ∙ (r.taps.1.each p f (omega (arith, low, take_many))).buffer in
+            λ p f low. ap (λ l. (slice_index_or l p f).buffer) e.takes ∙ closed.shut.tasks.takes k p d f (in_mid k h) ∙ (r.taps.1.each p f (omega (arith, low, take_many))).buffer in
             let wired : IsWired wires k u = record {
               puts = λ p f low. subst (λ b. (b < length wires) × ((wire_at wires b).from ≡ k) × ((wire_at wires b).to ≢ k)) (sym (put_buffer p f low)) (c.wired.puts p f (omega (arith, low, put_many)));
               takes = λ p f low. subst (λ b. (b < length wires) × ((wire_at wires b).to ≡ k) × ((wire_at wires b).from ≢ k)) (sym (take_buffer p f low)) (c.wired.takes p f (omega (arith, low, take_many)));
@@ -313,7 +243,7 @@ module _ {S R : Type 0} (held name : S → Option (List ℕ)) (room : S → Opti
             → IsLogged (windows_upto (wire_at wires b) after b W N (suc j)) (slice_index_or (slice_index_or last (wire_at wires b).from d).taps.local b f)
         local_on b f less is =
             let wire = wire_at wires b in let k = wire.from in let h = (places b less).0 in
-            let c = going.clocks k h in let r = ran k (within k h) in let s = closed.tasks.same k d (in_mid k h) in let e = ends.each k d (in_shut k h) in
+            let c = going.clocks k h in let r = ran k (within k h) in let s = closed.shut.tasks.same k d (in_mid k h) in let e = ends.each k d (in_shut k h) in
             let x = slice_index_or now k d in let y = slice_index_or mid k d in let z = slice_index_or shut k d in let u = slice_index_or last k d in
             let l = slice_index_or x.taps.local b f in let m = slice_index_or y.taps.local b f in
             let in_x : b < length x.taps.local = (let n = c.lists in omega (arith, less, n)) in
@@ -336,7 +266,7 @@ module _ {S R : Type 0} (held name : S → Option (List ℕ)) (room : S → Opti
         pub going_more : Going held name room faults wires W N (suc j) first last after_logs d
         going_more = record {
           histories = after;
-          many = (let m = ends.many in let n = closed.tasks.many in let o = going.many in omega (arith, m, n, o, mid_many));
+          many = (let m = ends.many in let n = closed.shut.tasks.many in let o = going.many in omega (arith, m, n, o, mid_many));
           clocks = λ k h. clock_on k h;
           joins = λ b less apart. join_on b less apart;
           logged = record {

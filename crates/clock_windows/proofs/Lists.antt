@@ -17,7 +17,7 @@ use Rattle.clock_windows.proofs.Keeping.{on_kept}
 use Rattle.clock_windows.proofs.Logging.{not_ended}
 use Rattle.clock_windows.proofs.Lawfully.{leads_follows, local_run}
 
-none_ended : (wire : Wire) (k : ℕ) → wire.from ≡ wire.to → ends_at wire k ≡ false
+pub none_ended : (wire : Wire) (k : ℕ) → wire.from ≡ wire.to → ends_at wire k ≡ false
 none_ended wire k e = ⊎_elim (λ (same : (eqb wire.from wire.to ≡ true) × (wire.from ≡ wire.to)). ap (λ z. if z then false else (wire.from == k || wire.to == k)) same.0) (λ off. absurd (off.1 e)) (eqb_tells wire.from wire.to)
 
 module _ {S R : Type 0} (held name : S → Option (List ℕ)) (room : S → Option ℕ) (faults : S → ℕ) (wires : List Wire) (W N j : ℕ) (first now : List (Task S (ThreadTaps R))) (logs : List (List Answers)) (d : Task S (ThreadTaps R))

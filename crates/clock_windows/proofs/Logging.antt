@@ -1,5 +1,6 @@
 -- The answers of a window in the logs: of a buffer between clocks, and of a list.
-use Rattle.std.proofs.Common.{◌≡◌, ◌≢◌, ◌⊎◌, ℕ, ◌<◌, ◌≤◌, ◌+◌, List, [], ◌∷◌, ◌++◌, length, map, set, slice_index_or, sym, refl, ap, ◌∙◌, subst, arith, inl, inr, ⊎_elim, append-nil, flat_map, get_or-set_same, get_or-set_other, length-set}
+use Rattle.std.specs.Prelude.{Result, Ok, Err, OnOk, is_ok}
+use Rattle.std.proofs.Common.{true, true≢false, ◌≡◌, ◌≢◌, ◌⊎◌, ℕ, ◌<◌, ◌≤◌, ◌+◌, List, [], ◌∷◌, ◌++◌, length, map, set, slice_index_or, sym, refl, ap, ◌∙◌, subst, arith, inl, inr, ⊎_elim, append-nil, flat_map, get_or-set_same, get_or-set_other, length-set}
 use Rattle.frame_core.specs.Calls.{Call, takes_of, puts_to}
 use Rattle.buffer_queue.specs.Window.{Window, is_chunk}
 use Rattle.buffer_ends.specs.Local.{Answers, LocalBuffer, Leads, empty_list, held, no_answers, on, puts_of, takes_of_window}
@@ -11,7 +12,7 @@ use Rattle.buffer_sides.specs.Logs.{told}
 use Rattle.clock_tasks.specs.declared.task.Task.{Task}
 use Rattle.clock_windows.specs.declared.wires.Wire.{Wire}
 use Rattle.clock_windows.specs.Wires.{wire_at}
-use Rattle.clock_windows.specs.Ends.{puts_of as put_ends, takes_of as take_ends, JoinRan, AllClosed}
+use Rattle.clock_windows.specs.Ends.{puts_of as put_ends, takes_of as take_ends, JoinRan, AllClosed, AllShut}
 use Rattle.clock_windows.specs.Records.{IsWired, SameEngines}
 use Rattle.clock_windows.proofs.Sets.{same_or_other}
 use Rattle.clock_windows.proofs.Keeping.{puts-append, takes-append}
@@ -32,6 +33,16 @@ same_behind (x ∷ xs) ys zs e = same_behind xs ys zs (ap behind e)
 with_side : {A G : Type 0} (xs : List A) (p : ℕ) → p < length xs → (A → G) → G
 with_side [] p h f = absurd (omega (arith, h))
 with_side (x ∷ xs) p h f = f x
+
+-- what holds where all went well, and what follows
+pub on_well : {A B : Type 0} {E : Type 0} (r : Result (Unit {0}) E) → OnOk r A → (A → B) → OnOk r B
+on_well (Ok x) a f = f a
+on_well (Err x) a f = tt
+
+pub well_then : {A B C : Type 0} {E F : Type 0} (r : Result (Unit {0}) E) (s : Result (Unit {0}) F) → OnOk r ((is_ok s ≡ true) × A) → OnOk s B → (A → B → C) → OnOk r C
+well_then (Ok x) (Ok y) more before f = f more.1 before
+well_then (Ok x) (Err y) more before f = absurd (true≢false (sym more.0))
+well_then (Err x) s more before f = tt
 
 -- what is behind the answers of the closed windows are the answers of the calls since then
 module _ (b : ℕ) (old more : List Call) (l m : LocalBuffer) (closed : m.closed ≡ l.closed) (none : l.current ≡ no_answers)
@@ -111,17 +122,22 @@ module _ {S R : Type 0} where
     todo = λ b d high. (let off : b ≢ below = λ e. omega (arith, high, e) in get_or-set_other after below b x d off ∙ l.todo b d (omega (arith, high)));
   }
 
+  pub all_shut : (wires : List Wire) (below : ℕ) (first now : List (Task S (ThreadTaps R))) → length wires ≤ below → Closing wires below first now → AllShut wires first now
+  all_shut wires below first now h c = record { tasks = c.tasks; each = λ b put take less n ran. c.done b put take (omega (arith, less, h)) n ran }
+
   pub all_closed : (wires : List Wire) (below : ℕ) (first now : List (Task S (ThreadTaps R))) (logs after : List (List Answers)) → length wires ≤ below → Closing wires below first now → Logging wires below first logs after
       → AllClosed wires first now logs after
   all_closed wires below first now logs after h c l = record {
-    tasks = c.tasks;
-    each = λ b put take less n ran. c.done b put take (omega (arith, less, h)) n ran;
+    shut = all_shut wires below first now h c;
     logs_many = l.many;
     logged = λ b put take d less n ran. l.done b put take d (omega (arith, less, h)) n ran;
   }
 
   pub closing_engines : (wires : List Wire) (below : ℕ) (first now : List (Task S (ThreadTaps R))) → Closing wires below first now → SameEngines first now
   closing_engines wires below first now c = record { many = c.tasks.many; each = λ k d h. (c.tasks.same k d h).engine }
+
+  pub engines_refl : (xs : List (Task S (ThreadTaps R))) → SameEngines xs xs
+  engines_refl xs = record { many = refl; each = λ k d h. refl }
 
   pub engines_then : (xs ys zs : List (Task S (ThreadTaps R))) → SameEngines xs ys → SameEngines ys zs → SameEngines xs zs
   engines_then xs ys zs a b = record { many = b.many ∙ a.many; each = λ k d h. b.each k d (let m = a.many in omega (arith, h, m)) ∙ a.each k d h }

@@ -98,11 +98,15 @@ pub record JoinTurned {S R : Type 0} (wire : Wire) (b : ℕ) (put take : Window)
   pub legal : Legal wire.capacity rest put.opening put.answers take.answers
   pub opens : JoinOpen wire b rest tasks
 
--- the windows of all buffers that join two clocks were closed, and the log of each has the answers
-pub record AllClosed {S R : Type 0} (wires : List Wire) (old new : List (Task S (ThreadTaps R))) (logs after : List (List Answers)) : Type 0 where
+-- the windows of all buffers that join two clocks were closed
+pub record AllShut {S R : Type 0} (wires : List Wire) (old new : List (Task S (ThreadTaps R))) : Type 0 where
   pub tasks : SameTasks old new
   pub each : (b : ℕ) (put take : Window) → b < length wires → (wire_at wires b).from ≢ (wire_at wires b).to → JoinRan (wire_at wires b) b put take old
       → JoinTurned (wire_at wires b) b put take new
+
+-- and the log of each has the answers
+pub record AllClosed {S R : Type 0} (wires : List Wire) (old new : List (Task S (ThreadTaps R))) (logs after : List (List Answers)) : Type 0 where
+  pub shut : AllShut wires old new
   pub logs_many : length after ≡ length logs
   pub logged : (b : ℕ) (put take : Window) (d : List Answers) → b < length wires → (wire_at wires b).from ≢ (wire_at wires b).to → JoinRan (wire_at wires b) b put take old
       → slice_index_or after b d ≡ slice_index_or logs b d ++ told (put.answers, take.answers) ∷ []

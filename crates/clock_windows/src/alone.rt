@@ -1,5 +1,5 @@
 // All windows of a run without buffers.
-ghost use Rattle.std.specs.Prelude.{◌≡◌, ◌≢◌, ◌<◌, ◌≤◌, ℕ, [], None, length, slice_index_or, IfNone, IfSome};
+ghost use Rattle.std.specs.Prelude.{◌≡◌, ◌≢◌, ◌<◌, ◌≤◌, ℕ, [], None, true, All, length, slice_index_or, IfNone, IfSome};
 ghost use Rattle.buffer_ends.specs.declared.run_end.End.TheVariants.{Done, Memory, Write};
 ghost use Rattle.clock_windows.specs.Alone.{all_alone};
 ghost use Rattle.clock_windows.specs.Runs.{IsReady, IsToldByLowest, IsWriteAt, RunDone, RunPart};
@@ -25,7 +25,8 @@ fn stopped_among<O>(engines: &[ClockEngine<'_, O>]) -> Option<End>
     None
 }
 
-/// All engines make so many ticks over a plan without buffers, in windows of so many. It takes no memory.
+/// All engines make so many ticks over a plan without buffers, in windows of so many. Where no engine keeps its marks it takes no
+/// memory.
 pub fn run_alone<O: Sink + Send, G: Gate + Sync, R: Threads + Sync>(
     rt: &R,
     alloc: Global,
@@ -41,7 +42,7 @@ pub fn run_alone<O: Sink + Send, G: Gate + Sync, R: Threads + Sync>(
     ensures done { result ≡ Done → RunDone O.held O.name O.room O.faults [] window ticks (all_alone engines.old) (all_alone engines.new) [] }
     ensures part { RunPart O.held O.name O.faults [] window ticks (all_alone engines.old) (all_alone engines.new) }
     ensures write { (clock sink : ℕ) → result ≡ Write clock sink → IsWriteAt O.faults clock sink (all_alone engines.old) (all_alone engines.new) }
-    ensures memory { result ≢ Memory }
+    ensures memory { All (λ engine. engine.parts.cues.keeping ≡ true → ⊥) engines.old → result ≢ Memory }
 {
     let mut made = 0;
     while made < ticks {

@@ -1,8 +1,8 @@
 // Between two windows.
-ghost use Rattle.std.specs.Prelude.{◌≡◌, ◌≢◌, ◌<◌, ◌++◌, ◌∷◌, [], length, slice_index_or, OnOk};
+ghost use Rattle.std.specs.Prelude.{◌≡◌, ◌≢◌, ◌<◌, ◌++◌, ◌∷◌, [], length, slice_index_or, is_ok, true, OnOk};
 ghost use Rattle.buffer_ends.specs.Borders.{HaveEnds};
 ghost use Rattle.buffer_ends.specs.Sides.{Falling};
-ghost use Rattle.clock_windows.specs.Ends.{AllClosed, GiverClosed, JoinClosed, MayClose, WasLent, WasPutBack};
+ghost use Rattle.clock_windows.specs.Ends.{AllClosed, AllShut, GiverClosed, JoinClosed, MayClose, WasLent, WasPutBack};
 ghost use Rattle.clock_windows.specs.Records.{AllEndedTasks, HaveLists, ListClosed, SameEngines};
 
 use crate::wires::Wire;
@@ -58,15 +58,20 @@ fn close_join<O, R>(
     log
 }
 
-// Adds the answers of a window to a buffer's log.
-fn add_window(log: &mut BufferLog, window: WindowLog) -> Result<(), Memory>
-    ensures { OnOk result (log.new ≡ log.old ++ window ∷ []) }
+// Adds the answers of a window to a buffer's log, unless those of another one could not be added.
+fn add_window(
+    kept: Result<(), Memory>,
+    log: &mut BufferLog,
+    window: WindowLog,
+) -> Result<(), Memory>
+    ensures { OnOk result ((is_ok kept ≡ true) × (log.new ≡ log.old ++ window ∷ [])) }
 {
+    kept?;
     log.windows.push(window)?;
     Ok(())
 }
 
-// Closes the window of each buffer between two clocks, and adds its answers to the buffer's log.
+// Closes the window of each buffer between two clocks, and adds its answers to the buffer's log, as long as there is memory.
 pub(crate) fn close_joins<O, R>(
     alloc: Global,
     tasks: &mut [Task<'_, O, ThreadTaps<'_, R>>],
@@ -75,18 +80,20 @@ pub(crate) fn close_joins<O, R>(
 ) -> Result<(), Memory>
     requires may { MayClose wires.now tasks.old }
     requires logs { length logs.old ≡ length wires.now }
+    ensures shut { AllShut wires.now tasks.old tasks.new }
     ensures closed { OnOk result (AllClosed wires.now tasks.old tasks.new logs.old logs.new) }
     ensures engines { SameEngines tasks.old tasks.new }
 {
+    let mut kept = Ok(());
     for b in 0..wires.len() {
         let wire = wires[b];
         if wire.from == wire.to {
             continue;
         }
         let window = close_join(alloc, tasks, wire.from as usize, wire.to as usize, b as u32);
-        add_window(&mut logs[b], window)?;
+        kept = add_window(kept, &mut logs[b], window);
     }
-    Ok(())
+    kept
 }
 
 // Closes the window of a clock's list of a buffer.

@@ -61,10 +61,13 @@ pub fn run_windows<O: Sink + Send, G: Gate + Sync, R: Threads + Wait + Sync>(
     while made < ticks {
         let count = window.min(ticks - made);
         run_window(rt, alloc, tasks, gate, count);
-        if let Some(end) = stopped_in(tasks) {
+        let stopped = stopped_in(tasks);
+        // At a stop the windows are closed too: so what was answered until then is known to be legal.
+        let kept = close_joins(alloc, tasks, wires, logs);
+        if let Some(end) = stopped {
             return end;
         }
-        if let Err(Memory) = close_joins(alloc, tasks, wires, logs) {
+        if let Err(Memory) = kept {
             return End::Memory;
         }
         if let Err(Memory) = close_lists(alloc, wires, tasks) {

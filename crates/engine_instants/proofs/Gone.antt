@@ -179,9 +179,9 @@ module _ (setting : Setting) (sub : ℕ → ℕ → List Slot) (clock : NodeCloc
       }
 
   -- what `run` asks for of a node that does
-  pub goes_on : (many fed i : ℕ) (node : Node) (parts : List Part) (left right : List ℤ) (state : NodeState) → AreNodes setting.plan.nodes
-      → NodeGivesOn setting sub clock past many fed i node parts left right state → gives First i ≡ true → GoesOn setting sub clock past many i node
-  goes_on many fed i node parts left right state nodes before gave = record {
+  pub goes_on : (many fed i : ℕ) (node : Node) (held parts : List Part) (left right : List ℤ) (state : NodeState) → AreNodes setting.plan.nodes
+      → NodeGivesOn setting sub clock past many fed i node held parts left right state → gives First i ≡ true → GoesOn setting sub clock past many i node
+  goes_on many fed i node held parts left right state nodes before gave = record {
     nodes = nodes;
     long = before.long;
     stretch = before.stretch;
@@ -198,11 +198,11 @@ module _ (setting : Setting) (sub : ℕ → ℕ → List Slot) (clock : NodeCloc
       let long = length-take-le i setting.plan.nodes (omega (arith, inside)) in omega (arith, under, long))) among
 
   -- the samples of the children that give stand before the node's own
-  pub children_lanes : (many fed i : ℕ) (node : Node) (parts : List Part) (left right : List ℤ) (state : NodeState) → AreNodes setting.plan.nodes → many ≤ 1024
-      → i * 1024 ≤ length left → i * 1024 ≤ length right → NodeGivesOn setting sub clock past many fed i node parts left right state
+  pub children_lanes : (many fed i : ℕ) (node : Node) (held parts : List Part) (left right : List ℤ) (state : NodeState) → AreNodes setting.plan.nodes → many ≤ 1024
+      → i * 1024 ≤ length left → i * 1024 ≤ length right → NodeGivesOn setting sub clock past many fed i node held parts left right state
       → (c : ℕ) → list_any (nat_eq c) node.children ≡ true → gives First c ≡ true
       → IsLane (λ j. lane setting sub clock past (suc j) c) many (samples_of (take (i * 1024) left) c many) (samples_of (take (i * 1024) right) c many)
-  children_lanes many fed i node parts left right state nodes short in_left in_right before c among gave =
+  children_lanes many fed i node held parts left right state nodes short in_left in_right before c among gave =
       let low : c < i = child_low i c node nodes before.is.there among in
       subst (λ l. IsLane (λ j. lane setting sub clock past (suc j) c) many l (samples_of (take (i * 1024) right) c many)) (sym (samples_before c i many left low short in_left))
       (subst (λ r. IsLane (λ j. lane setting sub clock past (suc j) c) many (samples_of left c many) r) (sym (samples_before c i many right low short in_right)) (before.lanes c low gave))

@@ -7,17 +7,17 @@ use Rattle.plan_core.specs.declared.node.Node.{Node}
 use Rattle.plan_core.specs.Plans.{AreNodes}
 use Rattle.plan_core.proofs.Paths.{child_below}
 use Rattle.clock_infer.specs.declared.clock_map.NodeClock.{NodeClock}
-use Rattle.frame_core.specs.Slots.{Slot, slot_at, is_first}
+use Rattle.frame_core.specs.Slots.{Slot, slot_at, is_first, title_of}
 use Rattle.op_cross.specs.Runs.{item_of}
 use Rattle.op_leaf.specs.Leaves.{leaf_slot}
 use Rattle.op_leaf.specs.Readers.{read_by, reader_slot}
 use Rattle.op_select.specs.declared.rule.Rule.{Rule}
 use Rattle.op_select.specs.Selection.{pick_of, picked}
 use Rattle.stream_meaning.specs.declared.part.Part.{Part}
-use Rattle.stream_meaning.specs.Operators.{Work, Choice, Selects, TakesTurns, Eligible, Every, Where, Plays, Picks, Fades, Reads, marks_at}
+use Rattle.stream_meaning.specs.Operators.{Work, Choice, Selects, TakesTurns, Eligible, Every, Where, Plays, Picks, Mixes, Fades, Reads, marks_at}
 use Rattle.stream_meaning.specs.Instants.{Setting, Moment, count, demanded, gives, last_pick, moment_after, offer, part_at, part_by, parts_upto, picked_part, position, reading_after, reading_at, second_at, slots_at, work_at}
 use Rattle.segment_laws.specs.Steady.{IsFree, is_inner}
-use Rattle.segment_laws.specs.Stretches.{IsNode, IsStretch, NodeGoes}
+use Rattle.segment_laws.specs.Stretches.{IsNode, IsStretch, KeepsTitle, NodeGoes, NodeKeeps}
 use Rattle.segment_laws.proofs.Parts.{own_part, part_stays}
 use Rattle.segment_laws.proofs.Following.{AreBelow, below_from}
 use Rattle.node_states.specs.declared.time.WeekTime.{WeekTime}
@@ -46,6 +46,7 @@ slots_same before after i (c ∷ children) (here, below) same =
 
 module _ (setting : Setting) (sub : ℕ → ℕ → List Slot) (clock : NodeClock) (past : List Moment) (i : ℕ) (node : Node) (nodes : AreNodes setting.plan.nodes) (is : IsNode setting clock i node)
     (begins : Bool) (last : Option ℕ) (rest more second tick : ℕ) (few : rest ≤ more) (goes : NodeGoes setting sub past (moment_after setting sub clock past) i (work_at setting i node) begins more)
+    (keeps : NodeKeeps setting sub past (moment_after setting sub clock past) i (work_at setting i node) more)
     (steady : (choice : Choice) (eligible : Eligible) → work_at setting i node ≡ Picks choice eligible → (eligible ≡ Every → ⊥) → rest ≤ second)
     (begun : begins ≡ begins_at (moment_after setting sub clock past).parts node.children last)
     (last_is : (rule : Rule) (eligible : Eligible) → work_at setting i node ≡ Picks (Selects rule) eligible → last ≡ last_pick (moment_after setting sub clock past ∷ past) i)
@@ -101,6 +102,20 @@ module _ (setting : Setting) (sub : ℕ → ℕ → List Slot) (clock : NodeCloc
   to_one : (j : ℕ) → 0 < j → suc (j - 1) ≡ j
   to_one j some = omega (arith, some)
 
+  keeps_at : (work : Work) → work_at setting i node ≡ work → NodeKeeps setting sub past First i work more
+  keeps_at work at = subst (λ w. NodeKeeps setting sub past First i w more) at keeps
+
+  titles_by : (work : Work) → work_at setting i node ≡ work → (j : ℕ) → 0 < j → j ≤ rest → gives First i ≡ true → KeepsTitle setting sub past i work j (title_of (offer First i))
+  titles_by (Plays leaf) at j some low g = ap (λ n. title_of (leaf_slot setting.library leaf n)) (sym (from_one (count past i) j some))
+      ∙ keeps_at (Plays leaf) at g (j - 1) (omega (arith, some, low, few))
+  titles_by (Picks choice eligible) at j some low g = tt
+  titles_by (Mixes mixing) at j some low g = tt
+  titles_by (Fades overlap) at j some low g = ap (λ n. title_of (item_of overlap (sub i) n)) (sym (from_one (position past i) j some))
+      ∙ keeps_at (Fades overlap) at g (j - 1) (omega (arith, some, low, few))
+  titles_by (Reads buffer) at j some low g =
+      ap (λ n. title_of (reader_slot (read_by n (reading_at setting buffer (length past) (reading_after setting i buffer past)).reader))) (sym (to_one j some))
+      ∙ keeps_at (Reads buffer) at g (j - 1) (omega (arith, some, low, few))
+
   pub node_stretches : NodeStretches setting sub clock past i node rest
   node_stretches = record {
     leaves = λ leaf j at some low g. ap (λ n. is_inner (leaf_slot setting.library leaf n)) (sym (from_one (count past i) j some))
@@ -114,6 +129,7 @@ module _ (setting : Setting) (sub : ℕ → ℕ → List Slot) (clock : NodeCloc
         ∙ (goes_at (Fades overlap) at).1 g (j - 1) (omega (arith, some, low, few));
     marks = marks_by;
     free = λ choice eligible at some. free_by choice eligible at some (last_pick past i) refl;
+    titles = λ j some low g. titles_by (work_at setting i node) refl j some low g;
   }
 
 -- fewer instants
@@ -127,6 +143,7 @@ fewer setting sub clock past i node rest less few s = record {
   settled = λ overlap j at some within g. s.settled overlap j at some (omega (arith, within, few)) g;
   marks = λ choice eligible j children at some within. s.marks choice eligible j children at some (omega (arith, within, few));
   free = λ choice eligible at some. s.free choice eligible at (omega (arith, some, few));
+  titles = λ j some within g. s.titles j some (omega (arith, within, few)) g;
 }
 
 -- the nodes of a clock below this one go on
@@ -164,6 +181,7 @@ on_all setting sub clock past n rest all go = record {
   settled = λ i node overlap j is at some within g. (at_node i node is).settled overlap j at some (omega (arith, within)) g;
   marks = λ i node choice eligible j children is at some within. (at_node i node is).marks choice eligible j children at some (omega (arith, within));
   free = λ i node choice eligible j is at some within. (at_node i node is).free choice eligible at (omega (arith, some, within));
+  titles = λ i node j is some within g. (at_node i node is).titles j some (omega (arith, within)) g;
 }
   where
     at_node : (i : ℕ) (node : Node) → IsNode setting clock i node → NodeStretches setting sub clock past i node rest

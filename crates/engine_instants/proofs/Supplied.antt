@@ -11,7 +11,7 @@ use Rattle.plan_core.specs.declared.node.Op.TheVariants.{Single, Playlist, Blank
 use Rattle.plan_core.specs.Plans.{AreNodes, HasChildren}
 use Rattle.clock_infer.specs.declared.clock_map.NodeClock.TheVariants.{Sub}
 use Rattle.frame_core.specs.Slots.{Slot}
-use Rattle.op_leaf.specs.Lanes.{IsLane}
+use Rattle.op_leaf.specs.Lanes.{AreTitled, IsLane}
 use Rattle.stream_meaning.specs.Operators.{Work, Plays, Picks, Mixes, Fades, Reads, work_of}
 use Rattle.stream_meaning.specs.Instants.{Setting, Moment, IsMeaning, crossfaded, history, moment_after, offer, work_at}
 use Rattle.segment_laws.specs.Stretches.{going_on, lane}
@@ -66,12 +66,12 @@ passing_fades setting sub past fed i work (Read reader) s e = absurd (false≢tr
 passing_fades setting sub past fed i work Idle s e = absurd (false≢true e)
 
 -- the samples of the child stand before the crossfade's own
-pub child_feeds : (setting : Setting) (sub : ℕ → ℕ → List Slot) (past : List Moment) (many fed i : ℕ) (node : Node) (state : NodeState) (left right : List ℤ) → AreNodes setting.plan.nodes
+pub child_feeds : (setting : Setting) (sub : ℕ → ℕ → List Slot) (past : List Moment) (many fed i title : ℕ) (node : Node) (state : NodeState) (left right : List ℤ) → AreNodes setting.plan.nodes
     → slice_get setting.plan.nodes i ≡ Some node → StateStands setting sub past fed i (work_at setting i node) state → passes state ≡ true
     → many ≤ 1024 → i * 1024 ≤ length left → i * 1024 ≤ length right
-    → LaneFeeds (sub i) fed many (samples_of left (crossfaded setting.plan.nodes i) many) (samples_of right (crossfaded setting.plan.nodes i) many)
-    → ChildFeeds (sub i) fed many node.children (take (i * 1024) left) (take (i * 1024) right)
-child_feeds setting sub past many fed i node state left right nodes found stands through short in_left in_right feeds =
+    → LaneFeeds (sub i) fed many title (samples_of left (crossfaded setting.plan.nodes i) many) (samples_of right (crossfaded setting.plan.nodes i) many)
+    → ChildFeeds (sub i) fed many title node.children (take (i * 1024) left) (take (i * 1024) right)
+child_feeds setting sub past many fed i title node state left right nodes found stands through short in_left in_right feeds =
     let own = nodes i node found in
     let some : 0 < length node.children = one_child setting.plan.rate i node.kind node.op (length node.children)
     (passing_fades setting sub past fed i (work_at setting i node) state stands through) own.number in
@@ -83,19 +83,19 @@ child_feeds setting sub past many fed i node state left right nodes found stands
     record {
       child = get_or node.children 0 0;
       there = slice_get-get_or node.children 0 0 some;
-      feeds = subst (λ (l : List ℤ). LaneFeeds (sub i) fed many l (samples_of (take (i * 1024) right) (get_or node.children 0 0) many))
+      feeds = subst (λ (l : List ℤ). LaneFeeds (sub i) fed many title l (samples_of (take (i * 1024) right) (get_or node.children 0 0) many))
           (sym (samples_before (get_or node.children 0 0) i many left low short in_left))
-          (subst (λ (r : List ℤ). LaneFeeds (sub i) fed many (samples_of left (get_or node.children 0 0) many) r)
+          (subst (λ (r : List ℤ). LaneFeeds (sub i) fed many title (samples_of left (get_or node.children 0 0) many) r)
           (sym (samples_before (get_or node.children 0 0) i many right low short in_right))
-          (subst (λ n. LaneFeeds (sub i) fed many (samples_of left n many) (samples_of right n many)) is feeds));
+          (subst (λ n. LaneFeeds (sub i) fed many title (samples_of left n many) (samples_of right n many)) is feeds));
     }
 
 -- the same over equal lists
-pub feeds_over : (slots_of : ℕ → List Slot) (n many : ℕ) (children : List ℕ) (left left_new right right_new : List ℤ) → left_new ≡ left → right_new ≡ right
-    → ChildFeeds slots_of n many children left right → ChildFeeds slots_of n many children left_new right_new
-feeds_over slots_of n many children left left_new right right_new same alike feeds =
-    subst (λ (l : List ℤ). ChildFeeds slots_of n many children l right_new) (sym same)
-    (subst (λ (r : List ℤ). ChildFeeds slots_of n many children left r) (sym alike) feeds)
+pub feeds_over : (slots_of : ℕ → List Slot) (n many title : ℕ) (children : List ℕ) (left left_new right right_new : List ℤ) → left_new ≡ left → right_new ≡ right
+    → ChildFeeds slots_of n many title children left right → ChildFeeds slots_of n many title children left_new right_new
+feeds_over slots_of n many title children left left_new right right_new same alike feeds =
+    subst (λ (l : List ℤ). ChildFeeds slots_of n many title children l right_new) (sym same)
+    (subst (λ (r : List ℤ). ChildFeeds slots_of n many title children left r) (sym alike) feeds)
 
 -- the instants of a clock from one on
 pub history_later : (setting : Setting) (sub : ℕ → ℕ → List Slot) (clock : NodeClock) (n j : ℕ) → history setting sub clock (n + j) ≡ going_on setting sub clock j (history setting sub clock n)
@@ -105,12 +105,14 @@ history_later setting sub clock n (suc j) =
     ap (history setting sub clock) e ∙ ap (λ past. moment_after setting sub clock past ∷ past) (history_later setting sub clock n j)
 
 -- what a run of its sub-clock leaves for a crossfade
-pub lane_feeds : (setting : Setting) (sub : ℕ → ℕ → List Slot) (k n many : ℕ) (left right : List ℤ) → IsMeaning setting sub
+pub lane_feeds : (setting : Setting) (sub : ℕ → ℕ → List Slot) (k n many title : ℕ) (left right : List ℤ) → IsMeaning setting sub
     → IsLane (λ j. lane setting sub (Sub k) (history setting sub (Sub k) n) (suc j) (crossfaded setting.plan.nodes k)) many left right
-    → LaneFeeds (sub k) (suc n) many left right
-lane_feeds setting sub k n many left right means made = record {
+    → AreTitled (λ j. lane setting sub (Sub k) (history setting sub (Sub k) n) (suc j) (crossfaded setting.plan.nodes k)) many title
+    → LaneFeeds (sub k) (suc n) many title left right
+lane_feeds setting sub k n many title left right means made titled = record {
   slots = λ j. lane setting sub (Sub k) (history setting sub (Sub k) n) (suc j) (crossfaded setting.plan.nodes k);
   lane = made;
+  titled = titled;
   fed = λ m less.
       let e : suc n + m ≡ n + suc m = omega arith in
       means k (suc (suc n + m))

@@ -3,7 +3,7 @@ use Rattle.std.specs.Prelude.{◌≡◌, ◌<◌, ◌+◌, ◌≤◌, ◌&&◌, 
 use Rattle.std.specs.Option.{option_map_or}
 use Rattle.plan_core.specs.declared.node.Node.{Node}
 use Rattle.clock_infer.specs.declared.clock_map.NodeClock.{NodeClock}
-use Rattle.frame_core.specs.Slots.{Slot}
+use Rattle.frame_core.specs.Slots.{Slot, title_of}
 use Rattle.op_cross.specs.Runs.{run_of}
 use Rattle.stream_meaning.specs.declared.part.Part.{Part}
 use Rattle.stream_meaning.specs.Operators.{Fades}
@@ -35,11 +35,11 @@ pub record IsHeld (setting : Setting) (sub : ℕ → ℕ → List Slot) (clock :
   pub each : (i : ℕ) → i < length setting.plan.nodes → lies_in setting clock i ≡ true → part_at held i ≡ given_part (moment_after setting sub clock past) i
 
 -- the crossfades of a clock that gave at the instant after these, and through which cells pass, are fed cells of one track for as long
--- as their sub-clocks go on
-pub record AreFedOn (setting : Setting) (sub : ℕ → ℕ → List Slot) (clock : NodeClock) (past : List Moment) (fed : ℕ → ℕ) (states : List NodeState)
+-- as their sub-clocks go on, under the titles that are held of their children
+pub record AreFedOn (setting : Setting) (sub : ℕ → ℕ → List Slot) (clock : NodeClock) (past : List Moment) (fed : ℕ → ℕ) (held : List Part) (states : List NodeState)
     (rests : List ℕ) : Type 0 where
   pub each : (k : ℕ) (node : Node) (state : NodeState) → IsNode setting clock k node → slice_get states k ≡ Some state
-      → gives (moment_after setting sub clock past) k ≡ true → passes state ≡ true → AreFed setting sub k (fed k) (slice_index_or rests k 0)
+      → gives (moment_after setting sub clock past) k ≡ true → passes state ≡ true → AreFed setting sub k (fed k) (slice_index_or rests k 0) (title_of (part_at held (crossfaded setting.plan.nodes k)).slot)
 
 -- of the crossfades of a clock below this node, those that gave and through which cells pass go on no longer than their sub-clocks
 pub record AllPassOn (clocks : List NodeClock) (clock : NodeClock) (held : List Part) (states : List NodeState) (rests : List ℕ) (below count : ℕ) : Type 0 where
@@ -54,12 +54,13 @@ pub record AllAsk (setting : Setting) (sub : ℕ → ℕ → List Slot) (clock :
       → slice_get states k ≡ Some state → gives (moment_after setting sub clock past) k ≡ true → j < count
       → run_of overlap (sub k) (suc (position past k) + j) ≡ fed k + asked (passes state) j
 
--- the crossfades of a clock that gave at the instant after these, and through which cells pass, have the samples of their children
+-- the crossfades of a clock that gave at the instant after these, and through which cells pass, have the samples of their children,
+-- whose titles are held
 pub record AreSupplied (setting : Setting) (sub : ℕ → ℕ → List Slot) (clock : NodeClock) (past : List Moment) (many : ℕ) (fed : ℕ → ℕ)
-    (states : List NodeState) (left right : List ℤ) : Type 0 where
+    (held : List Part) (states : List NodeState) (left right : List ℤ) : Type 0 where
   pub each : (k : ℕ) (node : Node) (state : NodeState) → IsNode setting clock k node → slice_get states k ≡ Some state
       → gives (moment_after setting sub clock past) k ≡ true → passes state ≡ true
-      → LaneFeeds (sub k) (fed k) many (samples_of left (crossfaded setting.plan.nodes k) many) (samples_of right (crossfaded setting.plan.nodes k) many)
+      → LaneFeeds (sub k) (fed k) many (title_of (part_at held (crossfaded setting.plan.nodes k)).slot) (samples_of left (crossfaded setting.plan.nodes k) many) (samples_of right (crossfaded setting.plan.nodes k) many)
   -- which lie in other clocks
   pub apart : (k : ℕ) (node : Node) (state : NodeState) → IsNode setting clock k node → slice_get states k ≡ Some state
       → gives (moment_after setting sub clock past) k ≡ true → passes state ≡ true → lies_in setting clock (crossfaded setting.plan.nodes k) ≡ false

@@ -2,7 +2,7 @@
 use Rattle.std.specs.Prelude.{◌≡◌, ◌<◌, ◌≤◌, ◌+◌, ◌%◌, Bool, true, false, Option, Some, None, List, ℕ, length, is_some, nat_eq}
 use Rattle.plan_core.specs.declared.node.Node.{Node}
 use Rattle.clock_infer.specs.declared.clock_map.NodeClock.{NodeClock}
-use Rattle.frame_core.specs.Slots.{Slot, slot_at, is_first}
+use Rattle.frame_core.specs.Slots.{Slot, slot_at, is_first, title_of}
 use Rattle.op_cross.specs.Runs.{item_of}
 use Rattle.op_leaf.specs.declared.leaf.Leaf.{Leaf}
 use Rattle.op_leaf.specs.Leaves.{leaf_slot}
@@ -11,7 +11,7 @@ use Rattle.stream_meaning.specs.declared.part.Part.{Part}
 use Rattle.stream_meaning.specs.Operators.{Choice, Eligible, Plays, Picks, Fades, Reads, marks_at}
 use Rattle.stream_meaning.specs.Instants.{Setting, Moment, count, gives, last_pick, moment_after, offer, parts_upto, position, reading_after, reading_at, second_at, slots_at, work_at}
 use Rattle.segment_laws.specs.Steady.{IsFree, is_inner}
-use Rattle.segment_laws.specs.Stretches.{IsNode}
+use Rattle.segment_laws.specs.Stretches.{IsNode, KeepsTitle}
 
 -- the child at a place begins a track
 abbrev pub begins_at : List Part → List ℕ → Option ℕ → Bool
@@ -33,6 +33,8 @@ pub record NodeStretches (setting : Setting) (sub : ℕ → ℕ → List Slot) (
   pub free : (choice : Choice) (eligible : Eligible) → work_at setting i node ≡ Picks choice eligible → 0 < rest
       → IsFree choice (slots_at (parts_upto setting sub clock past i) node.children)
       (marks_at eligible (second_at setting (length past)) (length (slots_at (parts_upto setting sub clock past i) node.children))) (last_pick past i)
+  pub titles : (j : ℕ) → 0 < j → j ≤ rest → gives (moment_after setting sub clock past) i ≡ true
+      → KeepsTitle setting sub past i (work_at setting i node) j (title_of (offer (moment_after setting sub clock past) i))
 
 -- the readers of a clock have begun so many instants
 pub record AreReadTo (setting : Setting) (clock : NodeClock) (fed : ℕ → ℕ) (n : ℕ) : Type 0 where

@@ -2,7 +2,7 @@
 use Rattle.std.specs.Prelude.{◌≡◌, ◌<◌, ◌≤◌, ◌*◌, ◌&&◌, ◌||◌, Bool, true, Some, List, ◌∷◌, ℕ, ℤ, suc, length, slice_get}
 use Rattle.plan_core.specs.declared.node.Node.{Node}
 use Rattle.clock_infer.specs.declared.clock_map.NodeClock.{NodeClock}
-use Rattle.frame_core.specs.Slots.{Slot}
+use Rattle.frame_core.specs.Slots.{Slot, title_of}
 use Rattle.frame_core.specs.Library.{Sounds}
 use Rattle.op_leaf.specs.Lanes.{IsLane}
 use Rattle.stream_meaning.specs.declared.part.Part.{Part}
@@ -46,7 +46,7 @@ pub record IsBehind (setting : Setting) (sub : ℕ → ℕ → List Slot) (clock
   pub held_are : IsHeld setting sub clock past held
   pub begun : AreReadTo setting clock fed (suc (length past))
   pub time_is : TimeStands setting.start (length past) time
-  pub fed_on : AreFedOn setting sub clock past fed states rests
+  pub fed_on : AreFedOn setting sub clock past fed held states rests
 
 -- what was given at the instant after these is held, with which so many instants are a stretch, the states stand for it too, and the
 -- crossfades through which cells pass have the samples of their children
@@ -57,7 +57,7 @@ pub record IsGoing (setting : Setting) (sub : ℕ → ℕ → List Slot) (clock 
   pub stands : ClockStands setting sub clock (moment_after setting sub clock past ∷ past) fed states
   pub held_are : IsHeld setting sub clock past held
   pub begun : AreReadTo setting clock fed (suc (length past))
-  pub supplied : AreSupplied setting sub clock past many fed states left right
+  pub supplied : AreSupplied setting sub clock past many fed held states left right
 
 -- what the nodes of a clock have begun or were fed, where its readers have begun so many instants more, and its crossfades through which
 -- cells pass were fed so many slots more
@@ -74,9 +74,9 @@ pub record HasGoneOn (setting : Setting) (sub : ℕ → ℕ → List Slot) (cloc
       → IsLane (λ j. lane setting sub clock past (suc j) i) many (samples_of left i many) (samples_of right i many)
 
 -- a stretch of so many instants behind the one after these, as node i sees it before its run: what it and the nodes before it gave, and
--- the samples of those that give
+-- the samples of those that give; `held` is what all nodes gave
 pub record NodeGivesOn (setting : Setting) (sub : ℕ → ℕ → List Slot) (clock : NodeClock) (past : List Moment) (many fed i : ℕ) (node : Node)
-    (parts : List Part) (left right : List ℤ) (state : NodeState) : Type 0 where
+    (held parts : List Part) (left right : List ℤ) (state : NodeState) : Type 0 where
   pub long : AreLong sub
   pub stretch : IsStretch setting sub clock past (suc many)
   pub is : IsNode setting clock i node
@@ -86,7 +86,7 @@ pub record NodeGivesOn (setting : Setting) (sub : ℕ → ℕ → List Slot) (cl
   pub lanes : (k : ℕ) → k < i → gives (moment_after setting sub clock past) k ≡ true
       → IsLane (λ j. lane setting sub clock past (suc j) k) many (samples_of left k many) (samples_of right k many)
   pub supplied : gives (moment_after setting sub clock past) i ≡ true → passes state ≡ true
-      → LaneFeeds (sub i) fed many (samples_of left (crossfaded setting.plan.nodes i) many) (samples_of right (crossfaded setting.plan.nodes i) many)
+      → LaneFeeds (sub i) fed many (title_of (part_at held (crossfaded setting.plan.nodes i)).slot) (samples_of left (crossfaded setting.plan.nodes i) many) (samples_of right (crossfaded setting.plan.nodes i) many)
 
 -- and behind it
 pub record NodeHasRun (setting : Setting) (sub : ℕ → ℕ → List Slot) (clock : NodeClock) (past : List Moment) (many fed i : ℕ) (node : Node)

@@ -3,6 +3,7 @@
 
 mod advance;
 mod demand;
+mod held;
 mod holding;
 mod instant;
 mod latest;

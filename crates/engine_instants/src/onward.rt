@@ -13,6 +13,7 @@ ghost use Rattle.engine_instants.specs.Nodes.{AreNodesOf, lies_at};
 ghost use Rattle.engine_instants.specs.Runs.{AllLieAhead, HasGoneOn, HasRunRoom, IsGoing, NodeGivesOn, NodeHasRun};
 ghost use Rattle.engine_instants.specs.States.{AllFit, over};
 
+use crate::held::title_below;
 use crate::{ClockNodes, Runs, Shape};
 use clock_infer::NodeClock;
 use node_mixing::{MAX_RUN, Sums};
@@ -108,6 +109,7 @@ fn run_each(
         run_node(
             shape,
             i,
+            held,
             parts,
             &mut states[i],
             left,
@@ -119,10 +121,11 @@ fn run_each(
     }
 }
 
-// Makes so many instants more of node i, over what it and the nodes before it gave.
+// Makes so many instants more of node i, over what it and the nodes before it gave; `held` is what all nodes gave.
 fn run_node(
     shape: &Shape<'_>,
     i: usize,
+    held: &[Part],
     parts: &[Part],
     state: &mut NodeState,
     left: &mut [i16],
@@ -145,13 +148,14 @@ fn run_node(
     ensures right { (k : ℕ) → (k ≡ i → ⊥) → samples_of right.new k count ≡ samples_of right.old k count }
     ensures run { (setting : Setting) (sub : ℕ → ℕ → List TheSlot) (clock : Clock) (past : List Moment) (fed : ℕ) (node : PlanNode) →
         let setting = over shape.now.plan.now shape.now.library.now shape.now.clocks.now setting in
-        NodeGivesOn setting sub clock past count fed i node parts.now left.old right.old state.old
+        NodeGivesOn setting sub clock past count fed i node held.now parts.now left.old right.old state.old
         → NodeHasRun setting sub clock past count fed i node state.old left.new right.new state.new }
 {
     let part = parts[i];
     if !gave(part) {
         return;
     }
+    let below = title_below(shape.plan.nodes.as_slice(), held, i);
     let node = &shape.plan.nodes.as_slice()[i];
     let at = i * MAX_RUN as usize;
     let (left_before, left_own) = left.split_at_mut(at);
@@ -160,6 +164,7 @@ fn run_node(
         node,
         part.pick,
         parts,
+        below,
         shape.library,
         left_before,
         right_before,

@@ -18,6 +18,7 @@ ghost use Rattle.engine_instants.specs.Resting.{IsSameSecond, IsSameTick, NodeSt
 ghost use Rattle.engine_instants.specs.Runs.{AllLieAhead, IsBehind};
 ghost use Rattle.engine_instants.specs.States.{AllFit, over};
 
+use crate::held::title_below;
 use crate::{ClockNodes, Shape};
 use clock_infer::NodeClock;
 use node_states::{NodeState, WeekTime};
@@ -64,15 +65,26 @@ pub fn rest_of(
     let mut rest = most.min(time.rate);
     let mut i = nodes.first(clock);
     while i < shape.clocks.len() {
+        let below_title = title_below(shape.plan.nodes.as_slice(), held, i);
         rest = node_rest(
-            shape, parts, held[i], &states[i], i, rests[i], second, tick, rest,
+            shape,
+            parts,
+            held[i],
+            &states[i],
+            i,
+            rests[i],
+            below_title,
+            second,
+            tick,
+            rest,
         );
         i = nodes.after(i);
     }
     rest
 }
 
-// How many of these instants node i goes on, which has this state and gave this; and its sub-clock goes on for so many.
+// How many of these instants node i goes on, which has this state and gave this; and its sub-clock goes on for so many, under the title
+// `below_title`.
 fn node_rest(
     shape: &Shape<'_>,
     parts: &[Part],
@@ -80,6 +92,7 @@ fn node_rest(
     state: &NodeState,
     i: usize,
     below: u32,
+    below_title: u32,
     second: u32,
     tick: u32,
     most: u32,
@@ -96,18 +109,26 @@ fn node_rest(
         AreLong sub → IsNode setting clock i node → StateStands setting sub (moment_after setting sub clock past ∷ past) fed i (work_at setting i node) state.now
         → parts.now ≡ (moment_after setting sub clock past).parts → gives (moment_after setting sub clock past) i ≡ is_some held.slot
         → ((buffer : ℕ) → work_at setting i node ≡ Reads buffer → fed ≡ suc (length past))
-        → (is_some held.slot ≡ true → passes state.now ≡ true → AreFed setting sub i fed below)
+        → (is_some held.slot ≡ true → passes state.now ≡ true → AreFed setting sub i fed below below_title)
         → IsSameSecond setting (length past) second → IsSameTick setting (length past) tick
         → NodeStretches setting sub clock past i node result }
     ensures asks { (setting : Setting) (sub : ℕ → ℕ → List TheSlot) (past : List Moment) (moment : Moment) (fed overlap j : ℕ)
         → AreLong sub → StateStands setting sub (moment ∷ past) fed i (Fades overlap) state.now → gives moment i ≡ is_some held.slot → is_some held.slot ≡ true
-        → (passes state.now ≡ true → AreFed setting sub i fed below) → j < result
+        → (passes state.now ≡ true → AreFed setting sub i fed below below_title) → j < result
         → run_of overlap (sub i) (suc (position past i) + j) ≡ fed + asked (passes state.now) j }
 {
     let node = &shape.plan.nodes.as_slice()[i];
     let gave = held.slot.is_some();
     let begins = begins(parts, node.children.as_slice(), state.last());
-    let rest = state.rest(parts[i], gave, begins, shape.library, below, most);
+    let rest = state.rest(
+        parts[i],
+        gave,
+        begins,
+        shape.library,
+        below,
+        below_title,
+        most,
+    );
     rest.min(border(&node.op, second, tick, most))
 }
 

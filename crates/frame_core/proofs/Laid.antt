@@ -51,32 +51,32 @@ slots_in-cleared (m ∷ marks) (x ∷ lefts) (y ∷ rights) zero (suc n) l r =
 slots_in-cleared (m ∷ marks) (x ∷ lefts) (y ∷ rights) (suc at) n l r =
     ap (λ slots. slot_of m x y ∷ slots) (slots_in-cleared marks lefts rights at n (omega (arith, l)) (omega (arith, r)))
 
-inner_laid : (ls rs : List ℤ) → length rs ≡ length ls → slots_in (replicate (length ls) Inner) ls rs ≡ laid_slots false ls rs
-inner_laid [] rs same = refl
-inner_laid (l ∷ ls) [] same = absurd (omega (arith, same))
-inner_laid (l ∷ ls) (r ∷ rs) same =
-    ap (λ slots. Some (record { left = l; right = r; first = false }) ∷ slots) (inner_laid ls rs (omega (arith, same)))
+inner_laid : (title : ℕ) (ls rs : List ℤ) → length rs ≡ length ls → slots_in (replicate (length ls) (Inner title)) ls rs ≡ laid_slots false title ls rs
+inner_laid title [] rs same = refl
+inner_laid title (l ∷ ls) [] same = absurd (omega (arith, same))
+inner_laid title (l ∷ ls) (r ∷ rs) same =
+    ap (λ slots. Some (record { left = l; right = r; first = false; title = title }) ∷ slots) (inner_laid title ls rs (omega (arith, same)))
 
-marks_laid : (first : Bool) (ls rs : List ℤ) → length rs ≡ length ls → slots_in (marks_of first (length ls)) ls rs ≡ laid_slots first ls rs
-marks_laid first [] rs same = refl
-marks_laid first (l ∷ ls) [] same = absurd (omega (arith, same))
-marks_laid true (l ∷ ls) (r ∷ rs) same =
-    ap (λ slots. Some (record { left = l; right = r; first = true }) ∷ slots) (inner_laid ls rs (omega (arith, same)))
-marks_laid false (l ∷ ls) (r ∷ rs) same =
-    ap (λ slots. Some (record { left = l; right = r; first = false }) ∷ slots) (inner_laid ls rs (omega (arith, same)))
+marks_laid : (first : Bool) (title : ℕ) (ls rs : List ℤ) → length rs ≡ length ls → slots_in (marks_of first title (length ls)) ls rs ≡ laid_slots first title ls rs
+marks_laid first title [] rs same = refl
+marks_laid first title (l ∷ ls) [] same = absurd (omega (arith, same))
+marks_laid true title (l ∷ ls) (r ∷ rs) same =
+    ap (λ slots. Some (record { left = l; right = r; first = true; title = title }) ∷ slots) (inner_laid title ls rs (omega (arith, same)))
+marks_laid false title (l ∷ ls) (r ∷ rs) same =
+    ap (λ slots. Some (record { left = l; right = r; first = false; title = title }) ∷ slots) (inner_laid title ls rs (omega (arith, same)))
 
-pub length-marks_of : (first : Bool) (n : ℕ) → length (marks_of first n) ≡ n
-length-marks_of first zero = refl
-length-marks_of first (suc n) = ap suc (length-replicate n Inner)
+pub length-marks_of : (first : Bool) (title n : ℕ) → length (marks_of first title n) ≡ n
+length-marks_of first title zero = refl
+length-marks_of first title (suc n) = ap suc (length-replicate n (Inner title))
 
 -- a run is laid
-pub laid : (marks : List Mark) (lefts rights : List ℤ) (slots : List Slot) (at : ℕ) (first : Bool) (ls rs : List ℤ)
+pub laid : (marks : List Mark) (lefts rights : List ℤ) (slots : List Slot) (at : ℕ) (first : Bool) (title : ℕ) (ls rs : List ℤ)
     → length lefts ≡ length marks → length rights ≡ length marks → slots_in marks lefts rights ≡ slots → length rs ≡ length ls
-    → slots_in (put_chunk at marks (marks_of first (length ls))) (put_chunk at lefts ls) (put_chunk at rights rs) ≡ put_chunk at slots (laid_slots first ls rs)
-laid marks lefts rights slots at first ls rs l r is same =
-    let many = length-marks_of first (length ls) in
-    slots_in-put marks lefts rights at (marks_of first (length ls)) ls rs l r (sym many) (same ∙ sym many)
-    ∙ ap (put_chunk at (slots_in marks lefts rights)) (marks_laid first ls rs same) ∙ ap (λ s. put_chunk at s (laid_slots first ls rs)) is
+    → slots_in (put_chunk at marks (marks_of first title (length ls))) (put_chunk at lefts ls) (put_chunk at rights rs) ≡ put_chunk at slots (laid_slots first title ls rs)
+laid marks lefts rights slots at first title ls rs l r is same =
+    let many = length-marks_of first title (length ls) in
+    slots_in-put marks lefts rights at (marks_of first title (length ls)) ls rs l r (sym many) (same ∙ sym many)
+    ∙ ap (put_chunk at (slots_in marks lefts rights)) (marks_laid first title ls rs same) ∙ ap (λ s. put_chunk at s (laid_slots first title ls rs)) is
 
 -- a run is cleared
 pub cleared : (marks : List Mark) (lefts rights : List ℤ) (slots : List Slot) (at n : ℕ)
@@ -86,19 +86,21 @@ cleared marks lefts rights slots at n l r is =
     slots_in-cleared marks lefts rights at n l r ∙ ap (λ s. put_chunk at s (replicate n None)) is
 
 -- the first of a run of marks is changed
-first_marked : (marks : List Mark) (at n : ℕ) → at < length marks → slice_set (put_chunk at marks (replicate (suc n) Inner)) at First ≡ put_chunk at marks (marks_of true (suc n))
-first_marked [] at n here = absurd (omega (arith, here))
-first_marked (m ∷ marks) zero n here = refl
-first_marked (m ∷ marks) (suc at) n here = ap (λ ms. m ∷ ms) (first_marked marks at n (omega (arith, here)))
+first_marked : (marks : List Mark) (at title n : ℕ) → at < length marks
+    → slice_set (put_chunk at marks (replicate (suc n) (Inner title))) at (First title) ≡ put_chunk at marks (marks_of true title (suc n))
+first_marked [] at title n here = absurd (omega (arith, here))
+first_marked (m ∷ marks) zero title n here = refl
+first_marked (m ∷ marks) (suc at) title n here = ap (λ ms. m ∷ ms) (first_marked marks at title n (omega (arith, here)))
 
-pub run_first : (marks : List Mark) (at n : ℕ) → 0 < n → at + n ≤ length marks → slice_set (put_chunk at marks (replicate n Inner)) at First ≡ put_chunk at marks (marks_of true n)
-run_first marks at zero some fits = absurd (omega (arith, some))
-run_first marks at (suc n) some fits = first_marked marks at n (omega (arith, fits))
+pub run_first : (marks : List Mark) (at title n : ℕ) → 0 < n → at + n ≤ length marks
+    → slice_set (put_chunk at marks (replicate n (Inner title))) at (First title) ≡ put_chunk at marks (marks_of true title n)
+run_first marks at title zero some fits = absurd (omega (arith, some))
+run_first marks at title (suc n) some fits = first_marked marks at title n (omega (arith, fits))
 
-pub run_inner : (n : ℕ) → replicate n Inner ≡ marks_of false n
-run_inner zero = refl
-run_inner (suc n) = refl
+pub run_inner : (title n : ℕ) → replicate n (Inner title) ≡ marks_of false title n
+run_inner title zero = refl
+run_inner title (suc n) = refl
 
-pub run_none : (first : Bool) (n : ℕ) → n ≡ 0 → replicate n Inner ≡ marks_of first n
-run_none first zero none = refl
-run_none first (suc n) none = absurd (omega (arith, none))
+pub run_none : (first : Bool) (title n : ℕ) → n ≡ 0 → replicate n (Inner title) ≡ marks_of first title n
+run_none first title zero none = refl
+run_none first title (suc n) none = absurd (omega (arith, none))

@@ -8,8 +8,8 @@ use Rattle.frame_core.specs.Slots.{Slot}
 -- the slot that a mark and two samples stand for
 abbrev pub slot_of : Mark → ℤ → ℤ → Slot
 slot_of Absent left right = None
-slot_of Inner left right = Some (record { left = left; right = right; first = false })
-slot_of First left right = Some (record { left = left; right = right; first = true })
+slot_of (Inner title) left right = Some (record { left = left; right = right; first = false; title = title })
+slot_of (First title) left right = Some (record { left = left; right = right; first = true; title = title })
 
 -- the slots that marks and samples stand for, place by place
 abbrev pub slots_in : List Mark → List ℤ → List ℤ → List Slot
@@ -18,16 +18,17 @@ slots_in (mark ∷ marks) (left ∷ lefts) [] = []
 slots_in (mark ∷ marks) [] rights = []
 slots_in [] lefts rights = []
 
--- the cells of these samples, the first of which may begin a track, and no other
-abbrev pub laid_slots : (first : Bool) → (lefts rights : List ℤ) → List Slot
-laid_slots first (left ∷ lefts) (right ∷ rights) = Some (record { left = left; right = right; first = first }) ∷ laid_slots false lefts rights
-laid_slots first (left ∷ lefts) [] = []
-laid_slots first [] rights = []
+-- the cells of these samples and this title, the first of which may begin a track, and no other
+abbrev pub laid_slots : (first : Bool) → (title : ℕ) → (lefts rights : List ℤ) → List Slot
+laid_slots first title (left ∷ lefts) (right ∷ rights) =
+    Some (record { left = left; right = right; first = first; title = title }) ∷ laid_slots false title lefts rights
+laid_slots first title (left ∷ lefts) [] = []
+laid_slots first title [] rights = []
 
 -- the marks of so many of them
-abbrev pub marks_of : (first : Bool) → ℕ → List Mark
-marks_of first zero = []
-marks_of first (suc n) = (if first then First else Inner) ∷ replicate n Inner
+abbrev pub marks_of : (first : Bool) → (title : ℕ) → ℕ → List Mark
+marks_of first title zero = []
+marks_of first title (suc n) = (if first then First title else Inner title) ∷ replicate n (Inner title)
 
 -- what is there, in order
 abbrev pub somes : {X : Type 0} → List (Option X) → List X

@@ -1,18 +1,23 @@
 -- A library of audio files, and the files that each leaf plays.
-use Rattle.std.specs.Prelude.{◌<◌, ◌^◌, ℕ, [], List, length, slice_index_or}
+use Rattle.std.specs.Prelude.{◌≡◌, ◌<◌, ◌^◌, ℕ, zero, suc, [], List, Option, None, length, slice_get, slice_index_or}
 use Rattle.std.specs.List.{All}
 use Rattle.liq_base.specs.declared.memory.Kind.TheVariants.{Mono}
 use Rattle.frame_core.specs.Sounds.{Sound, IsSound}
 
+-- the files, the name of each, and for each node the numbers of the files that it plays
 pub record Sounds : Type 0 where
   pub files : List Sound
+  pub names : List (List ℕ)
   pub leaves : List (List ℕ)
 
--- each leaf plays files that are there, and fewer than 2^32 of them; each file has whole blocks, and at least one
+-- each leaf plays files that are there, and fewer than 2^32 of them; each file has a name, whole blocks, and at least one;
+-- and there are fewer than 2^32 files
 pub record IsLibrary (library : Sounds) : Type 0 where
   pub there : All (All (λ file. file < length library.files)) library.leaves
   pub few : All (λ tracks. length tracks < 2 ^ 32) library.leaves
   pub sounds : All IsSound library.files
+  pub named : length library.names ≡ length library.files
+  pub many : length library.files < 2 ^ 32
 
 abbrev pub no_sound : Sound
 no_sound = record { kind = Mono; samples = [] }
@@ -21,5 +26,17 @@ no_sound = record { kind = Mono; samples = [] }
 abbrev pub tracks_of : Sounds → ℕ → List ℕ
 tracks_of library leaf = slice_index_or library.leaves leaf []
 
+abbrev pub file_at : Sounds → ℕ → ℕ → ℕ
+file_at library leaf track = slice_index_or (tracks_of library leaf) track 0
+
 abbrev pub sound_at : Sounds → ℕ → ℕ → Sound
-sound_at library leaf track = slice_index_or library.files (slice_index_or (tracks_of library leaf) track 0) no_sound
+sound_at library leaf track = slice_index_or library.files (file_at library leaf track) no_sound
+
+-- the title of one of them
+abbrev pub title_at : Sounds → ℕ → ℕ → ℕ
+title_at library leaf track = suc (file_at library leaf track)
+
+-- the name that a title stands for
+abbrev pub name_of : Sounds → (title : ℕ) → Option (List ℕ)
+name_of library zero = None
+name_of library (suc file) = slice_get library.names file

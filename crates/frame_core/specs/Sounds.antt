@@ -34,17 +34,18 @@ right_at source samples Mono at = pos 0
 right_at Mono samples Stereo at = sample_at samples at
 right_at Stereo samples Stereo at = sample_at samples (2 * at + 1)
 
--- the cell of a file at a place, in a source of this kind: a file begins its track at place 0
-abbrev pub cell_of : Sound → Kind → ℕ → Cell
-cell_of sound kind at = record {
+-- the cell of a file of this title at a place, in a source of this kind: a file begins its track at place 0
+abbrev pub cell_of : Sound → (title : ℕ) → Kind → ℕ → Cell
+cell_of sound title kind at = record {
   left = left_at sound.kind sound.samples kind at;
   right = right_at sound.kind sound.samples kind at;
   first = nat_eq at 0;
+  title = title;
 }
 
 -- the samples of so many cells of a file from a place on, in a source of this kind
 abbrev pub lefts_from : Sound → Kind → (at count : ℕ) → List ℤ
-lefts_from sound kind at count = map (λ n. (cell_of sound kind n).left) (range_with_len at count)
+lefts_from sound kind at count = map (left_at sound.kind sound.samples kind) (range_with_len at count)
 
 abbrev pub rights_from : Sound → Kind → (at count : ℕ) → List ℤ
-rights_from sound kind at count = map (λ n. (cell_of sound kind n).right) (range_with_len at count)
+rights_from sound kind at count = map (right_at sound.kind sound.samples kind) (range_with_len at count)

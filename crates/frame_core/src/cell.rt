@@ -11,4 +11,7 @@ pub struct Cell {
 
     /// Whether a track begins here.
     pub first: bool,
+
+    /// The title of that track: 0 is none, and k + 1 is the name of file k of the library.
+    pub title: u32,
 }

@@ -11,12 +11,12 @@ use liq_base::limits::MAX_FRAME;
 use std::alloc::Global;
 use std::marker::Model;
 
-// What stands at an instant: nothing, a cell within its track, or a track's first cell.
+// What stands at an instant: nothing, a cell within its track, or a track's first cell, with the track's title.
 #[derive(Clone, Copy, Debug, PartialEq, Eq, Hash)]
 pub enum Mark {
     Absent,
-    Inner,
-    First,
+    Inner(u32),
+    First(u32),
 }
 
 impl Mark {
@@ -24,12 +24,17 @@ impl Mark {
     fn slot(self, left: i16, right: i16) -> Option<Cell>
         ensures { result ≡ slot_of self left right }
     {
-        let first = match self {
+        let (first, title) = match self {
             Mark::Absent => return None,
-            Mark::Inner => false,
-            Mark::First => true,
+            Mark::Inner(title) => (false, title),
+            Mark::First(title) => (true, title),
         };
-        Some(Cell { left, right, first })
+        Some(Cell {
+            left,
+            right,
+            first,
+            title,
+        })
     }
 }
 
@@ -39,8 +44,8 @@ fn parts_of(slot: Option<Cell>) -> (Mark, i16, i16)
 {
     match slot {
         None => (Mark::Absent, 0, 0),
-        Some(cell) if cell.first => (Mark::First, cell.left, cell.right),
-        Some(cell) => (Mark::Inner, cell.left, cell.right),
+        Some(cell) if cell.first => (Mark::First(cell.title), cell.left, cell.right),
+        Some(cell) => (Mark::Inner(cell.title), cell.left, cell.right),
     }
 }
 
@@ -107,17 +112,17 @@ impl Frame {
         self.right[at] = right;
     }
 
-    /// Lays cells of these samples from a place on, counted from 0: `first` flags the first of them, and no other. The
-    /// other slots stay.
-    pub fn lay(&mut self, at: u32, left: &[i16], right: &[i16], first: bool)
+    /// Lays cells of these samples and this title from a place on, counted from 0: `first` flags the first of them, and no
+    /// other. The other slots stay.
+    pub fn lay(&mut self, at: u32, left: &[i16], right: &[i16], first: bool, title: u32)
         requires same { length right.now ≡ length left.now }
         requires there { at + length left.now ≤ length self.old }
-        ensures { self.new ≡ put_chunk at self.old (laid_slots first left.now right.now) }
+        ensures { self.new ≡ put_chunk at self.old (laid_slots first title left.now right.now) }
     {
         let at = at as usize;
         put_samples(&mut self.left, at, left);
         put_samples(&mut self.right, at, right);
-        put_marks(&mut self.marks, at, left.len(), first);
+        put_marks(&mut self.marks, at, left.len(), first, title);
     }
 
     /// Takes the cells out of so many slots from a place on, counted from 0. The other slots stay.
@@ -137,14 +142,14 @@ fn put_samples(into: &mut [i16], at: usize, samples: &[i16])
     into[at..at + samples.len()].copy_from_slice(samples);
 }
 
-// Marks so many cells from a place on, the first of which may begin a track.
-fn put_marks(marks: &mut [Mark], at: usize, count: usize, first: bool)
+// Marks so many cells of a title from a place on, the first of which may begin a track.
+fn put_marks(marks: &mut [Mark], at: usize, count: usize, first: bool, title: u32)
     requires { at + count ≤ length marks.old }
-    ensures { marks.new ≡ put_chunk at marks.old (marks_of first count) }
+    ensures { marks.new ≡ put_chunk at marks.old (marks_of first title count) }
 {
-    marks[at..at + count].fill(Mark::Inner);
+    marks[at..at + count].fill(Mark::Inner(title));
     if first && count > 0 {
-        marks[at] = Mark::First;
+        marks[at] = Mark::First(title);
     }
 }
 

@@ -5,6 +5,7 @@ mod cell;
 mod chunk;
 mod frame;
 mod library;
+mod slot;
 mod taps;
 mod track;
 
@@ -12,5 +13,6 @@ pub use cell::Cell;
 pub use chunk::{Chunk, Gave};
 pub use frame::Frame;
 pub use library::Library;
+pub use slot::title_of;
 pub use taps::Taps;
 pub use track::Track;

@@ -1,16 +1,18 @@
 // The audio files of a plan, and the files that each leaf plays.
 ghost use Rattle.std.specs.Prelude.{◌≡◌, ◌<◌, ◌≤◌, ◌+◌, length, map};
-ghost use Rattle.frame_core.specs.Library.{IsLibrary, Sounds, sound_at, tracks_of};
+ghost use Rattle.frame_core.specs.Library.{IsLibrary, Sounds, sound_at, title_at, tracks_of};
 ghost use Rattle.frame_core.specs.Sounds.{cell_of, lefts_from, length_of, rights_from};
 
 use crate::{Cell, Track};
-use liq_base::Kind;
+use liq_base::{Kind, Text};
 use std::marker::Model;
 
-/// The audio files of a plan, each once, and for each of its nodes the numbers of the files that it plays, in order.
+/// The audio files of a plan, each once, with their names, and for each of its nodes the numbers of the files that it plays,
+/// in order.
 #[derive(Debug, Drop)]
 pub struct Library {
     files: Vec<Track>,
+    names: Vec<Text>,
     leaves: Vec<Vec<u32>>,
 }
 
@@ -20,18 +22,22 @@ impl Model for Library {
 
     ghost Value = { Sounds };
 
-    ghost view = { λ l. record { files = l.files.items; leaves = map (λ v. v.items) l.leaves.items } };
+    ghost view = { λ l. record { files = l.files.items; names = l.names.items; leaves = map (λ v. v.items) l.leaves.items } };
 
-    ghost invariant = { λ l. IsLibrary (record { files = l.files.items; leaves = map (λ v. v.items) l.leaves.items }) };
+    ghost invariant = { λ l. IsLibrary (record { files = l.files.items; names = l.names.items; leaves = map (λ v. v.items) l.leaves.items }) };
 }
 
 impl Library {
-    /// The library of these files and lists.
-    pub fn new(files: Vec<Track>, leaves: Vec<Vec<u32>>) -> Library
-        requires { IsLibrary (record { files = files.items; leaves = map (λ v. v.items) leaves.items }) }
-        ensures { result ≡ record { files = files.items; leaves = map (λ v. v.items) leaves.items } }
+    /// The library of these files, their names, and these lists.
+    pub fn new(files: Vec<Track>, names: Vec<Text>, leaves: Vec<Vec<u32>>) -> Library
+        requires { IsLibrary (record { files = files.items; names = names.items; leaves = map (λ v. v.items) leaves.items }) }
+        ensures { result ≡ record { files = files.items; names = names.items; leaves = map (λ v. v.items) leaves.items } }
     {
-        Library { files, leaves }
+        Library {
+            files,
+            names,
+            leaves,
+        }
     }
 
     /// How many files a leaf plays. The library is well formed: each of them has whole blocks and at least one sample.
@@ -75,14 +81,22 @@ impl Library {
         self.files[file as usize].read(at, kind, left, right);
     }
 
-    /// The cell at a place of a file, which is a leaf's file number `track`, in a source of this kind. All of them are counted from 0.
+    /// The cell at a place of a file, which is a leaf's file number `track`, in a source of this kind, with the file's title. All
+    /// of them are counted from 0.
     pub fn cell(&self, leaf: u32, track: u32, at: u64, kind: Kind) -> Cell
         requires leaf { leaf < length self.now.leaves }
         requires track { track < length (tracks_of self.now leaf) }
         requires at { at < length_of (sound_at self.now leaf track) }
-        ensures { result ≡ cell_of (sound_at self.now leaf track) kind at }
+        ensures { result ≡ cell_of (sound_at self.now leaf track) (title_at self.now leaf track) kind at }
     {
         let file = self.leaves[leaf as usize][track as usize];
-        self.files[file as usize].cell(at, kind)
+        self.files[file as usize].cell(file + 1, at, kind)
+    }
+
+    /// The names of the files, in their order: title k + 1 stands for name k.
+    pub fn names(&self) -> &[Text]
+        ensures { result.now ≡ self.now.names }
+    {
+        self.names.as_slice()
     }
 }

@@ -52,11 +52,11 @@ impl Track {
         }
     }
 
-    /// The cell at a place, in a source of this kind. A mono file gives its sample to both sides, and a stereo file
-    /// in a mono source half the sum of its two, rounded toward zero.
-    pub fn cell(&self, at: u64, kind: Kind) -> Cell
+    /// The cell at a place, in a source of this kind, with this title. A mono file gives its sample to both sides, and a
+    /// stereo file in a mono source half the sum of its two, rounded toward zero.
+    pub fn cell(&self, title: u32, at: u64, kind: Kind) -> Cell
         requires { at < length_of self.now }
-        ensures { result ≡ cell_of self.now kind at }
+        ensures { result ≡ cell_of self.now title kind at }
     {
         let first = at == 0;
         let at = at as usize;
@@ -65,21 +65,25 @@ impl Track {
                 left: self.samples[at],
                 right: 0,
                 first,
+                title,
             },
             (Kind::Mono, Kind::Stereo) => Cell {
                 left: self.samples[at],
                 right: self.samples[at],
                 first,
+                title,
             },
             (Kind::Stereo, Kind::Mono) => Cell {
                 left: half_sum(self.samples[2 * at], self.samples[2 * at + 1]),
                 right: 0,
                 first,
+                title,
             },
             (Kind::Stereo, Kind::Stereo) => Cell {
                 left: self.samples[2 * at],
                 right: self.samples[2 * at + 1],
                 first,
+                title,
             },
         }
     }

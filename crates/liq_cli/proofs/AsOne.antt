@@ -36,7 +36,7 @@ abbrev AreOne : Type 0
 AreOne = (setting : Setting) (clocks : ClockMap) → IsSetting setting clocks → (running N : ℕ) (run other : Run) → IsRounds setting running N run → IsRounds setting running N other → run ≡ other
 
 abbrev AreRounds : Type 0
-AreRounds = (setting : Setting) (clocks : ClockMap) → IsSetting setting clocks → (W N : ℕ) (run : Run) → HasNoJoin setting → AreWindows setting clocks.running W N run → IsRounds setting clocks.running N (merged run)
+AreRounds = (setting : Setting) (clocks : ClockMap) → IsSetting setting clocks → (W N : ℕ) (run : Run) → HasNoJoin setting clocks.running → AreWindows setting clocks.running W N run → IsRounds setting clocks.running N (merged run)
 
 -- a plan that fits has a meaning
 fit_setting : (station : Station) → IsFit station.plan station.library station.clocks station.ticks → station.start < 604800 → IsSetting (bare station) station.clocks
@@ -44,7 +44,7 @@ fit_setting station fit start =
     record { plan = fit.plan_is; map = fit.map; each = refl; library = fit.sounds; leaves = fit.leaves; singles = fit.singles; start = start }
 
 sums_in : AreRounds → AreOne → (made : Files) (station : Station) (run : Run) → IsSetting (bare station) station.clocks → (window : Option ℕ)
-    → IsLawfulIn (bare station) station.clocks.running station.ticks window run → HasNoJoin (bare station) → SumsAsOneThread made station (summary_of made station run)
+    → IsLawfulIn (bare station) station.clocks.running station.ticks window run → HasNoJoin (bare station) station.clocks.running → SumsAsOneThread made station (summary_of made station run)
 sums_in are_rounds are_one made station run is None lawful local = record {
   alone = run;
   rounds = lawful;
@@ -61,6 +61,6 @@ sums_in are_rounds are_one made station run is (Some window) lawful local =
     }
 
 pub sums_as_one : AreRounds → AreOne → (made : Files) (station : Station) (run : Run) → IsFit station.plan station.library station.clocks station.ticks → station.start < 604800
-    → IsLawful station run → HasNoJoin (bare station) → SumsAsOneThread made station (summary_of made station run)
+    → IsLawful station run → HasNoJoin (bare station) station.clocks.running → SumsAsOneThread made station (summary_of made station run)
 sums_as_one are_rounds are_one made station run fit start lawful local =
     sums_in are_rounds are_one made station run (fit_setting station fit start) station.window lawful local

@@ -10,10 +10,11 @@ use Rattle.clock_infer.specs.declared.clock_map.ClockMap.{ClockMap}
 use Rattle.fallible_infer.specs.Infallible.{IsMarking}
 use Rattle.run_records.specs.Records.{Run}
 use Rattle.run_records.specs.Rounds.{HasNoJoin}
-use Rattle.stations.specs.Renderings.{RendersAsOneThread, WrotePart}
+use Rattle.stations.specs.Renderings.{BeginsAsOneThread, HasOneRecord, IsDetermined, RendersAsOneThread, WrotePart}
+use Rattle.stations.proofs.Parts.{some_within}
 use Rattle.stations.specs.Outputs.{with_outputs}
-use Rattle.stations.specs.Stations.{IsLawful, Station, bare, most_of}
-use Rattle.stations.specs.Streams.{HasNoGaps, fronts_with, output_files}
+use Rattle.stations.specs.Stations.{IsBegun, IsLawful, Station, bare}
+use Rattle.stations.specs.Streams.{HasNoGaps, output_files, parts_with}
 use Rattle.stations.specs.Reports.{check_report_of, report_of}
 use Rattle.station_render.specs.declared.fault.RenderFault.{RenderFault}
 use Rattle.station_render.specs.declared.fault.RenderFault.TheVariants.{Write as render_write, Memory as render_memory}
@@ -23,32 +24,28 @@ use Rattle.liq_cli.specs.declared.halt.Halt.{Halt}
 use Rattle.liq_cli.specs.declared.halt.Halt.TheVariants.{Memory as no_memory}
 use Rattle.liq_cli.specs.Words.{Asked, Check, Render, file_of, ticks_of, trace_of}
 use Rattle.liq_cli.specs.Answer.{Answer, Usage, Refused, Checked, Accepted, Made, IsAnswerTo, files_for}
-use Rattle.liq_cli.specs.Call.{Broken, Rendered, Starved}
+use Rattle.liq_cli.specs.Call.{Broken, Left, Rendered, Starved}
 use Rattle.liq_cli.specs.Prepared.{EndsFor, ForOne, Found, IsOneOutcome, Lost, Stops, halt_of_render, station_for}
 use Rattle.liq_cli.proofs.Outcomes.{for_each, for_one}
-use Rattle.liq_cli.proofs.Parts.{none_created, part_later, some_later}
-use Rattle.liq_cli.proofs.Uncalled.{uncalled, uncalled_begun}
+use Rattle.liq_cli.proofs.Parts.{part_later}
+use Rattle.liq_cli.proofs.Uncalled.{left_nothing}
 
 -- where nothing was created, each answer has what it may
-pub kept_starved : (asked : Asked) (files : Files) (answer : Answer) (cause : Type 0) (before after : Option Files) → IsAnswerTo asked files answer
-    → before ≡ Some files → after ≡ before → Starved answer cause files after
-kept_starved asked files Usage cause before after is told same = absurd is
-kept_starved asked files (Refused fault) cause before after is told same = same ∙ told
-kept_starved asked files (Checked station) cause before after is told same = same ∙ told
-kept_starved asked files (Made made station) cause before after is told same = same ∙ told
-kept_starved asked files (Accepted station) cause before after is told same =
-    inl (record {
-      run = uncalled station;
-      begun = uncalled_begun station;
-      parts = λ rest. none_created cause (fronts_with station (uncalled station) (most_of station (uncalled station) (uncalled_begun station)) rest) before after same files told;
-    })
+pub kept_starved : (asked : Asked) (files : Files) (answer : Answer) (count last : ℕ) → count ≤ last → (before after : Option Files) → IsAnswerTo asked files answer
+    → before ≡ Some files → after ≡ before → Starved answer count last files after
+kept_starved asked files Usage count last low before after is told same = absurd is
+kept_starved asked files (Refused fault) count last low before after is told same = same ∙ told
+kept_starved asked files (Checked station) count last low before after is told same = same ∙ told
+kept_starved asked files (Made made station) count last low before after is told same = same ∙ told
+kept_starved asked files (Accepted station) count last low before after is told same =
+    inl (left_nothing station count last low before after files told same)
 
 -- a job over the files of the shelf ends as the steps before the rendering do
 pub stopped_early : {T U : Type 0} (asked : Asked) → ((files : Files) → files_for asked files ≡ files)
     → (told left : Option Files) (reads_before reads_after writes_before writes_after : ℕ) (e : Halt)
-    → EndsFor {T = T} told (file_of asked) (trace_of asked) (ticks_of asked) reads_before reads_after (Err e) → left ≡ told
+    → EndsFor {T = T} told (file_of asked) (trace_of asked) (ticks_of asked) reads_before reads_after (Err e) → left ≡ told → writes_before ≤ writes_after
     → Stops {T = U} asked told left reads_before reads_after writes_before writes_after (Err e)
-stopped_early asked own told left reads_before reads_after writes_before writes_after e ends same = record {
+stopped_early asked own told left reads_before reads_after writes_before writes_after e ends same low = record {
   fault = λ fault at files t. for_one asked files (Lost fault) (λ a. a ≡ Refused fault)
       (subst (λ fs. IsOneOutcome fs (file_of asked) (trace_of asked) (ticks_of asked) (Lost fault)) (sym (own files)) (ends.fault fault (cc) files t)) refl;
   fault_kept = λ fault at. same;
@@ -56,20 +53,20 @@ stopped_early asked own told left reads_before reads_after writes_before writes_
   read_kept = λ at. same;
   write = λ at. absurd (ends.no_write (cc));
   broken = λ at. absurd (ends.no_write (cc));
-  memory = λ at files t answer is. kept_starved asked files answer (Rose writes_before writes_after) told left is t same;
+  memory = λ at files t answer is. kept_starved asked files answer writes_before writes_after low told left is t same;
 }
 
 -- memory was refused where nothing was created
-pub stopped_for_memory : {U : Type 0} (asked : Asked) (told left : Option Files) (reads_before reads_after writes_before writes_after : ℕ) → left ≡ told
+pub stopped_for_memory : {U : Type 0} (asked : Asked) (told left : Option Files) (reads_before reads_after writes_before writes_after : ℕ) → left ≡ told → writes_before ≤ writes_after
     → Stops {T = U} asked told left reads_before reads_after writes_before writes_after (Err no_memory)
-stopped_for_memory asked told left reads_before reads_after writes_before writes_after same = record {
+stopped_for_memory asked told left reads_before reads_after writes_before writes_after same low = record {
   fault = λ fault at. absurd (cc);
   fault_kept = λ fault at. absurd (cc);
   read = λ at. absurd (cc);
   read_kept = λ at. absurd (cc);
   write = λ at. absurd (cc);
   broken = λ at. absurd (cc);
-  memory = λ at files t answer is. kept_starved asked files answer (Rose writes_before writes_after) told left is t same;
+  memory = λ at files t answer is. kept_starved asked files answer writes_before writes_after low told left is t same;
 }
 
 -- a job that has its report did not stop
@@ -87,11 +84,11 @@ went_on asked told left reads_before reads_after writes_before writes_after v = 
 
 -- a job whose last step is its report, where nothing was created
 pub ended_kept : {U : Type 0} (r : Result U Halt) (asked : Asked) (told left : Option Files) (reads_before reads_after writes_before writes_after : ℕ)
-    → IfErr r (λ e. e ≡ no_memory) → left ≡ told → Stops {T = U} asked told left reads_before reads_after writes_before writes_after r
-ended_kept {U} (Ok v) asked told left reads_before reads_after writes_before writes_after starved same = went_on asked told left reads_before reads_after writes_before writes_after v
-ended_kept {U} (Err e) asked told left reads_before reads_after writes_before writes_after starved same =
+    → IfErr r (λ e. e ≡ no_memory) → left ≡ told → writes_before ≤ writes_after → Stops {T = U} asked told left reads_before reads_after writes_before writes_after r
+ended_kept {U} (Ok v) asked told left reads_before reads_after writes_before writes_after starved same low = went_on asked told left reads_before reads_after writes_before writes_after v
+ended_kept {U} (Err e) asked told left reads_before reads_after writes_before writes_after starved same low =
     subst (λ x. Stops {T = U} asked told left reads_before reads_after writes_before writes_after (Err x)) (sym starved)
-    (stopped_for_memory asked told left reads_before reads_after writes_before writes_after same)
+    (stopped_for_memory asked told left reads_before reads_after writes_before writes_after same low)
 
 -- what holds of the report that was made
 pub of_report : {T E F : Type 0} (r : Result T E) (s : Result T F) (P Q : T → Type 0) → IfOk r (λ t. s ≡ Ok t) → IfOk s P → ((t : T) → P t → Q t) → IfOk r Q
@@ -112,15 +109,22 @@ module _ (file : List ℕ) (start ticks : ℕ) (window : Option ℕ) (trace : Op
   abbrev station : Station
   station = station_for (Render file start ticks window trace) plan library clocks
 
-  -- a part that was written may be told of a wider cause
-  wrote_later : (writes_before writes_between writes_after : ℕ) → writes_before ≤ writes_between → (files : Files) → WrotePart station (Rose writes_between writes_after) files left → WrotePart station (Rose writes_before writes_after) files left
-  wrote_later writes_before writes_between writes_after le files (inl wrote) = inl (record {
-    run = wrote.run;
-    begun = wrote.begun;
-    parts = λ rest. some_later (Rose writes_between writes_after) (Rose writes_before writes_after) (λ rose. omega arith) files
-        (fronts_with station wrote.run (most_of station wrote.run wrote.begun) rest) left (wrote.parts rest);
+  -- what a run of it that broke off is beside one thread
+  abbrev pub Alike : Type 0
+  Alike = (files : Files) (run : Run) → IsOneOutcome files file trace ticks (Found plan library clocks) → IsBegun station run → IsDetermined station → BeginsAsOneThread station run
+
+  -- a part that was written may be told from before
+  wrote_later : (writes_before writes_between writes_after : ℕ) → writes_before ≤ writes_between → Alike → (files : Files) → told ≡ Some files → WrotePart station writes_between writes_after files left
+      → Left station writes_before writes_after files left
+  wrote_later writes_before writes_between writes_after le alike files t (inl wrote) = inl (record {
+    wrote = record {
+      run = wrote.run;
+      begun = wrote.begun;
+      parts = λ rest. some_within writes_before writes_between writes_after writes_after le (omega arith) files (parts_with station wrote.run wrote.begun rest) left (wrote.parts rest);
+    };
+    as_one_thread = alike files wrote.run (one files t) wrote.begun;
   })
-  wrote_later writes_before writes_between writes_after le files (inr wrote) = inr (record {
+  wrote_later writes_before writes_between writes_after le alike files t (inr wrote) = inr (record {
     run = wrote.run;
     lawful = wrote.lawful;
     trace = wrote.trace;
@@ -129,46 +133,47 @@ module _ (file : List ℕ) (start ticks : ℕ) (window : Option ℕ) (trace : Op
   })
 
   -- a rendering broke off
-  pub broke_off : {U : Type 0} (reads_before reads_after writes_before writes_between writes_after : ℕ) (e : RenderFault) → writes_before ≤ writes_between
-      → ForSome told (λ files. WrotePart station (Rose writes_between writes_after) files left)
+  pub broke_off : {U : Type 0} (reads_before reads_after writes_before writes_between writes_after : ℕ) (e : RenderFault) → writes_before ≤ writes_between → Alike
+      → ForSome told (λ files. WrotePart station writes_between writes_after files left)
       → (e ≡ render_write → Rose writes_between writes_after)
       → Stops {T = U} (Render file start ticks window trace) told left reads_before reads_after writes_before writes_after (Err (halt_of_render e))
-  broke_off reads_before reads_after writes_before writes_between writes_after render_write le parts cause = record {
+  broke_off reads_before reads_after writes_before writes_between writes_after render_write le alike parts cause = record {
     fault = λ fault at. absurd (cc);
     fault_kept = λ fault at. absurd (cc);
     read = λ at. absurd (cc);
     read_kept = λ at. absurd (cc);
     write = λ at. let rose = cause refl in omega arith;
-    broken = λ at files t. for_one (Render file start ticks window trace) files (Found plan library clocks) (λ a. Broken a (Rose writes_before writes_after) files left) (one files t)
-        (wrote_later writes_before writes_between writes_after le files (parts files t));
+    broken = λ at files t. for_one (Render file start ticks window trace) files (Found plan library clocks) (λ a. Broken a writes_before writes_after files left) (one files t)
+        (wrote_later writes_before writes_between writes_after le alike files t (parts files t));
     memory = λ at. absurd (cc);
   }
-  broke_off reads_before reads_after writes_before writes_between writes_after render_memory le parts cause = record {
+  broke_off reads_before reads_after writes_before writes_between writes_after render_memory le alike parts cause = record {
     fault = λ fault at. absurd (cc);
     fault_kept = λ fault at. absurd (cc);
     read = λ at. absurd (cc);
     read_kept = λ at. absurd (cc);
     write = λ at. absurd (cc);
     broken = λ at. absurd (cc);
-    memory = λ at files t. for_each (Render file start ticks window trace) files (Found plan library clocks) (λ a. Starved a (Rose writes_before writes_after) files left) (one files t)
-        (wrote_later writes_before writes_between writes_after le files (parts files t));
+    memory = λ at files t. for_each (Render file start ticks window trace) files (Found plan library clocks) (λ a. Starved a writes_before writes_after files left) (one files t)
+        (wrote_later writes_before writes_between writes_after le alike files t (parts files t));
   }
 
   -- a rendering whose last step is its report: memory may be refused for that
-  pub ended_written : {U : Type 0} (r : Result U Halt) (reads_before reads_after writes_before writes_between writes_after : ℕ) → IfErr r (λ e. e ≡ no_memory) → writes_before ≤ writes_between
-      → ForSome told (λ files. WrotePart station (Rose writes_between writes_after) files left)
+  pub ended_written : {U : Type 0} (r : Result U Halt) (reads_before reads_after writes_before writes_between writes_after : ℕ) → IfErr r (λ e. e ≡ no_memory) → writes_before ≤ writes_between → Alike
+      → ForSome told (λ files. WrotePart station writes_between writes_after files left)
       → Stops {T = U} (Render file start ticks window trace) told left reads_before reads_after writes_before writes_after r
-  ended_written {U} (Ok v) reads_before reads_after writes_before writes_between writes_after starved le parts = went_on (Render file start ticks window trace) told left reads_before reads_after writes_before writes_after v
-  ended_written {U} (Err e) reads_before reads_after writes_before writes_between writes_after starved le parts =
+  ended_written {U} (Ok v) reads_before reads_after writes_before writes_between writes_after starved le alike parts = went_on (Render file start ticks window trace) told left reads_before reads_after writes_before writes_after v
+  ended_written {U} (Err e) reads_before reads_after writes_before writes_between writes_after starved le alike parts =
       subst (λ x. Stops {T = U} (Render file start ticks window trace) told left reads_before reads_after writes_before writes_after (Err x)) (sym starved)
-      (broke_off reads_before reads_after writes_before writes_between writes_after render_memory le parts (λ at. absurd (cc)))
+      (broke_off reads_before reads_after writes_before writes_between writes_after render_memory le alike parts (λ at. absurd (cc)))
 
   -- the report of a rendering
   pub rendered : (before : Option Files) (report : List ℕ) (value : Shown) → before ≡ told → IsRendered station before left value
       → ((run : Run) → IsTold station run value → report ≡ report_of station run)
       → ((files : Files) (run : Run) → IsOneOutcome files file trace ticks (Found plan library clocks) → HasNoGaps station run)
-      → ((files : Files) (run : Run) → IsOneOutcome files file trace ticks (Found plan library clocks) → IsLawful station run → HasNoJoin (bare station) → RendersAsOneThread station run)
+      → ((files : Files) (run : Run) → IsOneOutcome files file trace ticks (Found plan library clocks) → IsLawful station run → HasOneRecord station run)
+      → ((files : Files) (run : Run) → IsOneOutcome files file trace ticks (Found plan library clocks) → IsLawful station run → HasNoJoin (bare station) station.clocks.running → RendersAsOneThread station run)
       → ForSome told (λ files. ForOne (Render file start ticks window trace) files (λ a. Rendered a files left report))
-  rendered before report value kept is report_is gapless alike files t =
+  rendered before report value kept is report_is gapless single alike files t =
       for_one (Render file start ticks window trace) files (Found plan library clocks) (λ a. Rendered a files left report) (one files t)
-      (record { run = is.run; lawful = is.lawful; written = is.all_written files (kept ∙ t); report_is = report_is is.run is.told; no_gaps = gapless files is.run (one files t); as_one_thread = alike files is.run (one files t) is.lawful })
+      (record { run = is.run; lawful = is.lawful; written = is.all_written files (kept ∙ t); report_is = report_is is.run is.told; no_gaps = gapless files is.run (one files t); one = single files is.run (one files t) is.lawful; as_one_thread = alike files is.run (one files t) is.lawful })

@@ -1,6 +1,6 @@
 -- The answers to what is asked for are those of outcomes.
 use Rattle.std.proofs.Common.{◌≡◌, ℕ, List, refl, sym, ap, ◌∙◌, subst}
-use Rattle.std.specs.Prelude.{Option}
+use Rattle.std.specs.Prelude.{Option, false}
 use Rattle.liq_base.specs.Files.{Files}
 use Rattle.frame_core.specs.Library.{Sounds}
 use Rattle.plan_core.specs.declared.plan.Plan.{Plan}
@@ -18,15 +18,15 @@ IsOutcomeFor asked files outcome = IsOutcome (files_for asked files) (file_of as
 stationed : (asked : Asked) (files : Files) (plan : Plan) (library : Sounds) (clocks : ClockMap) → IsPrepared files (file_of asked) (trace_of asked) (ticks_of asked) plan library clocks
     → IsStation asked files (station_for asked plan library clocks)
 stationed asked files plan library clocks is =
-    record { has_plan = is.has_plan; apart = is.apart; accepted = is.accepted; start_is = refl; ticks_are = refl; window_is = refl; trace_is = refl }
+    record { has_plan = is.has_plan; apart = is.apart; accepted = is.accepted; start_is = refl; ticks_are = refl; window_is = refl; trace_is = refl; uncued = refl }
 
 prepared : (asked : Asked) (files : Files) (station : Station) → IsStation asked files station
     → IsPrepared files (file_of asked) (trace_of asked) (ticks_of asked) station.plan station.library station.clocks
 prepared asked files station is = record { has_plan = is.has_plan; apart = is.apart; accepted = is.accepted }
 
-same_station : (station : Station) (start ticks : ℕ) (window : Option ℕ) (trace : Option (List ℕ)) → station.start ≡ start → station.ticks ≡ ticks → station.window ≡ window → station.trace ≡ trace
-    → station ≡ record { plan = station.plan; library = station.library; clocks = station.clocks; start = start; ticks = ticks; window = window; trace = trace }
-same_station station start ticks window trace s t w r = rw (sym s, sym t, sym w, sym r) refl
+same_station : (station : Station) (start ticks : ℕ) (window : Option ℕ) (trace : Option (List ℕ)) → station.start ≡ start → station.ticks ≡ ticks → station.window ≡ window → station.trace ≡ trace → station.cues ≡ false
+    → station ≡ record { plan = station.plan; library = station.library; clocks = station.clocks; start = start; ticks = ticks; window = window; trace = trace; cues = false }
+same_station station start ticks window trace s t w r u = rw (sym s, sym t, sym w, sym r, sym u) refl
 
 -- an outcome's answer is one
 pub answered : (asked : Asked) (files : Files) (outcome : Outcome) → IsOutcomeFor asked files outcome → IsAnswerTo asked files (answer_of asked outcome)
@@ -44,7 +44,7 @@ record Comes (asked : Asked) (files : Files) (answer : Answer) : Type 0 where
 -- a station is that of what was found
 its_own : (asked : Asked) (files : Files) (station : Station) → IsStation asked files station → station ≡ station_for asked station.plan station.library station.clocks
 its_own asked files station is =
-    same_station station (start_of asked) (ticks_of asked) (window_of asked) (trace_of asked) is.start_is is.ticks_are is.window_is is.trace_is
+    same_station station (start_of asked) (ticks_of asked) (window_of asked) (trace_of asked) is.start_is is.ticks_are is.window_is is.trace_is is.uncued
 
 comes : (asked : Asked) (files : Files) (answer : Answer) → IsAnswerTo asked files answer → Comes asked files answer
 comes asked files Usage is = absurd is

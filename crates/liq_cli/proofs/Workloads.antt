@@ -51,14 +51,14 @@ stopped_made seed size shelf file told reads writes e shelf_is file_is ends = re
   read_kept = λ at. refl;
   write = λ at. absurd (ends.no_write (cc));
   broken = λ at. absurd (ends.no_write (cc));
-  memory = λ at files t answer is. kept_starved (Make seed size) files answer (Rose writes writes) told told is t refl;
+  memory = λ at files t answer is. kept_starved (Make seed size) files answer writes writes (omega arith) told told is t refl;
 }
 
 -- the rendering ended: no write failed, so memory was refused
 pub broke_made : {U : Type 0} (seed size : ℕ) (told : Option Files) (reads writes : ℕ) (e : RenderFault) → (e ≡ render_write → Rose 0 0)
     → Stops {T = U} (Make seed size) told told reads reads writes writes (Err (halt_of_render e))
 broke_made seed size told reads writes render_write cause = absurd (never_rose (cause refl))
-broke_made seed size told reads writes render_memory cause = stopped_for_memory (Make seed size) told told reads reads writes writes refl
+broke_made seed size told reads writes render_memory cause = stopped_for_memory (Make seed size) told told reads reads writes writes refl (omega arith)
 
 -- the summary
 pub summed : (seed size : ℕ) (plan : Plan) (library : Sounds) (clocks : ClockMap) → IsOneOutcome (files_made seed size) made_script None 500 (Found plan library clocks)
@@ -67,7 +67,7 @@ pub summed : (seed size : ℕ) (plan : Plan) (library : Sounds) (clocks : ClockM
     → ((run : Run) → IsTold (station_for (Make seed size) plan library clocks) run value
     → report ≡ summed_lines (station_for (Make seed size) plan library clocks) run after plan.sinks)
     → ((run : Run) → HasNoGaps (station_for (Make seed size) plan library clocks) run)
-    → ((run : Run) → IsLawful (station_for (Make seed size) plan library clocks) run → HasNoJoin (bare (station_for (Make seed size) plan library clocks))
+    → ((run : Run) → IsLawful (station_for (Make seed size) plan library clocks) run → HasNoJoin (bare (station_for (Make seed size) plan library clocks)) clocks.running
     → SumsAsOneThread (files_made seed size) (station_for (Make seed size) plan library clocks) (summary_of (files_made seed size) (station_for (Make seed size) plan library clocks) run))
     → (files : Files) → ForOne (Make seed size) files (λ a. Rendered a files (Some files) report)
 summed seed size plan library clocks one shelf after report value shelf_is is report_is gapless alike files =

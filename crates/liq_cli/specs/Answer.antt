@@ -71,7 +71,8 @@ IsFault files file trace ticks (Script fault) = HasFault files file fault
 IsFault files file trace ticks (SameTrace name) = HasClash files file trace name
 IsFault files file trace ticks (Unfit fault) = HasUnfitPlan files file trace ticks fault
 
--- the script is accepted, and this is its station: its plan, with its audio files and clocks, and what else is asked for
+-- the script is accepted, and this is its station: its plan, with its audio files and clocks, and what else is asked for; no words ask
+-- for cue files
 pub record IsStation (asked : Asked) (files : Files) (station : Station) : Type 0 where
   pub has_plan : HasPlan files (file_of asked) station.plan
   pub apart : clashes station.plan (trace_of asked) ≡ false
@@ -80,6 +81,7 @@ pub record IsStation (asked : Asked) (files : Files) (station : Station) : Type 
   pub ticks_are : station.ticks ≡ ticks_of asked
   pub window_is : station.window ≡ window_of asked
   pub trace_is : station.trace ≡ trace_of asked
+  pub uncued : station.cues ≡ false
 
 -- the files of a workload
 unfoldable pub files_made : (seed size : ℕ) → Files

@@ -8,7 +8,7 @@ use Rattle.fallible_infer.specs.Infallible.{IsMarking}
 use Rattle.run_records.specs.Records.{Run}
 use Rattle.run_records.specs.Rounds.{HasNoJoin}
 use Rattle.stations.specs.Outputs.{with_outputs}
-use Rattle.stations.specs.Renderings.{RendersAsOneThread, WrotePart}
+use Rattle.stations.specs.Renderings.{BeginsAsOneThread, HasOneRecord, IsDetermined, RendersAsOneThread, WroteOutputsPart, WroteTracePart}
 use Rattle.stations.specs.Stations.{Station, IsLawful, bare}
 use Rattle.stations.specs.Streams.{HasNoGaps}
 use Rattle.stations.specs.Traces.{files_of}
@@ -43,15 +43,16 @@ pub record GrewPart (line : List ℕ) (old new : Option (List ℕ)) : Type 0 whe
   pub is_front : IsPrefix part line
   pub grew : new ≡ grown part old
 
--- A run wrote all outputs and then its trace, if one is wanted, and this is its report. Where no buffer joins two clocks, one thread
--- writes the same outputs and tells the same.
+-- A run wrote all outputs and then its trace, if one is wanted, and this is its report. On one thread there is no other run, so it always
+-- writes and tells the same. Where no buffer joins two clocks, one thread writes the same outputs and tells the same.
 pub record Wrote (station : Station) (files : Files) (after : Option Files) (report : List ℕ) : Type 0 where
   pub run : Run
   pub lawful : IsLawful station run
   pub written : after ≡ Some (with_outputs files (files_of station run))
   pub report_is : report ≡ report_of station run
   pub no_gaps : HasNoGaps station run
-  pub as_one_thread : HasNoJoin (bare station) → RendersAsOneThread station run
+  pub one : HasOneRecord station run
+  pub as_one_thread : HasNoJoin (bare station) station.clocks.running → RendersAsOneThread station run
 
 -- no file changed, and the report tells the clock of each output, and whether its node is infallible
 pub record Told (station : Station) (files : Files) (after : Option Files) (report : List ℕ) : Type 0 where
@@ -68,7 +69,7 @@ pub record Summed (made : Files) (station : Station) (files : Files) (after : Op
   pub lawful : IsLawful station run
   pub report_is : report ≡ summary_of made station run
   pub no_gaps : HasNoGaps station run
-  pub as_one_thread : HasNoJoin (bare station) → SumsAsOneThread made station report
+  pub as_one_thread : HasNoJoin (bare station) station.clocks.running → SumsAsOneThread made station report
 
 abbrev pub Rendered : Answer → Files → Option Files → List ℕ → Type 0
 Rendered (Made made station) files after report = Summed made station files after report
@@ -77,20 +78,30 @@ Rendered (Checked station) files after report = Told station files after report
 Rendered (Refused fault) files after report = ⊥
 Rendered Usage files after report = ⊥
 
-abbrev pub Broken : Answer → Type 0 → Files → Option Files → Type 0
-Broken (Made made station) cause files after = ⊥
-Broken (Accepted station) cause files after = WrotePart station cause files after
-Broken (Checked station) cause files after = ⊥
-Broken (Refused fault) cause files after = ⊥
-Broken Usage cause files after = ⊥
+-- A rendering broke off, while the count of failed writes went from `count` to `last`. On one thread, and where no buffer joins two clocks,
+-- its run begins that of one thread.
+pub record BrokeOff (station : Station) (count last : ℕ) (files : Files) (after : Option Files) : Type 0 where
+  pub wrote : WroteOutputsPart station count last files after
+  pub as_one_thread : IsDetermined station → BeginsAsOneThread station wrote.run
+
+-- or it broke off with its trace
+abbrev pub Left : Station → (count last : ℕ) → Files → (after : Option Files) → Type 0
+Left station count last files after = BrokeOff station count last files after ⊎ WroteTracePart station (Rose count last) files after
+
+abbrev pub Broken : Answer → (count last : ℕ) → Files → Option Files → Type 0
+Broken (Made made station) count last files after = ⊥
+Broken (Accepted station) count last files after = Left station count last files after
+Broken (Checked station) count last files after = ⊥
+Broken (Refused fault) count last files after = ⊥
+Broken Usage count last files after = ⊥
 
 -- memory was refused, maybe before anything was created
-abbrev pub Starved : Answer → Type 0 → Files → Option Files → Type 0
-Starved (Made made station) cause files after = after ≡ Some files
-Starved (Accepted station) cause files after = WrotePart station cause files after
-Starved (Checked station) cause files after = after ≡ Some files
-Starved (Refused fault) cause files after = after ≡ Some files
-Starved Usage cause files after = ⊥
+abbrev pub Starved : Answer → (count last : ℕ) → Files → Option Files → Type 0
+Starved (Made made station) count last files after = after ≡ Some files
+Starved (Accepted station) count last files after = Left station count last files after
+Starved (Checked station) count last files after = after ≡ Some files
+Starved (Refused fault) count last files after = after ≡ Some files
+Starved Usage count last files after = ⊥
 
 -- the files were written, and the report too or a part of it
 pub record IsDone (answer : Answer) (files : Files) (old new : Moment) : Type 0 where
@@ -106,7 +117,7 @@ pub record ReportBroke (answer : Answer) (files : Files) (old new : Moment) : Ty
 
 -- a creation, an output, the trace or a closing failed
 pub record OutputBroke (answer : Answer) (files : Files) (old new : Moment) : Type 0 where
-  pub broken : Broken answer (Rose old.writes new.writes) files new.files
+  pub broken : Broken answer old.writes new.writes files new.files
   pub out_kept : new.out ≡ old.out
   pub cause : Rose old.writes new.writes
 
@@ -143,7 +154,7 @@ pub record Ends (words : List (List ℕ)) (old new : Moment) (status : ℕ) : Ty
   pub usage : status ≡ 2 → HasNoForm words × (new.err ≡ grown usage_line old.err) × (new.files ≡ old.files) × (new.out ≡ old.out)
   pub read_fault : status ≡ 3 → Rose old.reads new.reads × (new.files ≡ old.files) × (new.out ≡ old.out) × (new.err ≡ old.err)
   pub write_fault : status ≡ 4 → ForSome old.files (λ files. ForAnswer words files (λ answer. Broke answer files old new)) × WriteFailed old new
-  pub memory : status ≡ 5 → ForSome old.files (λ files. ForEachAnswer words files (λ answer. Starved answer (Rose old.writes new.writes) files new.files)) × (new.out ≡ old.out) × (new.err ≡ old.err)
+  pub memory : status ≡ 5 → ForSome old.files (λ files. ForEachAnswer words files (λ answer. Starved answer old.writes new.writes files new.files)) × (new.out ≡ old.out) × (new.err ≡ old.err)
   pub no_form : HasNoForm words → (status ≡ 2) ⊎ ((status ≡ 4) × LineBroke usage_line old new)
 
 -- no count rose

@@ -50,6 +50,7 @@ station_for asked plan library clocks = record {
   ticks = ticks_of asked;
   window = window_of asked;
   trace = trace_of asked;
+  cues = false;
 }
 
 abbrev pub answer_of : Asked → Outcome → Answer
@@ -107,8 +108,8 @@ pub record Stops {T : Type 0} (asked : Asked) (told left : Option Files) (reads_
   pub read : IsErrOf result Read → Rose reads_before reads_after
   pub read_kept : IsErrOf result Read → left ≡ told
   pub write : IsErrOf result Write → Rose writes_before writes_after
-  pub broken : IsErrOf result Write → ForSome told (λ files. ForOne asked files (λ answer. Broken answer (Rose writes_before writes_after) files left))
-  pub memory : IsErrOf result Memory → ForSome told (λ files. ForEach asked files (λ answer. Starved answer (Rose writes_before writes_after) files left))
+  pub broken : IsErrOf result Write → ForSome told (λ files. ForOne asked files (λ answer. Broken answer writes_before writes_after files left))
+  pub memory : IsErrOf result Memory → ForSome told (λ files. ForEach asked files (λ answer. Starved answer writes_before writes_after files left))
 
 -- what a job created, by the way that it ended: with its report all that is to be created for the answer, in order; with a fault, and after
 -- a read that failed, nothing; else a front of it

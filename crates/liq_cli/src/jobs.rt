@@ -15,7 +15,10 @@ use fixed_text::WeekSecond;
 use liq_base::{Gate, Memory, Shelf};
 use station_check::check_report;
 use station_render::{Threading, render, render_alone, report};
-use stations::{infallible_outputs_have_no_gaps, threads_render_as_one_thread};
+use stations::{
+    broken_renderings_begin_those_of_one_thread, infallible_outputs_have_no_gaps,
+    one_thread_has_one_record, threads_render_as_one_thread,
+};
 use std::alloc::Global;
 use std::sync::Wait;
 use std::thread::Threads;
@@ -49,6 +52,8 @@ pub fn alone_job<S: Shelf>(
     let work = prepare(alloc, file, None, ticks.count, shelf)?;
     infallible_outputs_have_no_gaps();
     threads_render_as_one_thread();
+    one_thread_has_one_record();
+    broken_renderings_begin_those_of_one_thread();
     let rendered = render_alone(alloc, &work.plan, &work.ready, start, ticks.count, shelf)?;
     report_or_halt(report(alloc, &work.plan, ticks.count, &rendered))
 }
@@ -71,6 +76,8 @@ pub fn threads_job<S: Shelf, G: Gate + Sync, R: Threads + Wait + Sync>(
     let work = prepare(alloc, asked.file, asked.trace, ticks, shelf)?;
     infallible_outputs_have_no_gaps();
     threads_render_as_one_thread();
+    one_thread_has_one_record();
+    broken_renderings_begin_those_of_one_thread();
     let threading = Threading {
         window: asked.window.ticks,
         trace: asked.trace,

@@ -12,7 +12,7 @@ use run_records::{lawful_records_are_rounds, rounds_are_one};
 /// Where no buffer joins two clocks, the summary of a lawful run is that of rounds on one thread, whatever the length of its windows.
 pub fn sums_are_as_on_one_thread()
     ensures { (made : Files) (station : Station) (run : Run) → IsFit station.plan station.library station.clocks station.ticks
-        → station.start < 604800 → IsLawful station run → HasNoJoin (bare station)
+        → station.start < 604800 → IsLawful station run → HasNoJoin (bare station) station.clocks.running
         → SumsAsOneThread made station (summary_of made station run) }
 {
     lawful_records_are_rounds();

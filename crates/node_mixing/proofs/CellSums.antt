@@ -72,7 +72,7 @@ room_for_more slots at parts within few is =
 
 -- the sum of all cells, where there is a first one
 pub summed_by : (normalize : Bool) (cells : List Cell) (first : Cell) (left right : ℤ) (parts : ℕ) → front_of cells ≡ Some first → Summed cells left right parts
-    → Some (record { left = levelled normalize parts left; right = levelled normalize parts right; first = first.first }) ≡ summed_slot normalize cells
+    → Some (record { left = levelled normalize parts left; right = levelled normalize parts right; first = first.first; title = first.title }) ≡ summed_slot normalize cells
 summed_by normalize [] first left right parts is sums = cc
 summed_by normalize (cell ∷ cells) first left right parts is sums = rw (sums.left_is, sums.right_is, sums.parts_is) (let same : first ≡ cell = cc in rw same refl)
 

@@ -30,6 +30,7 @@ pub fn amplified(cell: Cell, factor: Decimal) -> Cell
         left,
         right,
         first: cell.first,
+        title: cell.title,
     }
 }
 
@@ -44,6 +45,7 @@ pub fn halved(cell: Cell) -> Cell
         left,
         right: 0,
         first: cell.first,
+        title: cell.title,
     }
 }
 

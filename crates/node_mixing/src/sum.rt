@@ -7,12 +7,12 @@ use crate::change::first_cell;
 use frame_core::Cell;
 use sample_kernels::{clamp_all, divide};
 
-/// The sum or the mean of the cells among these slots, with the flag of the first of them; nothing where there is none.
+/// The sum or the mean of the cells among these slots, with the flag and the title of the first of them; nothing where there is none.
 pub fn summed(slots: &[Option<Cell>], normalize: bool) -> Option<Cell>
     requires { length slots.now ≤ 65535 }
     ensures { result ≡ summed_slot normalize (cells_of slots.now) }
 {
-    let first = first_cell(slots)?.first;
+    let front = first_cell(slots)?;
     let mut left: i32 = 0;
     let mut right: i32 = 0;
     let mut parts: u16 = 0;
@@ -25,7 +25,8 @@ pub fn summed(slots: &[Option<Cell>], normalize: bool) -> Option<Cell>
     Some(Cell {
         left: level(left, parts, normalize),
         right: level(right, parts, normalize),
-        first,
+        first: front.first,
+        title: front.title,
     })
 }
 

@@ -8,7 +8,7 @@ use Rattle.frame_core.specs.Slots.{Slot}
 use Rattle.cell_ring.specs.Rings.{inner_cells}
 use Rattle.op_cross.specs.Crossfade.{cross}
 use Rattle.op_cross.specs.States.{Crossing, StandsFor}
-use Rattle.op_leaf.specs.Lanes.{IsLane}
+use Rattle.op_leaf.specs.Lanes.{AreTitled, IsLane}
 use Rattle.op_leaf.proofs.Laid.{lane_cells}
 use Rattle.stream_meaning.specs.Operators.{Work, Plays, Picks, Mixes, Fades, Reads}
 use Rattle.stream_meaning.specs.Instants.{Setting, Moment, position}
@@ -37,7 +37,8 @@ range_many : (slots : ℕ → Slot) (at n : ℕ) → length (map slots (range_wi
 range_many slots at zero = refl
 range_many slots at (suc n) = ap suc (range_many slots (at + 1) n)
 
-module _ (slots : ℕ → Slot) (sub : ℕ → List Slot) (fed many : ℕ) (left right : List ℤ) (lane : IsLane slots many left right)
+module _ (slots : ℕ → Slot) (sub : ℕ → List Slot) (fed many title : ℕ) (left right : List ℤ) (lane : IsLane slots many left right)
+    (titled : AreTitled slots many title)
     (steps : (m : ℕ) → m < many → sub (suc (fed + m)) ≡ sub (fed + m) ++ slots m ∷ []) where
   -- the slots behind those that were fed
   fed_slots : (m : ℕ) → m ≤ many → sub (fed + m) ≡ sub fed ++ map slots (range_with_len 0 m)
@@ -51,49 +52,49 @@ module _ (slots : ℕ → Slot) (sub : ℕ → List Slot) (fed many : ℕ) (left
       ∙ ap (λ l. sub fed ++ l) (sym (range_more slots 0 m))
 
   -- they are the cells of the lane
-  pub fed_cells : (m : ℕ) → m ≤ many → sub (fed + m) ≡ sub fed ++ map Some (take m (inner_cells left right))
+  pub fed_cells : (m : ℕ) → m ≤ many → sub (fed + m) ≡ sub fed ++ map Some (take m (inner_cells title left right))
   fed_cells m few =
-      fed_slots m few ∙ ap (λ l. sub fed ++ l) (sym (map_taken m (inner_cells left right)
-      ∙ ap (take m) (lane_cells slots many left right lane) ∙ range_taken slots 0 m many few))
+      fed_slots m few ∙ ap (λ l. sub fed ++ l) (sym (map_taken m (inner_cells title left right)
+      ∙ ap (take m) (lane_cells slots many title left right lane titled) ∙ range_taken slots 0 m many few))
 
-  pub many_cells : length (inner_cells left right) ≡ many
+  pub many_cells : length (inner_cells title left right) ≡ many
   many_cells =
-      sym (length-map (inner_cells left right) Some) ∙ ap length (lane_cells slots many left right lane) ∙ range_many slots 0 many
+      sym (length-map (inner_cells title left right) Some) ∙ ap length (lane_cells slots many title left right lane titled) ∙ range_many slots 0 many
 
   pub run_fed : (p overlap : ℕ) (old new : Crossing) → new.overlap ≡ old.overlap
-      → ((slots : List Slot) (p : ℕ) → StandsFor old slots p → StandsFor new (slots ++ map Some (inner_cells left right)) p)
-      → ((slots : List Slot) (p m : ℕ) → StandsFor old slots p → m < many → length (cross old.overlap (slots ++ map Some (take m (inner_cells left right)))) ≤ p)
+      → ((slots : List Slot) (p : ℕ) → StandsFor old slots p → StandsFor new (slots ++ map Some (inner_cells title left right)) p)
+      → ((slots : List Slot) (p m : ℕ) → StandsFor old slots p → m < many → length (cross old.overlap (slots ++ map Some (take m (inner_cells title left right)))) ≤ p)
       → CrossStands sub fed p overlap old → CrossStands sub (fed + many) p overlap new
   run_fed p overlap old new same goes least s = record {
     overlap_is = same ∙ s.overlap_is;
     stands = subst (λ l. StandsFor new l p)
-        (sym (fed_cells many (omega arith) ∙ ap (λ l. sub fed ++ map Some l) (take_all many (inner_cells left right) (let n = many_cells in omega (arith, n)))))
+        (sym (fed_cells many (omega arith) ∙ ap (λ l. sub fed ++ map Some l) (take_all many (inner_cells title left right) (let n = many_cells in omega (arith, n)))))
         (goes (sub fed) p s.stands);
     least = λ k less. elim (cases_lt k fed) [
       | inl low ↦ s.least k low
       | inr high ↦ (let e : fed + (k - fed) ≡ k = omega (arith, high) in
           let few : k - fed < many = omega (arith, high, less) in
           subst (λ n. n ≤ p)
-          (ap (λ most. length (cross most (sub fed ++ map Some (take (k - fed) (inner_cells left right))))) s.overlap_is
+          (ap (λ most. length (cross most (sub fed ++ map Some (take (k - fed) (inner_cells title left right))))) s.overlap_is
           ∙ ap (λ l. length (cross overlap l)) (sym (fed_cells (k - fed) (omega (arith, few)))) ∙ ap (λ n. length (cross overlap (sub n))) e)
           (least (sub fed) p (k - fed) s.stands few))
     ];
   }
 
 -- what a state stands for behind a run
-pub state_fed : (setting : Setting) (sub : ℕ → ℕ → List Slot) (past : List Moment) (fed many i : ℕ) (work : Work) (slots : ℕ → Slot) (left right : List ℤ) (old new : Crossing)
+pub state_fed : (setting : Setting) (sub : ℕ → ℕ → List Slot) (past : List Moment) (fed many i title : ℕ) (work : Work) (slots : ℕ → Slot) (left right : List ℤ) (old new : Crossing)
     → new.overlap ≡ old.overlap
-    → ((slots : List Slot) (p : ℕ) → StandsFor old slots p → StandsFor new (slots ++ map Some (inner_cells left right)) p)
-    → ((slots : List Slot) (p m : ℕ) → StandsFor old slots p → m < many → length (cross old.overlap (slots ++ map Some (take m (inner_cells left right)))) ≤ p)
-    → StateStands setting sub past fed i work (Cross old) → IsLane slots many left right
+    → ((slots : List Slot) (p : ℕ) → StandsFor old slots p → StandsFor new (slots ++ map Some (inner_cells title left right)) p)
+    → ((slots : List Slot) (p m : ℕ) → StandsFor old slots p → m < many → length (cross old.overlap (slots ++ map Some (take m (inner_cells title left right)))) ≤ p)
+    → StateStands setting sub past fed i work (Cross old) → IsLane slots many left right → AreTitled slots many title
     → ((m : ℕ) → m < many → sub i (suc (fed + m)) ≡ sub i (fed + m) ++ slots m ∷ [])
     → StateStands setting sub past (fed + many) i work (Cross new)
-state_fed setting sub past fed many i (Plays leaf) slots left right old new same goes least s lane steps = absurd s
-state_fed setting sub past fed many i (Picks rule eligible) slots left right old new same goes least s lane steps = absurd s
-state_fed setting sub past fed many i (Mixes mixing) slots left right old new same goes least s lane steps = absurd s
-state_fed setting sub past fed many i (Fades overlap) slots left right old new same goes least s lane steps =
-    run_fed slots (sub i) fed many left right lane steps (position past i) overlap old new same goes least s
-state_fed setting sub past fed many i (Reads buffer) slots left right old new same goes least s lane steps = absurd s
+state_fed setting sub past fed many i title (Plays leaf) slots left right old new same goes least s lane titled steps = absurd s
+state_fed setting sub past fed many i title (Picks rule eligible) slots left right old new same goes least s lane titled steps = absurd s
+state_fed setting sub past fed many i title (Mixes mixing) slots left right old new same goes least s lane titled steps = absurd s
+state_fed setting sub past fed many i title (Fades overlap) slots left right old new same goes least s lane titled steps =
+    run_fed slots (sub i) fed many title left right lane titled steps (position past i) overlap old new same goes least s
+state_fed setting sub past fed many i title (Reads buffer) slots left right old new same goes least s lane titled steps = absurd s
 
 -- a node has room for a run
 pub samples_long : (samples : List ℤ) (i count : ℕ) → count ≤ 1024 → (i + 1) * 1024 ≤ length samples → length (samples_of samples i count) ≡ count

@@ -54,8 +54,8 @@ stands_same setting sub past later many fed i (Reads buffer) (Read reader) same 
 stands_same setting sub past later many fed i work state same long closed s = absurd s
 
 -- no slot more is fed
-pub fed_none : (setting : Setting) (sub : ℕ → ℕ → List Slot) (k n : ℕ) → AreFed setting sub k n 0
-fed_none setting sub k n = record { cells = []; inner = tt; long = refl; fed = λ m few. none m few }
+pub fed_none : (setting : Setting) (sub : ℕ → ℕ → List Slot) (k n title : ℕ) → AreFed setting sub k n 0 title
+fed_none setting sub k n title = record { cells = []; inner = tt; titled = λ m d low. absurd (omega (arith, low)); long = refl; fed = λ m few. none m few }
   where
     none : (m : ℕ) → m ≤ 0 → sub k (n + m) ≡ sub k n ++ map Some (take m [])
     none zero few = let e : n + 0 ≡ n = omega arith in ap (sub k) e ∙ sym (append-nil (sub k n))
@@ -159,12 +159,12 @@ module _ (setting : Setting) (sub : ℕ → ℕ → List Slot) (clock : NodeCloc
         (λ k less. let l = stands.least k less in omega (arith, l))
 
     -- where cells pass, for as many more
-    pub needed_through : gives First i ≡ true → AreFed setting sub i fed many → IsCrossing state → passes state ≡ true → AllInner state.cells → ran_by sub i overlap Later ≡ fed + many
-    needed_through gave are is_crossing through plain =
+    pub needed_through : (below : ℕ) → gives First i ≡ true → AreFed setting sub i fed many below → IsCrossing state → passes state ≡ true → AllInner state.cells → ran_by sub i overlap Later ≡ fed + many
+    needed_through below gave are is_crossing through plain =
         let e : suc (many - 1) ≡ many = omega (arith, some) in
         ran_at (m + many) overlap (omega (arith, begun)) ∙ ap (run_of overlap (sub i)) (position_last gave)
         ∙ ap (λ most. run_of most (sub i) (position Past i + (many - 1))) (sym stands.overlap_is)
-        ∙ run_more setting sub i fed many (position Past i) state (long.each i) are is_crossing stands.stands (passing state through) plain
+        ∙ run_more setting sub i fed many (position Past i) below state (long.each i) are is_crossing stands.stands (passing state through) plain
         (λ k less. subst (λ most. length (cross most (sub i k)) ≤ position Past i) (sym stands.overlap_is) (stands.least k less)) (many - 1) (omega (arith, some))
         ∙ ap (λ n. fed + n) e
 

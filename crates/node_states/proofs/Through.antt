@@ -33,7 +33,7 @@ item_stays most slots more q low =
     sym (ap (λ items. slot_at items q) begins.is) ∙ get_or_append_left (cross most slots) begins.rest _ q low
 
 module _ (setting : Setting) (sub : ℕ → ℕ → List Slot) (clock : NodeClock) (past : List Moment) (many i fed : ℕ) (node : Node) (goes : GoesOn setting sub clock past many i node)
-    (some : 0 < many) (lefts rights : List ℤ) (feeds : LaneFeeds (sub i) fed many lefts rights) (old new : Crossing) where
+    (some : 0 < many) (title : ℕ) (lefts rights : List ℤ) (feeds : LaneFeeds (sub i) fed many title lefts rights) (old new : Crossing) where
   abbrev First : Moment
   First = moment_after setting sub clock past
 
@@ -44,13 +44,13 @@ module _ (setting : Setting) (sub : ℕ → ℕ → List Slot) (clock : NodeCloc
   Later = going_on setting sub clock (suc many) past
 
   abbrev Cells : List Cell
-  Cells = inner_cells lefts rights
+  Cells = inner_cells title lefts rights
 
   cells_fed : (m : ℕ) → m ≤ many → sub i (fed + m) ≡ sub i fed ++ map Some (take m Cells)
-  cells_fed m few = fed_cells feeds.slots (sub i) fed many lefts rights feeds.lane feeds.fed m few
+  cells_fed m few = fed_cells feeds.slots (sub i) fed many title lefts rights feeds.lane feeds.titled feeds.fed m few
 
   cells_many : length Cells ≡ many
-  cells_many = many_cells feeds.slots (sub i) fed many lefts rights feeds.lane feeds.fed
+  cells_many = many_cells feeds.slots (sub i) fed many title lefts rights feeds.lane feeds.titled feeds.fed
 
   next : 1 + many ≡ suc many
   next = omega arith

@@ -2,7 +2,7 @@
 use Rattle.std.specs.Prelude.{◌≡◌, ◌<◌, ◌+◌, ◌++◌, ◌∷◌, Bool, true, false, Some, List, [], ℕ, suc, ℤ, slice_get, if◌then◌else◌}
 use Rattle.frame_core.specs.Slots.{Slot}
 use Rattle.op_cross.specs.States.{passes as crossing_passes}
-use Rattle.op_leaf.specs.Lanes.{IsLane}
+use Rattle.op_leaf.specs.Lanes.{AreTitled, IsLane}
 use Rattle.stream_meaning.specs.declared.part.Part.{Part}
 use Rattle.stream_meaning.specs.Instants.{Moment, gives, part_at, silent}
 use Rattle.node_mixing.specs.Runs.{samples_of}
@@ -28,14 +28,15 @@ asked false j = 0
 abbrev pub given_part : Moment → ℕ → Part
 given_part moment i = if gives moment i then part_at moment.parts i else silent
 
--- behind the first n slots of a crossfade's child come the cells of this lane
-pub record LaneFeeds (slots_of : ℕ → List Slot) (n count : ℕ) (left right : List ℤ) : Type 0 where
+-- behind the first n slots of a crossfade's child come the cells of this lane and of this title
+pub record LaneFeeds (slots_of : ℕ → List Slot) (n count title : ℕ) (left right : List ℤ) : Type 0 where
   pub slots : ℕ → Slot
   pub lane : IsLane slots count left right
+  pub titled : AreTitled slots count title
   pub fed : (m : ℕ) → m < count → slots_of (suc (n + m)) ≡ slots_of (n + m) ++ slots m ∷ []
 
 -- they are the cells of the lane of its child
-pub record ChildFeeds (slots_of : ℕ → List Slot) (n count : ℕ) (children : List ℕ) (lefts rights : List ℤ) : Type 0 where
+pub record ChildFeeds (slots_of : ℕ → List Slot) (n count title : ℕ) (children : List ℕ) (lefts rights : List ℤ) : Type 0 where
   pub child : ℕ
   pub there : slice_get children 0 ≡ Some child
-  pub feeds : LaneFeeds slots_of n count (samples_of lefts child count) (samples_of rights child count)
+  pub feeds : LaneFeeds slots_of n count title (samples_of lefts child count) (samples_of rights child count)

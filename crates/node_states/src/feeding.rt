@@ -3,7 +3,7 @@ ghost use Rattle.std.specs.Prelude.{◌≡◌, ◌<◌, ◌≤◌, ◌+◌, ◌+
 ghost use Rattle.frame_core.specs.Library.{Sounds};
 ghost use Rattle.frame_core.specs.Slots.{Slot as TheSlot};
 ghost use Rattle.op_cross.specs.States.{track_room, wants as crossing_wants};
-ghost use Rattle.op_leaf.specs.Lanes.{IsLane};
+ghost use Rattle.op_leaf.specs.Lanes.{AreTitled, IsLane};
 ghost use Rattle.stream_meaning.specs.Operators.{Work};
 ghost use Rattle.stream_meaning.specs.Instants.{Setting, Moment};
 ghost use Rattle.node_states.specs.Passing.{passes};
@@ -33,13 +33,13 @@ impl NodeState {
         }
     }
 
-    /// Takes the next slots of a crossfade's child, which are cells of a track that goes on.
-    pub fn feed_run(&mut self, lefts: &[i16], rights: &[i16])
+    /// Takes the next slots of a crossfade's child, which are cells of this title and of a track that goes on.
+    pub fn feed_run(&mut self, title: u32, lefts: &[i16], rights: &[i16])
         requires same { length rights.now ≡ length lefts.now }
         requires few { length lefts.now ≤ room self.old }
         ensures fits { (library : Sounds) (children : ℕ) → Fits library children self.old → Fits library children self.new }
         ensures fed { (setting : Setting) (sub : ℕ → ℕ → List TheSlot) (past : List Moment) (fed i : ℕ) (work : Work) (slots : ℕ → TheSlot)
-            → StateStands setting sub past fed i work self.old → IsLane slots (length lefts.now) lefts.now rights.now
+            → StateStands setting sub past fed i work self.old → IsLane slots (length lefts.now) lefts.now rights.now → AreTitled slots (length lefts.now) title
             → ((m : ℕ) → m < length lefts.now → sub i (suc (fed + m)) ≡ sub i (fed + m) ++ slots m ∷ [])
             → StateStands setting sub past (fed + length lefts.now) i work self.new }
         ensures less { 0 < length lefts.now → left self.new < left self.old }
@@ -47,7 +47,7 @@ impl NodeState {
         if let NodeState::Cross(state) = self {
             let wanting = state.wants();
             if wanting {
-                state.feed_run(lefts, rights);
+                state.feed_run(title, lefts, rights);
             }
         }
     }

@@ -10,10 +10,11 @@ ghost use Rattle.node_mixing.specs.Runs.{samples_of};
 use node_mixing::samples_of;
 use op_cross::CrossState;
 
-/// Takes as many cells of the crossfade's child as the slices are long, which go on with the track that it holds, and gives as
-/// many items.
+/// Takes as many cells of the crossfade's child as the slices are long, which have this title and go on with the track that it
+/// holds, and gives as many items.
 pub fn pass_child(
     state: &mut CrossState,
+    title: u32,
     children: &[u32],
     before_left: &[i16],
     before_right: &[i16],
@@ -27,19 +28,20 @@ pub fn pass_child(
     requires below { All (λ child. (child + 1) * 1024 ≤ length before_left.now) children.now }
     ensures overlap { (child : ℕ) → slice_get children.now 0 ≡ Some child → state.new.overlap ≡ state.old.overlap }
     ensures stands { (child p : ℕ) (slots : List Slot) → slice_get children.now 0 ≡ Some child → StandsFor state.old slots p
-        → StandsFor state.new (slots ++ map Some (inner_cells (samples_of before_left.now child (length left.old)) (samples_of before_right.now child (length left.old)))) (p + length left.old) }
+        → StandsFor state.new (slots ++ map Some (inner_cells title (samples_of before_left.now child (length left.old)) (samples_of before_right.now child (length left.old)))) (p + length left.old) }
     ensures least { (child p m : ℕ) (slots : List Slot) → slice_get children.now 0 ≡ Some child → StandsFor state.old slots p → m ≤ length left.old
-        → length (cross state.old.overlap (slots ++ map Some (take m (inner_cells (samples_of before_left.now child (length left.old)) (samples_of before_right.now child (length left.old)))))) ≡ p + m }
+        → length (cross state.old.overlap (slots ++ map Some (take m (inner_cells title (samples_of before_left.now child (length left.old)) (samples_of before_right.now child (length left.old)))))) ≡ p + m }
     ensures left { (child p : ℕ) (slots : List Slot) → slice_get children.now 0 ≡ Some child → StandsFor state.old slots p
-        → left.new ≡ map left_of (take (length left.old) (drop p (cross state.old.overlap (slots ++ map Some (inner_cells (samples_of before_left.now child (length left.old)) (samples_of before_right.now child (length left.old))))))) }
+        → left.new ≡ map left_of (take (length left.old) (drop p (cross state.old.overlap (slots ++ map Some (inner_cells title (samples_of before_left.now child (length left.old)) (samples_of before_right.now child (length left.old))))))) }
     ensures right { (child p : ℕ) (slots : List Slot) → slice_get children.now 0 ≡ Some child → StandsFor state.old slots p
-        → right.new ≡ map right_of (take (length left.old) (drop p (cross state.old.overlap (slots ++ map Some (inner_cells (samples_of before_left.now child (length left.old)) (samples_of before_right.now child (length left.old))))))) }
+        → right.new ≡ map right_of (take (length left.old) (drop p (cross state.old.overlap (slots ++ map Some (inner_cells title (samples_of before_left.now child (length left.old)) (samples_of before_right.now child (length left.old))))))) }
 {
     let Some(child) = children.get(0) else {
         return;
     };
     let count = left.len();
     state.pass(
+        title,
         samples_of(before_left, *child, count),
         samples_of(before_right, *child, count),
         left,

@@ -22,13 +22,14 @@ use stream_meaning::Part;
 impl NodeState {
     /// Makes as many instants as the slices are long of a node that gave at the latest one, with which they go on: its samples
     /// are laid, over those of the nodes before it, and its state goes on behind them. `pick` is the child that it used at the
-    /// latest instant, and `parts` are what its children gave there; through a crossfade that passes go the samples of its child.
-    /// It takes no memory.
+    /// latest instant, and `parts` are what its children gave there; through a crossfade that passes go the samples of its child,
+    /// whose cells have the title `below`. It takes no memory.
     pub fn run(
         &mut self,
         node: &Node,
         pick: Option<u32>,
         parts: &[Part],
+        below: u32,
         library: &Library,
         before_left: &[i16],
         before_right: &[i16],
@@ -48,7 +49,7 @@ impl NodeState {
         ensures stands { (setting : Setting) (sub : ℕ → ℕ → List TheSlot) (clock : Clock) (past : List Moment) (fed i : ℕ)
             → setting.library ≡ library.now → GoesOn setting sub clock past (length left.old) i node.now
             → (reads (work_at setting i node.now) ≡ true → fed ≡ suc (length past))
-            → (passes self.old ≡ true → ChildFeeds (sub i) fed (length left.old) node.now.children before_left.now before_right.now)
+            → (passes self.old ≡ true → ChildFeeds (sub i) fed (length left.old) below node.now.children before_left.now before_right.now)
             → StateStands setting sub (moment_after setting sub clock past ∷ past) fed i (work_at setting i node.now) self.old
             → StateStands setting sub (going_on setting sub clock (suc (length left.old)) past) (fed_on (passes self.old || reads (work_at setting i node.now)) (length left.old) fed) i (work_at setting i node.now) self.new }
         ensures lane { (setting : Setting) (sub : ℕ → ℕ → List TheSlot) (clock : Clock) (past : List Moment) (fed i : ℕ)
@@ -56,7 +57,7 @@ impl NodeState {
             → ((c : ℕ) → list_any (nat_eq c) node.now.children ≡ true → part_at parts.now c ≡ given_part (moment_after setting sub clock past) c)
             → pick ≡ (part_at (moment_after setting sub clock past).parts i).pick
             → (reads (work_at setting i node.now) ≡ true → fed ≡ suc (length past))
-            → (passes self.old ≡ true → ChildFeeds (sub i) fed (length left.old) node.now.children before_left.now before_right.now)
+            → (passes self.old ≡ true → ChildFeeds (sub i) fed (length left.old) below node.now.children before_left.now before_right.now)
             → StateStands setting sub (moment_after setting sub clock past ∷ past) fed i (work_at setting i node.now) self.old
             → ((c : ℕ) → list_any (nat_eq c) node.now.children ≡ true → gives (moment_after setting sub clock past) c ≡ true
             → IsLane (λ j. lane setting sub clock past (suc j) c) (length left.old) (samples_of before_left.now c (length left.old)) (samples_of before_right.now c (length left.old)))
@@ -84,7 +85,15 @@ impl NodeState {
             }
             NodeState::Cross(state) => {
                 if state.passes() {
-                    pass_child(state, children, before_left, before_right, left, right);
+                    pass_child(
+                        state,
+                        below,
+                        children,
+                        before_left,
+                        before_right,
+                        left,
+                        right,
+                    );
                 } else {
                     state.copy(left, right);
                 }

@@ -7,7 +7,7 @@ ghost use Rattle.op_cross.specs.Runs.{run_of};
 ghost use Rattle.plan_core.specs.Plans.{HasChildren, IsInRange};
 ghost use Rattle.op_select.specs.declared.rule.Rule.{Rule as TheRule};
 ghost use Rattle.stream_meaning.specs.Operators.{Work, Eligible, Fades, Picks, Reads, Selects};
-ghost use Rattle.segment_laws.specs.Stretches.{AreFed, NodeGoes};
+ghost use Rattle.segment_laws.specs.Stretches.{AreFed, NodeGoes, NodeKeeps};
 ghost use Rattle.stream_meaning.specs.Instants.{Setting, Moment, demanded, gives, last_pick, part_at, part_by, position, second_at, work_at};
 ghost use Rattle.node_states.specs.Passing.{asked, passes};
 ghost use Rattle.node_states.specs.Runs.{LiesAhead};
@@ -20,7 +20,7 @@ use crate::steps::{
 };
 use crate::task::{Task, prefill_of, task_of};
 use fixed_text::WeekSecond;
-use frame_core::{Cell, Library};
+use frame_core::{Cell, Library, title_of};
 use liq_base::Memory;
 use node_mixing::Mixer;
 use op_cross::CrossState;
@@ -173,8 +173,8 @@ impl NodeState {
 
     /// How many instants, at most so many, go on behind one at which the node had this part and gave, or did not, as far as it
     /// goes; a reader within its tick. `begins` tells whether the child that a selection used last begins a track there, and
-    /// `below` how many instants of a crossfade's sub-clock go on with a track. Where cells pass, each of its items asks for one of
-    /// these, and else for none.
+    /// `below` how many instants of a crossfade's sub-clock go on with a track, under the title `below_title`. Where cells pass, each
+    /// of its items asks for one of these, and else for none.
     pub fn rest(
         &self,
         part: Part,
@@ -182,6 +182,7 @@ impl NodeState {
         begins: bool,
         library: &Library,
         below: u32,
+        below_title: u32,
         most: u32,
     ) -> u32
         requires fits { (children : ℕ) × Fits library.now children self.now }
@@ -191,17 +192,22 @@ impl NodeState {
         ensures goes { (setting : Setting) (sub : ℕ → ℕ → List TheSlot) (past : List Moment) (moment : Moment) (fed i : ℕ) (work : Work)
             → setting.library ≡ library.now → AreLong sub → StateStands setting sub (moment ∷ past) fed i work self.now
             → ((buffer : ℕ) → work ≡ Reads buffer → fed ≡ suc (length past))
-            → part_at moment.parts i ≡ part → gives moment i ≡ gave → (gave ≡ true → passes self.now ≡ true → AreFed setting sub i fed below)
+            → part_at moment.parts i ≡ part → gives moment i ≡ gave → (gave ≡ true → passes self.now ≡ true → AreFed setting sub i fed below below_title)
             → NodeGoes setting sub past moment i work begins result }
+        ensures keeps { (setting : Setting) (sub : ℕ → ℕ → List TheSlot) (past : List Moment) (moment : Moment) (fed i : ℕ) (work : Work)
+            → setting.library ≡ library.now → AreLong sub → StateStands setting sub (moment ∷ past) fed i work self.now
+            → ((buffer : ℕ) → work ≡ Reads buffer → fed ≡ suc (length past))
+            → part_at moment.parts i ≡ part → gives moment i ≡ gave → (gave ≡ true → passes self.now ≡ true → AreFed setting sub i fed below below_title)
+            → NodeKeeps setting sub past moment i work result }
         ensures asks { (setting : Setting) (sub : ℕ → ℕ → List TheSlot) (past : List Moment) (moment : Moment) (fed i overlap j : ℕ)
             → AreLong sub → StateStands setting sub (moment ∷ past) fed i (Fades overlap) self.now
-            → gives moment i ≡ gave → gave ≡ true → (passes self.now ≡ true → AreFed setting sub i fed below) → j < result
+            → gives moment i ≡ gave → gave ≡ true → (passes self.now ≡ true → AreFed setting sub i fed below below_title) → j < result
             → run_of overlap (sub i) (suc (position past i) + j) ≡ fed + asked (passes self.now) j }
     {
         match self {
             NodeState::Leaf(state) => {
                 if gave {
-                    state.rest(library, most)
+                    state.rest(library, title_of(part.slot), most)
                 } else {
                     most
                 }
@@ -219,12 +225,18 @@ impl NodeState {
                 if part.slot.is_none() {
                     0
                 } else if gave {
-                    state.rest(below, most)
+                    state.rest(title_of(part.slot), below, below_title, most)
                 } else {
                     most
                 }
             }
-            NodeState::Read(state) => { if gave { state.rest(most) } else { most } }
+            NodeState::Read(state) => {
+                if gave {
+                    state.rest(title_of(part.slot), most)
+                } else {
+                    most
+                }
+            }
             NodeState::Idle => most,
         }
     }

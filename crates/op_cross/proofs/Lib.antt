@@ -12,3 +12,4 @@ mod Rows
 pub mod Running
 mod Passing
 mod Resting
+mod Titles

@@ -5,7 +5,7 @@ use Rattle.frame_core.specs.Slots.{Slot}
 use Rattle.op_cross.specs.Crossfade.{cross}
 
 abbrev cell : Bool → ℕ → Slot
-cell first n = Some (record { left = pos n; right = pos 0; first = first })
+cell first n = Some (record { left = pos n; right = pos 0; first = first; title = 0 })
 
 -- a track of these samples
 abbrev track : List ℕ → List Slot

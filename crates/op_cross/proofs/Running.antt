@@ -16,10 +16,10 @@ use Rattle.op_cross.proofs.PlainStretch.{lefts, rights}
 use Rattle.op_cross.proofs.Longer.{track_goes_on}
 use Rattle.op_cross.proofs.Fed.{Wanting, all_ready, complete_law, growing_some, no_cells, plain_track, wanting, unsettled_is, track_none}
 
-pub runs_inner : (xs ys : List ℤ) → AllInner (inner_cells xs ys)
-runs_inner [] ys = tt
-runs_inner (x ∷ xs) [] = tt
-runs_inner (x ∷ xs) (y ∷ ys) = (refl, runs_inner xs ys)
+pub runs_inner : (title : ℕ) (xs ys : List ℤ) → AllInner (inner_cells title xs ys)
+runs_inner title [] ys = tt
+runs_inner title (x ∷ xs) [] = tt
+runs_inner title (x ∷ xs) (y ∷ ys) = (refl, runs_inner title xs ys)
 
 pub inner_more : (front back : List Cell) → AllInner front → AllInner back → AllInner (front ++ back)
 inner_more [] back inner rest = rest

@@ -5,12 +5,13 @@ use Rattle.sample_kernels.specs.Mixing.{faded}
 use Rattle.frame_core.specs.Slots.{Slot}
 use Rattle.op_cross.specs.Tracks.{Border, Flag, Gap, Open, Piece, is_closed, pieces_of}
 
--- cell `at` of a mix over `whole` cells; the first alone is flagged
+-- cell `at` of a mix over `whole` cells; the first alone is flagged, and it has the title of the next track's cell
 abbrev pub mixed_cell : Cell → Cell → ℕ → ℕ → Cell
 mixed_cell a b at whole = record {
   left = faded a.left b.left at whole;
   right = faded a.right b.right at whole;
   first = nat_eq at 0;
+  title = b.title;
 }
 
 -- the mix of two lists of cells, from cell `at` of `whole` on

@@ -1,5 +1,5 @@
 -- Items that are cells of one track.
-use Rattle.std.specs.Prelude.{Bool, is_some, not, ◌&&◌, Some, None, List, [], ◌∷◌, ℕ, ℤ, pos, suc, if◌then◌else◌}
+use Rattle.std.specs.Prelude.{Bool, is_some, not, ◌&&◌, ◌||◌, nat_eq, Some, None, List, [], ◌∷◌, ℕ, ℤ, pos, suc, if◌then◌else◌}
 use Rattle.frame_core.specs.Slots.{Slot, is_first}
 
 -- a cell that begins no track
@@ -17,6 +17,18 @@ abbrev pub stretch : List Slot → ℕ
 stretch [] = 0
 stretch (None ∷ slots) = 0
 stretch (Some cell ∷ slots) = suc (inner_run slots)
+
+-- the same, of the items that have this title too
+abbrev pub titled_run : (title : ℕ) → List Slot → ℕ
+titled_run title [] = 0
+titled_run title (None ∷ slots) = 0
+titled_run title (Some cell ∷ slots) = if cell.first || not (nat_eq cell.title title) then 0 else suc (titled_run title slots)
+
+-- how many items, from the first on, are cells of its title of which none but the first begins a track
+abbrev pub titled_stretch : List Slot → ℕ
+titled_stretch [] = 0
+titled_stretch (None ∷ slots) = 0
+titled_stretch (Some cell ∷ slots) = suc (titled_run cell.title slots)
 
 abbrev pub left_of : Slot → ℤ
 left_of None = pos 0

@@ -1,13 +1,13 @@
 // A crossfade's state.
-ghost use Rattle.std.specs.Prelude.{◌≡◌, ◌+◌, ◌-◌, ◌*◌, ◌<◌, ◌≤◌, ◌↔◌, true, false, IsTrue, min, [], ◌∷◌, ◌++◌, ℕ, List, map, take, drop, length, IfOk};
-ghost use Rattle.frame_core.specs.Slots.{Slot, slot_at};
+ghost use Rattle.std.specs.Prelude.{◌≡◌, ◌+◌, ◌-◌, ◌*◌, ◌<◌, ◌≤◌, ◌↔◌, true, false, IsTrue, min, [], ◌∷◌, ◌++◌, ℕ, List, map, slice_get, take, drop, length, IfOk};
+ghost use Rattle.frame_core.specs.Slots.{Slot, slot_at, title_of};
 ghost use Rattle.op_cross.specs.Crossfade.{mixed_cell, cross};
-ghost use Rattle.cell_ring.specs.Rings.{inner_cells};
+ghost use Rattle.cell_ring.specs.Rings.{goes_on, has_title, inner_cells};
 ghost use Rattle.op_cross.specs.States.{AllInner, Crossing, IsCrossing, StandsFor, passes, wants, left, position_after, ready_stretch, track_room};
-ghost use Rattle.op_cross.specs.Stretches.{is_inner, stretch, left_of, right_of};
+ghost use Rattle.op_cross.specs.Stretches.{is_inner, left_of, right_of, titled_stretch};
 
 use cell_ring::CellRing;
-use frame_core::Cell;
+use frame_core::{Cell, title_of};
 use liq_base::limits::MAX_OVERLAP;
 use liq_base::{Kind, Memory};
 use sample_kernels::mixed_sample;
@@ -118,25 +118,25 @@ impl CrossState {
         }
     }
 
-    /// Takes the next slots of its source, which are cells of a track that goes on, no more than settle its item.
-    pub fn feed_run(&mut self, lefts: &[i16], rights: &[i16])
+    /// Takes the next slots of its source, which are cells of this title and of a track that goes on, no more than settle its item.
+    pub fn feed_run(&mut self, title: u32, lefts: &[i16], rights: &[i16])
         requires wants { wants self.old ≡ true }
         requires same { length rights.now ≡ length lefts.now }
         requires few { length lefts.now ≤ track_room self.old }
         ensures overlap { self.new.overlap ≡ self.old.overlap }
-        ensures fed { (slots : List Slot) (p : ℕ) → StandsFor self.old slots p → StandsFor self.new (slots ++ map Some (inner_cells lefts.now rights.now)) p }
+        ensures fed { (slots : List Slot) (p : ℕ) → StandsFor self.old slots p → StandsFor self.new (slots ++ map Some (inner_cells title lefts.now rights.now)) p }
         ensures least { (slots : List Slot) (p m : ℕ) → StandsFor self.old slots p → m < length lefts.now
-            → length (cross self.old.overlap (slots ++ map Some (take m (inner_cells lefts.now rights.now)))) ≤ p }
+            → length (cross self.old.overlap (slots ++ map Some (take m (inner_cells title lefts.now rights.now)))) ≤ p }
         ensures less { 0 < length lefts.now → left self.new < left self.old }
     {
         if self.next.len() > 0 {
-            self.next.push_run(lefts, rights);
+            self.next.push_run(title, lefts, rights);
             if self.next.len() == self.cells.len() {
                 self.whole = self.next.len();
                 self.ready = self.cells.len();
             }
         } else {
-            self.cells.push_run(lefts, rights);
+            self.cells.push_run(title, lefts, rights);
             if self.cells.len() > self.overlap {
                 self.ready = 1;
             }
@@ -150,9 +150,10 @@ impl CrossState {
         self.ready == 0 && !self.gap && self.next.len() == 0 && self.cells.len() == self.overlap
     }
 
-    /// Takes the next slots of its source, which are cells of the track that goes on, and gives as many items.
+    /// Takes the next slots of its source, which are cells of this title and of the track that goes on, and gives as many items.
     pub fn pass(
         &mut self,
+        title: u32,
         from_left: &[i16],
         from_right: &[i16],
         left: &mut [i16],
@@ -165,15 +166,15 @@ impl CrossState {
         ensures overlap { self.new.overlap ≡ self.old.overlap }
         ensures passes { passes self.new ≡ true }
         ensures stands { (slots : List Slot) (p : ℕ) → StandsFor self.old slots p
-            → StandsFor self.new (slots ++ map Some (inner_cells from_left.now from_right.now)) (p + length from_left.now) }
+            → StandsFor self.new (slots ++ map Some (inner_cells title from_left.now from_right.now)) (p + length from_left.now) }
         ensures least { (slots : List Slot) (p m : ℕ) → StandsFor self.old slots p → m ≤ length from_left.now
-            → length (cross self.old.overlap (slots ++ map Some (take m (inner_cells from_left.now from_right.now)))) ≡ p + m }
+            → length (cross self.old.overlap (slots ++ map Some (take m (inner_cells title from_left.now from_right.now)))) ≡ p + m }
         ensures left { (slots : List Slot) (p : ℕ) → StandsFor self.old slots p
-            → left.new ≡ map left_of (take (length left.old) (drop p (cross self.old.overlap (slots ++ map Some (inner_cells from_left.now from_right.now))))) }
+            → left.new ≡ map left_of (take (length left.old) (drop p (cross self.old.overlap (slots ++ map Some (inner_cells title from_left.now from_right.now))))) }
         ensures right { (slots : List Slot) (p : ℕ) → StandsFor self.old slots p
-            → right.new ≡ map right_of (take (length left.old) (drop p (cross self.old.overlap (slots ++ map Some (inner_cells from_left.now from_right.now))))) }
+            → right.new ≡ map right_of (take (length left.old) (drop p (cross self.old.overlap (slots ++ map Some (inner_cells title from_left.now from_right.now))))) }
     {
-        self.cells.push_run(from_left, from_right);
+        self.cells.push_run(title, from_left, from_right);
         self.cells.take_into(left, right);
     }
 
@@ -194,18 +195,19 @@ impl CrossState {
         Some(mixed_cell(cell, to, at, self.whole))
     }
 
-    /// How many items, from its item on and at most so many, are settled cells of which none but the first begins a track.
+    /// How many items, from its item on and at most so many, are settled cells of its title of which none but the first begins a
+    /// track.
     pub fn ready(&self, most: u32) -> u32
-        ensures cells { result ≡ min most (ready_stretch self.now) }
-        ensures stretch { (slots : List Slot) (p : ℕ) → StandsFor self.now slots p → result ≡ min most (stretch (drop p (cross self.now.overlap slots))) }
+        ensures cells { result ≤ ready_stretch self.now }
+        ensures within { result ≤ most }
+        ensures stretch { (slots : List Slot) (p : ℕ) → StandsFor self.now slots p → result ≡ min most (titled_stretch (drop p (cross self.now.overlap slots))) }
     {
         let mixed = self.next.len();
-        let run = if mixed < self.ready {
-            self.ready - mixed
+        if mixed < self.ready {
+            of_one_title(&self.cells, most.min(self.ready - mixed))
         } else {
-            self.ready
-        };
-        most.min(run)
+            of_one_title(&self.next, most.min(self.ready))
+        }
     }
 
     /// Gives as many items as the slices are long, of a stretch that is ready, and goes on behind them.
@@ -257,28 +259,46 @@ impl CrossState {
         }
     }
 
-    /// A number of items, from its item on and at most so many, that are cells which begin no track: those that are settled
-    /// so, or where cells pass through, as many as there are behind it of a track that its source goes on with.
-    pub fn rest(&self, below: u32, most: u32) -> u32
+    /// A number of items, from its item on and at most so many, that are cells of this title which begin no track: those that are
+    /// settled so, or where cells pass through, at most as many as there are behind it of a track that its source goes on with,
+    /// under the title `below_title`.
+    pub fn rest(&self, title: u32, below: u32, below_title: u32, most: u32) -> u32
         ensures ready { (slots : List Slot) (p j : ℕ) → StandsFor self.now slots p → passes self.now ≡ false → j < result
             → is_inner (slot_at (cross self.now.overlap slots) (p + j)) ≡ true }
+        ensures titled { (slots : List Slot) (p j : ℕ) → StandsFor self.now slots p → passes self.now ≡ false → j < result
+            → title_of (slot_at (cross self.now.overlap slots) (p + j)) ≡ title }
         ensures plain { (slots : List Slot) (p : ℕ) → StandsFor self.now slots p → passes self.now ≡ true → 0 < result → AllInner self.now.cells }
+        ensures held { (j : ℕ) → passes self.now ≡ true → j < result → j < length self.now.cells → title_of (slice_get self.now.cells j) ≡ title }
+        ensures over { passes self.now ≡ true → length self.now.cells < result → below_title ≡ title }
         ensures below { passes self.now ≡ true → result ≤ below }
         ensures ahead { passes self.now ≡ false → result ≤ ready_stretch self.now }
         ensures within { result ≤ most }
         ensures crossing { IsCrossing self.now }
     {
+        let _ = &self.ready;
         if self.passes() {
-            return if is_inner(self.cells.front()) {
-                below.min(most)
-            } else {
-                0
-            };
+            return self.rest_through(title, below_title, below.min(most));
         }
-        if self.wants() || !is_inner(self.offer()) {
+        if self.wants() || !goes_on(title, self.offer()) {
             return 0;
         }
         self.ready(most)
+    }
+
+    // The same where cells pass through, of at most so many.
+    fn rest_through(&self, title: u32, below_title: u32, most: u32) -> u32
+        requires passes { passes self.now ≡ true }
+        ensures within { result ≤ most }
+        ensures front { 0 < result → goes_on title (slice_get self.now.cells 0) ≡ true }
+        ensures held { (j : ℕ) → j < result → j < length self.now.cells → goes_on title (slice_get self.now.cells j) ≡ true }
+        ensures over { length self.now.cells < result → below_title ≡ title }
+    {
+        let held = self.cells.inner(title, 0, most.min(self.overlap));
+        if held == self.overlap && below_title == title {
+            most
+        } else {
+            held
+        }
     }
 
     // What wants no slot has its item settled.
@@ -308,12 +328,25 @@ impl CrossState {
     }
 }
 
-// A cell that begins no track.
-fn is_inner(slot: Option<Cell>) -> bool
-    ensures { result ≡ is_inner slot }
+// How many of so many cells, from the front one on, have its title.
+fn of_one_title(ring: &CellRing, most: u32) -> u32
+    ensures within { result ≤ most }
+    ensures some { 0 < most → 0 < result }
+    ensures titled { (j : ℕ) → 0 < j → j < result → has_title (title_of (slice_get ring.now.cells 0)) (slice_get ring.now.cells j) ≡ true }
+    ensures ends { result < most → has_title (title_of (slice_get ring.now.cells 0)) (slice_get ring.now.cells result) ≡ false }
+{
+    if most == 0 {
+        return 0;
+    }
+    1 + ring.titled(title_of(ring.front()), 1, most - 1)
+}
+
+// A cell of this title that begins no track.
+fn goes_on(title: u32, slot: Option<Cell>) -> bool
+    ensures { result ≡ goes_on title slot }
 {
     match slot {
-        Some(cell) => !cell.first,
+        Some(cell) => !cell.first && cell.title == title,
         None => false,
     }
 }
@@ -336,7 +369,7 @@ fn right_of(item: Option<Cell>) -> i16
     }
 }
 
-// Cell `at` of a mix over `whole` cells; the first alone is flagged.
+// Cell `at` of a mix over `whole` cells; the first alone is flagged, and it has the title of the next track's cell.
 fn mixed_cell(from: Cell, to: Cell, at: u32, whole: u32) -> Cell
     requires { at < whole }
     ensures { result ≡ mixed_cell from to at whole }
@@ -345,5 +378,6 @@ fn mixed_cell(from: Cell, to: Cell, at: u32, whole: u32) -> Cell
         left: mixed_sample(from.left, to.left, at, whole),
         right: mixed_sample(from.right, to.right, at, whole),
         first: at == 0,
+        title: to.title,
     }
 }

@@ -6,7 +6,7 @@ use Rattle.std.proofs.lemmas.List.Elements.{All-get_or}
 use Rattle.std.proofs.lemmas.List.Sums.{sum_by_more, sum_by_more_le}
 use Rattle.std.specs.List.{All}
 use Rattle.frame_core.specs.Sounds.{Sound, IsSound, cell_of, length_of}
-use Rattle.frame_core.specs.Library.{Sounds, IsLibrary, no_sound, sound_at, tracks_of}
+use Rattle.frame_core.specs.Library.{Sounds, IsLibrary, no_sound, sound_at, title_at, tracks_of}
 use Rattle.op_leaf.specs.declared.files.Files.{Files}
 use Rattle.op_leaf.specs.Leaves.{files_slot, place_in_round, sounds_of, total_of}
 use Rattle.op_leaf.specs.Standing.{FilesArePlacedIn, FilesStandAt}
@@ -32,15 +32,13 @@ some_samples library node track is at_node at_track =
 -- what it offers within a file
 pub files-here : (library : Sounds) (files : Files) (position : ℕ) → FilesArePlacedIn library files → FilesStandAt library files position →
     files.track < length (tracks_of library files.node) →
-    files_slot (sounds_of library files.node) files.again files.kind position ≡ Some (cell_of (sound_at library files.node files.track) files.kind files.at)
+    files_slot library files.node files.again files.kind position ≡ Some (cell_of (sound_at library files.node files.track) (title_at library files.node files.track) files.kind files.at)
 files-here library files position placed stands there =
-    let sounds = sounds_of library files.node in
-    let in_sounds : files.track < length (sounds_of library files.node) = omega (arith, there, length-sounds library files.node) in
     let within : files.at < length_of (get_or (sounds_of library files.node) files.track no_sound) =
     subst (λ (sound : Sound). files.at < length_of sound) (sym (sounds-at library files.node files.track there)) (placed.within there) in
-    joined-within (sounds_of library files.node) files.kind files.track files.at
-    (place_in_round (sounds_of library files.node) files.again position) in_sounds within (sym stands)
-    ∙ ap (λ (sound : Sound). Some (cell_of sound files.kind files.at)) (sounds-at library files.node files.track there)
+    joined-within library (tracks_of library files.node) files.kind files.track files.at
+    (place_in_round (sounds_of library files.node) files.again position) there within (sym stands)
+    ∙ ap (λ (sound : Sound). Some (cell_of sound (title_at library files.node files.track) files.kind files.at)) (sounds-at library files.node files.track there)
 
 take-whole : (sounds : List Sound) (n : ℕ) → length sounds ≤ n → take n sounds ≡ sounds
 take-whole [] zero h = refl
@@ -51,13 +49,13 @@ take-whole (sound ∷ sounds) (suc n) h = ap (λ rest. sound ∷ rest) (take-who
 -- and past the last one
 pub files-over : (library : Sounds) (files : Files) (position : ℕ) → FilesStandAt library files position →
     length (tracks_of library files.node) ≤ files.track →
-    files_slot (sounds_of library files.node) files.again files.kind position ≡ None
+    files_slot library files.node files.again files.kind position ≡ None
 files-over library files position stands over =
     let all : take files.track (sounds_of library files.node) ≡ sounds_of library files.node =
     take-whole (sounds_of library files.node) files.track (omega (arith, over, length-sounds library files.node)) in
     let past : total_of (sounds_of library files.node) ≤ place_in_round (sounds_of library files.node) files.again position =
     omega (arith, stands, ap total_of all) in
-    joined-past (sounds_of library files.node) files.kind (place_in_round (sounds_of library files.node) files.again position) past
+    joined-past library (tracks_of library files.node) files.kind (place_in_round (sounds_of library files.node) files.again position) past
 
 -- one cell more within a file
 pub later-here : (sounds : List Sound) (again : Bool) (track at position : ℕ) → track < length sounds →

@@ -2,7 +2,8 @@
 use Rattle.std.proofs.Common.{◌≡◌, ◌<◌, ◌+◌, ◌-◌, ◌∙◌, ◌&&◌, ℕ, ℤ, zero, suc, Some, List, ◌∷◌, length, map, take, get_or, nat_eq, if◌then◌else◌, arith, refl, ap, sym, subst}
 use Rattle.std.specs.List.{range_with_len}
 use Rattle.frame_core.specs.Sounds.{Sound, cell_of, lefts_from, length_of, rights_from}
-use Rattle.frame_core.specs.Library.{IsLibrary, Sounds, no_sound, sound_at, tracks_of}
+use Rattle.frame_core.specs.Library.{IsLibrary, Sounds, no_sound, sound_at, title_at, tracks_of}
+use Rattle.frame_core.specs.Slots.{title_of}
 use Rattle.op_leaf.specs.declared.files.Files.{Files}
 use Rattle.op_leaf.specs.Inner.{LieInFile, lefts_of, rights_of, slot_left, slot_right}
 use Rattle.op_leaf.specs.Leaves.{files_slot, place_in_round, sounds_of, total_of}
@@ -26,21 +27,25 @@ module _ (library : Sounds) (files : Files) (position n : ℕ) (stands : FilesSt
   in_sounds : files.track < length All
   in_sounds = let long = length-sounds library files.node in let there = lie.there in omega (arith, there, long)
 
-  pub slot_is : (i : ℕ) → i < n → files_slot All files.again files.kind (position + i) ≡ Some (cell_of (sound_at library files.node files.track) files.kind (files.at + i))
+  pub slot_is : (i : ℕ) → i < n → files_slot library files.node files.again files.kind (position + i) ≡ Some (cell_of (sound_at library files.node files.track) (title_at library files.node files.track) files.kind (files.at + i))
   slot_is i low =
       let within = lie.within in
       let inside : files.at + i < length_of (get_or All files.track no_sound) =
       subst (λ (sound : Sound). files.at + i < length_of sound) (sym (sounds-at library files.node files.track lie.there)) (omega (arith, within, low)) in
-      joined-within All files.kind files.track (files.at + i) (place_in_round All files.again (position + i)) in_sounds inside
+      joined-within library (tracks_of library files.node) files.kind files.track (files.at + i) (place_in_round All files.again (position + i)) lie.there inside
       (sym (run_here All files.again files.track files.at position i in_sounds inside stands))
-      ∙ ap (λ (sound : Sound). Some (cell_of sound files.kind (files.at + i))) (sounds-at library files.node files.track lie.there)
+      ∙ ap (λ (sound : Sound). Some (cell_of sound (title_at library files.node files.track) files.kind (files.at + i))) (sounds-at library files.node files.track lie.there)
 
-  pub lefts_are : lefts_from (sound_at library files.node files.track) files.kind files.at n ≡ lefts_of (files_slot All files.again files.kind) position n
-  lefts_are = ranged_same (λ q. (cell_of (sound_at library files.node files.track) files.kind q).left) (λ q. slot_left (files_slot All files.again files.kind q)) files.at position n
+  -- they have one title
+  pub one_title : (i : ℕ) → i < n → title_of (files_slot library files.node files.again files.kind (position + i)) ≡ title_at library files.node files.track
+  one_title i low = ap title_of (slot_is i low)
+
+  pub lefts_are : lefts_from (sound_at library files.node files.track) files.kind files.at n ≡ lefts_of (files_slot library files.node files.again files.kind) position n
+  lefts_are = ranged_same (λ q. (cell_of (sound_at library files.node files.track) 0 files.kind q).left) (λ q. slot_left (files_slot library files.node files.again files.kind q)) files.at position n
       (λ i low. sym (ap slot_left (slot_is i low)))
 
-  pub rights_are : rights_from (sound_at library files.node files.track) files.kind files.at n ≡ rights_of (files_slot All files.again files.kind) position n
-  rights_are = ranged_same (λ q. (cell_of (sound_at library files.node files.track) files.kind q).right) (λ q. slot_right (files_slot All files.again files.kind q)) files.at position n
+  pub rights_are : rights_from (sound_at library files.node files.track) files.kind files.at n ≡ rights_of (files_slot library files.node files.again files.kind) position n
+  rights_are = ranged_same (λ q. (cell_of (sound_at library files.node files.track) 0 files.kind q).right) (λ q. slot_right (files_slot library files.node files.again files.kind q)) files.at position n
       (λ i low. sym (ap slot_right (slot_is i low)))
 
   -- further in the file

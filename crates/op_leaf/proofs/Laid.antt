@@ -2,35 +2,42 @@
 use Rattle.std.proofs.Common.{◌≡◌, ◌<◌, ◌+◌, ◌∙◌, ℕ, ℤ, zero, suc, Bool, true, false, not, Some, None, List, ◌∷◌, map, arith, refl, ap, sym}
 use Rattle.std.specs.List.{range_with_len}
 use Rattle.std.proofs.lemmas.Bool.{false≢true}
-use Rattle.frame_core.specs.Slots.{Slot}
+use Rattle.frame_core.specs.Slots.{Slot, title_of}
 use Rattle.cell_ring.specs.Rings.{inner_cell, inner_cells}
 use Rattle.op_leaf.specs.Inner.{is_inner, lefts_of, rights_of, slot_left, slot_right}
-use Rattle.op_leaf.specs.Lanes.{IsLane, IsOneTrack}
+use Rattle.op_leaf.specs.Lanes.{AreTitled, IsLane, IsOneTrack}
 use Rattle.op_leaf.proofs.Stretching.{inner_some}
 
 unmarked : (first : Bool) → not first ≡ true → false ≡ first
 unmarked true e = absurd (false≢true e)
 unmarked false e = refl
 
-pub inner_is : (slot : Slot) → is_inner slot ≡ true → Some (inner_cell (slot_left slot) (slot_right slot)) ≡ slot
+pub inner_is : (slot : Slot) → is_inner slot ≡ true → Some (inner_cell (title_of slot) (slot_left slot) (slot_right slot)) ≡ slot
 inner_is None e = absurd (false≢true e)
-inner_is (Some cell) e = ap (λ (first : Bool). Some (record { left = cell.left; right = cell.right; first = first })) (unmarked cell.first e)
+inner_is (Some cell) e =
+    ap (λ (first : Bool). Some (record { left = cell.left; right = cell.right; first = first; title = cell.title })) (unmarked cell.first e)
 
-cells_are : (slots : ℕ → Slot) (position count : ℕ) → ((j : ℕ) → j < count → is_inner (slots (position + j)) ≡ true)
-    → map Some (inner_cells (lefts_of slots position count) (rights_of slots position count)) ≡ map slots (range_with_len position count)
-cells_are slots position zero inner = refl
-cells_are slots position (suc count) inner =
+cells_are : (slots : ℕ → Slot) (title position count : ℕ) → ((j : ℕ) → j < count → is_inner (slots (position + j)) ≡ true)
+    → ((j : ℕ) → j < count → title_of (slots (position + j)) ≡ title)
+    → map Some (inner_cells title (lefts_of slots position count) (rights_of slots position count)) ≡ map slots (range_with_len position count)
+cells_are slots title position zero inner titled = refl
+cells_are slots title position (suc count) inner titled =
     let e : position + 0 ≡ position = omega arith in
     let here : is_inner (slots position) ≡ true = sym (ap (λ n. is_inner (slots n)) e) ∙ inner 0 (omega arith) in
-    ap (λ (slot : Slot). slot ∷ map Some (inner_cells (lefts_of slots (position + 1) count) (rights_of slots (position + 1) count))) (inner_is (slots position) here)
-    ∙ ap (λ l. slots position ∷ l) (cells_are slots (position + 1) count
-    (λ j low. let f : position + 1 + j ≡ position + suc j = omega arith in ap (λ n. is_inner (slots n)) f ∙ inner (suc j) (omega (arith, low))))
+    let name : title_of (slots position) ≡ title = sym (ap (λ n. title_of (slots n)) e) ∙ titled 0 (omega arith) in
+    ap (λ (slot : Slot). slot ∷ map Some (inner_cells title (lefts_of slots (position + 1) count) (rights_of slots (position + 1) count)))
+    (ap (λ t. Some (inner_cell t (slot_left (slots position)) (slot_right (slots position)))) (sym name) ∙ inner_is (slots position) here)
+    ∙ ap (λ l. slots position ∷ l) (cells_are slots title (position + 1) count
+    (λ j low. let f : position + 1 + j ≡ position + suc j = omega arith in ap (λ n. is_inner (slots n)) f ∙ inner (suc j) (omega (arith, low)))
+    (λ j low. let f : position + 1 + j ≡ position + suc j = omega arith in ap (λ n. title_of (slots n)) f ∙ titled (suc j) (omega (arith, low))))
 
--- the cells of a lane are the slots
-pub lane_cells : (slots : ℕ → Slot) (count : ℕ) (left right : List ℤ) → IsLane slots count left right → map Some (inner_cells left right) ≡ map slots (range_with_len 0 count)
-lane_cells slots count left right lane =
-    ap (λ l. map Some (inner_cells l right)) lane.left_is ∙ ap (λ l. map Some (inner_cells (lefts_of slots 0 count) l)) lane.right_is
-    ∙ cells_are slots 0 count (λ j low. let e : 0 + j ≡ j = omega arith in ap (λ n. is_inner (slots n)) e ∙ lane.inner j low)
+-- the cells of a lane of one title are the slots
+pub lane_cells : (slots : ℕ → Slot) (count title : ℕ) (left right : List ℤ) → IsLane slots count left right → AreTitled slots count title
+    → map Some (inner_cells title left right) ≡ map slots (range_with_len 0 count)
+lane_cells slots count title left right lane titled =
+    ap (λ l. map Some (inner_cells title l right)) lane.left_is ∙ ap (λ l. map Some (inner_cells title (lefts_of slots 0 count) l)) lane.right_is
+    ∙ cells_are slots title 0 count (λ j low. let e : 0 + j ≡ j = omega arith in ap (λ n. is_inner (slots n)) e ∙ lane.inner j low)
+    (λ j low. let e : 0 + j ≡ j = omega arith in ap (λ n. title_of (slots n)) e ∙ titled j low)
 
 pub moved_same : {A : Type 0} (f g : ℕ → A) (a b n : ℕ) → ((i : ℕ) → i < n → f (a + i) ≡ g (b + i)) → map f (range_with_len a n) ≡ map g (range_with_len b n)
 moved_same f g a b zero same = refl

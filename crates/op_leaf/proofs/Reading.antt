@@ -3,13 +3,14 @@ use Rattle.std.proofs.Common.{◌≡◌, ◌<◌, ◌≤◌, ◌+◌, ◌-◌, �
 use Rattle.std.specs.List.{range_with_len}
 use Rattle.std.proofs.lemmas.Bool.{false≢true}
 use Rattle.frame_core.specs.declared.cell.Cell.{Cell}
-use Rattle.frame_core.specs.Slots.{Slot}
-use Rattle.op_leaf.specs.Inner.{is_inner, lefts_of, rights_of, slot_left, slot_right, stretch_from}
+use Rattle.cell_ring.specs.Rings.{goes_on}
+use Rattle.frame_core.specs.Slots.{Slot, title_of}
+use Rattle.op_leaf.specs.Inner.{is_inner, lefts_of, rights_of, slot_left, slot_right, titled_stretch}
 use Rattle.op_leaf.specs.Lanes.{IsLane, IsOneTrack}
 use Rattle.op_leaf.specs.Readers.{Reader, read_by, reader_slot}
 use Rattle.op_leaf.specs.Stores.{shown}
 use Rattle.op_leaf.proofs.Onward.{played, plays_on}
-use Rattle.op_leaf.proofs.Stretching.{inner_some, stretch_is}
+use Rattle.op_leaf.proofs.Stretching.{going_inner, inner_some, titled_is}
 
 abbrev pub reader_of : Bool → Bool → List Cell → ℕ → ℕ → Reader
 reader_of playing fresh cells prefill frame = record { cells = shown fresh cells; playing = playing; prefill = prefill; frame = frame }
@@ -36,6 +37,11 @@ shown_dropped false cells count some = refl
 shown_dropped true [] count some = refl
 shown_dropped true (cell ∷ cells) zero some = absurd (omega (arith, some))
 shown_dropped true (cell ∷ cells) (suc count) some = refl
+
+shown_title : (fresh : Bool) (cells : List Cell) → title_of (slice_get (shown fresh cells) 0) ≡ title_of (slice_get cells 0)
+shown_title false cells = refl
+shown_title true [] = refl
+shown_title true (cell ∷ cells) = refl
 
 shown_lefts : (fresh : Bool) (cells : List Cell) (count : ℕ) → map (λ (cell : Cell). cell.left) (take count (shown fresh cells)) ≡ map (λ (cell : Cell). cell.left) (take count cells)
 shown_lefts false cells count = refl
@@ -84,19 +90,29 @@ module _ (reader : Reader) (playing fresh : Bool) (cells : List Cell) (prefill f
   slots_behind : (j : ℕ) → 0 < j → Slots j ≡ slice_get cells j
   slots_behind j some = slots_shown j ∙ shown_behind fresh cells j some
 
-  -- so many cells of the ring behind the front one begin no track, and the next one does or there is none
-  module _ (most count : ℕ) (within : count < most) (inner : (j : ℕ) → j < count → is_inner (slice_get cells (1 + j)) ≡ true)
-      (ends : count < most - 1 → is_inner (slice_get cells (1 + count)) ≡ false) where
-    behind : (j : ℕ) → 0 < j → j < 1 + count → is_inner (Slots j) ≡ true
-    behind zero some low = absurd (omega (arith, some))
-    behind (suc j) some low = let e : 1 + j ≡ suc j = omega arith in
-        ap is_inner (slots_behind (suc j) some) ∙ sym (ap (λ n. is_inner (slice_get cells n)) e) ∙ inner j (omega (arith, low))
+  -- so many cells of the ring behind the front one have its title and begin no track, and the next one has another one or does, or
+  -- there is none
+  module _ (title most count : ℕ) (titled : title ≡ title_of (slice_get cells 0)) (within : count < most)
+      (inner : (j : ℕ) → j < count → goes_on title (slice_get cells (1 + j)) ≡ true)
+      (ends : count < most - 1 → goes_on title (slice_get cells (1 + count)) ≡ false) where
+    one_title : title ≡ title_of (Slots 0)
+    one_title = titled ∙ sym (shown_title fresh cells) ∙ sym (ap title_of (slots_shown 0))
 
-    pub stretches : 1 + count ≡ stretch_from Slots 0 most
-    stretches = stretch_is Slots 0 most (1 + count) (omega arith) (omega (arith, within))
-        (λ j some low. let e : 0 + j ≡ j = omega arith in ap (λ n. is_inner (Slots n)) e ∙ behind j some low)
+    going : (j : ℕ) → 0 < j → j < 1 + count → goes_on title (Slots j) ≡ true
+    going zero some low = absurd (omega (arith, some))
+    going (suc j) some low = let e : 1 + j ≡ suc j = omega arith in
+        ap (goes_on title) (slots_behind (suc j) some) ∙ sym (ap (λ n. goes_on title (slice_get cells n)) e) ∙ inner j (omega (arith, low))
+
+    behind : (j : ℕ) → 0 < j → j < 1 + count → is_inner (Slots j) ≡ true
+    behind j some low = going_inner title (Slots j) (going j some low)
+
+    pub stretches : 1 + count ≡ titled_stretch Slots 0 most
+    stretches = titled_is Slots 0 most (1 + count) (omega arith) (omega (arith, within))
+        (λ j some low. let e : 0 + j ≡ j = omega arith in
+        ap (λ n. goes_on (title_of (Slots 0)) (Slots n)) e ∙ ap (λ t. goes_on t (Slots j)) (sym one_title) ∙ going j some low)
         (λ less. let e : 0 + (1 + count) ≡ 1 + count = omega arith in
-        ap (λ n. is_inner (Slots n)) e ∙ ap is_inner (slots_behind (1 + count) (omega arith)) ∙ ends (omega (arith, less)))
+        ap (λ n. goes_on (title_of (Slots 0)) (Slots n)) e ∙ ap (λ t. goes_on t (Slots (1 + count))) (sym one_title)
+        ∙ ap (goes_on title) (slots_behind (1 + count) (omega arith)) ∙ ends (omega (arith, less)))
 
     pub lies_ahead : IsOneTrack Slots (1 + count)
     lies_ahead = record { here = here; inner = behind }

@@ -3,12 +3,13 @@ use Rattle.std.proofs.Common.{◌≡◌, ◌<◌, ◌≤◌, ◌+◌, ◌%◌, �
 use Rattle.std.proofs.lemmas.Bool.{false≢true}
 use Rattle.std.proofs.lemmas.Bool.Decides.{nat_tests}
 use Rattle.std.proofs.lemmas.Nat.{mod_below}
-use Rattle.frame_core.specs.Slots.{Slot}
+use Rattle.cell_ring.specs.Rings.{goes_on}
+use Rattle.frame_core.specs.Slots.{Slot, title_of}
 use Rattle.frame_core.specs.Sounds.{Sound, length_of}
 use Rattle.frame_core.specs.Library.{IsLibrary, Sounds, no_sound, sound_at, tracks_of}
 use Rattle.op_leaf.specs.declared.blank.Blank.{Blank}
 use Rattle.op_leaf.specs.declared.files.Files.{Files}
-use Rattle.op_leaf.specs.Inner.{inner_from, is_inner, stretch_from}
+use Rattle.op_leaf.specs.Inner.{going_from, inner_from, is_inner, stretch_from, titled_stretch}
 use Rattle.op_leaf.specs.Leaves.{blank_cell, files_slot, place_in_round, sounds_of, total_of}
 use Rattle.op_leaf.specs.Standing.{BlankStandsAt, FilesArePlacedIn, FilesStandAt}
 use Rattle.op_leaf.proofs.Cursors.{files-over, later-here, later-next, length-sounds, some_samples, sounds-at}
@@ -41,6 +42,52 @@ stretch_is slots position (suc most) (suc n) some few inner ends = sym (ap suc (
     (λ i less. let f : position + suc i ≡ suc position + i = omega arith in sym (ap (λ n. is_inner (slots n)) f) ∙ inner (suc i) (omega arith) (omega (arith, less)))
     (λ less. let f : position + suc n ≡ suc position + n = omega arith in sym (ap (λ n. is_inner (slots n)) f) ∙ ends (omega (arith, less)))))
 
+going_is : (slots : ℕ → Slot) (title n position most : ℕ) → n ≤ most → ((i : ℕ) → i < n → goes_on title (slots (position + i)) ≡ true)
+    → (n < most → goes_on title (slots (position + n)) ≡ false) → going_from slots title position most ≡ n
+going_is slots title zero position zero few inner ends = refl
+going_is slots title zero position (suc most) few inner ends =
+    let e : position + 0 ≡ position = omega arith in
+    let no : goes_on title (slots position) ≡ false = sym (ap (λ n. goes_on title (slots n)) e) ∙ ends (omega arith) in
+    rw no refl
+going_is slots title (suc n) position zero few inner ends = absurd (omega (arith, few))
+going_is slots title (suc n) position (suc most) few inner ends =
+    let e : position + 0 ≡ position = omega arith in
+    let yes : goes_on title (slots position) ≡ true = sym (ap (λ n. goes_on title (slots n)) e) ∙ inner 0 (omega arith) in
+    let rest : going_from slots title (suc position) most ≡ n =
+    going_is slots title n (suc position) most (omega (arith, few))
+    (λ i less. let f : position + suc i ≡ suc position + i = omega arith in sym (ap (λ n. goes_on title (slots n)) f) ∙ inner (suc i) (omega (arith, less)))
+    (λ less. let f : position + suc n ≡ suc position + n = omega arith in sym (ap (λ n. goes_on title (slots n)) f) ∙ ends (omega (arith, less))) in
+    rw (yes, rest) refl
+
+-- a stretch of one title, by the cells in it and what follows it
+pub titled_is : (slots : ℕ → Slot) (position most n : ℕ) → 0 < n → n ≤ most
+    → ((i : ℕ) → 0 < i → i < n → goes_on (title_of (slots position)) (slots (position + i)) ≡ true)
+    → (n < most → goes_on (title_of (slots position)) (slots (position + n)) ≡ false) → n ≡ titled_stretch slots position most
+titled_is slots position zero n some few inner ends = absurd (omega (arith, some, few))
+titled_is slots position (suc most) zero some few inner ends = absurd (omega (arith, some))
+titled_is slots position (suc most) (suc n) some few inner ends = sym (ap suc (going_is slots (title_of (slots position)) n (suc position) most (omega (arith, few))
+    (λ i less. let f : position + suc i ≡ suc position + i = omega arith in sym (ap (λ n. goes_on (title_of (slots position)) (slots n)) f) ∙ inner (suc i) (omega arith) (omega (arith, less)))
+    (λ less. let f : position + suc n ≡ suc position + n = omega arith in sym (ap (λ n. goes_on (title_of (slots position)) (slots n)) f) ∙ ends (omega (arith, less)))))
+
+and_front : (a b : Bool) → (a && b) ≡ true → a ≡ true
+and_front true b e = refl
+and_front false b e = absurd (false≢true e)
+
+and_back : (a b : Bool) → (a && b) ≡ true → b ≡ true
+and_back true b e = e
+and_back false b e = absurd (false≢true e)
+
+-- a cell of a title that begins no track
+pub going_inner : (title : ℕ) (slot : Slot) → goes_on title slot ≡ true → is_inner slot ≡ true
+going_inner title None e = absurd (false≢true e)
+going_inner title (Some cell) e = and_front (not cell.first) (nat_eq cell.title title) e
+
+pub going_title : (title : ℕ) (slot : Slot) → goes_on title slot ≡ true → title_of slot ≡ title
+going_title title None e = absurd (false≢true e)
+going_title title (Some cell) e =
+    let same : nat_eq cell.title title ≡ true = and_back (not cell.first) (nat_eq cell.title title) e in
+    grind (arith, nat_tests, same)
+
 -- some samples further within a file
 pub run_here : (sounds : List Sound) (again : Bool) (track at position n : ℕ) → track < length sounds → at + n < length_of (get_or sounds track no_sound)
     → total_of (take track sounds) + at ≡ place_in_round sounds again position → total_of (take track sounds) + (at + n) ≡ place_in_round sounds again (position + n)
@@ -59,14 +106,14 @@ further_is at n some = let e : nat_eq (at + n) 0 ≡ false = grind (arith, nat_t
 -- the cells of a file behind its first one begin no track
 pub file_inner : (library : Sounds) (files : Files) (position n : ℕ) → FilesArePlacedIn library files → FilesStandAt library files position → files.track < length (tracks_of library files.node)
     → 0 < n → files.at + n < length_of (sound_at library files.node files.track)
-    → is_inner (files_slot (sounds_of library files.node) files.again files.kind (position + n)) ≡ true
+    → is_inner (files_slot library files.node files.again files.kind (position + n)) ≡ true
 file_inner library files position n placed stands there some within =
     let sounds : List Sound = sounds_of library files.node in
     let long = length-sounds library files.node in
     let in_sounds : files.track < length sounds = omega (arith, there, long) in
     let inside : files.at + n < length_of (get_or sounds files.track no_sound) =
     subst (λ (sound : Sound). files.at + n < length_of sound) (sym (sounds-at library files.node files.track there)) within in
-    ap is_inner (joined-within sounds files.kind files.track (files.at + n) (place_in_round sounds files.again (position + n)) in_sounds inside
+    ap is_inner (joined-within library (tracks_of library files.node) files.kind files.track (files.at + n) (place_in_round sounds files.again (position + n)) there inside
     (sym (run_here sounds files.again files.track files.at position n in_sounds inside stands)))
     ∙ further_is files.at n some
 
@@ -95,23 +142,24 @@ module _ (library : Sounds) (files : Files) (position n : ℕ) (is : IsLibrary l
   stands_next = later-next All files.again files.track (files.at + n) (position + n) (length All) refl in_sounds some_there at_end
       (run_here All files.again files.track files.at position n in_sounds (let e = at_end in omega (arith, e)) stands)
 
-  next_by : (low : Bool) → nat_lt Next (length (tracks_of library files.node)) ≡ low → is_inner (files_slot All files.again files.kind (suc (position + n))) ≡ false
+  next_by : (low : Bool) → nat_lt Next (length (tracks_of library files.node)) ≡ low → is_inner (files_slot library files.node files.again files.kind (suc (position + n))) ≡ false
   next_by true e =
       let long = length-sounds library files.node in
-      let low : Next < length All = (let l : Next < length (tracks_of library files.node) = grind (arith, nat_tests, e) in omega (arith, l, long)) in
-      ap is_inner (joined-within All files.kind Next 0 (place_in_round All files.again (suc (position + n))) low (some_there Next low) (sym stands_next))
+      let l : Next < length (tracks_of library files.node) = grind (arith, nat_tests, e) in
+      let low : Next < length All = omega (arith, l, long) in
+      ap is_inner (joined-within library (tracks_of library files.node) files.kind Next 0 (place_in_round All files.again (suc (position + n))) l (some_there Next low) (sym stands_next))
   next_by false e =
       let high : length (tracks_of library files.node) ≤ Next = grind (arith, nat_tests, e) in
       ap is_inner (files-over library (record files { track = Next; at = 0 }) (suc (position + n)) stands_next high)
 
-  file_over : is_inner (files_slot All files.again files.kind (position + suc n)) ≡ false
+  file_over : is_inner (files_slot library files.node files.again files.kind (position + suc n)) ≡ false
   file_over =
       let f : position + suc n ≡ suc (position + n) = omega arith in
-      ap (λ q. is_inner (files_slot All files.again files.kind q)) f ∙ next_by (nat_lt Next (length (tracks_of library files.node))) refl
+      ap (λ q. is_inner (files_slot library files.node files.again files.kind q)) f ∙ next_by (nat_lt Next (length (tracks_of library files.node))) refl
 
 pub file_ends : (library : Sounds) (files : Files) (position n : ℕ) → IsLibrary library → FilesArePlacedIn library files → FilesStandAt library files position → files.track < length (tracks_of library files.node)
     → 0 < n → files.at + n ≡ length_of (sound_at library files.node files.track)
-    → is_inner (files_slot (sounds_of library files.node) files.again files.kind (position + n)) ≡ false
+    → is_inner (files_slot library files.node files.again files.kind (position + n)) ≡ false
 file_ends library files position zero is placed stands there some ends = absurd (omega (arith, some))
 file_ends library files position (suc n) is placed stands there some ends = file_over library files position n is placed stands there ends
 

@@ -2,7 +2,8 @@
 use Rattle.std.specs.Prelude.{◌<◌, ◌≤◌, ◌+◌, Bool, ℕ, ℤ, pos, Some, None, List, length, map, zero, suc, is_some, not, ◌&&◌, if◌then◌else◌}
 use Rattle.std.specs.List.{range_with_len}
 use Rattle.frame_core.specs.Library.{Sounds, sound_at, tracks_of}
-use Rattle.frame_core.specs.Slots.{Slot, is_first}
+use Rattle.frame_core.specs.Slots.{Slot, is_first, title_of}
+use Rattle.cell_ring.specs.Rings.{goes_on}
 use Rattle.frame_core.specs.Sounds.{length_of}
 use Rattle.op_leaf.specs.declared.blank.Blank.{Blank}
 use Rattle.op_leaf.specs.declared.files.Files.{Files}
@@ -23,6 +24,15 @@ inner_from slots position (suc most) = if is_inner (slots position) then suc (in
 abbrev pub stretch_from : (slots : ℕ → Slot) → (position most : ℕ) → ℕ
 stretch_from slots position zero = zero
 stretch_from slots position (suc most) = suc (inner_from slots (suc position) most)
+
+-- the same, where those behind this one have its title too
+abbrev pub going_from : (slots : ℕ → Slot) → (title position most : ℕ) → ℕ
+going_from slots title position zero = zero
+going_from slots title position (suc most) = if goes_on title (slots position) then suc (going_from slots title (suc position) most) else zero
+
+abbrev pub titled_stretch : (slots : ℕ → Slot) → (position most : ℕ) → ℕ
+titled_stretch slots position zero = zero
+titled_stretch slots position (suc most) = suc (going_from slots (title_of (slots position)) (suc position) most)
 
 abbrev pub slot_left : Slot → ℤ
 slot_left None = pos 0

@@ -1,6 +1,6 @@
 -- A run of cells of one track; and a lane: the samples of a run of cells that begin no track.
 use Rattle.std.specs.Prelude.{◌≡◌, ◌<◌, true, ℕ, ℤ, List, IsSome}
-use Rattle.frame_core.specs.Slots.{Slot}
+use Rattle.frame_core.specs.Slots.{Slot, title_of}
 use Rattle.op_leaf.specs.Inner.{is_inner, lefts_of, rights_of}
 
 -- the first so many slots are cells that begin no track, and these are their samples
@@ -13,3 +13,7 @@ pub record IsLane (slots : ℕ → Slot) (count : ℕ) (left right : List ℤ) :
 pub record IsOneTrack (slots : ℕ → Slot) (count : ℕ) : Type 0 where
   pub here : IsSome (slots 0)
   pub inner : (j : ℕ) → 0 < j → j < count → is_inner (slots j) ≡ true
+
+-- the first so many slots have this title
+abbrev pub AreTitled : (slots : ℕ → Slot) → (count title : ℕ) → Type 0
+AreTitled slots count title = (j : ℕ) → j < count → title_of (slots j) ≡ title

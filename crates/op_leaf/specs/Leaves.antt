@@ -1,5 +1,5 @@
 -- The slot of a leaf at a position: at a position p it gave p cells.
-use Rattle.std.specs.Prelude.{◌<◌, Bool, true, false, Some, None, List, [], ◌∷◌, ℕ, ℤ, pos, negsuc, ◌-◌, ◌*◌, ◌%◌, nat_eq, nat_lt, map, length, sum_by, slice_index_or, if◌then◌else◌, unsigned_abs}
+use Rattle.std.specs.Prelude.{◌<◌, Bool, true, false, suc, Some, None, List, [], ◌∷◌, ℕ, ℤ, pos, negsuc, ◌-◌, ◌*◌, ◌%◌, nat_eq, nat_lt, map, length, sum_by, slice_index_or, if◌then◌else◌, unsigned_abs}
 use Rattle.liq_base.specs.declared.memory.Kind.{Kind}
 use Rattle.liq_base.specs.declared.memory.Kind.TheVariants.{Mono, Stereo}
 use Rattle.fixed_text.specs.declared.decimal.Decimal.{Decimal}
@@ -10,34 +10,39 @@ use Rattle.frame_core.specs.Library.{Sounds, no_sound, tracks_of}
 use Rattle.op_leaf.specs.declared.leaf.Leaf.{Leaf}
 use Rattle.op_leaf.specs.declared.leaf.Leaf.TheVariants.{Files, Blank, Square, Never}
 
+-- a file of a library
+abbrev pub file_of : Sounds → (file : ℕ) → Sound
+file_of library file = slice_index_or library.files file no_sound
+
 -- the files of a node
 abbrev pub sounds_of : Sounds → ℕ → List Sound
-sounds_of library node = map (λ file. slice_index_or library.files file no_sound) (tracks_of library node)
+sounds_of library node = map (λ file. file_of library file) (tracks_of library node)
 
 -- the samples of all these files
 abbrev pub total_of : List Sound → ℕ
 total_of sounds = sum_by length_of sounds
 
--- the slot at a position of these files, played one after the other: whole files are left out
-abbrev pub joined_slot : List Sound → Kind → ℕ → Slot
-joined_slot [] kind position = None
-joined_slot (sound ∷ sounds) kind position =
-    if nat_lt position (length_of sound) then Some (cell_of sound kind position)
-    else joined_slot sounds kind (position - length_of sound)
+-- the slot at a position of these files, played one after the other: whole files are left out. A cell has its file's title
+abbrev pub joined_slot : Sounds → (files : List ℕ) → Kind → ℕ → Slot
+joined_slot library [] kind position = None
+joined_slot library (file ∷ files) kind position =
+    if nat_lt position (length_of (file_of library file)) then Some (cell_of (file_of library file) (suc file) kind position)
+    else joined_slot library files kind (position - length_of (file_of library file))
 
 -- the position in a round of the files: they are played again and again, or once
 abbrev pub place_in_round : List Sound → Bool → ℕ → ℕ
 place_in_round sounds true position = position % total_of sounds
 place_in_round sounds false position = position
 
--- the slot at a position of these files
-abbrev pub files_slot : List Sound → Bool → Kind → ℕ → Slot
-files_slot sounds again kind position = joined_slot sounds kind (place_in_round sounds again position)
+-- the slot at a position of the files of a node
+abbrev pub files_slot : Sounds → (node : ℕ) → Bool → Kind → ℕ → Slot
+files_slot library node again kind position =
+    joined_slot library (tracks_of library node) kind (place_in_round (sounds_of library node) again position)
 
 -- zero; a track begins at each multiple of its length, or at 0 alone where it is endless
 abbrev pub blank_cell : ℕ → ℕ → Cell
 blank_cell track position =
-    record { left = pos 0; right = pos 0; first = nat_eq (if nat_eq track 0 then position else (position % track)) 0 }
+    record { left = pos 0; right = pos 0; first = nat_eq (if nat_eq track 0 then position else (position % track)) 0; title = 0 }
 
 -- the upper value in the first half of each period, and the lower one in the second
 abbrev pub height_at : Decimal → ℕ → ℕ → ℤ
@@ -55,11 +60,12 @@ square_cell pitch rate kind position = record {
   left = height_at pitch rate position;
   right = on_the_right kind (height_at pitch rate position);
   first = nat_eq position 0;
+  title = 0;
 }
 
 -- the slot of a leaf at a position
 abbrev pub leaf_slot : Sounds → Leaf → ℕ → Slot
-leaf_slot library (Files node again kind) position = files_slot (sounds_of library node) again kind position
+leaf_slot library (Files node again kind) position = files_slot library node again kind position
 leaf_slot library (Blank track) position = Some (blank_cell track position)
 leaf_slot library (Square pitch rate kind) position = Some (square_cell pitch rate kind position)
 leaf_slot library Never position = None

@@ -25,7 +25,7 @@ missing reader = wanted reader - length reader.cells
 -- the cells with a track's begin at the front
 abbrev pub flag_front : List Cell → List Cell
 flag_front [] = []
-flag_front (cell ∷ cells) = record { left = cell.left; right = cell.right; first = true } ∷ cells
+flag_front (cell ∷ cells) = record { left = cell.left; right = cell.right; first = true; title = cell.title } ∷ cells
 
 abbrev pub holds_some : List Cell → Bool
 holds_some [] = false

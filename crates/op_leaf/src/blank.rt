@@ -34,6 +34,7 @@ impl Blank {
             left: 0,
             right: 0,
             first: self.at == 0,
+            title: 0,
         }
     }
 

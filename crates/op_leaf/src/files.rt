@@ -1,8 +1,9 @@
 // The audio files of a node, one after the other.
 ghost use Rattle.std.specs.Prelude.{◌≡◌, ◌<◌, ◌≤◌, ◌+◌, ◌&&◌, ℕ, length, suc, nat_eq, None, IsSome, if◌then◌else◌};
 ghost use Rattle.frame_core.specs.Library.{IsLibrary, Sounds};
+ghost use Rattle.frame_core.specs.Slots.{title_of};
 ghost use Rattle.op_leaf.specs.Inner.{LieInFile, lefts_of, rights_of, stretch_from};
-ghost use Rattle.op_leaf.specs.Leaves.{files_slot, sounds_of};
+ghost use Rattle.op_leaf.specs.Leaves.{files_slot};
 ghost use Rattle.op_leaf.specs.Standing.{FilesArePlacedIn, FilesStandAt};
 
 use frame_core::{Cell, Library};
@@ -42,10 +43,10 @@ impl Files {
         }
     }
 
-    /// The cell at its place; nothing past the last file.
+    /// The cell at its place, with its file's title; nothing past the last file.
     pub fn offer(&self, library: &Library) -> Option<Cell>
         requires { FilesArePlacedIn library.now self.now }
-        ensures offered { (p : ℕ) → FilesStandAt library.now self.now p → result ≡ files_slot (sounds_of library.now self.now.node) self.now.again self.now.kind p }
+        ensures offered { (p : ℕ) → FilesStandAt library.now self.now p → result ≡ files_slot library.now self.now.node self.now.again self.now.kind p }
         ensures ahead { IsSome result → LieInFile library.now self.now 1 }
     {
         if self.track < library.tracks(self.node) {
@@ -59,8 +60,10 @@ impl Files {
     pub fn stretch(&self, library: &Library, most: u32) -> u32
         requires placed { FilesArePlacedIn library.now self.now }
         requires some { 0 < most }
-        ensures stretch { (p : ℕ) → FilesStandAt library.now self.now p → IsSome (files_slot (sounds_of library.now self.now.node) self.now.again self.now.kind p)
-            → result ≡ stretch_from (files_slot (sounds_of library.now self.now.node) self.now.again self.now.kind) p most }
+        ensures stretch { (p : ℕ) → FilesStandAt library.now self.now p → IsSome (files_slot library.now self.now.node self.now.again self.now.kind p)
+            → result ≡ stretch_from (files_slot library.now self.now.node self.now.again self.now.kind) p most }
+        ensures titled { (p j : ℕ) → FilesStandAt library.now self.now p → IsSome (files_slot library.now self.now.node self.now.again self.now.kind p) → j < result
+            → title_of (files_slot library.now self.now.node self.now.again self.now.kind (p + j)) ≡ title_of (files_slot library.now self.now.node self.now.again self.now.kind p) }
         ensures within { result ≤ most }
         ensures some { 0 < result }
         ensures ahead { LieInFile library.now self.now 1 → LieInFile library.now self.now result }
@@ -84,9 +87,9 @@ impl Files {
         ensures placed { FilesArePlacedIn library.now self.new }
         ensures stands { (p : ℕ) → FilesStandAt library.now self.old p → FilesStandAt library.now self.new (p + length left.old) }
         ensures left { (p : ℕ) → FilesStandAt library.now self.old p
-            → left.new ≡ lefts_of (files_slot (sounds_of library.now self.old.node) self.old.again self.old.kind) p (length left.old) }
+            → left.new ≡ lefts_of (files_slot library.now self.old.node self.old.again self.old.kind) p (length left.old) }
         ensures right { (p : ℕ) → FilesStandAt library.now self.old p
-            → right.new ≡ rights_of (files_slot (sounds_of library.now self.old.node) self.old.again self.old.kind) p (length left.old) }
+            → right.new ≡ rights_of (files_slot library.now self.old.node self.old.again self.old.kind) p (length left.old) }
     {
         library.read(self.node, self.track, self.at, self.kind, left, right);
         let samples = library.samples(self.node, self.track);
@@ -106,8 +109,8 @@ impl Files {
         ensures again { self.new.again ≡ self.old.again }
         ensures kind { self.new.kind ≡ self.old.kind }
         ensures placed { FilesArePlacedIn library.now self.new }
-        ensures stands { (p : ℕ) → FilesStandAt library.now self.old p → IsSome (files_slot (sounds_of library.now self.old.node) self.old.again self.old.kind p) → FilesStandAt library.now self.new (suc p) }
-        ensures stays { (p : ℕ) → FilesStandAt library.now self.old p → files_slot (sounds_of library.now self.old.node) self.old.again self.old.kind p ≡ None → self.new ≡ self.old }
+        ensures stands { (p : ℕ) → FilesStandAt library.now self.old p → IsSome (files_slot library.now self.old.node self.old.again self.old.kind p) → FilesStandAt library.now self.new (suc p) }
+        ensures stays { (p : ℕ) → FilesStandAt library.now self.old p → files_slot library.now self.old.node self.old.again self.old.kind p ≡ None → self.new ≡ self.old }
     {
         let tracks = library.tracks(self.node);
         if self.track >= tracks {

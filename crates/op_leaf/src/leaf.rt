@@ -2,7 +2,9 @@
 ghost use Rattle.std.specs.Prelude.{◌≡◌, ◌<◌, ◌≤◌, ◌+◌, ℕ, suc, true, pos, None, IsSome, length, map};
 ghost use Rattle.std.specs.List.{range_with_len};
 ghost use Rattle.op_leaf.specs.Inner.{LiesAhead, is_inner, lefts_of, rights_of, stretch_from};
+ghost use Rattle.cell_ring.specs.Rings.{goes_on};
 ghost use Rattle.frame_core.specs.Library.{IsLibrary, Sounds};
+ghost use Rattle.frame_core.specs.Slots.{title_of};
 ghost use Rattle.op_leaf.specs.Leaves.{leaf_slot, HasRate, HasTracksOf};
 ghost use Rattle.op_leaf.specs.Standing.{leaf_of, IsPlacedIn, StandsAt};
 
@@ -84,12 +86,14 @@ impl LeafState {
         }
     }
 
-    /// How many of its cells, from the offered one on and at most so many, are of one track.
+    /// How many of its cells, from the offered one on and at most so many, are of one track. They have one title.
     pub fn stretch(&self, library: &Library, most: u32) -> u32
         requires placed { IsPlacedIn library.now self.now }
         requires some { 0 < most }
         ensures stretch { (p : ℕ) → StandsAt library.now self.now p → IsSome (leaf_slot library.now (leaf_of self.now) p)
             → result ≡ stretch_from (leaf_slot library.now (leaf_of self.now)) p most }
+        ensures titled { (p j : ℕ) → StandsAt library.now self.now p → IsSome (leaf_slot library.now (leaf_of self.now) p) → j < result
+            → title_of (leaf_slot library.now (leaf_of self.now) (p + j)) ≡ title_of (leaf_slot library.now (leaf_of self.now) p) }
         ensures within { result ≤ most }
         ensures some { 0 < result }
         ensures ahead { LiesAhead library.now self.now 1 → LiesAhead library.now self.now result }
@@ -102,14 +106,15 @@ impl LeafState {
         }
     }
 
-    /// A number of cells, from the offered one on and at most so many, that begin no track.
-    pub fn rest(&self, library: &Library, most: u32) -> u32
+    /// A number of cells, from the offered one on and at most so many, that have this title and begin no track.
+    pub fn rest(&self, library: &Library, title: u32, most: u32) -> u32
         requires placed { IsPlacedIn library.now self.now }
         ensures inner { (p j : ℕ) → StandsAt library.now self.now p → j < result → is_inner (leaf_slot library.now (leaf_of self.now) (p + j)) ≡ true }
+        ensures titled { (p j : ℕ) → StandsAt library.now self.now p → j < result → title_of (leaf_slot library.now (leaf_of self.now) (p + j)) ≡ title }
         ensures within { result ≤ most }
         ensures ahead { 0 < result → LiesAhead library.now self.now result }
     {
-        if most == 0 || !is_inner(self.offer(library)) {
+        if most == 0 || !goes_on(title, self.offer(library)) {
             return 0;
         }
         self.stretch(library, most)
@@ -165,12 +170,12 @@ fn silence(into: &mut [i16])
     }
 }
 
-// A cell that begins no track.
-fn is_inner(slot: Option<Cell>) -> bool
-    ensures { result ≡ is_inner slot }
+// A cell of this title that begins no track.
+fn goes_on(title: u32, slot: Option<Cell>) -> bool
+    ensures { result ≡ goes_on title slot }
 {
     match slot {
-        Some(cell) => !cell.first,
+        Some(cell) => !cell.first && cell.title == title,
         None => false,
     }
 }

@@ -1,12 +1,13 @@
 // The reader of a buffer.
 ghost use Rattle.std.specs.Prelude.{◌≡◌, ◌<◌, ◌≤◌, ◌+◌, ◌++◌, [], ℕ, true, false, length, max, IfOk, IsSome};
 ghost use Rattle.cell_ring.specs.Rings.{Ring};
-ghost use Rattle.op_leaf.specs.Inner.{is_inner, lefts_of, rights_of, stretch_from};
+ghost use Rattle.frame_core.specs.Slots.{title_of};
+ghost use Rattle.op_leaf.specs.Inner.{is_inner, lefts_of, rights_of, titled_stretch};
 ghost use Rattle.op_leaf.specs.Lanes.{IsLane, IsOneTrack};
 ghost use Rattle.op_leaf.specs.Readers.{after_cell, begun, missing, read_by, Reader, reader_slot, wants};
 
 use cell_ring::CellRing;
-use frame_core::{Cell, Chunk};
+use frame_core::{Cell, Chunk, title_of};
 use liq_base::Memory;
 use liq_base::limits::MAX_FRAME;
 use std::alloc::Global;
@@ -100,26 +101,27 @@ impl ReaderState {
         Some(Cell { first, ..cell })
     }
 
-    /// How many of its cells, from the offered one on and at most so many, are of one track.
+    /// How many of its cells, from the offered one on and at most so many, are of one track and of one title.
     pub fn stretch(&self, most: u32) -> u32
         requires some { 0 < most }
-        ensures stretch { IsSome (reader_slot self.now) → result ≡ stretch_from (λ j. reader_slot (read_by j self.now)) 0 most }
+        ensures stretch { IsSome (reader_slot self.now) → result ≡ titled_stretch (λ j. reader_slot (read_by j self.now)) 0 most }
         ensures within { result ≤ most }
         ensures some { 0 < result }
         ensures ahead { IsSome (reader_slot self.now) → IsOneTrack (λ j. reader_slot (read_by j self.now)) result }
     {
-        1 + self.ring.inner(1, most - 1)
+        1 + self.ring.inner(title_of(self.ring.front()), 1, most - 1)
     }
 
-    /// A number of cells, from the offered one on and at most so many, that begin no track.
-    pub fn rest(&self, most: u32) -> u32
+    /// A number of cells, from the offered one on and at most so many, that have this title and begin no track.
+    pub fn rest(&self, title: u32, most: u32) -> u32
         ensures inner { (j : ℕ) → j < result → is_inner (reader_slot (read_by j self.now)) ≡ true }
+        ensures titled { (j : ℕ) → j < result → title_of (reader_slot (read_by j self.now)) ≡ title }
         ensures within { result ≤ most }
     {
         if !self.playing || self.fresh {
             return 0;
         }
-        self.ring.inner(0, most)
+        self.ring.inner(title, 0, most)
     }
 
     /// Gives as many cells as the slices are long, which are of one track, and goes on behind them.

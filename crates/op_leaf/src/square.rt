@@ -69,6 +69,7 @@ impl Square {
             left,
             right,
             first: !self.begun,
+            title: 0,
         }
     }
 

@@ -71,7 +71,7 @@ is_last (Some last) child = nat_eq last child
 -- the child's cell, flagged where it was, where another child was used last, and where none was
 abbrev pub picked_cell : Option ℕ → ℕ → Cell → Cell
 picked_cell last child cell =
-    record { left = cell.left; right = cell.right; first = cell.first || not (is_last last child) }
+    record { left = cell.left; right = cell.right; first = cell.first || not (is_last last child); title = cell.title }
 
 -- what a selection offers with this child; nothing without a child
 abbrev pub picked : List Slot → Option ℕ → Option ℕ → Option Picked

@@ -16,8 +16,9 @@ use Rattle.frame_core.specs.Calls.{Call}
 use Rattle.op_leaf.specs.Readers.{Answer}
 use Rattle.stream_meaning.specs.Instants.{Setting}
 use Rattle.stream_meaning.specs.Sinks.{ticks_bytes}
+use Rattle.stream_meaning.specs.Calls.{IsBegin}
 use Rattle.stream_meaning.proofs.Answering.{begin_none}
-use Rattle.run_records.specs.Records.{Follows, Window, capacity_of, on as calls_on, setting_in}
+use Rattle.run_records.specs.Records.{Follows, Window, capacity_of, on as calls_on, rounds_to, setting_in, setting_then}
 use Rattle.node_states.specs.Ticks.{with_rest}
 use Rattle.clock_engine.specs.declared.engine.ClockEngine.{ClockEngine}
 use Rattle.clock_engine.specs.Engines.{setting_of, held_of}
@@ -32,7 +33,7 @@ use Rattle.rounds_run.specs.Runs.{AreOver, HasRunAll, HasRunSome, HasRunTicks, c
 use Rattle.rounds_run.proofs.Worlds.{meets, meets_is}
 use Rattle.rounds_run.proofs.Going.{none_read, run_none, run_part}
 use Rattle.rounds_run.proofs.Lawful.{counted, leads_follow, logged, window_of}
-use Rattle.rounds_run.proofs.Records.{in_is, rounds_begun, rounds_made, run_of, then_is, turned_begun, windows_from, windows_mapped}
+use Rattle.rounds_run.proofs.Records.{all_turns, in_is, rounds_begun, turn_is, rounds_made, run_of, then_is, turned_begun, windows_from, windows_mapped}
 
 -- a clock that has made all its rounds has made no fewer
 made_least : (r clock k : ℕ) → r ≤ made_by r clock k
@@ -121,15 +122,16 @@ module _ {S : Type 0} (held name : S → Option (List ℕ)) (room : S → Option
   -- broken off after these calls
   broken : (end : End) (calls : List Call) → AreTurnsBegun setting (length first) (ticks * length first) calls
       → ((b : ℕ) → b < length setting.plan.buffers → (rest : List (List Cell)) × Follows (capacity_of setting b) [] (calls_on b calls) rest)
-      → (round clock : ℕ) → HaveRunPart held name faults (world setting calls) (ticks_by ticks round clock) (ticks_by ticks round (clock + 1)) first now
+      → (round clock : ℕ) → ((rest : ℕ → List Answer) → (accepted : ℕ → ℕ → ℕ → Bool)
+      × IsBegin (rounds_to (setting_then setting (run_of many calls) rest) accepted (length first) round clock) calls
+      × IsBegin calls (rounds_to (setting_then setting (run_of many calls) rest) accepted (length first) round (suc clock)))
+      → HaveRunPart held name faults (world setting calls) (ticks_by ticks round clock) (ticks_by ticks round (clock + 1)) first now
       → ((failed sink : ℕ) → end ≡ Write failed sink → IsWriteEnd faults clock first now end) → HasRunSome held name faults setting ticks first now end
-  broken end calls begun in_order round clock part write =
+  broken end calls begun in_order round clock turn part write =
       let well = subst (λ p. IsWellFormed p) (sym over.plan_is) over.well in
       record {
         run = run_of many calls;
-        begun = rounds_begun setting well (length first) (ticks * length first) calls begun ticks refl in_order;
-        round = round;
-        clock = clock;
+        begun = rounds_begun setting well (length first) (ticks * length first) calls begun ticks refl round clock turn in_order;
         part = subst (λ (worlds : (ℕ → List Answer) → Setting). HaveRunPart held name faults worlds (ticks_by ticks round clock) (ticks_by ticks round (clock + 1)) first now)
             (fun_ext (λ rest. sym (then_is setting well (length first) (ticks * length first) calls begun rest))) part;
         write = write;
@@ -145,6 +147,7 @@ module _ {S : Type 0} (held name : S → Option (List ℕ)) (room : S → Option
       record {
         over = run.setting;
         clock = run.clock;
+        keeping = run.keeping;
         answers = run.answers;
         rest = rest;
         given = given;
@@ -162,7 +165,8 @@ module _ {S : Type 0} (held name : S → Option (List ℕ)) (room : S → Option
     -- a fault of a tick
     pub one_stopped : (end : End) → RoundsStopped held name faults LocalStands setting ticks (ticks * length first) first now taps_first taps_now end → HasRunSome held name faults setting ticks first now end
     one_stopped end stopped =
-        broken end stopped.calls stopped.begun (lists_follow plan stopped.calls taps_now same_here (stopped.taps [] stands) setting over.plan_is) stopped.round stopped.clock stopped.part (write_only end _ stopped.cause)
+        broken end stopped.calls stopped.begun (lists_follow plan stopped.calls taps_now same_here (stopped.taps [] stands) setting over.plan_is) stopped.round stopped.clock
+        (turn_is setting (subst (λ p. IsWellFormed p) (sym over.plan_is) over.well) (length first) (ticks * length first) stopped.calls stopped.begun stopped.round stopped.clock stopped.below stopped.turn) stopped.part (write_only end _ stopped.cause)
 
     module _ (made : RoundsMade held name faults LocalStands setting ticks (ticks * length first) first now taps_first taps_now) where
       -- all ticks
@@ -170,6 +174,7 @@ module _ {S : Type 0} (held name : S → Option (List ℕ)) (room : S → Option
       all_made end is =
           broken end made.calls (turned_begun setting (length first) (ticks * length first) made.calls made.turned)
           (lists_follow plan made.calls taps_now same_here (made.taps [] stands) setting over.plan_is) ticks 0
+          (all_turns setting (subst (λ p. IsWellFormed p) (sym over.plan_is) over.well) (length first) (ticks * length first) made.calls (turned_begun setting (length first) (ticks * length first) made.calls made.turned) ticks refl made.turned)
           (record {
             size = made.run.size;
             each = λ k before after was at.
@@ -201,7 +206,7 @@ module _ {S : Type 0} (held name : S → Option (List ℕ)) (room : S → Option
 pub none_made : {S : Type 0} (held name : S → Option (List ℕ)) (room : S → Option ℕ) (faults : S → ℕ) (plan : Plan) (ticks : ℕ) (setting : Setting) (first : List (ClockEngine S)) → AreOver room plan ticks setting first
     → (end : End) → end ≡ NoMemory → HasRunSome held name faults setting ticks first first end
 none_made held name room faults plan ticks setting first over end is =
-    broken held name room faults plan ticks setting first first over end [] (record { accepted = λ turn buffer. true; begun = λ rest. begin_none _ }) (λ b low. ([], refl)) 0 0
+    broken held name room faults plan ticks setting first first over end [] (record { accepted = λ turn buffer. true; begun = λ rest. begin_none _ }) (λ b low. ([], refl)) 0 0 (λ rest. ((λ m t buffer. true), begin_none [], begin_none _))
     (record {
       size = refl;
       each = λ k before after was at.

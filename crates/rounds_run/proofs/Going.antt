@@ -27,8 +27,8 @@ use Rattle.clock_engine.specs.Ticks.{HasFailed, HasMade, HaveTickRoom, HaveTicks
 use Rattle.clock_engine.proofs.Made.{behind_calls, world_is}
 use Rattle.buffer_ends.specs.declared.run_end.End.{End}
 use Rattle.buffer_ends.specs.declared.run_end.End.TheVariants.{Write, Memory as NoMemory}
-use Rattle.rounds_run.specs.Rounds.{AreEngines, AreGoing, HasRunTurns, HasRunPart, IsWriteEnd, MayRun, RoundsMade, RoundsStopped, made_by, nothing, ticks_by, world}
-use Rattle.rounds_run.proofs.Worlds.{meets, meets_is, none_begun, own_other, own_this, turned_more, turned_part}
+use Rattle.rounds_run.specs.Rounds.{AreEngines, AreGoing, AreTurnsUpto, HasRunTurns, HasRunPart, IsWriteEnd, MayRun, RoundsMade, RoundsStopped, made_by, nothing, ticks_by, world}
+use Rattle.rounds_run.proofs.Worlds.{meets, meets_is, none_begun, own_other, own_this, turned_more, turned_part, turned_upto}
 use Rattle.rounds_run.proofs.Apart.{unread_or}
 use Rattle.rounds_run.proofs.Fronts.{front_of, grown_nothing, grown_twice, next_front, ticks_front}
 
@@ -42,6 +42,7 @@ pub record DidTick {S T : Type 0} (held name : S → Option (List ℕ)) (room : 
   pub fit : AreParts old.parts
   pub setting : setting_of new.parts ≡ setting_of old.parts
   pub clock : new.parts.clock ≡ old.parts.clock
+  pub keeping : new.parts.cues.keeping ≡ old.parts.cues.keeping
   pub ticked : HasMade held taps_stand old.parts new.parts old.outs new.outs taps_old taps_new
   pub none_fell : NoneFell faults old.outs new.outs
   pub outs : length new.outs ≡ length old.outs
@@ -53,6 +54,7 @@ module _ {S : Type 0} (held name : S → Option (List ℕ)) (room : S → Option
   run_none total engine may = record {
     setting = refl;
     clock = refl;
+    keeping = refl;
     answers = nothing;
     own = λ buffer. inl refl;
     stands = may.fresh;
@@ -68,6 +70,7 @@ module _ {S : Type 0} (held name : S → Option (List ℕ)) (room : S → Option
   run_idle calls more t first now apart run = record {
     setting = run.setting;
     clock = run.clock;
+    keeping = run.keeping;
     answers = run.answers;
     own = λ buffer. own_other (setting_of first.parts) (Main first.parts.clock) calls more buffer (run.answers buffer) (run.own buffer) (apart buffer);
     stands = run.stands;
@@ -96,6 +99,7 @@ module _ {S : Type 0} (held name : S → Option (List ℕ)) (room : S → Option
         record {
           setting = did.setting ∙ run.setting;
           clock = did.clock ∙ run.clock;
+          keeping = did.keeping ∙ run.keeping;
           answers = after_calls run.answers made.more;
           own = λ buffer. own_this (setting_of first.parts) (Main first.parts.clock) calls made.more buffer (run.answers buffer) (run.own buffer);
           stands = ticked.stand;
@@ -326,14 +330,14 @@ module _ {S : Type 0} (held name : S → Option (List ℕ)) (room : S → Option
 
         -- a fault of a tick leaves each engine where it was, and this one with at most a part of its tick
         pub tick_failed : (may : AreEngines room total setting first) (before : ClockEngine S) → slice_get first m ≡ Some before → (c : T) → r < total
-            → turns % length first ≡ m → turns / length first ≡ r → (all : ℕ) → turns < all
+            → turns % length first ≡ m → turns / length first ≡ r → turns ≡ r * length first + m → (all : ℕ) → turns < all
             → HasFailed held stands old.parts new.parts old.outs new.outs b c → NoneFell faults old.outs new.outs
             → length new.outs ≡ length old.outs → AreKept name faults old.outs new.outs
             → AreParts old.parts → setting_of new.parts ≡ setting_of old.parts → new.parts.clock ≡ old.parts.clock
             → (end : End) → (end ≡ NoMemory) ⊎ IsWriteEnd faults m first (set now m new) end
             → RoundsStopped held name faults stands setting total all first (set now m new) a c end
         unfolding run_here
-        tick_failed may before at_first c low this_clock this_round all turn_low failed fell same_outs kept fit setting' clock end cause =
+        tick_failed may before at_first c low this_clock this_round this_turn all turn_low failed fell same_outs kept fit setting' clock end cause =
             let run_m = run_here before at_first in
             let stopped = failed.engine r run_m.answers run_m.stands in
             let setting_is : setting_of old.parts ≡ setting = run_m.setting ∙ may.over m before at_first in
@@ -343,16 +347,21 @@ module _ {S : Type 0} (held name : S → Option (List ℕ)) (room : S → Option
             let begun = stopped.begun nothing in
             let un : IsUnread (setting_of old.parts) (Main old.parts.clock) buffer = subst (λ s. IsUnread s (Main old.parts.clock) buffer) (sym setting_is) (subst (λ q. IsUnread setting (Main q) buffer) (sym clock_is) unread) in
             none_begun buffer failed.made begun.rest (ap (answers_in buffer) (sym begun.are) ∙ no_tick_takes W stopped.accepted old.parts.clock r buffer (record { none = un.none })) in
+            let step : (rest : ℕ → List Answer) → IsBegin failed.made (calls_of_tick (with_rest setting (after_calls run_m.answers failed.made) rest) stopped.accepted (turns % length first) (turns / length first)) =
+            λ rest. subst (λ s. IsBegin failed.made (calls_of_tick (with_rest s (after_calls run_m.answers failed.made) rest) stopped.accepted (turns % length first) (turns / length first))) setting_is
+            (subst (λ q. IsBegin failed.made (calls_of_tick (with_rest (setting_of old.parts) (after_calls run_m.answers failed.made) rest) stopped.accepted q (turns / length first))) (clock_is ∙ sym this_clock)
+            (subst (λ n. IsBegin failed.made (calls_of_tick (with_rest (setting_of old.parts) (after_calls run_m.answers failed.made) rest) stopped.accepted old.parts.clock n)) (sym this_round) (stopped.begun rest))) in
             record {
               calls = going.calls ++ failed.made;
               taps = adds_more stands a b c going.calls failed.made going.taps failed.taps;
               begun = turned_part setting (length first) turns going.calls failed.made stopped.accepted going.turned (Main m) (after_calls run_m.answers failed.made)
-                  (own_here may before at_first failed.made) (none_here may before at_first failed.made quiet) all turn_low
-                  (λ rest. subst (λ s. IsBegin failed.made (calls_of_tick (with_rest s (after_calls run_m.answers failed.made) rest) stopped.accepted (turns % length first) (turns / length first))) setting_is
-                  (subst (λ q. IsBegin failed.made (calls_of_tick (with_rest (setting_of old.parts) (after_calls run_m.answers failed.made) rest) stopped.accepted q (turns / length first))) (clock_is ∙ sym this_clock)
-                  (subst (λ n. IsBegin failed.made (calls_of_tick (with_rest (setting_of old.parts) (after_calls run_m.answers failed.made) rest) stopped.accepted old.parts.clock n)) (sym this_round) (stopped.begun rest))));
+                  (own_here may before at_first failed.made) (none_here may before at_first failed.made quiet) all turn_low step;
               round = r;
               clock = m;
+              below = slice_get_within first m before at_first;
+              turn = subst (λ n. AreTurnsUpto setting (length first) n (going.calls ++ failed.made)) this_turn
+                  (turned_upto setting (length first) turns going.calls failed.made stopped.accepted going.turned (Main m) (after_calls run_m.answers failed.made)
+                  (own_here may before at_first failed.made) (none_here may before at_first failed.made quiet) step);
               part = record {
                 size = many;
                 each = λ k engine after at is.

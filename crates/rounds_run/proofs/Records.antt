@@ -8,13 +8,14 @@ use Rattle.frame_core.specs.declared.cell.Cell.{Cell}
 use Rattle.frame_core.specs.Calls.{Call, Took, Given, takes_of}
 use Rattle.op_leaf.specs.Readers.{Answer}
 use Rattle.stream_meaning.specs.Instants.{Setting, answered}
-use Rattle.stream_meaning.specs.Calls.{IsBegin, answers_in, calls_of_tick}
-use Rattle.stream_meaning.proofs.Answering.{begin_all}
+use Rattle.stream_meaning.specs.Calls.{IsBegin, answers_in, calls_of_tick, joined_upto}
+use Rattle.stream_meaning.proofs.Answering.{begin_all, joined_same}
 use Rattle.stream_meaning.proofs.Unread.{no_tick_takes, none_in_joined}
 use Rattle.engine_instants.proofs.Reading.{op_of_reads}
-use Rattle.run_records.specs.Records.{AreRoundsBegun, Follows, IsRounds, Run, Window, answers_of, capacity_of, on, rounds_of, setting_in, setting_then, windows_of}
-use Rattle.run_records.proofs.Turning.{turns_are_rounds}
-use Rattle.rounds_run.specs.Rounds.{AreTurns, AreTurnsBegun, calls_of_turns, nothing, world}
+use Rattle.run_records.specs.Records.{AreRoundsBegun, Follows, IsRounds, Run, Window, answers_of, capacity_of, on, rounds_of, rounds_to, setting_in, ticks_of, setting_then, windows_of}
+use Rattle.run_records.proofs.Turning.{joined_split, turns_are_rounds}
+use Rattle.std.proofs.lemmas.Nat.{mod-mul-add, div-mul-add}
+use Rattle.rounds_run.specs.Rounds.{AreTurns, AreTurnsBegun, AreTurnsUpto, calls_of_turns, nothing, world}
 use Rattle.rounds_run.proofs.Lawful.{window_of}
 use Rattle.rounds_run.proofs.Worlds.{none_begun}
 
@@ -68,6 +69,15 @@ windows_mapped {A} {B} f g calls b (x ∷ xs) each =
     let others = windows_mapped f g calls (suc b) xs (λ k y at. let next : b + suc k ≡ suc b + k = omega arith in each (suc k) y at ∙ ap (λ (m : ℕ). g (window_of m calls ∷ [])) next) in
     λ i. first i ∷ others i
 
+-- the calls of the turns up to one of a clock, by rounds
+turns_to : (setting : Setting) (accepted : ℕ → ℕ → Bool) (M r m : ℕ) → m ≤ M
+    → calls_of_turns setting accepted M (r * M + m) ≡ rounds_to setting (λ k t. accepted (t * M + k)) M r m
+turns_to setting accepted M r m low =
+    let calls : ℕ → List Call = λ j. calls_of_tick setting (accepted j) (j % M) (j / M) in
+    joined_split calls (r * M) m
+    ∙ (λ i. turns_are_rounds setting accepted M r i ++ joined_same (λ j. calls (r * M + j)) (λ k. calls_of_tick setting (accepted (r * M + k)) k r) m
+    (λ j below. let inside : j < M = omega (arith, low, below) in (λ n. calls_of_tick setting (accepted (r * M + j)) (mod-mul-add r M j inside n) (div-mul-add r M j inside n))) i)
+
 -- the record of calls that begin those of turns
 module _ (setting : Setting) (well : IsWellFormed setting.plan) (clocks turns : ℕ) (calls : List Call) (begun : AreTurnsBegun setting clocks turns calls) where
   -- a buffer that the plan has not got has no answer
@@ -95,21 +105,55 @@ module _ (setting : Setting) (well : IsWellFormed setting.plan) (clocks turns : 
   in_is = ap (answered setting) (fun_ext (λ buffer. answers_are buffer ∙ sym (append-nil (answers_in buffer calls))))
 
   -- each buffer follows the calls on it
-  module _ (N : ℕ) (all : turns ≡ N * clocks) (in_order : (buffer : ℕ) → buffer < length setting.plan.buffers → (rest : List (List Cell)) × Follows (capacity_of setting buffer) [] (on buffer calls) rest) where
-    pub rounds_begun : AreRoundsBegun setting clocks N run
+  -- they begin those of the rounds
+  pub begun_rounds : (N : ℕ) → turns ≡ N * clocks → (rest : ℕ → List Answer) → (accepted : ℕ → ℕ → ℕ → Bool) × IsBegin calls (rounds_of (setting_then setting run rest) accepted clocks N)
+  begun_rounds N all rest = (
+    (λ m t. begun.accepted (t * clocks + m)),
+    subst (IsBegin calls) (turns_are_rounds (setting_then setting run rest) begun.accepted clocks N)
+        (subst (λ (V : Setting). IsBegin calls (calls_of_turns V begun.accepted clocks (N * clocks))) (sym (then_is rest))
+        (subst (λ (n : ℕ). IsBegin calls (calls_of_turns (world setting calls rest) begun.accepted clocks n)) all (begun.begun rest))),
+  )
+
+  -- they are those of the turns before one of a clock, and a beginning of those of this one
+  pub turn_is : (r m : ℕ) → m < clocks → AreTurnsUpto setting clocks (r * clocks + m) calls → (rest : ℕ → List Answer)
+      → (accepted : ℕ → ℕ → ℕ → Bool) × IsBegin (rounds_to (setting_then setting run rest) accepted clocks r m) calls × IsBegin calls (rounds_to (setting_then setting run rest) accepted clocks r (suc m))
+  turn_is r m low turn rest =
+      let V = setting_then setting run rest in let same = then_is rest in let next : suc (r * clocks + m) ≡ r * clocks + suc m = omega arith in (
+        (λ k t. turn.accepted (t * clocks + k)),
+        subst (λ (cs : List Call). IsBegin cs calls) (ap (λ (W : Setting). calls_of_turns W turn.accepted clocks (r * clocks + m)) (sym same) ∙ turns_to V turn.accepted clocks r m (omega (arith, low))) (turn.whole rest),
+        subst (IsBegin calls) (ap (λ (W : Setting). calls_of_turns W turn.accepted clocks (suc (r * clocks + m))) (sym same) ∙ ap (calls_of_turns V turn.accepted clocks) next ∙ turns_to V turn.accepted clocks r (suc m) low) (turn.begun rest),
+      )
+
+  -- or all of N rounds
+  pub all_turns : (N : ℕ) → turns ≡ N * clocks → AreTurns setting clocks turns calls → (rest : ℕ → List Answer)
+      → (accepted : ℕ → ℕ → ℕ → Bool) × IsBegin (rounds_to (setting_then setting run rest) accepted clocks N 0) calls × IsBegin calls (rounds_to (setting_then setting run rest) accepted clocks N 1)
+  all_turns N all turned rest =
+      let V = setting_then setting run rest in let accepted : ℕ → ℕ → ℕ → Bool = λ k t. turned.accepted (t * clocks + k) in
+      let rounds = rounds_of V accepted clocks N in let more = joined_upto (λ m. ticks_of V accepted m N) 1 in
+      let is : calls ≡ rounds =
+      turned.are rest ∙ ap (λ (n : ℕ). calls_of_turns (world setting calls rest) turned.accepted clocks n) all
+      ∙ ap (λ (W : Setting). calls_of_turns W turned.accepted clocks (N * clocks)) (sym (then_is rest)) ∙ turns_are_rounds V turned.accepted clocks N in (
+        accepted,
+        record { rest = []; are = is ∙ sym (append-nil rounds) ∙ sym (append-nil (rounds ++ [])) },
+        record { rest = more; are = ap (λ (cs : List Call). cs ++ more) (sym is) },
+      )
+
+  module _ (N : ℕ) (all : turns ≡ N * clocks) (round clock : ℕ)
+      (turn : (rest : ℕ → List Answer) → (accepted : ℕ → ℕ → ℕ → Bool)
+      × IsBegin (rounds_to (setting_then setting run rest) accepted clocks round clock) calls × IsBegin calls (rounds_to (setting_then setting run rest) accepted clocks round (suc clock))) (in_order : (buffer : ℕ) → buffer < length setting.plan.buffers → (rest : List (List Cell)) × Follows (capacity_of setting buffer) [] (on buffer calls) rest) where
+    abbrev pub rounds_begun : AreRoundsBegun setting clocks N run
     rounds_begun = record {
       buffers = windows_many calls 0 (length setting.plan.buffers);
       calls = calls;
-      begun = λ rest. (
-        (λ m t. begun.accepted (t * clocks + m)),
-        subst (IsBegin calls) (turns_are_rounds (setting_then setting run rest) begun.accepted clocks N)
-            (subst (λ (V : Setting). IsBegin calls (calls_of_turns V begun.accepted clocks (N * clocks))) (sym (then_is rest))
-            (subst (λ (n : ℕ). IsBegin calls (calls_of_turns (world setting calls rest) begun.accepted clocks n)) all (begun.begun rest))),
-      );
+      round = round;
+      clock = clock;
+      turn = turn;
+      begun = begun_rounds N all;
       are = window_at (length setting.plan.buffers) calls;
       in_order = in_order;
     }
 
+  module _ (N : ℕ) (all : turns ≡ N * clocks) (in_order : (buffer : ℕ) → buffer < length setting.plan.buffers → (rest : List (List Cell)) × Follows (capacity_of setting buffer) [] (on buffer calls) rest) where
     pub rounds_made : AreTurns setting clocks turns calls → IsRounds setting clocks N run
     rounds_made turned =
         let is : calls ≡ rounds_of (setting_in setting run) (λ m t. turned.accepted (t * clocks + m)) clocks N =

@@ -9,7 +9,7 @@ use Rattle.stream_meaning.specs.Instants.{Setting}
 use Rattle.stream_meaning.specs.Calls.{IsBegin, IsUnread, answers_in, calls_of_tick, joined_upto}
 use Rattle.stream_meaning.proofs.Answering.{answers_in-append, begin_joined, joined_same}
 use Rattle.node_states.specs.Ticks.{with_rest}
-use Rattle.rounds_run.specs.Rounds.{AreTurns, AreTurnsBegun, calls_of_turns, world}
+use Rattle.rounds_run.specs.Rounds.{AreTurns, AreTurnsBegun, AreTurnsUpto, calls_of_turns, world}
 
 -- an engine has its own answers, or does not read the buffer
 abbrev pub Owns : Setting → NodeClock → List Call → (ℕ → List Answer) → Type 0
@@ -93,14 +93,24 @@ module _ (setting : Setting) (clocks turns : ℕ) (calls more : List Call) (acce
           ∙ ap (λ (cs : List Call). calls_of_turns W (with_turn before.accepted turns accepted) clocks turns ++ cs) (is (meets setting clock (calls ++ more) answers own rest) ∙ turn_is rest);
     }
 
+    begun_to : (all : ℕ) → turns < all → ((rest : ℕ → List Answer) → IsBegin more (calls_of_tick (with_rest setting answers rest) accepted (turns % clocks) (turns / clocks)))
+        → (rest : ℕ → List Answer) → IsBegin (calls ++ more) (calls_of_turns (world setting (calls ++ more) rest) (with_turn before.accepted turns accepted) clocks all)
+    begun_to all low is rest =
+        let W = world setting (calls ++ more) rest in
+        let turn : ℕ → List Call = λ j. calls_of_tick W (with_turn before.accepted turns accepted j) (j % clocks) (j / clocks) in
+        subst (λ (cs : List Call). IsBegin (cs ++ more) (joined_upto turn all)) (sym (turns_before rest))
+        (begin_joined turn turns all more low (subst (IsBegin more) (turn_is rest) (is (meets setting clock (calls ++ more) answers own rest))))
+
     -- the beginning of one turn more
     pub turned_part : (all : ℕ) → turns < all → ((rest : ℕ → List Answer) → IsBegin more (calls_of_tick (with_rest setting answers rest) accepted (turns % clocks) (turns / clocks)))
         → AreTurnsBegun setting clocks all (calls ++ more)
-    turned_part all low is = record {
+    turned_part all low is = record { accepted = with_turn before.accepted turns accepted; begun = begun_to all low is }
+
+    -- so many turns, and the beginning of one more
+    pub turned_upto : ((rest : ℕ → List Answer) → IsBegin more (calls_of_tick (with_rest setting answers rest) accepted (turns % clocks) (turns / clocks)))
+        → AreTurnsUpto setting clocks turns (calls ++ more)
+    turned_upto is = record {
       accepted = with_turn before.accepted turns accepted;
-      begun = λ rest.
-          let W = world setting (calls ++ more) rest in
-          let turn : ℕ → List Call = λ j. calls_of_tick W (with_turn before.accepted turns accepted j) (j % clocks) (j / clocks) in
-          subst (λ (cs : List Call). IsBegin (cs ++ more) (joined_upto turn all)) (sym (turns_before rest))
-          (begin_joined turn turns all more low (subst (IsBegin more) (turn_is rest) (is (meets setting clock (calls ++ more) answers own rest))));
+      whole = λ rest. record { rest = more; are = ap (λ (cs : List Call). cs ++ more) (turns_before rest) };
+      begun = begun_to (suc turns) (omega arith) is;
     }

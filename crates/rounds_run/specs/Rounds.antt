@@ -1,5 +1,6 @@
 -- Runs of the engines of all clocks, in rounds: each clock makes a tick, then each makes the next.
-use Rattle.std.specs.Prelude.{◌≡◌, ◌+◌, ◌/◌, ◌%◌, ℕ, suc, min, Bool, Option, Some, List, [], length, nat_lt, slice_get, if◌then◌else◌, ◌⊎◌}
+use Rattle.std.specs.Prelude.{◌≡◌, ◌+◌, ◌/◌, ◌%◌, ℕ, suc, Bool, Option, Some, List, [], length, slice_get, ◌⊎◌, true, ◌<◌, ◌*◌}
+pub use Rattle.run_records.specs.Records.{made_by, ticks_by}
 use Rattle.liq_base.specs.Pieces.{IsPrefix, grown}
 use Rattle.clock_infer.specs.declared.clock_map.NodeClock.TheVariants.{Main}
 use Rattle.frame_core.specs.Calls.{Adds, Call}
@@ -34,9 +35,11 @@ pub record AreTurnsBegun (setting : Setting) (clocks turns : ℕ) (calls : List 
   pub accepted : ℕ → ℕ → Bool
   pub begun : (rest : ℕ → List Answer) → IsBegin calls (calls_of_turns (world setting calls rest) accepted clocks turns)
 
--- how many ticks clock k has made, where so many rounds are whole, and in the next one the clocks below `clock` have made theirs
-abbrev pub made_by : (rounds clock k : ℕ) → ℕ
-made_by rounds clock k = if nat_lt k clock then suc rounds else rounds
+-- these are the calls of so many turns and a beginning of those of the next one, given the answers that they got, whatever answers follow
+pub record AreTurnsUpto (setting : Setting) (clocks turns : ℕ) (calls : List Call) : Type 0 where
+  pub accepted : ℕ → ℕ → Bool
+  pub whole : (rest : ℕ → List Answer) → IsBegin (calls_of_turns (world setting calls rest) accepted clocks turns) calls
+  pub begun : (rest : ℕ → List Answer) → IsBegin calls (calls_of_turns (world setting calls rest) accepted clocks (suc turns))
 
 -- no answers
 abbrev pub nothing : ℕ → List Answer
@@ -55,10 +58,11 @@ pub record AreEngines {S : Type 0} (room : S → Option ℕ) (ticks : ℕ) (sett
 
 -- an engine has gone from `old` to `new` by so many ticks, none of them with a fault, in a run that made these calls: it has taken the
 -- answers of the buffers that it reads; each output holds its bytes of these ticks more, no count of faults fell, and its sinks are
--- those that they were, by their names
+-- those that they were, by their names; and it keeps its marks if it did
 pub record HasRunTurns {S : Type 0} (held name : S → Option (List ℕ)) (faults : S → ℕ) (calls : List Call) (ticks : ℕ) (old new : ClockEngine S) : Type 0 where
   pub setting : setting_of new.parts ≡ setting_of old.parts
   pub clock : new.parts.clock ≡ old.parts.clock
+  pub keeping : new.parts.cues.keeping ≡ old.parts.cues.keeping
   pub answers : ℕ → List Answer
   pub own : (buffer : ℕ) → (answers buffer ≡ answers_in buffer calls) ⊎ IsUnread (setting_of old.parts) (Main old.parts.clock) buffer
   pub stands : EngineStands new.parts ticks answers
@@ -88,10 +92,6 @@ pub record HaveRun {S : Type 0} (held name : S → Option (List ℕ)) (faults : 
 pub record HaveRunPart {S : Type 0} (held name : S → Option (List ℕ)) (faults : S → ℕ) (world : (ℕ → List Answer) → Setting) (least most : ℕ → ℕ) (old new : List (ClockEngine S)) : Type 0 where
   pub size : length new ≡ length old
   pub each : (k : ℕ) (before after : ClockEngine S) → slice_get old k ≡ Some before → slice_get new k ≡ Some after → HasRunPart held name faults world (least k) (most k) before after
-
--- how many ticks clock k has made, where the turn is that of `clock` in round `round`, and no clock makes more than `total`
-abbrev pub ticks_by : (total round clock k : ℕ) → ℕ
-ticks_by total round clock k = min total (made_by round clock k)
 
 -- the end names an output of this clock, whose sink's count of faults rose
 pub record IsWriteEnd {S : Type 0} (faults : S → ℕ) (clock : ℕ) (old new : List (ClockEngine S)) (end : End) : Type 0 where
@@ -132,8 +132,14 @@ pub record RoundsStopped {S T : Type 0} (held name : S → Option (List ℕ)) (f
   pub begun : AreTurnsBegun setting (length first) turns calls
   pub round : ℕ
   pub clock : ℕ
+  pub below : clock < length first
+  pub turn : AreTurnsUpto setting (length first) (round * length first + clock) calls
   pub part : HaveRunPart held name faults (world setting calls) (ticks_by ticks round clock) (ticks_by ticks round (clock + 1)) first now
   pub cause : (end ≡ NoMemory) ⊎ IsWriteEnd faults clock first now end
+
+-- no engine keeps its marks
+pub record KeepNone {S : Type 0} (engines : List (ClockEngine S)) : Type 0 where
+  pub each : (k : ℕ) (engine : ClockEngine S) → slice_get engines k ≡ Some engine → engine.parts.cues.keeping ≡ true → ⊥
 
 -- there are as many buffers as each engine's plan has
 pub record HaveBuffers {S : Type 0} (buffers : ℕ) (engines : List (ClockEngine S)) : Type 0 where

@@ -27,10 +27,11 @@ pub record AreOver {S : Type 0} (room : S → Option ℕ) (plan : Plan) (ticks :
 
 -- an engine has gone from `old` to `new` by so many ticks, none of them with a fault, in this setting: it has taken the answers of the
 -- buffers that it reads; each output holds its bytes of these ticks more, no count of faults fell, and its sinks are those that they
--- were, by their names
+-- were, by their names; and it keeps its marks if it did
 pub record HasRunTicks {S : Type 0} (held name : S → Option (List ℕ)) (faults : S → ℕ) (setting : Setting) (ticks : ℕ) (old new : ClockEngine S) : Type 0 where
   pub over : setting_of new.parts ≡ setting_of old.parts
   pub clock : new.parts.clock ≡ old.parts.clock
+  pub keeping : new.parts.cues.keeping ≡ old.parts.cues.keeping
   pub answers : ℕ → List Answer
   pub rest : ℕ → List Answer
   pub given : with_rest (setting_of old.parts) answers rest ≡ setting
@@ -72,13 +73,11 @@ pub record HasRunAll {S : Type 0} (held name : S → Option (List ℕ)) (faults 
   pub counts_are : counts ≡ counts_of_run run
   pub logs_are : logs ≡ logs_of_run run
 
--- The rounds came so far, and this is their record: in the turn of clock `clock` in round `round`, where the clocks below it have made
+-- The rounds came so far, and this is their record: in the turn that it names, of a clock in a round, where the clocks below it have made
 -- their tick of this round, those above it have not, and it has made at most a part of it. A write that ended the run is one of this
 -- clock.
 pub record HasRunSome {S : Type 0} (held name : S → Option (List ℕ)) (faults : S → ℕ) (setting : Setting) (ticks : ℕ) (first now : List (ClockEngine S)) (end : End) : Type 0 where
   pub run : Run
   pub begun : AreRoundsBegun setting (length first) ticks run
-  pub round : ℕ
-  pub clock : ℕ
-  pub part : HaveRunPart held name faults (setting_then setting run) (ticks_by ticks round clock) (ticks_by ticks round (clock + 1)) first now
-  pub write : (failed sink : ℕ) → end ≡ Write failed sink → IsWriteEnd faults clock first now end
+  pub part : HaveRunPart held name faults (setting_then setting run) (ticks_by ticks begun.round begun.clock) (ticks_by ticks begun.round (begun.clock + 1)) first now
+  pub write : (failed sink : ℕ) → end ≡ Write failed sink → IsWriteEnd faults begun.clock first now end

@@ -3,7 +3,7 @@ ghost use Rattle.std.specs.Prelude.{◌≡◌, ◌<◌, ◌≤◌, ◌*◌, ℕ,
 ghost use Rattle.stream_meaning.specs.Instants.{Setting};
 ghost use Rattle.clock_engine.specs.declared.fault.TickFault.TheVariants.{Memory as OutOfMemory, Write as TickWrite};
 ghost use Rattle.buffer_ends.specs.declared.run_end.End.TheVariants.{Write, Memory as NoMemory};
-ghost use Rattle.rounds_run.specs.Rounds.{AreEngines, HaveBuffers, RoundsMade, RoundsStopped};
+ghost use Rattle.rounds_run.specs.Rounds.{AreEngines, HaveBuffers, KeepNone, RoundsMade, RoundsStopped};
 
 use buffer_ends::End;
 use clock_engine::{ClockEngine, TickFault};
@@ -37,7 +37,7 @@ pub fn make_rounds<O: Sink, T: Taps>(
         → RoundsMade O.held O.name O.faults T.stands setting ticks (ticks * length engines.old) engines.old engines.new taps.old taps.new) }
     ensures stopped { IfErr result (λ end. (setting : Setting) → AreEngines O.room ticks setting engines.old
         → RoundsStopped O.held O.name O.faults T.stands setting ticks (ticks * length engines.old) engines.old engines.new taps.old taps.new end) }
-    ensures memory { IfErr result (λ end. end ≡ NoMemory → 0 < T.buffers taps.old) }
+    ensures memory { KeepNone engines.old → IfErr result (λ end. end ≡ NoMemory → 0 < T.buffers taps.old) }
     ensures buffers { T.buffers taps.new ≡ T.buffers taps.old }
     ensures same { T.same taps.old taps.new }
 {

@@ -3,6 +3,7 @@ ghost use Rattle.std.specs.Prelude.{◌≡◌, ◌<◌, ◌≤◌, map, length, 
 ghost use Rattle.stream_meaning.specs.Instants.{Setting};
 ghost use Rattle.buffer_ends.specs.Local.{all_answers, closed, closed_windows, counts_of};
 ghost use Rattle.buffer_ends.specs.declared.run_end.End.TheVariants.{Done, Memory as NoMemory};
+ghost use Rattle.rounds_run.specs.Rounds.{KeepNone};
 ghost use Rattle.rounds_run.specs.Runs.{AreOver, HasRunAll, HasRunSome};
 
 use crate::rounds::make_rounds;
@@ -27,7 +28,7 @@ pub fn run_rounds<O: Sink>(
         → HasRunAll O.held O.name O.faults setting ticks engines.old engines.new result.counts.items result.logs.items }
     ensures part { (setting : Setting) → AreOver O.room plan.now ticks setting engines.old
         → HasRunSome O.held O.name O.faults setting ticks engines.old engines.new result.end }
-    ensures memory { result.end ≡ NoMemory → 0 < length plan.now.buffers }
+    ensures memory { KeepNone engines.old → result.end ≡ NoMemory → 0 < length plan.now.buffers }
 {
     let Ok(mut taps) = LocalTaps::new(alloc, plan) else {
         return ended(alloc, End::Memory);

@@ -1,6 +1,6 @@
 -- Records by hand: of a buffer whose reader's clock does not run, and one whose ticks can be ordered; and calls that part.
 use Rattle.std.proofs.Common.{◌≡◌, ◌<◌, ◌≤◌, ℕ, zero, suc, Some, None, List, [], ◌∷◌, Bool, true, false, refl, ap, sym, subst, ◌++◌, length, length-append, arith, map, int_eq, true≢false}
-use Rattle.std.specs.Prelude.{pos}
+use Rattle.std.specs.Prelude.{Option, pos, ⊤}
 use Rattle.frame_core.specs.declared.cell.Cell.{Cell}
 use Rattle.frame_core.specs.Legal.{Legal, IsRun}
 use Rattle.frame_core.specs.Calls.{Took, takes_of, puts_to}
@@ -11,9 +11,9 @@ use Rattle.op_leaf.specs.Readers.{Answer}
 use Rattle.stream_meaning.specs.Arithmetic.{cells_of}
 use Rattle.stream_meaning.specs.Instants.{Setting, answered}
 use Rattle.stream_meaning.specs.Calls.{joined_upto, calls_of_tick}
-use Rattle.run_records.proofs.Plans.{new, more, file, node, out, setting}
+use Rattle.run_records.proofs.Plans.{new, more, under, file, node, out, setting}
 use Rattle.run_records.specs.Buffers.{feeder, reader}
-use Rattle.run_records.specs.Records.{Run, IsLawful, IsRounds, rounds_of, Window, Follows, windows_of, setting_in, capacity_of, on, start, calls_in, windows_in}
+use Rattle.run_records.specs.Records.{AreWindowsBegun, Run, IsLawful, IsRounds, rounds_of, Window, Follows, windows_of, setting_in, capacity_of, on, start, calls_in, windows_in}
 use Rattle.stream_laws.specs.Parting.{ArePart}
 use Rattle.run_records.specs.Ordered.{HasSameText, told, made, got_by, kept_by, IsOrdered}
 
@@ -30,7 +30,7 @@ zero_one : {A : Type 0} → zero ≡ suc zero → A
 zero_one e = absurd (omega (arith, e))
 
 abbrev one : List Cell
-one = cells_of (new 1 ∷ more 2 ∷ more 3 ∷ new 1 ∷ more 2 ∷ more 3 ∷ new 1 ∷ more 2 ∷ [])
+one = cells_of (map (under 1) (new 1 ∷ more 2 ∷ more 3 ∷ new 1 ∷ more 2 ∷ more 3 ∷ new 1 ∷ more 2 ∷ []))
 
 -- a source in clock 0, which an output writes, feeds a buffer of one chunk; its reader alone lies in clock 1, which has no sink
 abbrev unread : Setting
@@ -84,7 +84,7 @@ abbrev alone : Setting
 alone = setting (node (Single []) [] ∷ node (Buffer 0) [] ∷ []) (Feed 0 0 ∷ out 1 ∷ []) (record { pre = 0; capacity = 1 } ∷ []) (file (1 ∷ 2 ∷ 3 ∷ []) ∷ []) ((0 ∷ []) ∷ [] ∷ []) (Main 0 ∷ Main 0 ∷ [])
 
 abbrev two : List Cell
-two = cells_of (more 3 ∷ new 1 ∷ more 2 ∷ more 3 ∷ new 1 ∷ more 2 ∷ more 3 ∷ new 1 ∷ [])
+two = cells_of (map (under 1) (more 3 ∷ new 1 ∷ more 2 ∷ more 3 ∷ new 1 ∷ more 2 ∷ more 3 ∷ new 1 ∷ []))
 
 abbrev windows : Run
 windows = record { buffers = ((Some one ∷ [], None ∷ []) ∷ (Some two ∷ [], Some one ∷ []) ∷ []) ∷ [] }
@@ -216,3 +216,36 @@ begins_one _ = false
 
 not_the_same : turning one ≡ turning other → ⊥
 not_the_same e = true≢false (ap (λ (run : Run). begins_one run.buffers) e)
+
+-- a chunk that no file has
+abbrev nine : List Cell
+nine = cells_of (new 9 ∷ more 9 ∷ more 9 ∷ more 9 ∷ more 9 ∷ more 9 ∷ more 9 ∷ more 9 ∷ [])
+
+-- its reader got it, and nobody gave it
+abbrev invented : Run
+invented = record { buffers = (([], Some nine ∷ []) ∷ []) ∷ [] }
+
+abbrev GetsNothing : (q : List (List Cell)) → (puts takes : List (Option (List Cell))) → Type 0
+GetsNothing [] [] (Some x ∷ takes) = ⊥
+GetsNothing [] [] (None ∷ takes) = ⊤
+GetsNothing [] [] [] = ⊤
+GetsNothing [] (put ∷ puts) takes = ⊤
+GetsNothing (x ∷ q) puts takes = ⊤
+
+gets_nothing : {C : ℕ} {rest q : List (List Cell)} {puts takes : List (Option (List Cell))} → Legal C rest q puts takes → GetsNothing q puts takes
+gets_nothing {q = []} Legal.ended = tt
+gets_nothing {q = x ∷ q} Legal.ended = tt
+gets_nothing {q = []} (Legal.accepted low more) = tt
+gets_nothing {q = x ∷ q} (Legal.accepted low more) = tt
+gets_nothing {q = []} (Legal.full all more) = tt
+gets_nothing {q = x ∷ q} (Legal.full all more) = tt
+gets_nothing (Legal.got more) = tt
+gets_nothing {puts = []} (Legal.empty more) = tt
+gets_nothing {puts = put ∷ puts} (Legal.empty more) = tt
+
+-- so no run that was broken off has this record, with however many windows closed: between two clocks, and within one
+invented_is_refused : (W N : ℕ) → AreWindowsBegun joined 2 W N invented → ⊥
+invented_is_refused W N begun = gets_nothing (begun.legal 0 (omega arith)).1.1
+
+invented_alone_is_refused : (W N : ℕ) → AreWindowsBegun alone 1 W N invented → ⊥
+invented_alone_is_refused W N begun = gets_nothing (begun.legal 0 (omega arith)).1.1

@@ -38,7 +38,7 @@ flat_snoc : {A B : Type 0} (f : A → List B) (xs : List A) (y : A) → flat_map
 flat_snoc f [] y = append-nil (f y)
 flat_snoc f (x ∷ xs) y = ap (λ l. f x ++ l) (flat_snoc f xs y) ∙ sym (append_assoc (f x) (flat_map f xs) (f y))
 
-start_zero : (W N : ℕ) → start W N 0 ≡ 0
+pub start_zero : (W N : ℕ) → start W N 0 ≡ 0
 start_zero W N = let z : 0 * W ≡ 0 = grind arith in ap (min N) z ∙ min-eq_right (omega arith)
 
 pub start_most : (W N j : ℕ) → start W N j ≤ N
@@ -47,7 +47,7 @@ start_most W N j = elim (cases_lt N (j * W)) [
   | inr high ↦ (let e = min-eq_right {n = j * W} {m = N} high in omega (arith, e, high))
 ]
 
-start_up : (W N j : ℕ) → start W N j ≤ start W N (suc j)
+pub start_up : (W N j : ℕ) → start W N j ≤ start W N (suc j)
 start_up W N j =
     let m = suc-mul j W in
     elim (cases_lt N (j * W)) [
@@ -59,7 +59,7 @@ start_up W N j =
     ]
 
 module _ (setting : Setting) (clocks : ℕ) (accepted : ℕ → ℕ → ℕ → Bool) (b W N : ℕ) where
-  upto_next : (f : ℕ → List Call) (j : ℕ) → joined_upto f (start W N (suc j)) ≡ joined_upto f (start W N j) ++ joined_between f (start W N j) (start W N (suc j))
+  pub upto_next : (f : ℕ → List Call) (j : ℕ) → joined_upto f (start W N (suc j)) ≡ joined_upto f (start W N j) ++ joined_between f (start W N j) (start W N (suc j))
   upto_next f j =
       let up = start_up W N j in
       let e : start W N (suc j) ≡ start W N j + (start W N (suc j) - start W N j) = omega (arith, up) in

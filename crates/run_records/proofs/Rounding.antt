@@ -81,7 +81,7 @@ module _ (capacity : ℕ → ℕ) (buffers : ℕ) (xs ys : List Call)
       let same : cuts.0 ≡ cut.0 = follows_one (capacity b) (on b front) [] cuts.0 cut.0 cuts.1 cut.1 in
       (cut.0, f.0, g.0, cut.2, subst (λ (l : List (List Cell)). Follows (capacity b) l (on b others) g.0) same cuts.2)
 
-  not_apart : (front behind others : List Call) (one other : Call) → xs ≡ front ++ one ∷ behind → ys ≡ front ++ other ∷ others → Differ buffers one other → ⊥
+  pub not_apart : (front behind others : List Call) (one other : Call) → xs ≡ front ++ one ∷ behind → ys ≡ front ++ other ∷ others → Differ buffers one other → ⊥
   not_apart front behind others (Took b answer) (Took c got) e o differ =
       let same : Took c got ≡ Took b got = ap (λ (n : ℕ). Took n got) (sym differ.1) in
       let m = meet b differ.0 front (Took b answer ∷ behind) (Took b got ∷ others) e (o ∙ ap (λ (x : Call). front ++ x ∷ others) same) in

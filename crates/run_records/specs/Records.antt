@@ -1,5 +1,5 @@
 -- The record of a run: what its buffers answered. It is lawful, or that of rounds on one thread.
-use Rattle.std.specs.Prelude.{◌≡◌, ◌<◌, ◌*◌, ℕ, zero, suc, min, Bool, true, false, Option, Some, None, List, [], ◌∷◌, ◌++◌, length, slice_get, slice_index_or, nat_eq, nat_lt, if◌then◌else◌}
+use Rattle.std.specs.Prelude.{◌≡◌, ◌<◌, ◌≤◌, ◌*◌, ℕ, zero, suc, min, Bool, true, false, Option, Some, None, List, [], ◌∷◌, ◌++◌, length, slice_get, slice_index_or, nat_eq, nat_lt, if◌then◌else◌}
 use Rattle.std.specs.List.{flat_map}
 use Rattle.std.specs.Option.{option_map_or}
 use Rattle.frame_core.specs.declared.cell.Cell.{Cell}
@@ -105,27 +105,61 @@ pub record IsRounds (setting : Setting) (clocks N : ℕ) (run : Run) : Type 0 wh
   pub in_order : (buffer : ℕ) → buffer < length setting.plan.buffers
       → (rest : List (List Cell)) × Follows (capacity_of setting buffer) [] (on buffer (rounds_of (setting_in setting run) accepted clocks N)) rest
 
--- the record of rounds that were broken off, maybe in the middle of a tick: its calls begin those of N rounds, whatever answers
--- follow
+-- the calls of the rounds before this one, and in it those of the clocks below this one
+abbrev pub rounds_to : Setting → (accepted : ℕ → ℕ → ℕ → Bool) → (clocks round clock : ℕ) → List Call
+rounds_to setting accepted clocks round clock = rounds_of setting accepted clocks round ++ joined_upto (λ m. ticks_of setting accepted m round) clock
+
+-- how many ticks clock m has made, where so many rounds are whole, and in the next one the clocks below `clock` have made theirs
+abbrev pub made_by : (rounds clock m : ℕ) → ℕ
+made_by rounds clock m = if nat_lt m clock then suc rounds else rounds
+
+-- the same, where no clock makes more than `total`
+abbrev pub ticks_by : (total round clock m : ℕ) → ℕ
+ticks_by total round clock m = min total (made_by round clock m)
+
+-- the record of rounds that were broken off, maybe in the middle of a tick, in the turn of this clock in this round: its calls begin those
+-- of N rounds, whatever answers follow; and they are those of the turns before, and a beginning of those of this one
 pub record AreRoundsBegun (setting : Setting) (clocks N : ℕ) (run : Run) : Type 0 where
   pub buffers : length run.buffers ≡ length setting.plan.buffers
   pub calls : List Call
+  pub round : ℕ
+  pub clock : ℕ
   pub begun : (rest : ℕ → List Answer) → (accepted : ℕ → ℕ → ℕ → Bool) × IsBegin calls (rounds_of (setting_then setting run rest) accepted clocks N)
+  pub turn : (rest : ℕ → List Answer) → (accepted : ℕ → ℕ → ℕ → Bool)
+      × IsBegin (rounds_to (setting_then setting run rest) accepted clocks round clock) calls
+      × IsBegin calls (rounds_to (setting_then setting run rest) accepted clocks round (suc clock))
   pub are : (buffer : ℕ) → buffer < length setting.plan.buffers → windows_of run buffer ≡ (puts_to buffer calls, takes_of buffer calls) ∷ []
   pub in_order : (buffer : ℕ) → buffer < length setting.plan.buffers → (rest : List (List Cell)) × Follows (capacity_of setting buffer) [] (on buffer calls) rest
 
--- The record of a run in windows that was broken off: so many windows were closed, and each clock made these calls since, maybe up to
--- the middle of a tick. They begin those of its ticks of the next window, whatever answers follow. The windows that were closed are one
--- history of each buffer; its last window has what was called since.
+-- Of the ticks from s to e a clock made those before `made` and tried those before `tried`: no more, or the one in which it stopped.
+pub record IsWithin (s e made tried : ℕ) : Type 0 where
+  pub least : s ≤ made
+  pub most : tried ≤ e
+  pub no_fewer : made ≤ tried
+  pub one_more : tried ≤ suc made
+
+-- The record of a run in windows that was broken off: so many windows were closed, and each clock made so many ticks, tried at most one
+-- more, in which it stopped, and is not past the next window; those that did not stop made as many, and where one stopped, they ended this window. Since the last closing it made these calls: those of the ticks that it made,
+-- and a beginning of those of the one in which it stopped, whatever answers follow. All windows of a buffer, the open one too, are one
+-- history; and the calls on a buffer with both ends in one clock stand in the order in which this clock makes them.
 pub record AreWindowsBegun (setting : Setting) (clocks W N : ℕ) (run : Run) : Type 0 where
   pub buffers : length run.buffers ≡ length setting.plan.buffers
   pub accepted : (m t buffer : ℕ) → Bool
   pub closed : ℕ
+  pub made : ℕ → ℕ
+  pub tried : ℕ → ℕ
   pub since : ℕ → List Call
+  pub within : (m : ℕ) → IsWithin (start W N closed) (start W N (suc closed)) (made m) (tried m)
+  pub level : (m n : ℕ) → m < clocks → n < clocks → tried m ≡ made m → tried n ≡ made n → made m ≡ made n
+  pub ended : (m n : ℕ) → m < clocks → tried n ≡ suc (made n) → tried m ≡ made m → made m ≡ start W N (suc closed)
+  pub whole : (rest : ℕ → List Answer) (m : ℕ)
+      → IsBegin (joined_between (calls_in (setting_then setting run rest) clocks accepted m) (start W N closed) (made m)) (since m)
   pub begun : (rest : ℕ → List Answer) (m : ℕ)
-      → IsBegin (since m) (joined_between (calls_in (setting_then setting run rest) clocks accepted m) (start W N closed) (start W N (suc closed)))
+      → IsBegin (since m) (joined_between (calls_in (setting_then setting run rest) clocks accepted m) (start W N closed) (tried m))
   pub are : (rest : ℕ → List Answer) (buffer : ℕ) → buffer < length setting.plan.buffers
       → windows_of run buffer
       ≡ windows_in (setting_then setting run rest) clocks accepted buffer W N closed ++ (puts_to buffer (since (feeder setting buffer)), takes_of buffer (since (reader setting buffer))) ∷ []
-  pub legal : (rest : ℕ → List Answer) (buffer : ℕ) → buffer < length setting.plan.buffers
-      → (chunks : List (List Cell)) × IsRun (capacity_of setting buffer) [] (windows_in (setting_then setting run rest) clocks accepted buffer W N closed) chunks
+  pub legal : (buffer : ℕ) → buffer < length setting.plan.buffers → (chunks : List (List Cell)) × IsRun (capacity_of setting buffer) [] (windows_of run buffer) chunks
+  pub in_order : (rest : ℕ → List Answer) (buffer : ℕ) → buffer < length setting.plan.buffers → feeder setting buffer ≡ reader setting buffer
+      → (chunks : List (List Cell))
+      × Follows (capacity_of setting buffer) [] (on buffer (joined_upto (calls_in (setting_then setting run rest) clocks accepted (feeder setting buffer)) (start W N closed) ++ since (feeder setting buffer))) chunks

@@ -1,10 +1,11 @@
 -- Records of a plan in which no buffer joins two clocks, beside that of rounds on one thread.
-use Rattle.std.specs.Prelude.{◌≡◌, ◌<◌, ℕ, List, [], ◌∷◌, length, map}
+use Rattle.std.specs.Prelude.{◌≡◌, ◌⊎◌, ◌<◌, ◌≤◌, ℕ, List, [], ◌∷◌, length, map}
 use Rattle.std.specs.List.{flat_map}
 use Rattle.stream_meaning.specs.Instants.{Setting}
 use Rattle.stream_meaning.specs.Sinks.{ticks_bytes, gaps}
 use Rattle.run_records.specs.Buffers.{feeder, reader}
-use Rattle.run_records.specs.Records.{Window, Run, setting_in}
+use Rattle.op_leaf.specs.Readers.{Answer}
+use Rattle.run_records.specs.Records.{Window, Run, setting_in, setting_then}
 
 -- all windows of a buffer as one
 abbrev pub as_one : List Window → List Window
@@ -13,9 +14,9 @@ as_one windows = (flat_map (λ (window : Window). window.0) windows, flat_map (�
 abbrev pub merged : Run → Run
 merged run = record { buffers = map as_one run.buffers }
 
--- no buffer joins two clocks: both its ends lie in one
-abbrev pub HasNoJoin : Setting → Type 0
-HasNoJoin setting = (buffer : ℕ) → buffer < length setting.plan.buffers → feeder setting buffer ≡ reader setting buffer
+-- no buffer joins two of the clocks that run, 0 to `clocks - 1`: both its ends lie in one clock, or its reader in one that does not run
+abbrev pub HasNoJoin : Setting → (clocks : ℕ) → Type 0
+HasNoJoin setting clocks = (buffer : ℕ) → buffer < length setting.plan.buffers → (feeder setting buffer ≡ reader setting buffer) ⊎ (clocks ≤ reader setting buffer)
 
 -- A run is that of one thread: its answers, in one window a buffer, are that record, and the bytes and the gaps of each node are
 -- the same.
@@ -23,3 +24,9 @@ pub record IsAsOnOneThread (setting : Setting) (run one_thread : Run) : Type 0 w
   pub same_record : merged run ≡ one_thread
   pub same_bytes : (i t : ℕ) → ticks_bytes (setting_in setting run) i t ≡ ticks_bytes (setting_in setting one_thread) i t
   pub same_gaps : (i t : ℕ) → gaps (setting_in setting run) i t ≡ gaps (setting_in setting one_thread) i t
+
+-- A run that was broken off begins these rounds: with some answers behind those that it got, its takes get what theirs do. So what is
+-- said of it whatever answers follow is said of the rounds.
+pub record BeginsRounds (setting : Setting) (run rounds : Run) : Type 0 where
+  pub rest : ℕ → List Answer
+  pub same : setting_then setting run rest ≡ setting_in setting rounds

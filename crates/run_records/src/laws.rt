@@ -8,8 +8,8 @@ ghost use Rattle.stream_meaning.specs.Settings.{IsSetting};
 ghost use Rattle.run_records.specs.Buffers.{feeder};
 ghost use Rattle.run_records.specs.Ordered.{HasSameText, IsOrdered};
 ghost use Rattle.run_records.specs.Owning.{IsOwn};
-ghost use Rattle.run_records.specs.Records.{IsLawful, IsRounds, Run, setting_in};
-ghost use Rattle.run_records.specs.Rounds.{HasNoJoin, IsAsOnOneThread, merged};
+ghost use Rattle.run_records.specs.Records.{AreRoundsBegun, AreWindowsBegun, IsLawful, IsRounds, Run, setting_in};
+ghost use Rattle.run_records.specs.Rounds.{BeginsRounds, HasNoJoin, IsAsOnOneThread, merged};
 
 /// A tick of a clock takes only of buffers that this clock reads, and gives only to those that it feeds.
 pub fn ticks_call_their_own()
@@ -31,13 +31,13 @@ pub fn rounds_are_one()
 
 /// Where no buffer joins two clocks, a lawful record is that of rounds, whatever the length of its windows.
 pub fn lawful_records_are_rounds()
-    ensures { (setting : Setting) (clocks : Map) → IsSetting setting clocks → (W N : ℕ) (run : Run) → HasNoJoin setting
+    ensures { (setting : Setting) (clocks : Map) → IsSetting setting clocks → (W N : ℕ) (run : Run) → HasNoJoin setting clocks.running
         → IsLawful setting clocks.running W N run → IsRounds setting clocks.running N (merged run) }
 {}
 
 /// Where no buffer joins two clocks, threads answer, write and miss what rounds on one thread do.
 pub fn as_on_one_thread()
-    ensures { (setting : Setting) (clocks : Map) → IsSetting setting clocks → (W N : ℕ) (run other : Run) → HasNoJoin setting
+    ensures { (setting : Setting) (clocks : Map) → IsSetting setting clocks → (W N : ℕ) (run other : Run) → HasNoJoin setting clocks.running
         → IsLawful setting clocks.running W N run → IsRounds setting clocks.running N other → IsAsOnOneThread setting run other }
 {}
 
@@ -46,4 +46,17 @@ pub fn text_is_whole()
     ensures { (setting : Setting) (clocks : Map) → IsSetting setting clocks → (W N : ℕ) (run other : Run)
         → (one : IsLawful setting clocks.running W N run) → IsLawful setting clocks.running W N other → HasSameText setting run other
         → IsOrdered (setting_in setting run) clocks.running one.accepted N → run ≡ other }
+{}
+
+/// Where no buffer joins two clocks, a run by threads that was broken off begins what rounds on one thread do: with some answers behind
+/// its own, it has those of the rounds.
+pub fn broken_windows_begin_rounds()
+    ensures { (setting : Setting) (clocks : Map) → IsSetting setting clocks → (W N : ℕ) (run rounds : Run) → HasNoJoin setting clocks.running
+        → AreWindowsBegun setting clocks.running W N run → IsRounds setting clocks.running N rounds → BeginsRounds setting run rounds }
+{}
+
+/// And so do rounds that were broken off, whatever buffers join.
+pub fn broken_rounds_begin_rounds()
+    ensures { (setting : Setting) (clocks : Map) → IsSetting setting clocks → (running N : ℕ) (run rounds : Run)
+        → AreRoundsBegun setting running N run → IsRounds setting running N rounds → BeginsRounds setting run rounds }
 {}

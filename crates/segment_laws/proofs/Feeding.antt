@@ -7,12 +7,14 @@ use Rattle.plan_core.specs.Plans.{AreNodes}
 use Rattle.clock_infer.specs.declared.clock_map.NodeClock.{NodeClock}
 use Rattle.clock_infer.specs.declared.clock_map.NodeClock.TheVariants.{Sub}
 use Rattle.frame_core.specs.declared.cell.Cell.{Cell}
-use Rattle.frame_core.specs.Slots.{Slot}
+use Rattle.std.proofs.lemmas.List.Elements.{All-push}
+use Rattle.frame_core.specs.Slots.{Slot, title_of}
 use Rattle.op_cross.proofs.Running.{inner_more}
 use Rattle.stream_meaning.specs.Instants.{Setting, IsMeaning, crossfaded, gives, history, moment_after, offer}
 use Rattle.segment_laws.specs.Steady.{is_inner}
 use Rattle.segment_laws.specs.Stretches.{AreFed, IsStretch, going_on, lane}
 use Rattle.segment_laws.proofs.Stretching.{alike_all}
+use Rattle.segment_laws.proofs.Titling.{keeps_title}
 
 pub history_goes_on : (setting : Setting) (sub : ℕ → ℕ → List Slot) (clock : NodeClock) (n j : ℕ) → history setting sub clock (n + j) ≡ going_on setting sub clock j (history setting sub clock n)
 history_goes_on setting sub clock n zero = let e : n + 0 ≡ n = omega arith in ap (history setting sub clock) e
@@ -35,9 +37,12 @@ mapped_more (a ∷ cells) cell = ap (λ l. Some a ∷ l) (mapped_more cells cell
 module _ (setting : Setting) (sub : ℕ → ℕ → List Slot) (means : IsMeaning setting sub) (k n0 instants : ℕ) (nodes : AreNodes setting.plan.nodes)
     (stretch : IsStretch setting sub (Sub k) (history setting sub (Sub k) n0) instants)
     (gave : gives (moment_after setting sub (Sub k) (history setting sub (Sub k) n0)) (crossfaded setting.plan.nodes k) ≡ true) where
+  abbrev Title : ℕ
+  Title = title_of (offer (moment_after setting sub (Sub k) (history setting sub (Sub k) n0)) (crossfaded setting.plan.nodes k))
+
   -- the slot at an instant of the stretch
   next_slot : (n j : ℕ) → n ≡ n0 + j → 0 < j → j < instants
-      → (cell : Cell) × (sub k (suc n) ≡ sub k n ++ Some cell ∷ []) × (cell.first ≡ false)
+      → (cell : Cell) × (sub k (suc n) ≡ sub k n ++ Some cell ∷ []) × (cell.first ≡ false) × (cell.title ≡ Title)
   next_slot n j at some within =
       let like = alike_all setting sub (Sub k) (history setting sub (Sub k) n0) instants nodes stretch j some within in
       let found = inner_cell (lane setting sub (Sub k) (history setting sub (Sub k) n0) j (crossfaded setting.plan.nodes k)) (like.inner (crossfaded setting.plan.nodes k) gave) in
@@ -48,12 +53,14 @@ module _ (setting : Setting) (sub : ℕ → ℕ → List Slot) (means : IsMeanin
             ∙ ap (λ ms. sub k n ++ offer (moment_after setting sub (Sub k) ms) (crossfaded setting.plan.nodes k) ∷ []) past
             ∙ ap (λ slot. sub k n ++ slot ∷ []) found.1,
         found.2,
+        sym (ap title_of found.1) ∙ keeps_title setting sub (Sub k) (history setting sub (Sub k) n0) instants (crossfaded setting.plan.nodes k) j nodes stretch within gave,
       )
 
-  pub are_fed : (n count : ℕ) → n0 < n → n + count ≤ n0 + instants → AreFed setting sub k n count
+  pub are_fed : (n count : ℕ) → n0 < n → n + count ≤ n0 + instants → AreFed setting sub k n count Title
   are_fed n zero later within = record {
     cells = [];
     inner = tt;
+    titled = λ m d low. absurd (omega (arith, low));
     long = refl;
     fed = λ m few. (let e : n + m ≡ n = omega (arith, few) in let z : m ≡ 0 = omega (arith, few) in
         ap (sub k) e ∙ sym (append-nil (sub k n)) ∙ sym (ap (λ i. sub k n ++ map Some (take i ([]))) z));
@@ -66,6 +73,7 @@ module _ (setting : Setting) (sub : ℕ → ℕ → List Slot) (means : IsMeanin
       record {
         cells = before.cells ++ next.0 ∷ [];
         inner = inner_more before.cells (next.0 ∷ []) before.inner (next.2, tt);
+        titled = All-push (λ (cell : Cell). cell.title ≡ Title) before.cells next.0 before.titled next.3;
         long = omega (arith, all, long);
         fed = λ m few. elim (cases_lt m (suc count)) [
           | inl less ↦ before.fed m (omega (arith, less)) ∙ ap (λ l. sub k n ++ map Some l) (sym (take-append-le m before.cells (next.0 ∷ []) (omega (arith, less, long))))

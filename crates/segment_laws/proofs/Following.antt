@@ -64,12 +64,12 @@ or_right : (a b : Bool) → b ≡ true → (a || b) ≡ true
 or_right true b e = refl
 or_right false b e = e
 
-offered_more : (parts : List Part) (c : ℕ) (children : List ℕ) (now : Bool) → is_some (part_at parts c).slot ≡ now → (n : ℕ)
+pub offered_more : (parts : List Part) (c : ℕ) (children : List ℕ) (now : Bool) → is_some (part_at parts c).slot ≡ now → (n : ℕ)
     → list_any (nat_eq n) (offering parts children) ≡ true → list_any (nat_eq n) (offering parts (c ∷ children)) ≡ true
 offered_more parts c children true e n u = rw e (or_right (nat_eq n c) (list_any (nat_eq n) (offering parts children)) u)
 offered_more parts c children false e n u = rw e u
 
-offered_first : (parts : List Part) (c : ℕ) (children : List ℕ) → is_some (part_at parts c).slot ≡ true → list_any (nat_eq c) (offering parts (c ∷ children)) ≡ true
+pub offered_first : (parts : List Part) (c : ℕ) (children : List ℕ) → is_some (part_at parts c).slot ≡ true → list_any (nat_eq c) (offering parts (c ∷ children)) ≡ true
 offered_first parts c children e = rw e (here_used c (offering parts children))
 
 -- what offers among the children is used by a mix

@@ -32,8 +32,8 @@ or_none false = refl
 
 same_cell : (child : ℕ) (cell : Cell) → picked_cell (Some child) child cell ≡ cell
 same_cell child cell =
-    ap (λ last. record { left = cell.left; right = cell.right; first = cell.first || not last }) (eq-eqb child child refl)
-    ∙ ap (λ first. record { left = cell.left; right = cell.right; first = first }) (or_none cell.first)
+    ap (λ last. record { left = cell.left; right = cell.right; first = cell.first || not last; title = cell.title }) (eq-eqb child child refl)
+    ∙ ap (λ first. record { left = cell.left; right = cell.right; first = first; title = cell.title }) (or_none cell.first)
 
 -- a child that is picked again offers its own slot
 again : (slots : List Slot) (child : ℕ) (pick : Option ℕ) → (picked_part (picked slots (Some child) pick)).pick ≡ Some child
@@ -76,7 +76,7 @@ module _ (setting : Setting) (sub : ℕ → ℕ → List Slot) (clock : NodeCloc
   part_is : (j : ℕ) → part_at (moment_after setting sub clock (Later j)).parts i ≡ part_by setting sub (Later j) i (work_at setting i node) (Slots j)
   part_is j = own_part setting sub clock (Later j) (length setting.plan.nodes) i node low is
 
-  part_works : (j : ℕ) (work : Work) → work_at setting i node ≡ work → part_at (moment_after setting sub clock (Later j)).parts i ≡ part_by setting sub (Later j) i work (Slots j)
+  pub part_works : (j : ℕ) (work : Work) → work_at setting i node ≡ work → part_at (moment_after setting sub clock (Later j)).parts i ≡ part_by setting sub (Later j) i work (Slots j)
   part_works j work at = part_is j ∙ ap (λ w. part_by setting sub (Later j) i w (Slots j)) at
 
   pub played : (leaf : Leaf) (j : ℕ) → work_at setting i node ≡ Plays leaf → j < instants → gives First i ≡ true

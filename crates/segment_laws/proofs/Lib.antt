@@ -6,6 +6,7 @@ pub mod Works
 pub mod Following
 pub mod Stretching
 pub mod Laning
+pub mod Titling
 pub mod Feeding
 pub mod Reaching
 pub mod Quiet

@@ -1,9 +1,9 @@
 -- A stretch of instants: behind its first one nothing begins.
-use Rattle.std.specs.Prelude.{[], ◌≡◌, ◌<◌, ◌+◌, ◌%◌, Bool, true, false, Some, List, ◌∷◌, ◌++◌, ◌≤◌, ℕ, zero, suc, length, map, take, nat_eq, is_some, slice_get, if◌then◌else◌}
+use Rattle.std.specs.Prelude.{[], All, ◌≡◌, ◌<◌, ◌+◌, ◌%◌, Bool, true, false, Some, List, ◌∷◌, ◌++◌, ◌≤◌, ℕ, zero, suc, length, map, take, nat_eq, is_some, slice_get, if◌then◌else◌}
 use Rattle.plan_core.specs.declared.node.Node.{Node}
 use Rattle.clock_infer.specs.declared.clock_map.NodeClock.{NodeClock}
 use Rattle.clock_infer.specs.declared.clock_map.NodeClock.TheVariants.{Sub}
-use Rattle.frame_core.specs.Slots.{Slot, is_first}
+use Rattle.frame_core.specs.Slots.{Slot, is_first, title_of}
 use Rattle.frame_core.specs.declared.cell.Cell.{Cell}
 use Rattle.op_cross.specs.Runs.{item_of, run_of}
 use Rattle.op_cross.specs.States.{AllInner}
@@ -34,6 +34,15 @@ pub record IsLike (first later : Moment) : Type 0 where
   pub picks : (i : ℕ) → demanded first i ≡ true → (part_at later.parts i).pick ≡ (part_at first.parts i).pick
   pub inner : (i : ℕ) → gives first i ≡ true → is_inner (offer later i) ≡ true
 
+-- what a node that makes its own cells gives j instants behind the first one has this title
+abbrev pub KeepsTitle : Setting → (sub : ℕ → ℕ → List Slot) → List Moment → (i : ℕ) → Work → (j title : ℕ) → Type 0
+KeepsTitle setting sub past i (Plays leaf) j title = title_of (leaf_slot setting.library leaf (count past i + j)) ≡ title
+KeepsTitle setting sub past i (Picks choice eligible) j title = Unit {0}
+KeepsTitle setting sub past i (Mixes mixing) j title = Unit {0}
+KeepsTitle setting sub past i (Fades overlap) j title = title_of (item_of overlap (sub i) (position past i + j)) ≡ title
+KeepsTitle setting sub past i (Reads buffer) j title =
+    title_of (reader_slot (read_by j (reading_at setting buffer (length past) (reading_after setting i buffer past)).reader)) ≡ title
+
 -- so many instants of a clock behind these, of which the first one decides
 pub record IsStretch (setting : Setting) (sub : ℕ → ℕ → List Slot) (clock : NodeClock) (past : List Moment) (instants : ℕ) : Type 0 where
   -- leaves that give go on with their track
@@ -58,6 +67,9 @@ pub record IsStretch (setting : Setting) (sub : ℕ → ℕ → List Slot) (cloc
   pub free : (i : ℕ) (node : Node) (choice : Choice) (eligible : Eligible) (j : ℕ) → IsNode setting clock i node → work_at setting i node ≡ Picks choice eligible → 0 < j → j < instants
       → IsFree choice (slots_at (parts_upto setting sub clock past i) node.children)
       (marks_at eligible (second_at setting (length past)) (length (slots_at (parts_upto setting sub clock past i) node.children))) (last_pick past i)
+  -- leaves, readers and crossfades that give keep their title
+  pub titles : (i : ℕ) (node : Node) (j : ℕ) → IsNode setting clock i node → 0 < j → j < instants → gives (moment_after setting sub clock past) i ≡ true
+      → KeepsTitle setting sub past i (work_at setting i node) j (title_of (offer (moment_after setting sub clock past) i))
 
 -- the past of an instant that comes j instants behind the first one
 pub record IsOn (setting : Setting) (sub : ℕ → ℕ → List Slot) (clock : NodeClock) (past : List Moment) (j : ℕ) (later : List Moment) : Type 0 where
@@ -76,10 +88,11 @@ pub record IsOn (setting : Setting) (sub : ℕ → ℕ → List Slot) (clock : N
   pub unread : (i : ℕ) (node : Node) (buffer : ℕ) → IsNode setting clock i node → work_at setting i node ≡ Reads buffer → 0 < j → gives (moment_after setting sub clock past) i ≡ false
       → (reading_after setting i buffer later).reader ≡ (reading_at setting buffer (length past) (reading_after setting i buffer past)).reader
 
--- the slots that a crossfade is fed over some instants of a stretch of its sub-clock: cells that begin no track
-pub record AreFed (setting : Setting) (sub : ℕ → ℕ → List Slot) (k n count : ℕ) : Type 0 where
+-- the slots that a crossfade is fed over some instants of a stretch of its sub-clock: cells of this title that begin no track
+pub record AreFed (setting : Setting) (sub : ℕ → ℕ → List Slot) (k n count title : ℕ) : Type 0 where
   pub cells : List Cell
   pub inner : AllInner cells
+  pub titled : All (λ cell. cell.title ≡ title) cells
   pub long : length cells ≡ count
   pub fed : (m : ℕ) → m ≤ count → sub k (n + m) ≡ sub k n ++ map Some (take m cells)
 
@@ -100,6 +113,18 @@ NodeGoes setting sub past moment i (Fades overlap) begins rest =
 NodeGoes setting sub past moment i (Reads buffer) begins rest =
     gives moment i ≡ true → (j : ℕ) → j < rest
     → is_inner (reader_slot (read_by (suc j) (reading_at setting buffer (length past) (reading_after setting i buffer past)).reader)) ≡ true
+
+-- which title it keeps: that of what it offered
+abbrev pub NodeKeeps : Setting → (sub : ℕ → ℕ → List Slot) → List Moment → Moment → (i : ℕ) → Work → (rest : ℕ) → Type 0
+NodeKeeps setting sub past moment i (Plays leaf) rest =
+    gives moment i ≡ true → (j : ℕ) → j < rest → title_of (leaf_slot setting.library leaf (suc (count past i) + j)) ≡ title_of (offer moment i)
+NodeKeeps setting sub past moment i (Picks choice eligible) rest = Unit {0}
+NodeKeeps setting sub past moment i (Mixes mixing) rest = Unit {0}
+NodeKeeps setting sub past moment i (Fades overlap) rest =
+    gives moment i ≡ true → (j : ℕ) → j < rest → title_of (item_of overlap (sub i) (suc (position past i) + j)) ≡ title_of (offer moment i)
+NodeKeeps setting sub past moment i (Reads buffer) rest =
+    gives moment i ≡ true → (j : ℕ) → j < rest
+    → title_of (reader_slot (read_by (suc j) (reading_at setting buffer (length past) (reading_after setting i buffer past)).reader)) ≡ title_of (offer moment i)
 
 -- the instants that sub-clocks make for a stretch, behind its first instant, make no calls
 pub record AreQuiet (setting : Setting) (sub : ℕ → ℕ → List Slot) (clock : NodeClock) (past : List Moment) (instants : ℕ) : Type 0 where

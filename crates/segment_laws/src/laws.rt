@@ -2,7 +2,7 @@
 ghost use Rattle.std.specs.Prelude.{◌≡◌, ◌<◌, ◌≤◌, ◌+◌, ℕ, suc, true, Some, List, [], length, map, slice_get};
 ghost use Rattle.clock_infer.specs.declared.clock_map.NodeClock.{NodeClock as Clock};
 ghost use Rattle.clock_infer.specs.declared.clock_map.NodeClock.TheVariants.{Sub as InSub};
-ghost use Rattle.frame_core.specs.Slots.{Slot as TheSlot};
+ghost use Rattle.frame_core.specs.Slots.{Slot as TheSlot, title_of};
 ghost use Rattle.op_cross.specs.Crossfade.{cross};
 ghost use Rattle.op_cross.specs.Runs.{item_of, run_of};
 ghost use Rattle.op_cross.specs.States.{AllInner, Crossing, IsCrossing, StandsFor, passes};
@@ -14,7 +14,7 @@ ghost use Rattle.plan_core.specs.Plans.{AreNodes};
 ghost use Rattle.stream_meaning.specs.Arithmetic.{Mixing, mix_slot};
 ghost use Rattle.stream_meaning.specs.Calls.{GoDown, calls_of, takes_at};
 ghost use Rattle.stream_meaning.specs.Operators.{Choice, Eligible, Fades, Mixes, Picks, Plays, Reads};
-ghost use Rattle.stream_meaning.specs.Instants.{Setting, Moment, IsMeaning, count, crossfaded, gives, history, moment_after, part_at, position, reading_after, reading_at, work_at};
+ghost use Rattle.stream_meaning.specs.Instants.{Setting, Moment, IsMeaning, count, crossfaded, gives, history, moment_after, offer, part_at, position, reading_after, reading_at, work_at};
 ghost use Rattle.segment_laws.specs.Steady.{is_inner};
 ghost use Rattle.segment_laws.specs.Stretches.{AreFed, AreQuiet, IsLike, IsNode, IsOn, IsStretch, going_on, lane};
 
@@ -53,22 +53,36 @@ pub fn stretches_have_lanes()
         → slice_get node.children place ≡ Some child → lane setting sub clock past j i ≡ lane setting sub clock past j child }
 {}
 
-/// Over a stretch of a sub-clock, behind its first instant, its crossfade is fed cells of one track.
+/// Over a stretch a node that gives keeps its title.
+pub fn stretches_keep_titles()
+    ensures { (setting : Setting) (sub : ℕ → ℕ → List TheSlot) (clock : Clock) (past : List Moment) (instants i j : ℕ)
+        → AreNodes setting.plan.nodes → IsStretch setting sub clock past instants → j < instants → gives (moment_after setting sub clock past) i ≡ true
+        → title_of (lane setting sub clock past j i) ≡ title_of (offer (moment_after setting sub clock past) i) }
+{}
+
+/// Over a stretch of a sub-clock, behind its first instant, its crossfade is fed cells of one track and of one title.
 pub fn sub_clocks_feed_cells()
     ensures { (setting : Setting) (sub : ℕ → ℕ → List TheSlot) (k first instants n many : ℕ)
         → AreNodes setting.plan.nodes → IsMeaning setting sub → IsStretch setting sub (InSub k) (history setting sub (InSub k) first) instants
         → gives (moment_after setting sub (InSub k) (history setting sub (InSub k) first)) (crossfaded setting.plan.nodes k) ≡ true
-        → first < n → n + many ≤ first + instants → AreFed setting sub k n many }
+        → first < n → n + many ≤ first + instants
+        → AreFed setting sub k n many (title_of (offer (moment_after setting sub (InSub k) (history setting sub (InSub k) first)) (crossfaded setting.plan.nodes k))) }
 {}
 
-/// Where cells pass through a crossfade, each of its next items takes one slot more, and begins no track.
+/// Where cells pass through a crossfade, each of its next items takes one slot more, and begins no track. They have
+/// the titles of the cells that are held, and behind these of those that are fed.
 pub fn cells_pass_through()
-    ensures run { (setting : Setting) (sub : ℕ → ℕ → List TheSlot) (k n many p j : ℕ) (state : Crossing) → ((m : ℕ) → length (sub k m) ≡ m)
-        → AreFed setting sub k n many → IsCrossing state → StandsFor state (sub k n) p → passes state ≡ true → AllInner state.cells
+    ensures run { (setting : Setting) (sub : ℕ → ℕ → List TheSlot) (k n many p j below : ℕ) (state : Crossing) → ((m : ℕ) → length (sub k m) ≡ m)
+        → AreFed setting sub k n many below → IsCrossing state → StandsFor state (sub k n) p → passes state ≡ true → AllInner state.cells
         → ((m : ℕ) → m < n → length (cross state.overlap (sub k m)) ≤ p) → j < many → run_of state.overlap (sub k) (p + j) ≡ n + suc j }
-    ensures item { (setting : Setting) (sub : ℕ → ℕ → List TheSlot) (k n many p j : ℕ) (state : Crossing) → ((m : ℕ) → length (sub k m) ≡ m)
-        → AreFed setting sub k n many → IsCrossing state → StandsFor state (sub k n) p → passes state ≡ true → AllInner state.cells
+    ensures item { (setting : Setting) (sub : ℕ → ℕ → List TheSlot) (k n many p j below : ℕ) (state : Crossing) → ((m : ℕ) → length (sub k m) ≡ m)
+        → AreFed setting sub k n many below → IsCrossing state → StandsFor state (sub k n) p → passes state ≡ true → AllInner state.cells
         → ((m : ℕ) → m < n → length (cross state.overlap (sub k m)) ≤ p) → j < many → is_inner (item_of state.overlap (sub k) (p + j)) ≡ true }
+    ensures titled { (setting : Setting) (sub : ℕ → ℕ → List TheSlot) (k n many rest p j title below : ℕ) (state : Crossing) → ((m : ℕ) → length (sub k m) ≡ m)
+        → AreFed setting sub k n many below → IsCrossing state → StandsFor state (sub k n) p → passes state ≡ true → AllInner state.cells
+        → ((m : ℕ) → m < n → length (cross state.overlap (sub k m)) ≤ p)
+        → rest ≤ many → ((i : ℕ) → i < rest → i < length state.cells → title_of (slice_get state.cells i) ≡ title) → (length state.cells < rest → below ≡ title)
+        → j < rest → title_of (item_of state.overlap (sub k) (p + j)) ≡ title }
 {}
 
 /// Behind the first instant of a stretch no reader takes; and where the instants that its sub-clocks make for it make no calls,

@@ -4,6 +4,6 @@
 mod laws;
 
 pub use laws::{
-    cells_pass_through, stretches_have_lanes, stretches_make_no_calls, stretches_stay_alike,
-    sub_clocks_feed_cells,
+    cells_pass_through, stretches_have_lanes, stretches_keep_titles, stretches_make_no_calls,
+    stretches_stay_alike, sub_clocks_feed_cells,
 };

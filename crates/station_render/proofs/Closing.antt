@@ -1,13 +1,14 @@
 -- Sinks that are closed one after another.
-use Rattle.std.proofs.Common.{◌≡◌, ◌<◌, ◌≤◌, ◌∙◌, ◌⊎◌, ℕ, zero, suc, List, [], ◌∷◌, length, slice_get, nat_eq, arith, refl, ap, sym, subst, inl, inr, if◌then◌else◌}
-use Rattle.std.specs.Prelude.{Option, Some, None, Result, OnOk, OnErr, IsSomeAnd}
+use Rattle.std.proofs.Common.{◌≡◌, ◌<◌, ◌≤◌, ◌∙◌, ◌⊎◌, ℕ, zero, suc, List, [], ◌∷◌, ◌++◌, append_assoc, length, slice_get, nat_eq, arith, refl, ap, sym, subst, inl, inr, if◌then◌else◌}
+use Rattle.std.specs.Prelude.{Option, Some, None, Result, Ok, Err, OnOk, OnErr, IsSomeAnd}
 use Rattle.std.specs.Option.{ForSome}
 use Rattle.std.proofs.lemmas.Bool.{cases_Bool, eqb-true, eqb-false, eq-eqb}
 use Rattle.liq_base.specs.Counts.{Rose}
-use Rattle.liq_base.specs.Files.{Files, with_file, Closed, ClosedPart}
-use Rattle.liq_base.specs.Kept.{HoldsPartOr, closed_part_or, later_cause, rose_within}
-use Rattle.stations.specs.Outputs.{OutputFile, with_outputs, HoldsParts}
-use Rattle.station_render.specs.Sinks.{AreCreated, AreAllEmpty, HasFailed, HaveSizes, HoldsWhole, HoldsPart, WasTaken, count_of}
+use Rattle.liq_base.specs.Files.{Files, with_file, Closed, ClosedPart, HoldsPart as FileHoldsPart}
+use Rattle.liq_base.specs.Kept.{some_and}
+use Rattle.liq_base.specs.Pieces.{IsPrefix}
+use Rattle.stations.specs.Outputs.{OutputFile, OutputPart, with_outputs, HoldsBetween, HoldsParts}
+use Rattle.station_render.specs.Sinks.{AreCreated, AreAllEmpty, HasFailed, HaveSizes, HoldsFront, HoldsWhole, WasTaken, count_of}
 use Rattle.station_render.proofs.Lists.{within, no_items, set_here, set_many, set_other}
 use Rattle.station_render.proofs.Dealing.{first_so, others_so}
 
@@ -25,27 +26,42 @@ none_failed order groups none sizes faults failed =
     let at : slice_get [] failed.place ≡ Some failed.sink = ap (λ g. slice_get g failed.place) (sym empty) ∙ failed.stands in
     absurd (cc)
 
--- a cause may be told as a wider one
-pub parts_later : (cause more : Type 0) → (cause → more) → (files : Files) (outputs : List OutputFile) (after : Files) → HoldsParts cause files outputs after → HoldsParts more files outputs after
-parts_later cause more f files [] after parts = parts
-parts_later cause more f files (output ∷ outputs) after parts =
-    (parts.0, later_cause cause more files output.name output.bytes parts.0 f parts.1, parts_later cause more f parts.0 outputs after parts.2)
-
 pub in_list : {A : Type 0} (xs : List A) (k : ℕ) → k < length xs → (x : A) × (slice_get xs k ≡ Some x)
 in_list [] k low = absurd (omega (arith, low))
 in_list (x ∷ xs) zero low = (x, refl)
 in_list (x ∷ xs) (suc k) low = in_list xs k (omega (arith, low))
 
+-- a part of a front is one of the whole
+prefix_then : (a b c : List ℕ) → IsPrefix a b → IsPrefix b c → IsPrefix a c
+prefix_then a b c first next = record { rest = first.rest ++ next.rest; whole_is = next.whole_is ∙ ap (λ v. v ++ next.rest) first.whole_is ∙ append_assoc a first.rest next.rest }
+
+part_within : (files : Files) (name h most : List ℕ) → IsPrefix h most → (after : Files) → FileHoldsPart files name h after → FileHoldsPart files name most after
+part_within files name h most p after (inl kept) = inl kept
+part_within files name h most p after (inr part) = inr (part.0, prefix_then part.0 h most part.1 p, part.2)
+
+-- whatever a closing answered, the name holds what its sink held; or, where the sink or the closing failed, a prefix or what it held
+closed_between : {E : Type 0} (r : Result (Unit {0}) E) (w0 w1 : ℕ) (before mid : Option Files) (name held : Option (List ℕ)) (files : Files) (output : OutputPart) (h : List ℕ)
+    → OnOk r (Closed before name held mid) → OnErr r (ClosedPart before name held mid) → OnErr r (Rose w0 w1) → IsPrefix output.least h ⊎ Rose w0 w1
+    → before ≡ Some files → name ≡ Some output.name → held ≡ Some h → IsPrefix h output.most → IsSomeAnd mid (HoldsBetween (Rose w0 w1) files output)
+closed_between (Ok x) w0 w1 before mid name held files output h whole part why (inl least) b m k p =
+    subst (λ a. IsSomeAnd a (HoldsBetween (Rose w0 w1) files output)) (sym (whole files b output.name m h k)) (inl (h, least, p, refl))
+closed_between (Ok x) w0 w1 before mid name held files output h whole part why (inr rose) b m k p =
+    subst (λ a. IsSomeAnd a (HoldsBetween (Rose w0 w1) files output)) (sym (whole files b output.name m h k)) (inr (rose, inr (h, p, refl)))
+closed_between (Err x) w0 w1 before mid name held files output h whole part why least b m k p =
+    some_and mid (FileHoldsPart files output.name h) (HoldsBetween (Rose w0 w1) files output) (λ after held_part. inr (why, part_within files output.name h output.most p after held_part)) (part files b output.name m h k)
+
 -- one name, and then the others
-one_part : (cause later more : Type 0) → (cause → more) → (later → more) → (files : Files) (output : OutputFile) (outputs : List OutputFile) (mid after : Option Files)
-    → IsSomeAnd mid (HoldsPartOr cause files output.name output.bytes) → ForSome mid (λ found. IsSomeAnd after (HoldsParts later found outputs))
-    → IsSomeAnd after (HoldsParts more files (output ∷ outputs))
-one_part cause later more f g files output outputs None after first rest = absurd first
-one_part cause later more f g files output outputs (Some mid) after first rest = last after (rest mid refl)
-  where
-    last : (after : Option Files) → IsSomeAnd after (HoldsParts later mid outputs) → IsSomeAnd after (HoldsParts more files (output ∷ outputs))
-    last None parts = parts
-    last (Some after) parts = (mid, later_cause cause more files output.name output.bytes mid f first, parts_later later more g mid outputs after parts)
+one_part : (w0 w1 w2 : ℕ) → w0 ≤ w1 → (files : Files) (output : OutputPart) (outputs : List OutputPart) (mid after : Option Files)
+    → IsSomeAnd mid (HoldsBetween (Rose w0 w1) files output) → ForSome mid (λ found. IsSomeAnd after (λ now. HoldsParts w1 found outputs now w2))
+    → IsSomeAnd after (λ now. HoldsParts w0 files (output ∷ outputs) now w2)
+one_part w0 w1 w2 low files output outputs None after first rest = absurd first
+one_part w0 w1 w2 low files output outputs (Some mid) after first rest =
+    some_and after (λ now. HoldsParts w1 mid outputs now w2) (λ now. HoldsParts w0 files (output ∷ outputs) now w2) (λ now parts. (mid, w1, low, first, parts)) (rest mid refl)
+
+-- the sink held as much as it should, or its closing raised the count
+least_or : (faults w0 w1 : ℕ) (least : Type 0) → (0 < faults → Rose w0 w1) → least ⊎ (0 < faults) → least ⊎ Rose w0 w1
+least_or faults w0 w1 least cause (inl holds) = inl holds
+least_or faults w0 w1 least cause (inr failed) = inr (cause failed)
 
 module _ {S : Type 0} (order rest : List ℕ) (clock : ℕ) (split : order ≡ clock ∷ rest) (old new : List (List S)) where
   some_first : (group : List S) → length group ≡ suc (count_of clock rest) → slice_get old clock ≡ Some group → (first : S) × (others : List S) × (slice_get old clock ≡ Some (first ∷ others))
@@ -119,14 +135,14 @@ module _ {S : Type 0} (order rest : List ℕ) (clock : ℕ) (split : order ≡ c
           let so = (first_so (HoldsWhole name held) clock rest old new sink taken y ys these).0 in
           others (with_file files y.name y.bytes) (closed files told y.name so.named y.bytes so.holds) ys (others_so (HoldsWhole name held) clock rest old new sink taken y ys these)
 
-      pub part_then : {E : Type 0} (r : Result (Unit {0}) E) (w0 w1 w2 : ℕ) → w0 ≤ w1 → w1 ≤ w2
-          → OnOk r (Closed before (name sink) (held sink) mid) → OnErr r (ClosedPart before (name sink) (held sink) mid) → OnErr r (Rose w0 w1)
-          → ForSome mid (λ files. (outputs : List OutputFile) → AreCreated (HoldsPart name held) outputs rest new → IsSomeAnd after (HoldsParts (Rose w1 w2) files outputs))
-          → ForSome before (λ files. (outputs : List OutputFile) → AreCreated (HoldsPart name held) outputs order old → IsSomeAnd after (HoldsParts (Rose w0 w2) files outputs))
-      part_then r w0 w1 w2 low high closed part cause others files told [] are = (let size = are.size in let long = ap length split in absurd (omega (arith, size, long)))
-      part_then r w0 w1 w2 low high closed part cause others files told (y ∷ ys) are =
-          let these = subst (λ o. AreCreated (HoldsPart name held) (y ∷ ys) o old) split are in
-          let so = (first_so (HoldsPart name held) clock rest old new sink taken y ys these).0 in
-          one_part (Rose w0 w1) (Rose w1 w2) (Rose w0 w2) (rose_within w0 w0 w1 w2 (omega arith) high) (rose_within w0 w1 w2 w2 low (omega arith)) files y ys mid after
-          (closed_part_or r (Rose w0 w1) before mid (name sink) (held sink) files y.name so.part y.bytes closed part cause told so.named so.holds so.front)
-          (λ found at. others found at ys (others_so (HoldsPart name held) clock rest old new sink taken y ys these))
+      pub part_then : {E : Type 0} (r : Result (Unit {0}) E) (w0 w1 w2 : ℕ) (faults : S → ℕ) → w0 ≤ w1
+          → OnOk r (Closed before (name sink) (held sink) mid) → OnErr r (ClosedPart before (name sink) (held sink) mid) → OnErr r (Rose w0 w1) → (0 < faults sink → Rose w0 w1)
+          → ForSome mid (λ files. (outputs : List OutputPart) → AreCreated (HoldsFront name held faults) outputs rest new → IsSomeAnd after (λ now. HoldsParts w1 files outputs now w2))
+          → ForSome before (λ files. (outputs : List OutputPart) → AreCreated (HoldsFront name held faults) outputs order old → IsSomeAnd after (λ now. HoldsParts w0 files outputs now w2))
+      part_then r w0 w1 w2 faults low closed part cause failed others files told [] are = (let size = are.size in let long = ap length split in absurd (omega (arith, size, long)))
+      part_then r w0 w1 w2 faults low closed part cause failed others files told (y ∷ ys) are =
+          let these = subst (λ o. AreCreated (HoldsFront name held faults) (y ∷ ys) o old) split are in
+          let so = (first_so (HoldsFront name held faults) clock rest old new sink taken y ys these).0 in
+          one_part w0 w1 w2 low files y ys mid after
+          (closed_between r w0 w1 before mid (name sink) (held sink) files y so.part closed part cause (least_or (faults sink) w0 w1 (IsPrefix y.least so.part) failed so.least) told so.named so.holds so.most)
+          (λ found at. others found at ys (others_so (HoldsFront name held faults) clock rest old new sink taken y ys these))

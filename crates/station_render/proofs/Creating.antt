@@ -15,7 +15,8 @@ use Rattle.op_leaf.specs.Readers.{Answer}
 use Rattle.stream_meaning.specs.Instants.{Setting, answered, clock_of}
 use Rattle.stream_meaning.specs.Sinks.{ticks_bytes}
 use Rattle.run_records.specs.Records.{Run, answers_of, setting_then}
-use Rattle.stations.specs.Streams.{front_bytes, fronts_in, header_for, output_bytes, outputs_in}
+use Rattle.run_records.specs.Buffers.{main_of as main_clock}
+use Rattle.stations.specs.Streams.{front_bytes, header_for, output_bytes, outputs_in, parts_in}
 use Rattle.station_render.specs.Sinks.{AreCreated, HasFailed, HoldsPart, HoldsWhole, WasAdded, of_clock}
 use Rattle.station_render.specs.Renders.{AreBegun, IsPart, IsReady, NoneCreated, WasBroken, WasCreated, Written, body_size, file_of, front_file, main_of, order_of, written}
 use Rattle.station_render.proofs.Lists.{got_is, set_here, set_many, many_mapped}
@@ -56,10 +57,10 @@ files_are setting ticks [] = refl
 files_are setting ticks (Output name node fallible ∷ sinks) = ap (λ zs. (record { name = name; bytes = output_bytes setting ticks node }) ∷ zs) (files_are setting ticks sinks)
 files_are setting ticks (Feed buffer node ∷ sinks) = files_are setting ticks sinks
 
-pub fronts_are : (setting : Setting) (ticks made : ℕ) (sinks : List SinkPlan) → fronts_in setting ticks made sinks ≡ map (front_file setting ticks made) (written sinks)
-fronts_are setting ticks made [] = refl
-fronts_are setting ticks made (Output name node fallible ∷ sinks) = ap (λ zs. (record { name = name; bytes = front_bytes setting ticks made node }) ∷ zs) (fronts_are setting ticks made sinks)
-fronts_are setting ticks made (Feed buffer node ∷ sinks) = fronts_are setting ticks made sinks
+pub fronts_are : (setting : Setting) (ticks : ℕ) (made tried : ℕ → ℕ) (sinks : List SinkPlan) → parts_in setting ticks made tried sinks ≡ map (front_file setting ticks made tried) (written sinks)
+fronts_are setting ticks made tried [] = refl
+fronts_are setting ticks made tried (Output name node fallible ∷ sinks) = ap (λ zs. front_file setting ticks made tried (record { name = name; node = node }) ∷ zs) (fronts_are setting ticks made tried sinks)
+fronts_are setting ticks made tried (Feed buffer node ∷ sinks) = fronts_are setting ticks made tried sinks
 
 zip_as : {Y S : Type 0} (So Other : Y → S → Type 0) → ((y : Y) (x : S) → So y x → Other y x) → (ys : List Y) (xs : List S) → AllZip So ys xs → AllZip Other ys xs
 zip_as So Other f [] [] z = tt
@@ -132,14 +133,18 @@ module _ {S : Type 0} (name held : S → Option (List ℕ)) (left : S → Option
   rose_above before after rose = omega (arith, rose)
 
   module _ (setting : Setting) (ticks : ℕ) where
-    -- the header is a first part of an output, whatever buffers answer
-    pub part_of_ready : (made : ℕ) (answers : ℕ → List Answer) (output : Written) (sink : S) → IsReady name held left files setting ticks output sink → IsPart name held files (answered setting answers) ticks made output sink
-    part_of_ready made answers output sink ready all at = record {
-      named = (ready.told all at).named;
-      part = header_for setting ticks output.node;
-      holds = (ready.told all at).holds;
-      front = record { rest = ticks_bytes (answered setting answers) output.node made; whole_is = refl };
-    }
+    -- the header is what an output has before any tick, whatever buffers answer
+    pub part_of_ready : (made tried : ℕ → ℕ) → ((k : ℕ) → made k ≡ 0) → (answers : ℕ → List Answer) (output : Written) (sink : S) → IsReady name held left files setting ticks output sink
+        → IsPart name held faults files (answered setting answers) ticks made tried output sink
+    part_of_ready made tried none answers output sink ready all at =
+        let world : Setting = answered setting answers in let m = main_clock world output.node in let header = header_for setting ticks output.node in
+        record {
+          named = (ready.told all at).named;
+          part = header;
+          holds = (ready.told all at).holds;
+          most = record { rest = ticks_bytes world output.node (tried m); whole_is = refl };
+          least = inl (record { rest = []; whole_is = sym (append-nil (header ++ ticks_bytes world output.node (made m)) ∙ ap (λ n. header ++ ticks_bytes world output.node n) (none m) ∙ append-nil header) });
+        }
 
     pub ready_more : (ys : List Written) (output : Written) (clock : ℕ) (header : List ℕ) (body : ℕ) (order order_new : List ℕ) (old new : List (List S)) → clock < length old
         → header ≡ header_for setting ticks output.node → body ≡ body_size setting ticks output.node
@@ -154,49 +159,50 @@ module _ {S : Type 0} (name held : S → Option (List ℕ)) (left : S → Option
         subst (λ o. AreCreated (IsReady name held left files setting ticks) (ys ++ output ∷ []) o new) (sym was.order_is)
         (one_added (IsReady name held left files setting ticks) ys order old new output clock was.sink low are ready was.added)
 
-    pub part_more : (made : ℕ) (answers : ℕ → List Answer) (ys : List Written) (output : Written) (clock : ℕ) (header : List ℕ) (order order_new : List ℕ) (old new : List (List S)) → clock < length old
+    pub part_more : (made tried : ℕ → ℕ) → ((k : ℕ) → made k ≡ 0) → (answers : ℕ → List Answer) (ys : List Written) (output : Written) (clock : ℕ) (header : List ℕ) (order order_new : List ℕ) (old new : List (List S)) → clock < length old
         → header ≡ header_for setting ticks output.node
         → AreCreated (IsReady name held left files setting ticks) ys order old
         → WasBroken name held faults files clock output.name header order order_new old new
-        → AreCreated (IsPart name held files (answered setting answers) ticks made) (ys ++ output ∷ []) order_new new
-    part_more made answers ys output clock header order order_new old new low header_is are was =
-        let world : Setting = answered setting answers in
-        let part : IsPart name held files world ticks made output was.sink = λ all at.
+        → AreCreated (IsPart name held faults files (answered setting answers) ticks made tried) (ys ++ output ∷ []) order_new new
+    part_more made tried none answers ys output clock header order order_new old new low header_is are was =
+        let world : Setting = answered setting answers in let n = tried (main_clock world output.node) in
+        let part : IsPart name held faults files world ticks made tried output was.sink = λ all at.
         let told = was.told all at in
-        let whole : front_bytes world ticks made output.node ≡ header ++ ticks_bytes world output.node made = ap (λ h. h ++ ticks_bytes world output.node made) (sym header_is) in
+        let whole : front_bytes world ticks n output.node ≡ header ++ ticks_bytes world output.node n = ap (λ h. h ++ ticks_bytes world output.node n) (sym header_is) in
         record {
           named = told.named;
           part = told.part;
           holds = told.holds;
-          front = record {
-            rest = told.front.rest ++ ticks_bytes world output.node made;
-            whole_is = whole ∙ ap (λ h. h ++ ticks_bytes world output.node made) told.front.whole_is ∙ append_assoc told.part told.front.rest (ticks_bytes world output.node made);
+          most = record {
+            rest = told.front.rest ++ ticks_bytes world output.node n;
+            whole_is = whole ∙ ap (λ h. h ++ ticks_bytes world output.node n) told.front.whole_is ∙ append_assoc told.part told.front.rest (ticks_bytes world output.node n);
           };
+          least = inr was.failed;
         } in
-        subst (λ o. AreCreated (IsPart name held files world ticks made) (ys ++ output ∷ []) o new) (sym was.order_is)
-        (one_added (IsPart name held files world ticks made) ys order old new output clock was.sink low
-        (created_as (IsReady name held left files setting ticks) (IsPart name held files world ticks made) (part_of_ready made answers) ys order old are) part was.added)
+        subst (λ o. AreCreated (IsPart name held faults files world ticks made tried) (ys ++ output ∷ []) o new) (sym was.order_is)
+        (one_added (IsPart name held faults files world ticks made tried) ys order old new output clock was.sink low
+        (created_as (IsReady name held left files setting ticks) (IsPart name held faults files world ticks made tried) (part_of_ready made tried none answers) ys order old are) part was.added)
 
     -- what is begun, where the first sinks were gone through
-    module _ (run : Run) (made : ℕ) where
+    module _ (run : Run) (made tried : ℕ → ℕ) (none : (k : ℕ) → made k ≡ 0) where
       pub begun_here : (k : ℕ) (order : List ℕ) (groups : List (List S)) → AreCreated (IsReady name held left files setting ticks) (written (take k setting.plan.sinks)) order groups
-          → AreBegun name held files setting run ticks made order groups
+          → AreBegun name held faults files setting run ticks made tried order groups
       begun_here k order groups are = record {
         created = written (take k setting.plan.sinks);
         others = written (drop k setting.plan.sinks);
         all = ap written (taken_and_left setting.plan.sinks k) ∙ written_both (take k setting.plan.sinks) (drop k setting.plan.sinks);
-        parts = λ rest. created_as (IsReady name held left files setting ticks) (IsPart name held files (setting_then setting run rest) ticks made) (part_of_ready made (λ buffer. answers_of run buffer ++ rest buffer))
+        parts = λ rest. created_as (IsReady name held left files setting ticks) (IsPart name held faults files (setting_then setting run rest) ticks made tried) (part_of_ready made tried none (λ buffer. answers_of run buffer ++ rest buffer))
             (written (take k setting.plan.sinks)) order groups are;
       }
 
       pub begun_next : (k : ℕ) (title : List ℕ) (node : ℕ) (fallible : Bool) (order : List ℕ) (groups : List (List S)) → slice_get setting.plan.sinks k ≡ Some (Output title node fallible)
-          → ((rest : ℕ → List Answer) → AreCreated (IsPart name held files (setting_then setting run rest) ticks made) (written (take k setting.plan.sinks) ++ (record { name = title; node = node }) ∷ []) order groups)
-          → AreBegun name held files setting run ticks made order groups
+          → ((rest : ℕ → List Answer) → AreCreated (IsPart name held faults files (setting_then setting run rest) ticks made tried) (written (take k setting.plan.sinks) ++ (record { name = title; node = node }) ∷ []) order groups)
+          → AreBegun name held faults files setting run ticks made tried order groups
       begun_next k title node fallible order groups at are = record {
         created = written (take (suc k) setting.plan.sinks);
         others = written (drop (suc k) setting.plan.sinks);
         all = ap written (taken_and_left setting.plan.sinks (suc k)) ∙ written_both (take (suc k) setting.plan.sinks) (drop (suc k) setting.plan.sinks);
-        parts = λ rest. subst (λ ys. AreCreated (IsPart name held files (setting_then setting run rest) ticks made) ys order groups) (sym (written_more setting.plan.sinks k title node fallible at)) (are rest);
+        parts = λ rest. subst (λ ys. AreCreated (IsPart name held faults files (setting_then setting run rest) ticks made tried) ys order groups) (sym (written_more setting.plan.sinks k title node fallible at)) (are rest);
       }
 
       -- after a creation that broke off
@@ -204,12 +210,12 @@ module _ {S : Type 0} (name held : S → Option (List ℕ)) (left : S → Option
           → slice_get setting.plan.sinks k ≡ Some (Output title node fallible) → header ≡ header_for setting ticks node
           → AreCreated (IsReady name held left files setting ticks) (written (take k setting.plan.sinks)) order old
           → NoneCreated order order_new old new ⊎ WasBroken name held faults files clock title header order order_new old new
-          → AreBegun name held files setting run ticks made order_new new
-      begun_broken k title node fallible clock header order order_new old new low at header_is are (inl none) =
-          subst (λ o. AreBegun name held files setting run ticks made o new) (sym none.order_is) (subst (λ gs. AreBegun name held files setting run ticks made order gs) (sym none.same) (begun_here k order old are))
+          → AreBegun name held faults files setting run ticks made tried order_new new
+      begun_broken k title node fallible clock header order order_new old new low at header_is are (inl same) =
+          subst (λ o. AreBegun name held faults files setting run ticks made tried o new) (sym same.order_is) (subst (λ gs. AreBegun name held faults files setting run ticks made tried order gs) (sym same.same) (begun_here k order old are))
       begun_broken k title node fallible clock header order order_new old new low at header_is are (inr broken) =
           begun_next k title node fallible order_new new at
-          (λ rest. part_more made (λ buffer. answers_of run buffer ++ rest buffer) (written (take k setting.plan.sinks)) (record { name = title; node = node }) clock header order order_new old new low header_is are broken)
+          (λ rest. part_more made tried none (λ buffer. answers_of run buffer ++ rest buffer) (written (take k setting.plan.sinks)) (record { name = title; node = node }) clock header order order_new old new low header_is are broken)
 
 pub written_next : (sinks : List SinkPlan) (k : ℕ) (name : List ℕ) (node : ℕ) (fallible : Bool) → slice_get sinks k ≡ Some (Output name node fallible)
     → written (take (k + 1) sinks) ≡ written (take k sinks) ++ (record { name = name; node = node }) ∷ []
@@ -234,9 +240,10 @@ module _ {S : Type 0} (name held : S → Option (List ℕ)) (left : S → Option
       (subst (λ f. WasCreated name held left f clock title header body order order_new old new) same (subst (λ t. WasCreated name held left before clock t header body order order_new old new) said_is was)))
 
   -- after one that broke off
-  pub broken_off : (run : Run) (made : ℕ) → NoneCreated order order_new old new ⊎ WasBroken name held faults before clock said header order order_new old new → AreBegun name held files setting run ticks made order_new new
-  broken_off run made was =
-      begun_broken name held left faults files setting ticks run made k title node fallible clock header order order_new old new low at header_is are
+  pub broken_off : (run : Run) (made tried : ℕ → ℕ) → ((k : ℕ) → made k ≡ 0) → NoneCreated order order_new old new ⊎ WasBroken name held faults before clock said header order order_new old new
+      → AreBegun name held faults files setting run ticks made tried order_new new
+  broken_off run made tried none was =
+      begun_broken name held left faults files setting ticks run made tried none k title node fallible clock header order order_new old new low at header_is are
       (subst (λ f. NoneCreated order order_new old new ⊎ WasBroken name held faults f clock title header order order_new old new) same
       (subst (λ t. NoneCreated order order_new old new ⊎ WasBroken name held faults before clock t header order order_new old new) said_is was))
 

@@ -2,54 +2,82 @@
 use Rattle.std.proofs.Common.{◌≡◌, ◌+◌, ◌∙◌, ◌++◌, true, ℕ, Bool, List, [], ◌∷◌, length, map, flat_map, slice_get, slice_index_or, arith, refl, ap, sym, subst}
 use Rattle.std.specs.Prelude.{Option, Some, None, count_by, is_none, is_some, not}
 use Rattle.std.proofs.lemmas.List.{map-append}
-use native.Mathlib.Nat.{min-le_left}
+use native.Mathlib.Nat.{min-le_right}
 use Rattle.liq_base.specs.Counts.{Rose}
 use Rattle.clock_infer.specs.declared.clock_map.ClockMap.{ClockMap}
 use Rattle.stream_meaning.specs.Instants.{Setting}
-use Rattle.stream_meaning.specs.Sinks.{ticks_bytes}
 use Rattle.stream_meaning.proofs.Answering.{begin_none}
 use Rattle.node_states.specs.Ticks.{IsOutput, with_rest}
 use Rattle.clock_outputs.specs.Appends.{RoseAt}
-use Rattle.run_records.specs.Records.{AreRoundsBegun, IsRounds, Run, Window, setting_then}
+use Rattle.run_records.specs.Records.{AreRoundsBegun, Follows, IsRounds, Run, Window, calls_in, capacity_of, made_by, on, setting_then, ticks_by}
 use Rattle.clock_engine.specs.declared.engine.ClockEngine.{ClockEngine}
 use Rattle.clock_engine.specs.Engines.{setting_of}
 use Rattle.buffer_queue.specs.Window.{is_chunk}
 use Rattle.buffer_ends.specs.Local.{Answers, puts_of, takes_of_window, yes}
 use Rattle.buffer_ends.specs.declared.counts.Counts.{Counts}
 use Rattle.buffer_ends.specs.declared.run_end.End.{End}
-use Rattle.rounds_run.specs.Rounds.{made_by, ticks_by}
+use Rattle.rounds_run.specs.Rounds.{HaveRunPart}
+use Rattle.run_records.specs.Buffers.{feeder}
+use Rattle.run_records.proofs.Flattening.{start_zero}
+use Rattle.frame_core.specs.Legal.{Legal, IsRun}
+use Rattle.stream_meaning.specs.Calls.{IsBegin, joined_between, joined_upto}
+use Rattle.std.proofs.lemmas.Bool.{le-ltb}
 use Rattle.rounds_run.specs.Runs.{counts_of_windows}
 use Rattle.rounds_run.specs.Runs as rounds
-use Rattle.rounds_run.proofs.Fronts.{front_of, ticks_front}
 use Rattle.rounds_run.proofs.Lawful.{none_counted, some_counted}
 use Rattle.rounds_run.proofs.Records.{run_of, window_at, windows_many}
 use Rattle.buffer_sides.specs.Logs.{told}
 use Rattle.clock_threads.specs.Logs.{counts_in}
 use Rattle.clock_threads.specs.Runs as threads
-use Rattle.stations.specs.Stations.{IsBegunIn, IsLawfulIn}
+use Rattle.stations.specs.Stations.{IsBegunIn, IsLawfulIn, made_in}
 use Rattle.station_render.specs.Sinks.{HasFailed}
 use Rattle.station_render.specs.Engines.{AreAt, IsAt, outs_of}
 use Rattle.station_render.specs.Runs.{RanAll, RanSome}
 use Rattle.station_render.proofs.Lists.{got_is, mapped, within}
 
--- a run that made no call
-pub not_begun : (setting : Setting) (clocks ticks : ℕ) (window : Option ℕ) → IsBegunIn setting clocks ticks window (run_of (length setting.plan.buffers) [])
-not_begun setting clocks ticks None = record {
-  buffers = windows_many [] 0 (length setting.plan.buffers);
-  calls = [];
-  begun = λ rest. ((λ m t buffer. true), begin_none _);
-  are = window_at (length setting.plan.buffers) [];
-  in_order = λ buffer low. ([], refl);
-}
-not_begun setting clocks ticks (Some window) = record {
-  buffers = windows_many [] 0 (length setting.plan.buffers);
-  accepted = λ m t buffer. true;
-  closed = 0;
-  since = λ m. [];
-  begun = λ rest m. begin_none _;
-  are = λ rest. window_at (length setting.plan.buffers) [];
-  legal = λ rest buffer low. ([], refl);
-}
+-- no tick before the first turn
+none_by : (ticks k : ℕ) → ticks_by ticks 0 0 k ≡ 0
+none_by ticks k = let low = min-le_right ticks (made_by 0 0 k) in let none : made_by 0 0 k ≡ 0 = rw (le-ltb k 0 (omega arith)) refl in omega (arith, low, none)
+
+-- a run that made no call, in which no clock made a tick
+pub not_begun : (setting : Setting) (clocks ticks : ℕ) (window : Option ℕ) → (begun : IsBegunIn setting clocks ticks window (run_of (length setting.plan.buffers) []))
+    × ((k : ℕ) → made_in setting clocks ticks window (run_of (length setting.plan.buffers) []) begun k ≡ 0)
+not_begun setting clocks ticks None = (
+  record {
+    buffers = windows_many [] 0 (length setting.plan.buffers);
+    calls = [];
+    round = 0;
+    clock = 0;
+    begun = λ rest. ((λ m t buffer. true), begin_none _);
+    turn = λ rest. ((λ m t buffer. true), begin_none [], begin_none _);
+    are = window_at (length setting.plan.buffers) [];
+    in_order = λ buffer low. ([], refl);
+  },
+  none_by ticks,
+)
+not_begun setting clocks ticks (Some window) = (
+  record {
+    buffers = windows_many [] 0 (length setting.plan.buffers);
+    accepted = λ m t buffer. true;
+    closed = 0;
+    made = λ m. 0;
+    tried = λ m. 0;
+    since = λ m. [];
+    within = λ m. record { least = (let z = start_zero window ticks in omega (arith, z)); most = omega arith; no_fewer = omega arith; one_more = omega arith };
+    level = λ m n low less same again. refl;
+    ended = λ m n low stopped same. absurd (omega (arith, stopped));
+    whole = λ rest m. subst (λ n. IsBegin (joined_between (calls_in (setting_then setting (run_of (length setting.plan.buffers) []) rest) clocks (λ m t buffer. true) m) n 0) []) (sym (start_zero window ticks)) (begin_none []);
+    begun = λ rest m. begin_none _;
+    are = λ rest. window_at (length setting.plan.buffers) [];
+    legal = λ buffer low. ([], subst (λ (ws : List Window). IsRun (capacity_of setting buffer) [] ws []) (sym (window_at (length setting.plan.buffers) [] buffer low)) ([], Legal.ended, refl));
+    in_order = λ rest buffer low one. (
+      [],
+      subst (λ n. Follows (capacity_of setting buffer) [] (on buffer (joined_upto (calls_in (setting_then setting (run_of (length setting.plan.buffers) []) rest) clocks (λ m t buffer. true) (feeder setting buffer)) n ++ [])) [])
+          (sym (start_zero window ticks)) refl,
+    );
+  },
+  λ k. refl,
+)
 
 -- the record of a run has the windows of each buffer
 pub lawful_many : (setting : Setting) (clocks ticks : ℕ) (window : Option ℕ) (run : Run) → IsLawfulIn setting clocks ticks window run → length run.buffers ≡ length setting.plan.buffers
@@ -106,32 +134,15 @@ module _ {S : Type 0} {held name : S → Option (List ℕ)} {faults : S → ℕ}
   }
 
   pub rounds_some : {end : End} → rounds.HasRunSome held name faults setting ticks old new end → RanSome held name faults setting clocks ticks None old new end
-  rounds_some ran = record {
-    run = ran.run;
-    begun = subst (λ n. AreRoundsBegun setting n ticks ran.run) all ran.begun;
-    part = record {
-      size = ran.part.size;
-      each = λ k before after was is.
-          let made = ran.part.each k before after was is in
-          let most = ticks_by ticks ran.round (ran.clock + 1) k in
-          record {
-            setting = made.setting;
-            clock = made.clock;
-            part = λ rest sink node out.
-                let some = made.part rest sink node out in
-                let world : Setting = setting_then setting ran.run rest in (
-                  some.0,
-                  record { rest = some.0; whole_is = refl },
-                  front_of some.0 (ticks_bytes world node most) (ticks_bytes world node ticks) some.2 (ticks_front world node most ticks (min-le_left ticks (made_by ran.round (ran.clock + 1) k))),
-                  some.3,
-                );
-            none_fell = made.none_fell;
-            outs = made.outs;
-            kept = made.kept;
-          };
-    };
-    failed = λ failed sink is. let write = ran.write failed sink is in failed_at faults ran.clock write.place new write.before write.after write.is write.rose;
-  }
+  rounds_some ran =
+      let moved = subst (λ n. (begun : AreRoundsBegun setting n ticks ran.run)
+      × HaveRunPart held name faults (setting_then setting ran.run) (ticks_by ticks begun.round begun.clock) (ticks_by ticks begun.round (begun.clock + 1)) old new) all (ran.begun, ran.part) in
+      record {
+        run = ran.run;
+        begun = moved.0;
+        part = moved.1;
+        failed = λ failed sink is. let write = ran.write failed sink is in failed_at faults ran.begun.clock write.place new write.before write.after write.is write.rose;
+      }
 
 output_in : {S : Type 0} (setting : Setting) (k : ℕ) (engine : ClockEngine S) → IsAt setting k engine → (sink node : ℕ) → IsOutput (setting_of engine.parts) engine.parts.clock sink node → IsOutput setting k sink node
 output_in setting k engine is sink node out = subst (λ (z : Setting × ℕ). IsOutput z.0 z.1 sink node) (λ i. (is.over i, is.clock_is i)) out
@@ -155,6 +166,7 @@ module _ {S : Type 0} {held name : S → Option (List ℕ)} {faults : S → ℕ}
           record {
             over = made.same.setting;
             clock = made.same.clock;
+            keeping = made.same.keeping;
             answers = made.answers;
             rest = made.rest;
             given = ap (λ s. with_rest s made.answers made.rest) fresh.over ∙ made.are;
@@ -177,13 +189,12 @@ module _ {S : Type 0} {held name : S → Option (List ℕ)} {faults : S → ℕ}
       size = ran.many;
       each = λ k before after was is.
           let fresh = at.each k before was in
-          let made = subst (λ (z : ClockEngine S × ClockEngine S). threads.HasMadePart held name faults setting ran.run window ticks ran.begun.closed k z.0 z.1) (both_are old new k before after was is) (ran.engines k before (within old k before was)) in
+          let made = subst (λ (z : ClockEngine S × ClockEngine S). threads.HasMadePart held name faults setting ran.run (ran.begun.made k) (ran.begun.tried k) k z.0 z.1) (both_are old new k before after was is) (ran.engines k before (within old k before was)) in
           record {
             setting = made.same.setting;
             clock = made.same.clock;
             part = λ rest sink node out.
-                let some = made.part rest sink node (output_in setting k before fresh sink node out) in
-                (some.0, record { rest = some.0; whole_is = refl }, some.2, some.3);
+                made.part rest sink node (output_in setting k before fresh sink node out);
             none_fell = made.same.none_fell;
             outs = made.same.outs;
             kept = made.same.kept;

@@ -1,5 +1,5 @@
 -- What a run of all engines leaves in the sinks, once they are given back.
-use Rattle.std.proofs.Common.{◌≡◌, ◌<◌, ◌+◌, ◌∙◌, ◌++◌, ℕ, suc, List, [], ◌∷◌, length, map, get_or, slice_index_or, arith, refl, ap, sym, subst}
+use Rattle.std.proofs.Common.{◌≡◌, ◌<◌, ◌+◌, ◌∙◌, ◌++◌, ℕ, suc, List, [], ◌∷◌, length, map, get_or, slice_index_or, arith, refl, ap, sym, subst, false}
 use Rattle.std.specs.Prelude.{Option, Result, Ok, Err, OnOk, IfOk}
 use Rattle.liq_base.specs.Files.{Files}
 use Rattle.liq_base.specs.Pieces.{HasRoom}
@@ -19,7 +19,7 @@ use Rattle.rounds_run.specs.Runs.{AreOver, counts_of_windows}
 use Rattle.rounds_run.proofs.Records.{run_of}
 use Rattle.clock_threads.specs.Runs as threads
 use Rattle.stations.specs.Findings.{IsFit}
-use Rattle.stations.specs.Stations.{Station, most_in}
+use Rattle.stations.specs.Stations.{Station, made_in, tried_in}
 use Rattle.stations.specs.Streams.{counts_in}
 use Rattle.station_render.specs.Sinks.{AreCreated, HasFailed}
 use Rattle.station_render.specs.Engines.{AreEmptyBelow, ArePast, outs_of}
@@ -50,7 +50,7 @@ module _ (plan : Plan) (library : Sounds) (clocks : ClockMap) (start ticks : ℕ
   setting = setting_for plan library clocks start
 
   abbrev station : (window : Option ℕ) → (trace : Option (List ℕ)) → Station
-  station window trace = record { plan = plan; library = library; clocks = clocks; start = start; ticks = ticks; window = window; trace = trace }
+  station window trace = record { plan = plan; library = library; clocks = clocks; start = start; ticks = ticks; window = window; trace = trace; cues = false }
 
   pub in_main : AreMain plan clocks → LieInMain setting plan.sinks
   in_main main k name node fallible at = let found = main k name node fallible at in (found.0, got_is clocks.of node (Main found.0) (Main 0) found.2)
@@ -58,15 +58,18 @@ module _ (plan : Plan) (library : Sounds) (clocks : ClockMap) (start ticks : ℕ
   -- no engine was made, and the sinks are as they were
   pub starved : {S : Type 0} (name held : S → Option (List ℕ)) (left : S → Option ℕ) (faults : S → ℕ) (groups : List (List S)) (files : Option Files) (window : Option ℕ) (trace : Option (List ℕ))
       → AreCreated (IsReady name held left files setting ticks) (written plan.sinks) (order_of setting (written plan.sinks)) groups
-      → RanPart name held files (station window trace) (order_of setting (written plan.sinks)) groups
-  starved name held left faults groups files window trace ready = let made = most_in setting clocks.running ticks window (run_of (length plan.buffers) []) (not_begun setting clocks.running ticks window) in record {
-    run = run_of (length plan.buffers) [];
-    begun = not_begun setting clocks.running ticks window;
-    parts = begun_all name held files setting (run_of (length plan.buffers) []) ticks made (order_of setting (written plan.sinks)) groups
-        (λ rest. created_as (IsReady name held left files setting ticks) (IsPart name held files (setting_then setting (run_of (length plan.buffers) []) rest) ticks made)
-        (part_of_ready name held left faults files setting ticks made (λ buffer. answers_of (run_of (length plan.buffers) []) buffer ++ rest buffer))
-        (written plan.sinks) (order_of setting (written plan.sinks)) groups ready);
-  }
+      → RanPart name held faults files (station window trace) (order_of setting (written plan.sinks)) groups
+  starved name held left faults groups files window trace ready =
+      let begun = not_begun setting clocks.running ticks window in let none = run_of (length plan.buffers) [] in
+      let made = made_in setting clocks.running ticks window none begun.0 in let tried = tried_in setting clocks.running ticks window none begun.0 in
+      record {
+        run = none;
+        begun = begun.0;
+        parts = begun_all name held faults files setting none ticks made tried (order_of setting (written plan.sinks)) groups
+            (λ rest. created_as (IsReady name held left files setting ticks) (IsPart name held faults files (setting_then setting none rest) ticks made tried)
+            (part_of_ready name held left faults files setting ticks made tried begun.1 (λ buffer. answers_of none buffer ++ rest buffer))
+            (written plan.sinks) (order_of setting (written plan.sinks)) groups ready);
+      }
 
 -- the same engines in another place
 pub opened_at : {S : Type 0} {name held : S → Option (List ℕ)} {left : S → Option ℕ} {files : Option Files} {setting : Setting} {clocks : ClockMap} {ticks : ℕ} {order : List ℕ} {engines old : List (ClockEngine S)} {groups : List (List S)}
@@ -139,13 +142,14 @@ module _ {plan : Plan} {library : Sounds} {clocks : ClockMap} {start ticks : ℕ
       stand_so ran = (world, setting_in world ran.run, ticks, refl, refl, stand ran)
 
       module _ {groups_new : List (List S)} (back : groups_new ≡ outs_of last) where
-        pub part_back : {trace : Option (List ℕ)} {end : End} → RanSome held name faults world clocks.running ticks window old new end → RanPart name held files (record { plan = plan; library = library; clocks = clocks; start = start; ticks = ticks; window = window; trace = trace }) order groups_new
+        pub part_back : {trace : Option (List ℕ)} {end : End} → RanSome held name faults world clocks.running ticks window old new end → RanPart name held faults files (record { plan = plan; library = library; clocks = clocks; start = start; ticks = ticks; window = window; trace = trace; cues = false }) order groups_new
         part_back some = record {
           run = some.run;
           begun = some.begun;
-          parts = begun_all name held files world some.run ticks (most_in world clocks.running ticks window some.run some.begun) order groups_new
-              (λ rest. subst (λ (z : List ℕ × List (List S)). AreCreated (IsPart name held files (setting_then world some.run rest) ticks (most_in world clocks.running ticks window some.run some.begun)) (written plan.sinks) z.0 z.1) (λ i. (sym opened.order_is i, sym (groups_are groups_new back) i))
-              (all_part world ticks mains name held left faults files old new opened.at opened.ready some.run (λ k. 0) (most_in world clocks.running ticks window some.run some.begun) some.part rest));
+          parts = begun_all name held faults files world some.run ticks (made_in world clocks.running ticks window some.run some.begun) (tried_in world clocks.running ticks window some.run some.begun) order groups_new
+              (λ rest. subst (λ (z : List ℕ × List (List S)). AreCreated (IsPart name held faults files (setting_then world some.run rest) ticks (made_in world clocks.running ticks window some.run some.begun) (tried_in world clocks.running ticks window some.run some.begun)) (written plan.sinks) z.0 z.1)
+              (λ i. (sym opened.order_is i, sym (groups_are groups_new back) i))
+              (all_part world ticks mains name held left faults files old new opened.at opened.ready some.run (made_in world clocks.running ticks window some.run some.begun) (tried_in world clocks.running ticks window some.run some.begun) some.part rest));
         }
 
         pub failed_back : {end : End} → RanSome held name faults world clocks.running ticks window old new end → (clock sink : ℕ) → end ≡ Write clock sink → HasFailed faults groups_new
@@ -153,7 +157,7 @@ module _ {plan : Plan} {library : Sounds} {clocks : ClockMap} {start ticks : ℕ
 
         -- where all ticks were made, this is told of them
         whole_back : {trace : Option (List ℕ)} {counts : List Counts} {logs : List (List Answers)} (ran : RanAll held name faults world clocks.running ticks window old new counts logs) (rendered : Rendered)
-            → rendered.counts.items ≡ counts → rendered.logs.items ≡ logs → rendered.gaps.items ≡ counts_in (setting_in world ran.run) ticks plan.sinks → RanWhole name held files (record { plan = plan; library = library; clocks = clocks; start = start; ticks = ticks; window = window; trace = trace }) order groups_new rendered
+            → rendered.counts.items ≡ counts → rendered.logs.items ≡ logs → rendered.gaps.items ≡ counts_in (setting_in world ran.run) ticks plan.sinks → RanWhole name held files (record { plan = plan; library = library; clocks = clocks; start = start; ticks = ticks; window = window; trace = trace; cues = false }) order groups_new rendered
         whole_back ran rendered counts_are logs_are gaps_are = record {
           run = ran.run;
           lawful = ran.lawful;
@@ -170,7 +174,7 @@ module _ {plan : Plan} {library : Sounds} {clocks : ClockMap} {start ticks : ℕ
         pub whole_told : (trace : Option (List ℕ)) {counts : List Counts} {logs : List (List Answers)} {E Done : Type 0} (result : Result Rendered E)
             → (Done → RanAll held name faults world clocks.running ticks window old new counts logs) → OnOk result Done
             → IfOk result (λ rendered. (other meant : Setting) (t : ℕ) → other.plan ≡ plan → other.clocks ≡ clocks.of → ArePast other meant t last → rendered.gaps.items ≡ counts_in meant t plan.sinks)
-            → IfOk result (λ rendered. rendered.counts.items ≡ counts) → IfOk result (λ rendered. rendered.logs.items ≡ logs) → IfOk result (RanWhole name held files (record { plan = plan; library = library; clocks = clocks; start = start; ticks = ticks; window = window; trace = trace }) order groups_new)
+            → IfOk result (λ rendered. rendered.counts.items ≡ counts) → IfOk result (λ rendered. rendered.logs.items ≡ logs) → IfOk result (RanWhole name held files (record { plan = plan; library = library; clocks = clocks; start = start; ticks = ticks; window = window; trace = trace; cues = false }) order groups_new)
         whole_told trace (Ok rendered) all done gaps counts_are logs_are =
             let ran = all done in
             whole_back ran rendered counts_are logs_are (gaps world (setting_in world ran.run) ticks refl refl (stand ran))

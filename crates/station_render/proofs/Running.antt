@@ -1,5 +1,5 @@
 -- What a run leaves in the sinks of a clock, place by place.
-use Rattle.std.proofs.Common.{◌≡◌, ◌<◌, ◌∙◌, ◌++◌, ℕ, zero, suc, Bool, true, false, List, [], ◌∷◌, length, slice_get, get_or, nat_eq, arith, refl, ap, sym, subst, append_assoc, if◌then◌else◌}
+use Rattle.std.proofs.Common.{◌≡◌, ◌<◌, ◌∙◌, ◌++◌, ℕ, zero, suc, Bool, true, false, List, [], ◌∷◌, length, slice_get, get_or, nat_eq, arith, refl, ap, sym, subst, append_assoc, inl, if◌then◌else◌}
 use Rattle.std.specs.Prelude.{Option, Some, None}
 use Rattle.std.specs.List.{AllZip}
 use Rattle.std.proofs.lemmas.Bool.{eq-eqb, false_from_ne_true, eqb-true}
@@ -25,6 +25,7 @@ use Rattle.run_records.specs.Records.{Run, setting_then}
 use Rattle.stations.specs.Streams.{header_for}
 use Rattle.station_render.specs.Sinks.{AreCreated, of_clock}
 use Rattle.station_render.specs.Engines.{AreAt, ArePast, IsAt, IsPast, outs_of}
+use Rattle.run_records.specs.Buffers.{main_of as main_clock, main_within}
 use Rattle.station_render.specs.Renders.{IsPart, IsReady, IsWhole, Written, body_size, main_of, order_of, written}
 use Rattle.station_render.proofs.Lists.{got_is, mapped, many_mapped, unmapped, within}
 use Rattle.station_render.proofs.Dealing.{zip_at, zip_from, zip_size}
@@ -153,11 +154,16 @@ module _ {S : Type 0} (held name : S → Option (List ℕ)) (faults : S → ℕ)
   -- after a part of them
   pub part_at : (worlds : (ℕ → List Answer) → Setting) (least most : ℕ) → HasRunPart held name faults worlds least most old new → (rest : ℕ → List Answer) (j : ℕ) (output : Written) (before after : S)
       → slice_get mine j ≡ Some output → slice_get old.outs j ≡ Some before → slice_get new.outs j ≡ Some after
-      → (name after ≡ name before) × ((bytes : List ℕ) × IsPrefix bytes (ticks_bytes (worlds rest) output.node most) × (held after ≡ grown bytes (held before)))
+      → (name after ≡ name before)
+      × ((bytes : List ℕ) × IsPrefix (ticks_bytes (worlds rest) output.node least) bytes × IsPrefix bytes (ticks_bytes (worlds rest) output.node most) × (held after ≡ grown bytes (held before)))
   part_at worlds least most run rest j output before after at was is =
       let both = held_both run.setting run.clock j output before after at was is in
       let part = run.part rest both.0 output.node both.1 in
-      ((run.kept.each j before after was is).0, (part.0, part.2, sym both.3 ∙ part.3 ∙ ap (grown part.0) both.2))
+      ((run.kept.each j before after was is).0, (part.0, part.1, part.2, sym both.3 ∙ part.3 ∙ ap (grown part.0) both.2))
+
+  -- the output lies in this clock
+  pub lies_here : (j : ℕ) (output : Written) → slice_get mine j ≡ Some output → clock_of here output.node ≡ Main old.parts.clock
+  lies_here j output at = (placed_at here old.parts.clock main j output at).is_output.in_clock
 
   -- the room of each sink is that for its output
   pub rooms_at : (left : S → Option ℕ) → ((j : ℕ) (output : Written) (out : S) → slice_get mine j ≡ Some output → slice_get old.outs j ≡ Some out → HasRoom (left out) (body_size here ticks output.node))
@@ -250,9 +256,9 @@ module _ {S : Type 0} (setting : Setting) (ticks : ℕ) (main : LieInMain settin
           }));
     }
 
-    pub all_part : (run : Run) (least : ℕ → ℕ) (made : ℕ) → HaveRunPart held name faults (setting_then setting run) least (λ k. made) old new → (rest : ℕ → List Answer)
-        → AreCreated (IsPart name held files (setting_then setting run rest) ticks made) (written setting.plan.sinks) (order_of setting (written setting.plan.sinks)) (outs_of new)
-    all_part record_of least made run rest = record {
+    pub all_part : (run : Run) (least most : ℕ → ℕ) → HaveRunPart held name faults (setting_then setting run) least most old new → (rest : ℕ → List Answer)
+        → AreCreated (IsPart name held faults files (setting_then setting run rest) ticks least most) (written setting.plan.sinks) (order_of setting (written setting.plan.sinks)) (outs_of new)
+    all_part record_of least most run rest = record {
       size = ready.size;
       below = λ k clock there. subst (λ n. clock < n) (sym (same_many run.size)) (ready.below k clock there);
       each = λ m group there.
@@ -261,25 +267,32 @@ module _ {S : Type 0} (setting : Setting) (ticks : ℕ) (main : LieInMain settin
           let is = at.each m found.0 found.2 in
           let ran = run.each m found.0 found.1 found.2 found.3 in
           let zip = ready.each m found.0.outs (mapped (λ (e : ClockEngine S). e.outs) old m found.0 found.2) in
-          subst (λ g. AllZip (IsPart name held files world ticks made) (of_clock m (order_of setting (written setting.plan.sinks)) (written setting.plan.sinks)) g) found.4
-          (zip_from (IsPart name held files world ticks made) (of_clock m (order_of setting (written setting.plan.sinks)) (written setting.plan.sinks)) found.1.outs
+          subst (λ g. AllZip (IsPart name held faults files world ticks least most) (of_clock m (order_of setting (written setting.plan.sinks)) (written setting.plan.sinks)) g) found.4
+          (zip_from (IsPart name held faults files world ticks least most) (of_clock m (order_of setting (written setting.plan.sinks)) (written setting.plan.sinks)) found.1.outs
           (ran.outs ∙ zip_size (IsReady name held left files setting ticks) (of_clock m (order_of setting (written setting.plan.sinks)) (written setting.plan.sinks)) found.0.outs zip)
           (λ j output after mine_at after_at.
           let low = within found.1.outs j after after_at in
           let size = ran.outs in
           let before = in_list found.0.outs j (omega (arith, low, size)) in
           let told = zip_at (IsReady name held left files setting ticks) (of_clock m (order_of setting (written setting.plan.sinks)) (written setting.plan.sinks)) found.0.outs j output before.0 zip mine_at before.1 in
-          let did = part_at held name faults ticks found.0 found.1 (main_here found.0 is.over) (setting_then setting record_of) (least m) made ran rest j output before.0 after
-          (ap (λ ws. slice_get ws j) (mine_is found.0 m is) ∙ mine_at) before.1 after_at in
-          let front = did.1.1 in
+          let mine_here = ap (λ ws. slice_get ws j) (mine_is found.0 m is) ∙ mine_at in
+          let did = part_at held name faults ticks found.0 found.1 (main_here found.0 is.over) (setting_then setting record_of) (least m) (most m) ran rest j output before.0 after mine_here before.1 after_at in
+          let lies : clock_of setting output.node ≡ Main m =
+          (λ i. clock_of (sym is.over i) output.node) ∙ lies_here held name faults ticks found.0 found.1 (main_here found.0 is.over) j output mine_here ∙ ap Main is.clock_is in
+          let clock : main_clock world output.node ≡ m = ap (main_within world (length world.plan.nodes)) lies in
+          let header = header_for setting ticks output.node in
           λ all here. record {
             named = did.0 ∙ (told.told all here).named;
-            part = header_for setting ticks output.node ++ did.1.0;
-            holds = did.1.2 ∙ ap (grown did.1.0) (told.told all here).holds;
-            front = record {
-              rest = front.rest;
-              whole_is = headed (header_for setting ticks output.node) did.1.0 front.rest (ticks_bytes world output.node made) front.whole_is;
+            part = header ++ did.1.0;
+            holds = did.1.3 ∙ ap (grown did.1.0) (told.told all here).holds;
+            most = record {
+              rest = did.1.2.rest;
+              whole_is = ap (λ k. header ++ ticks_bytes world output.node (most k)) clock ∙ headed header did.1.0 did.1.2.rest (ticks_bytes world output.node (most m)) did.1.2.whole_is;
             };
+            least = inl (record {
+              rest = did.1.1.rest;
+              whole_is = headed header (ticks_bytes world output.node (least m)) did.1.1.rest did.1.0 did.1.1.whole_is ∙ ap (λ k. (header ++ ticks_bytes world output.node (least k)) ++ did.1.1.rest) (sym clock);
+            });
           }));
     }
 

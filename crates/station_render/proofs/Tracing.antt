@@ -1,5 +1,5 @@
 -- The trace behind the outputs: what it leaves, and that a run's logs are one.
-use Rattle.std.proofs.Common.{◌≡◌, ◌<◌, ◌≤◌, ◌+◌, ◌*◌, ◌-◌, ◌/◌, ◌∙◌, ◌++◌, ◌⊎◌, ℕ, zero, suc, Bool, List, [], ◌∷◌, length, map, slice_index_or, append-nil, arith, refl, ap, sym, subst, inl, inr}
+use Rattle.std.proofs.Common.{◌≡◌, ◌<◌, ◌≤◌, ◌+◌, ◌*◌, ◌-◌, ◌/◌, ◌∙◌, ◌++◌, ◌⊎◌, ℕ, zero, suc, Bool, List, [], ◌∷◌, length, map, slice_index_or, append-nil, arith, refl, ap, sym, subst, inl, inr, false}
 use Rattle.std.specs.Prelude.{Option, Some, None, Result, Ok, Err, OnOk, OnErr, IfOk, IsSome, IsSomeAnd, is_some}
 use Rattle.std.specs.Option.{ForSome}
 use Rattle.std.proofs.lemmas.Nat.{div-mul-add}
@@ -22,14 +22,15 @@ use Rattle.clock_windows.proofs.Meeting.{low_or_high}
 use Rattle.clock_windows.proofs.Starts.{start_zero}
 use Rattle.trace_log.specs.Texts.{IsTrace, trace_text, windows_of}
 use Rattle.trace_log.specs.Values.{TraceValue}
-use Rattle.stations.specs.Outputs.{HoldsSome, OutputFile, with_outputs}
+use Rattle.stations.specs.Cues.{cues_if}
+use Rattle.stations.specs.Outputs.{OutputFile, with_outputs}
+use Rattle.stations.proofs.Parts.{outputs_within}
 use Rattle.stations.specs.Renderings.{WroteOutputsPart, WrotePart}
-use Rattle.stations.specs.Stations.{Station, most_of}
-use Rattle.stations.specs.Streams.{fronts_with, output_files}
+use Rattle.stations.specs.Stations.{Station, setting_of_run}
+use Rattle.stations.specs.Streams.{output_files}
 use Rattle.stations.specs.Traces.{traced, traces_in, traces_of}
 use Rattle.station_render.specs.Runs.{IsRendered, LeftPart, WroteOutputs}
 use Rattle.station_render.specs.declared.rendered.Rendered.{Rendered}
-use Rattle.station_render.proofs.Closing.{parts_later}
 use Rattle.station_render.proofs.Lists.{many_mapped, within}
 
 pub if_ok : {A E : Type 0} (r : Result A E) (P Q : A → Type 0) → ((x : A) → P x → Q x) → IfOk r P → IfOk r Q
@@ -76,35 +77,19 @@ both_outputs : (files : Files) (xs ys : List OutputFile) → with_outputs files 
 both_outputs files [] ys = refl
 both_outputs files (x ∷ xs) ys = both_outputs (with_file files x.name x.bytes) xs ys
 
--- a cause may be told as a wider one
-some_later : (cause more : Type 0) → (cause → more) → (files : Files) (outputs : List OutputFile) (after : Option Files) → IsSomeAnd after (HoldsSome cause files outputs) → IsSomeAnd after (HoldsSome more files outputs)
-some_later cause more f files outputs after some = some_and after (HoldsSome cause files outputs) (HoldsSome more files outputs)
-    (λ all parts. record {
-      created = parts.created;
-      others = parts.others;
-      outputs_are = parts.outputs_are;
-      parts = parts_later cause more f files parts.created all parts.parts;
-    }) some
-
-pub outputs_later : (station : Station) (cause more : Type 0) → (cause → more) → (files : Files) (after : Option Files) → WroteOutputsPart station cause files after → WroteOutputsPart station more files after
-outputs_later station cause more f files after wrote = record {
-  run = wrote.run;
-  begun = wrote.begun;
-  parts = λ rest. some_later cause more f files (fronts_with station wrote.run (most_of station wrote.run wrote.begun) rest) after (wrote.parts rest);
-}
-
--- without a trace the outputs are all files
-pub untraced : (station : Station) (before after : Option Files) → station.window ≡ None → (rendered : Rendered) → WroteOutputs station before after rendered → IsRendered station before after rendered
-untraced station before after alone rendered wrote = record {
+-- without a trace and cue files the outputs are all files
+pub untraced : (station : Station) (before after : Option Files) → station.window ≡ None → station.cues ≡ false → (rendered : Rendered) → WroteOutputs station before after rendered → IsRendered station before after rendered
+untraced station before after alone uncued rendered wrote = record {
   run = wrote.run;
   lawful = wrote.lawful;
   told = wrote.told;
   all_written = λ files at.
       let outputs = output_files station wrote.run in
-      wrote.outputs_written files at ∙ ap (λ all. Some (with_outputs files all)) (sym (append-nil outputs) ∙ ap (λ w. outputs ++ traces_in w station wrote.run) (sym alone));
+      wrote.outputs_written files at ∙ ap (λ all. Some (with_outputs files all)) (sym (append-nil outputs) ∙ ap (λ w. outputs ++ traces_in w station wrote.run) (sym alone)
+      ∙ ap (λ b. outputs ++ (cues_if b (setting_of_run station wrote.run) station.ticks station.plan.sinks ++ traces_of station wrote.run)) (sym uncued));
 }
 
-module _ (station : Station) (window : ℕ) (in_windows : station.window ≡ Some window) (before mid : Option Files) (rendered : Rendered) (wrote : WroteOutputs station before mid rendered) where
+module _ (station : Station) (window : ℕ) (in_windows : station.window ≡ Some window) (uncued : station.cues ≡ false) (before mid : Option Files) (rendered : Rendered) (wrote : WroteOutputs station before mid rendered) where
   abbrev outputs : List OutputFile
   outputs = output_files station wrote.run
 
@@ -129,16 +114,16 @@ module _ (station : Station) (window : ℕ) (in_windows : station.window ≡ Som
     };
     all_written = λ files at.
         written (with_outputs files outputs) (wrote.outputs_written files at)
-        ∙ ap (λ (all : Files). Some all) (ap (with_outputs (with_outputs files outputs)) (sym traces_are) ∙ sym (both_outputs files outputs (traces_of station wrote.run)));
+        ∙ ap (λ (all : Files). Some all) (ap (with_outputs (with_outputs files outputs)) (sym traces_are) ∙ sym (both_outputs files outputs (traces_of station wrote.run))
+        ∙ ap (λ b. with_outputs files (outputs ++ (cues_if b (setting_of_run station wrote.run) station.ticks station.plan.sinks ++ traces_of station wrote.run))) (sym uncued));
   }
   files_written (Err e) after gaps counts logs written = tt
 
   -- or a part of them
-  pub part_written : (w0 w1 w2 : ℕ) → w0 ≤ w1 → w1 ≤ w2 → (after : Option Files) → ForSome before (λ files. WroteOutputsPart station (Rose w0 w1) files mid)
-      → (after ≡ mid) ⊎ LeftPart station.trace trace (Rose w1 w2) mid after → ForSome before (λ files. WrotePart station (Rose w0 w2) files after)
+  pub part_written : (w0 w1 w2 : ℕ) → w0 ≤ w1 → w1 ≤ w2 → (after : Option Files) → ForSome before (λ files. WroteOutputsPart station w0 w1 files mid)
+      → (after ≡ mid) ⊎ LeftPart station.trace trace (Rose w1 w2) mid after → ForSome before (λ files. WrotePart station w0 w2 files after)
   part_written w0 w1 w2 low high after part (inl same) = λ files at.
-      inl (subst (λ a. WroteOutputsPart station (Rose w0 w2) files a) (sym same)
-      (outputs_later station (Rose w0 w1) (Rose w0 w2) (rose_within w0 w0 w1 w2 (omega arith) high) files mid (part files at)))
+      inl (subst (λ a. WroteOutputsPart station w0 w2 files a) (sym same) (outputs_within station w0 w0 w1 w2 (omega arith) high files mid (part files at)))
   part_written w0 w1 w2 low high after part (inr left) = λ files at. inr (record {
     run = wrote.run;
     lawful = wrote.lawful;

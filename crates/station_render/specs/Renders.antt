@@ -15,9 +15,10 @@ use Rattle.op_leaf.specs.Readers.{Answer}
 use Rattle.stream_meaning.specs.Instants.{Setting, clock_of}
 use Rattle.stream_meaning.specs.Sinks.{kind_of}
 use Rattle.run_records.specs.Records.{Run, setting_then}
-use Rattle.stations.specs.Outputs.{OutputFile}
+use Rattle.run_records.specs.Buffers.{main_of as main_clock}
+use Rattle.stations.specs.Outputs.{OutputFile, OutputPart}
 use Rattle.stations.specs.Streams.{front_bytes, header_for, output_bytes}
-use Rattle.station_render.specs.Sinks.{AreCreated, HoldsPart, HoldsWhole, WasAdded}
+use Rattle.station_render.specs.Sinks.{AreCreated, HoldsFront, HoldsPart, HoldsWhole, WasAdded}
 
 -- an output of a plan: its name and its node
 pub record Written : Type 0 where
@@ -43,9 +44,13 @@ order_of setting outputs = map (λ output. main_of (clock_of setting output.node
 abbrev pub file_of : Setting → (ticks : ℕ) → Written → OutputFile
 file_of setting ticks output = record { name = output.name; bytes = output_bytes setting ticks output.node }
 
--- the front of it, where so many ticks were made
-abbrev pub front_file : Setting → (ticks made : ℕ) → Written → OutputFile
-front_file setting ticks made output = record { name = output.name; bytes = front_bytes setting ticks made output.node }
+-- what was written of it, where clock m made so many ticks and tried so many
+abbrev pub front_file : Setting → (ticks : ℕ) → (made tried : ℕ → ℕ) → Written → OutputPart
+front_file setting ticks made tried output = record {
+  name = output.name;
+  least = front_bytes setting ticks (made (main_clock setting output.node)) output.node;
+  most = front_bytes setting ticks (tried (main_clock setting output.node)) output.node;
+}
 
 -- a plan with its files, its clocks and its start second, before its buffers have answered
 abbrev pub setting_for : Plan → Sounds → ClockMap → (start : ℕ) → Setting
@@ -60,20 +65,21 @@ pub record IsReady {S : Type 0} (name held : S → Option (List ℕ)) (left : S 
   pub told : ForSome files (λ all. HoldsWhole name held (record { name = output.name; bytes = header_for setting ticks output.node }) sink)
   pub room : HasRoom (left sink) (body_size setting ticks output.node)
 
--- where files are told, a sink holds the bytes of an output, or a first part of those of so many ticks
+-- where files are told, a sink holds the bytes of an output, or those of the ticks that its clock made, and a front of those of the ones
+-- that it tried
 abbrev pub IsWhole : {S : Type 0} → (S → Option (List ℕ)) → (S → Option (List ℕ)) → Option Files → Setting → (ticks : ℕ) → Written → S → Type 0
 IsWhole name held files setting ticks output sink = ForSome files (λ all. HoldsWhole name held (file_of setting ticks output) sink)
 
-abbrev pub IsPart : {S : Type 0} → (S → Option (List ℕ)) → (S → Option (List ℕ)) → Option Files → Setting → (ticks made : ℕ) → Written → S → Type 0
-IsPart name held files setting ticks made output sink = ForSome files (λ all. HoldsPart name held (front_file setting ticks made output) sink)
+abbrev pub IsPart : {S : Type 0} → (name held : S → Option (List ℕ)) → (S → ℕ) → Option Files → Setting → (ticks : ℕ) → (made tried : ℕ → ℕ) → Written → S → Type 0
+IsPart name held faults files setting ticks made tried output sink = ForSome files (λ all. HoldsFront name held faults (front_file setting ticks made tried output) sink)
 
--- the first outputs of a plan were created, and each sink holds a first part of its bytes of so many ticks in a run, whatever answers
--- follow
-pub record AreBegun {S : Type 0} (name held : S → Option (List ℕ)) (files : Option Files) (setting : Setting) (run : Run) (ticks made : ℕ) (order : List ℕ) (groups : List (List S)) : Type 0 where
+-- the first outputs of a plan were created, and each sink holds its bytes of the ticks that its clock made in a run, and a front of those of
+-- the ones that it tried, whatever answers follow; or it failed
+pub record AreBegun {S : Type 0} (name held : S → Option (List ℕ)) (faults : S → ℕ) (files : Option Files) (setting : Setting) (run : Run) (ticks : ℕ) (made tried : ℕ → ℕ) (order : List ℕ) (groups : List (List S)) : Type 0 where
   pub created : List Written
   pub others : List Written
   pub all : written setting.plan.sinks ≡ created ++ others
-  pub parts : (rest : ℕ → List Answer) → AreCreated (IsPart name held files (setting_then setting run rest) ticks made) created order groups
+  pub parts : (rest : ℕ → List Answer) → AreCreated (IsPart name held faults files (setting_then setting run rest) ticks made tried) created order groups
 
 -- a sink of this clock was created, and holds these bytes; it has room for so many more
 pub record WasCreated {S : Type 0} (name held : S → Option (List ℕ)) (left : S → Option ℕ) (files : Option Files) (clock : ℕ) (title bytes : List ℕ) (body : ℕ)

@@ -12,7 +12,7 @@ use Rattle.run_records.specs.Records.{Run, setting_in, setting_then, windows_of}
 use Rattle.trace_log.specs.Values.{TraceValue}
 use Rattle.stations.specs.Outputs.{OutputFile, with_outputs}
 use Rattle.stations.specs.Reports.{answers_line}
-use Rattle.stations.specs.Stations.{IsBegun, IsBegunIn, IsLawful, IsLawfulIn, Station, bare, most_in, most_of, setting_of_run, station_of}
+use Rattle.stations.specs.Stations.{IsBegun, IsBegunIn, IsLawful, IsLawfulIn, Station, bare, made_in, made_of, setting_of_run, station_of, tried_in, tried_of}
 use Rattle.stations.specs.Streams.{gaps_in_order, output_files}
 use Rattle.stations.specs.Traces.{files_of, traced}
 use Rattle.stations.specs.declared.ready.Ready.{Ready}
@@ -80,11 +80,11 @@ pub record RanWhole {S : Type 0} (name held : S → Option (List ℕ)) (files : 
   pub told : IsTold station run rendered
   pub whole : AreCreated (IsWhole name held files (setting_of_run station run) station.ticks) (written station.plan.sinks) order groups
 
--- a run of the station came so far that each sink holds a first part of its bytes
-pub record RanPart {S : Type 0} (name held : S → Option (List ℕ)) (files : Option Files) (station : Station) (order : List ℕ) (groups : List (List S)) : Type 0 where
+-- a run of the station came so far, and each sink holds as much of its bytes
+pub record RanPart {S : Type 0} (name held : S → Option (List ℕ)) (faults : S → ℕ) (files : Option Files) (station : Station) (order : List ℕ) (groups : List (List S)) : Type 0 where
   pub run : Run
   pub begun : IsBegun station run
-  pub parts : AreBegun name held files (bare station) run station.ticks (most_of station run begun) order groups
+  pub parts : AreBegun name held faults files (bare station) run station.ticks (made_of station run begun) (tried_of station run begun) order groups
 
 -- The outputs of a plan were created, in this order of their clocks, and the engines of all clocks took the sinks, each of which holds
 -- its header and has room for its samples. No tick was made.
@@ -107,13 +107,13 @@ pub record RanAll {S : Type 0} (held name : S → Option (List ℕ)) (faults : S
   pub counts_are : counts ≡ counts_of_run run
   pub logs_are : logs ≡ map (map told) run.buffers
 
--- The engines came so far, and this is their record: each has written a front of its bytes of as many ticks as a clock can have made,
--- whatever answers follow. A write that ended the run is one of a sink that failed.
+-- The engines came so far, and this is their record: each has written its bytes of the ticks that it made, and a front of those of the one
+-- that it tried, whatever answers follow. A write that ended the run is one of a sink that failed.
 pub record RanSome {S : Type 0} (held name : S → Option (List ℕ)) (faults : S → ℕ) (setting : Setting) (clocks ticks : ℕ) (window : Option ℕ)
     (old new : List (ClockEngine S)) (end : End) : Type 0 where
   pub run : Run
   pub begun : IsBegunIn setting clocks ticks window run
-  pub part : HaveRunPart held name faults (setting_then setting run) (λ k. 0) (λ k. most_in setting clocks ticks window run begun) old new
+  pub part : HaveRunPart held name faults (setting_then setting run) (made_in setting clocks ticks window run begun) (tried_in setting clocks ticks window run begun) old new
   pub failed : (clock sink : ℕ) → end ≡ Write clock sink → HasFailed faults (outs_of new)
 
 -- the lines of these counts, of which the first is that of this buffer

@@ -1,9 +1,9 @@
 -- The sinks of the outputs that were created, clock by clock.
-use Rattle.std.specs.Prelude.{◌≡◌, ◌<◌, ◌≤◌, ◌+◌, ℕ, suc, List, [], ◌∷◌, ◌++◌, Option, Some, Vec, length, map, nat_eq, slice_get, if◌then◌else◌, vec_len, vec_capacity}
+use Rattle.std.specs.Prelude.{◌≡◌, ◌⊎◌, ◌<◌, ◌≤◌, ◌+◌, ℕ, suc, List, [], ◌∷◌, ◌++◌, Option, Some, Vec, length, map, nat_eq, slice_get, if◌then◌else◌, vec_len, vec_capacity}
 use Rattle.std.specs.List.{AllZip, slice_set}
 use Rattle.std.specs.declared.alloc.Global.{Global}
 use Rattle.liq_base.specs.Pieces.{IsPrefix}
-use Rattle.stations.specs.Outputs.{OutputFile}
+use Rattle.stations.specs.Outputs.{OutputFile, OutputPart}
 
 -- of these items, one for each of these clocks, those of clock m
 abbrev pub of_clock : {Y : Type 0} → (m : ℕ) → List ℕ → List Y → List Y
@@ -70,6 +70,14 @@ pub record HoldsPart {S : Type 0} (name held : S → Option (List ℕ)) (output 
   pub part : List ℕ
   pub holds : held sink ≡ Some part
   pub front : IsPrefix part output.bytes
+
+-- the sink has the name of the output, and holds at least and at most its bytes; or a prefix of them, and it failed
+pub record HoldsFront {S : Type 0} (name held : S → Option (List ℕ)) (faults : S → ℕ) (output : OutputPart) (sink : S) : Type 0 where
+  pub named : name sink ≡ Some output.name
+  pub part : List ℕ
+  pub holds : held sink ≡ Some part
+  pub most : IsPrefix part output.most
+  pub least : IsPrefix output.least part ⊎ (0 < faults sink)
 
 -- the count of faults of a sink is above 0
 pub record HasFailed {S : Type 0} (faults : S → ℕ) (groups : List (List S)) : Type 0 where

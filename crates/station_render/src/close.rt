@@ -3,11 +3,11 @@ ghost use Rattle.std.specs.Prelude.{◌≡◌, ◌<◌, ◌≤◌, ◌⊎◌, �
 ghost use Rattle.std.specs.Option.{ForSome};
 ghost use Rattle.liq_base.specs.Counts.{Rose};
 ghost use Rattle.liq_base.specs.Files.{Files};
-ghost use Rattle.stations.specs.Outputs.{OutputFile, with_outputs, HoldsParts};
+ghost use Rattle.stations.specs.Outputs.{OutputFile, OutputPart, with_outputs, HoldsParts};
 ghost use Rattle.stations.specs.Renderings.{WroteOutputsPart};
 ghost use Rattle.stations.specs.Stations.{Station};
 ghost use Rattle.station_render.specs.Runs.{RanPart, RanWhole, WroteOutputs};
-ghost use Rattle.station_render.specs.Sinks.{AreCreated, HasFailed, HaveSizes, HoldsWhole, HoldsPart, AreAllEmpty, WasTaken, lists_of};
+ghost use Rattle.station_render.specs.Sinks.{AreCreated, HasFailed, HaveSizes, HoldsFront, HoldsWhole, AreAllEmpty, WasTaken, lists_of};
 
 use crate::{RenderFault, Rendered};
 use liq_base::{Failed, Shelf};
@@ -24,8 +24,8 @@ pub(crate) fn close_all<S: Shelf>(
         → IfOk wrote (RanWhole S.Out.name S.Out.held before station order.now (lists_of groups.items))
         → IfOk result (WroteOutputs station before (S.files shelf.new)) }
     ensures part { (station : Station) (before : Option Files) (count : ℕ) → S.files shelf.old ≡ before → count ≤ S.write_count shelf.old
-        → RanPart S.Out.name S.Out.held before station order.now (lists_of groups.items)
-        → ForSome before (λ files. WroteOutputsPart station (Rose count (S.write_count shelf.new)) files (S.files shelf.new)) }
+        → RanPart S.Out.name S.Out.held S.Out.faults before station order.now (lists_of groups.items)
+        → ForSome before (λ files. WroteOutputsPart station count (S.write_count shelf.new) files (S.files shelf.new)) }
     ensures cause { IsErrOf result RenderFault.Write → IsErrOf wrote RenderFault.Write ⊎ Rose (S.write_count shelf.old) (S.write_count shelf.new) }
     ensures failed { HasFailed S.Out.faults (lists_of groups.items) → Rose (S.write_count shelf.old) (S.write_count shelf.new) }
     ensures well { OnOk result (is_ok wrote ≡ true) }
@@ -48,9 +48,9 @@ fn close_each<S: Shelf>(
     requires sizes { HaveSizes order.now (lists_of groups.items) }
     ensures whole { OnOk result (ForSome (S.files shelf.old) (λ files. (outputs : List OutputFile)
         → AreCreated (HoldsWhole S.Out.name S.Out.held) outputs order.now (lists_of groups.items) → S.files shelf.new ≡ Some (with_outputs files outputs))) }
-    ensures part { ForSome (S.files shelf.old) (λ files. (outputs : List OutputFile)
-        → AreCreated (HoldsPart S.Out.name S.Out.held) outputs order.now (lists_of groups.items)
-        → IsSomeAnd (S.files shelf.new) (HoldsParts (Rose (S.write_count shelf.old) (S.write_count shelf.new)) files outputs)) }
+    ensures part { ForSome (S.files shelf.old) (λ files. (outputs : List OutputPart)
+        → AreCreated (HoldsFront S.Out.name S.Out.held S.Out.faults) outputs order.now (lists_of groups.items)
+        → IsSomeAnd (S.files shelf.new) (λ now. HoldsParts (S.write_count shelf.old) files outputs now (S.write_count shelf.new))) }
     ensures cause { OnErr result (Rose (S.write_count shelf.old) (S.write_count shelf.new)) }
     ensures failed { HasFailed S.Out.faults (lists_of groups.items) → Rose (S.write_count shelf.old) (S.write_count shelf.new) }
     ensures created { S.created shelf.new ≡ S.created shelf.old }

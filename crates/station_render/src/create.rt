@@ -33,7 +33,8 @@ pub(crate) fn create_each<S: Shelf>(
     ensures ready { OnOk result ((library : Sounds) → (start : ℕ) → AreCreated (IsReady S.Out.name S.Out.held S.Out.room (S.files shelf.old) (setting_for plan.now library clocks.now start) ticks)
         (written plan.now.sinks) order.new.items (lists_of groups.new.items)) }
     ensures order { OnOk result ((library : Sounds) → (start : ℕ) → order.new.items ≡ order_of (setting_for plan.now library clocks.now start) (written plan.now.sinks)) }
-    ensures begun { (library : Sounds) → (start : ℕ) → (run : Run) → (made : ℕ) → AreBegun S.Out.name S.Out.held (S.files shelf.old) (setting_for plan.now library clocks.now start) run ticks made order.new.items (lists_of groups.new.items) }
+    ensures begun { (library : Sounds) → (start : ℕ) → (run : Run) → (made tried : ℕ → ℕ) → ((k : ℕ) → made k ≡ 0)
+        → AreBegun S.Out.name S.Out.held S.Out.faults (S.files shelf.old) (setting_for plan.now library clocks.now start) run ticks made tried order.new.items (lists_of groups.new.items) }
     ensures size { length (lists_of groups.new.items) ≡ clocks.now.running }
     ensures cause { IsErrOf result RenderFault.Write → Rose (S.write_count shelf.old) (S.write_count shelf.new) ⊎ HasFailed S.Out.faults (lists_of groups.new.items) }
     ensures files { S.files shelf.new ≡ S.files shelf.old }

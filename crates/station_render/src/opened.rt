@@ -35,7 +35,7 @@ pub(crate) fn open_all<'a, S: Shelf>(
     requires empty { AreEmpty ready.now.clocks.running (lists_of groups.old.items) }
     ensures opened { IfOk result (λ engines. AreOpened S.Out.name S.Out.held S.Out.room (S.files shelf.old) (setting_for plan.now ready.now.library ready.now.clocks start.second) ready.now.clocks ticks
         order.new.items engines.items (lists_of groups.new.items)) }
-    ensures part { OnErr result ((window : Option ℕ) (trace : Option (List ℕ)) → RanPart S.Out.name S.Out.held (S.files shelf.old) (station_of plan.now ready.now start.second ticks window trace) order.new.items (lists_of groups.new.items)) }
+    ensures part { OnErr result ((window : Option ℕ) (trace : Option (List ℕ)) → RanPart S.Out.name S.Out.held S.Out.faults (S.files shelf.old) (station_of plan.now ready.now start.second ticks window trace) order.new.items (lists_of groups.new.items)) }
     ensures cause { IsErrOf result RenderFault.Write → Rose (S.write_count shelf.old) (S.write_count shelf.new) ⊎ HasFailed S.Out.faults (lists_of groups.new.items) }
     ensures files { S.files shelf.new ≡ S.files shelf.old }
     ensures made { OnOk result (S.created shelf.new ≡ after_making (names_in plan.now.sinks) (S.created shelf.old)) }

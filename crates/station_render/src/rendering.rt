@@ -46,7 +46,7 @@ pub fn render<S: Shelf, G: Gate + Sync, R: Threads + Wait + Sync>(
     requires fit { IsFit plan.now ready.now.library ready.now.clocks ticks }
     ensures done { IfOk result (IsRendered (station_by plan.now ready.now start.second ticks threading.entry) (S.files shelf.old) (S.files shelf.new)) }
     ensures part { ForSome (S.files shelf.old) (λ files. WrotePart (station_by plan.now ready.now start.second ticks threading.entry)
-        (Rose (S.write_count shelf.old) (S.write_count shelf.new)) files (S.files shelf.new)) }
+        (S.write_count shelf.old) (S.write_count shelf.new) files (S.files shelf.new)) }
     ensures cause { IsErrOf result RenderFault.Write → Rose (S.write_count shelf.old) (S.write_count shelf.new) }
     ensures made { OnOk result (S.created shelf.new ≡ after_making (names_of (station_by plan.now ready.now start.second ticks threading.entry)) (S.created shelf.old)) }
     ensures front { MadeFront (names_of (station_by plan.now ready.now start.second ticks threading.entry)) (S.created shelf.old) (S.created shelf.new) }
@@ -69,7 +69,7 @@ pub fn render_alone<S: Shelf>(
     requires fit { IsFit plan.now ready.now.library ready.now.clocks ticks }
     ensures done { IfOk result (IsRendered (station_of plan.now ready.now start.second ticks None None) (S.files shelf.old) (S.files shelf.new)) }
     ensures part { ForSome (S.files shelf.old) (λ files. WrotePart (station_of plan.now ready.now start.second ticks None None)
-        (Rose (S.write_count shelf.old) (S.write_count shelf.new)) files (S.files shelf.new)) }
+        (S.write_count shelf.old) (S.write_count shelf.new) files (S.files shelf.new)) }
     ensures cause { IsErrOf result RenderFault.Write → Rose (S.write_count shelf.old) (S.write_count shelf.new) }
     ensures made { OnOk result (S.created shelf.new ≡ after_making (names_of (station_of plan.now ready.now start.second ticks None None)) (S.created shelf.old)) }
     ensures front { MadeFront (names_of (station_of plan.now ready.now start.second ticks None None)) (S.created shelf.old) (S.created shelf.new) }
@@ -106,7 +106,7 @@ fn render_outputs<S: Shelf, G: Gate + Sync, R: Threads + Wait + Sync>(
     requires fit { IsFit plan.now ready.now.library ready.now.clocks ticks }
     ensures done { IfOk result (WroteOutputs (station_by plan.now ready.now start.second ticks threading.entry) (S.files shelf.old) (S.files shelf.new)) }
     ensures part { ForSome (S.files shelf.old) (λ files. WroteOutputsPart (station_by plan.now ready.now start.second ticks threading.entry)
-        (Rose (S.write_count shelf.old) (S.write_count shelf.new)) files (S.files shelf.new)) }
+        (S.write_count shelf.old) (S.write_count shelf.new) files (S.files shelf.new)) }
     ensures cause { IsErrOf result RenderFault.Write → Rose (S.write_count shelf.old) (S.write_count shelf.new) }
     ensures made { OnOk result (S.created shelf.new ≡ after_making (names_in plan.now.sinks) (S.created shelf.old)) }
     ensures front { MadeFront (names_in plan.now.sinks) (S.created shelf.old) (S.created shelf.new) }
@@ -150,7 +150,7 @@ fn write_by_threads<S: Shelf, G: Gate + Sync, R: Threads + Wait + Sync>(
     requires none { order.old.items ≡ [] }
     requires empty { AreEmpty ready.now.clocks.running (lists_of groups.old.items) }
     ensures done { IfOk result (RanWhole S.Out.name S.Out.held (S.files shelf.old) (station_by plan.now ready.now start.second ticks threading.entry) order.new.items (lists_of groups.new.items)) }
-    ensures part { RanPart S.Out.name S.Out.held (S.files shelf.old) (station_by plan.now ready.now start.second ticks threading.entry) order.new.items (lists_of groups.new.items) }
+    ensures part { RanPart S.Out.name S.Out.held S.Out.faults (S.files shelf.old) (station_by plan.now ready.now start.second ticks threading.entry) order.new.items (lists_of groups.new.items) }
     ensures cause { IsErrOf result RenderFault.Write → Rose (S.write_count shelf.old) (S.write_count shelf.new) ⊎ HasFailed S.Out.faults (lists_of groups.new.items) }
     ensures files { S.files shelf.new ≡ S.files shelf.old }
     ensures made { OnOk result (S.created shelf.new ≡ after_making (names_in plan.now.sinks) (S.created shelf.old)) }
@@ -187,7 +187,7 @@ fn write_alone<S: Shelf>(
     requires none { order.old.items ≡ [] }
     requires empty { AreEmpty ready.now.clocks.running (lists_of groups.old.items) }
     ensures done { IfOk result (RanWhole S.Out.name S.Out.held (S.files shelf.old) (station_of plan.now ready.now start.second ticks None None) order.new.items (lists_of groups.new.items)) }
-    ensures part { RanPart S.Out.name S.Out.held (S.files shelf.old) (station_of plan.now ready.now start.second ticks None None) order.new.items (lists_of groups.new.items) }
+    ensures part { RanPart S.Out.name S.Out.held S.Out.faults (S.files shelf.old) (station_of plan.now ready.now start.second ticks None None) order.new.items (lists_of groups.new.items) }
     ensures cause { IsErrOf result RenderFault.Write → Rose (S.write_count shelf.old) (S.write_count shelf.new) ⊎ HasFailed S.Out.faults (lists_of groups.new.items) }
     ensures files { S.files shelf.new ≡ S.files shelf.old }
     ensures made { OnOk result (S.created shelf.new ≡ after_making (names_in plan.now.sinks) (S.created shelf.old)) }

@@ -2,4 +2,6 @@ mod Walked
 mod Lengths
 mod Gapless
 mod AsOne
+mod CueRows
 pub mod Making
+pub mod Parts

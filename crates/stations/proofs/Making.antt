@@ -1,5 +1,5 @@
 -- What a shelf tells of the sinks that it made, sink after sink.
-use Rattle.std.proofs.Common.{◌≡◌, ◌∙◌, ◌++◌, ℕ, List, [], ◌∷◌, map, refl, ap, sym, append_assoc}
+use Rattle.std.proofs.Common.{◌≡◌, ◌∙◌, ◌++◌, ℕ, List, [], ◌∷◌, map, refl, ap, sym, append_assoc, Bool, true, false}
 use Rattle.std.specs.Prelude.{Option, Some, None}
 use Rattle.std.proofs.lemmas.List.{append-nil, map-append}
 use Rattle.liq_base.specs.Files.{noted}
@@ -8,6 +8,7 @@ use Rattle.plan_core.specs.declared.sink.SinkPlan.TheVariants.{Output, Feed}
 use Rattle.stream_meaning.specs.Instants.{Setting}
 use Rattle.run_records.specs.Records.{Run}
 use Rattle.trace_log.specs.Values.{TraceValue}
+use Rattle.stations.specs.Cues.{cue_name, cue_names_if, cue_names_in, cues_if, cues_in}
 use Rattle.stations.specs.Creations.{AreNamesOfFiles, MadeFront, after_making, names_in, trace_name, trace_name_in}
 use Rattle.stations.specs.Outputs.{OutputFile}
 use Rattle.stations.specs.Stations.{Station, setting_of_run}
@@ -77,8 +78,24 @@ traces_named : (window : Option ℕ) (station : Station) (run : Run) → map (λ
 traces_named None station run = refl
 traces_named (Some window) station run = trace_named station.trace _
 
+cues_named : (setting : Setting) (ticks : ℕ) (sinks : List SinkPlan) → map (λ (file : OutputFile). file.name) (cues_in setting ticks sinks) ≡ cue_names_in sinks
+cues_named setting ticks [] = refl
+cues_named setting ticks (Output name node fallible ∷ sinks) = ap (λ zs. cue_name name ∷ zs) (cues_named setting ticks sinks)
+cues_named setting ticks (Feed buffer node ∷ sinks) = cues_named setting ticks sinks
+
+wanted_named : (wanted : Bool) (setting : Setting) (ticks : ℕ) (sinks : List SinkPlan) → map (λ (file : OutputFile). file.name) (cues_if wanted setting ticks sinks) ≡ cue_names_if wanted sinks
+wanted_named false setting ticks sinks = refl
+wanted_named true setting ticks sinks = cues_named setting ticks sinks
+
 pub files_named : (station : Station) (run : Run) → AreNamesOfFiles station run
 files_named station run =
-    map-append (λ (file : OutputFile). file.name) (outputs_in (setting_of_run station run) station.ticks station.plan.sinks) (traces_in station.window station run)
-    ∙ ap (λ names. names ++ map (λ (file : OutputFile). file.name) (traces_in station.window station run)) (outputs_named (setting_of_run station run) station.ticks station.plan.sinks)
-    ∙ ap (λ names. names_in station.plan.sinks ++ names) (traces_named station.window station run)
+    let name : OutputFile → List ℕ = λ file. file.name in
+    let S = setting_of_run station run in
+    let sinks = station.plan.sinks in
+    let cues = cues_if station.cues S station.ticks sinks in
+    let traces = traces_in station.window station run in
+    map-append name (outputs_in S station.ticks sinks) (cues ++ traces)
+    ∙ ap (λ names. names ++ map name (cues ++ traces)) (outputs_named S station.ticks sinks)
+    ∙ ap (λ names. names_in sinks ++ names) (map-append name cues traces
+    ∙ ap (λ names. names ++ map name traces) (wanted_named station.cues S station.ticks sinks)
+    ∙ ap (λ names. cue_names_if station.cues sinks ++ names) (traces_named station.window station run))

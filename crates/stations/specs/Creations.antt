@@ -4,6 +4,7 @@ use Rattle.plan_core.specs.declared.sink.SinkPlan.{SinkPlan}
 use Rattle.plan_core.specs.declared.sink.SinkPlan.TheVariants.{Output, Feed}
 use Rattle.run_records.specs.Records.{Run}
 use Rattle.stations.specs.Stations.{Station}
+use Rattle.stations.specs.Cues.{cue_names_if}
 use Rattle.stations.specs.Traces.{files_of}
 
 -- the names of the outputs among these sinks, in their order
@@ -22,9 +23,9 @@ abbrev pub trace_name_in : (window : Option ℕ) → (trace : Option (List ℕ))
 trace_name_in None trace = []
 trace_name_in (Some window) trace = trace_name trace
 
--- the names of all files of a rendering: of the outputs in sink order, and then of the trace
+-- the names of all files of a rendering: of the outputs in sink order, then of their cue files, and then of the trace
 abbrev pub names_of : Station → List (List ℕ)
-names_of station = names_in station.plan.sinks ++ trace_name_in station.window station.trace
+names_of station = names_in station.plan.sinks ++ (cue_names_if station.cues station.plan.sinks ++ trace_name_in station.window station.trace)
 
 -- they are the names of the files that each run writes, in their order
 abbrev pub AreNamesOfFiles : Station → Run → Type 0

@@ -3,6 +3,7 @@ pub mod Stations
 pub mod Streams
 pub mod Reports
 pub mod Findings
+pub mod Cues
 pub mod Traces
 pub mod Renderings
 pub mod Creations

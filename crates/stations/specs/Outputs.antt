@@ -1,7 +1,8 @@
 -- What a rendering writes, and what a shelf holds after it.
-use Rattle.std.specs.Prelude.{◌≡◌, ℕ, List, [], ◌∷◌, ◌++◌}
-use Rattle.liq_base.specs.Files.{Files, with_file}
-use Rattle.liq_base.specs.Kept.{HoldsPartOr}
+use Rattle.std.specs.Prelude.{◌≡◌, ◌⊎◌, ◌≤◌, ℕ, List, [], ◌∷◌, ◌++◌}
+use Rattle.liq_base.specs.Counts.{Rose}
+use Rattle.liq_base.specs.Files.{Files, HoldsPart, with_file}
+use Rattle.liq_base.specs.Pieces.{IsPrefix}
 
 -- a file to be written: its name, and all its bytes
 pub record OutputFile : Type 0 where
@@ -13,16 +14,26 @@ abbrev pub with_outputs : Files → List OutputFile → Files
 with_outputs files [] = files
 with_outputs files (output ∷ outputs) = with_outputs (with_file files output.name output.bytes) outputs
 
--- each name in turn holds a prefix of its bytes, or, for this cause, what it held; no other name changed
-abbrev pub HoldsParts : Type 0 → Files → List OutputFile → Files → Type 0
-HoldsParts cause files [] after = after ≡ files
-HoldsParts cause files (output ∷ outputs) after =
-    (midway : Files) × HoldsPartOr cause files output.name output.bytes midway × HoldsParts cause midway outputs after
+-- a file of which a part was written: its name, and its first bytes, as many as it has at least and at most
+pub record OutputPart : Type 0 where
+  pub name : List ℕ
+  pub least : List ℕ
+  pub most : List ℕ
 
--- So it is for the first of the outputs, which were created; the others were not. Files do not tell which were created, so
--- of a single output this says that it holds a prefix of its bytes or what it held, and the cause adds nothing.
-pub record HoldsSome (cause : Type 0) (files : Files) (outputs : List OutputFile) (after : Files) : Type 0 where
-  pub created : List OutputFile
-  pub others : List OutputFile
+-- the name holds at least and at most these bytes; or, where its closing failed, a prefix of them or what it held; nothing else changed
+abbrev pub HoldsBetween : (failed : Type 0) → Files → OutputPart → Files → Type 0
+HoldsBetween failed files output after =
+    ((part : List ℕ) × IsPrefix output.least part × IsPrefix part output.most × (after ≡ with_file files output.name part)) ⊎ (failed × HoldsPart files output.name output.most after)
+
+-- So does each name in turn, while a count of failed writes rises from `count` to `last`: where one closing failed, it rose.
+abbrev pub HoldsParts : (count : ℕ) → Files → List OutputPart → Files → (last : ℕ) → Type 0
+HoldsParts count files [] after last = (after ≡ files) × (count ≤ last)
+HoldsParts count files (output ∷ outputs) after last =
+    (midway : Files) × (next : ℕ) × (count ≤ next) × HoldsBetween (Rose count next) files output midway × HoldsParts next midway outputs after last
+
+-- So it is for the first of the outputs, which were created; the others were not. Files do not tell which were created.
+pub record HoldsSome (count : ℕ) (files : Files) (outputs : List OutputPart) (after : Files) (last : ℕ) : Type 0 where
+  pub created : List OutputPart
+  pub others : List OutputPart
   pub outputs_are : outputs ≡ created ++ others
-  pub parts : HoldsParts cause files created after
+  pub parts : HoldsParts count files created after last

@@ -1,22 +1,25 @@
 -- What a rendering leaves that was broken off, and what threads render beside one thread.
-use Rattle.std.specs.Prelude.{◌≡◌, ◌⊎◌, ℕ, List, [], ◌∷◌, Option, IsSomeAnd}
+use Rattle.std.specs.Prelude.{◌≡◌, ◌⊎◌, ℕ, List, [], ◌∷◌, None, Option, IsSomeAnd}
+use Rattle.liq_base.specs.Counts.{Rose}
 use Rattle.liq_base.specs.Files.{Files}
 use Rattle.liq_base.specs.Kept.{HoldsPartOr}
 use Rattle.op_leaf.specs.Readers.{Answer}
 use Rattle.run_records.specs.Records.{IsRounds, Run}
+use Rattle.run_records.specs.Rounds.{BeginsRounds, HasNoJoin}
+use Rattle.stations.specs.Cues.{cue_files}
 use Rattle.stations.specs.Outputs.{HoldsSome, OutputFile, with_outputs}
 use Rattle.stations.specs.Reports.{report_of}
-use Rattle.stations.specs.Stations.{Station, IsBegun, IsLawful, bare, most_of}
-use Rattle.stations.specs.Streams.{fronts_with, output_files}
+use Rattle.stations.specs.Stations.{Station, IsBegun, IsLawful, bare}
+use Rattle.stations.specs.Streams.{output_files, parts_with}
 use Rattle.stations.specs.Traces.{traces_of}
 
--- A run was broken off, and no trace was created: whatever answers had followed those that it got, each output holds a prefix of its
--- bytes of the ticks that a clock can have made, or what it held. That a name keeps what it held only where its own creation or closing
--- failed is not said here, where one count stands for all outputs.
-pub record WroteOutputsPart (station : Station) (cause : Type 0) (files : Files) (after : Option Files) : Type 0 where
+-- A run was broken off, and no trace was created: whatever answers had followed those that it got, each output that was created holds its
+-- bytes of the ticks that its clock made, and then a front of those of the tick in which it stopped; or, where the count of failed writes
+-- rose at its closing, a prefix of them or what it held. Over the outputs that count rose from `count` to `last`.
+pub record WroteOutputsPart (station : Station) (count last : ℕ) (files : Files) (after : Option Files) : Type 0 where
   pub run : Run
   pub begun : IsBegun station run
-  pub parts : (rest : ℕ → List Answer) → IsSomeAnd after (HoldsSome cause files (fronts_with station run (most_of station run begun) rest))
+  pub parts : (rest : ℕ → List Answer) → IsSomeAnd after (λ now. HoldsSome count files (parts_with station run begun rest) now last)
 
 -- A run wrote all outputs; and the name of the trace holds a prefix of its text, or, for this cause, what it held.
 pub record WroteTracePart (station : Station) (cause : Type 0) (files : Files) (after : Option Files) : Type 0 where
@@ -27,13 +30,28 @@ pub record WroteTracePart (station : Station) (cause : Type 0) (files : Files) (
   pub part : IsSomeAnd after (HoldsPartOr cause (with_outputs files (output_files station run)) trace.name trace.bytes)
 
 -- what a rendering leaves, whatever it ended with
-abbrev pub WrotePart : Station → (cause : Type 0) → Files → (after : Option Files) → Type 0
-WrotePart station cause files after = WroteOutputsPart station cause files after ⊎ WroteTracePart station cause files after
+abbrev pub WrotePart : Station → (count last : ℕ) → Files → (after : Option Files) → Type 0
+WrotePart station count last files after = WroteOutputsPart station count last files after ⊎ WroteTracePart station (Rose count last) files after
 
--- A run renders what one thread renders: rounds of the station have one record, and the outputs and the report are those of it.
+-- A run renders what one thread renders: rounds of the station have one record, and the outputs, the cue files
+-- and the report are those of it.
 pub record RendersAsOneThread (station : Station) (run : Run) : Type 0 where
   pub alone : Run
   pub rounds : IsRounds (bare station) station.clocks.running station.ticks alone
   pub one : (other : Run) → IsRounds (bare station) station.clocks.running station.ticks other → other ≡ alone
   pub files_are : output_files station run ≡ output_files station alone
+  pub cues_are : cue_files station run ≡ cue_files station alone
   pub report_is : report_of station run ≡ report_of station alone
+
+-- A run of the station that was broken off begins what one thread renders, if that has a record: with some answers behind its own, its
+-- outputs and calls are those of it.
+abbrev pub BeginsAsOneThread : (station : Station) (run : Run) → Type 0
+BeginsAsOneThread station run = (alone : Run) → IsRounds (bare station) station.clocks.running station.ticks alone → BeginsRounds (bare station) run alone
+
+-- on one thread, or where no buffer joins two clocks
+abbrev pub IsDetermined : Station → Type 0
+IsDetermined station = (station.window ≡ None) ⊎ HasNoJoin (bare station) station.clocks.running
+
+-- a station on one thread has one record
+abbrev pub HasOneRecord : (station : Station) (run : Run) → Type 0
+HasOneRecord station run = station.window ≡ None → (other : Run) → IsLawful station other → other ≡ run

@@ -6,10 +6,11 @@ use Rattle.fallible_infer.specs.Infallible.{IsMarking}
 use Rattle.stream_meaning.specs.Instants.{Setting}
 use Rattle.stream_meaning.specs.Sinks.{kind_of, ticks_bytes, gaps}
 use Rattle.wav_io.specs.Header.{header_bytes}
-use Rattle.stations.specs.Outputs.{OutputFile}
+use Rattle.stations.specs.Outputs.{OutputFile, OutputPart}
 use Rattle.op_leaf.specs.Readers.{Answer}
+use Rattle.run_records.specs.Buffers.{main_of}
 use Rattle.run_records.specs.Records.{Run}
-use Rattle.stations.specs.Stations.{Station, setting_of_run, setting_with}
+use Rattle.stations.specs.Stations.{IsBegun, Station, made_of, setting_of_run, setting_with, tried_of}
 
 -- the header of an output of a node, for so many ticks
 abbrev pub header_for : Setting → (ticks node : ℕ) → List ℕ
@@ -30,12 +31,13 @@ outputs_in setting ticks (Output name node fallible ∷ sinks) =
     record { name = name; bytes = output_bytes setting ticks node } ∷ outputs_in setting ticks sinks
 outputs_in setting ticks (Feed buffer node ∷ sinks) = outputs_in setting ticks sinks
 
--- their fronts
-abbrev pub fronts_in : Setting → (ticks made : ℕ) → List SinkPlan → List OutputFile
-fronts_in setting ticks made [] = []
-fronts_in setting ticks made (Output name node fallible ∷ sinks) =
-    record { name = name; bytes = front_bytes setting ticks made node } ∷ fronts_in setting ticks made sinks
-fronts_in setting ticks made (Feed buffer node ∷ sinks) = fronts_in setting ticks made sinks
+-- what was written of them, where clock m made so many ticks and tried so many
+abbrev pub parts_in : Setting → (ticks : ℕ) → (made tried : ℕ → ℕ) → List SinkPlan → List OutputPart
+parts_in setting ticks made tried [] = []
+parts_in setting ticks made tried (Output name node fallible ∷ sinks) =
+    record { name = name; least = front_bytes setting ticks (made (main_of setting node)) node; most = front_bytes setting ticks (tried (main_of setting node)) node }
+    ∷ parts_in setting ticks made tried sinks
+parts_in setting ticks made tried (Feed buffer node ∷ sinks) = parts_in setting ticks made tried sinks
 
 -- the gaps of the outputs among these sinks, in their order
 abbrev pub counts_in : Setting → (ticks : ℕ) → List SinkPlan → List ℕ
@@ -55,9 +57,9 @@ gaps_of station run node = gaps (setting_of_run station run) node station.ticks
 abbrev pub output_files : Station → Run → List OutputFile
 output_files station run = outputs_in (setting_of_run station run) station.ticks station.plan.sinks
 
--- what a run which was broken off would have written in the first ticks, if these answers had followed
-abbrev pub fronts_with : Station → Run → (made : ℕ) → (rest : ℕ → List Answer) → List OutputFile
-fronts_with station run made rest = fronts_in (setting_with station run rest) station.ticks made station.plan.sinks
+-- what a run which was broken off has written of its outputs, if these answers had followed
+abbrev pub parts_with : (station : Station) (run : Run) → IsBegun station run → (rest : ℕ → List Answer) → List OutputPart
+parts_with station run begun rest = parts_in (setting_with station run rest) station.ticks (made_of station run begun) (tried_of station run begun) station.plan.sinks
 
 abbrev pub gaps_in_order : Station → Run → List ℕ
 gaps_in_order station run = counts_in (setting_of_run station run) station.ticks station.plan.sinks

@@ -4,6 +4,7 @@ use Rattle.run_records.specs.Records.{Run}
 use Rattle.buffer_sides.specs.Logs.{told}
 use Rattle.trace_log.specs.Texts.{trace_text}
 use Rattle.trace_log.specs.Values.{TraceValue}
+use Rattle.stations.specs.Cues.{cue_files}
 use Rattle.stations.specs.Outputs.{OutputFile}
 use Rattle.stations.specs.Stations.{Station}
 use Rattle.stations.specs.Streams.{output_files}
@@ -25,6 +26,6 @@ traces_in (Some window) station run = traced station.trace (trace_of station win
 abbrev pub traces_of : Station → Run → List OutputFile
 traces_of station run = traces_in station.window station run
 
--- all files that a run writes: the outputs in sink order, and then the trace
+-- all files that a run writes: the outputs in sink order, then their cue files, and then the trace
 abbrev pub files_of : Station → Run → List OutputFile
-files_of station run = output_files station run ++ traces_of station run
+files_of station run = output_files station run ++ (cue_files station run ++ traces_of station run)

@@ -9,13 +9,16 @@ ghost use Rattle.stations.specs.Creations.{AreNamesOfFiles};
 ghost use Rattle.stations.specs.Findings.{IsAccepted};
 ghost use Rattle.run_records.specs.Records.{Run};
 ghost use Rattle.run_records.specs.Rounds.{HasNoJoin};
-ghost use Rattle.stations.specs.Renderings.{RendersAsOneThread};
-ghost use Rattle.stations.specs.Stations.{IsLawful, Station, bare, setting_of_run};
+ghost use Rattle.stations.specs.Renderings.{BeginsAsOneThread, HasOneRecord, IsDetermined, RendersAsOneThread};
+ghost use Rattle.stations.specs.Stations.{IsBegun, IsLawful, Station, bare, setting_of_run};
 ghost use Rattle.stations.specs.Streams.{HasNoGaps, bytes_of, header_for};
 ghost use Rattle.stream_meaning.specs.Sinks.{kind_of, ticks_bytes};
 ghost use Rattle.wav_io.specs.Header.{block_size};
 
-use run_records::{lawful_records_are_rounds, rounds_are_one};
+use run_records::{
+    broken_rounds_begin_rounds, broken_windows_begin_rounds, lawful_records_are_rounds,
+    rounds_are_one,
+};
 use stream_meaning::infallible_nodes_offer;
 
 /// Whatever buffers answer, an output of an infallible node has no gap.
@@ -31,10 +34,30 @@ pub fn infallible_outputs_have_no_gaps()
 pub fn threads_render_as_one_thread()
     ensures { (files : Files) (station : Station) (run : Run) → IsWellFormed station.plan
         → IsAccepted files station.plan station.ticks station.library station.clocks → station.start < 604800
-        → IsLawful station run → HasNoJoin (bare station) → RendersAsOneThread station run }
+        → IsLawful station run → HasNoJoin (bare station) station.clocks.running → RendersAsOneThread station run }
 {
     lawful_records_are_rounds();
     rounds_are_one();
+}
+
+/// A rendering on one thread has one record, so it always writes and tells the same.
+pub fn one_thread_has_one_record()
+    ensures { (files : Files) (station : Station) (run : Run) → IsWellFormed station.plan
+        → IsAccepted files station.plan station.ticks station.library station.clocks → station.start < 604800
+        → IsLawful station run → HasOneRecord station run }
+{
+    rounds_are_one();
+}
+
+/// A rendering that was broken off begins what one thread renders, where that is determined: on one thread, or where no buffer joins two
+/// clocks.
+pub fn broken_renderings_begin_those_of_one_thread()
+    ensures { (files : Files) (station : Station) (run : Run) → IsWellFormed station.plan
+        → IsAccepted files station.plan station.ticks station.library station.clocks → station.start < 604800
+        → IsBegun station run → IsDetermined station → BeginsAsOneThread station run }
+{
+    broken_windows_begin_rounds();
+    broken_rounds_begin_rounds();
 }
 
 /// The bytes of an output are its header and then those of all ticks, as many as its samples take.

@@ -13,3 +13,4 @@ pub mod Turning
 mod Plans
 mod Rows
 mod CallRows
+mod TitleRows

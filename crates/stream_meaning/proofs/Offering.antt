@@ -6,16 +6,16 @@ use Rattle.std.proofs.lemmas.Bool.{false≢true}
 use Rattle.std.proofs.lemmas.List.Sums.{sum_by-cons}
 use Rattle.std.proofs.lemmas.Nat.{mod_below}
 use Rattle.liq_base.specs.declared.memory.Kind.{Kind}
-use Rattle.frame_core.specs.Library.{no_sound, sound_at, tracks_of}
+use Rattle.frame_core.specs.Library.{Sounds, no_sound, sound_at, tracks_of}
 use Rattle.frame_core.specs.Sounds.{Sound, length_of}
 use Rattle.frame_core.specs.Slots.{Slot}
 use Rattle.plan_core.specs.declared.node.Op.{Op}
 use Rattle.plan_core.specs.declared.node.Op.TheVariants.{Single, Playlist, Blank, Square, Fail, Fallback, Switch, Sequence, Rotate, Random, Add, Amplify, Mean, Stereo, Crossfade, Buffer, Clock}
 use Rattle.clock_infer.specs.Ties.{fades}
 use Rattle.fallible_infer.specs.Infallible.{infallible_by}
-use Rattle.op_leaf.specs.Leaves.{files_slot, sounds_of, total_of}
-use Rattle.op_leaf.proofs.Positions.{joined-within}
-use Rattle.op_leaf.proofs.Cursors.{length-sounds, sounds-at}
+use Rattle.op_leaf.specs.Leaves.{file_of, joined_slot, place_in_round, total_of}
+use Rattle.op_leaf.proofs.Positions.{joined-within, sounds_in}
+use Rattle.op_leaf.proofs.Cursors.{sounds-at}
 use Rattle.stream_meaning.specs.Arithmetic.{Adds, Scales, Halves, Doubles, Passes}
 use Rattle.stream_meaning.specs.Operators.{work_of}
 use Rattle.random_ops.specs.declared.turn.Turn.TheVariants.{Rotate as Rotates, Random as Draws}
@@ -25,15 +25,15 @@ use Rattle.stream_meaning.proofs.Choosing.{picked_some, first_picked, turn_picke
 use Rattle.stream_meaning.proofs.Marks.{AreMarked, any_offers, last_offers, always_offers, every_marked, mixed_some}
 
 -- a file that is repeated has a cell at each position
-single_some : (sounds : List Sound) (kind : Kind) (position : ℕ) → length sounds ≡ 1 → 0 < length_of (get_or sounds 0 no_sound)
-    → IsSome (files_slot sounds true kind position)
-single_some [] kind position one some = cc
-single_some (sound ∷ []) kind position one some =
-    let whole = sum_by-cons length_of sound [] in
-    let low = mod_below position (total_of (sound ∷ [])) (omega (arith, some, whole)) in
-    subst IsSome (sym (joined-within (sound ∷ []) kind 0 (position % total_of (sound ∷ [])) (position % total_of (sound ∷ []))
+single_some : (library : Sounds) (files : List ℕ) (kind : Kind) (position : ℕ) → length files ≡ 1 → 0 < length_of (get_or (sounds_in library files) 0 no_sound)
+    → IsSome (joined_slot library files kind (place_in_round (sounds_in library files) true position))
+single_some library [] kind position one some = cc
+single_some library (file ∷ []) kind position one some =
+    let whole = sum_by-cons length_of (file_of library file) [] in
+    let low = mod_below position (total_of (sounds_in library (file ∷ []))) (omega (arith, some, whole)) in
+    subst IsSome (sym (joined-within library (file ∷ []) kind 0 (position % total_of (sounds_in library (file ∷ []))) (position % total_of (sounds_in library (file ∷ [])))
     (omega arith) (omega (arith, low, whole)) (omega arith))) refl
-single_some (sound ∷ other ∷ sounds) kind position one some = absurd (omega (arith, one))
+single_some library (file ∷ other ∷ files) kind position one some = absurd (omega (arith, one))
 
 -- what makes a node offer, for a node of each operator
 pub record Offered (setting : Setting) (sub : ℕ → ℕ → List Slot) (past : List Moment) (i : ℕ) (op : Op) (children : List ℕ) (mark : ℕ → Bool) (slot : ℕ → Slot) : Type 0 where
@@ -52,8 +52,7 @@ pub op_offers : (setting : Setting) (sub : ℕ → ℕ → List Slot) (past : Li
     → IsSome (part_by setting sub past i (work_of setting.plan.rate i kind op) (map slot children)).slot
 op_offers setting sub past i kind (Single file) children mark slot is so =
     let one = is.single file refl in
-    let count = length-sounds setting.library i in
-    single_some (sounds_of setting.library i) kind _ (omega (arith, one.0, count))
+    single_some setting.library (tracks_of setting.library i) kind _ one.0
     (subst (λ (sound : Sound). 0 < length_of sound) (sym (sounds-at setting.library i 0 (omega (arith, one.0)))) one.1)
 op_offers setting sub past i kind (Playlist file again) children mark slot is so = absurd (false≢true so)
 op_offers setting sub past i kind (Blank track) children mark slot is so = refl

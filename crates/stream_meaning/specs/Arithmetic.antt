@@ -18,27 +18,28 @@ sum_of sample (cell ∷ cells) = sample cell +ℤ sum_of sample cells
 abbrev pub levelled : Bool → ℕ → ℤ → ℤ
 levelled normalize parts sum = if normalize then mean_of sum parts else clamped sum
 
--- over the children that offer; the flag is that of the first of them
+-- over the children that offer; the flag and the title are those of the first of them
 abbrev pub summed_slot : Bool → List Cell → Slot
 summed_slot normalize [] = None
 summed_slot normalize (cell ∷ cells) = Some (record {
   left = levelled normalize (length (cell ∷ cells)) (sum_of (λ c. c.left) (cell ∷ cells));
   right = levelled normalize (length (cell ∷ cells)) (sum_of (λ c. c.right) (cell ∷ cells));
   first = cell.first;
+  title = cell.title;
 })
 
 -- each sample times so many millionths
 abbrev pub amplified : ℤ → Cell → Cell
 amplified millionths cell =
-    record { left = scaled millionths cell.left; right = scaled millionths cell.right; first = cell.first }
+    record { left = scaled millionths cell.left; right = scaled millionths cell.right; first = cell.first; title = cell.title }
 
 -- half the sum of both sides, in mono
 abbrev pub halved : Cell → Cell
-halved cell = record { left = half_of cell.left cell.right; right = pos 0; first = cell.first }
+halved cell = record { left = half_of cell.left cell.right; right = pos 0; first = cell.first; title = cell.title }
 
 -- the sample of a mono cell on both sides
 abbrev pub doubled : Cell → Cell
-doubled cell = record { left = cell.left; right = cell.left; first = cell.first }
+doubled cell = record { left = cell.left; right = cell.left; first = cell.first; title = cell.title }
 
 -- what a node makes of the slots of its children
 pub data Mixing : Type 0 where

@@ -1,5 +1,5 @@
 -- What a clock's sinks write and give.
-use Rattle.std.specs.Prelude.{Some, None, List, [], ◌∷◌, ◌++◌, ℕ, zero, suc, pos, ◌+◌, ◌*◌, map, slice_get}
+use Rattle.std.specs.Prelude.{Some, None, List, [], ◌∷◌, ◌++◌, ℕ, zero, suc, pos, ◌+◌, ◌*◌, map, slice_get, if◌then◌else◌}
 use Rattle.std.specs.List.{flat_map, range_with_len}
 use Rattle.std.specs.Option.{option_map_or}
 use Rattle.liq_base.specs.declared.memory.Kind.{Kind}
@@ -45,3 +45,24 @@ gaps setting i (suc ticks) = gaps setting i ticks + missing (tick_slots setting 
 -- the cells that a feed of node i has at the end of tick t: no cells are no chunk
 abbrev pub feed_cells : Setting → (i t : ℕ) → List Cell
 feed_cells setting i t = cells_of (tick_slots setting i t)
+
+-- a mark of a track's beginning: its instant and its title
+pub record Cue : Type 0 where
+  pub at : ℕ
+  pub title : ℕ
+
+-- the marks among these slots, the first of which is that of instant `at`
+abbrev pub cues_from : (at : ℕ) → List Slot → List Cue
+cues_from at [] = []
+cues_from at (None ∷ slots) = cues_from (suc at) slots
+cues_from at (Some cell ∷ slots) =
+    if cell.first then record { at = at; title = cell.title } ∷ cues_from (suc at) slots else cues_from (suc at) slots
+
+-- the marks of node i in tick t
+abbrev pub tick_cues : Setting → (i t : ℕ) → List Cue
+tick_cues setting i t = cues_from (t * setting.plan.frame) (tick_slots setting i t)
+
+-- the marks of the first so many ticks of an output of node i
+abbrev pub cues : Setting → (i ticks : ℕ) → List Cue
+cues setting i zero = []
+cues setting i (suc ticks) = cues setting i ticks ++ tick_cues setting i ticks

@@ -9,7 +9,7 @@ use Rattle.plan_core.specs.declared.node.Op.TheVariants.{Crossfade}
 use Rattle.plan_core.specs.Plans.{AreNodes}
 use Rattle.clock_infer.specs.declared.clock_map.NodeClock.{NodeClock}
 use Rattle.clock_infer.specs.declared.clock_map.NodeClock.TheVariants.{Sub}
-use Rattle.frame_core.specs.Slots.{Slot}
+use Rattle.frame_core.specs.Slots.{Slot, title_of}
 use Rattle.op_cross.specs.Runs.{run_of}
 use Rattle.op_leaf.specs.Readers.{Answer}
 use Rattle.op_leaf.proofs.Laid.{lane_of_same}
@@ -26,6 +26,7 @@ use Rattle.node_states.specs.declared.state.NodeState.{NodeState}
 use Rattle.node_states.specs.declared.state.NodeState.TheVariants.{Leaf, Select, Turn, Mix, Cross, Read, Idle}
 use Rattle.node_states.specs.declared.time.WeekTime.{WeekTime}
 use Rattle.node_states.specs.Passing.{LaneFeeds, asked, passes}
+use Rattle.segment_laws.proofs.Titling.{keeps_title}
 use Rattle.node_states.specs.Runs.{fed_on}
 use Rattle.node_states.specs.States.{StateStands, reading_by, reads_at}
 use Rattle.node_states.specs.Ticks.{past_of}
@@ -38,6 +39,7 @@ use Rattle.engine_instants.specs.Runs.{HasGoneOn, IsBehind, IsGoing, begun_on}
 use Rattle.engine_instants.specs.States.{ClockStands}
 use Rattle.sub_clocks.specs.declared.lanes.ClockLanes.{ClockLanes}
 use Rattle.sub_clocks.specs.Clocks.{HasRanks, IsOpen, RanAsNeeded, Stand, fade_at, is_fade, is_in, rest_at}
+use Rattle.sub_clocks.proofs.Titled.{held_title}
 use Rattle.sub_clocks.specs.Runs.{AreAbove, CanRun, HasRunOn, IsRunOf, SubsRun}
 use Rattle.sub_clocks.proofs.Children.{root_gives}
 use Rattle.sub_clocks.proofs.Equal.{are_same, item_at, same_itself, same_or_above, same_or_other, they_differ}
@@ -117,13 +119,16 @@ are_behind setting sub rank clock n ran fed front lanes time ranks in_clocks nod
   };
 }
   where
-    fed_by : (k : ℕ) → k < length setting.plan.nodes → rank clock ≤ rank (clock_of setting k) → fade_at setting k ≡ true → (rest : ℕ) → rest_at lanes k ≡ rest → AreFed setting sub k (fed k) rest
-    fed_by k within above fades zero is = fed_none setting sub k (fed k)
+    fed_by : (k : ℕ) → k < length setting.plan.nodes → rank clock ≤ rank (clock_of setting k) → fade_at setting k ≡ true → (rest : ℕ) → rest_at lanes k ≡ rest
+        → AreFed setting sub k (fed k) rest (title_of (part_at lanes.runs.held.items (crossfaded setting.plan.nodes k)).slot)
+    fed_by k within above fades zero is = fed_none setting sub k (fed k) (title_of (part_at lanes.runs.held.items (crossfaded setting.plan.nodes k)).slot)
     fed_by k within above fades (suc more) is =
         let o = stand.kept k within above (omega (arith, is)) in
-        subst (λ m. AreFed setting sub k m (suc more)) (sym (stand.even k fades above ∙ o.at))
+        subst (λ m. AreFed setting sub k m (suc more) (title_of (part_at lanes.runs.held.items (crossfaded setting.plan.nodes k)).slot)) (sym (stand.even k fades above ∙ o.at))
+        (subst (λ t. AreFed setting sub k (suc o.n) (suc more) t)
+        (sym (held_title setting sub (Sub k) (history setting sub (Sub k) o.n) lanes.runs.held.items (crossfaded setting.plan.nodes k) o.goes.held_is o.gave))
         (are_fed setting sub meaning k o.n (suc (suc more)) nodes
-        (subst (λ m. IsStretch setting sub (Sub k) (history setting sub (Sub k) o.n) (suc m)) is o.goes.stretch) o.gave (suc o.n) (suc more) (omega arith) (omega arith))
+        (subst (λ m. IsStretch setting sub (Sub k) (history setting sub (Sub k) o.n) (suc m)) is o.goes.stretch) o.gave (suc o.n) (suc more) (omega arith) (omega arith)))
 
 module _ (setting : Setting) (sub : ℕ → ℕ → List Slot) (rank : NodeClock → ℕ) (own : List Bool) (in_clocks : length setting.clocks ≡ length setting.plan.nodes)
     (nodes : AreNodes setting.plan.nodes) (clock : NodeClock) (n many : ℕ) (some : 0 < many) (ran : NodeClock → ℕ) (fed : ℕ → ℕ) (front : ℕ → List Answer) (old mid new : ClockLanes)
@@ -256,7 +261,7 @@ module _ (setting : Setting) (sub : ℕ → ℕ → List Slot) (rank : NodeClock
       each = λ k node state is found gave through.
           let inside = same_clock-true (clock_of setting k) clock is.inside in
           let fades = passing_fade k node state is found through in
-          subst (λ m. LaneFeeds (sub k) m many (samples_of mid.runs.left.items (crossfaded setting.plan.nodes k) many) (samples_of mid.runs.right.items (crossfaded setting.plan.nodes k) many))
+          subst (λ m. LaneFeeds (sub k) m many (title_of (part_at mid.runs.held.items (crossfaded setting.plan.nodes k)).slot) (samples_of mid.runs.left.items (crossfaded setting.plan.nodes k) many) (samples_of mid.runs.right.items (crossfaded setting.plan.nodes k) many))
           (sym (fed_kept k inside ∙ even_before k inside fades))
           (let within = slice_get_within setting.plan.nodes k node is.there in s.feeds k within inside within (passes_there k state inside found gave through));
       apart = λ k node state is found gave through.
@@ -499,6 +504,8 @@ module _ (setting : Setting) (sub : ℕ → ℕ → List Slot) (rank : NodeClock
     given = λ there. lane_of_same (λ j. lane setting sub clock Past (suc j) i) (λ j. offer (moment_after setting sub clock (history setting sub clock (ran clock + j))) i) many
         (samples_of new.runs.left.items i many) (samples_of new.runs.right.items i many) (λ j low. slot_same i j)
         (went.lanes i (root_gives setting sub clock Past own can.world.roots i is there));
+    titled = λ there j low. ap title_of (slot_same i j)
+        ∙ keeps_title setting sub clock Past (suc many) i (suc j) nodes can.goes.stretch (omega (arith, low)) (root_gives setting sub clock Past own can.world.roots i is there);
     silent = λ none j low.
         let like = alike_all setting sub clock Past (suc many) nodes can.goes.stretch (suc j) (omega arith) (omega (arith, low)) in
         slot_same i j ∙ none_there (lane setting sub clock Past (suc j) i) ((like.slots i).there ∙ none);
@@ -541,6 +548,7 @@ has_run_none setting sub rank own clock n ran fed front lanes stand needed = rec
   quiet = λ j low. absurd (omega (arith, low));
   slots = λ i is. record {
     given = λ there. record { left_is = refl; right_is = refl; inner = λ j low. absurd (omega (arith, low)) };
+    titled = λ there j low. absurd (omega (arith, low));
     silent = λ none j low. absurd (omega (arith, low));
   };
 }

@@ -3,9 +3,9 @@ use Rattle.std.proofs.Common.{◌≡◌, ◌<◌, ◌≤◌, ◌+◌, ◌∙◌,
 use Rattle.std.specs.Prelude.{is_some}
 use Rattle.clock_infer.specs.declared.clock_map.NodeClock.{NodeClock}
 use Rattle.clock_infer.specs.declared.clock_map.NodeClock.TheVariants.{Sub}
-use Rattle.frame_core.specs.Slots.{Slot}
+use Rattle.frame_core.specs.Slots.{Slot, title_of}
 use Rattle.frame_core.specs.Calls.{Call}
-use Rattle.op_leaf.specs.Lanes.{IsLane}
+use Rattle.op_leaf.specs.Lanes.{AreTitled, IsLane}
 use Rattle.op_leaf.specs.Readers.{Answer}
 use Rattle.stream_meaning.specs.Operators.{Work}
 use Rattle.stream_meaning.specs.Instants.{Setting, Moment, IsMeaning, clock_of, crossfaded, gives, history, moment_after, offer, part_at}
@@ -43,6 +43,7 @@ pub record TakesRun (setting : Setting) (sub : ℕ → ℕ → List Slot) (k man
   pub fed : (past : List Moment) (fed : ℕ) (work : Work) (slots : ℕ → Slot) (before after : NodeState)
       → slice_get old.states.items k ≡ Some before → slice_get new.states.items k ≡ Some after → StateStands setting sub past fed k work before
       → IsLane slots many (samples_of old.runs.left.items (crossfaded setting.plan.nodes k) many) (samples_of old.runs.right.items (crossfaded setting.plan.nodes k) many)
+      → AreTitled slots many (title_of (part_at old.latest.parts.items (crossfaded setting.plan.nodes k)).slot)
       → ((m : ℕ) → m < many → sub k (suc (fed + m)) ≡ sub k (fed + m) ++ slots m ∷ []) → StateStands setting sub past (fed + many) k work after
   pub time : (n : ℕ) (before after : WeekTime) → slice_get old.times.items k ≡ Some before → slice_get new.times.items k ≡ Some after
       → TimeStands setting.start n before → TimeStands setting.start (n + many) after
@@ -69,7 +70,8 @@ module _ (setting : Setting) (sub : ℕ → ℕ → List Slot) (rank : NodeClock
     (meaning : IsMeaning setting sub) (own : List Bool) (roots : AreOwnRoots setting own) (n many : ℕ) (mid new : ClockLanes)
     (h : HasRunOn setting sub rank own (Sub k) n many r.reached.ran_now r.reached.fed_now (after_calls front more) mid)
     (gave : gives (moment_after setting sub (Sub k) (history setting sub (Sub k) n)) (crossfaded setting.plan.nodes k) ≡ true)
-    (takes : TakesRun setting sub k many mid new) (idle : rest_at lanes k ≡ 0) where
+    (takes : TakesRun setting sub k many mid new) (idle : rest_at lanes k ≡ 0)
+    (parts : mid.latest.parts.items ≡ (moment_after setting sub (Sub k) (history setting sub (Sub k) n)).parts) where
   abbrev Ran : ℕ
   Ran = r.reached.ran_now (Sub k)
 
@@ -84,6 +86,8 @@ module _ (setting : Setting) (sub : ℕ → ℕ → List Slot) (rank : NodeClock
     fed = λ past work before after was is stands.
         takes.fed past Ran work (λ j. offer (moment_after setting sub (Sub k) (history setting sub (Sub k) (Ran + j))) (crossfaded setting.plan.nodes k)) before after was is stands
         ((h.slots (crossfaded setting.plan.nodes k) (child_root setting sub k (history setting sub (Sub k) n) own roots offered)).given offered)
+        (λ j low. (h.slots (crossfaded setting.plan.nodes k) (child_root setting sub k (history setting sub (Sub k) n) own roots offered)).titled offered j low
+        ∙ sym (ap (λ ps. title_of (part_at ps (crossfaded setting.plan.nodes k)).slot) parts))
         (λ m low. meaning_step setting sub k (Ran + m) meaning);
     time = takes.time;
   }

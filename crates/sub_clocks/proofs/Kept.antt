@@ -49,6 +49,7 @@ stretch_fewer setting sub clock past rest many few s = record {
   settled = λ i node overlap j is work some low. s.settled i node overlap j is work some (omega (arith, low, few));
   marks = λ i node choice eligible j children is work some low. s.marks i node choice eligible j children is work some (omega (arith, low, few));
   free = λ i node choice eligible j is work some low. s.free i node choice eligible j is work some (omega (arith, low, few));
+  titles = λ i node j is some low. s.titles i node j is some (omega (arith, low, few));
 }
 
 -- fewer instants go on too

@@ -9,6 +9,7 @@ pub mod Taking
 pub mod Joining
 pub mod Making
 pub mod Readers
+mod Titled
 mod Above
 mod Children
 pub mod SubRuns

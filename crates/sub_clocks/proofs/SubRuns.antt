@@ -11,6 +11,12 @@ use Rattle.stream_meaning.specs.Instants.{Setting, clock_of, crossfaded, history
 use Rattle.stream_meaning.specs.Calls.{calls_of}
 use Rattle.node_mixing.specs.Runs.{samples_of}
 use Rattle.node_states.specs.declared.time.WeekTime.{WeekTime}
+use Rattle.frame_core.specs.Slots.{title_of}
+use Rattle.stream_meaning.specs.declared.part.Part.{Part}
+use Rattle.engine_instants.specs.declared.runs.Runs.{Runs}
+use Rattle.sub_clocks.proofs.Titled.{held_title}
+use Rattle.std.specs.Prelude.{Vec}
+use Rattle.std.specs.declared.alloc.Global.{Global}
 use Rattle.node_states.specs.Passing.{LaneFeeds}
 use Rattle.node_states.specs.Times.{TimeStands}
 use Rattle.engine_instants.proofs.Places.{same_or_other as same_place}
@@ -102,6 +108,7 @@ module _ (setting : Setting) (sub : ℕ → ℕ → List Slot) (rank : NodeClock
       (kept_left : kept.runs.left ≡ lanes.runs.left) (kept_right : kept.runs.right ≡ lanes.runs.right)
       (none : rest_at kept i ≡ 0) (others_kept : (k : ℕ) → (k ≡ i → ⊥) → rest_at kept k ≡ rest_at lanes k)
       (run : (n : ℕ) → CanRun setting sub rank own (Sub i) n many s.ran_now s.fed_now front kept → HasRunOn setting sub rank own (Sub i) n many s.ran_now s.fed_now front mid)
+      (held_mid : mid.runs.held ≡ kept.runs.held)
       (left : AreLeft setting.clocks rank (rank (Sub i)) (is_in setting.clocks (Sub i)) kept mid)
       (samples : AreSamplesLeft setting.clocks rank (rank (Sub i)) (is_in setting.clocks (Sub i)) many kept mid)
       (states : new.states ≡ mid.states) (runs : new.runs ≡ mid.runs)
@@ -222,27 +229,38 @@ module _ (setting : Setting) (sub : ℕ → ℕ → List Slot) (rank : NodeClock
     offered : is_some (offer (moment_after setting sub (Sub i) (history setting sub (Sub i) opened.n)) Child) ≡ true
     offered = gives_offers (moment_after setting sub (Sub i) (history setting sub (Sub i) opened.n)) Child opened.gave
 
-    feeds_own : LaneFeeds (sub i) (ran (Sub i)) many (samples_of new.runs.left.items Child many) (samples_of new.runs.right.items Child many)
+    -- what is held stays
+    held_new : new.runs.held ≡ lanes.runs.held
+    held_new = ap (λ (r : Runs). r.held) runs ∙ held_mid ∙ kept_held
+
+    own_title : title_of (offer (moment_after setting sub (Sub i) (history setting sub (Sub i) opened.n)) Child) ≡ title_of (part_at new.runs.held.items Child).slot
+    own_title = sym (ap (λ (h : Vec Part Global). title_of (part_at h.items Child).slot) held_new
+        ∙ held_title setting sub (Sub i) (history setting sub (Sub i) opened.n) lanes.runs.held.items Child opened.goes.held_is opened.gave)
+
+    feeds_own : LaneFeeds (sub i) (ran (Sub i)) many (title_of (part_at new.runs.held.items Child).slot) (samples_of new.runs.left.items Child many) (samples_of new.runs.right.items Child many)
     feeds_own =
-        subst (λ n. LaneFeeds (sub i) n many (samples_of new.runs.left.items Child many) (samples_of new.runs.right.items Child many)) stays
-        (subst (λ r. LaneFeeds (sub i) (s.ran_now (Sub i)) many (samples_of r.left.items Child many) (samples_of r.right.items Child many)) (sym runs) (record {
+        subst (λ n. LaneFeeds (sub i) n many (title_of (part_at new.runs.held.items Child).slot) (samples_of new.runs.left.items Child many) (samples_of new.runs.right.items Child many)) stays
+        (subst (λ r. LaneFeeds (sub i) (s.ran_now (Sub i)) many (title_of (part_at new.runs.held.items Child).slot) (samples_of r.left.items Child many) (samples_of r.right.items Child many)) (sym runs) (record {
           slots = λ j. offer (moment_after setting sub (Sub i) (history setting sub (Sub i) (s.ran_now (Sub i) + j))) Child;
           lane = (h.slots Child (child_root setting sub i (history setting sub (Sub i) opened.n) own world.roots offered)).given offered;
+          titled = λ j low. (h.slots Child (child_root setting sub i (history setting sub (Sub i) opened.n) own world.roots offered)).titled offered j low ∙ own_title;
           fed = λ m low. meaning_step setting sub i (s.ran_now (Sub i) + m) world.meaning;
         }))
 
     feeds_kept : (k : ℕ) → k < length setting.plan.nodes → clock_of setting k ≡ clock → k < i → through k ≡ true
-        → LaneFeeds (sub k) (ran (Sub k)) many (samples_of new.runs.left.items (crossfaded setting.plan.nodes k) many) (samples_of new.runs.right.items (crossfaded setting.plan.nodes k) many)
+        → LaneFeeds (sub k) (ran (Sub k)) many (title_of (part_at new.runs.held.items (crossfaded setting.plan.nodes k)).slot) (samples_of new.runs.left.items (crossfaded setting.plan.nodes k) many) (samples_of new.runs.right.items (crossfaded setting.plan.nodes k) many)
     feeds_kept k low here less so =
         let child = s.inside k low here less so in
         let out : clock_of setting (crossfaded setting.plan.nodes k) ≡ Sub i → ⊥ = λ e. sub_apart k (λ same. omega (arith, same, less)) (sym child ∙ e) in
         let under : rank (clock_of setting (crossfaded setting.plan.nodes k)) ≤ rank (Sub i) =
         (let d = deeper k low in let u = up in let e : rank (clock_of setting (crossfaded setting.plan.nodes k)) ≡ rank (Sub k) = ap rank child in let l : rank (clock_of setting k) ≡ rank clock = ap rank here in omega (arith, d, u, e, l)) in
-        subst (λ xs. LaneFeeds (sub k) (ran (Sub k)) many xs (samples_of new.runs.right.items (crossfaded setting.plan.nodes k) many))
+        subst (λ xs. LaneFeeds (sub k) (ran (Sub k)) many (title_of (part_at new.runs.held.items (crossfaded setting.plan.nodes k)).slot) xs (samples_of new.runs.right.items (crossfaded setting.plan.nodes k) many))
         (sym (ap (λ r. samples_of r.left.items (crossfaded setting.plan.nodes k) many) runs ∙ samples.left (crossfaded setting.plan.nodes k) out under ∙ ap (λ xs. samples_of xs.items (crossfaded setting.plan.nodes k) many) kept_left))
-        (subst (λ ys. LaneFeeds (sub k) (ran (Sub k)) many (samples_of lanes.runs.left.items (crossfaded setting.plan.nodes k) many) ys)
+        (subst (λ ys. LaneFeeds (sub k) (ran (Sub k)) many (title_of (part_at new.runs.held.items (crossfaded setting.plan.nodes k)).slot) (samples_of lanes.runs.left.items (crossfaded setting.plan.nodes k) many) ys)
         (sym (ap (λ r. samples_of r.right.items (crossfaded setting.plan.nodes k) many) runs ∙ samples.right (crossfaded setting.plan.nodes k) out under ∙ ap (λ xs. samples_of xs.items (crossfaded setting.plan.nodes k) many) kept_right))
-        (s.feeds k low here less so))
+        (subst (λ (h : Vec Part Global). LaneFeeds (sub k) (ran (Sub k)) many (title_of (part_at h.items (crossfaded setting.plan.nodes k)).slot)
+        (samples_of lanes.runs.left.items (crossfaded setting.plan.nodes k) many) (samples_of lanes.runs.right.items (crossfaded setting.plan.nodes k) many)) (sym held_new)
+        (s.feeds k low here less so)))
 
     pub subs_step : SubsRun setting sub rank clock many through (suc i) ran fed front new
     subs_step = record {
@@ -275,7 +293,7 @@ module _ (setting : Setting) (sub : ℕ → ℕ → List Slot) (rank : NodeClock
         | inr apart ↦ s.quiet k j low here (omega (arith, less, apart)) so few
       ];
       feeds = λ k low here less so. elim (same_place i k) [
-        | inl same ↦ subst (λ m. LaneFeeds (sub m) (ran (Sub m)) many (samples_of new.runs.left.items (crossfaded setting.plan.nodes m) many) (samples_of new.runs.right.items (crossfaded setting.plan.nodes m) many)) same feeds_own
+        | inl same ↦ subst (λ m. LaneFeeds (sub m) (ran (Sub m)) many (title_of (part_at new.runs.held.items (crossfaded setting.plan.nodes m)).slot) (samples_of new.runs.left.items (crossfaded setting.plan.nodes m) many) (samples_of new.runs.right.items (crossfaded setting.plan.nodes m) many)) same feeds_own
         | inr apart ↦ feeds_kept k low here (omega (arith, less, apart)) so
       ];
       inside = λ k low here less so. elim (same_place i k) [

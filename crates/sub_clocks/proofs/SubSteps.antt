@@ -79,17 +79,17 @@ module _ (plan : Plan) (library : Sounds) (clocks : List NodeClock) (in_clocks :
   pub sub_run : (lanes kept mid new : ClockLanes) → (gave_at lanes.runs.held.items i && passes_at lanes.states.items i) ≡ true → 0 < many → many ≤ rest_at lanes i
       → kept.states ≡ lanes.states → kept.times ≡ lanes.times → kept.runs.held ≡ lanes.runs.held → kept.runs.left ≡ lanes.runs.left → kept.runs.right ≡ lanes.runs.right
       → rest_at kept i ≡ 0 → ((k : ℕ) → (k ≡ i → ⊥) → rest_at kept k ≡ rest_at lanes k)
-      → ClockRun plan library clocks (Sub i) many kept mid
+      → ClockRun plan library clocks (Sub i) many kept mid → mid.runs.held ≡ kept.runs.held
       → ((rank : NodeClock → ℕ) → HasRanks clocks rank → AreLeft clocks rank (rank (Sub i)) (is_in clocks (Sub i)) kept mid)
       → ((rank : NodeClock → ℕ) → HasRanks clocks rank → AreSamplesLeft clocks rank (rank (Sub i)) (is_in clocks (Sub i)) many kept mid)
       → new.states ≡ mid.states → new.runs ≡ mid.runs → ((k : ℕ) → (k ≡ i → ⊥) → slice_get new.times.items k ≡ slice_get mid.times.items k)
       → ((start n : ℕ) (before after : WeekTime) → slice_get mid.times.items i ≡ Some before → slice_get new.times.items i ≡ Some after → TimeStands start n before → TimeStands start (n + many) after)
       → length mid.times.items ≡ length plan.nodes → length new.times.items ≡ length plan.nodes → SubClockRun plan library clocks i many lanes new
-  sub_run lanes kept mid new so some rest states times held left right none others run leaves samples new_states new_runs new_times later in_mid in_new = record {
+  sub_run lanes kept mid new so some rest states times held left right none others run held_mid leaves samples new_states new_runs new_times later in_mid in_new = record {
     step = λ other sub rank ran fed front own through world is s.
         let S = over plan library clocks other in
         subs_step S sub rank own world in_clocks (clock_at clocks i) many through ran fed front i within refl (is ∙ so) some lanes kept mid new s rest states times held left right none others
-        (λ n can. run.run other sub rank s.ran_now s.fed_now front own n can) (leaves rank world.ranks) (samples rank world.ranks) new_states new_runs new_times (later S.start) in_mid in_new;
+        (λ n can. run.run other sub rank s.ran_now s.fed_now front own n can) held_mid (leaves rank world.ranks) (samples rank world.ranks) new_states new_runs new_times (later S.start) in_mid in_new;
   }
 
 -- what the sub-clock's run asks of the lanes of which no instants of it are kept any more

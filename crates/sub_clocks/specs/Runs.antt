@@ -4,9 +4,9 @@ use Rattle.plan_core.specs.declared.plan.Plan.{Plan}
 use Rattle.clock_infer.specs.declared.clock_map.NodeClock.{NodeClock}
 use Rattle.clock_infer.specs.declared.clock_map.NodeClock.TheVariants.{Sub}
 use Rattle.frame_core.specs.Calls.{Call}
-use Rattle.frame_core.specs.Slots.{Slot}
+use Rattle.frame_core.specs.Slots.{Slot, title_of}
 use Rattle.frame_core.specs.Library.{Sounds}
-use Rattle.op_leaf.specs.Lanes.{IsLane}
+use Rattle.op_leaf.specs.Lanes.{AreTitled, IsLane}
 use Rattle.op_leaf.specs.Readers.{Answer}
 use Rattle.stream_meaning.specs.Instants.{Setting, clock_of, crossfaded, history, moment_after, offer, part_at}
 use Rattle.stream_meaning.specs.Calls.{calls_of}
@@ -19,10 +19,11 @@ use Rattle.engine_instants.specs.Held.{IsHeld, gave_at, goes_through, passes_at}
 use Rattle.node_states.specs.Passing.{LaneFeeds}
 use Rattle.sub_clocks.specs.Clocks.{GoesOnFor, IsFeeding, IsOpen, IsWorld, RanAsNeeded, Stand, clock_at, fade_at, is_none, rest_at}
 
--- at so many instants a node offers nothing, where it offered nothing at the one before them; or cells that begin no track, and these
--- are their samples
+-- at so many instants a node offers nothing, where it offered nothing at the one before them; or cells of its title there that begin no
+-- track, and these are their samples
 pub record IsRunOf (slots : ℕ → Slot) (many : ℕ) (first : Slot) (left right : List ℤ) : Type 0 where
   pub given : is_some first ≡ true → IsLane slots many left right
+  pub titled : is_some first ≡ true → AreTitled slots many (title_of first)
   pub silent : is_some first ≡ false → (j : ℕ) → j < many → slots j ≡ None
 
 -- a clock has made so many instants more behind instant n, without a call, and no other clock of its rank or a lower one has; and the
@@ -95,7 +96,8 @@ pub record SubsRun (setting : Setting) (sub : ℕ → ℕ → List Slot) (rank :
   pub quiet : (k j : ℕ) → k < length setting.plan.nodes → clock_of setting k ≡ clock → k < below → through k ≡ true → j < many
       → calls_of setting sub (Sub k) (history setting sub (Sub k) (ran (Sub k) + j)) ≡ []
   pub feeds : (k : ℕ) → k < length setting.plan.nodes → clock_of setting k ≡ clock → k < below → through k ≡ true
-      → LaneFeeds (sub k) (ran (Sub k)) many (samples_of lanes.runs.left.items (crossfaded setting.plan.nodes k) many) (samples_of lanes.runs.right.items (crossfaded setting.plan.nodes k) many)
+      → LaneFeeds (sub k) (ran (Sub k)) many (title_of (part_at lanes.runs.held.items (crossfaded setting.plan.nodes k)).slot)
+      (samples_of lanes.runs.left.items (crossfaded setting.plan.nodes k) many) (samples_of lanes.runs.right.items (crossfaded setting.plan.nodes k) many)
   pub inside : (k : ℕ) → k < length setting.plan.nodes → clock_of setting k ≡ clock → k < below → through k ≡ true
       → clock_of setting (crossfaded setting.plan.nodes k) ≡ Sub k
 

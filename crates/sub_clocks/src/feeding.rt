@@ -4,9 +4,9 @@ ghost use Rattle.liq_base.specs.declared.limits.TheConstants.{MAX_NODES};
 ghost use Rattle.plan_core.specs.Plans.{AreNodes};
 ghost use Rattle.clock_infer.specs.declared.clock_map.NodeClock.{NodeClock as Clock};
 ghost use Rattle.clock_infer.specs.declared.clock_map.NodeClock.TheVariants.{Main as InMain, Sub as InSub};
-ghost use Rattle.frame_core.specs.Slots.{Slot};
+ghost use Rattle.frame_core.specs.Slots.{Slot, title_of};
 ghost use Rattle.frame_core.specs.Library.{Sounds};
-ghost use Rattle.op_leaf.specs.Lanes.{IsLane};
+ghost use Rattle.op_leaf.specs.Lanes.{AreTitled, IsLane};
 ghost use Rattle.stream_meaning.specs.Operators.{Work};
 ghost use Rattle.stream_meaning.specs.Instants.{Setting, Moment, crossfaded, part_at};
 ghost use Rattle.node_mixing.specs.Runs.{samples_of};
@@ -25,6 +25,7 @@ use crate::keeping::{keep, rest_for};
 use crate::onward::run_clock;
 use clock_infer::NodeClock;
 use engine_instants::{Runs, Shape};
+use frame_core::title_of;
 use node_mixing::MAX_RUN;
 use node_states::{NodeState, WeekTime};
 use plan_core::Node;
@@ -132,8 +133,8 @@ fn wanted(lanes: &ClockLanes, k: u32, rest: u32) -> u32
     rest.min(lanes.states[k as usize].room()).min(MAX_RUN)
 }
 
-// Feeds crossfade k, which takes them, the samples of its child in the latest run, which had so many instants, and takes the time
-// of the sub-clock on.
+// Feeds crossfade k, which takes them, the samples of its child in the latest run, which had so many instants, under its title at the
+// latest instant, and takes the time of the sub-clock on.
 fn feed_lane(shape: &Shape<'_>, lanes: &mut ClockLanes, k: u32, many: u32)
     requires nodes { AreNodes shape.now.plan.now.nodes }
     requires lanes { AreClockLanes shape.now.plan.now shape.now.library.now shape.now.clocks.now lanes.old }
@@ -153,6 +154,7 @@ fn feed_lane(shape: &Shape<'_>, lanes: &mut ClockLanes, k: u32, many: u32)
         → StateStands setting sub past fed k work before
         → IsLane slots many (samples_of lanes.old.runs.left.items (crossfaded shape.now.plan.now.nodes k) many)
         (samples_of lanes.old.runs.right.items (crossfaded shape.now.plan.now.nodes k) many)
+        → AreTitled slots many (title_of (part_at lanes.old.latest.parts.items (crossfaded shape.now.plan.now.nodes k)).slot)
         → ((m : ℕ) → m < many → sub k (suc (fed + m)) ≡ sub k (fed + m) ++ slots m ∷ [])
         → StateStands setting sub past (fed + many) k work after }
     ensures time { (start n : ℕ) (before after : Time) → slice_get lanes.old.times.items k ≡ Some before
@@ -160,12 +162,19 @@ fn feed_lane(shape: &Shape<'_>, lanes: &mut ClockLanes, k: u32, many: u32)
 {
     let child = child_of(shape.plan.nodes.as_slice(), k);
     let at = k as usize;
-    feed_samples(&mut lanes.states[at], &lanes.runs, child, many as usize);
+    let title = title_of(slot_of(&lanes.latest.parts, child));
+    feed_samples(
+        &mut lanes.states[at],
+        &lanes.runs,
+        child,
+        title,
+        many as usize,
+    );
     lanes.times[at] = lanes.times[at].later(many);
 }
 
-// Feeds a crossfade the samples of a node in the latest run, which had so many instants.
-fn feed_samples(state: &mut NodeState, runs: &Runs, child: u32, count: usize)
+// Feeds a crossfade the samples of a node in the latest run, which had so many instants, as cells of this title.
+fn feed_samples(state: &mut NodeState, runs: &Runs, child: u32, title: u32, count: usize)
     requires short { count ≤ 1024 }
     requires some { 0 < count }
     requires in_left { (child + 1) * 1024 ≤ length runs.now.left.items }
@@ -176,10 +185,15 @@ fn feed_samples(state: &mut NodeState, runs: &Runs, child: u32, count: usize)
     ensures fed { (setting : Setting) (sub : ℕ → ℕ → List Slot) (past : List Moment) (fed i : ℕ) (work : Work) (slots : ℕ → Slot)
         → StateStands setting sub past fed i work state.old
         → IsLane slots count (samples_of runs.now.left.items child count) (samples_of runs.now.right.items child count)
+        → AreTitled slots count title
         → ((m : ℕ) → m < count → sub i (suc (fed + m)) ≡ sub i (fed + m) ++ slots m ∷ [])
         → StateStands setting sub past (fed + count) i work state.new }
 {
-    state.feed_run(runs.left_of(child, count), runs.right_of(child, count));
+    state.feed_run(
+        title,
+        runs.left_of(child, count),
+        runs.right_of(child, count),
+    );
 }
 
 // The first of some numbers, or 0.

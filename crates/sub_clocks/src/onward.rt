@@ -41,6 +41,7 @@ pub fn run_clock(
     requires through { AllPassOn shape.now.clocks.now clock lanes.old.runs.held.items lanes.old.states.items lanes.old.runs.rests.items (length shape.now.clocks.now) many }
     ensures lanes { AreClockLanes shape.now.plan.now shape.now.library.now shape.now.clocks.now lanes.new }
     ensures latest { lanes.new.latest ≡ lanes.old.latest }
+    ensures held { lanes.new.runs.held ≡ lanes.old.runs.held }
     ensures left { (rank : Clock → ℕ) → HasRanks shape.now.clocks.now rank
         → AreLeft shape.now.clocks.now rank (rank clock) (is_in shape.now.clocks.now clock) lanes.old lanes.new }
     ensures samples { (rank : Clock → ℕ) → HasRanks shape.now.clocks.now rank
@@ -66,6 +67,7 @@ fn run_subs(shape: &Shape<'_>, lanes: &mut ClockLanes, clock: NodeClock, many: u
     requires through { AllPassOn shape.now.clocks.now clock lanes.old.runs.held.items lanes.old.states.items lanes.old.runs.rests.items (length shape.now.clocks.now) many }
     ensures lanes { AreClockLanes shape.now.plan.now shape.now.library.now shape.now.clocks.now lanes.new }
     ensures latest { lanes.new.latest ≡ lanes.old.latest }
+    ensures held { lanes.new.runs.held ≡ lanes.old.runs.held }
     ensures above { (rank : Clock → ℕ) → HasRanks shape.now.clocks.now rank
         → AreAbove shape.now.clocks.now rank (rank clock) (is_in shape.now.clocks.now clock) lanes.old lanes.new }
     ensures samples { (rank : Clock → ℕ) → HasRanks shape.now.clocks.now rank
@@ -95,6 +97,7 @@ fn run_sub(shape: &Shape<'_>, lanes: &mut ClockLanes, i: u32, many: u32, levels:
     requires through { (gave_at lanes.old.runs.held.items i && passes_at lanes.old.states.items i) ≡ true → many ≤ rest_at lanes.old i }
     ensures lanes { AreClockLanes shape.now.plan.now shape.now.library.now shape.now.clocks.now lanes.new }
     ensures latest { lanes.new.latest ≡ lanes.old.latest }
+    ensures held { lanes.new.runs.held ≡ lanes.old.runs.held }
     ensures above { (rank : Clock → ℕ) → HasRanks shape.now.clocks.now rank
         → AreAbove shape.now.clocks.now rank (rank (slice_index_or shape.now.clocks.now i (InMain 0))) (is_node i) lanes.old lanes.new }
     ensures samples { (rank : Clock → ℕ) → HasRanks shape.now.clocks.now rank

@@ -1,5 +1,5 @@
 -- What a name is found to be keeps the numbers below the sounds.
-use Rattle.std.proofs.Common.{◌≡◌, ◌≤◌, ◌<◌, ℕ, suc, ◌+◌, Bool, true, false, cond, List, [], ◌∷◌, ◌++◌, length, Some, subst, arith, length-append}
+use Rattle.std.proofs.Common.{◌≡◌, ◌≤◌, ◌<◌, ℕ, suc, ◌+◌, Bool, true, false, cond, List, [], ◌∷◌, ◌++◌, length, Some, subst, ap, refl, sym, arith, length-append, ◌∙◌, ◌^◌}
 use Rattle.std.specs.Prelude.{Result, Ok, Err, IfOk, nat_le, slice_index_or}
 use Rattle.std.specs.Str.{bytes_eq}
 use Rattle.std.specs.List.{All}
@@ -16,19 +16,21 @@ more_below a b (Ok n) le h = omega arith
 more_below a b (Err fault) le h = h
 
 note_finds : (heard : Heard) (name : List ℕ) (fault : Unusable) → IsHeard heard
-    → Finds heard (record { names = heard.names ++ (name, Err fault) ∷ []; sounds = heard.sounds; bytes = heard.bytes }) (Err fault)
+    → Finds heard (record { names = heard.names ++ (name, Err fault) ∷ []; sounds = heard.sounds; titles = heard.titles; bytes = heard.bytes }) (Err fault)
 note_finds heard name fault h = record {
   heard = record {
     numbers = All-push (λ (e : List ℕ × Result ℕ Unusable). IfOk e.1 (λ number. number < length heard.sounds)) heard.names (name, Err fault) h.numbers tt;
     sounds = h.sounds;
+    titles = h.titles;
+    many = h.many;
   };
   grew = omega arith;
   number = tt;
 }
 
-keep_finds : (heard : Heard) (name : List ℕ) (audio : Audio) → IsHeard heard → IsSound audio.0
-    → Finds heard (record { names = heard.names ++ (name, Ok (length heard.sounds)) ∷ []; sounds = heard.sounds ++ audio.0 ∷ []; bytes = heard.bytes + audio.1 }) (Ok (length heard.sounds))
-keep_finds heard name audio h s =
+keep_finds : (heard : Heard) (name : List ℕ) (audio : Audio) → IsHeard heard → IsSound audio.0 → length heard.sounds + 1 < 2 ^ 32
+    → Finds heard (record { names = heard.names ++ (name, Ok (length heard.sounds)) ∷ []; sounds = heard.sounds ++ audio.0 ∷ []; titles = heard.titles ++ name ∷ []; bytes = heard.bytes + audio.1 }) (Ok (length heard.sounds))
+keep_finds heard name audio h s few =
     let long : length (heard.sounds ++ audio.0 ∷ []) ≡ length heard.sounds + 1 = length-append heard.sounds (audio.0 ∷ []) in
     record {
       heard = record {
@@ -36,6 +38,8 @@ keep_finds heard name audio h s =
             All-push (λ (e : List ℕ × Result ℕ Unusable). IfOk e.1 (λ number. number < length (heard.sounds ++ audio.0 ∷ []))) heard.names (name, Ok (length heard.sounds))
             (λ k d b. more_below (length heard.sounds) (length (heard.sounds ++ audio.0 ∷ [])) (slice_index_or heard.names k d).1 (omega arith) (h.numbers k d b)) (omega arith);
         sounds = All-push IsSound heard.sounds audio.0 h.sounds s;
+        titles = length-append heard.titles (name ∷ []) ∙ omega (arith, h.titles, long);
+        many = omega (arith, long, few);
       };
       grew = omega arith;
       number = omega arith;
@@ -49,11 +53,21 @@ chosen : (b : Bool) (heard : Heard) (x : Heard × Result ℕ Unusable) (y : Hear
 chosen true heard x y fault f e = (let same : x ≡ y = (cc) in subst (λ (z : Heard × Result ℕ Unusable). Finds heard z.0 z.1) same f)
 chosen false heard x y fault f e = absurd (cc)
 
+-- a sound that is used has a number below 2^32 - 1
+chosen_few : (b : Bool) (heard : Heard) (x y : Heard × Result ℕ Unusable) (fault : LoadFault) → x.1 ≡ Ok (length heard.sounds) → IfOk y.1 (λ n. n + 1 < 2 ^ 32)
+    → outcome b x fault ≡ Ok y → length heard.sounds + 1 < 2 ^ 32
+chosen_few true heard x y fault is few e =
+    let same : x ≡ y = (cc) in
+    subst (λ (r : Result ℕ Unusable). IfOk r (λ n. n + 1 < 2 ^ 32)) (ap (λ (z : Heard × Result ℕ Unusable). z.1) (sym same) ∙ is) few
+chosen_few false heard x y fault is few e = absurd (cc)
+
 pub first_finds : (all : ℕ) (heard : Heard) (name : List ℕ) (found : Result Audio Unusable) (after : Heard) (number : Result ℕ Unusable)
-    → IsHeard heard → IfOk found (λ audio. IsSound audio.0) → first_use all heard name found ≡ Ok (after, number) → Finds heard after number
-first_finds all heard name (Err fault) after number h s e = chosen true heard _ (after, number) AllTooLarge (note_finds heard name fault h) e
-first_finds all heard name (Ok audio) after number h s e =
-    chosen (nat_le (heard.bytes + audio.1) all) heard _ (after, number) AllTooLarge (keep_finds heard name audio h s) e
+    → IsHeard heard → IfOk found (λ audio. IsSound audio.0) → IfOk number (λ n. n + 1 < 2 ^ 32) → first_use all heard name found ≡ Ok (after, number)
+    → Finds heard after number
+first_finds all heard name (Err fault) after number h s few e = chosen true heard _ (after, number) AllTooLarge (note_finds heard name fault h) e
+first_finds all heard name (Ok audio) after number h s few e =
+    chosen (nat_le (heard.bytes + audio.1) all) heard _ (after, number) AllTooLarge
+    (keep_finds heard name audio h s (chosen_few (nat_le (heard.bytes + audio.1) all) heard _ (after, number) AllTooLarge refl few e)) e
 
 named_below : (n : ℕ) (names : List (List ℕ × Result ℕ Unusable)) (name : List ℕ) (found : Result ℕ Unusable)
     → All (λ e. IfOk e.1 (λ number. number < n)) names → value_of name names ≡ Some found → IfOk found (λ number. number < n)

@@ -1,5 +1,5 @@
 -- What contracts see of the audio files that were met and of the lists that were read.
-use Rattle.std.specs.Prelude.{◌≤◌, ◌<◌, ◌^◌, ℕ, [], ◌∷◌, ◌++◌, List, length, map, Result, Ok, Err, IfOk, string_bytes, String, Vec, slice_index_or}
+use Rattle.std.specs.Prelude.{◌≡◌, ◌≤◌, ◌<◌, ◌^◌, ℕ, [], ◌∷◌, ◌++◌, List, length, map, Result, Ok, Err, IfOk, string_bytes, String, Vec, slice_index_or}
 use Rattle.std.specs.List.{All}
 use Rattle.std.specs.declared.alloc.Global.{Global}
 use Rattle.frame_core.specs.Sounds.{IsSound}
@@ -37,7 +37,7 @@ abbrev pub listed : List (String Global × Vec (List ℕ) Global) → List (List
 listed entries = map (λ e. (string_bytes e.0, e.1.items)) entries
 
 abbrev pub heard_of : AudioFiles → Heard
-heard_of audio = record { names = named audio.names.entries; sounds = audio.tracks.items; bytes = audio.bytes }
+heard_of audio = record { names = named audio.names.entries; sounds = audio.tracks.items; titles = audio.titles.items; bytes = audio.bytes }
 
 abbrev pub lists_of : ReadLists → List (List ℕ × List (List ℕ))
 lists_of read = listed read.lists.entries
@@ -46,10 +46,12 @@ lists_of read = listed read.lists.entries
 abbrev pub names_at : List (List ℕ × List (List ℕ)) → ℕ → List (List ℕ)
 names_at lists at = (slice_index_or lists at ([], [])).1
 
--- each number that a name has is that of a sound, and each sound has whole blocks, and at least one
+-- each number that a name has is that of a sound, each sound has whole blocks, at least one, and a name, and there are fewer than 2^32
 pub record IsHeard (heard : Heard) : Type 0 where
   pub numbers : All (λ e. IfOk e.1 (λ number. number < length heard.sounds)) heard.names
   pub sounds : All IsSound heard.sounds
+  pub titles : length heard.titles ≡ length heard.sounds
+  pub many : length heard.sounds < 2 ^ 32
 
 -- what a name was found to be, between two states: sounds were added alone, and its number is that of a sound
 pub record Finds (old new : Heard) (found : Result ℕ Unusable) : Type 0 where

@@ -67,18 +67,19 @@ value_of name [] = None
 value_of name (entry ∷ entries) = if bytes_eq name entry.0 then Some entry.1 else value_of name entries
 
 -- the audio files that were met: what each name is, which is the number of a sound or a fault; the sounds that are
--- used, in the order in which they were met; and how many bytes their files count for
+-- used, in the order in which they were met, with the names of their files; and how many bytes these count for
 pub record Heard : Type 0 where
   pub names : List (List ℕ × Result ℕ Unusable)
   pub sounds : List Sound
+  pub titles : List (List ℕ)
   pub bytes : ℕ
 
 -- a name that was not met before: a sound is used, if what its file counts for fits beside the others
 abbrev pub first_use : ℕ → Heard → List ℕ → Result Audio Unusable → Result (Heard × Result ℕ Unusable) LoadFault
-first_use all heard name (Err fault) = Ok (record { names = heard.names ++ (name, Err fault) ∷ []; sounds = heard.sounds; bytes = heard.bytes }, Err fault)
+first_use all heard name (Err fault) = Ok (record { names = heard.names ++ (name, Err fault) ∷ []; sounds = heard.sounds; titles = heard.titles; bytes = heard.bytes }, Err fault)
 first_use all heard name (Ok audio) =
     if nat_le (heard.bytes + audio.1) all then
-    Ok (record { names = heard.names ++ (name, Ok (length heard.sounds)) ∷ []; sounds = heard.sounds ++ audio.0 ∷ []; bytes = heard.bytes + audio.1 }, Ok (length heard.sounds))
+    Ok (record { names = heard.names ++ (name, Ok (length heard.sounds)) ∷ []; sounds = heard.sounds ++ audio.0 ∷ []; titles = heard.titles ++ name ∷ []; bytes = heard.bytes + audio.1 }, Ok (length heard.sounds))
     else Err AllTooLarge
 
 -- what a name is: a name that was met before is what it was
@@ -185,10 +186,10 @@ nodes_walked rules files (node ∷ nodes) walked = nodes_walked rules files node
 
 abbrev pub sounds_of : Result (Walked × List (List ℕ)) LoadFault → Result Sounds LoadFault
 sounds_of (Err fault) = Err fault
-sounds_of (Ok (walked, leaves)) = Ok (record { files = walked.heard.sounds; leaves = leaves })
+sounds_of (Ok (walked, leaves)) = Ok (record { files = walked.heard.sounds; names = walked.heard.titles; leaves = leaves })
 
 abbrev pub nothing_met : Walked
-nothing_met = record { lists = []; heard = record { names = []; sounds = []; bytes = 0 } }
+nothing_met = record { lists = []; heard = record { names = []; sounds = []; titles = []; bytes = 0 } }
 
 -- the library of a plan, or the first fault of the walk
 abbrev pub load_of : Rules → Files → List Node → Result Sounds LoadFault

@@ -1,5 +1,5 @@
 // The audio files that were met on the walk.
-ghost use Rattle.std.specs.Prelude.{◌≡◌, ◌≤◌, ◌<◌, ◌+◌, ◌++◌, ◌∷◌, [], length, Ok, Err, None, Some, IfOk, IfErr, OnOk};
+ghost use Rattle.std.specs.Prelude.{◌≡◌, ◌≤◌, ◌<◌, ◌+◌, ◌^◌, ◌++◌, ◌∷◌, [], length, Ok, Err, None, Some, IfOk, IfErr, OnOk};
 ghost use Rattle.std.specs.Option.{ForSome};
 ghost use Rattle.frame_core.specs.Sounds.{IsSound};
 ghost use Rattle.track_library.specs.Walk.{Ends, EndsAt, first_use, use_audio, value_of};
@@ -11,7 +11,7 @@ use crate::reading::read_audio;
 use crate::rules::Rules;
 use frame_core::Track;
 use indexmap::IndexMap;
-use liq_base::{Memory, Shelf};
+use liq_base::{Memory, Shelf, Text};
 use std::alloc::Global;
 
 /// The audio files that were met: what each name is, and the sounds of those that are used.
@@ -22,6 +22,9 @@ pub struct AudioFiles {
 
     /// The sounds, in the order in which they were met.
     pub tracks: Vec<Track>,
+
+    /// The names of their files.
+    pub titles: Vec<Text>,
 
     /// How many bytes the files of all sounds count for.
     pub bytes: u64,
@@ -49,14 +52,14 @@ impl AudioFiles {
         Ok(())
     }
 
-    /// Keeps a sound, and answers its number.
-    fn keep(&mut self, track: Track) -> Result<u32, Memory>
+    /// Keeps a sound and the name of its file, and answers its number.
+    fn keep(&mut self, alloc: Global, name: &str, track: Track) -> Result<u32, Memory>
         ensures number { IfOk result (λ number. number ≡ length (heard_of self.old).sounds) }
-        ensures kept { OnOk result (heard_of self.new ≡ record (heard_of self.old) { sounds = (heard_of self.old).sounds ++ track ∷ [] }) }
+        ensures few { IfOk result (λ number. number + 1 < 2 ^ 32) }
+        ensures kept { OnOk result (heard_of self.new ≡ record (heard_of self.old) { sounds = (heard_of self.old).sounds ++ track ∷ []; titles = (heard_of self.old).titles ++ name.now ∷ [] }) }
     {
-        let Ok(number) = u32::try_from(self.tracks.len()) else {
-            return Err(Memory);
-        };
+        let number = new_number(self.tracks.len())?;
+        self.titles.push(Text::from_str(alloc, name)?)?;
         self.tracks.push(track)?;
         Ok(number)
     }
@@ -87,7 +90,7 @@ impl AudioFiles {
             Some(bytes) if bytes <= all => bytes,
             _ => return Err(LoadFault::AllTooLarge),
         };
-        let number = self.keep(track)?;
+        let number = self.keep(alloc, name, track)?;
         self.bytes = bytes;
         self.note(alloc, name, Ok(number))?;
         Ok(Ok(number))
@@ -116,5 +119,16 @@ impl AudioFiles {
         }
         let found = read_audio(alloc, shelf, name, rules)?;
         self.add(alloc, name, found, rules.all)
+    }
+}
+
+/// The number of a sound behind so many, if one more still has one.
+fn new_number(count: usize) -> Result<u32, Memory>
+    ensures number { IfOk result (λ number. number ≡ count) }
+    ensures few { IfOk result (λ number. number + 1 < 2 ^ 32) }
+{
+    match u32::try_from(count) {
+        Ok(number) if number < u32::MAX => Ok(number),
+        _ => Err(Memory),
     }
 }

@@ -37,6 +37,7 @@ impl Walk {
             audio: AudioFiles {
                 names: IndexMap::new(alloc),
                 tracks: Vec::new(alloc),
+                titles: Vec::new(alloc),
                 bytes: 0,
             },
         }
@@ -76,16 +77,17 @@ impl Walk {
         requires heard { IsHeard (heard_of self.audio) }
         requires below { All (All (λ number. number < length self.audio.tracks.items)) (map (λ leaf. leaf.items) leaves.items) }
         requires few { All (λ leaf. length leaf < 2 ^ 32) (map (λ leaf. leaf.items) leaves.items) }
-        ensures same { result ≡ record { files = self.audio.tracks.items; leaves = map (λ leaf. leaf.items) leaves.items } }
+        ensures same { result ≡ record { files = self.audio.tracks.items; names = self.audio.titles.items; leaves = map (λ leaf. leaf.items) leaves.items } }
         ensures library { IsLibrary result }
     {
         let Walk { lists: _, audio } = self;
         let AudioFiles {
             names: _,
             tracks,
+            titles,
             bytes: _,
         } = audio;
-        Library::new(tracks, leaves)
+        Library::new(tracks, titles, leaves)
     }
 }
 

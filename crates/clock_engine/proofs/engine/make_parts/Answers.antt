@@ -54,6 +54,7 @@ returns-clause-parts c =
       rooms = λ k d h. (c.in_ok-ports.ensures.new S k d h).room;
       feeds = c.in_ok-feeds.ensures.feeds S;
       frames = λ k d h. (c.in_ok-feeds.ensures.new k d h).long;
+      lists = c.in_ok-cues.ensures.size ∙ c.len-5.ensures ∙ c.in_ok-ports.ports.ok.0;
     }
 
 pub returns-clause-stands : goal.returns-clause-stands
@@ -65,4 +66,5 @@ returns-clause-stands c =
       others = λ buffer unread. refl;
       state = λ rest. new_stand (with_rest S (λ buffer. []) rest) c.args.clock _ (length c.args.shape.plan.now.nodes) _ (has_ranks c.args.shape.plan.now c.args.shape.clocks.now c.requires.clocks c.requires.in_clocks) (rank_low c.args.shape.plan.now c.args.shape.clocks.now c.requires.clocks c.requires.in_clocks) c.in_ok-states.ensures c.new-time.ensures.stands c.in_ok-times.ensures.each c.in_ok-runs.ensures.none;
       gaps_are = λ rest k port at. (all_at (IsNewPort S) c.in_ok-ports.ports.items (c.in_ok-ports.ensures.new S) k port at).gaps;
+      cues_are = λ new rest k port list at_port at_list. c.in_ok-cues.ensures.none k list at_list;
     }

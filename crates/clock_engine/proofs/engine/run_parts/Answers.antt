@@ -3,6 +3,7 @@ use Rattle.std.proofs.lemmas.List.{get_or-map, length-map}
 use Rattle.clock_outputs.specs.Ports.{HasRoomLeft, emptied}
 use Rattle.clock_engine.proofs.Mapped.{has_levels}
 use Rattle.clock_engine.proofs.Starting.{main_is}
+use Rattle.clock_engine.proofs.Ticking.{times_few}
 use Rattle.clock_engine.proofs.Rooted.{feeds_low, ports_low}
 use Rattle.clock_engine.proofs.engine.run_parts.Goals as goal
 
@@ -28,3 +29,11 @@ run_tick-requires-clause-heard g c = ports_low c.args.parts.now c.requires.parts
 
 pub run_tick-requires-clause-fed : goal.run_tick-requires-clause-fed
 run_tick-requires-clause-fed g c = feeds_low c.args.parts.now c.requires.parts
+
+pub run_tick-requires-clause-marks : goal.run_tick-requires-clause-marks
+run_tick-requires-clause-marks g c = c.requires.parts.lists
+
+pub run_tick-requires-clause-late : goal.run_tick-requires-clause-late
+run_tick-requires-clause-late g c =
+    let bound = times_few c.args.parts.now.ticks c.args.parts.now.shape.plan.now.frame c.requires.few c.requires.parts.frame in
+    omega (arith, bound, c.requires.parts.frame)

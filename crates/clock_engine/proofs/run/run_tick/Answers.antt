@@ -1,12 +1,14 @@
-use Rattle.std.proofs.Common.{◌≡◌, ◌<◌, ◌≤◌, ◌-◌, ◌+◌, ◌∙◌, ℕ, suc, List, All, length, map, Fits, w32, ap, sym, arith, refl, rules, subst}
+use Rattle.std.proofs.Common.{◌≡◌, ◌<◌, ◌≤◌, ◌-◌, ◌+◌, ◌∙◌, ℕ, suc, List, All, length, map, slice_get, Fits, w32, ap, sym, arith, refl, rules, subst, inl, inr}
 use Rattle.frame_core.specs.Slots.{Slot}
 use Rattle.clock_outputs.specs.declared.port.Port.{Port}
 use Rattle.clock_outputs.specs.declared.feed.FeedPort.{FeedPort}
 use Rattle.clock_outputs.specs.Ports.{AllHaveRoomLeft, after_slots}
 use Rattle.clock_outputs.specs.Feeds.{with_slots_from}
 use Rattle.node_states.proofs.Chunks.{on_err}
+use Rattle.std.proofs.lemmas.List.{length-map}
 use Rattle.clock_engine.specs.Runs.{Heard, feed_key, segment_of}
-use Rattle.clock_engine.proofs.Hearing.{all_low, feeds_within, frames_filled, heard_broken, heard_more, heard_none, keys_filled, ports_within, room_left, room_less}
+use Rattle.clock_engine.proofs.Cueing.{its_port}
+use Rattle.clock_engine.proofs.Hearing.{all_low, feeds_within, frames_filled, heard_broken, heard_more, heard_part, heard_none, keys_filled, ports_within, room_left, room_less}
 use Rattle.clock_engine.proofs.Segments.{segment_long}
 use Rattle.clock_engine.proofs.run.run_tick.Goals as goal
 
@@ -21,7 +23,8 @@ loop-instant-init g c = record {
   keys = refl;
   buffers = refl;
   same = g.met.T.Taps.same_refl c.args.taps.now;
-  heard = heard_none g.T.Taps.stands _ _ _ _ _ c.args.lanes.now c.args.ports.now.items c.begin_tick.new.ports.items c.args.feeds.now.items c.args.taps.now c.begin_tick.ensures;
+  heard = heard_none g.T.Taps.stands _ _ _ _ _ c.args.lanes.now c.args.ports.now.items c.begin_tick.new.ports.items c.args.feeds.now.items c.args.cues.now c.begin_cues.new.cues c.args.start c.args.taps.now c.begin_tick.ensures
+      c.begin_cues.ensures.keeping c.begin_cues.ensures.size c.begin_cues.ensures.marked;
 }
 
 pub hear_all-requires-clause-within : goal.hear_all-requires-clause-within
@@ -81,20 +84,74 @@ loop-instant-preserved g c =
       keys = ap (map feed_key) filled ∙ keys_filled instant (λ feed. slots feed.node) c.loop-instant.feeds.items ∙ c.loop-instant.invariant.keys;
       buffers = c.make_segment.ensures.buffers ∙ c.loop-instant.invariant.buffers;
       same = g.met.T.Taps.same_trans c.args.taps.now c.loop-instant.taps c.make_segment.new.taps c.loop-instant.invariant.same c.make_segment.ensures.same;
-      heard = heard_more g.T.Taps.stands _ _ _ _ _ instant many (instant + (1 + many)) _ _ _ next c.in_ok-many.ensures.run is filled long
-          (all_low frame (instant + suc many) c.args.feeds.now.items low c.requires.frames) c.loop-instant.invariant.heard;
+      heard = heard_more g.T.Taps.stands _ _ _ _ _ instant many (instant + (1 + many)) _ _ _ next c.in_ok-many.ensures.run is c.loop-instant.invariant.heard filled long
+          (all_low frame (instant + suc many) c.args.feeds.now.items low c.requires.frames) c.mark_all.ensures.keeping c.mark_all.ensures.size
+          (λ k port old new at_port at_old at_new. c.in_ok-mark_all.ensures.kept k port old new (ap (λ ps. slice_get ps k) c.deref.ensures.value ∙ at_port) at_old at_new);
     }
 
 pub returns-in_err-many-clause-stopped : goal.returns-in_err-many-clause-stopped
 returns-in_err-many-clause-stopped g c =
-    on_err c.from_residual.result (heard_broken g.T.Taps.stands _ _ _ _ _ c.loop-instant.instant c.args.shape.now.plan.now.frame _ _ _ c.loop-instant-test.true c.in_err-many.ensures.broken refl c.loop-instant.invariant.heard)
+    on_err c.from_residual.result (heard_broken g.T.Taps.stands _ _ _ _ _ c.loop-instant.instant c.args.shape.now.plan.now.frame _ _ _ c.loop-instant-test.true c.in_err-many.ensures.broken refl refl
+    (λ k list at. its_port c.args.cues.now.lists.items c.args.ports.now.items c.requires.marks k list at) c.loop-instant.invariant.heard)
 
 pub returns-clause-heard : goal.returns-clause-heard
 returns-clause-heard g c =
     let all : c.loop-instant.instant ≡ c.args.shape.now.plan.now.frame = omega (arith, c.loop-instant.invariant.low, c.loop-instant-test.false) in
     subst (λ n. Heard g.T.Taps.stands c.args.shape.now.plan.now c.args.shape.now.library.now c.args.shape.now.clocks.now c.args.clock c.args.own.now n
-    (record { lanes = c.args.lanes.now; ports = c.args.ports.now.items; feeds = c.args.feeds.now.items; taps = c.args.taps.now })
-    (record { lanes = c.loop-instant.lanes; ports = c.loop-instant.ports.items; feeds = c.loop-instant.feeds.items; taps = c.loop-instant.taps })) all c.loop-instant.invariant.heard
+    (record { lanes = c.args.lanes.now; ports = c.args.ports.now.items; feeds = c.args.feeds.now.items; cues = c.args.cues.now; start = c.args.start; taps = c.args.taps.now })
+    (record { lanes = c.loop-instant.lanes; ports = c.loop-instant.ports.items; feeds = c.loop-instant.feeds.items; cues = c.loop-instant.cues; start = c.args.start; taps = c.loop-instant.taps })) all c.loop-instant.invariant.heard
 
-pub returns-in_err-many-clause-reads : goal.returns-in_err-many-clause-reads
-returns-in_err-many-clause-reads g c = on_err c.from_residual.result c.in_err-many.ensures.reads
+pub returns-in_err-many-clause-needs : goal.returns-in_err-many-clause-needs
+returns-in_err-many-clause-needs g c = on_err c.from_residual.result (inl c.in_err-many.ensures.reads)
+
+pub mark_all-requires : goal.mark_all-requires
+mark_all-requires g c =
+    let lists = c.loop-instant.invariant.heard.lists in
+    let many : c.hear_all.new.ports.items ≡ map (λ (port : Port). after_slots port (segment_of c.make_segment.new.lanes.clocks c.in_ok-many.many port.node)) c.loop-instant.ports.items = c.hear_all.ensures in
+    record {
+      sizes = lists ∙ c.requires.marks
+          ∙ sym (ap length c.deref.ensures.value ∙ ap length many ∙ length-map c.loop-instant.ports.items _ ∙ ap length c.loop-instant.invariant.heard.ports_are ∙ length-map c.args.ports.now.items _);
+    }
+
+pub returns-in_err-mark_all-clause-stopped : goal.returns-in_err-mark_all-clause-stopped
+returns-in_err-mark_all-clause-stopped g c =
+    let frame = c.args.shape.now.plan.now.frame in
+    let many = c.in_ok-many.many in
+    let instant = c.loop-instant.instant in
+    let short : many ≤ frame - instant - 1 = omega (arith, c.in_ok-many.ensures.within, c.min-most.ensures) in
+    on_err c.from_residual-in_err-mark_all.result
+    (heard_part g.T.Taps.stands _ _ _ _ _ instant many (instant + suc many) _ _ _ refl c.in_ok-many.ensures.run c.hear_all.ensures c.loop-instant.invariant.heard frame
+    (omega (arith, short, c.loop-instant-test.true)) c.mark_all.ensures.keeping c.mark_all.ensures.size c.mark_all.ensures.grown
+    (λ k list at. its_port c.args.cues.now.lists.items c.args.ports.now.items c.requires.marks k list at))
+
+pub returns-in_err-mark_all-clause-needs : goal.returns-in_err-mark_all-clause-needs
+returns-in_err-mark_all-clause-needs g c =
+    on_err c.from_residual-in_err-mark_all.result (inr (sym c.loop-instant.invariant.heard.keeping ∙ c.in_err-mark_all.ensures.memory))
+
+pub returns-in_err-mark_all-clause-frames : goal.returns-in_err-mark_all-clause-frames
+returns-in_err-mark_all-clause-frames g c =
+    let slots : ℕ → List Slot = segment_of c.make_segment.new.lanes.clocks c.in_ok-many.many in
+    let filled : c.feed_all.new.feeds.items ≡ map (λ (feed : FeedPort). with_slots_from c.loop-instant.instant (slots feed.node) feed) c.loop-instant.feeds.items = c.feed_all.ensures in
+    subst (λ feeds. All (λ feed. length feed.frame ≡ c.args.shape.now.plan.now.frame) feeds) (sym filled)
+    (frames_filled c.args.shape.now.plan.now.frame c.loop-instant.instant (λ feed. slots feed.node) c.loop-instant.feeds.items c.loop-instant.invariant.frames)
+
+pub returns-in_err-mark_all-clause-keys : goal.returns-in_err-mark_all-clause-keys
+returns-in_err-mark_all-clause-keys g c =
+    let slots : ℕ → List Slot = segment_of c.make_segment.new.lanes.clocks c.in_ok-many.many in
+    let filled : c.feed_all.new.feeds.items ≡ map (λ (feed : FeedPort). with_slots_from c.loop-instant.instant (slots feed.node) feed) c.loop-instant.feeds.items = c.feed_all.ensures in
+    ap (map feed_key) filled ∙ keys_filled c.loop-instant.instant (λ feed. slots feed.node) c.loop-instant.feeds.items ∙ c.loop-instant.invariant.keys
+
+pub returns-in_err-mark_all-clause-buffers : goal.returns-in_err-mark_all-clause-buffers
+returns-in_err-mark_all-clause-buffers g c = c.make_segment.ensures.buffers ∙ c.loop-instant.invariant.buffers
+
+pub returns-in_err-mark_all-clause-same : goal.returns-in_err-mark_all-clause-same
+returns-in_err-mark_all-clause-same g c = g.met.T.Taps.same_trans c.args.taps.now c.loop-instant.taps c.make_segment.new.taps c.loop-instant.invariant.same c.make_segment.ensures.same
+
+pub returns-in_err-mark_all-clause-keeping : goal.returns-in_err-mark_all-clause-keeping
+returns-in_err-mark_all-clause-keeping g c = c.mark_all.ensures.keeping ∙ c.loop-instant.invariant.heard.keeping
+
+pub returns-in_err-many-clause-keeping : goal.returns-in_err-many-clause-keeping
+returns-in_err-many-clause-keeping g c = c.loop-instant.invariant.heard.keeping
+
+pub returns-clause-keeping : goal.returns-clause-keeping
+returns-clause-keeping g c = c.loop-instant.invariant.heard.keeping

@@ -14,8 +14,8 @@ invariant-loop-instant g l = record {
   buffers : g.T.Taps.buffers l.taps ≡ g.T.Taps.buffers l.initial.taps;
   same : g.T.Taps.same l.initial.taps l.taps;
   heard : Heard g.T.Taps.stands l.shape.plan.now l.shape.library.now l.shape.clocks.now l.clock l.own l.instant
-      (record { lanes = l.initial.lanes; ports = l.fn.ports.items; feeds = l.initial.feeds.items; taps = l.initial.taps })
-      (record { lanes = l.lanes; ports = l.ports.items; feeds = l.feeds.items; taps = l.taps });
+      (record { lanes = l.initial.lanes; ports = l.fn.ports.items; feeds = l.initial.feeds.items; cues = l.fn.cues; start = l.start; taps = l.initial.taps })
+      (record { lanes = l.lanes; ports = l.ports.items; feeds = l.feeds.items; cues = l.cues; start = l.start; taps = l.taps });
 }
 
 abbrev pub decreases-loop-instant : goal.decreases-loop-instant

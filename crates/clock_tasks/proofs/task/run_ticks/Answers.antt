@@ -12,16 +12,16 @@ pub returns-in-Err : goal.returns-in-Err
 returns-in-Err g c =
     let n = c.tick.ensures in
     running_broke g.O.Sink.held g.O.Sink.name g.O.Sink.room g.O.Sink.faults g.T.Taps.stands g.T.Taps.buffers g.T.Taps.same c.loop.counter (with_taps c.args.taps.now c.args.engine.now) (with_taps c.loop.taps c.loop.engine) c.tick.new.self c.tick.new.taps
-    c.loop.invariant (record { setting = n.setting; clock = n.clock; outs = n.outs; kept = n.kept; none_fell = n.faults }) g.O.Sink.appends c.args.count c.loop-test.true
+    c.loop.invariant (record { setting = n.setting; clock = n.clock; outs = n.outs; kept = n.kept; none_fell = n.faults; keeping = n.keeping }) g.O.Sink.appends c.args.count c.loop-test.true
     (g.met.T.Taps.same_trans c.args.taps.now c.loop.taps c.tick.new.taps c.loop.invariant.taps n.taps) n.buffers c.in-Err.ensures.stopped
-    _ c.in-Err.ensures.fault c.in-Err.ensures.cause (λ refused. has_buffers _ n.whole.parts (c.in-Err.ensures.memory refused))
+    _ c.in-Err.ensures.fault c.in-Err.ensures.cause (λ none refused. has_buffers _ n.whole.parts none (c.in-Err.ensures.memory refused))
 
 pub loop-preserved : goal.loop-preserved
 loop-preserved g c =
     let n = c.tick.ensures in
     subst (λ k. Running g.O.Sink.held g.O.Sink.name g.O.Sink.room g.O.Sink.faults g.T.Taps.stands g.T.Taps.buffers g.T.Taps.same k (with_taps c.args.taps.now c.args.engine.now) (with_taps c.tick.new.taps c.tick.new.self)) (sym (add-one c.loop.counter))
     (running_more g.O.Sink.held g.O.Sink.name g.O.Sink.room g.O.Sink.faults g.T.Taps.stands g.T.Taps.buffers g.T.Taps.same c.loop.counter (with_taps c.args.taps.now c.args.engine.now) (with_taps c.loop.taps c.loop.engine) c.tick.new.self c.tick.new.taps
-    c.loop.invariant (record { setting = n.setting; clock = n.clock; outs = n.outs; kept = n.kept; none_fell = n.faults })
+    c.loop.invariant (record { setting = n.setting; clock = n.clock; outs = n.outs; kept = n.kept; none_fell = n.faults; keeping = n.keeping })
     (g.met.T.Taps.same_trans c.args.taps.now c.loop.taps c.tick.new.taps c.loop.invariant.taps n.taps) n.buffers c.in_default.ensures.ticked
     c.in_default.ensures.room c.in_default.ensures.runs)
 

@@ -1,5 +1,4 @@
-use Rattle.std.proofs.Common.{◌≡◌, ◌∙◌, List, subst, sym}
-use Rattle.buffer_ends.specs.declared.run_end.End.{End}
+use Rattle.std.proofs.Common.{◌∙◌, subst, sym}
 use Rattle.clock_threads.specs.Runs.{HasRunSome}
 use Rattle.clock_threads.proofs.Wireless.{unwired_all, unwired_ready, unwired_some}
 use Rattle.clock_threads.proofs.unwired.run_unwired.Goals as goal
@@ -21,4 +20,4 @@ returns-clause-part g c = λ plan setting clocks none are.
     c.run_alone.new.engines c.run_alone.result c.run_alone.ensures.part c.run_alone.ensures.write)
 
 pub returns-clause-memory : goal.returns-clause-memory
-returns-clause-memory g c = λ e. c.run_alone.ensures.memory (sym c.ended.ensures.end ∙ e)
+returns-clause-memory g c = λ none e. c.run_alone.ensures.memory none (sym c.ended.ensures.end ∙ e)

@@ -1,7 +1,8 @@
 use Rattle.std.proofs.Common.{◌≤◌, ◌∙◌, [], rules, sym, arith}
 use Rattle.clock_windows.specs.Alone.{all_alone}
-use Rattle.clock_windows.proofs.Engines.{alone_at, alone_can, alone_long, alone_memory, alone_ran, alone_runs, none_closed, none_ended}
-use Rattle.clock_windows.proofs.Ending.{loop_none, loop_can, loop_more, loop_part, loop_stopped, loop_write, loop_all, not_done, with_one}
+use Rattle.clock_windows.proofs.Engines.{alone_can, alone_long, alone_memory, alone_ran, alone_runs, none_closed, none_ended, none_shut}
+use Rattle.clock_windows.proofs.Ending.{loop_none, loop_can, loop_more, loop_part, loop_write, loop_all, not_done, with_one, loop_broke}
+use Rattle.clock_windows.proofs.Logging.{engines_refl}
 use Rattle.clock_windows.proofs.alone.run_alone.Goals as goal
 
 pub loop-made-init : goal.loop-made-init
@@ -19,10 +20,11 @@ run_engines-requires-clause-can g c = λ κs lives.
 
 pub returns-in-Some-clause-part : goal.returns-in-Some-clause-part
 returns-in-Some-clause-part g c =
-    loop_stopped g.O.Sink.held g.O.Sink.name g.O.Sink.room g.O.Sink.faults [] c.args.window c.args.ticks c.loop-made.made c.min-count.result (all_alone c.args.engines.now) (all_alone c.loop-made.engines) (all_alone c.run_engines.new.engines) [] [] c.requires.ready
+    loop_broke g.O.Sink.held g.O.Sink.name g.O.Sink.room g.O.Sink.faults [] c.args.window c.args.ticks c.loop-made.made c.min-count.result (all_alone c.args.engines.now) (all_alone c.loop-made.engines) (all_alone c.run_engines.new.engines) [] [] c.requires.ready
     c.loop-made-test.true c.min-count.ensures c.loop-made.invariant
     (alone_ran g.O.Sink.held g.O.Sink.name g.O.Sink.room g.O.Sink.faults c.args.window c.args.ticks c.min-count.result c.loop-made.engines c.run_engines.new.engines c.run_engines.auto.engines c.run_engines.ensures.ran)
     (alone_long c.run_engines.new.engines ∙ c.run_engines.auto.engines ∙ sym (alone_long c.loop-made.engines))
+    (all_alone c.run_engines.new.engines) (none_shut (all_alone c.run_engines.new.engines)) (all_alone c.run_engines.new.engines) (engines_refl (all_alone c.run_engines.new.engines))
 
 pub returns-in-Some-clause-done : goal.returns-in-Some-clause-done
 returns-in-Some-clause-done g c = λ e.

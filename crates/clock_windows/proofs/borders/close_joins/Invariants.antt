@@ -1,3 +1,5 @@
+use Rattle.std.proofs.Common.{◌≡◌, length}
+use Rattle.std.specs.Prelude.{OnOk}
 use Rattle.clock_windows.proofs.Closing.{Closing}
 use Rattle.clock_windows.proofs.Logging.{Logging}
 use Rattle.clock_windows.proofs.borders.close_joins.Given as goal
@@ -5,5 +7,6 @@ use Rattle.clock_windows.proofs.borders.close_joins.Given as goal
 abbrev pub invariant-loop-b : goal.invariant-loop-b
 invariant-loop-b g l = record {
   tasks : Closing l.wires l.b l.fn.tasks l.tasks;
-  logs : Logging l.wires l.b l.fn.tasks l.fn.logs l.logs;
+  many : length l.logs ≡ length l.fn.logs;
+  logs : OnOk l.kept (Logging l.wires l.b l.fn.tasks l.fn.logs l.logs);
 }

@@ -3,6 +3,7 @@ use Rattle.std.specs.Prelude.{is_some}
 use Rattle.std.proofs.lemmas.List.{get_or-set_same}
 use Rattle.std.proofs.lemmas.Option.{slice_get-get_or}
 use Rattle.std.proofs.Math.ListN.{length-set}
+use Rattle.frame_core.specs.Slots.{title_of}
 use Rattle.stream_meaning.specs.declared.part.Part.{Part}
 use Rattle.stream_meaning.specs.Instants.{crossfaded, part_at, silent, work_at}
 use Rattle.node_mixing.specs.Runs.{samples_of}
@@ -105,8 +106,8 @@ loop-i-preserved c =
             supplied = λ gave through.
                 let apart = going.supplied.apart c.loop-i.i node.0 _ (record { there = node.1; inside = inside }) was gave through in
                 let child = crossfaded c.args.shape.now.plan.now.nodes c.loop-i.i in
-                subst (λ (l : List ℤ). LaneFeeds (sub c.loop-i.i) (fed c.loop-i.i) c.args.many l (samples_of c.loop-i.right child c.args.many)) (sym (c.loop-i.invariant.left_kept child apart))
-                (subst (λ (r : List ℤ). LaneFeeds (sub c.loop-i.i) (fed c.loop-i.i) c.args.many (samples_of c.args.left.now child c.args.many) r) (sym (c.loop-i.invariant.right_kept child apart))
+                subst (λ (l : List ℤ). LaneFeeds (sub c.loop-i.i) (fed c.loop-i.i) c.args.many (title_of (part_at c.args.held.now child).slot) l (samples_of c.loop-i.right child c.args.many)) (sym (c.loop-i.invariant.left_kept child apart))
+                (subst (λ (r : List ℤ). LaneFeeds (sub c.loop-i.i) (fed c.loop-i.i) c.args.many (title_of (part_at c.args.held.now child).slot) (samples_of c.args.left.now child c.args.many) r) (sym (c.loop-i.invariant.right_kept child apart))
                 (going.supplied.each c.loop-i.i node.0 _ (record { there = node.1; inside = inside }) was gave through));
           })) before);
     }

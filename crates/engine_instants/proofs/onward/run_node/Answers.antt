@@ -3,15 +3,16 @@ use Rattle.std.specs.Prelude.{is_some}
 use Rattle.std.proofs.lemmas.List.{get_or_default, length-drop, length-take-le}
 use Rattle.std.proofs.lemmas.Option.{slice_get_read}
 use Rattle.plan_core.specs.declared.node.Node.{Node}
+use Rattle.frame_core.specs.Slots.{title_of}
 use Rattle.stream_meaning.specs.declared.part.Part.{Part}
-use Rattle.stream_meaning.specs.Instants.{gives, moment_after, silent}
+use Rattle.stream_meaning.specs.Instants.{crossfaded, gives, moment_after, part_at, silent}
 use Rattle.node_states.specs.States.{Fits}
 use Rattle.op_leaf.specs.Lanes.{IsLane}
 use Rattle.segment_laws.specs.Stretches.{lane}
 use Rattle.node_mixing.specs.Runs.{samples_of}
 use Rattle.engine_instants.specs.Runs.{NodeGivesOn, NodeHasRun}
 use Rattle.engine_instants.specs.States.{over}
-use Rattle.node_states.specs.Passing.{ChildFeeds, passes}
+use Rattle.node_states.specs.Passing.{ChildFeeds, LaneFeeds, passes}
 use Rattle.node_states.proofs.Hearing.{given_yes}
 use Rattle.engine_instants.proofs.Gone.{child_low, children_lanes, goes_on, has_run, kept_run}
 use Rattle.engine_instants.proofs.Kept.{gives_now}
@@ -31,19 +32,19 @@ returns-then-not-gave-clause-run c = λ other sub clock past fed node before.
 pub run-requires-clause-fits : goal.run-requires-clause-fits
 run-requires-clause-fits c =
     let found : slice_get c.args.shape.now.plan.now.nodes c.args.i ≡ Some c.index-as_slice-i.result =
-    slice_get_read _ _ _ _ refl c.requires.within (c.index-as_slice-i.is ∙ ap (λ nodes. get_or nodes c.args.i c.index-as_slice-i.result) c.as_slice.ensures) in
+    slice_get_read _ _ _ _ refl c.requires.within (c.index-as_slice-i.is ∙ ap (λ nodes. get_or nodes c.args.i c.index-as_slice-i.result) c.as_slice-2.ensures) in
     c.requires.fits c.index-as_slice-i.result found
 
 pub run-requires-clause-few : goal.run-requires-clause-few
 run-requires-clause-few c =
     let found : slice_get c.args.shape.now.plan.now.nodes c.args.i ≡ Some c.index-as_slice-i.result =
-    slice_get_read _ _ _ _ refl c.requires.within (c.index-as_slice-i.is ∙ ap (λ nodes. get_or nodes c.args.i c.index-as_slice-i.result) c.as_slice.ensures) in
+    slice_get_read _ _ _ _ refl c.requires.within (c.index-as_slice-i.is ∙ ap (λ nodes. get_or nodes c.args.i c.index-as_slice-i.result) c.as_slice-2.ensures) in
     (c.requires.nodes c.args.i c.index-as_slice-i.result found).few
 
 pub run-requires-clause-below : goal.run-requires-clause-below
 run-requires-clause-below c = λ k d low.
     let found : slice_get c.args.shape.now.plan.now.nodes c.args.i ≡ Some c.index-as_slice-i.result =
-    slice_get_read _ _ _ _ refl c.requires.within (c.index-as_slice-i.is ∙ ap (λ nodes. get_or nodes c.args.i c.index-as_slice-i.result) c.as_slice.ensures) in
+    slice_get_read _ _ _ _ refl c.requires.within (c.index-as_slice-i.is ∙ ap (λ nodes. get_or nodes c.args.i c.index-as_slice-i.result) c.as_slice-2.ensures) in
     let in_left : c.args.i * 1024 ≤ length c.args.left.now = omega (arith, c.requires.in_left, c.requires.within) in
     let left : c.split_at_mut-left_before.result.0.now ≡ take (c.args.i * 1024) c.args.left.now = c.split_at_mut-left_before.ensures.front in
     let under = (c.requires.nodes c.args.i c.index-as_slice-i.result found).children k d low in
@@ -55,7 +56,7 @@ run-requires-clause-below c = λ k d low.
 pub returns-clause-fits : goal.returns-clause-fits
 returns-clause-fits c = λ node at.
     let found : slice_get c.args.shape.now.plan.now.nodes c.args.i ≡ Some c.index-as_slice-i.result =
-    slice_get_read _ _ _ _ refl c.requires.within (c.index-as_slice-i.is ∙ ap (λ nodes. get_or nodes c.args.i c.index-as_slice-i.result) c.as_slice.ensures) in
+    slice_get_read _ _ _ _ refl c.requires.within (c.index-as_slice-i.is ∙ ap (λ nodes. get_or nodes c.args.i c.index-as_slice-i.result) c.as_slice-2.ensures) in
     let one : Some c.index-as_slice-i.result ≡ Some node = sym found ∙ at in
     let same : c.index-as_slice-i.result ≡ node = cc in
     subst (λ (n : Node). Fits c.args.shape.now.library.now (length n.children) c.run.new.self) same c.run.ensures.fits
@@ -84,7 +85,7 @@ pub returns-clause-run : goal.returns-clause-run
 returns-clause-run c = λ other sub clock past fed node before.
     let S = over c.args.shape.now.plan.now c.args.shape.now.library.now c.args.shape.now.clocks.now other in
     let found : slice_get c.args.shape.now.plan.now.nodes c.args.i ≡ Some c.index-as_slice-i.result =
-    slice_get_read _ _ _ _ refl c.requires.within (c.index-as_slice-i.is ∙ ap (λ nodes. get_or nodes c.args.i c.index-as_slice-i.result) c.as_slice.ensures) in
+    slice_get_read _ _ _ _ refl c.requires.within (c.index-as_slice-i.is ∙ ap (λ nodes. get_or nodes c.args.i c.index-as_slice-i.result) c.as_slice-2.ensures) in
     let in_left : c.args.i * 1024 ≤ length c.args.left.now = omega (arith, c.requires.in_left, c.requires.within) in
     let in_right : c.args.i * 1024 ≤ length c.args.right.now = omega (arith, c.requires.in_right, c.requires.within) in
     let left : c.split_at_mut-left_before.result.0.now ≡ take (c.args.i * 1024) c.args.left.now = c.split_at_mut-left_before.ensures.front in
@@ -102,17 +103,21 @@ returns-clause-run c = λ other sub clock past fed node before.
     let gave : gives (moment_after S sub clock past) c.args.i ≡ true =
     gives_now (moment_after S sub clock past) c.args.parts.now c.args.i (before.given c.args.i (omega arith))
     ∙ ap (λ (p : Part). is_some p.slot) (get_or_default _ _ silent _ in_parts) ∙ sym c.gave.ensures ∙ (search rules) in
-    let now : NodeGivesOn S sub clock past c.args.count fed c.args.i c.index-as_slice-i.result c.args.parts.now c.args.left.now c.args.right.now c.args.state.now =
-    subst (λ (n : Node). NodeGivesOn S sub clock past c.args.count fed c.args.i n c.args.parts.now c.args.left.now c.args.right.now c.args.state.now) same before in
-    let there : NodeGivesOn S sub clock past (length (take c.args.count c.split_at_mut-left_before.result.1.now)) fed c.args.i c.index-as_slice-i.result c.args.parts.now c.args.left.now c.args.right.now c.args.state.now =
-    subst (λ m. NodeGivesOn S sub clock past m fed c.args.i c.index-as_slice-i.result c.args.parts.now c.args.left.now c.args.right.now c.args.state.now) many_is now in
-    let goes = goes_on S sub clock past (length (take c.args.count c.split_at_mut-left_before.result.1.now)) fed c.args.i c.index-as_slice-i.result c.args.parts.now c.args.left.now c.args.right.now c.args.state.now c.requires.nodes there gave in
-    let feeds : passes c.args.state.now ≡ true → ChildFeeds (sub c.args.i) fed (length (take c.args.count c.split_at_mut-left_before.result.1.now)) c.index-as_slice-i.result.children c.split_at_mut-left_before.result.0.now c.split_at_mut-right_before.result.0.now =
-    λ through. feeds_over (sub c.args.i) fed (length (take c.args.count c.split_at_mut-left_before.result.1.now)) c.index-as_slice-i.result.children (take (c.args.i * 1024) c.args.left.now) c.split_at_mut-left_before.result.0.now (take (c.args.i * 1024) c.args.right.now) c.split_at_mut-right_before.result.0.now left right
-    (child_feeds S sub (moment_after S sub clock past ∷ past) (length (take c.args.count c.split_at_mut-left_before.result.1.now)) fed c.args.i c.index-as_slice-i.result c.args.state.now c.args.left.now c.args.right.now c.requires.nodes found there.stands through
-    (omega (arith, many_is, c.requires.short)) in_left in_right (there.supplied gave through)) in
+    let now : NodeGivesOn S sub clock past c.args.count fed c.args.i c.index-as_slice-i.result c.args.held.now c.args.parts.now c.args.left.now c.args.right.now c.args.state.now =
+    subst (λ (n : Node). NodeGivesOn S sub clock past c.args.count fed c.args.i n c.args.held.now c.args.parts.now c.args.left.now c.args.right.now c.args.state.now) same before in
+    let there : NodeGivesOn S sub clock past (length (take c.args.count c.split_at_mut-left_before.result.1.now)) fed c.args.i c.index-as_slice-i.result c.args.held.now c.args.parts.now c.args.left.now c.args.right.now c.args.state.now =
+    subst (λ m. NodeGivesOn S sub clock past m fed c.args.i c.index-as_slice-i.result c.args.held.now c.args.parts.now c.args.left.now c.args.right.now c.args.state.now) many_is now in
+    let goes = goes_on S sub clock past (length (take c.args.count c.split_at_mut-left_before.result.1.now)) fed c.args.i c.index-as_slice-i.result c.args.held.now c.args.parts.now c.args.left.now c.args.right.now c.args.state.now c.requires.nodes there gave in
+    let title_is : title_of (part_at c.args.held.now (crossfaded c.args.shape.now.plan.now.nodes c.args.i)).slot ≡ c.title_below-below.result =
+    ap (λ ns. title_of (part_at c.args.held.now (crossfaded ns c.args.i)).slot) (sym c.as_slice.ensures) ∙ sym c.title_below-below.ensures in
+    let feeds : passes c.args.state.now ≡ true → ChildFeeds (sub c.args.i) fed (length (take c.args.count c.split_at_mut-left_before.result.1.now)) c.title_below-below.result c.index-as_slice-i.result.children c.split_at_mut-left_before.result.0.now c.split_at_mut-right_before.result.0.now =
+    λ through. feeds_over (sub c.args.i) fed (length (take c.args.count c.split_at_mut-left_before.result.1.now)) c.title_below-below.result c.index-as_slice-i.result.children (take (c.args.i * 1024) c.args.left.now) c.split_at_mut-left_before.result.0.now (take (c.args.i * 1024) c.args.right.now) c.split_at_mut-right_before.result.0.now left right
+    (child_feeds S sub (moment_after S sub clock past ∷ past) (length (take c.args.count c.split_at_mut-left_before.result.1.now)) fed c.args.i c.title_below-below.result c.index-as_slice-i.result c.args.state.now c.args.left.now c.args.right.now c.requires.nodes found there.stands through
+    (omega (arith, many_is, c.requires.short)) in_left in_right
+    (subst (λ t. LaneFeeds (sub c.args.i) fed (length (take c.args.count c.split_at_mut-left_before.result.1.now)) t (samples_of c.args.left.now (crossfaded c.args.shape.now.plan.now.nodes c.args.i) (length (take c.args.count c.split_at_mut-left_before.result.1.now)))
+    (samples_of c.args.right.now (crossfaded c.args.shape.now.plan.now.nodes c.args.i) (length (take c.args.count c.split_at_mut-left_before.result.1.now)))) title_is (there.supplied gave through))) in
     let stands = c.run.ensures.stands S sub clock past fed c.args.i refl goes there.begun feeds there.stands in
-    let lanes = children_lanes S sub clock past (length (take c.args.count c.split_at_mut-left_before.result.1.now)) fed c.args.i c.index-as_slice-i.result c.args.parts.now c.args.left.now c.args.right.now c.args.state.now c.requires.nodes
+    let lanes = children_lanes S sub clock past (length (take c.args.count c.split_at_mut-left_before.result.1.now)) fed c.args.i c.index-as_slice-i.result c.args.held.now c.args.parts.now c.args.left.now c.args.right.now c.args.state.now c.requires.nodes
     (omega (arith, many_is, c.requires.short)) in_left in_right there in
     let pick_is = ap (λ (p : Part). p.pick) (sym (get_or_default _ _ silent _ in_parts) ∙ there.given c.args.i (omega arith) ∙ given_yes (moment_after S sub clock past) c.args.i gave) in
     let lane_is = c.run.ensures.lane S sub clock past fed c.args.i refl goes

@@ -45,6 +45,8 @@ returns-clause-goes c = λ other sub clock past fed node long is stands parts ga
     (omega (arith, c.min.ensures))
     (c.rest-rest.ensures.goes setting sub past first fed c.args.i (work_at setting c.args.i node) refl long stands begun part_is (gave ∙ sym c.is_some-gave.ensures)
     (λ yes through. are (sym c.is_some-gave.ensures ∙ yes) through))
+    (c.rest-rest.ensures.keeps setting sub past first fed c.args.i (work_at setting c.args.i node) refl long stands begun part_is (gave ∙ sym c.is_some-gave.ensures)
+    (λ yes through. are (sym c.is_some-gave.ensures ∙ yes) through))
     (λ choice eligible at apart.
     let is_second = c.border.ensures.second setting.plan.rate c.args.i c.index-as_slice-i.result.kind choice eligible (ap (λ (n : Node). work_of setting.plan.rate c.args.i n.kind n.op) read ∙ at) apart in
     omega (arith, c.min.ensures, is_second))

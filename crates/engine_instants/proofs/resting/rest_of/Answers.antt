@@ -1,9 +1,10 @@
-use Rattle.std.proofs.Common.{◌≡◌, ◌<◌, ◌≤◌, ◌+◌, ◌∙◌, ◌∷◌, suc, Some, length, slice_get, arith, ap, sym, refl, subst}
+use Rattle.std.proofs.Common.{◌≡◌, ◌<◌, ◌≤◌, ◌+◌, ◌∙◌, ◌∷◌, suc, Some, get_or, length, slice_get, arith, ap, sym, refl, subst}
 use Rattle.std.specs.Prelude.{is_some}
 use Rattle.std.proofs.lemmas.List.{get_or_default}
 use Rattle.std.proofs.lemmas.Option.{slice_get_read}
+use Rattle.frame_core.specs.Slots.{title_of}
 use Rattle.stream_meaning.specs.declared.part.Part.{Part}
-use Rattle.stream_meaning.specs.Instants.{moment_after, position, silent}
+use Rattle.stream_meaning.specs.Instants.{crossfaded, moment_after, part_at, position, silent}
 use Rattle.segment_laws.specs.Stretches.{AreFed}
 use Rattle.node_states.specs.Passing.{asked, passes}
 use Rattle.node_states.specs.Runs.{LiesAhead}
@@ -55,6 +56,8 @@ loop-i-preserved c =
     let w : c.node_rest-rest.result ≤ c.loop-i.rest = c.node_rest-rest.ensures.within in
     let held_is = ap (λ (p : Part). is_some p.slot) (get_or_default _ _ silent _ in_held) in
     let rest_is = get_or_default _ _ 0 _ in_rests in
+    let title_is : title_of (part_at c.args.held.now (crossfaded c.args.shape.now.plan.now.nodes c.loop-i.i)).slot ≡ c.title_below-below_title.result =
+    ap (λ ns. title_of (part_at c.args.held.now (crossfaded ns c.loop-i.i)).slot) (sym c.as_slice.ensures) ∙ sym c.title_below-below_title.ensures in
     record {
       high = after.high;
       own = after.own;
@@ -86,7 +89,7 @@ loop-i-preserved c =
           (behind.stands.each c.loop-i.i node _ (record { there = is.there; inside = is.inside }) found)
           behind.parts_are gave_is
           (λ buffer at. behind.begun.each c.loop-i.i node buffer is at)
-          (λ gave through. subst (λ n. AreFed S sub c.loop-i.i (fed c.loop-i.i) n) rest_is (behind.fed_on.each c.loop-i.i node _ is found (gave_is ∙ gave) through))
+          (λ gave through. subst (λ n. AreFed S sub c.loop-i.i (fed c.loop-i.i) n c.title_below-below_title.result) rest_is (subst (λ t. AreFed S sub c.loop-i.i (fed c.loop-i.i) (get_or c.args.rests.now c.loop-i.i 0) t) title_is (behind.fed_on.each c.loop-i.i node _ is found (gave_is ∙ gave) through)))
           (second_is (over c.args.shape.now.plan.now c.args.shape.now.library.now c.args.shape.now.clocks.now other) (length past) c.args.time c.second_left-second.result
           c.requires.rate (λ j. c.second_left-second.ensures other.start (length past) j behind.time_is))
           (tick_is (over c.args.shape.now.plan.now c.args.shape.now.library.now c.args.shape.now.clocks.now other) (length past) c.args.time c.tick_left-tick.result
@@ -105,7 +108,7 @@ loop-i-preserved c =
           (subst (λ work. StateStands S sub (moment_after S sub c.args.clock past ∷ past) (fed c.loop-i.i) c.loop-i.i work c.index-states-i.result) at
           (behind.stands.each c.loop-i.i node _ (record { there = is.there; inside = is.inside }) found))
           gave_is (sym gave_is ∙ gave)
-          (λ through. subst (λ n. AreFed S sub c.loop-i.i (fed c.loop-i.i) n) rest_is (behind.fed_on.each c.loop-i.i node _ is found gave through)) less))
+          (λ through. subst (λ n. AreFed S sub c.loop-i.i (fed c.loop-i.i) n c.title_below-below_title.result) rest_is (subst (λ t. AreFed S sub c.loop-i.i (fed c.loop-i.i) (get_or c.args.rests.now c.loop-i.i 0) t) title_is (behind.fed_on.each c.loop-i.i node _ is found gave through))) less))
           (c.loop-i.invariant.asks other sub past fed behind));
     }
 

@@ -11,17 +11,19 @@ use Rattle.liq_cli.proofs.jobs.alone_job.Goals as goal
 pub returns-in_err-work-clause-stops : goal.returns-in_err-work-clause-stops
 returns-in_err-work-clause-stops g c =
     let p = err_from_is_err_and c.from_residual.result c.from_residual.ensures.1 in rw (p.1, p.2)
-    (stopped_early (Render c.args.file.now c.args.start.second c.args.ticks.count None None) (λ files. refl) _ _ _ _ _ _ _ c.in_err-work.ensures.ends c.prepare.ensures.shelf.files_kept)
+    (stopped_early (Render c.args.file.now c.args.start.second c.args.ticks.count None None) (λ files. refl) _ _ _ _ _ _ _ c.in_err-work.ensures.ends c.prepare.ensures.shelf.files_kept c.prepare.ensures.shelf.writes_grew)
 
 pub returns-in_err-rendered-clause-stops : goal.returns-in_err-rendered-clause-stops
 returns-in_err-rendered-clause-stops g c =
     let p = err_from_is_err_and c.from_residual-in_err-rendered.result c.from_residual-in_err-rendered.ensures.1 in rw (p.1, p.2)
     (broke_off c.args.file.now c.args.start.second c.args.ticks.count None None _ _ _ _ _ c.in_ok-work.ensures.found _ _ _ _ _ _ c.prepare.ensures.shelf.writes_grew
+    (λ files run one. c.broken_renderings_begin_those_of_one_thread.ensures files (station_of c.in_ok-work.work.plan c.in_ok-work.work.ready c.args.start.second c.args.ticks.count None None) run c.in_ok-work.ensures.fit.plan_is one.holds.accepted c.args.start.in_week)
     (λ files t. c.render_alone.ensures.part files (c.prepare.ensures.shelf.files_kept ∙ t)) (λ at. c.in_err-rendered.ensures.cause (ap Err at)))
 
 pub returns-clause-stops : goal.returns-clause-stops
 returns-clause-stops g c =
     ended_written c.args.file.now c.args.start.second c.args.ticks.count None None _ _ _ _ _ c.in_ok-work.ensures.found c.report_or_halt.result _ _ _ _ _ c.report_or_halt.ensures.starved c.prepare.ensures.shelf.writes_grew
+    (λ files run one. c.broken_renderings_begin_those_of_one_thread.ensures files (station_of c.in_ok-work.work.plan c.in_ok-work.work.ready c.args.start.second c.args.ticks.count None None) run c.in_ok-work.ensures.fit.plan_is one.holds.accepted c.args.start.in_week)
     (λ files t. c.render_alone.ensures.part files (c.prepare.ensures.shelf.files_kept ∙ t))
 
 pub returns-clause-done : goal.returns-clause-done
@@ -31,6 +33,7 @@ returns-clause-done g c =
     (λ text tells. rendered c.args.file.now c.args.start.second c.args.ticks.count None None _ _ _ _ _ c.in_ok-work.ensures.found _ _ c.in_ok-rendered.rendered c.prepare.ensures.shelf.files_kept c.in_ok-rendered.ensures.done
     (λ run told. tells station run refl refl told)
     (λ files run one. c.infallible_outputs_have_no_gaps.ensures files station run c.in_ok-work.ensures.fit.plan_is one.holds.accepted c.args.start.in_week)
+    (λ files run one. c.one_thread_has_one_record.ensures files station run c.in_ok-work.ensures.fit.plan_is one.holds.accepted c.args.start.in_week)
     (λ files run one. c.threads_render_as_one_thread.ensures files station run c.in_ok-work.ensures.fit.plan_is one.holds.accepted c.args.start.in_week))
 
 pub report-requires-clause-many : goal.report-requires-clause-many

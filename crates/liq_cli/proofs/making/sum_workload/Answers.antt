@@ -1,7 +1,6 @@
-use Rattle.std.proofs.Common.{◌≡◌, ◌∙◌, ap, refl, Err, lit<}
+use Rattle.std.proofs.Common.{arith, ◌≡◌, ◌∙◌, ap, refl, Err, lit<}
 use Rattle.std.specs.Prelude.{None, Some, string_bytes}
 use Rattle.std.proofs.lemmas.Result.{err_from_is_err_and}
-use Rattle.liq_base.specs.Files.{Files}
 use Rattle.stations.specs.Stations.{Station}
 use Rattle.liq_cli.specs.Answer.{files_made}
 use Rattle.liq_cli.specs.Prepared.{Found, IsOneOutcome, station_for}
@@ -23,7 +22,7 @@ returns-in_err-rendered-clause-stops g c = λ told reads writes.
 
 pub returns-clause-stops : goal.returns-clause-stops
 returns-clause-stops g c = λ told reads writes.
-    ended_kept c.report_or_halt.result (Make c.args.seed c.args.size.files) told told reads reads writes writes c.report_or_halt.ensures.starved refl
+    ended_kept c.report_or_halt.result (Make c.args.seed c.args.size.files) told told reads reads writes writes c.report_or_halt.ensures.starved refl (omega arith)
 
 pub returns-clause-done : goal.returns-clause-done
 returns-clause-done g c =

@@ -37,21 +37,21 @@ loop-slot-preserved c =
 
 pub level-requires-clause-some : goal.level-requires-clause-some
 level-requires-clause-some c =
-    let front : front_of (cells_of c.args.slots.now) ≡ Some c.in_ok-first.field-0 = sym c.in_ok-first.ensures in
+    let front : front_of (cells_of c.args.slots.now) ≡ Some c.in_ok-front.front = sym c.in_ok-front.ensures in
     let all : take c.loop-slot.slot-index c.args.slots.now ≡ c.args.slots.now = take_all c.loop-slot.slot-index c.args.slots.now (omega arith) in
-    some_parts (cells_of c.args.slots.now) c.in_ok-first.field-0 _ _ c.loop-slot.parts front (rw all at c.loop-slot.invariant)
+    some_parts (cells_of c.args.slots.now) c.in_ok-front.front _ _ c.loop-slot.parts front (rw all at c.loop-slot.invariant)
 
 pub level-requires-2-clause-some : goal.level-requires-2-clause-some
 level-requires-2-clause-some c =
-    let front : front_of (cells_of c.args.slots.now) ≡ Some c.in_ok-first.field-0 = sym c.in_ok-first.ensures in
+    let front : front_of (cells_of c.args.slots.now) ≡ Some c.in_ok-front.front = sym c.in_ok-front.ensures in
     let all : take c.loop-slot.slot-index c.args.slots.now ≡ c.args.slots.now = take_all c.loop-slot.slot-index c.args.slots.now (omega arith) in
-    some_parts (cells_of c.args.slots.now) c.in_ok-first.field-0 _ _ c.loop-slot.parts front (rw all at c.loop-slot.invariant)
+    some_parts (cells_of c.args.slots.now) c.in_ok-front.front _ _ c.loop-slot.parts front (rw all at c.loop-slot.invariant)
 
 pub returns : goal.returns
 returns c =
-    let front : front_of (cells_of c.args.slots.now) ≡ Some c.in_ok-first.field-0 = sym c.in_ok-first.ensures in
+    let front : front_of (cells_of c.args.slots.now) ≡ Some c.in_ok-front.front = sym c.in_ok-front.ensures in
     let all : take c.loop-slot.slot-index c.args.slots.now ≡ c.args.slots.now = take_all c.loop-slot.slot-index c.args.slots.now (omega arith) in
     let fits_left : FitsSigned w16 c.level.result = search rules in
     let fits_right : FitsSigned w16 c.level-2.result = search rules in
     rw (to_z-of_z w16 c.level.result fits_left, to_z-of_z w16 c.level-2.result fits_right, c.level.ensures, c.level-2.ensures)
-    (summed_by c.args.normalize (cells_of c.args.slots.now) c.in_ok-first.field-0 _ _ c.loop-slot.parts front (rw all at c.loop-slot.invariant))
+    (summed_by c.args.normalize (cells_of c.args.slots.now) c.in_ok-front.front _ _ c.loop-slot.parts front (rw all at c.loop-slot.invariant))

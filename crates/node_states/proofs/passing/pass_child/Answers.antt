@@ -17,6 +17,6 @@ returns-clause-least c = λ child p m slots there stands few.
     let rights : c.samples_of-2.result.now ≡ samples_of c.args.before_right.now child (length c.args.left.now) =
     c.samples_of-2.ensures ∙ ap (λ n. samples_of c.args.before_right.now n (length c.args.left.now)) same in
     let long : length c.samples_of.result.now ≡ length c.args.left.now = ap length lefts ∙ samples_long c.args.before_left.now child (length c.args.left.now) c.requires.short inside in
-    subst (λ l. length (cross c.args.state.now.overlap (slots ++ map Some (take m (inner_cells l (samples_of c.args.before_right.now child (length c.args.left.now)))))) ≡ p + m) lefts
-    (subst (λ r. length (cross c.args.state.now.overlap (slots ++ map Some (take m (inner_cells c.samples_of.result.now r)))) ≡ p + m) rights
+    subst (λ l. length (cross c.args.state.now.overlap (slots ++ map Some (take m (inner_cells c.args.title l (samples_of c.args.before_right.now child (length c.args.left.now)))))) ≡ p + m) lefts
+    (subst (λ r. length (cross c.args.state.now.overlap (slots ++ map Some (take m (inner_cells c.args.title c.samples_of.result.now r)))) ≡ p + m) rights
     (c.pass.ensures.least slots p m stands (omega (arith, few, long))))

@@ -1,4 +1,4 @@
-use Rattle.std.proofs.Common.{rules, ◌≡◌, ◌<◌, ◌≤◌, ◌+◌, ◌*◌, ◌∙◌, suc, length, get_or, set, arith, ap, sym, refl, subst, inl, inr}
+use Rattle.std.proofs.Common.{rules, ◌≡◌, ◌<◌, ◌≤◌, ◌+◌, ◌*◌, ◌∙◌, suc, length, get_or, set, arith, ap, sym, refl, subst, inl, inr, true}
 use Rattle.std.proofs.lemmas.List.{get_or-set_same}
 use Rattle.std.proofs.lemmas.Nat.{mod-mul-add, div-mul-add}
 use Rattle.std.proofs.Math.Nat.{suc-mul, mul-le-mul_right}
@@ -78,7 +78,7 @@ returns-in-Err-clause-stopped g c = λ setting are.
     (get_or c.loop-k.engines c.loop-k.k c.index-engines-k.result) _ _ going here
     c.tick.new.self are (get_or c.args.engines.now c.loop-k.k c.index-engines-k.result) before
     c.tick.new.taps c.loop-round-test.true
-    (mod-mul-add c.loop-round._round (length c.args.engines.now) c.loop-k.k low) (div-mul-add c.loop-round._round (length c.args.engines.now) c.loop-k.k low)
+    (mod-mul-add c.loop-round._round (length c.args.engines.now) c.loop-k.k low) (div-mul-add c.loop-round._round (length c.args.engines.now) c.loop-k.k low) refl
     (c.args.ticks * length c.args.engines.now) turns
     c.in-Err.ensures.stopped c.tick.ensures.faults c.tick.ensures.outs c.tick.ensures.kept
     c.tick.ensures.whole.parts c.tick.ensures.setting c.tick.ensures.clock c.end_of.result
@@ -112,6 +112,7 @@ loop-k-preserved g c =
             fit = c.tick.ensures.whole.parts;
             setting = c.tick.ensures.setting;
             clock = c.tick.ensures.clock;
+            keeping = c.in_default.ensures.keeping;
             ticked = c.in_default.ensures.ticked;
             none_fell = c.tick.ensures.faults;
             outs = c.tick.ensures.outs;
@@ -145,7 +146,7 @@ returns-clause-done g c = λ setting are.
     (all_rounds g.O.Sink.held g.O.Sink.name g.O.Sink.room g.O.Sink.faults g.T.Taps.stands setting c.args.ticks c.loop-round._round _ c.args.engines.now c.loop-round.engines _ _ is (c.loop-round.invariant.goes setting are))
 
 pub returns-in-Err-clause-memory : goal.returns-in-Err-clause-memory
-returns-in-Err-clause-memory g c = λ is.
+returns-in-Err-clause-memory g c = λ none is.
     let within : c.loop-k.k < length c.loop-k.engines = search rules in
     let setting = c.requires.engines.0 in
     let going = c.loop-k.invariant.goes setting c.requires.engines.1 in
@@ -157,5 +158,7 @@ returns-in-Err-clause-memory g c = λ is.
       | inr memory ↦ memory
       | inl write ↦ absurd (let w = c.end_of.ensures.write write.0 write.1 in cc)
     ] in
-    let some = has_buffers _ c.tick.ensures.whole.parts (c.in-Err.ensures.memory refused) in
+    let kept : (get_or c.loop-k.engines c.loop-k.k c.index-engines-k.result).parts.cues.keeping ≡ true → ⊥ =
+    λ keeping. none.each c.loop-k.k (get_or c.args.engines.now c.loop-k.k c.index-engines-k.result) (read c.args.engines.now c.loop-k.k c.index-engines-k.result (omega (arith, within, size))) (sym run.keeping ∙ keeping) in
+    let some = has_buffers _ c.tick.ensures.whole.parts kept (c.in-Err.ensures.memory refused) in
     omega (arith, many, some)

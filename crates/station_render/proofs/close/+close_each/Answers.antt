@@ -29,15 +29,15 @@ pub returns-in_err-first-clause-part : goal.returns-in_err-first-clause-part
 returns-in_err-first-clause-part g t c =
     let split : c.args.order.now ≡ c.in-Some.clock.now ∷ c.in-Some.rest.now = search rules in
     part_then c.args.order.now c.in-Some.rest.now c.in-Some.clock.now split (lists_of c.args.groups.items) (lists_of c.take_first-sink.new.groups.items) c.take_first-sink.result c.take_first-sink.ensures
-    g.S.Out.Sink.name g.S.Out.Sink.held _ _ _ c.close-first.result _ _ _ c.close-first.ensures.writes c.close_each-others.ensures.writes
-    c.close-first.ensures.closed c.close-first.ensures.part c.close-first.ensures.cause c.close_each-others.ensures.part
+    g.S.Out.Sink.name g.S.Out.Sink.held _ _ _ c.close-first.result _ _ _ g.S.Out.Sink.faults c.close-first.ensures.writes
+    c.close-first.ensures.closed c.close-first.ensures.part c.close-first.ensures.cause c.close-first.ensures.failed_sink c.close_each-others.ensures.part
 
 pub returns-clause-part : goal.returns-clause-part
 returns-clause-part g t c =
     let split : c.args.order.now ≡ c.in-Some.clock.now ∷ c.in-Some.rest.now = search rules in
     part_then c.args.order.now c.in-Some.rest.now c.in-Some.clock.now split (lists_of c.args.groups.items) (lists_of c.take_first-sink.new.groups.items) c.take_first-sink.result c.take_first-sink.ensures
-    g.S.Out.Sink.name g.S.Out.Sink.held _ _ _ c.close-first.result _ _ _ c.close-first.ensures.writes c.close_each-others.ensures.writes
-    c.close-first.ensures.closed c.close-first.ensures.part c.close-first.ensures.cause c.close_each-others.ensures.part
+    g.S.Out.Sink.name g.S.Out.Sink.held _ _ _ c.close-first.result _ _ _ g.S.Out.Sink.faults c.close-first.ensures.writes
+    c.close-first.ensures.closed c.close-first.ensures.part c.close-first.ensures.cause c.close-first.ensures.failed_sink c.close_each-others.ensures.part
 
 pub returns-clause-whole : goal.returns-clause-whole
 returns-clause-whole g t c =

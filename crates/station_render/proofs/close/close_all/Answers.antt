@@ -9,15 +9,15 @@ use Rattle.station_render.proofs.close.close_all.Goals as goal
 
 pub returns-in_err-rendered-clause-part : goal.returns-in_err-rendered-clause-part
 returns-in_err-rendered-clause-part g c = λ station before count same low part.
-    some_written station g.S.Out.Sink.name g.S.Out.Sink.held before _ _ same c.args.order.now (lists_of c.args.groups.items) count _ _ low part c.close_each-closed.ensures.part
+    some_written station g.S.Out.Sink.name g.S.Out.Sink.held before _ _ same c.args.order.now (lists_of c.args.groups.items) g.S.Out.Sink.faults count _ _ low part c.close_each-closed.ensures.part
 
 pub returns-in_err-closed-clause-part : goal.returns-in_err-closed-clause-part
 returns-in_err-closed-clause-part g c = λ station before count same low part.
-    some_written station g.S.Out.Sink.name g.S.Out.Sink.held before _ _ same c.args.order.now (lists_of c.args.groups.items) count _ _ low part c.close_each-closed.ensures.part
+    some_written station g.S.Out.Sink.name g.S.Out.Sink.held before _ _ same c.args.order.now (lists_of c.args.groups.items) g.S.Out.Sink.faults count _ _ low part c.close_each-closed.ensures.part
 
 pub returns-clause-part : goal.returns-clause-part
 returns-clause-part g c = λ station before count same low part.
-    some_written station g.S.Out.Sink.name g.S.Out.Sink.held before _ _ same c.args.order.now (lists_of c.args.groups.items) count _ _ low part c.close_each-closed.ensures.part
+    some_written station g.S.Out.Sink.name g.S.Out.Sink.held before _ _ same c.args.order.now (lists_of c.args.groups.items) g.S.Out.Sink.faults count _ _ low part c.close_each-closed.ensures.part
 
 pub returns-clause-done : goal.returns-clause-done
 returns-clause-done g c = λ station before same whole.

@@ -18,8 +18,9 @@ returns-in_err-create_each-clause-part g c =
     let p = err_from_is_err_and c.from_residual.result c.from_residual.ensures.1 in rw p.1
     (λ window trace. record {
       run = run_of (length c.args.plan.now.buffers) [];
-      begun = not_begun (setting_for c.args.plan.now c.args.ready.now.library c.args.ready.now.clocks c.args.start.second) c.args.ready.now.clocks.running c.args.ticks window;
-      parts = c.create_each.ensures.begun c.args.ready.now.library c.args.start.second (run_of (length c.args.plan.now.buffers) []) _;
+      begun = (not_begun (setting_for c.args.plan.now c.args.ready.now.library c.args.ready.now.clocks c.args.start.second) c.args.ready.now.clocks.running c.args.ticks window).0;
+      parts = c.create_each.ensures.begun c.args.ready.now.library c.args.start.second (run_of (length c.args.plan.now.buffers) []) _ _
+          (not_begun (setting_for c.args.plan.now c.args.ready.now.library c.args.ready.now.clocks c.args.start.second) c.args.ready.now.clocks.running c.args.ticks window).1;
     })
 
 pub make_engines-requires-clause-sinks : goal.make_engines-requires-clause-sinks
@@ -42,7 +43,7 @@ returns-in_err-make_engines-clause-part g c =
     subst (λ o. AreCreated (IsReady g.S.Out.Sink.name g.S.Out.Sink.held g.S.Out.Sink.room (g.S.Shelf.files c.args.shelf.now) setting c.args.ticks) (written c.args.plan.now.sinks) o (lists_of c.create_each.new.groups.items))
     order_is (c.in_ok-create_each.ensures.ready c.args.ready.now.library c.args.start.second) in
     rw p.1 (λ window trace.
-    subst (λ (z : List ℕ × List (List g.row.S-Out.Denot)). RanPart g.S.Out.Sink.name g.S.Out.Sink.held (g.S.Shelf.files c.args.shelf.now) (station_of c.args.plan.now c.args.ready.now c.args.start.second c.args.ticks window trace) z.0 z.1)
+    subst (λ (z : List ℕ × List (List g.row.S-Out.Denot)). RanPart g.S.Out.Sink.name g.S.Out.Sink.held g.S.Out.Sink.faults (g.S.Shelf.files c.args.shelf.now) (station_of c.args.plan.now c.args.ready.now c.args.start.second c.args.ticks window trace) z.0 z.1)
     (λ i. (sym order_is i, sym c.in_err-make_engines.ensures.back i))
     (starved c.args.plan.now c.args.ready.now.library c.args.ready.now.clocks c.args.start.second c.args.ticks g.S.Out.Sink.name g.S.Out.Sink.held g.S.Out.Sink.room g.S.Out.Sink.faults
     (lists_of c.create_each.new.groups.items) (g.S.Shelf.files c.args.shelf.now) window trace ready))

@@ -19,13 +19,13 @@ leave_trace-requires-clause-trace g c =
 pub returns-clause-done : goal.returns-clause-done
 returns-clause-done g c =
     let station = station_by c.args.plan.now c.args.ready.now c.args.start.second c.args.ticks c.args.threading in
-    files_written station c.args.threading.window refl _ _ c.in_ok-rendered.rendered c.in_ok-rendered.ensures.done
+    files_written station c.args.threading.window refl refl _ _ c.in_ok-rendered.rendered c.in_ok-rendered.ensures.done
     c.leave_trace.result _ c.leave_trace.ensures.gaps c.leave_trace.ensures.counts c.leave_trace.ensures.logs c.leave_trace.ensures.written
 
 pub returns-clause-part : goal.returns-clause-part
 returns-clause-part g c =
     let station = station_by c.args.plan.now c.args.ready.now c.args.start.second c.args.ticks c.args.threading in
-    part_written station c.args.threading.window refl _ _ c.in_ok-rendered.rendered c.in_ok-rendered.ensures.done
+    part_written station c.args.threading.window refl refl _ _ c.in_ok-rendered.rendered c.in_ok-rendered.ensures.done
     _ _ _ c.render_outputs.ensures.writes c.leave_trace.ensures.writes _ c.render_outputs.ensures.part c.leave_trace.ensures.part
 
 pub returns-clause-cause : goal.returns-clause-cause

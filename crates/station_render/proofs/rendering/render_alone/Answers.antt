@@ -1,12 +1,13 @@
-use Rattle.std.proofs.Common.{[], inl, length, refl, sym, subst}
+use Rattle.std.proofs.Common.{arith, [], inl, length, refl, sym, subst}
 use Rattle.std.specs.Prelude.{None, IfOk}
 use Rattle.rounds_run.proofs.Records.{run_of}
-use Rattle.stations.specs.Stations.{most_of, setting_with, station_of}
+use Rattle.stations.specs.Stations.{made_of, setting_with, station_of, tried_of}
 use Rattle.station_render.specs.Sinks.{HaveSizes, lists_of}
 use Rattle.station_render.specs.Renders.{IsPart, setting_for}
 use Rattle.station_render.specs.Runs.{RanPart, RanWhole}
 use Rattle.station_render.proofs.Dealing.{sizes}
-use Rattle.station_render.proofs.Ending.{cause_of, none_begun}
+use Rattle.station_render.proofs.Ending.{cause_of}
+use Rattle.stations.proofs.Parts.{none_written}
 use Rattle.station_render.proofs.Gathering.{not_begun}
 use Rattle.station_render.proofs.Tracing.{if_ok, untraced}
 use Rattle.station_render.proofs.Naming.{closed_made, front_kept}
@@ -17,27 +18,27 @@ use Rattle.station_render.proofs.rendering.render_alone.Goals as goal
 
 pub returns-in_err-groups-clause-part : goal.returns-in_err-groups-clause-part
 returns-in_err-groups-clause-part g c =
-    λ files at. inl (none_begun (station_of c.args.plan.now c.args.ready.now c.args.start.second c.args.ticks None None) (run_of (length c.args.plan.now.buffers) [])
-    (not_begun (setting_for c.args.plan.now c.args.ready.now.library c.args.ready.now.clocks c.args.start.second) c.args.ready.now.clocks.running c.args.ticks None) _ _ _ refl files at)
+    λ files at. inl (none_written (station_of c.args.plan.now c.args.ready.now c.args.start.second c.args.ticks None None) (run_of (length c.args.plan.now.buffers) [])
+    (not_begun (setting_for c.args.plan.now c.args.ready.now.library c.args.ready.now.clocks c.args.start.second) c.args.ready.now.clocks.running c.args.ticks None).0 _ _ (omega arith) _ _ refl files at)
 
 pub close_all-requires-clause-sizes : goal.close_all-requires-clause-sizes
 close_all-requires-clause-sizes g c κs lives =
     let part = c.write_alone-wrote.ensures.part in
     let station = station_of c.args.plan.now c.args.ready.now c.args.start.second c.args.ticks None None in
     subst (λ o. HaveSizes o (lists_of c.write_alone-wrote.new.groups.items)) (sym c.deref.ensures.value)
-    (sizes (IsPart g.S.Out.Sink.name g.S.Out.Sink.held (g.S.Shelf.files c.args.shelf.now) (setting_with station part.run (λ buffer. [])) c.args.ticks (most_of station part.run part.begun))
+    (sizes (IsPart g.S.Out.Sink.name g.S.Out.Sink.held g.S.Out.Sink.faults (g.S.Shelf.files c.args.shelf.now) (setting_with station part.run (λ buffer. [])) c.args.ticks (made_of station part.run part.begun) (tried_of station part.run part.begun))
     part.parts.created c.write_alone-wrote.new.order.items (lists_of c.write_alone-wrote.new.groups.items) (part.parts.parts (λ buffer. [])))
 
 pub returns-clause-part : goal.returns-clause-part
 returns-clause-part g c =
     let station = station_of c.args.plan.now c.args.ready.now c.args.start.second c.args.ticks None None in
     λ files at. inl (c.close_all.ensures.part station (g.S.Shelf.files c.args.shelf.now) _ c.write_alone-wrote.ensures.files c.write_alone-wrote.ensures.writes
-    (subst (λ o. RanPart g.S.Out.Sink.name g.S.Out.Sink.held (g.S.Shelf.files c.args.shelf.now) station o (lists_of c.write_alone-wrote.new.groups.items)) (sym c.deref.ensures.value) c.write_alone-wrote.ensures.part) files at)
+    (subst (λ o. RanPart g.S.Out.Sink.name g.S.Out.Sink.held g.S.Out.Sink.faults (g.S.Shelf.files c.args.shelf.now) station o (lists_of c.write_alone-wrote.new.groups.items)) (sym c.deref.ensures.value) c.write_alone-wrote.ensures.part) files at)
 
 pub returns-clause-done : goal.returns-clause-done
 returns-clause-done g c =
     let station = station_of c.args.plan.now c.args.ready.now c.args.start.second c.args.ticks None None in
-    if_ok c.close_all.result _ _ (untraced station _ _ refl)
+    if_ok c.close_all.result _ _ (untraced station _ _ refl refl)
     (c.close_all.ensures.done station (g.S.Shelf.files c.args.shelf.now) c.write_alone-wrote.ensures.files
     (subst (λ o. IfOk c.write_alone-wrote.result (RanWhole g.S.Out.Sink.name g.S.Out.Sink.held (g.S.Shelf.files c.args.shelf.now) station o (lists_of c.write_alone-wrote.new.groups.items))) (sym c.deref.ensures.value) c.write_alone-wrote.ensures.done))
 

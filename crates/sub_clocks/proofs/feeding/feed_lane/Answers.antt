@@ -3,7 +3,8 @@ use Rattle.std.specs.Option.{option_map_or}
 use Rattle.std.proofs.lemmas.Option.{slice_get_read}
 use Rattle.std.proofs.Math.ListN.{length-set}
 use Rattle.op_leaf.specs.Lanes.{IsLane}
-use Rattle.stream_meaning.specs.Instants.{crossfaded}
+use Rattle.frame_core.specs.Slots.{title_of}
+use Rattle.stream_meaning.specs.Instants.{crossfaded, part_at}
 use Rattle.node_mixing.specs.Runs.{samples_of}
 use Rattle.node_states.specs.States.{StateStands, left, room}
 use Rattle.node_states.specs.Times.{TimeStands}
@@ -91,7 +92,7 @@ returns-clause-no_more c =
     omega (arith, before, after, c.feed_samples.ensures.less)
 
 pub returns-clause-fed : goal.returns-clause-fed
-returns-clause-fed c setting sub past fed work slots before after was is stands lane grows =
+returns-clause-fed c setting sub past fed work slots before after was is stands lane titled grows =
     let in_states : c.args.k < length c.args.lanes.now.states.items = omega (arith, c.requires.lanes.fit.size, c.requires.within) in
     let at : slice_get c.args.lanes.now.states.items c.args.k ≡ Some c.index_mut.result.now = slice_get_read _ _ _ _ refl in_states c.index_mut.ensures.value in
     let one : Some c.index_mut.result.now ≡ Some before = sym at ∙ was in
@@ -99,10 +100,13 @@ returns-clause-fed c setting sub past fed work slots before after was is stands 
     let two : Some c.feed_samples.new.state ≡ Some after = sym (slice_get-set_same c.args.lanes.now.states.items c.args.k c.feed_samples.new.state in_states) ∙ is in
     let new : c.feed_samples.new.state ≡ after = cc in
     let child : crossfaded c.args.shape.now.plan.now.nodes c.args.k ≡ c.child_of-child.result = sym (c.child_of-child.ensures ∙ ap (λ ns. crossfaded ns c.args.k) c.as_slice.ensures) in
+    let title : title_of (part_at c.args.lanes.now.latest.parts.items (crossfaded c.args.shape.now.plan.now.nodes c.args.k)).slot ≡ c.title_of-title.result =
+    ap (λ (i : ℕ). title_of (part_at c.args.lanes.now.latest.parts.items i).slot) child ∙ sym (c.title_of-title.ensures ∙ ap title_of (c.slot_of.ensures ∙ ap (λ ps. (part_at ps c.child_of-child.result).slot) c.deref.ensures.value)) in
     subst (λ s. StateStands setting sub past (fed + c.args.many) c.args.k work s) new
     (c.feed_samples.ensures.fed setting sub past fed c.args.k work slots (subst (λ s. StateStands setting sub past fed c.args.k work s) (sym old) stands)
     (subst (λ (n : ℕ). IsLane slots c.args.many (samples_of c.args.lanes.now.runs.left.items n c.args.many) (samples_of c.args.lanes.now.runs.right.items n c.args.many)) child
     lane)
+    (λ j low. titled j low ∙ title)
     grows)
 
 pub returns-clause-time : goal.returns-clause-time

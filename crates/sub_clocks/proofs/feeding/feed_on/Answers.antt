@@ -1,4 +1,4 @@
-use Rattle.std.proofs.Common.{◌≡◌, ◌<◌, length, get_or, arith, ap, sym}
+use Rattle.std.proofs.Common.{◌≡◌, ◌<◌, ◌∙◌, length, get_or, arith, ap, sym}
 use Rattle.std.specs.Prelude.{slice_index_or}
 use Rattle.std.specs.Option.{option_map_or}
 use Rattle.clock_infer.specs.declared.clock_map.NodeClock.TheVariants.{Main, Sub}
@@ -98,10 +98,10 @@ returns-clause-fed c = record {
         states = c.feed_lane.ensures.states;
         times = c.feed_lane.ensures.times;
         runs = c.feed_lane.ensures.runs;
-        fed = λ past m work slots earlier after was is stands lane grows. c.feed_lane.ensures.fed S sub past m work slots earlier after was is stands lane grows;
+        fed = λ past m work slots earlier after was is stands lane titled grows. c.feed_lane.ensures.fed S sub past m work slots earlier after was is stands lane titled grows;
         time = λ m earlier after was is stands. c.feed_lane.ensures.time other.start m earlier after was is stands;
       })
-      c.requires.none (c.run_clock.ensures.left rank world.ranks) c.run_clock.ensures.lanes.fit.size c.run_clock.ensures.lanes.in_times;
+      c.requires.none (ap (λ l. l.parts.items) c.run_clock.ensures.latest ∙ parts) (c.run_clock.ensures.left rank world.ranks) c.run_clock.ensures.lanes.fit.size c.run_clock.ensures.lanes.in_times;
 }
 
 pub run_clock-requires-clause-ahead : goal.run_clock-requires-clause-ahead

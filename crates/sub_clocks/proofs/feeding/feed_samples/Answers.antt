@@ -21,11 +21,12 @@ returns-clause-less c =
     c.feed_run.ensures.less (omega (arith, long, c.requires.some))
 
 pub returns-clause-fed : goal.returns-clause-fed
-returns-clause-fed c setting sub past fed i work slots stands lane grows =
+returns-clause-fed c setting sub past fed i work slots stands lane titled grows =
     let long : length c.left_of.result.now ≡ c.args.count = ap length c.left_of.ensures ∙ samples_long c.args.runs.now.left.items c.args.child c.args.count c.requires.short c.requires.in_left in
     subst (λ n. StateStands setting sub past (fed + n) i work c.feed_run.new.self) long
     (c.feed_run.ensures.fed setting sub past fed i work slots stands
     (subst (λ n. IsLane slots n c.left_of.result.now c.right_of.result.now) (sym long)
     (subst (λ (xs : List ℤ). IsLane slots c.args.count xs c.right_of.result.now) (sym c.left_of.ensures)
     (subst (λ (ys : List ℤ). IsLane slots c.args.count (samples_of c.args.runs.now.left.items c.args.child c.args.count) ys) (sym c.right_of.ensures) lane)))
+    (λ j low. titled j (omega (arith, low, long)))
     (λ m low. grows m (omega (arith, low, long))))

@@ -1,5 +1,6 @@
 use Rattle.std.proofs.Common.{◌≡◌, ◌<◌, ◌≤◌, ◌∙◌, length, arith, refl, ap, sym, subst}
 use Rattle.stream_meaning.proofs.Existence.{same_clock-true}
+use Rattle.engine_instants.specs.declared.runs.Runs.{Runs}
 use Rattle.engine_instants.specs.States.{over}
 use Rattle.engine_instants.proofs.Walking.{next_own}
 use Rattle.sub_clocks.specs.Clocks.{IsIdle, clock_at, is_in, is_none, is_upto, rest_at}
@@ -55,6 +56,7 @@ run_subs-loop-i-init t c =
       own = first.own;
       lanes = c.requires.lanes;
       latest = refl;
+      held = refl;
       above = λ rank ranks. above_none c.args.shape.now.clocks.now rank (rank c.args.clock) (is_upto c.args.shape.now.clocks.now c.args.clock c.first-i.result) c.args.lanes.now;
       samples = λ rank ranks. samples_none c.args.shape.now.clocks.now rank (rank c.args.clock) is_none c.args.many c.args.lanes.now;
       run = subs_start c.args.shape.now.plan.now c.args.shape.now.library.now c.args.shape.now.clocks.now c.requires.in_clocks c.args.clock c.args.many c.args.lanes.now c.first-i.result first;
@@ -123,6 +125,7 @@ run_subs-loop-i-preserved t c =
       own = next.own;
       lanes = c.run_sub.ensures.lanes;
       latest = c.run_sub.ensures.latest ∙ c.loop-i.invariant.latest;
+      held = c.run_sub.ensures.held ∙ c.loop-i.invariant.held;
       above = λ rank ranks. above_step c.args.shape.now.clocks.now rank c.args.clock c.loop-i.i c.after-i.result c.args.lanes.now c.loop-i.lanes c.run_sub.new.lanes here next (c.loop-i.invariant.above rank ranks) (c.run_sub.ensures.above rank ranks);
       samples = λ rank ranks. samples_step c.args.shape.now.clocks.now rank c.args.clock c.loop-i.i c.args.many c.args.lanes.now c.loop-i.lanes c.run_sub.new.lanes ranks c.loop-i-test.true here (c.loop-i.invariant.samples rank ranks) (c.run_sub.ensures.samples rank ranks);
       run = subs_next c.args.shape.now.plan.now c.args.shape.now.library.now c.args.shape.now.clocks.now c.requires.in_clocks c.args.clock c.args.many c.args.lanes.now c.loop-i.lanes c.run_sub.new.lanes c.loop-i.i c.after-i.result
@@ -204,5 +207,8 @@ run_sub-returns-clause-run t c =
     sub_run c.args.shape.now.plan.now c.args.shape.now.library.now c.args.shape.now.clocks.now c.requires.in_clocks c.args.i c.args.many c.requires.within
     c.args.lanes.now c.keep.new.lanes c.run_clock.new.lanes c.take_on.new.lanes both c.requires.some (c.requires.through both)
     c.keep.ensures.states c.keep.ensures.times c.keep.ensures.held c.keep.ensures.left c.keep.ensures.right c.keep.ensures.kept c.keep.ensures.others
-    c.run_clock.ensures.run c.run_clock.ensures.left c.run_clock.ensures.samples c.take_on.ensures.states c.take_on.ensures.runs c.take_on.ensures.times c.take_on.ensures.time
+    c.run_clock.ensures.run c.run_clock.ensures.held c.run_clock.ensures.left c.run_clock.ensures.samples c.take_on.ensures.states c.take_on.ensures.runs c.take_on.ensures.times c.take_on.ensures.time
     c.run_clock.ensures.lanes.in_times c.take_on.ensures.lanes.in_times
+
+pub run_sub-returns-clause-held : goal.run_sub-returns-clause-held
+run_sub-returns-clause-held t c = ap (λ (r : Runs). r.held) c.take_on.ensures.runs ∙ c.run_clock.ensures.held ∙ c.keep.ensures.held

@@ -20,6 +20,7 @@ invariant-run_subs-loop-i l = record {
   own : l.i < length l.shape.clocks.now → lies_at l.shape.clocks.now l.fn.clock l.i ≡ true;
   lanes : AreClockLanes l.shape.plan.now l.shape.library.now l.shape.clocks.now l.lanes;
   latest : l.lanes.latest ≡ l.initial.lanes.latest;
+  held : l.lanes.runs.held ≡ l.initial.lanes.runs.held;
   above : (rank : NodeClock → ℕ) → HasRanks l.shape.clocks.now rank
       → AreAbove l.shape.clocks.now rank (rank l.fn.clock) (is_upto l.shape.clocks.now l.fn.clock l.i) l.initial.lanes l.lanes;
   samples : (rank : NodeClock → ℕ) → HasRanks l.shape.clocks.now rank → AreSamplesLeft l.shape.clocks.now rank (rank l.fn.clock) is_none l.many l.initial.lanes l.lanes;

@@ -1,12 +1,12 @@
-use Rattle.std.proofs.Common.{rules, ◌≡◌, ◌<◌, ◌+◌, ◌∙◌, ◌++◌, Some, length, slice_get, arith, ap, sym, refl, subst, inl}
+use Rattle.std.proofs.Common.{rules, ◌≡◌, ◌<◌, ◌+◌, ◌∙◌, ◌++◌, Some, length, slice_get, arith, ap, sym, refl, subst}
 use Rattle.std.specs.Prelude.{IfErr}
 use Rattle.std.proofs.lemmas.Option.{slice_get_read, slice_get_within}
 use Rattle.clock_outputs.specs.Appends.{GotOnePiece, HaveRoom, TookAll, TookParts}
 use Rattle.clock_engine.specs.declared.fault.TickFault.TheVariants.{Memory, Write}
 use Rattle.clock_engine.specs.Engines.{AreParts, after_tick, setting_of}
 use Rattle.clock_engine.specs.Ticks.{HasEnds, HasFailed, HasMade, HaveTickRoom, HaveTicksRoom}
-use Rattle.clock_engine.proofs.Made.{as_many, failed_by, has_broken, has_stopped, has_stopped_giving, has_ticked, have_room, output_at, parts_after, rooms_fell, room_after}
-use Rattle.clock_engine.proofs.Feeding.{feeds_some, feeds_within, if_fault}
+use Rattle.clock_engine.proofs.Made.{as_many, failed_by, has_broken, has_stopped, has_stopped_giving, has_ticked, have_room, held_of_heard, held_of_some, output_at, parts_after, rooms_fell, room_after}
+use Rattle.clock_engine.proofs.Feeding.{feeds_some, feeds_within, if_fault, needs_ends}
 use Rattle.clock_outputs.proofs.Gives.{adds_more, on_fault}
 use Rattle.clock_outputs.proofs.Taken.{once_none}
 use Rattle.clock_engine.proofs.engine.ClockEngine.tick.Goals as goal
@@ -31,7 +31,7 @@ invariant_of-self-in-Err g c =
     record {
       parts =
           subst AreParts (sym (ap (λ w. after_tick w c.run_or_stop.new.parts c.run_or_stop.new.parts.ticks (Some (Write c.index.result.now.sink))) c.in_ok-run_or_stop.ensures.kept))
-          (parts_after c.self.inside.parts c.run_or_stop.new.parts c.self.invariant.parts c.run_or_stop.ensures.state h.slots h.ports_are c.run_or_stop.new.parts.ticks (Some (Write c.index.result.now.sink)) c.run_or_stop.ensures.feeds c.run_or_stop.ensures.frames);
+          (parts_after c.self.inside.parts c.run_or_stop.new.parts c.self.invariant.parts c.run_or_stop.ensures.state h.slots h.ports_are c.run_or_stop.new.parts.ticks (Some (Write c.index.result.now.sink)) c.run_or_stop.ensures.feeds c.run_or_stop.ensures.frames h.lists);
       sinks = c.append_all.ensures.sizes ∙ c.self.invariant.sinks ∙ sym (as_many c.self.inside.parts c.run_or_stop.new.parts c.self.invariant.parts c.run_or_stop.ensures.state h.slots h.ports_are);
     }
 
@@ -44,6 +44,7 @@ returns-in-Err-clause-stopped g c =
     (sym (ap (λ w. after_tick w c.run_or_stop.new.parts w.ticks (Some (Write c.index.result.now.sink))) c.in_ok-run_or_stop.ensures.kept))
     (failed_by c.self.inside.parts c.run_or_stop.new.parts c.self.invariant.parts c.run_or_stop.ensures.state h.slots h.ports_are g.O.Sink.held g.T.Taps.stands c.self.inside.outs.items c.append_all.new.outs.items
     c.args.taps.now c.run_or_stop.new.taps h.more (Write c.index.result.now.sink)
+    (held_of_heard g.T.Taps.stands c.self.inside.parts c.run_or_stop.new.parts c.args.taps.now c.run_or_stop.new.taps c.self.invariant.parts h)
     (λ t answers stands.
     has_stopped c.self.inside.parts c.run_or_stop.new.parts c.self.invariant.parts g.T.Taps.stands c.args.taps.now c.run_or_stop.new.taps h t answers stands few g.O.Sink.held g.O.Sink.room
     c.self.inside.outs.items c.append_all.new.outs.items c.self.invariant.sinks c.append_all.ensures.sizes
@@ -95,7 +96,7 @@ invariant_of-self-2 g c =
       parts =
           subst AreParts (sym (ap (λ w. after_tick w w (w.ticks + 1) w.stopped) c.in_ok-give_or_stop.ensures.kept
           ∙ ap (λ w. after_tick w c.run_or_stop.new.parts (w.ticks + 1) w.stopped) c.in_ok-run_or_stop.ensures.kept))
-          (parts_after c.self.inside.parts c.run_or_stop.new.parts c.self.invariant.parts c.run_or_stop.ensures.state h.slots h.ports_are (c.self.inside.parts.ticks + 1) c.self.inside.parts.stopped c.run_or_stop.ensures.feeds c.run_or_stop.ensures.frames);
+          (parts_after c.self.inside.parts c.run_or_stop.new.parts c.self.invariant.parts c.run_or_stop.ensures.state h.slots h.ports_are (c.self.inside.parts.ticks + 1) c.self.inside.parts.stopped c.run_or_stop.ensures.feeds c.run_or_stop.ensures.frames h.lists);
       sinks = c.append_all.ensures.sizes ∙ c.self.invariant.sinks ∙ sym (as_many c.self.inside.parts c.run_or_stop.new.parts c.self.invariant.parts c.run_or_stop.ensures.state h.slots h.ports_are) ∙ ap (λ w. length w.ports.items) (sym c.in_ok-give_or_stop.ensures.kept);
     }
 
@@ -131,6 +132,7 @@ returns-in_err-give_or_stop-clause-stopped g c =
     (sym (c.in_err-give_or_stop.ensures.ended.1 ∙ ap (λ w. after_tick w c.run_or_stop.new.parts w.ticks (Some Memory)) c.in_ok-run_or_stop.ensures.kept))
     (failed_by c.self.inside.parts c.run_or_stop.new.parts c.self.invariant.parts c.run_or_stop.ensures.state h.slots h.ports_are g.O.Sink.held g.T.Taps.stands c.self.inside.outs.items c.append_all.new.outs.items
     c.args.taps.now c.give_or_stop.new.taps (h.more ++ v.made) Memory
+    (held_of_heard g.T.Taps.stands c.self.inside.parts c.run_or_stop.new.parts c.args.taps.now c.run_or_stop.new.taps c.self.invariant.parts h)
     (λ t answers stands.
     has_stopped_giving c.self.inside.parts c.run_or_stop.new.parts c.self.invariant.parts g.T.Taps.stands c.args.taps.now c.run_or_stop.new.taps h t answers stands few
     g.O.Sink.held g.O.Sink.room c.self.inside.outs.items c.append_all.new.outs.items c.self.invariant.sinks c.append_all.ensures.sizes
@@ -145,6 +147,7 @@ returns-in_err-run_or_stop-clause-stopped g c =
     subst (λ w. HasFailed g.O.Sink.held g.T.Taps.stands c.self.inside.parts w c.self.inside.outs.items c.self.inside.outs.items c.args.taps.now c.run_or_stop.new.taps) (sym c.in_err-run_or_stop.ensures.ended.1)
     (failed_by c.self.inside.parts c.run_or_stop.new.parts c.self.invariant.parts c.run_or_stop.ensures.state h.slots h.ports_are g.O.Sink.held g.T.Taps.stands c.self.inside.outs.items c.self.inside.outs.items
     c.args.taps.now c.run_or_stop.new.taps h.made Memory
+    (held_of_some g.T.Taps.stands c.self.inside.parts c.run_or_stop.new.parts c.args.taps.now c.run_or_stop.new.taps h)
     (λ t answers stands.
     has_broken c.self.inside.parts c.run_or_stop.new.parts c.self.invariant.parts g.T.Taps.stands c.args.taps.now c.run_or_stop.new.taps h t answers stands g.O.Sink.held c.self.inside.outs.items)
     h.taps)))
@@ -185,7 +188,7 @@ invariant_of-self g c =
     record {
       parts =
           subst AreParts (sym ended.1)
-          (parts_after c.self.inside.parts c.run_or_stop.new.parts c.self.invariant.parts c.run_or_stop.ensures.state h.slots h.ports_are c.self.inside.parts.ticks (Some Memory) c.run_or_stop.ensures.feeds c.run_or_stop.ensures.frames);
+          (parts_after c.self.inside.parts c.run_or_stop.new.parts c.self.invariant.parts c.run_or_stop.ensures.state h.slots h.ports_are c.self.inside.parts.ticks (Some Memory) c.run_or_stop.ensures.feeds c.run_or_stop.ensures.frames h.lists);
       sinks = c.self.invariant.sinks ∙ sym (as_many c.self.inside.parts c.run_or_stop.new.parts c.self.invariant.parts c.run_or_stop.ensures.state h.slots h.ports_are) ∙ ap (λ w. length w.ports.items) (sym ended.1);
     }
 
@@ -196,14 +199,14 @@ invariant_of-self-in_err-give_or_stop g c =
     record {
       parts =
           subst AreParts (sym (ended.1 ∙ ap (λ w. after_tick w c.run_or_stop.new.parts w.ticks (Some Memory)) c.in_ok-run_or_stop.ensures.kept))
-          (parts_after c.self.inside.parts c.run_or_stop.new.parts c.self.invariant.parts c.run_or_stop.ensures.state h.slots h.ports_are c.self.inside.parts.ticks (Some Memory) c.run_or_stop.ensures.feeds c.run_or_stop.ensures.frames);
+          (parts_after c.self.inside.parts c.run_or_stop.new.parts c.self.invariant.parts c.run_or_stop.ensures.state h.slots h.ports_are c.self.inside.parts.ticks (Some Memory) c.run_or_stop.ensures.feeds c.run_or_stop.ensures.frames h.lists);
       sinks = c.append_all.ensures.sizes ∙ c.self.invariant.sinks ∙ sym (as_many c.self.inside.parts c.run_or_stop.new.parts c.self.invariant.parts c.run_or_stop.ensures.state h.slots h.ports_are) ∙ ap (λ w. length w.ports.items) (sym ended.1);
     }
 
 pub returns-in_err-run_or_stop-clause-memory : goal.returns-in_err-run_or_stop-clause-memory
 returns-in_err-run_or_stop-clause-memory g c =
     subst (λ w. IfErr c.from_residual.result (λ fault. fault ≡ Memory → HasEnds w.parts)) c.self.view_is
-    (if_fault (λ fault. fault ≡ Memory → HasEnds c.self.inside.parts) c.from_residual.result (λ fault is. inl c.in_err-run_or_stop.ensures.reads))
+    (if_fault (λ fault. fault ≡ Memory → HasEnds c.self.inside.parts) c.from_residual.result (λ fault is. needs_ends c.self.inside.parts c.in_err-run_or_stop.ensures.needs))
 
 pub returns-in_err-give_or_stop-clause-memory : goal.returns-in_err-give_or_stop-clause-memory
 returns-in_err-give_or_stop-clause-memory g c =

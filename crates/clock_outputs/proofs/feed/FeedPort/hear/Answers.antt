@@ -22,8 +22,8 @@ returns-in-Some c =
     let feed = c.args.self.now in
     let left = c.args.left.now in
     let right = c.args.right.now in
-    let more : List Slot = map Some (inner_cells left right) in
-    let fits : c.args.at + suc (length more) ≤ length feed.frame = (let long = cells_long left right c.requires.same in omega (arith, long, c.requires.there)) in
+    let more : List Slot = map Some (inner_cells c.in-Some.cell.title left right) in
+    let fits : c.args.at + suc (length more) ≤ length feed.frame = (let long = cells_long c.in-Some.cell.title left right c.requires.same in omega (arith, long, c.requires.there)) in
     c.hear_cells.ensures
     ∙ ap (λ (xs : List Slot). record { buffer = feed.buffer; node = feed.node; frame = xs })
     (ap (λ xs. put_chunk (c.args.at + 1) xs more) c.set.ensures

@@ -8,4 +8,4 @@ pub returns : goal.returns
 returns c =
     let feed = c.args.self.now in
     ap (λ (xs : List Slot). record { buffer = feed.buffer; node = feed.node; frame = xs })
-    (c.lay.ensures ∙ ap (put_chunk c.args.at feed.frame) (laid_inner c.args.left.now c.args.right.now))
+    (c.lay.ensures ∙ ap (put_chunk c.args.at feed.frame) (laid_inner c.args.title c.args.left.now c.args.right.now))

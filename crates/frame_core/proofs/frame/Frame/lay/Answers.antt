@@ -27,4 +27,4 @@ returns c =
     let rights = with_items_is v.right c.put_samples-2.new.into (omega (arith, c.put_samples-2.auto.into, c.deref_mut-2.ensures.len)) in
     let marks = with_items_is v.marks c.put_marks.new.marks (omega (arith, c.put_marks.auto.marks, c.deref_mut-3.ensures.len)) in
     rw (lefts, rights, marks, c.put_samples.ensures, c.put_samples-2.ensures, c.put_marks.ensures, c.deref_mut.ensures.value, c.deref_mut-2.ensures.value, c.deref_mut-3.ensures.value)
-    (laid v.marks.items v.left.items v.right.items c.args.self.now c.args.at c.args.first c.args.left.now c.args.right.now i.0 i.1 c.self.view_is c.requires.same)
+    (laid v.marks.items v.left.items v.right.items c.args.self.now c.args.at c.args.first c.args.title c.args.left.now c.args.right.now i.0 i.1 c.self.view_is c.requires.same)

@@ -85,7 +85,7 @@ returns-then-passes-clause-stands c = λ setting sub clock past fed i library_is
     let before_run : StateStands setting sub (moment_after setting sub clock past ∷ past) fed i (work_at setting i c.args.node.now) (Cross c.in-Cross.state) =
     subst (λ (s : NodeState). StateStands setting sub (moment_after setting sub clock past ∷ past) fed i (work_at setting i c.args.node.now) s) c.in-Cross.is stands in
     subst (λ (b : Bool). StateStands setting sub (going_on setting sub clock (suc (length c.args.left.now)) past) (fed_on (b || reads (work_at setting i c.args.node.now)) (length c.args.left.now) fed) i (work_at setting i c.args.node.now) (Cross c.pass_child.new.state)) (sym through)
-    (through_stands setting sub clock past (length c.args.left.now) i fed c.args.node.now goes c.requires.some
+    (through_stands setting sub clock past (length c.args.left.now) i fed c.args.node.now goes c.requires.some c.args.below
     (samples_of c.args.before_left.now child.child (length c.args.left.now)) (samples_of c.args.before_right.now child.child (length c.args.left.now)) child.feeds c.in-Cross.state c.pass_child.new.state
     (c.pass_child.ensures.overlap child.child there) (λ slots p s. c.pass_child.ensures.stands child.child p slots there s)
     (λ slots p m s few. c.pass_child.ensures.least child.child p m slots there s few) (work_at setting i c.args.node.now) before_run)
@@ -98,7 +98,7 @@ returns-then-passes-clause-lane c = λ setting sub clock past fed i library_is g
     let there : slice_get c.as_slice-children.result.now 0 ≡ Some child.child = ap (λ xs. slice_get xs 0) same ∙ child.there in
     let before_run : StateStands setting sub (moment_after setting sub clock past ∷ past) fed i (work_at setting i c.args.node.now) (Cross c.in-Cross.state) =
     subst (λ (s : NodeState). StateStands setting sub (moment_after setting sub clock past ∷ past) fed i (work_at setting i c.args.node.now) s) c.in-Cross.is stands in
-    through_lane setting sub clock past (length c.args.left.now) i fed c.args.node.now goes c.requires.some
+    through_lane setting sub clock past (length c.args.left.now) i fed c.args.node.now goes c.requires.some c.args.below
     (samples_of c.args.before_left.now child.child (length c.args.left.now)) (samples_of c.args.before_right.now child.child (length c.args.left.now)) child.feeds c.in-Cross.state c.pass_child.new.state
     c.pass_child.new.left c.pass_child.new.right (λ slots p m s few. c.pass_child.ensures.least child.child p m slots there s few)
     (λ slots p s. c.pass_child.ensures.left child.child p slots there s) (λ slots p s. c.pass_child.ensures.right child.child p slots there s) (work_at setting i c.args.node.now) refl before_run

@@ -15,10 +15,10 @@ returns-then-len-clause-fed c = λ slots p stands.
     let before : StandsFor (the_view c.self.inside) slots p = subst (λ s. StandsFor s slots p) (sym c.self.view_is) stands in
     let wanted : wants (the_view c.self.inside) ≡ true = subst (λ s. wants s ≡ true) (sym c.self.view_is) c.requires.wants in
     let w = wanting (the_view c.self.inside) slots p c.self.invariant.0 before wanted in
-    let run = inner_cells c.args.lefts.now c.args.rights.now in
-    let long : length run ≡ length c.args.lefts.now = long_run c.args.lefts.now c.args.rights.now c.requires.same in
+    let run = inner_cells c.args.title c.args.lefts.now c.args.rights.now in
+    let long : length run ≡ length c.args.lefts.now = long_run c.args.title c.args.lefts.now c.args.rights.now c.requires.same in
     let some : 0 < length c.self.inside.next.cells = omega (arith, c.if-len-gt0.true, c.len.ensures.len) in
-    run_complete (the_view c.self.inside) _ slots p run before w refl (runs_inner c.args.lefts.now c.args.rights.now) some
+    run_complete (the_view c.self.inside) _ slots p run before w refl (runs_inner c.args.title c.args.lefts.now c.args.rights.now) some
     (let pushed = ap (λ (r : Ring). length r.cells) c.push_run.ensures in omega (arith, pushed, c.if-len.true, c.len-then-len-gt0.ensures.len, c.len-then-len-gt0-2.ensures.len))
     refl (ap (λ (r : Ring). r.cells) c.push_run.ensures) c.len-self-inside-then-len.ensures.len c.len-self-inside.ensures.len w.gap
 
@@ -26,42 +26,42 @@ pub returns-then-len-clause-least : goal.returns-then-len-clause-least
 returns-then-len-clause-least c = λ slots p m stands less.
     let before : StandsFor (the_view c.self.inside) slots p = subst (λ s. StandsFor s slots p) (sym c.self.view_is) stands in
     let wanted : wants (the_view c.self.inside) ≡ true = subst (λ s. wants s ≡ true) (sym c.self.view_is) c.requires.wants in
-    let run = inner_cells c.args.lefts.now c.args.rights.now in
-    let long : length run ≡ length c.args.lefts.now = long_run c.args.lefts.now c.args.rights.now c.requires.same in
+    let run = inner_cells c.args.title c.args.lefts.now c.args.rights.now in
+    let long : length run ≡ length c.args.lefts.now = long_run c.args.title c.args.lefts.now c.args.rights.now c.requires.same in
     let few : length c.args.lefts.now ≤ track_room (the_view c.self.inside) = subst (λ s. length c.args.lefts.now ≤ track_room s) (sym c.self.view_is) c.requires.few in
     subst (λ s. length (cross s.overlap (slots ++ map Some (take m run))) ≤ p) c.self.view_is
-    (fewer_by (the_view c.self.inside) slots p m (length c.args.lefts.now) run long c.self.invariant.0 before wanted (runs_inner c.args.lefts.now c.args.rights.now) few less)
+    (fewer_by (the_view c.self.inside) slots p m (length c.args.lefts.now) run long c.self.invariant.0 before wanted (runs_inner c.args.title c.args.lefts.now c.args.rights.now) few less)
 
 pub returns-else-len-clause-fed : goal.returns-else-len-clause-fed
 returns-else-len-clause-fed c = λ slots p stands.
     let before : StandsFor (the_view c.self.inside) slots p = subst (λ s. StandsFor s slots p) (sym c.self.view_is) stands in
     let wanted : wants (the_view c.self.inside) ≡ true = subst (λ s. wants s ≡ true) (sym c.self.view_is) c.requires.wants in
     let w = wanting (the_view c.self.inside) slots p c.self.invariant.0 before wanted in
-    let run = inner_cells c.args.lefts.now c.args.rights.now in
-    let long : length run ≡ length c.args.lefts.now = long_run c.args.lefts.now c.args.rights.now c.requires.same in
+    let run = inner_cells c.args.title c.args.lefts.now c.args.rights.now in
+    let long : length run ≡ length c.args.lefts.now = long_run c.args.title c.args.lefts.now c.args.rights.now c.requires.same in
     let some : 0 < length c.self.inside.next.cells = omega (arith, c.if-len-gt0.true, c.len.ensures.len) in
-    run_joining (the_view c.self.inside) _ slots p run before w refl (runs_inner c.args.lefts.now c.args.rights.now) some
+    run_joining (the_view c.self.inside) _ slots p run before w refl (runs_inner c.args.title c.args.lefts.now c.args.rights.now) some
     refl (ap (λ (r : Ring). r.cells) c.push_run.ensures) w.ready w.gap
 
 pub returns-else-len-clause-least : goal.returns-else-len-clause-least
 returns-else-len-clause-least c = λ slots p m stands less.
     let before : StandsFor (the_view c.self.inside) slots p = subst (λ s. StandsFor s slots p) (sym c.self.view_is) stands in
     let wanted : wants (the_view c.self.inside) ≡ true = subst (λ s. wants s ≡ true) (sym c.self.view_is) c.requires.wants in
-    let run = inner_cells c.args.lefts.now c.args.rights.now in
-    let long : length run ≡ length c.args.lefts.now = long_run c.args.lefts.now c.args.rights.now c.requires.same in
+    let run = inner_cells c.args.title c.args.lefts.now c.args.rights.now in
+    let long : length run ≡ length c.args.lefts.now = long_run c.args.title c.args.lefts.now c.args.rights.now c.requires.same in
     let few : length c.args.lefts.now ≤ track_room (the_view c.self.inside) = subst (λ s. length c.args.lefts.now ≤ track_room s) (sym c.self.view_is) c.requires.few in
     subst (λ s. length (cross s.overlap (slots ++ map Some (take m run))) ≤ p) c.self.view_is
-    (fewer_by (the_view c.self.inside) slots p m (length c.args.lefts.now) run long c.self.invariant.0 before wanted (runs_inner c.args.lefts.now c.args.rights.now) few less)
+    (fewer_by (the_view c.self.inside) slots p m (length c.args.lefts.now) run long c.self.invariant.0 before wanted (runs_inner c.args.title c.args.lefts.now c.args.rights.now) few less)
 
 pub returns-then-len-self-clause-fed : goal.returns-then-len-self-clause-fed
 returns-then-len-self-clause-fed c = λ slots p stands.
     let before : StandsFor (the_view c.self.inside) slots p = subst (λ s. StandsFor s slots p) (sym c.self.view_is) stands in
     let wanted : wants (the_view c.self.inside) ≡ true = subst (λ s. wants s ≡ true) (sym c.self.view_is) c.requires.wants in
     let w = wanting (the_view c.self.inside) slots p c.self.invariant.0 before wanted in
-    let run = inner_cells c.args.lefts.now c.args.rights.now in
-    let long : length run ≡ length c.args.lefts.now = long_run c.args.lefts.now c.args.rights.now c.requires.same in
+    let run = inner_cells c.args.title c.args.lefts.now c.args.rights.now in
+    let long : length run ≡ length c.args.lefts.now = long_run c.args.title c.args.lefts.now c.args.rights.now c.requires.same in
     let none : length c.self.inside.next.cells ≡ 0 = omega (arith, c.if-len-gt0.false, c.len.ensures.len) in
-    run_over (the_view c.self.inside) _ slots p run before w refl c.self.invariant.0.overlap.0 (runs_inner c.args.lefts.now c.args.rights.now) none
+    run_over (the_view c.self.inside) _ slots p run before w refl c.self.invariant.0.overlap.0 (runs_inner c.args.title c.args.lefts.now c.args.rights.now) none
     (let pushed = ap (λ (r : Ring). length r.cells) c.push_run-else-len-gt0.ensures in omega (arith, pushed, c.if-len-self.true, c.len-else-len-gt0.ensures.len))
     (ap (λ (r : Ring). r.cells) c.push_run-else-len-gt0.ensures) refl refl w.gap
 
@@ -69,38 +69,38 @@ pub returns-then-len-self-clause-least : goal.returns-then-len-self-clause-least
 returns-then-len-self-clause-least c = λ slots p m stands less.
     let before : StandsFor (the_view c.self.inside) slots p = subst (λ s. StandsFor s slots p) (sym c.self.view_is) stands in
     let wanted : wants (the_view c.self.inside) ≡ true = subst (λ s. wants s ≡ true) (sym c.self.view_is) c.requires.wants in
-    let run = inner_cells c.args.lefts.now c.args.rights.now in
-    let long : length run ≡ length c.args.lefts.now = long_run c.args.lefts.now c.args.rights.now c.requires.same in
+    let run = inner_cells c.args.title c.args.lefts.now c.args.rights.now in
+    let long : length run ≡ length c.args.lefts.now = long_run c.args.title c.args.lefts.now c.args.rights.now c.requires.same in
     let few : length c.args.lefts.now ≤ track_room (the_view c.self.inside) = subst (λ s. length c.args.lefts.now ≤ track_room s) (sym c.self.view_is) c.requires.few in
     subst (λ s. length (cross s.overlap (slots ++ map Some (take m run))) ≤ p) c.self.view_is
-    (fewer_by (the_view c.self.inside) slots p m (length c.args.lefts.now) run long c.self.invariant.0 before wanted (runs_inner c.args.lefts.now c.args.rights.now) few less)
+    (fewer_by (the_view c.self.inside) slots p m (length c.args.lefts.now) run long c.self.invariant.0 before wanted (runs_inner c.args.title c.args.lefts.now c.args.rights.now) few less)
 
 pub returns-else-len-self-clause-fed : goal.returns-else-len-self-clause-fed
 returns-else-len-self-clause-fed c = λ slots p stands.
     let before : StandsFor (the_view c.self.inside) slots p = subst (λ s. StandsFor s slots p) (sym c.self.view_is) stands in
     let wanted : wants (the_view c.self.inside) ≡ true = subst (λ s. wants s ≡ true) (sym c.self.view_is) c.requires.wants in
     let w = wanting (the_view c.self.inside) slots p c.self.invariant.0 before wanted in
-    let run = inner_cells c.args.lefts.now c.args.rights.now in
-    let long : length run ≡ length c.args.lefts.now = long_run c.args.lefts.now c.args.rights.now c.requires.same in
+    let run = inner_cells c.args.title c.args.lefts.now c.args.rights.now in
+    let long : length run ≡ length c.args.lefts.now = long_run c.args.title c.args.lefts.now c.args.rights.now c.requires.same in
     let none : length c.self.inside.next.cells ≡ 0 = omega (arith, c.if-len-gt0.false, c.len.ensures.len) in
-    run_going (the_view c.self.inside) _ slots p run before w refl (runs_inner c.args.lefts.now c.args.rights.now) none
+    run_going (the_view c.self.inside) _ slots p run before w refl (runs_inner c.args.title c.args.lefts.now c.args.rights.now) none
     (ap (λ (r : Ring). r.cells) c.push_run-else-len-gt0.ensures) refl w.ready w.gap
 
 pub returns-else-len-self-clause-least : goal.returns-else-len-self-clause-least
 returns-else-len-self-clause-least c = λ slots p m stands less.
     let before : StandsFor (the_view c.self.inside) slots p = subst (λ s. StandsFor s slots p) (sym c.self.view_is) stands in
     let wanted : wants (the_view c.self.inside) ≡ true = subst (λ s. wants s ≡ true) (sym c.self.view_is) c.requires.wants in
-    let run = inner_cells c.args.lefts.now c.args.rights.now in
-    let long : length run ≡ length c.args.lefts.now = long_run c.args.lefts.now c.args.rights.now c.requires.same in
+    let run = inner_cells c.args.title c.args.lefts.now c.args.rights.now in
+    let long : length run ≡ length c.args.lefts.now = long_run c.args.title c.args.lefts.now c.args.rights.now c.requires.same in
     let few : length c.args.lefts.now ≤ track_room (the_view c.self.inside) = subst (λ s. length c.args.lefts.now ≤ track_room s) (sym c.self.view_is) c.requires.few in
     subst (λ s. length (cross s.overlap (slots ++ map Some (take m run))) ≤ p) c.self.view_is
-    (fewer_by (the_view c.self.inside) slots p m (length c.args.lefts.now) run long c.self.invariant.0 before wanted (runs_inner c.args.lefts.now c.args.rights.now) few less)
+    (fewer_by (the_view c.self.inside) slots p m (length c.args.lefts.now) run long c.self.invariant.0 before wanted (runs_inner c.args.title c.args.lefts.now c.args.rights.now) few less)
 
 pub invariant_of-self-else-len : goal.invariant_of-self-else-len
 invariant_of-self-else-len c =
     let wanted : wants (the_view c.self.inside) ≡ true = subst (λ s. wants s ≡ true) (sym c.self.view_is) c.requires.wants in
-    let run = inner_cells c.args.lefts.now c.args.rights.now in
-    let long : length run ≡ length c.args.lefts.now = long_run c.args.lefts.now c.args.rights.now c.requires.same in
+    let run = inner_cells c.args.title c.args.lefts.now c.args.rights.now in
+    let long : length run ≡ length c.args.lefts.now = long_run c.args.title c.args.lefts.now c.args.rights.now c.requires.same in
     let few : length c.args.lefts.now ≤ track_room (the_view c.self.inside) = subst (λ s. length c.args.lefts.now ≤ track_room s) (sym c.self.view_is) c.requires.few in
     let some : 0 < length c.self.inside.next.cells = omega (arith, c.if-len-gt0.true, c.len.ensures.len) in (
       joined_is (the_view c.self.inside) _ run (length c.args.lefts.now) c.self.invariant.0 wanted long few some (ap (λ (r : Ring). length r.cells) c.push_run.ensures)
@@ -112,8 +112,8 @@ invariant_of-self-else-len c =
 pub invariant_of-self-then-len-self : goal.invariant_of-self-then-len-self
 invariant_of-self-then-len-self c =
     let wanted : wants (the_view c.self.inside) ≡ true = subst (λ s. wants s ≡ true) (sym c.self.view_is) c.requires.wants in
-    let run = inner_cells c.args.lefts.now c.args.rights.now in
-    let long : length run ≡ length c.args.lefts.now = long_run c.args.lefts.now c.args.rights.now c.requires.same in
+    let run = inner_cells c.args.title c.args.lefts.now c.args.rights.now in
+    let long : length run ≡ length c.args.lefts.now = long_run c.args.title c.args.lefts.now c.args.rights.now c.requires.same in
     let few : length c.args.lefts.now ≤ track_room (the_view c.self.inside) = subst (λ s. length c.args.lefts.now ≤ track_room s) (sym c.self.view_is) c.requires.few in
     let none : length c.self.inside.next.cells ≡ 0 = omega (arith, c.if-len-gt0.false, c.len.ensures.len) in (
       over_is (the_view c.self.inside) _ run (length c.args.lefts.now) c.self.invariant.0 wanted long few none (ap (λ (r : Ring). length r.cells) c.push_run-else-len-gt0.ensures)
@@ -125,8 +125,8 @@ invariant_of-self-then-len-self c =
 pub returns-else-len-clause-less : goal.returns-else-len-clause-less
 returns-else-len-clause-less c = λ more.
     let wanted : wants (the_view c.self.inside) ≡ true = subst (λ s. wants s ≡ true) (sym c.self.view_is) c.requires.wants in
-    let run = inner_cells c.args.lefts.now c.args.rights.now in
-    let long : length run ≡ length c.args.lefts.now = long_run c.args.lefts.now c.args.rights.now c.requires.same in
+    let run = inner_cells c.args.title c.args.lefts.now c.args.rights.now in
+    let long : length run ≡ length c.args.lefts.now = long_run c.args.title c.args.lefts.now c.args.rights.now c.requires.same in
     let all = length-append c.self.inside.next.cells run in
     let pushed = ap (λ (r : Ring). length r.cells) c.push_run.ensures in
     subst (λ s. left (the_view record { overlap = c.self.inside.overlap; cells = c.self.inside.cells; next = c.push_run.new.self; ready = c.self.inside.ready; whole = c.self.inside.whole; gap = c.self.inside.gap }) < left s) c.self.view_is
@@ -135,8 +135,8 @@ returns-else-len-clause-less c = λ more.
 pub returns-else-len-self-clause-less : goal.returns-else-len-self-clause-less
 returns-else-len-self-clause-less c = λ more.
     let wanted : wants (the_view c.self.inside) ≡ true = subst (λ s. wants s ≡ true) (sym c.self.view_is) c.requires.wants in
-    let run = inner_cells c.args.lefts.now c.args.rights.now in
-    let long : length run ≡ length c.args.lefts.now = long_run c.args.lefts.now c.args.rights.now c.requires.same in
+    let run = inner_cells c.args.title c.args.lefts.now c.args.rights.now in
+    let long : length run ≡ length c.args.lefts.now = long_run c.args.title c.args.lefts.now c.args.rights.now c.requires.same in
     let all = length-append c.self.inside.cells.cells run in
     let pushed = ap (λ (r : Ring). length r.cells) c.push_run-else-len-gt0.ensures in
     subst (λ s. left (the_view record { overlap = c.self.inside.overlap; cells = c.push_run-else-len-gt0.new.self; next = c.self.inside.next; ready = c.self.inside.ready; whole = c.self.inside.whole; gap = c.self.inside.gap }) < left s) c.self.view_is

@@ -12,15 +12,15 @@ use Rattle.op_cross.proofs.state.CrossState.pass.Goals as goal
 
 pub take_into-requires-clause-there : goal.take_into-requires-clause-there
 take_into-requires-clause-there c =
-    let run = inner_cells c.args.from_left.now c.args.from_right.now in
-    let long : length run ≡ length c.args.left.now = long_run c.args.from_left.now c.args.from_right.now c.requires.from ∙ sym c.requires.same.0 in
+    let run = inner_cells c.args.title c.args.from_left.now c.args.from_right.now in
+    let long : length run ≡ length c.args.left.now = long_run c.args.title c.args.from_left.now c.args.from_right.now c.requires.from ∙ sym c.requires.same.0 in
     long_now c.self.inside.cells.cells run c.push_run.new.self c.self.inside.cells.room (length c.args.left.now) c.push_run.ensures long
 
 pub invariant_of-self : goal.invariant_of-self
 invariant_of-self c =
     let pass : Passing (the_view c.self.inside) = passing (the_view c.self.inside) (subst (λ s. passes s ≡ true) (sym c.self.view_is) c.requires.passes) in
-    let run = inner_cells c.args.from_left.now c.args.from_right.now in
-    let long : length run ≡ length c.args.left.now = long_run c.args.from_left.now c.args.from_right.now c.requires.from ∙ sym c.requires.same.0 in
+    let run = inner_cells c.args.title c.args.from_left.now c.args.from_right.now in
+    let long : length run ≡ length c.args.left.now = long_run c.args.title c.args.from_left.now c.args.from_right.now c.requires.from ∙ sym c.requires.same.0 in
     let rest = ap (λ (r : Ring). r.cells) c.take_into.ensures.rest ∙ ap (λ (r : Ring). drop (length c.args.left.now) r.cells) c.push_run.ensures in (
       rest_is (the_view c.self.inside) _ c.self.invariant.0 pass refl refl (rest_long c.self.inside.cells.cells run c.take_into.new.self.cells (length c.args.left.now) rest long) refl refl refl refl,
       ap (λ (r : Ring). r.room) c.take_into.ensures.rest ∙ ap (λ (r : Ring). r.room) c.push_run.ensures ∙ c.self.invariant.1,
@@ -30,8 +30,8 @@ invariant_of-self c =
 pub returns-clause-passes : goal.returns-clause-passes
 returns-clause-passes c =
     let pass : Passing (the_view c.self.inside) = passing (the_view c.self.inside) (subst (λ s. passes s ≡ true) (sym c.self.view_is) c.requires.passes) in
-    let run = inner_cells c.args.from_left.now c.args.from_right.now in
-    let long : length run ≡ length c.args.left.now = long_run c.args.from_left.now c.args.from_right.now c.requires.from ∙ sym c.requires.same.0 in
+    let run = inner_cells c.args.title c.args.from_left.now c.args.from_right.now in
+    let long : length run ≡ length c.args.left.now = long_run c.args.title c.args.from_left.now c.args.from_right.now c.requires.from ∙ sym c.requires.same.0 in
     let rest = ap (λ (r : Ring). r.cells) c.take_into.ensures.rest ∙ ap (λ (r : Ring). drop (length c.args.left.now) r.cells) c.push_run.ensures in
     passes_still (the_view c.self.inside) (the_view record { overlap = c.self.inside.overlap; cells = c.take_into.new.self; next = c.self.inside.next; ready = c.self.inside.ready; whole = c.self.inside.whole; gap = c.self.inside.gap }) pass refl (rest_long c.self.inside.cells.cells run c.take_into.new.self.cells (length c.args.left.now) rest long) refl refl
 
@@ -39,32 +39,32 @@ pub returns-clause-stands : goal.returns-clause-stands
 returns-clause-stands c = λ slots p stands.
     let before : StandsFor (the_view c.self.inside) slots p = subst (λ s. StandsFor s slots p) (sym c.self.view_is) stands in
     let pass : Passing (the_view c.self.inside) = passing (the_view c.self.inside) (subst (λ s. passes s ≡ true) (sym c.self.view_is) c.requires.passes) in
-    let run = inner_cells c.args.from_left.now c.args.from_right.now in
-    let long : length run ≡ length c.args.from_left.now = long_run c.args.from_left.now c.args.from_right.now c.requires.from in
+    let run = inner_cells c.args.title c.args.from_left.now c.args.from_right.now in
+    let long : length run ≡ length c.args.from_left.now = long_run c.args.title c.args.from_left.now c.args.from_right.now c.requires.from in
     let rest = ap (λ (r : Ring). r.cells) c.take_into.ensures.rest ∙ ap (λ (r : Ring). drop (length c.args.left.now) r.cells) c.push_run.ensures
     ∙ ap (λ n. drop n (c.self.inside.cells.cells ++ run)) c.requires.same.0 in
-    passed_by (the_view c.self.inside) (the_view record { overlap = c.self.inside.overlap; cells = c.take_into.new.self; next = c.self.inside.next; ready = c.self.inside.ready; whole = c.self.inside.whole; gap = c.self.inside.gap }) slots p (length c.args.from_left.now) run long c.self.invariant.0 before pass (runs_inner c.args.from_left.now c.args.from_right.now) refl rest refl refl refl
+    passed_by (the_view c.self.inside) (the_view record { overlap = c.self.inside.overlap; cells = c.take_into.new.self; next = c.self.inside.next; ready = c.self.inside.ready; whole = c.self.inside.whole; gap = c.self.inside.gap }) slots p (length c.args.from_left.now) run long c.self.invariant.0 before pass (runs_inner c.args.title c.args.from_left.now c.args.from_right.now) refl rest refl refl refl
 
 pub returns-clause-least : goal.returns-clause-least
 returns-clause-least c = λ slots p m stands few.
     let before : StandsFor (the_view c.self.inside) slots p = subst (λ s. StandsFor s slots p) (sym c.self.view_is) stands in
     let pass : Passing (the_view c.self.inside) = passing (the_view c.self.inside) (subst (λ s. passes s ≡ true) (sym c.self.view_is) c.requires.passes) in
-    let run = inner_cells c.args.from_left.now c.args.from_right.now in
-    let long : length run ≡ length c.args.from_left.now = long_run c.args.from_left.now c.args.from_right.now c.requires.from in
+    let run = inner_cells c.args.title c.args.from_left.now c.args.from_right.now in
+    let long : length run ≡ length c.args.from_left.now = long_run c.args.title c.args.from_left.now c.args.from_right.now c.requires.from in
     let taken = length-take m run in
-    let count = passed_count (the_view c.self.inside) slots p (take m run) c.self.invariant.0 before pass (inner_part m run (runs_inner c.args.from_left.now c.args.from_right.now)) in
+    let count = passed_count (the_view c.self.inside) slots p (take m run) c.self.invariant.0 before pass (inner_part m run (runs_inner c.args.title c.args.from_left.now c.args.from_right.now)) in
     subst (λ s. length (cross s.overlap (slots ++ map Some (take m run))) ≡ p + m) c.self.view_is (count ∙ omega (arith, taken, long, few))
 
 pub returns-clause-left : goal.returns-clause-left
 returns-clause-left c = λ slots p stands.
     let before : StandsFor (the_view c.self.inside) slots p = subst (λ s. StandsFor s slots p) (sym c.self.view_is) stands in
     let pass : Passing (the_view c.self.inside) = passing (the_view c.self.inside) (subst (λ s. passes s ≡ true) (sym c.self.view_is) c.requires.passes) in
-    let run = inner_cells c.args.from_left.now c.args.from_right.now in
-    let same : length c.args.left.now ≡ length run = c.requires.same.0 ∙ sym (long_run c.args.from_left.now c.args.from_right.now c.requires.from) in
+    let run = inner_cells c.args.title c.args.from_left.now c.args.from_right.now in
+    let same : length c.args.left.now ≡ length run = c.requires.same.0 ∙ sym (long_run c.args.title c.args.from_left.now c.args.from_right.now c.requires.from) in
     c.take_into.ensures.left
     ∙ ap (λ (r : Ring). map (λ cell. cell.left) (take (length c.args.left.now) r.cells)) c.push_run.ensures
     ∙ ap (λ n. map (λ cell. cell.left) (take n (c.self.inside.cells.cells ++ run))) same
-    ∙ passed_lefts (the_view c.self.inside) slots p run c.self.invariant.0 before pass (runs_inner c.args.from_left.now c.args.from_right.now)
+    ∙ passed_lefts (the_view c.self.inside) slots p run c.self.invariant.0 before pass (runs_inner c.args.title c.args.from_left.now c.args.from_right.now)
     ∙ ap (λ n. map left_of (take n (drop p (cross c.self.inside.overlap (slots ++ map Some run))))) (sym same)
     ∙ ap (λ s. map left_of (take (length c.args.left.now) (drop p (cross s.overlap (slots ++ map Some run))))) c.self.view_is
 
@@ -72,11 +72,11 @@ pub returns-clause-right : goal.returns-clause-right
 returns-clause-right c = λ slots p stands.
     let before : StandsFor (the_view c.self.inside) slots p = subst (λ s. StandsFor s slots p) (sym c.self.view_is) stands in
     let pass : Passing (the_view c.self.inside) = passing (the_view c.self.inside) (subst (λ s. passes s ≡ true) (sym c.self.view_is) c.requires.passes) in
-    let run = inner_cells c.args.from_left.now c.args.from_right.now in
-    let same : length c.args.left.now ≡ length run = c.requires.same.0 ∙ sym (long_run c.args.from_left.now c.args.from_right.now c.requires.from) in
+    let run = inner_cells c.args.title c.args.from_left.now c.args.from_right.now in
+    let same : length c.args.left.now ≡ length run = c.requires.same.0 ∙ sym (long_run c.args.title c.args.from_left.now c.args.from_right.now c.requires.from) in
     c.take_into.ensures.right
     ∙ ap (λ (r : Ring). map (λ cell. cell.right) (take (length c.args.left.now) r.cells)) c.push_run.ensures
     ∙ ap (λ n. map (λ cell. cell.right) (take n (c.self.inside.cells.cells ++ run))) same
-    ∙ passed_rights (the_view c.self.inside) slots p run c.self.invariant.0 before pass (runs_inner c.args.from_left.now c.args.from_right.now)
+    ∙ passed_rights (the_view c.self.inside) slots p run c.self.invariant.0 before pass (runs_inner c.args.title c.args.from_left.now c.args.from_right.now)
     ∙ ap (λ n. map right_of (take n (drop p (cross c.self.inside.overlap (slots ++ map Some run))))) (sym same)
     ∙ ap (λ s. map right_of (take (length c.args.left.now) (drop p (cross s.overlap (slots ++ map Some run))))) c.self.view_is

@@ -1,7 +1,7 @@
 use Rattle.std.proofs.Common.{◌≡◌, true, false, ◌<◌, ◌≤◌, ◌+◌, ◌∙◌, Option, Some, None, IsSome, ap, sym, subst, length, get_or, arith}
 use Rattle.frame_core.specs.declared.cell.Cell.{Cell}
 use Rattle.frame_core.specs.Sounds.{cell_of, length_of}
-use Rattle.frame_core.specs.Library.{no_sound, sound_at, tracks_of}
+use Rattle.frame_core.specs.Library.{no_sound, sound_at, title_at, tracks_of}
 use Rattle.op_leaf.specs.Leaves.{sounds_of}
 use Rattle.op_leaf.proofs.Cursors.{files-here, files-over, later-here, later-next, length-sounds, some_samples, sounds-at}
 use Rattle.op_leaf.proofs.files.Files.advance.Goals as goal
@@ -24,7 +24,7 @@ returns-then-self-samples-clause-stands c p stands some =
 pub returns-then-self-samples-clause-stays : goal.returns-then-self-samples-clause-stays
 returns-then-self-samples-clause-stays c p stands none =
     let there : c.args.self.now.track < length (tracks_of c.args.library.now c.args.self.now.node) = omega (arith, c.if-self-tracks.false, c.tracks-tracks.ensures.count) in
-    let clash : None ≡ Some (cell_of (sound_at c.args.library.now c.args.self.now.node c.args.self.now.track) c.args.self.now.kind c.args.self.now.at) =
+    let clash : None ≡ Some (cell_of (sound_at c.args.library.now c.args.self.now.node c.args.self.now.track) (title_at c.args.library.now c.args.self.now.node c.args.self.now.track) c.args.self.now.kind c.args.self.now.at) =
     sym none ∙ files-here c.args.library.now c.args.self.now p c.requires stands there in
     cc
 
@@ -45,6 +45,6 @@ returns-else-self-samples-clause-stands c p stands some =
 pub returns-else-self-samples-clause-stays : goal.returns-else-self-samples-clause-stays
 returns-else-self-samples-clause-stays c p stands none =
     let there : c.args.self.now.track < length (tracks_of c.args.library.now c.args.self.now.node) = omega (arith, c.if-self-tracks.false, c.tracks-tracks.ensures.count) in
-    let clash : None ≡ Some (cell_of (sound_at c.args.library.now c.args.self.now.node c.args.self.now.track) c.args.self.now.kind c.args.self.now.at) =
+    let clash : None ≡ Some (cell_of (sound_at c.args.library.now c.args.self.now.node c.args.self.now.track) (title_at c.args.library.now c.args.self.now.node c.args.self.now.track) c.args.self.now.kind c.args.self.now.at) =
     sym none ∙ files-here c.args.library.now c.args.self.now p c.requires stands there in
     cc

@@ -1,0 +1,54 @@
+-- The cue files of a station: where the tracks of each output begin, and their names.
+use Rattle.std.specs.Prelude.{ℕ, Bool, true, false, List, [], ◌∷◌, ◌++◌, Option, Some, None, codes, decimal}
+use Rattle.std.specs.List.{flat_map}
+use Rattle.frame_core.specs.Library.{Sounds, name_of}
+use Rattle.plan_core.specs.declared.sink.SinkPlan.{SinkPlan}
+use Rattle.plan_core.specs.declared.sink.SinkPlan.TheVariants.{Output, Feed}
+use Rattle.stream_meaning.specs.Instants.{Setting}
+use Rattle.stream_meaning.specs.Sinks.{Cue, cues}
+use Rattle.run_records.specs.Records.{Run}
+use Rattle.stations.specs.Outputs.{OutputFile}
+use Rattle.stations.specs.Stations.{Station, setting_of_run}
+
+-- the name that a title stands for, behind a space; nothing for no title
+abbrev pub spaced : Option (List ℕ) → List ℕ
+spaced None = []
+spaced (Some name) = codes " " ++ name
+
+-- the line of a mark
+abbrev pub cue_line : Sounds → Cue → List ℕ
+cue_line library cue = decimal cue.at ++ spaced (name_of library cue.title) ++ codes "\n"
+
+-- one line for each mark
+abbrev pub cue_text : Sounds → List Cue → List ℕ
+cue_text library marks = flat_map (cue_line library) marks
+
+-- the name of the cue file of an output
+abbrev pub cue_name : List ℕ → List ℕ
+cue_name name = name ++ codes ".cue"
+
+-- the cue files of the outputs among these sinks, in their order
+abbrev pub cues_in : Setting → (ticks : ℕ) → List SinkPlan → List OutputFile
+cues_in setting ticks [] = []
+cues_in setting ticks (Output name node fallible ∷ sinks) =
+    record { name = cue_name name; bytes = cue_text setting.library (cues setting node ticks) } ∷ cues_in setting ticks sinks
+cues_in setting ticks (Feed buffer node ∷ sinks) = cues_in setting ticks sinks
+
+-- the same where they are wanted
+abbrev pub cues_if : (wanted : Bool) → Setting → (ticks : ℕ) → List SinkPlan → List OutputFile
+cues_if false setting ticks sinks = []
+cues_if true setting ticks sinks = cues_in setting ticks sinks
+
+-- the cue files that a run writes
+abbrev pub cue_files : Station → Run → List OutputFile
+cue_files station run = cues_if station.cues (setting_of_run station run) station.ticks station.plan.sinks
+
+-- the names of the cue files of the outputs among these sinks, in their order
+abbrev pub cue_names_in : List SinkPlan → List (List ℕ)
+cue_names_in [] = []
+cue_names_in (Output name node fallible ∷ sinks) = cue_name name ∷ cue_names_in sinks
+cue_names_in (Feed buffer node ∷ sinks) = cue_names_in sinks
+
+abbrev pub cue_names_if : (wanted : Bool) → List SinkPlan → List (List ℕ)
+cue_names_if false sinks = []
+cue_names_if true sinks = cue_names_in sinks
