@@ -21,6 +21,10 @@ const SLOW: [u8; 48] =
 const SIDES: [u8; 52] =
     *b"RIFF\x2c\x00\x00\x00WAVEfmt \x10\x00\x00\x00\x01\x00\x02\x00\xa0\x0f\x00\x00\x80\x3e\x00\x00\x04\x00\x10\x00data\x08\x00\x00\x00\x00\x00\xfd\xff\x64\x00\x00\x00";
 
+/// The mono file of the samples 1 1 1 of 24 bits at 8000 Hz, of 54 bytes.
+const WIDE: [u8; 54] =
+    *b"RIFF\x2e\x00\x00\x00WAVEfmt \x10\x00\x00\x00\x01\x00\x01\x00\x40\x1f\x00\x00\xc0\x5d\x00\x00\x03\x00\x18\x00data\x09\x00\x00\x00\x00\x01\x00\x00\x01\x00\x00\x01\x00\x00";
+
 /// A file of this name and these bytes.
 fn file_of(alloc: Global, name: &str, bytes: &[u8]) -> Result<(String, Vec<u8>), AllocError> {
     let name = String::from_str(alloc, name)?;
@@ -34,6 +38,7 @@ fn add_files(alloc: Global, files: &mut Vec<(String, Vec<u8>)>) -> Result<(), Al
     files.push(file_of(alloc, "B", &FILE)?)?;
     files.push(file_of(alloc, "slow", &SLOW)?)?;
     files.push(file_of(alloc, "sides", &SIDES)?)?;
+    files.push(file_of(alloc, "wide", &WIDE)?)?;
     files.push(file_of(alloc, "list", b"none\nB\ntext\nB\n")?)?;
     files.push(file_of(alloc, "rates", b"slow\nB\n")?)?;
     files.push(file_of(alloc, "text", b"no audio file")?)?;
@@ -220,4 +225,9 @@ fn a_file_of_another_rate_is_changed(rt: HostRuntime) {
     assert!(rt; is_played(alloc, "slow", &[0, 0, 50, 50, 100, 100, 100, 100]));
     assert!(rt; is_played(alloc, "sides", &[0, -3, 50, -1, 100, 0, 100, 0]));
     assert!(rt; is_played(alloc, "B", &[1, 1]));
+}
+
+#[test]
+fn a_file_of_24_bits_is_played(rt: HostRuntime) {
+    assert!(rt; is_played(rt.alloc(), "wide", &[1, 1, 1, 1, 1, 1]));
 }

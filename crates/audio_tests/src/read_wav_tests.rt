@@ -9,6 +9,7 @@ fn is_one_two_three(file: &[u8]) -> bool {
         Ok(wav) => {
             wav.kind == Kind::Mono
                 && wav.rate == 44_100
+                && !wav.wide
                 && wav.body == b"\x01\x00\x02\x00\x03\x00".as_slice()
         }
         Err(_) => false,
@@ -45,6 +46,55 @@ fn chunks_and_formats_of_others_are_read(rt: HostRuntime) {
     check_sounds(&rt, &files);
 }
 
+/// Whether it is read as a mono file at 44100 Hz with these blocks of 24 bits.
+fn is_wide(file: &[u8], blocks: &[u8]) -> bool {
+    match read_wav(file) {
+        Ok(wav) => wav.kind == Kind::Mono && wav.rate == 44_100 && wav.wide && wav.body == blocks,
+        Err(_) => false,
+    }
+}
+
+#[test]
+fn files_of_24_bits_are_read(rt: HostRuntime) {
+    // Two bytes at the end are no block; the extensible form; and a byte behind odd data.
+    let files = [
+        b"RIFF\x00\x00\x00\x00WAVEfmt \x10\x00\x00\x00\x01\x00\x01\x00\x44\xac\x00\x00\x88\x58\x01\x00\x03\x00\x18\x00data\x05\x00\x00\x00\xff\x01\x00\x02\x03".as_slice(),
+        b"RIFF\x00\x00\x00\x00WAVEfmt \x28\x00\x00\x00\xfe\xff\x01\x00\x44\xac\x00\x00\x88\x58\x01\x00\x03\x00\x18\x00\x16\x00\x18\x00\x04\x00\x00\x00\x01\x00\x00\x00\x00\x00\x10\x00\x80\x00\x00\xaa\x00\x38\x9b\x71data\x03\x00\x00\x00\xff\x01\x00".as_slice(),
+        b"RIFF\x00\x00\x00\x00WAVEfmt \x10\x00\x00\x00\x01\x00\x01\x00\x44\xac\x00\x00\x88\x58\x01\x00\x03\x00\x18\x00data\x03\x00\x00\x00\xff\x01\x00\x00".as_slice(),
+    ];
+    for file in files {
+        assert!(rt; is_wide(file, b"\xff\x01\x00"), "{file:?}");
+    }
+}
+
+#[test]
+fn faults_of_other_widths_are_told(rt: HostRuntime) {
+    let rows = [
+        // 32 bits; the tag 3 with 24; blocks of two bytes, or three channels, with 24; and two bytes of data.
+        (
+            b"RIFF\x00\x00\x00\x00WAVEfmt \x10\x00\x00\x00\x01\x00\x01\x00\x44\xac\x00\x00\x88\x58\x01\x00\x04\x00\x20\x00".as_slice(),
+            WavFault::NotPcm,
+        ),
+        (
+            b"RIFF\x00\x00\x00\x00WAVEfmt \x10\x00\x00\x00\x03\x00\x01\x00\x44\xac\x00\x00\x88\x58\x01\x00\x03\x00\x18\x00".as_slice(),
+            WavFault::NotPcm,
+        ),
+        (
+            b"RIFF\x00\x00\x00\x00WAVEfmt \x10\x00\x00\x00\x01\x00\x01\x00\x44\xac\x00\x00\x88\x58\x01\x00\x02\x00\x18\x00".as_slice(),
+            WavFault::BadFormat,
+        ),
+        (
+            b"RIFF\x00\x00\x00\x00WAVEfmt \x10\x00\x00\x00\x01\x00\x03\x00\x44\xac\x00\x00\x88\x58\x01\x00\x09\x00\x18\x00".as_slice(),
+            WavFault::BadFormat,
+        ),
+        (
+            b"RIFF\x00\x00\x00\x00WAVEfmt \x10\x00\x00\x00\x01\x00\x01\x00\x44\xac\x00\x00\x88\x58\x01\x00\x03\x00\x18\x00data\x02\x00\x00\x00\x01\x00".as_slice(),
+            WavFault::Empty,
+        ),
+    ];
+    check_faults(&rt, &rows);
+}
+
 #[test]
 fn the_first_row_that_applies_is_told(rt: HostRuntime) {
     let rows = [
@@ -56,7 +106,7 @@ fn the_first_row_that_applies_is_told(rt: HostRuntime) {
         // Three channels of 8 bits, then three of 16, and blocks of 4 bytes in mono.
         (
             b"RIFF\x00\x00\x00\x00WAVEfmt \x10\x00\x00\x00\x01\x00\x03\x00\x44\xac\x00\x00\x88\x58\x01\x00\x02\x00\x08\x00".as_slice(),
-            WavFault::NotPcm16,
+            WavFault::NotPcm,
         ),
         (
             b"RIFF\x00\x00\x00\x00WAVEfmt \x10\x00\x00\x00\x01\x00\x03\x00\x44\xac\x00\x00\x88\x58\x01\x00\x06\x00\x10\x00".as_slice(),
@@ -69,11 +119,11 @@ fn the_first_row_that_applies_is_told(rt: HostRuntime) {
         // The tag 3, and the tag of the extensible form in a body of 16.
         (
             b"RIFF\x00\x00\x00\x00WAVEfmt \x10\x00\x00\x00\x03\x00\x01\x00\x44\xac\x00\x00\x88\x58\x01\x00\x02\x00\x10\x00".as_slice(),
-            WavFault::NotPcm16,
+            WavFault::NotPcm,
         ),
         (
             b"RIFF\x00\x00\x00\x00WAVEfmt \x10\x00\x00\x00\xfe\xff\x01\x00\x44\xac\x00\x00\x88\x58\x01\x00\x02\x00\x10\x00".as_slice(),
-            WavFault::NotPcm16,
+            WavFault::NotPcm,
         ),
         // A format of 17 bytes, and one that passes the file's end.
         (

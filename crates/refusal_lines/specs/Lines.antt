@@ -11,7 +11,7 @@ use Rattle.script_values.specs.declared.fault.Limit.TheVariants.{Calls, Outputs,
 use Rattle.script_values.specs.declared.fault.EvalFault.{EvalFault}
 use Rattle.script_values.specs.declared.fault.EvalFault.TheVariants.{BadSetting, BadValue, TooMuchWork, TooManySources, NoOutput, SameOutput, TooLarge, Memory as eval_memory}
 use Rattle.wav_io.specs.declared.fault.WavFault.{WavFault}
-use Rattle.wav_io.specs.declared.fault.WavFault.TheVariants.{NotRiff, NoFormat, BadFormat, NotPcm16, NoData, Empty}
+use Rattle.wav_io.specs.declared.fault.WavFault.TheVariants.{NotRiff, NoFormat, BadFormat, NotPcm, NoData, Empty}
 use Rattle.track_library.specs.declared.fault.LoadFault.{LoadFault}
 use Rattle.track_library.specs.declared.fault.LoadFault.TheVariants.{Missing, BadAudio, FileTooLarge, AllTooLarge, ReadFault, Memory as load_memory}
 use Rattle.clock_infer.specs.declared.clock_map.ClockName.{ClockName}
@@ -75,7 +75,7 @@ abbrev pub wav_number : WavFault → ℕ
 wav_number NotRiff = 1
 wav_number NoFormat = 2
 wav_number BadFormat = 3
-wav_number NotPcm16 = 4
+wav_number NotPcm = 4
 wav_number NoData = 5
 wav_number Empty = 6
 

@@ -32,7 +32,7 @@ fn wav_number(fault: WavFault) -> u32
         WavFault::NotRiff => 1,
         WavFault::NoFormat => 2,
         WavFault::BadFormat => 3,
-        WavFault::NotPcm16 => 4,
+        WavFault::NotPcm => 4,
         WavFault::NoData => 5,
         WavFault::Empty => 6,
     }

@@ -1,56 +1,53 @@
 -- Audio files at the rate of the script, and what they count for.
-use Rattle.std.proofs.Common.{◌≡◌, ◌≤◌, ◌<◌, ℕ, ℤ, ◌+◌, ◌*◌, ◌/◌, List, length, refl, sym, ap, ◌∙◌, arith}
+use Rattle.std.proofs.Common.{Bool, true, false, ◌≡◌, ◌≤◌, ◌<◌, ℕ, ℤ, ◌+◌, ◌*◌, List, length, refl, sym, ap, ◌∙◌, arith}
 use Rattle.std.specs.Prelude.{Result, Ok}
 use Rattle.liq_base.specs.Kinds.{channels_of}
 use Rattle.liq_base.specs.declared.memory.Kind.{Kind}
 use Rattle.liq_base.specs.declared.memory.Kind.TheVariants.{Mono, Stereo}
-use Rattle.frame_core.specs.Bytes.{samples_in}
 use Rattle.frame_core.specs.Sounds.{IsSound, Sound}
 use Rattle.wav_io.specs.Reading.{AreBlocks, Wav, read_of}
 use Rattle.wav_io.proofs.Heads.{is_file}
 use Rattle.resample.specs.Resampled.{IsFile, blocks_of, length_at, resampled}
 use Rattle.resample.proofs.Laws.{resampled_length, resampled_some, resampled_whole, same_rate}
-use Rattle.track_library.specs.Walk.{Audio, counted_bytes, sound_of}
+use Rattle.track_library.specs.Walk.{Audio, counted_bytes, samples_at, sound_of}
 use Rattle.track_library.specs.declared.fault.Unusable.{Unusable}
-use Rattle.track_library.proofs.Sound.{blocks_sound, samples_long}
+use Rattle.track_library.proofs.Sound.{blocks_sound, samples_long, two_each, wide_long}
 
 -- a file that may be changed to another rate
-pub file_of : (kind : Kind) (bytes : List ℕ) → AreBlocks kind bytes → length bytes ≤ 268435456 → IsFile kind (samples_in bytes)
-file_of Mono bytes blocks few =
+pub file_of : (wide : Bool) (kind : Kind) (bytes : List ℕ) → AreBlocks wide kind bytes → length bytes ≤ 268435456 → IsFile kind (samples_at wide bytes)
+file_of false Mono bytes blocks few =
     let long = samples_long bytes in
-    let sound = blocks_sound Mono bytes blocks in
+    let sound = blocks_sound false Mono bytes blocks in
     record { whole_blocks = sound.whole_blocks; some = omega (arith, sound.some); most = omega arith }
-file_of Stereo bytes blocks few =
+file_of false Stereo bytes blocks few =
     let long = samples_long bytes in
-    let sound = blocks_sound Stereo bytes blocks in
+    let sound = blocks_sound false Stereo bytes blocks in
+    record { whole_blocks = sound.whole_blocks; some = omega (arith, sound.some); most = omega arith }
+file_of true Mono bytes blocks few =
+    let long = wide_long bytes in
+    let sound = blocks_sound true Mono bytes blocks in
+    record { whole_blocks = sound.whole_blocks; some = omega (arith, sound.some); most = omega arith }
+file_of true Stereo bytes blocks few =
+    let long = wide_long bytes in
+    let sound = blocks_sound true Stereo bytes blocks in
     record { whole_blocks = sound.whole_blocks; some = omega (arith, sound.some); most = omega arith }
 
 -- a changed file is a sound
 pub changed_sound : (from to : ℕ) (kind : Kind) (samples : List ℤ) → IsSound (record { kind = kind; samples = resampled from to kind samples })
 changed_sound from to kind samples = record { whole_blocks = resampled_whole from to kind samples; some = resampled_some from to kind samples }
 
--- the blocks of bytes
-blocks_in : (kind : Kind) (bytes : List ℕ) → length bytes / (2 * channels_of kind) ≡ blocks_of kind (samples_in bytes)
-blocks_in Mono bytes = let long = samples_long bytes in omega arith
-blocks_in Stereo bytes = let long = samples_long bytes in omega arith
-
 twice : (kind : Kind) (n : ℕ) → 2 * channels_of kind * n ≡ 2 * (n * channels_of kind)
 twice Mono n = omega arith
 twice Stereo n = omega arith
 
-even : (kind : Kind) (bytes : List ℕ) → AreBlocks kind bytes → 2 * length (samples_in bytes) ≡ length bytes
-even Mono bytes blocks = let long = samples_long bytes in let count = blocks.count in omega (arith, blocks.whole)
-even Stereo bytes blocks = let long = samples_long bytes in let count = blocks.count in omega (arith, blocks.whole)
-
 -- how many bytes a changed file has
-pub written_is : (kind : Kind) (bytes : List ℕ) (from to block count : ℕ) → block ≡ 2 * channels_of kind → count ≡ length bytes / block
-    → 44 + block * length_at count from to ≡ 44 + 2 * length (resampled from to kind (samples_in bytes))
-written_is kind bytes from to block count is_block is_count =
-    let blocks : count ≡ blocks_of kind (samples_in bytes) = is_count ∙ ap (λ n. length bytes / n) is_block ∙ blocks_in kind bytes in
+pub written_is : (kind : Kind) (samples : List ℤ) (from to block count : ℕ) → block ≡ 2 * channels_of kind → count ≡ blocks_of kind samples
+    → 44 + block * length_at count from to ≡ 44 + 2 * length (resampled from to kind samples)
+written_is kind samples from to block count is_block is_count =
     ap (λ n. 44 + n * length_at count from to) is_block
-    ∙ ap (λ n. 44 + 2 * channels_of kind * length_at n from to) blocks
-    ∙ ap (λ n. 44 + n) (twice kind (length_at (blocks_of kind (samples_in bytes)) from to))
-    ∙ ap (λ n. 44 + 2 * n) (sym (resampled_length from to kind (samples_in bytes)))
+    ∙ ap (λ n. 44 + 2 * channels_of kind * length_at n from to) is_count
+    ∙ ap (λ n. 44 + n) (twice kind (length_at (blocks_of kind samples) from to))
+    ∙ ap (λ n. 44 + 2 * n) (sym (resampled_length from to kind samples))
 
 -- a file at the rate of the script
 abbrev sound_with : Kind → List ℤ → Sound
@@ -69,15 +66,15 @@ own_audio own rate kind samples bytes track same least file is =
     ap (λ (s : List ℤ). audio_with (sound_with kind s) bytes) (own_samples own rate kind samples same some file)
     ∙ ap (λ (s : Sound). audio_with s bytes) (sym is)
 
-pub own_sound : (bytes : List ℕ) (wav : Wav) → length bytes ≤ 268435456 → read_of bytes ≡ Ok wav → sound_of wav.rate wav ≡ sound_with wav.kind (samples_in wav.body)
+pub own_sound : (bytes : List ℕ) (wav : Wav) → length bytes ≤ 268435456 → read_of bytes ≡ Ok wav → sound_of wav.rate wav ≡ sound_with wav.kind (samples_at wav.wide wav.body)
 own_sound bytes wav few read =
     let file = is_file bytes wav read in
     let within : length wav.body ≤ 268435456 = omega (arith, file.heads) in
-    ap (λ (s : List ℤ). sound_with wav.kind s) (own_samples wav.rate wav.rate wav.kind (samples_in wav.body) refl file.rate (file_of wav.kind wav.body file.blocks within))
+    ap (λ (s : List ℤ). sound_with wav.kind s) (own_samples wav.rate wav.rate wav.kind (samples_at wav.wide wav.body) refl file.rate (file_of wav.wide wav.kind wav.body file.blocks within))
 
 pub own_bytes : (bytes : List ℕ) (wav : Wav) → length bytes ≤ 268435456 → read_of bytes ≡ Ok wav → counted_bytes (length bytes) (sound_of wav.rate wav) ≡ length bytes
 own_bytes bytes wav few read =
     let file = is_file bytes wav read in
     let is = ap (λ (s : Sound). length s.samples) (own_sound bytes wav few read) in
-    let twice_is = even wav.kind wav.body file.blocks in
+    let twice_is = two_each wav.wide wav.body in
     omega (arith, file.heads, is, twice_is)

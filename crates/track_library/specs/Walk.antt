@@ -1,5 +1,5 @@
 -- The walk over the nodes of a plan that finds the audio files that they play. `docs/formats.md` has the rules.
-use Rattle.std.specs.Prelude.{◌≡◌, ℕ, ◌+◌, ◌*◌, ◌^◌, max, ⊤, List, [], ◌∷◌, ◌++◌, length, Option, Some, None, Result, Ok, Err, if◌then◌else◌, nat_le, Vec}
+use Rattle.std.specs.Prelude.{◌≡◌, ℕ, ℤ, ◌+◌, ◌*◌, ◌^◌, max, ⊤, Bool, List, [], ◌∷◌, ◌++◌, length, Option, Some, None, Result, Ok, Err, if◌then◌else◌, nat_le, Vec}
 use Rattle.std.specs.declared.alloc.Global.{Global}
 use Rattle.std.specs.Option.{ForSome}
 use Rattle.std.specs.Str.{bytes_eq}
@@ -11,6 +11,7 @@ use Rattle.plan_core.specs.declared.node.Op.TheVariants.{Single, Playlist, Blank
 use Rattle.wav_io.specs.Reading.{Wav, read_of}
 use Rattle.resample.specs.Resampled.{resampled}
 use Rattle.frame_core.specs.Bytes.{samples_in}
+use Rattle.sample_kernels.specs.Wide.{wide_samples_in}
 use Rattle.frame_core.specs.Library.{Sounds}
 use Rattle.frame_core.specs.Sounds.{Sound}
 use Rattle.wav_io.specs.declared.fault.WavFault.{WavFault}
@@ -31,9 +32,13 @@ abbrev pub items_of : Result (Vec ℕ Global) Unusable → Result (List ℕ) Unu
 items_of (Err fault) = Err fault
 items_of (Ok bytes) = Ok bytes.items
 
+-- the samples of a WAV file: of three bytes each the upper two, or of two bytes
+abbrev pub samples_at : Bool → List ℕ → List ℤ
+samples_at wide bytes = if wide then wide_samples_in bytes else samples_in bytes
+
 -- the sound of a WAV file, changed to the rate of the script
 abbrev pub sound_of : ℕ → Wav → Sound
-sound_of rate wav = record { kind = wav.kind; samples = resampled wav.rate rate wav.kind (samples_in wav.body) }
+sound_of rate wav = record { kind = wav.kind; samples = resampled wav.rate rate wav.kind (samples_at wav.wide wav.body) }
 
 -- how many bytes a file of so many counts for: these, or those that a file with this sound has, whichever are more
 abbrev pub counted_bytes : ℕ → Sound → ℕ

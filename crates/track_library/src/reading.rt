@@ -1,18 +1,17 @@
 // Audio files that are read from a shelf.
-ghost use Rattle.std.specs.Prelude.{◌≡◌, ◌≤◌, ◌+◌, ◌*◌, length, IfOk, IfErr};
+ghost use Rattle.std.specs.Prelude.{◌≡◌, ◌≤◌, ◌<◌, ◌+◌, ◌*◌, length, IfOk, IfErr};
 ghost use Rattle.std.specs.Option.{ForSome};
 ghost use Rattle.liq_base.specs.Files.{file_at};
-ghost use Rattle.frame_core.specs.Bytes.{samples_in};
 ghost use Rattle.frame_core.specs.Sounds.{IsSound};
 ghost use Rattle.wav_io.specs.Reading.{AreBlocks, read_of};
-ghost use Rattle.resample.specs.Resampled.{AreRates, resampled};
-ghost use Rattle.track_library.specs.Walk.{audio_at, audio_in, bytes_in, items_of, IsReading};
+ghost use Rattle.resample.specs.Resampled.{AreRates, blocks_of, resampled};
+ghost use Rattle.track_library.specs.Walk.{audio_at, audio_in, bytes_in, items_of, samples_at, IsReading};
 ghost use Rattle.track_library.specs.States.{AreRules, IsRecording, at_rate};
 
 use crate::fault::{LoadFault, Unusable};
 use crate::recording::{Recording, track_at};
 use crate::rules::Rules;
-use crate::samples::read_samples;
+use crate::samples::read_blocks;
 use frame_core::Track;
 use liq_base::{Fetched, Kind, Memory, Shelf, ShelfFault, Text};
 use std::alloc::Global;
@@ -59,11 +58,11 @@ fn decode(alloc: Global, bytes: &[u8], rules: Rules) -> Result<Result<Recording,
         Err(fault) => return Ok(Err(Unusable::NotWav(fault))),
     };
     let size = bytes.len() as u64;
-    let counted = size.max(written_bytes(wav.kind, wav.body, wav.rate, rules.rate));
+    let counted = size.max(written_bytes(wav.wide, wav.kind, wav.body, wav.rate, rules.rate));
     if counted > rules.file {
         return Ok(Err(Unusable::TooLong));
     }
-    let samples = read_samples(alloc, wav.body)?;
+    let samples = read_blocks(alloc, wav.wide, wav.body)?;
     Ok(Ok(Recording {
         kind: wav.kind,
         rate: wav.rate,
@@ -72,16 +71,35 @@ fn decode(alloc: Global, bytes: &[u8], rules: Rules) -> Result<Result<Recording,
     }))
 }
 
-/// How many bytes a file with these blocks has at another rate.
-fn written_bytes(kind: Kind, blocks: &[u8], from: u32, to: u32) -> u64
-    requires blocks { AreBlocks kind blocks.now }
+/// How many bytes a file with these blocks has at another rate, with samples of 16 bits.
+fn written_bytes(wide: bool, kind: Kind, blocks: &[u8], from: u32, to: u32) -> u64
+    requires blocks { AreBlocks wide kind blocks.now }
     requires few { length blocks.now ≤ 268435456 }
     requires rates { AreRates from to }
-    ensures { result ≡ 44 + 2 * length (resampled from to kind (samples_in blocks.now)) }
+    ensures { result ≡ 44 + 2 * length (resampled from to kind (samples_at wide blocks.now)) }
 {
     let block = 2 * u64::from(kind.channels());
-    let count = blocks.len() as u64 / block;
+    let count = block_count(wide, kind, blocks);
     HEADER_BYTES + block * resample::length(count, from, to)
+}
+
+/// How many blocks these are.
+fn block_count(wide: bool, kind: Kind, blocks: &[u8]) -> u64
+    requires blocks { AreBlocks wide kind blocks.now }
+    requires few { length blocks.now ≤ 268435456 }
+    ensures count { result ≡ blocks_of kind (samples_at wide blocks.now) }
+    ensures few { result ≤ 134217728 }
+{
+    let samples = sample_count(wide, blocks);
+    samples / u64::from(kind.channels())
+}
+
+/// How many samples stand in so many bytes.
+fn sample_count(wide: bool, blocks: &[u8]) -> u64
+    ensures { result ≡ length (samples_at wide blocks.now) }
+{
+    let size = blocks.len() as u64;
+    if wide { size / 3 } else { size / 2 }
 }
 
 /// What the audio file of this name holds. Its bytes are given back once they are decoded.

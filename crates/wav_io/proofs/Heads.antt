@@ -7,8 +7,8 @@ use Rattle.std.proofs.lemmas.Bool.Decides.{nat_tests}
 use Rattle.std.proofs.lemmas.List.{length-take}
 use Rattle.liq_base.specs.declared.memory.Kind.{Kind}
 use Rattle.wav_io.specs.Chunks.{AreChunks, behind, before_named, chunks_of, first_named}
-use Rattle.wav_io.specs.Header.{block_size}
-use Rattle.wav_io.specs.Reading.{AreBlocks, Wav, body_of, checked_format, chunk_step, data_step, field, format_chunk, format_in, format_step, is_format_body, is_pcm, is_riff, kind_of, read_of, whole_blocks}
+use Rattle.wav_io.specs.Header.{block_of}
+use Rattle.wav_io.specs.Reading.{AreBlocks, Wav, body_of, checked_format, chunk_step, data_step, field, format_chunk, format_in, format_step, is_format_body, is_pcm, is_riff, is_width, kind_of, read_of, whole_blocks}
 use Rattle.wav_io.specs.declared.chunks.Chunk.{Chunk}
 use Rattle.wav_io.specs.declared.format.Format.{Format}
 use Rattle.wav_io.specs.declared.fault.WavFault.{WavFault}
@@ -37,16 +37,16 @@ file_body (Ok wav) = wav.body
 file_body (Err fault) = []
 
 abbrev HasBlocks : Result Wav WavFault → Type 0
-HasBlocks (Ok wav) = AreBlocks wav.kind wav.body
+HasBlocks (Ok wav) = AreBlocks wav.wide wav.kind wav.body
 HasBlocks (Err fault) = ⊥
 
 -- the rate of a format is above 0, and the body that says so has 16 bytes and more
-some_rate : (kind : Option Kind) (rate block : ℕ) (format : Format) → checked_format kind rate block ≡ Ok format → 0 < format.rate
-some_rate None rate block format is = absurd (cc)
-some_rate (Some kind) rate block format is =
-    let way = first_way (nat_lt 0 rate && nat_eq block (block_size kind)) _ _ format is in
+some_rate : (wide : Bool) (kind : Option Kind) (rate block : ℕ) (format : Format) → checked_format wide kind rate block ≡ Ok format → 0 < format.rate
+some_rate wide None rate block format is = absurd (cc)
+some_rate wide (Some kind) rate block format is =
+    let way = first_way (nat_lt 0 rate && nat_eq block (block_of wide kind)) _ _ format is in
     let same : rate ≡ format.rate = ap rate_in way.1 in
-    let some : 0 < rate = ltb-true 0 rate (and_parts (nat_lt 0 rate) (nat_eq block (block_size kind)) way.0).0 in
+    let some : 0 < rate = ltb-true 0 rate (and_parts (nat_lt 0 rate) (nat_eq block (block_of wide kind)) way.0).0 in
     omega arith
 
 long_body : (size : ℕ) → (nat_eq size 16 || nat_eq size 18 || nat_eq size 40) ≡ true → 16 ≤ size
@@ -59,9 +59,9 @@ record FormatKnown (size : ℕ) (format : Format) : Type 0 where
 known_format : (body : List ℕ) (size : ℕ) (format : Format) → format_in body size ≡ Ok format → FormatKnown size format
 known_format body size format is =
     let sized = first_way (is_format_body body size) _ _ format is in
-    let pcm = first_way (nat_eq (field body 14 2) 16 && is_pcm body) _ _ format sized.1 in
+    let pcm = first_way (is_width (field body 14 2) && is_pcm body) _ _ format sized.1 in
     record {
-      rate = some_rate (kind_of (field body 2 2)) (field body 4 4) (field body 12 2) format pcm.1;
+      rate = some_rate (nat_eq (field body 14 2) 24) (kind_of (field body 2 2)) (field body 4 4) (field body 12 2) format pcm.1;
       long = long_body size (and_parts (nat_eq size 16 || nat_eq size 18 || nat_eq size 40) (nat_eq (length body) size) sized.0).0;
     }
 
@@ -117,32 +117,32 @@ record DataKnown (bytes : List ℕ) (format : Format) (samples : Option Chunk) (
   chunk : Chunk
   found : samples ≡ Some chunk
   rate : format.rate ≡ wav.rate
-  blocks : AreBlocks wav.kind wav.body
+  blocks : AreBlocks wav.wide wav.kind wav.body
   within : length wav.body ≤ length bytes - (chunk.place + 8)
 
 some_bytes : (n : ℕ) → nat_eq n 0 ≡ false → 0 < n
 some_bytes n other = grind (arith, nat_tests)
 
-within_body : (kind : Kind) (bytes : List ℕ) (chunk : Chunk) → length (whole_blocks kind (body_of bytes chunk)) ≤ length bytes - (chunk.place + 8)
-within_body kind bytes chunk = simp (length-take, length-drop) (omega arith)
+within_body : (wide : Bool) (kind : Kind) (bytes : List ℕ) (chunk : Chunk) → length (whole_blocks wide kind (body_of bytes chunk)) ≤ length bytes - (chunk.place + 8)
+within_body wide kind bytes chunk = simp (length-take, length-drop) (omega arith)
 
 known_data : (bytes : List ℕ) (format : Format) (samples : Option Chunk) (wav : Wav) → data_step bytes format samples ≡ Ok wav → DataKnown bytes format samples wav
 known_data bytes format None wav is = absurd (cc)
 known_data bytes format (Some chunk) wav is =
-    let blocks = whole_blocks format.kind (body_of bytes chunk) in
+    let blocks = whole_blocks format.wide format.kind (body_of bytes chunk) in
     let way = second_way (nat_eq (length blocks) 0) _ _ wav is in
     let some : 0 < length blocks = some_bytes (length blocks) way.0 in
-    let long : length blocks ≤ length bytes - (chunk.place + 8) = within_body format.kind bytes chunk in
+    let long : length blocks ≤ length bytes - (chunk.place + 8) = within_body format.wide format.kind bytes chunk in
     record {
       chunk = chunk;
       found = refl;
       rate = ap file_rate way.1;
-      blocks = subst HasBlocks way.1 (are_blocks format.kind (body_of bytes chunk) some);
+      blocks = subst HasBlocks way.1 (are_blocks format.wide format.kind (body_of bytes chunk) some);
       within = subst (λ (r : Result Wav WavFault). length (file_body r) ≤ length bytes - (chunk.place + 8)) way.1 long;
     }
 
 pub record IsFile (bytes : List ℕ) (wav : Wav) : Type 0 where
-  pub blocks : AreBlocks wav.kind wav.body
+  pub blocks : AreBlocks wav.wide wav.kind wav.body
   pub rate : 0 < wav.rate
   pub heads : 44 + length wav.body ≤ length bytes
 

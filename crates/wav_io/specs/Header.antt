@@ -1,5 +1,5 @@
--- The header of a WAV file with 16-bit samples.
-use Rattle.std.specs.Prelude.{ℕ, ◌+◌, ◌*◌, ◌^◌, List, ◌++◌, Option, Some, None, if◌then◌else◌, nat_lt, codes}
+-- The header of a WAV file with samples of 16 bits or 24.
+use Rattle.std.specs.Prelude.{ℕ, ◌+◌, ◌*◌, ◌%◌, ◌^◌, Bool, List, ◌++◌, Option, Some, None, if◌then◌else◌, nat_lt, codes}
 use Rattle.byteorder.specs.Endian.{little_bytes}
 use Rattle.liq_base.specs.Kinds.{channels_of}
 use Rattle.liq_base.specs.declared.memory.Kind.{Kind}
@@ -7,6 +7,13 @@ use Rattle.liq_base.specs.declared.memory.Kind.{Kind}
 -- the bytes of a block, which is one sample of each channel
 abbrev pub block_size : Kind → ℕ
 block_size kind = 2 * channels_of kind
+
+-- the bytes of a block of a wide file, whose samples have 24 bits
+abbrev pub wide_block : Kind → ℕ
+wide_block kind = 3 * channels_of kind
+
+abbrev pub block_of : Bool → Kind → ℕ
+block_of wide kind = if wide then wide_block kind else block_size kind
 
 -- a number in four bytes and in two, the lowest byte first
 abbrev pub four_bytes : ℕ → List ℕ
@@ -27,3 +34,24 @@ header_bytes kind rate samples =
 abbrev pub header_of : Kind → ℕ → ℕ → Option (List ℕ)
 header_of kind rate samples =
     if nat_lt (36 + samples * block_size kind) (2 ^ 32) then Some (header_bytes kind rate samples) else None
+
+-- so many bytes, and one more where they are odd
+abbrev pub padded : ℕ → ℕ
+padded size = size + size % 2
+
+-- the 44 bytes before so many wide samples of each channel: their size in front counts the byte behind odd data
+unfoldable pub wide_header_bytes : Kind → ℕ → ℕ → List ℕ
+wide_header_bytes kind rate samples =
+    codes "RIFF" ++ four_bytes (36 + padded (samples * wide_block kind)) ++ codes "WAVE"
+    ++ codes "fmt " ++ four_bytes 16 ++ two_bytes 1 ++ two_bytes (channels_of kind)
+    ++ four_bytes rate ++ four_bytes (rate * wide_block kind) ++ two_bytes (wide_block kind) ++ two_bytes 24
+    ++ codes "data" ++ four_bytes (samples * wide_block kind)
+
+-- the wide header, where its sizes fit in four bytes
+abbrev pub wide_header_of : Kind → ℕ → ℕ → Option (List ℕ)
+wide_header_of kind rate samples =
+    if nat_lt (36 + padded (samples * wide_block kind)) (2 ^ 32) then Some (wide_header_bytes kind rate samples) else None
+
+-- the header of a file of either width
+abbrev pub header_at : Bool → Kind → ℕ → ℕ → Option (List ℕ)
+header_at wide kind rate samples = if wide then wide_header_of kind rate samples else header_of kind rate samples

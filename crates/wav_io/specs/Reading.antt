@@ -4,17 +4,18 @@ use Rattle.std.specs.Str.{bytes_eq}
 use Rattle.byteorder.specs.Endian.{little_number}
 use Rattle.liq_base.specs.declared.memory.Kind.{Kind}
 use Rattle.liq_base.specs.declared.memory.Kind.TheVariants.{Mono, Stereo}
-use Rattle.wav_io.specs.Header.{block_size}
+use Rattle.wav_io.specs.Header.{block_of}
 use Rattle.wav_io.specs.Chunks.{chunks_of, first_named, before_named}
 use Rattle.wav_io.specs.declared.chunks.Chunk.{Chunk}
 use Rattle.wav_io.specs.declared.format.Format.{Format}
 use Rattle.wav_io.specs.declared.fault.WavFault.{WavFault}
-use Rattle.wav_io.specs.declared.fault.WavFault.TheVariants.{NotRiff, NoFormat, BadFormat, NotPcm16, NoData, Empty}
+use Rattle.wav_io.specs.declared.fault.WavFault.TheVariants.{NotRiff, NoFormat, BadFormat, NotPcm, NoData, Empty}
 
--- what a file holds: its kind, its samples a second, and the bytes of its blocks
+-- what a file holds: its kind, its samples a second, whether these have 24 bits, and the bytes of its blocks
 pub record Wav : Type 0 where
   pub kind : Kind
   pub rate : ℕ
+  pub wide : Bool
   pub body : List ℕ
 
 -- `RIFF`, four bytes that are not looked at, and `WAVE`
@@ -52,36 +53,41 @@ is_pcm body = nat_eq (field body 0 2) 1 || (nat_eq (field body 0 2) 0xFFFE && ha
 abbrev pub kind_of : ℕ → Option Kind
 kind_of channels = if nat_eq channels 1 then Some Mono else if nat_eq channels 2 then Some Stereo else None
 
--- a kind and a rate, with the bytes of a block beside them, which are two for each channel
-abbrev pub checked_format : Option Kind → ℕ → ℕ → Result Format WavFault
-checked_format None rate block = Err BadFormat
-checked_format (Some kind) rate block = if nat_lt 0 rate && nat_eq block (block_size kind) then Ok (record { kind = kind; rate = rate }) else Err BadFormat
+-- 16 bits or 24
+abbrev pub is_width : ℕ → Bool
+is_width bits = nat_eq bits 16 || nat_eq bits 24
+
+-- a kind and a rate, with the bytes of a block beside them, which are those of a sample for each channel
+abbrev pub checked_format : Bool → Option Kind → ℕ → ℕ → Result Format WavFault
+checked_format wide None rate block = Err BadFormat
+checked_format wide (Some kind) rate block =
+    if nat_lt 0 rate && nat_eq block (block_of wide kind) then Ok (record { kind = kind; rate = rate; wide = wide }) else Err BadFormat
 
 -- what the body of a `fmt ` chunk of this size says
 abbrev pub format_in : List ℕ → ℕ → Result Format WavFault
 format_in body size =
     if is_format_body body size then
-    if nat_eq (field body 14 2) 16 && is_pcm body then checked_format (kind_of (field body 2 2)) (field body 4 4) (field body 12 2)
-    else Err NotPcm16
+    if is_width (field body 14 2) && is_pcm body then checked_format (nat_eq (field body 14 2) 24) (kind_of (field body 2 2)) (field body 4 4) (field body 12 2)
+    else Err NotPcm
     else Err BadFormat
 
 -- the whole blocks at the front of a body
-abbrev pub whole_blocks : Kind → List ℕ → List ℕ
-whole_blocks kind body = take (length body / block_size kind * block_size kind) body
+abbrev pub whole_blocks : Bool → Kind → List ℕ → List ℕ
+whole_blocks wide kind body = take (length body / block_of wide kind * block_of wide kind) body
 
 -- whole blocks, and at least one
-pub record AreBlocks (kind : Kind) (body : List ℕ) : Type 0 where
+pub record AreBlocks (wide : Bool) (kind : Kind) (body : List ℕ) : Type 0 where
   pub count : ℕ
   pub some : 0 < count
-  pub whole : length body ≡ count * block_size kind
+  pub whole : length body ≡ count * block_of wide kind
 
 -- the whole blocks, of which there is at least one
 abbrev pub with_blocks : Format → List ℕ → Result Wav WavFault
-with_blocks format blocks = if nat_eq (length blocks) 0 then Err Empty else Ok (record { kind = format.kind; rate = format.rate; body = blocks })
+with_blocks format blocks = if nat_eq (length blocks) 0 then Err Empty else Ok (record { kind = format.kind; rate = format.rate; wide = format.wide; body = blocks })
 
 abbrev pub data_step : List ℕ → Format → Option Chunk → Result Wav WavFault
 data_step bytes format None = Err NoData
-data_step bytes format (Some chunk) = with_blocks format (whole_blocks format.kind (body_of bytes chunk))
+data_step bytes format (Some chunk) = with_blocks format (whole_blocks format.wide format.kind (body_of bytes chunk))
 
 abbrev pub format_step : List ℕ → Result Format WavFault → Option Chunk → Result Wav WavFault
 format_step bytes (Err fault) samples = Err fault

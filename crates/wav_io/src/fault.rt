@@ -1,7 +1,7 @@
 // Why a file holds no sound that can be played.
 use thiserror::Error;
 
-/// Why bytes are not read as a WAV file of 16-bit samples. The faults are numbered as they stand. `docs/formats.md` says
+/// Why bytes are not read as a WAV file of 16-bit or 24-bit samples. The faults are numbered as they stand. `docs/formats.md` says
 /// when each comes.
 #[derive(Clone, Copy, Debug, Error, PartialEq, Eq)]
 pub enum WavFault {
@@ -17,9 +17,9 @@ pub enum WavFault {
     #[error("a format that is cut or contradicts itself")]
     BadFormat,
 
-    /// Fault 4: samples of another form than whole numbers of 16 bits.
-    #[error("samples that are not of 16 bits")]
-    NotPcm16,
+    /// Fault 4: samples of another form than whole numbers of 16 bits or 24.
+    #[error("samples that are not of 16 bits or 24")]
+    NotPcm,
 
     /// Fault 5: no `data` chunk.
     #[error("no data")]

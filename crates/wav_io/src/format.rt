@@ -1,6 +1,6 @@
 // The body of a `fmt ` chunk.
 ghost use Rattle.std.specs.Prelude.{◌≡◌, ◌≤◌, length, IsTrue};
-ghost use Rattle.wav_io.specs.Reading.{format_in, is_pcm, has_pcm_guid, kind_of, checked_format, is_format_body};
+ghost use Rattle.wav_io.specs.Reading.{format_in, is_pcm, has_pcm_guid, is_width, kind_of, checked_format, is_format_body};
 
 use crate::WavFault;
 use crate::fields::block_len;
@@ -22,11 +22,12 @@ const PCM_GUID: [u8; 16] = [
 
 const GUID_PLACE: usize = 24;
 
-/// What a `fmt ` chunk says: how many channels there are, and the samples a second.
+/// What a `fmt ` chunk says: how many channels there are, the samples a second, and whether these have 24 bits.
 #[derive(Clone, Copy, Debug)]
 pub struct Format {
     pub kind: Kind,
     pub rate: u32,
+    pub wide: bool,
 }
 
 /// The format that the body of a `fmt ` chunk of this size gives.
@@ -36,13 +37,14 @@ pub fn read_format(body: &[u8], size: u32) -> Result<Format, WavFault>
     if !is_sized(body, size) {
         return Err(WavFault::BadFormat);
     }
-    if LittleEndian::read_u16(&body[14..]) != 16 || !is_whole_numbers(body) {
-        return Err(WavFault::NotPcm16);
+    let bits = LittleEndian::read_u16(&body[14..]);
+    if !is_width(bits) || !is_whole_numbers(body) {
+        return Err(WavFault::NotPcm);
     }
     let channels = LittleEndian::read_u16(&body[2..]);
     let rate = LittleEndian::read_u32(&body[4..]);
     let block = LittleEndian::read_u16(&body[12..]);
-    checked(kind_from(channels), rate, block)
+    checked(bits == 24, kind_from(channels), rate, block)
 }
 
 /// Whether the size is one of those that are read, and the body is not cut.
@@ -51,6 +53,13 @@ fn is_sized(body: &[u8], size: u32) -> bool
     ensures long { IsTrue result → 16 ≤ length body.now }
 {
     (size == 16 || size == 18 || size == 40) && body.len() == size as usize
+}
+
+/// Whether samples of so many bits are read.
+fn is_width(bits: u16) -> bool
+    ensures { result ≡ is_width bits }
+{
+    bits == 16 || bits == 24
 }
 
 /// Whether the tag is that of whole numbers, or that of the extensible form with the GUID of whole numbers.
@@ -84,12 +93,12 @@ fn kind_from(channels: u16) -> Option<Kind>
     }
 }
 
-/// A kind and a rate, beside the bytes of a block, which are two for each channel.
-fn checked(kind: Option<Kind>, rate: u32, block: u16) -> Result<Format, WavFault>
-    ensures { result ≡ checked_format kind rate block }
+/// A kind and a rate, beside the bytes of a block, which are those of a sample for each channel.
+fn checked(wide: bool, kind: Option<Kind>, rate: u32, block: u16) -> Result<Format, WavFault>
+    ensures { result ≡ checked_format wide kind rate block }
 {
     match kind {
-        Some(kind) if rate > 0 && block == block_len(kind) => Ok(Format { kind, rate }),
+        Some(kind) if rate > 0 && block == block_len(wide, kind) => Ok(Format { kind, rate, wide }),
         _ => Err(WavFault::BadFormat),
     }
 }

@@ -9,6 +9,6 @@ mod laws;
 mod read;
 
 pub use fault::WavFault;
-pub use fields::header;
+pub use fields::{header, header_wide};
 pub use laws::{chunks_are_all, own_files_are_read};
 pub use read::{Wav, read_wav};

@@ -8,7 +8,7 @@ use crate::fields::block_len;
 use crate::format::read_format;
 use liq_base::Kind;
 
-/// A WAV file with 16-bit samples, whose blocks lie in the bytes that were read.
+/// A WAV file, whose blocks lie in the bytes that were read.
 #[derive(Clone, Copy, Debug)]
 pub struct Wav<'a> {
     pub kind: Kind,
@@ -16,16 +16,19 @@ pub struct Wav<'a> {
     /// Samples a second, above 0.
     pub rate: u32,
 
-    /// Whole blocks: of each channel one signed sample of 16 bits, the lower byte first, left before right.
+    /// Whether its samples have 24 bits; else they have 16.
+    pub wide: bool,
+
+    /// Whole blocks: of each channel one signed sample, the lowest byte first, left before right.
     pub body: &'a [u8],
 }
 
-/// The kind, the rate in samples a second, and the whole blocks of a WAV file of 16-bit samples, or the first fault of
+/// The kind, the rate in samples a second, the width of samples and the whole blocks of a WAV file, or the first fault of
 /// the table in `docs/formats.md`. It takes no memory, and what lies behind the first `data` chunk is not looked at.
 pub fn read_wav(bytes: &[u8]) -> Result<Wav<'_>, WavFault>
-    ensures read { MatchResult result (λ wav. read_of bytes.now ≡ Ok (record { kind = wav.kind; rate = wav.rate; body = wav.body.now }))
+    ensures read { MatchResult result (λ wav. read_of bytes.now ≡ Ok (record { kind = wav.kind; rate = wav.rate; wide = wav.wide; body = wav.body.now }))
         (λ fault. read_of bytes.now ≡ Err fault) }
-    ensures blocks { IfOk result (λ wav. AreBlocks wav.kind wav.body.now) }
+    ensures blocks { IfOk result (λ wav. AreBlocks wav.wide wav.kind wav.body.now) }
     ensures rate { IfOk result (λ wav. 0 < wav.rate) }
     // The heads of the file and of the two chunks, and the format, stand beside the blocks.
     ensures heads { IfOk result (λ wav. 44 + length wav.body.now ≤ length bytes.now) }
@@ -36,13 +39,14 @@ pub fn read_wav(bytes: &[u8]) -> Result<Wav<'_>, WavFault>
     let chunk = find_format(bytes).ok_or(WavFault::NoFormat)?;
     let format = read_format(chunk_body(bytes, &chunk), chunk.size)?;
     let data = find_data(bytes).ok_or(WavFault::NoData)?;
-    let body = cut_blocks(format.kind, chunk_body(bytes, &data));
+    let body = cut_blocks(format.wide, format.kind, chunk_body(bytes, &data));
     if body.is_empty() {
         return Err(WavFault::Empty);
     }
     Ok(Wav {
         kind: format.kind,
         rate: format.rate,
+        wide: format.wide,
         body,
     })
 }
@@ -55,10 +59,10 @@ fn is_riff(bytes: &[u8]) -> bool
 }
 
 /// The whole blocks at the front of a body.
-fn cut_blocks(kind: Kind, body: &[u8]) -> &[u8]
-    ensures cut { result.now ≡ whole_blocks kind body.now }
-    ensures blocks { 0 < length result.now → AreBlocks kind result.now }
+fn cut_blocks(wide: bool, kind: Kind, body: &[u8]) -> &[u8]
+    ensures cut { result.now ≡ whole_blocks wide kind body.now }
+    ensures blocks { 0 < length result.now → AreBlocks wide kind result.now }
 {
-    let block = usize::from(block_len(kind));
+    let block = usize::from(block_len(wide, kind));
     &body[..body.len() / block * block]
 }

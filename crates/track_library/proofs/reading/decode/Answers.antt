@@ -9,5 +9,5 @@ returns-clause-recording c =
     let few : length c.in-Ok.wav.body.now ≤ 268435456 = omega (arith, wav.heads, c.requires.few, c.requires.rules.file) in
     record {
       rate = wav.rate;
-      file = subst (λ (samples : List ℤ). IsFile c.in-Ok.wav.kind samples) (sym c.in_ok-samples.ensures.samples) (file_of c.in-Ok.wav.kind c.in-Ok.wav.body.now wav.blocks few);
+      file = subst (λ (samples : List ℤ). IsFile c.in-Ok.wav.kind samples) (sym c.in_ok-samples.ensures.samples) (file_of c.in-Ok.wav.wide c.in-Ok.wav.kind c.in-Ok.wav.body.now wav.blocks few);
     }
