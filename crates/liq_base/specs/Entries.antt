@@ -7,11 +7,18 @@ use Rattle.std.specs.declared.alloc.Global.{Global}
 use Rattle.std.proofs.Common.{sym, ap, ◌∙◌}
 use Rattle.liq_base.specs.Files.{Files, file_at}
 use Rattle.std.specs.Str.{bytes_eq}
-use Rattle.liq_base.specs.declared.closed.Closed.{Closed, End, File'}
+use Rattle.liq_base.specs.declared.closed.Closed.{Closed, End, File', Lost'}
 
 abbrev pub entries : Closed → List (List ℕ × List ℕ)
 entries End = []
 entries (File' p name bytes next) = (string_bytes name, bytes.items) ∷ entries next
+entries (Lost' p name bytes next) = entries next
+
+-- the names of the sinks that were closed, the newest last
+abbrev pub closed_names : Closed → List (List ℕ)
+closed_names End = []
+closed_names (File' p name bytes next) = closed_names next ++ string_bytes name ∷ []
+closed_names (Lost' p name bytes next) = closed_names next ++ string_bytes name ∷ []
 
 abbrev pub stored : List ℕ → List (List ℕ × List ℕ) → Option (List ℕ)
 stored name [] = None

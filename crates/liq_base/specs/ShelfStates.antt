@@ -1,5 +1,5 @@
 -- What clauses see of the shelves in memory, and what a call makes of them.
-use Rattle.std.specs.Prelude.{ℕ, refl, Bool, ◌||◌, ◌==◌, List, [], ◌++◌, length, map, filter, Option, Some, None, Result, Ok, Err, if◌then◌else◌, nat_le, nat_lt}
+use Rattle.std.specs.Prelude.{ℕ, refl, Bool, ◌||◌, ◌==◌, List, [], ◌∷◌, ◌++◌, length, map, filter, Option, Some, None, Result, Ok, Err, if◌then◌else◌, nat_le, nat_lt}
 use Rattle.std.specs.List.{list_any}
 use Rattle.std.specs.Coded.{Coded, code_by, coded×, coded_ℕ, coded_list}
 use Rattle.std.specs.FinMap as map
@@ -19,10 +19,11 @@ is_listed calls call = list_any (λ listed. listed == call) calls
 abbrev pub raised : ℕ → Bool → ℕ
 raised count failed = if failed then one_more count else count
 
--- the files, and the names of the sinks that were made, in their order; the reads, creations and closings so far; those that are listed to fail, and the appends; the two counts of faults
+-- the files, and the names of the sinks that were made and of those that were closed, in their order; the reads, creations and closings so far; those that are listed to fail, and the appends; the two counts of faults
 pub record ShelfState : Type 0 where
   pub files : Files
   pub created : List (List ℕ)
+  pub closed : List (List ℕ)
   pub reads : ℕ
   pub creates : ℕ
   pub closes : ℕ
@@ -42,11 +43,11 @@ append_code = code_by (ℕ × (ℕ × ℕ)) (coded× coded_ℕ (coded× coded_�
 -- a shelf is stored as its files, the calls made, those listed, and the counts of faults
 abbrev pub shelf_code : Coded ShelfState
 shelf_code =
-    code_by ((Files × List (List ℕ)) × ((ℕ × (ℕ × ℕ)) × ((List ℕ × (List ℕ × (List ℕ × List FailingAppend))) × (ℕ × ℕ))))
-    (coded× (coded× files_code (coded_list (coded_list coded_ℕ))) (coded× (coded× coded_ℕ (coded× coded_ℕ coded_ℕ))
+    code_by ((Files × (List (List ℕ) × List (List ℕ))) × ((ℕ × (ℕ × ℕ)) × ((List ℕ × (List ℕ × (List ℕ × List FailingAppend))) × (ℕ × ℕ))))
+    (coded× (coded× files_code (coded× (coded_list (coded_list coded_ℕ)) (coded_list (coded_list coded_ℕ)))) (coded× (coded× coded_ℕ (coded× coded_ℕ coded_ℕ))
     (coded× (coded× (coded_list coded_ℕ) (coded× (coded_list coded_ℕ) (coded× (coded_list coded_ℕ) (coded_list append_code)))) (coded× coded_ℕ coded_ℕ))))
     (λ s. (
-      (s.files, s.created),
+      (s.files, (s.created, s.closed)),
       (
         (s.reads, (s.creates, s.closes)),
         ((s.failing_reads, (s.failing_creates, (s.failing_closes, s.failing_appends))), (s.read_faults, s.write_faults)),
@@ -54,7 +55,8 @@ shelf_code =
     ))
     (λ p. record {
       files = p.0.0;
-      created = p.0.1;
+      created = p.0.1.0;
+      closed = p.0.1.1;
       reads = p.1.0.0;
       creates = p.1.0.1.0;
       closes = p.1.0.1.1;
@@ -72,6 +74,7 @@ abbrev pub untouched : Files → ShelfState
 untouched files = record {
   files = files;
   created = [];
+  closed = [];
   reads = 0;
   creates = 0;
   closes = 0;
@@ -129,6 +132,7 @@ files_after failed files out = if failed then files else with_file files out.nam
 abbrev pub after_close : ShelfState → NamedState → ShelfState
 after_close shelf out = record shelf {
   files = files_after (close_fails shelf) shelf.files out;
+  closed = shelf.closed ++ out.name ∷ [];
   closes = one_more shelf.closes;
   write_faults = raised shelf.write_faults (close_fails shelf || nat_lt 0 out.sink.faults);
 }

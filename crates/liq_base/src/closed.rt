@@ -1,4 +1,4 @@
-// The files that were closed, the newest first. Each takes over the memory of the sink that it was.
+// The sinks that were closed, the newest first, those whose closing failed among them. Each takes over the memory of the sink that it was.
 ghost use Rattle.std.specs.Prelude.{◌≡◌, ◌≢◌, ◌<◌, length, MatchOption, IsSomeAnd, None, Some, Ok, Err};
 ghost use Rattle.std.specs.Option.{ForSome};
 ghost use Rattle.liq_base.specs.Entries.{entries, stored, given_entries, files_of};
@@ -14,6 +14,9 @@ use std::fmt;
 pub(crate) enum Closed {
     End,
     File(Box<Entry>),
+
+    /// Its closing failed, so it is no file.
+    Lost(Box<Entry>),
 }
 
 #[cycle(closed)]
@@ -99,6 +102,7 @@ fn find_closed<'a>(closed: &'a Closed, name: &str) -> Option<&'a [u8]>
 {
     match closed {
         Closed::End => None,
+        Closed::Lost(entry) => find_closed(&entry.next, name),
         Closed::File(entry) => {
             if name == entry.name.as_str() {
                 Some(&entry.bytes)

@@ -15,7 +15,7 @@ use std::alloc::Global;
 use std::marker::Model;
 use std::mem;
 
-/// A shelf in memory. It tells its files and the names of the sinks that it made, and its sinks tell their bytes, name, room left
+/// A shelf in memory. It tells its files and the names of the sinks that it made and closed, and its sinks tell their bytes, name, room left
 /// and number of appends.
 ///
 /// Reads, creations and closings are each counted from 0 since the shelf was made, the appends of
@@ -50,7 +50,7 @@ struct FailingAppend {
 
 impl Model for MemShelf {
     ghost use Rattle.std.specs.Prelude.{map, string_bytes};
-    ghost use Rattle.liq_base.specs.Entries.{files_of};
+    ghost use Rattle.liq_base.specs.Entries.{files_of, closed_names};
     ghost use Rattle.liq_base.specs.ShelfStates.{ShelfState, shelf_code};
 
     ghost Value = { ShelfState };
@@ -60,6 +60,7 @@ impl Model for MemShelf {
     ghost view = { λ s. record {
       files = files_of s.closed s.given.items;
       created = map string_bytes s.created.items;
+      closed = closed_names s.closed;
       reads = s.reads;
       creates = s.creates;
       closes = s.closes;
@@ -173,6 +174,8 @@ impl Shelf for MemShelf {
 
     ghost created = { λ s. Some s.created };
 
+    ghost closed = { λ s. Some s.closed };
+
     ghost read_count = { λ s. s.read_faults };
 
     ghost write_count = { λ s. s.write_faults };
@@ -204,6 +207,7 @@ impl Shelf for MemShelf {
         ensures made { IfOk result (λ out. out ≡ created_sink self.old name.now room) }
         ensures noted { OnOk result (Some self.new.created ≡ noted name.now (Some self.old.created)) }
         ensures unnoted { OnErr result (Some self.new.created ≡ Some self.old.created) }
+        ensures closed { Some self.new.closed ≡ Some self.old.closed }
         ensures cause { IsErrOf result ShelfFault.Failed → Rose self.old.write_faults self.new.write_faults }
         ensures reads { self.old.read_faults ≤ self.new.read_faults }
         ensures writes { self.old.write_faults ≤ self.new.write_faults }
@@ -226,6 +230,7 @@ impl Shelf for MemShelf {
         ensures answer { is_ok result ≡ not (close_fails self.old) }
         ensures closed { OnOk result (ClosedAs (Some self.old.files) (Some out.name) (named_held out) (Some self.new.files)) }
         ensures part { OnErr result (ClosedPart (Some self.old.files) (Some out.name) (named_held out) (Some self.new.files)) }
+        ensures listed { Some self.new.closed ≡ noted out.name (Some self.old.closed) }
         ensures cause { OnErr result (Rose self.old.write_faults self.new.write_faults) }
         ensures failed_sink { 0 < out.sink.faults → Rose self.old.write_faults self.new.write_faults }
         ensures reads { self.old.read_faults ≤ self.new.read_faults }
@@ -234,11 +239,12 @@ impl Shelf for MemShelf {
         let fails = self.failing_closes.contains(&self.closes);
         self.closes = self.closes.saturating_add(1);
         self.write_faults = raise(self.write_faults, fails || out.faults() > 0);
-        if fails {
-            return Err(Failed);
-        }
         let mut entry = out.into_entry();
         entry.next = mem::replace(&mut self.closed, Closed::End);
+        if fails {
+            self.closed = Closed::Lost(entry);
+            return Err(Failed);
+        }
         self.closed = Closed::File(entry);
         Ok(())
     }

@@ -60,6 +60,9 @@ pub trait Shelf {
     /// The names of the sinks that it made, in their order, where it tells them.
     ghost created: { Self → Option (List (List ℕ)) };
 
+    /// The names of the sinks that were closed, in their order, where it tells them: also of those whose closing failed.
+    ghost closed: { Self → Option (List (List ℕ)) };
+
     /// How often a read failed, as the value of a `u64`. It never falls.
     ghost read_count: { Self → ℕ };
 
@@ -77,6 +80,7 @@ pub trait Shelf {
         ensures cause { IsErrOf result ShelfFault.Failed → Rose (read_count self.old) (read_count self.new) }
         ensures files { files self.new ≡ files self.old }
         ensures created { created self.new ≡ created self.old }
+        ensures closed { closed self.new ≡ closed self.old }
         ensures reads { read_count self.old ≤ read_count self.new }
         ensures writes { write_count self.old ≤ write_count self.new };
 
@@ -92,6 +96,8 @@ pub trait Shelf {
         ensures cause { IsErrOf result ShelfFault.Failed → Rose (write_count self.old) (write_count self.new) }
         ensures noted { OnOk result (created self.new ≡ noted name.now (created self.old)) }
         ensures unnoted { OnErr result (created self.new ≡ created self.old) }
+        ensures closed { closed self.new ≡ closed self.old }
+        ensures named { IfOk result (λ out. IsSome (closed self.old) → IsSome (Self.Out.name out)) }
         ensures files { files self.new ≡ files self.old }
         ensures reads { read_count self.old ≤ read_count self.new }
         ensures writes { write_count self.old ≤ write_count self.new };
@@ -103,6 +109,7 @@ pub trait Shelf {
         ensures part { OnErr result (ClosedPart (files self.old) (Self.Out.name out) (Self.Out.held out) (files self.new)) }
         ensures tells { is_some (files self.new) ≡ is_some (files self.old) }
         ensures created { created self.new ≡ created self.old }
+        ensures listed { ForSome (Self.Out.name out) (λ name. closed self.new ≡ noted name (closed self.old)) }
         ensures cause { OnErr result (Rose (write_count self.old) (write_count self.new)) }
         ensures failed_sink { 0 < Self.Out.faults out → Rose (write_count self.old) (write_count self.new) }
         ensures reads { read_count self.old ≤ read_count self.new }

@@ -66,6 +66,8 @@ impl Shelf for SureShelf {
 
     ghost created = { λ s. None };
 
+    ghost closed = { λ s. None };
+
     ghost read_count = { λ s. 0 };
 
     ghost write_count = { λ s. 0 };

@@ -44,6 +44,8 @@ impl<'a, R: Files<File = File> + Alloc<A = Global>> Shelf for FileShelf<'a, R> {
 
     ghost created = { λ s. None };
 
+    ghost closed = { λ s. None };
+
     ghost read_count = { λ s. s.read_faults };
 
     ghost write_count = { λ s. s.write_faults };
