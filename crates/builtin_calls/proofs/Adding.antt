@@ -37,8 +37,8 @@ pub last_is : {A : Type 0} (xs : List A) (x : A) → slice_get (xs ++ x ∷ []) 
 last_is [] x = refl
 last_is (y ∷ xs) x = last_is xs x
 
-count_output : (sinks : List SinkPlan) (name : List ℕ) (n : ℕ) (b : Bool) → count_by is_output (sinks ++ Output name n b ∷ []) ≡ count_by is_output sinks + 1
-count_output sinks name n b = sum_by-append (λ s. cond (is_output s) 1 0) sinks (Output name n b ∷ [])
+count_output : (sinks : List SinkPlan) (name : List ℕ) (n : ℕ) (b : Bool) → count_by is_output (sinks ++ Output name n b w ∷ []) ≡ count_by is_output sinks + 1
+count_output sinks name n b = sum_by-append (λ s. cond (is_output s) 1 0) sinks (Output name n b w ∷ [])
 
 count_feed : (sinks : List SinkPlan) (b n : ℕ) → count_by is_output (sinks ++ Feed b n ∷ []) ≡ count_by is_output sinks
 count_feed sinks b n =
@@ -199,7 +199,7 @@ sound_output m name s b there few_outputs so =
     let outputs = so.outputs in
     let feeds = so.feeds in
     let sinks : length m.plan.sinks + 1 < 2 ^ 32 = omega arith in
-    let more_sinks = length-append m.plan.sinks (Output name s b ∷ []) in
+    let more_sinks = length-append m.plan.sinks (Output name s b w ∷ []) in
     let count = count_output m.plan.sinks name s b in
     record {
       well_formed = output_keeps m.plan so.well_formed name s b sinks there;

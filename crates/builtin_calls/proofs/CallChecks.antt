@@ -139,7 +139,7 @@ all_children = refl
 
 -- outputs of one node
 abbrev outputs : ℕ → Machine
-outputs n = record slow { plan = record slow.plan { nodes = faded 0; sinks = replicate n (Output (codes "A") 0 true) } }
+outputs n = record slow { plan = record slow.plan { nodes = faded 0; sinks = replicate n (Output (codes "A") 0 true false) } }
 
 -- the name is looked at before the number
 same_name : add_output (codes "A") 0 false (outputs 64) ≡ Err (SameOutput (codes "A"))

@@ -12,7 +12,7 @@ use Rattle.script_values.specs.Outcomes.{Outcome}
 use Rattle.script_values.specs.Values.{Nothing}
 
 abbrev pub is_named : List ℕ → SinkPlan → Bool
-is_named name (Output other node fallible) = bytes_eq name other
+is_named name (Output other node fallible wide) = bytes_eq name other
 is_named name (Feed buffer node) = false
 
 -- an output of a name that no earlier one has, at most 64 of them

@@ -23,9 +23,9 @@ module _ (setting : Setting) (m i : ℕ) (sinks : List SinkPlan) where
   feed_other buffer node at outside =
       ap (feeds_from setting m) (dropped sinks i (Feed buffer node) at) ∙ rw outside next_is
 
-  pub no_feed : (name : List ℕ) (node : ℕ) (fallible : Bool) → slice_get sinks i ≡ Some (Output name node fallible)
+  pub no_feed : (name : List ℕ) (node : ℕ) (fallible wide : Bool) → slice_get sinks i ≡ Some (Output name node fallible wide)
       → feeds_from setting m (drop i sinks) ≡ feeds_from setting m (drop (i + 1) sinks)
-  no_feed name node fallible at = ap (feeds_from setting m) (dropped sinks i (Output name node fallible) at) ∙ next_is
+  no_feed name node fallible wide at = ap (feeds_from setting m) (dropped sinks i (Output name node fallible wide) at) ∙ next_is
 
 -- one feed more
 pub feeds_more : (feeds : List FeedPort) (feed : FeedPort) (key : ℕ × ℕ) (rest : List (ℕ × ℕ)) → feed_of feed ≡ key

@@ -40,7 +40,7 @@ first setting m buffer node sinks rest false e k pair at = behind setting m (Fee
 
 pub feeds_there : (setting : Setting) (m : ℕ) (sinks : List SinkPlan) (k : ℕ) (pair : ℕ × ℕ) → slice_get (feeds_from setting m sinks) k ≡ Some pair → IsFeed setting m sinks pair k
 feeds_there setting m [] k pair at = absurd (no_item k pair at)
-feeds_there setting m (Output name node fallible ∷ sinks) k pair at = behind setting m (Output name node fallible) sinks pair k k (feeds_there setting m sinks k pair at)
+feeds_there setting m (Output name node fallible wide ∷ sinks) k pair at = behind setting m (Output name node fallible wide) sinks pair k k (feeds_there setting m sinks k pair at)
 feeds_there setting m (Feed buffer node ∷ sinks) k pair at = first setting m buffer node sinks (λ j p. feeds_there setting m sinks j p) (lies_in setting (Main m) node) refl k pair at
 
 pub feed_inside : (setting : Setting) (m : ℕ) (feeds : List FeedPort) → map feed_of feeds ≡ feeds_of setting m → (k : ℕ) (feed : FeedPort) → slice_get feeds k ≡ Some feed → clock_of setting feed.node ≡ Main m
@@ -80,7 +80,7 @@ tail_unique sink sinks unique p q buffer one other at_p at_q = let e = unique (s
 
 pairs_own : (setting : Setting) (m : ℕ) (sinks : List SinkPlan) → Unique sinks → Own (feeds_from setting m sinks)
 pairs_own setting m [] unique = λ j k one other at_j at_k same. absurd (no_item j one at_j)
-pairs_own setting m (Output name node fallible ∷ sinks) unique = pairs_own setting m sinks (tail_unique (Output name node fallible) sinks unique)
+pairs_own setting m (Output name node fallible wide ∷ sinks) unique = pairs_own setting m sinks (tail_unique (Output name node fallible wide) sinks unique)
 pairs_own setting m (Feed buffer node ∷ sinks) unique =
     own_step (lies_in setting (Main m) node) buffer node (feeds_from setting m sinks) (pairs_own setting m sinks (tail_unique (Feed buffer node) sinks unique))
     (λ k other at same.

@@ -49,5 +49,5 @@ module _ (setting : Setting) (accepted : ℕ → Bool) (m t : ℕ) where
       → flat_map (λ feed. given_by accepted (Some feed)) feeds ≡ flat_map (give_by setting accepted m t) sinks
   gives_are [] [] are gives = refl
   gives_are [] (feed ∷ feeds) are gives = absurd cc
-  gives_are (Output name node fallible ∷ sinks) feeds are gives = gives_are sinks feeds are gives
+  gives_are (Output name node fallible wide ∷ sinks) feeds are gives = gives_are sinks feeds are gives
   gives_are (Feed buffer node ∷ sinks) feeds are gives = feed_step buffer node sinks (λ fs a g. gives_are sinks fs a g) (lies_in setting (Main m) node) feeds are gives

@@ -31,7 +31,8 @@ pub record IsThere (setting : Setting) (m i : ℕ) (sinks : List SinkPlan) (pair
   pub number : pair.0 ≡ i + place
   pub name : List ℕ
   pub fallible : Bool
-  pub there : slice_get sinks place ≡ Some (Output name pair.1 fallible)
+  pub wide : Bool
+  pub there : slice_get sinks place ≡ Some (Output name pair.1 fallible wide)
   pub inside : lies_in setting (Main m) pair.1 ≡ true
 
 later : (setting : Setting) (m i : ℕ) (sink : SinkPlan) (sinks : List SinkPlan) (pair : ℕ × ℕ) → IsThere setting m (suc i) sinks pair → IsThere setting m i (sink ∷ sinks) pair
@@ -40,26 +41,27 @@ later setting m i sink sinks pair is = record {
   number = (let n = is.number in omega (arith, n));
   name = is.name;
   fallible = is.fallible;
+  wide = is.wide;
   there = is.there;
   inside = is.inside;
 }
 
-here : (setting : Setting) (m i : ℕ) (name : List ℕ) (node : ℕ) (fallible : Bool) (sinks : List SinkPlan)
+here : (setting : Setting) (m i : ℕ) (name : List ℕ) (node : ℕ) (fallible wide : Bool) (sinks : List SinkPlan)
     → ((k : ℕ) (pair : ℕ × ℕ) → slice_get (outputs_from setting m (suc i) sinks) k ≡ Some pair → IsThere setting m (suc i) sinks pair)
     → (inside : Bool) → lies_in setting (Main m) node ≡ inside → (k : ℕ) (pair : ℕ × ℕ)
     → slice_get (cond inside ((i, node) ∷ outputs_from setting m (suc i) sinks) (outputs_from setting m (suc i) sinks)) k ≡ Some pair
-    → IsThere setting m i (Output name node fallible ∷ sinks) pair
-here setting m i name node fallible sinks rest true e zero pair at =
+    → IsThere setting m i (Output name node fallible wide ∷ sinks) pair
+here setting m i name node fallible wide sinks rest true e zero pair at =
     let same : (i, node) ≡ pair = cc in
-    subst (λ p. IsThere setting m i (Output name node fallible ∷ sinks) p) same
-    (record { place = 0; number = omega arith; name = name; fallible = fallible; there = refl; inside = e })
-here setting m i name node fallible sinks rest true e (suc k) pair at = later setting m i (Output name node fallible) sinks pair (rest k pair at)
-here setting m i name node fallible sinks rest false e k pair at = later setting m i (Output name node fallible) sinks pair (rest k pair at)
+    subst (λ p. IsThere setting m i (Output name node fallible wide ∷ sinks) p) same
+    (record { place = 0; number = omega arith; name = name; fallible = fallible; wide = wide; there = refl; inside = e })
+here setting m i name node fallible wide sinks rest true e (suc k) pair at = later setting m i (Output name node fallible wide) sinks pair (rest k pair at)
+here setting m i name node fallible wide sinks rest false e k pair at = later setting m i (Output name node fallible wide) sinks pair (rest k pair at)
 
 pub are_there : (setting : Setting) (m i : ℕ) (sinks : List SinkPlan) (k : ℕ) (pair : ℕ × ℕ) → slice_get (outputs_from setting m i sinks) k ≡ Some pair → IsThere setting m i sinks pair
 are_there setting m i [] k pair at = absurd (no_item k pair at)
-are_there setting m i (Output name node fallible ∷ sinks) k pair at =
-    here setting m i name node fallible sinks (λ j p. are_there setting m (suc i) sinks j p) (lies_in setting (Main m) node) refl k pair at
+are_there setting m i (Output name node fallible wide ∷ sinks) k pair at =
+    here setting m i name node fallible wide sinks (λ j p. are_there setting m (suc i) sinks j p) (lies_in setting (Main m) node) refl k pair at
 are_there setting m i (Feed buffer node ∷ sinks) k pair at = later setting m i (Feed buffer node) sinks pair (are_there setting m (suc i) sinks k pair at)
 
 found_behind : (b : Bool) (pair : ℕ × ℕ) (rest : List (ℕ × ℕ)) (k : ℕ) (x : ℕ × ℕ) → slice_get rest k ≡ Some x → (j : ℕ) × (slice_get (cond b (pair ∷ rest) rest) j ≡ Some x)
@@ -67,28 +69,28 @@ found_behind true pair rest k x e = (suc k, e)
 found_behind false pair rest k x e = (k, e)
 
 abbrev feeds : SinkPlan → Bool
-feeds (Output name node fallible) = false
+feeds (Output name node fallible wide) = false
 feeds (Feed buffer node) = true
 
 -- each output of the clock is among them
-pub is_found : (setting : Setting) (m i : ℕ) (sinks : List SinkPlan) (place : ℕ) (name : List ℕ) (node : ℕ) (fallible : Bool)
-    → slice_get sinks place ≡ Some (Output name node fallible) → lies_in setting (Main m) node ≡ true
+pub is_found : (setting : Setting) (m i : ℕ) (sinks : List SinkPlan) (place : ℕ) (name : List ℕ) (node : ℕ) (fallible wide : Bool)
+    → slice_get sinks place ≡ Some (Output name node fallible wide) → lies_in setting (Main m) node ≡ true
     → (k : ℕ) × (slice_get (outputs_from setting m i sinks) k ≡ Some (i + place, node))
-is_found setting m i [] place name node fallible at inside = absurd (no_item place (Output name node fallible) at)
-is_found setting m i (Output other number free ∷ sinks) zero name node fallible at inside =
-    let one : Output other number free ≡ Output name node fallible = cc in
+is_found setting m i [] place name node fallible wide at inside = absurd (no_item place (Output name node fallible wide) at)
+is_found setting m i (Output other number free broad ∷ sinks) zero name node fallible wide at inside =
+    let one : Output other number free broad ≡ Output name node fallible wide = cc in
     let same : number ≡ node = ap sink_node one in
     let yes : lies_in setting (Main m) number ≡ true = ap (lies_in setting (Main m)) same ∙ inside in
     let first : i ≡ i + 0 = omega arith in
     (0, rw yes (ap (λ n. Some (i, n)) same ∙ ap (λ n. Some (n, node)) first))
-is_found setting m i (Output other number free ∷ sinks) (suc place) name node fallible at inside =
-    let rest = is_found setting m (suc i) sinks place name node fallible at inside in
+is_found setting m i (Output other number free broad ∷ sinks) (suc place) name node fallible wide at inside =
+    let rest = is_found setting m (suc i) sinks place name node fallible wide at inside in
     let number' : suc i + place ≡ i + suc place = omega arith in
     found_behind (lies_in setting (Main m) number) (i, number) (outputs_from setting m (suc i) sinks) rest.0 (i + suc place, node) (rest.1 ∙ ap (λ n. Some (n, node)) number')
-is_found setting m i (Feed buffer number ∷ sinks) zero name node fallible at inside =
-    let one : Feed buffer number ≡ Output name node fallible = cc in absurd (true≢false (ap feeds one))
-is_found setting m i (Feed buffer number ∷ sinks) (suc place) name node fallible at inside =
-    let rest = is_found setting m (suc i) sinks place name node fallible at inside in
+is_found setting m i (Feed buffer number ∷ sinks) zero name node fallible wide at inside =
+    let one : Feed buffer number ≡ Output name node fallible wide = cc in absurd (true≢false (ap feeds one))
+is_found setting m i (Feed buffer number ∷ sinks) (suc place) name node fallible wide at inside =
+    let rest = is_found setting m (suc i) sinks place name node fallible wide at inside in
     let number' : suc i + place ≡ i + suc place = omega arith in
     (rest.0, rest.1 ∙ ap (λ n. Some (n, node)) number')
 
@@ -120,9 +122,9 @@ module _ (setting : Setting) (m : ℕ) (ports : List Port) (outputs : map output
       let is = port_there k port at in
       let number = is.number in
       let place : is.place ≡ sink = omega (arith, number, same) in
-      let one : Some (Output is.name port.node is.fallible) ≡ Some (Output output.name node output.fallible) =
+      let one : Some (Output is.name port.node is.fallible is.wide) ≡ Some (Output output.name node output.fallible output.wide) =
       sym is.there ∙ ap (slice_get setting.plan.sinks) place ∙ output.there in
-      let two : Output is.name port.node is.fallible ≡ Output output.name node output.fallible = cc in
+      let two : Output is.name port.node is.fallible is.wide ≡ Output output.name node output.fallible output.wide = cc in
       ap sink_node two
 
   -- and each output has a port

@@ -36,7 +36,7 @@ module _ (parts : EngineParts) (fit : AreParts parts) where
   pub port_root : (k : ℕ) (port : Port) → slice_get parts.ports.items k ≡ Some port → (port.node < length parts.shape.plan.now.nodes) × (get_or parts.own.items port.node false ≡ true)
   port_root k port at =
       let is = port_there (setting_of parts) parts.clock parts.ports.items fit.outputs k port at in
-      root_at is.place (Output is.name port.node is.fallible) is.there (port_inside (setting_of parts) parts.clock parts.ports.items fit.outputs k port at)
+      root_at is.place (Output is.name port.node is.fallible is.wide) is.there (port_inside (setting_of parts) parts.clock parts.ports.items fit.outputs k port at)
 
   pub feed_root : (k : ℕ) (feed : FeedPort) → slice_get parts.feeds.items k ≡ Some feed → (feed.node < length parts.shape.plan.now.nodes) × (get_or parts.own.items feed.node false ≡ true)
   feed_root k feed at =

@@ -18,15 +18,15 @@ module _ (setting : Setting) (m i : ℕ) (sinks : List SinkPlan) where
   next_is : outputs_from setting m (suc i) (drop (suc i) sinks) ≡ outputs_from setting m (i + 1) (drop (i + 1) sinks)
   next_is = ap (λ n. outputs_from setting m n (drop n sinks)) (sym (add-one i))
 
-  pub at_output : (name : List ℕ) (node : ℕ) (fallible : Bool) → slice_get sinks i ≡ Some (Output name node fallible) → lies_in setting (Main m) node ≡ true
+  pub at_output : (name : List ℕ) (node : ℕ) (fallible wide : Bool) → slice_get sinks i ≡ Some (Output name node fallible wide) → lies_in setting (Main m) node ≡ true
       → outputs_from setting m i (drop i sinks) ≡ (i, node) ∷ outputs_from setting m (i + 1) (drop (i + 1) sinks)
-  at_output name node fallible at inside =
-      ap (outputs_from setting m i) (dropped sinks i (Output name node fallible) at) ∙ rw inside (ap (λ os. (i, node) ∷ os) next_is)
+  at_output name node fallible wide at inside =
+      ap (outputs_from setting m i) (dropped sinks i (Output name node fallible wide) at) ∙ rw inside (ap (λ os. (i, node) ∷ os) next_is)
 
-  pub at_other : (name : List ℕ) (node : ℕ) (fallible : Bool) → slice_get sinks i ≡ Some (Output name node fallible) → lies_in setting (Main m) node ≡ false
+  pub at_other : (name : List ℕ) (node : ℕ) (fallible wide : Bool) → slice_get sinks i ≡ Some (Output name node fallible wide) → lies_in setting (Main m) node ≡ false
       → outputs_from setting m i (drop i sinks) ≡ outputs_from setting m (i + 1) (drop (i + 1) sinks)
-  at_other name node fallible at outside =
-      ap (outputs_from setting m i) (dropped sinks i (Output name node fallible) at) ∙ rw outside next_is
+  at_other name node fallible wide at outside =
+      ap (outputs_from setting m i) (dropped sinks i (Output name node fallible wide) at) ∙ rw outside next_is
 
   pub at_feed : (buffer node : ℕ) → slice_get sinks i ≡ Some (Feed buffer node)
       → outputs_from setting m i (drop i sinks) ≡ outputs_from setting m (i + 1) (drop (i + 1) sinks)

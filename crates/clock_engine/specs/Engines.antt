@@ -39,7 +39,7 @@ setting_of parts = record {
 -- the outputs of main clock m among these sinks, which are counted from i: their numbers and nodes
 abbrev pub outputs_from : Setting → (m i : ℕ) → List SinkPlan → List (ℕ × ℕ)
 outputs_from setting m i [] = []
-outputs_from setting m i (Output name node fallible ∷ sinks) =
+outputs_from setting m i (Output name node fallible wide ∷ sinks) =
     if lies_in setting (Main m) node then (i, node) ∷ outputs_from setting m (suc i) sinks else outputs_from setting m (suc i) sinks
 outputs_from setting m i (Feed buffer node ∷ sinks) = outputs_from setting m (suc i) sinks
 
@@ -53,7 +53,7 @@ output_of port = (port.sink, port.node)
 -- the feeds of main clock m among these sinks: their buffers and nodes
 abbrev pub feeds_from : Setting → (m : ℕ) → List SinkPlan → List (ℕ × ℕ)
 feeds_from setting m [] = []
-feeds_from setting m (Output name node fallible ∷ sinks) = feeds_from setting m sinks
+feeds_from setting m (Output name node fallible wide ∷ sinks) = feeds_from setting m sinks
 feeds_from setting m (Feed buffer node ∷ sinks) =
     if lies_in setting (Main m) node then (buffer, node) ∷ feeds_from setting m sinks else feeds_from setting m sinks
 

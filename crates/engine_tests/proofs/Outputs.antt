@@ -10,7 +10,7 @@ use Rattle.stream_meaning.specs.Instants.{Setting, same_clock}
 use Rattle.clock_engine.specs.Engines.{outputs_from, outputs_of}
 
 -- the main clock 0 of a plan that writes one node, which lies in it, has one output
-pub one_output : (plan : Plan) (library : Sounds) (clocks : List NodeClock) (start node : ℕ) → plan.sinks ≡ Output [] node false ∷ []
+pub one_output : (plan : Plan) (library : Sounds) (clocks : List NodeClock) (start node : ℕ) → plan.sinks ≡ Output [] node false false ∷ []
     → slice_get clocks node ≡ Some (Main 0)
     → length (outputs_of (record { plan = plan; library = library; clocks = clocks; start = start; answers = λ buffer. [] }) 0) ≡ 1
 one_output plan library clocks start node sinks clock =

@@ -21,7 +21,7 @@ joined_nodes = mono_node (Single []) [] ∷ mono_node (Buffer 0) [] ∷ mono_nod
 
 -- an output of the file, its feed, and an output of the second clock
 abbrev pub joined_sinks : List SinkPlan
-joined_sinks = Output [] 0 false ∷ Feed 0 0 ∷ Output [] 4 false ∷ []
+joined_sinks = Output [] 0 false false ∷ Feed 0 0 ∷ Output [] 4 false false ∷ []
 
 -- the sinks in memory tell no room left
 abbrev pub no_room : SinkState → Option ℕ

@@ -21,12 +21,13 @@ pub(crate) fn mono(op: Op, children: Vec<u32>) -> Node
 
 /// An output of this node, without a name.
 pub(crate) fn output(alloc: Global, node: u32) -> SinkPlan
-    ensures { result ≡ SinkPlan.Output [] node false }
+    ensures { result ≡ SinkPlan.Output [] node false false }
 {
     SinkPlan::Output {
         name: Text::from_string(String::new(alloc)),
         node,
         fallible: false,
+        wide: false,
     }
 }
 

@@ -24,7 +24,7 @@ use std::test::Fail;
 fn looped(alloc: Global) -> Result<Plan, AllocError>
     ensures well_formed { IfOk result IsWellFormed }
     ensures size { IfOk result (λ plan. length plan.nodes ≡ 1) }
-    ensures sinks { IfOk result (λ plan. plan.sinks ≡ Output [] 0 false ∷ []) }
+    ensures sinks { IfOk result (λ plan. plan.sinks ≡ Output [] 0 false false ∷ []) }
 {
     let sinks = Items::from_vec(vec![in alloc; output(alloc, 0)]?);
     let file = Text::from_string(String::new(alloc));
@@ -44,7 +44,7 @@ fn once(alloc: Global, frame: u32) -> Result<Plan, AllocError>
     requires few { frame ≤ 65536 }
     ensures well_formed { IfOk result IsWellFormed }
     ensures size { IfOk result (λ plan. length plan.nodes ≡ 3) }
-    ensures sinks { IfOk result (λ plan. plan.sinks ≡ Output [] 2 false ∷ []) }
+    ensures sinks { IfOk result (λ plan. plan.sinks ≡ Output [] 2 false false ∷ []) }
 {
     let sinks = Items::from_vec(vec![in alloc; output(alloc, 2)]?);
     let both = vec![in alloc; 0, 1]?;
@@ -66,7 +66,7 @@ fn turns(alloc: Global, seed: u64, node: u32) -> Result<Plan, AllocError>
     requires { node < 4 }
     ensures well_formed { IfOk result IsWellFormed }
     ensures size { IfOk result (λ plan. length plan.nodes ≡ 4) }
-    ensures sinks { IfOk result (λ plan. plan.sinks ≡ Output [] node false ∷ []) }
+    ensures sinks { IfOk result (λ plan. plan.sinks ≡ Output [] node false false ∷ []) }
 {
     let sinks = Items::from_vec(vec![in alloc; output(alloc, node)]?);
     let both = vec![in alloc; 0, 1]?;
@@ -140,7 +140,7 @@ fn begun<'a>(
     requires clocks { IsClockMap plan.now clocks.now }
     requires library { IsLibrary library.now }
     requires leaves { length library.now.leaves ≡ length plan.now.nodes }
-    requires sinks { plan.now.sinks ≡ Output [] node false ∷ [] }
+    requires sinks { plan.now.sinks ≡ Output [] node false false ∷ [] }
     requires clock { slice_get clocks.now.of node ≡ Some (InMain 0) }
     requires one { length outs.items ≡ 1 }
     ensures setting { IfOk result (λ engine. (setting_of engine.parts).plan ≡ plan.now) }
@@ -208,7 +208,7 @@ fn check_clock(
     requires clocks { IsClockMap plan.now clocks.now }
     requires library { IsLibrary library.now }
     requires leaves { length library.now.leaves ≡ length plan.now.nodes }
-    requires sinks { plan.now.sinks ≡ Output [] node false ∷ [] }
+    requires sinks { plan.now.sinks ≡ Output [] node false false ∷ [] }
     requires clock { slice_get clocks.now.of node ≡ Some (InMain 0) }
     requires buffers { length taps.old ≡ length plan.now.buffers }
 {
@@ -238,7 +238,7 @@ fn check(
     requires plan { IsWellFormed plan.now }
     requires library { IsLibrary library.now }
     requires leaves { length library.now.leaves ≡ length plan.now.nodes }
-    requires sinks { plan.now.sinks ≡ Output [] node false ∷ [] }
+    requires sinks { plan.now.sinks ≡ Output [] node false false ∷ [] }
 {
     let clocks = assign(alloc, plan)?;
     assert!(rt; lies_in(&clocks, node, 0));
@@ -259,7 +259,7 @@ fn check_looped(
 ) -> Result<(), Fail>
     requires plan { IsWellFormed plan.now }
     requires size { length plan.now.nodes ≡ 1 }
-    requires sinks { plan.now.sinks ≡ Output [] 0 false ∷ [] }
+    requires sinks { plan.now.sinks ≡ Output [] 0 false false ∷ [] }
 {
     let library = one_file(alloc)?;
     check(rt, alloc, plan, 0, &library, fails, ending, held)
@@ -281,7 +281,7 @@ fn check_segments(
     requires clocks { IsClockMap plan.now clocks.now }
     requires library { IsLibrary library.now }
     requires leaves { length library.now.leaves ≡ length plan.now.nodes }
-    requires sinks { plan.now.sinks ≡ Output [] node false ∷ [] }
+    requires sinks { plan.now.sinks ≡ Output [] node false false ∷ [] }
     requires clock { slice_get clocks.now.of node ≡ Some (InMain 0) }
     requires buffers { length taps.old ≡ length plan.now.buffers }
 {
@@ -311,7 +311,7 @@ fn check_tick(
     requires plan { IsWellFormed plan.now }
     requires library { IsLibrary library.now }
     requires leaves { length library.now.leaves ≡ length plan.now.nodes }
-    requires sinks { plan.now.sinks ≡ Output [] node false ∷ [] }
+    requires sinks { plan.now.sinks ≡ Output [] node false false ∷ [] }
 {
     let clocks = assign(alloc, plan)?;
     assert!(rt; lies_in(&clocks, node, 0));

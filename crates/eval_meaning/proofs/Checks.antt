@@ -194,6 +194,6 @@ uses_of_kinds =
     ∷ record { at = 30; target = target.Builtin builtins.OutputFile; kinds = kind_of.Fixed Stereo ∷ [] }
     ∷ record { at = 36; target = target.Def 11; kinds = kind_of.Fixed Stereo ∷ [] } ∷ []
 
-each_kind : evaluation two_kinds uses_of_kinds ≡ Ok (record { rate = 44100; frame = 1764; nodes = record { op = node_op.Blank 0; kind = Mono; children = [] } ∷ record { op = node_op.Blank 0; kind = Stereo; children = [] } ∷ []; sinks = Output (codes "A") 0 false ∷ Output (codes "B") 1 false ∷ []; buffers = [] })
+each_kind : evaluation two_kinds uses_of_kinds ≡ Ok (record { rate = 44100; frame = 1764; nodes = record { op = node_op.Blank 0; kind = Mono; children = [] } ∷ record { op = node_op.Blank 0; kind = Stereo; children = [] } ∷ []; sinks = Output (codes "A") 0 false false ∷ Output (codes "B") 1 false false ∷ []; buffers = [] })
 unfolding statements turned statement full expr ors conj ands nega compare sum addeds product multiplieds prim call arguments argued applied builtin blank output_file decimal_or bool_or plain plain_format plain_text plain_source as_format as_text source_of track_of add push add_output parameters inners body call_by count ended
 each_kind = refl

@@ -46,5 +46,5 @@ IsMarking nodes mark = (i : ℕ) (node : Node) → slice_get nodes i ≡ Some no
 
 -- an output needs an infallible node, unless it is written with `fallible=true`; a feed does not
 abbrev pub refuses : (mark : ℕ → Bool) → SinkPlan → Bool
-refuses mark (Output name node fallible) = not fallible && not (mark node)
+refuses mark (Output name node fallible wide) = not fallible && not (mark node)
 refuses mark (Feed buffer node) = false

@@ -21,7 +21,7 @@ use Rattle.liq_cli.specs.Summary.{SumsAsOneThread, sum_at, summary_of, summed_li
 same_lines : (station : Station) (run other : Run) → setting_of_run station run ≡ setting_of_run station other → (files : Files) (sinks : List SinkPlan)
     → summed_lines station run files sinks ≡ summed_lines station other files sinks
 same_lines station run other same files [] = refl
-same_lines station run other same files (Output name node fallible ∷ sinks) =
+same_lines station run other same files (Output name node fallible wide ∷ sinks) =
     let rest = same_lines station run other same files sinks in
     λ i. summed_line name (station.ticks * station.plan.frame) (gaps (same i) node station.ticks) (sum_at files name) ++ rest i
 same_lines station run other same files (Feed buffer node ∷ sinks) = same_lines station run other same files sinks

@@ -10,7 +10,7 @@ use Rattle.stream_meaning.specs.Instants.{Setting}
 
 counts_long : (setting : Setting) (ticks : ℕ) (sinks : List SinkPlan) → length (counts_in setting ticks sinks) ≡ length (written sinks)
 counts_long setting ticks [] = refl
-counts_long setting ticks (Output name node fallible ∷ sinks) = ap suc (counts_long setting ticks sinks)
+counts_long setting ticks (Output name node fallible wide ∷ sinks) = ap suc (counts_long setting ticks sinks)
 counts_long setting ticks (Feed buffer node ∷ sinks) = counts_long setting ticks sinks
 
 pub as_many : (station : Station) (run : Run) (gaps : List ℕ) → gaps ≡ gaps_in_order station run → length gaps ≡ length (written station.plan.sinks)

@@ -42,7 +42,7 @@ pub record HasFault (files : Files) (file : List ℕ) (fault : ScriptFault) : Ty
 
 -- a sink is the output of this name
 abbrev pub has_name : (name : List ℕ) → SinkPlan → Bool
-has_name name (Output own node fallible) = bytes_eq own name
+has_name name (Output own node fallible wide) = bytes_eq own name
 has_name name (Feed buffer node) = false
 
 -- the trace, if one is wanted, has the name of an output

@@ -31,7 +31,7 @@ summed_line name samples gaps sum = counted_part name samples gaps ++ sum_part s
 -- the lines of the outputs among these sinks, whose files these are
 abbrev pub summed_lines : Station → Run → Files → List SinkPlan → List ℕ
 summed_lines station run files [] = []
-summed_lines station run files (Output name node fallible ∷ sinks) =
+summed_lines station run files (Output name node fallible wide ∷ sinks) =
     summed_line name (station.ticks * station.plan.frame) (gaps_of station run node) (sum_at files name) ++ summed_lines station run files sinks
 summed_lines station run files (Feed buffer node ∷ sinks) = summed_lines station run files sinks
 

@@ -23,7 +23,8 @@ with_rest setting answers rest = answered setting (λ buffer. answers buffer ++ 
 pub record IsOutput (setting : Setting) (m sink node : ℕ) : Type 0 where
   pub name : List ℕ
   pub fallible : Bool
-  pub there : slice_get setting.plan.sinks sink ≡ Some (Output name node fallible)
+  pub wide : Bool
+  pub there : slice_get setting.plan.sinks sink ≡ Some (Output name node fallible wide)
   pub in_clock : clock_of setting node ≡ Main m
 
 -- after tick t, which made these calls: the engine stands for one tick more and for their answers, whatever answers follow;

@@ -42,8 +42,8 @@ same_feed a b m n e = (cc, cc)
 same_buffer : (a b : ℕ) → Buffer a ≡ Buffer b → a ≡ b
 same_buffer a b e = cc
 
-no_feed : (name : List ℕ) (node : ℕ) (fallible : Bool) (b n : ℕ) → Output name node fallible ≡ Feed b n → ⊥
-no_feed name node fallible b n e = cc
+no_feed : (name : List ℕ) (node : ℕ) (fallible wide : Bool) (b n : ℕ) → Output name node fallible wide ≡ Feed b n → ⊥
+no_feed name node fallible wide b n e = cc
 
 -- the node of each sink is there in a longer list too
 sinks_there : (plan : Plan) (n : ℕ) → length plan.nodes ≤ n → All (λ sink. sink_node sink < length plan.nodes) plan.sinks → All (λ sink. sink_node sink < n) plan.sinks
@@ -96,19 +96,19 @@ module _ (plan : Plan) (w : IsWellFormed plan) (node : Node) (none : IsNoReader 
             w.readers b i j n reader source (old_reader b i reader at is) is feed (at_old_place plan.nodes node n source (source_there plan b j n w feed) there);
       }
 
-module _ (plan : Plan) (w : IsWellFormed plan) (name : List ℕ) (node : ℕ) (fallible : Bool) where
+module _ (plan : Plan) (w : IsWellFormed plan) (name : List ℕ) (node : ℕ) (fallible wide : Bool) where
   -- each feed of the longer list was there
-  old_feed : (b i n : ℕ) → FeedsFrom (with_output plan name node fallible) b i n → FeedsFrom plan b i n
+  old_feed : (b i n : ℕ) → FeedsFrom (with_output plan name node fallible wide) b i n → FeedsFrom plan b i n
   old_feed b i n at =
-      elim (one_more plan.sinks (Output name node fallible) i (Feed b n) at) [
+      elim (one_more plan.sinks (Output name node fallible wide) i (Feed b n) at) [
         | inl p ↦ p.1
-        | inr p ↦ absurd (no_feed name node fallible b n p.1)
+        | inr p ↦ absurd (no_feed name node fallible wide b n p.1)
       ]
 
-  pub output_keeps : length plan.sinks + 1 < 2 ^ 32 → node < length plan.nodes → IsWellFormed (with_output plan name node fallible)
+  pub output_keeps : length plan.sinks + 1 < 2 ^ 32 → node < length plan.nodes → IsWellFormed (with_output plan name node fallible wide)
   output_keeps room there =
-      let longer = one_longer plan.sinks (Output name node fallible) in
-      let few : length (plan.sinks ++ Output name node fallible ∷ []) < 2 ^ 32 = omega arith in
+      let longer = one_longer plan.sinks (Output name node fallible wide) in
+      let few : length (plan.sinks ++ Output name node fallible wide ∷ []) < 2 ^ 32 = omega arith in
       let P : SinkPlan → Type 0 = λ s. sink_node s < length plan.nodes in
       record {
         rate = w.rate;
@@ -116,13 +116,13 @@ module _ (plan : Plan) (w : IsWellFormed plan) (name : List ℕ) (node : ℕ) (f
         few_nodes = w.few_nodes;
         few_sinks = few;
         nodes = w.nodes;
-        sinks = All-append P plan.sinks (Output name node fallible ∷ []) w.sinks (each_of_one P (Output name node fallible) there);
+        sinks = All-append P plan.sinks (Output name node fallible wide ∷ []) w.sinks (each_of_one P (Output name node fallible wide) there);
         buffers = w.buffers;
         fed = λ b i (n, at). w.fed b i (n, old_feed b i n at);
         read = w.read;
         one_feed = λ b lt.
             let (i, (n, at), only) = w.one_feed b lt in
-            (i, (n, stays plan.sinks (Output name node fallible ∷ []) i (Feed b n) at), λ j (m, also). only j (m, old_feed b j m also));
+            (i, (n, stays plan.sinks (Output name node fallible wide ∷ []) i (Feed b n) at), λ j (m, also). only j (m, old_feed b j m also));
         one_reader = w.one_reader;
         readers = λ b i j n reader source at is feed there. w.readers b i j n reader source at is (old_feed b j n feed) there;
       }

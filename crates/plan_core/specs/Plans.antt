@@ -61,12 +61,12 @@ IsNoReader op = (buffer : ℕ) → op ≢ Buffer buffer
 
 -- this is an output, and no feed
 abbrev pub is_output : SinkPlan → Bool
-is_output (Output name node fallible) = true
+is_output (Output name node fallible wide) = true
 is_output (Feed buffer node) = false
 
 -- the node of a sink
 abbrev pub sink_node : SinkPlan → ℕ
-sink_node (Output name node fallible) = node
+sink_node (Output name node fallible wide) = node
 sink_node (Feed buffer node) = node
 
 -- the greatest of some numbers, or 0
@@ -149,8 +149,8 @@ pub record IsWellFormed (plan : Plan) : Type 0 where
 abbrev pub with_node : Plan → Node → Plan
 with_node plan node = record plan { nodes = plan.nodes ++ node ∷ [] }
 
-abbrev pub with_output : Plan → (name : List ℕ) (node : ℕ) (fallible : Bool) → Plan
-with_output plan name node fallible = record plan { sinks = plan.sinks ++ Output name node fallible ∷ [] }
+abbrev pub with_output : Plan → (name : List ℕ) (node : ℕ) (fallible wide : Bool) → Plan
+with_output plan name node fallible wide = record plan { sinks = plan.sinks ++ Output name node fallible wide ∷ [] }
 
 abbrev pub reader_of : (buffer : ℕ) → Kind → Node
 reader_of buffer kind = record { op = Buffer buffer; kind = kind; children = [] }

@@ -7,11 +7,13 @@ use liq_base::Text;
 /// A sink of a plan.
 #[derive(Debug, Drop)]
 pub enum SinkPlan {
-    /// A node is written to the file of this name. `fallible` says that it may offer nothing.
+    /// A node is written to the file of this name. `fallible` says that it may offer nothing, and `wide` that its
+    /// samples have 24 bits, and not 16.
     Output {
         name: Text,
         node: u32,
         fallible: bool,
+        wide: bool,
     },
 
     /// A node's cells are given to the buffer of this number.

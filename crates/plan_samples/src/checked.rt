@@ -63,7 +63,7 @@ impl CheckedDraft {
     /// is refused.
     pub fn into_plan(self, alloc: Global, node: u32) -> Option<Plan>
         ensures well_formed { IfSome result IsWellFormed }
-        ensures sinks { IfSome result (λ plan. plan.sinks ≡ Output [] node false ∷ []) }
+        ensures sinks { IfSome result (λ plan. plan.sinks ≡ Output [] node false false ∷ []) }
     {
         let mut draft = self.draft;
         if node as usize >= draft.plan().nodes.len() {

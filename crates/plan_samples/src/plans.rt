@@ -71,9 +71,9 @@ pub(crate) fn write(alloc: Global, draft: &mut Draft, node: u32) -> Result<(), M
     requires node { node < length draft.old.nodes }
     ensures well_formed { OnOk result (IsWellFormed draft.new) }
     ensures nodes { OnOk result (draft.new.nodes ≡ draft.old.nodes) }
-    ensures sinks { OnOk result (draft.new.sinks ≡ draft.old.sinks ++ Output [] node false ∷ []) }
+    ensures sinks { OnOk result (draft.new.sinks ≡ draft.old.sinks ++ Output [] node false false ∷ []) }
 {
-    draft.push_output(Text::from_string(String::new(alloc)), node, false)?;
+    draft.push_output(Text::from_string(String::new(alloc)), node, false, false)?;
     Ok(())
 }
 

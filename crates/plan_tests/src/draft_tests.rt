@@ -31,7 +31,7 @@ fn push_buffered_tone(
     let tone = draft.push_node(square(alloc))?;
     let reader = draft.push_buffer(alloc, tone, Kind::Mono, buffer)?;
     let name = Text::from_str(alloc, "tone.wav")?;
-    draft.push_output(name, reader, true)?;
+    draft.push_output(name, reader, true, false)?;
     Ok(())
 }
 

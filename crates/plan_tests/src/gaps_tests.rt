@@ -23,12 +23,13 @@ fn mono(op: Op, children: Vec<u32>) -> Node
 }
 
 fn output(alloc: Global, node: u32, fallible: bool) -> SinkPlan
-    ensures { result ≡ SinkPlan.Output [] node fallible }
+    ensures { result ≡ SinkPlan.Output [] node fallible false }
 {
     SinkPlan::Output {
         name: Text::from_string(String::new(alloc)),
         node,
         fallible,
+        wide: false,
     }
 }
 
@@ -50,7 +51,7 @@ fn day_or_night(alloc: Global) -> Result<Preds, AllocError>
 }
 
 fn outputs(alloc: Global) -> Result<Vec<SinkPlan>, AllocError>
-    ensures { IfOk result (λ sinks. sinks.items ≡ SinkPlan.Output [] 2 false ∷ SinkPlan.Output [] 1 true ∷ SinkPlan.Output [] 3 false ∷ []) }
+    ensures { IfOk result (λ sinks. sinks.items ≡ SinkPlan.Output [] 2 false false ∷ SinkPlan.Output [] 1 true false ∷ SinkPlan.Output [] 3 false false ∷ []) }
 {
     Ok(vec![in alloc;
         output(alloc, 2, false),

@@ -84,8 +84,8 @@ read_is base buffer i (x ∷ xs) p node there does only = by p there does only (
 
 pub fed_is : (buffer : ℕ) (sinks : List SinkPlan) (p node : ℕ) → slice_get sinks p ≡ Some (Feed buffer node) → ((q other : ℕ) → slice_get sinks q ≡ Some (Feed buffer other) → q ≡ p) → fed_in buffer sinks ≡ node
 fed_is buffer [] p node there only = absurd cc
-fed_is buffer (Output name source fallible ∷ sinks) zero node there only = absurd cc
-fed_is buffer (Output name source fallible ∷ sinks) (suc p) node there only = fed_is buffer sinks p node there (λ q other at. let one : suc q ≡ suc p = only (suc q) other at in omega (arith, one))
+fed_is buffer (Output name source fallible wide ∷ sinks) zero node there only = absurd cc
+fed_is buffer (Output name source fallible wide ∷ sinks) (suc p) node there only = fed_is buffer sinks p node there (λ q other at. let one : suc q ≡ suc p = only (suc q) other at in omega (arith, one))
 fed_is buffer (Feed to source ∷ sinks) zero node there only =
     let same : to ≡ buffer = cc in let source_is : source ≡ node = cc in
     ap (λ (b : Bool). cond b source (fed_in buffer sinks)) (ap (λ (n : ℕ). nat_eq n buffer) same ∙ eq_same buffer) ∙ source_is
@@ -193,7 +193,7 @@ module _ (base : Setting) (clocks : ClockMap) (is : IsSetting base clocks) (answ
   own_given buffer own (cell ∷ cells) = All-cons (IsOwn base m) (Given buffer (cell ∷ cells) (accepted buffer)) [] own (All-nil (IsOwn base m))
 
   own_give : (k : ℕ) (sink : SinkPlan) → slice_get base.plan.sinks k ≡ Some sink → All (IsOwn base m) (give_by (answered base answers) accepted m t sink)
-  own_give k (Output name node fallible) there = All-nil (IsOwn base m)
+  own_give k (Output name node fallible wide) there = All-nil (IsOwn base m)
   own_give k (Feed buffer node) there = by (lies_in base (Main m) node) refl
     where
       by : (b : Bool) → lies_in base (Main m) node ≡ b → All (IsOwn base m) (give_by (answered base answers) accepted m t (Feed buffer node))

@@ -37,7 +37,7 @@ first_by such other (s ∷ sinks) same =
     ∙ ap (λ o. if other s then Some (name_of s) else o) (first_by such other sinks (λ k x there. same (suc k) x there))
 
 pub refuses_by : (mark other : ℕ → Bool) (sink : SinkPlan) → mark (sink_node sink) ≡ other (sink_node sink) → refuses mark sink ≡ refuses other sink
-refuses_by mark other (Output name node fallible) e = ap (λ b. not fallible && not b) e
+refuses_by mark other (Output name node fallible wide) e = ap (λ b. not fallible && not b) e
 refuses_by mark other (Feed buffer node) e = refl
 
 -- all markings of a plan refuse the same output first

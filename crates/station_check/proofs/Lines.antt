@@ -13,7 +13,7 @@ use Rattle.stations.specs.Stations.{Station, bare}
 use Rattle.station_check.specs.Steps.{IsOf, sink_line}
 
 one_line : (clocks : ClockMap) (mark : ℕ → Bool) (sink : SinkPlan) (sinks : List SinkPlan) → checked_lines clocks mark (sink ∷ sinks) ≡ sink_line clocks mark sink ++ checked_lines clocks mark sinks
-one_line clocks mark (Output name node fallible) sinks = refl
+one_line clocks mark (Output name node fallible wide) sinks = refl
 one_line clocks mark (Feed buffer node) sinks = refl
 
 -- one sink more

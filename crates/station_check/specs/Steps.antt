@@ -38,5 +38,5 @@ pub record IsOf (plan : Plan) (clocks : ClockMap) (station : Station) : Type 0 w
 
 -- the line of a sink in the report of a check
 abbrev pub sink_line : ClockMap → (mark : ℕ → Bool) → SinkPlan → List ℕ
-sink_line clocks mark (Output name node fallible) = checked_line clocks mark name node
+sink_line clocks mark (Output name node fallible wide) = checked_line clocks mark name node
 sink_line clocks mark (Feed buffer node) = []

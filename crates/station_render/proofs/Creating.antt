@@ -41,12 +41,12 @@ taken_and_left (x ∷ xs) (suc k) = ap (λ zs. x ∷ zs) (taken_and_left xs k)
 
 pub written_both : (xs ys : List SinkPlan) → written (xs ++ ys) ≡ written xs ++ written ys
 written_both [] ys = refl
-written_both (Output name node fallible ∷ xs) ys = ap (λ zs. (record { name = name; node = node }) ∷ zs) (written_both xs ys)
+written_both (Output name node fallible wide ∷ xs) ys = ap (λ zs. (record { name = name; node = node }) ∷ zs) (written_both xs ys)
 written_both (Feed buffer node ∷ xs) ys = written_both xs ys
 
-pub written_more : (sinks : List SinkPlan) (k : ℕ) (name : List ℕ) (node : ℕ) (fallible : Bool) → slice_get sinks k ≡ Some (Output name node fallible)
+pub written_more : (sinks : List SinkPlan) (k : ℕ) (name : List ℕ) (node : ℕ) (fallible wide : Bool) → slice_get sinks k ≡ Some (Output name node fallible wide)
     → written (take (suc k) sinks) ≡ written (take k sinks) ++ (record { name = name; node = node }) ∷ []
-written_more sinks k name node fallible at = ap written (take_more sinks k (Output name node fallible) at) ∙ written_both (take k sinks) (Output name node fallible ∷ [])
+written_more sinks k name node fallible wide at = ap written (take_more sinks k (Output name node fallible wide) at) ∙ written_both (take k sinks) (Output name node fallible wide ∷ [])
 
 pub written_same : (sinks : List SinkPlan) (k buffer node : ℕ) → slice_get sinks k ≡ Some (Feed buffer node) → written (take (suc k) sinks) ≡ written (take k sinks)
 written_same sinks k buffer node at =
@@ -54,12 +54,12 @@ written_same sinks k buffer node at =
 
 pub files_are : (setting : Setting) (ticks : ℕ) (sinks : List SinkPlan) → outputs_in setting ticks sinks ≡ map (file_of setting ticks) (written sinks)
 files_are setting ticks [] = refl
-files_are setting ticks (Output name node fallible ∷ sinks) = ap (λ zs. (record { name = name; bytes = output_bytes setting ticks node }) ∷ zs) (files_are setting ticks sinks)
+files_are setting ticks (Output name node fallible wide ∷ sinks) = ap (λ zs. (record { name = name; bytes = output_bytes setting ticks node }) ∷ zs) (files_are setting ticks sinks)
 files_are setting ticks (Feed buffer node ∷ sinks) = files_are setting ticks sinks
 
 pub fronts_are : (setting : Setting) (ticks : ℕ) (made tried : ℕ → ℕ) (sinks : List SinkPlan) → parts_in setting ticks made tried sinks ≡ map (front_file setting ticks made tried) (written sinks)
 fronts_are setting ticks made tried [] = refl
-fronts_are setting ticks made tried (Output name node fallible ∷ sinks) = ap (λ zs. front_file setting ticks made tried (record { name = name; node = node }) ∷ zs) (fronts_are setting ticks made tried sinks)
+fronts_are setting ticks made tried (Output name node fallible wide ∷ sinks) = ap (λ zs. front_file setting ticks made tried (record { name = name; node = node }) ∷ zs) (fronts_are setting ticks made tried sinks)
 fronts_are setting ticks made tried (Feed buffer node ∷ sinks) = fronts_are setting ticks made tried sinks
 
 zip_as : {Y S : Type 0} (So Other : Y → S → Type 0) → ((y : Y) (x : S) → So y x → Other y x) → (ys : List Y) (xs : List S) → AllZip So ys xs → AllZip Other ys xs
@@ -195,31 +195,31 @@ module _ {S : Type 0} (name held : S → Option (List ℕ)) (left : S → Option
             (written (take k setting.plan.sinks)) order groups are;
       }
 
-      pub begun_next : (k : ℕ) (title : List ℕ) (node : ℕ) (fallible : Bool) (order : List ℕ) (groups : List (List S)) → slice_get setting.plan.sinks k ≡ Some (Output title node fallible)
+      pub begun_next : (k : ℕ) (title : List ℕ) (node : ℕ) (fallible wide : Bool) (order : List ℕ) (groups : List (List S)) → slice_get setting.plan.sinks k ≡ Some (Output title node fallible wide)
           → ((rest : ℕ → List Answer) → AreCreated (IsPart name held faults files (setting_then setting run rest) ticks made tried) (written (take k setting.plan.sinks) ++ (record { name = title; node = node }) ∷ []) order groups)
           → AreBegun name held faults files setting run ticks made tried order groups
-      begun_next k title node fallible order groups at are = record {
+      begun_next k title node fallible wide order groups at are = record {
         created = written (take (suc k) setting.plan.sinks);
         others = written (drop (suc k) setting.plan.sinks);
         all = ap written (taken_and_left setting.plan.sinks (suc k)) ∙ written_both (take (suc k) setting.plan.sinks) (drop (suc k) setting.plan.sinks);
-        parts = λ rest. subst (λ ys. AreCreated (IsPart name held faults files (setting_then setting run rest) ticks made tried) ys order groups) (sym (written_more setting.plan.sinks k title node fallible at)) (are rest);
+        parts = λ rest. subst (λ ys. AreCreated (IsPart name held faults files (setting_then setting run rest) ticks made tried) ys order groups) (sym (written_more setting.plan.sinks k title node fallible wide at)) (are rest);
       }
 
       -- after a creation that broke off
-      pub begun_broken : (k : ℕ) (title : List ℕ) (node : ℕ) (fallible : Bool) (clock : ℕ) (header : List ℕ) (order order_new : List ℕ) (old new : List (List S)) → clock < length old
-          → slice_get setting.plan.sinks k ≡ Some (Output title node fallible) → header ≡ header_for setting ticks node
+      pub begun_broken : (k : ℕ) (title : List ℕ) (node : ℕ) (fallible wide : Bool) (clock : ℕ) (header : List ℕ) (order order_new : List ℕ) (old new : List (List S)) → clock < length old
+          → slice_get setting.plan.sinks k ≡ Some (Output title node fallible wide) → header ≡ header_for setting ticks node
           → AreCreated (IsReady name held left files setting ticks) (written (take k setting.plan.sinks)) order old
           → NoneCreated order order_new old new ⊎ WasBroken name held faults files clock title header order order_new old new
           → AreBegun name held faults files setting run ticks made tried order_new new
-      begun_broken k title node fallible clock header order order_new old new low at header_is are (inl same) =
+      begun_broken k title node fallible wide clock header order order_new old new low at header_is are (inl same) =
           subst (λ o. AreBegun name held faults files setting run ticks made tried o new) (sym same.order_is) (subst (λ gs. AreBegun name held faults files setting run ticks made tried order gs) (sym same.same) (begun_here k order old are))
-      begun_broken k title node fallible clock header order order_new old new low at header_is are (inr broken) =
-          begun_next k title node fallible order_new new at
+      begun_broken k title node fallible wide clock header order order_new old new low at header_is are (inr broken) =
+          begun_next k title node fallible wide order_new new at
           (λ rest. part_more made tried none (λ buffer. answers_of run buffer ++ rest buffer) (written (take k setting.plan.sinks)) (record { name = title; node = node }) clock header order order_new old new low header_is are broken)
 
-pub written_next : (sinks : List SinkPlan) (k : ℕ) (name : List ℕ) (node : ℕ) (fallible : Bool) → slice_get sinks k ≡ Some (Output name node fallible)
+pub written_next : (sinks : List SinkPlan) (k : ℕ) (name : List ℕ) (node : ℕ) (fallible wide : Bool) → slice_get sinks k ≡ Some (Output name node fallible wide)
     → written (take (k + 1) sinks) ≡ written (take k sinks) ++ (record { name = name; node = node }) ∷ []
-written_next sinks k name node fallible at = ap (λ n. written (take n sinks)) (add-one k) ∙ written_more sinks k name node fallible at
+written_next sinks k name node fallible wide at = ap (λ n. written (take n sinks)) (add-one k) ∙ written_more sinks k name node fallible wide at
 
 pub written_still : (sinks : List SinkPlan) (k buffer node : ℕ) → slice_get sinks k ≡ Some (Feed buffer node) → written (take (k + 1) sinks) ≡ written (take k sinks)
 written_still sinks k buffer node at = ap (λ n. written (take n sinks)) (add-one k) ∙ written_same sinks k buffer node at
@@ -228,14 +228,14 @@ pub created_by : {S : Type 0} {So : Written → S → Type 0} (ys zs : List Writ
 created_by {S} {So} ys zs order groups same are = subst (λ ws. AreCreated So ws order groups) (sym same) are
 
 module _ {S : Type 0} (name held : S → Option (List ℕ)) (left : S → Option ℕ) (faults : S → ℕ) (files before : Option Files) (same : before ≡ files) (setting : Setting) (ticks : ℕ) (k : ℕ)
-    (title said : List ℕ) (node : ℕ) (fallible : Bool) (at : slice_get setting.plan.sinks k ≡ Some (Output title node fallible)) (said_is : said ≡ title)
+    (title said : List ℕ) (node : ℕ) (fallible wide : Bool) (at : slice_get setting.plan.sinks k ≡ Some (Output title node fallible wide)) (said_is : said ≡ title)
     (clock : ℕ) (header : List ℕ) (body : ℕ) (order order_new : List ℕ) (old new : List (List S)) (low : clock < length old) (header_is : header ≡ header_for setting ticks node)
     (are : AreCreated (IsReady name held left files setting ticks) (written (take k setting.plan.sinks)) order old) where
   -- after one more creation
   pub next_ready : body ≡ body_size setting ticks node → WasCreated name held left before clock said header body order order_new old new
       → AreCreated (IsReady name held left files setting ticks) (written (take (k + 1) setting.plan.sinks)) order_new new
   next_ready body_is was =
-      created_by (written (take k setting.plan.sinks) ++ (record { name = title; node = node }) ∷ []) (written (take (k + 1) setting.plan.sinks)) order_new new (written_next setting.plan.sinks k title node fallible at)
+      created_by (written (take k setting.plan.sinks) ++ (record { name = title; node = node }) ∷ []) (written (take (k + 1) setting.plan.sinks)) order_new new (written_next setting.plan.sinks k title node fallible wide at)
       (ready_more name held left faults files setting ticks (written (take k setting.plan.sinks)) (record { name = title; node = node }) clock header body order order_new old new low header_is body_is are
       (subst (λ f. WasCreated name held left f clock title header body order order_new old new) same (subst (λ t. WasCreated name held left before clock t header body order order_new old new) said_is was)))
 
@@ -243,7 +243,7 @@ module _ {S : Type 0} (name held : S → Option (List ℕ)) (left : S → Option
   pub broken_off : (run : Run) (made tried : ℕ → ℕ) → ((k : ℕ) → made k ≡ 0) → NoneCreated order order_new old new ⊎ WasBroken name held faults before clock said header order order_new old new
       → AreBegun name held faults files setting run ticks made tried order_new new
   broken_off run made tried none was =
-      begun_broken name held left faults files setting ticks run made tried none k title node fallible clock header order order_new old new low at header_is are
+      begun_broken name held left faults files setting ticks run made tried none k title node fallible wide clock header order order_new old new low at header_is are
       (subst (λ f. NoneCreated order order_new old new ⊎ WasBroken name held faults f clock title header order order_new old new) same
       (subst (λ t. NoneCreated order order_new old new ⊎ WasBroken name held faults before clock t header order order_new old new) said_is was))
 

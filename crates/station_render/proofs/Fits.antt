@@ -30,32 +30,32 @@ none_such such (x ∷ sinks) k sink none at = by_test (such x) refl k at none (�
 
 module _ (plan : Plan) (library : Sounds) (clocks : ClockMap) (ticks : ℕ) (fit : IsFit plan library clocks ticks) where
   pub are_main : AreMain plan clocks
-  are_main k name node fallible at =
-      map_law.sinks plan clocks (Output name node fallible) fit.plan_is fit.map (contains plan.sinks k (Output name node fallible) at)
+  are_main k name node fallible wide at =
+      map_law.sinks plan clocks (Output name node fallible wide) fit.plan_is fit.map (contains plan.sinks k (Output name node fallible wide) at)
 
-  pub node_within : (k : ℕ) (name : List ℕ) (node : ℕ) (fallible : Bool) → slice_get plan.sinks k ≡ Some (Output name node fallible) → node < length plan.nodes
-  node_within k name node fallible at =
-      subst (λ sink. sink_node sink < length plan.nodes) (got_is plan.sinks k (Output name node fallible) (Output name node fallible) at)
-      (fit.plan_is.sinks k (Output name node fallible) (within plan.sinks k (Output name node fallible) at))
+  pub node_within : (k : ℕ) (name : List ℕ) (node : ℕ) (fallible wide : Bool) → slice_get plan.sinks k ≡ Some (Output name node fallible wide) → node < length plan.nodes
+  node_within k name node fallible wide at =
+      subst (λ sink. sink_node sink < length plan.nodes) (got_is plan.sinks k (Output name node fallible wide) (Output name node fallible wide) at)
+      (fit.plan_is.sinks k (Output name node fallible wide) (within plan.sinks k (Output name node fallible wide) at))
 
-  pub header_fits : (k : ℕ) (name : List ℕ) (node : ℕ) (fallible : Bool) → slice_get plan.sinks k ≡ Some (Output name node fallible)
+  pub header_fits : (k : ℕ) (name : List ℕ) (node : ℕ) (fallible wide : Bool) → slice_get plan.sinks k ≡ Some (Output name node fallible wide)
       → is_none (header_of (kind_at plan node) plan.rate (ticks * plan.frame)) ≡ false
-  header_fits k name node fallible at = none_such (is_too_long plan ticks) plan.sinks k (Output name node fallible) fit.none at
+  header_fits k name node fallible wide at = none_such (is_too_long plan ticks) plan.sinks k (Output name node fallible wide) fit.none at
 
   -- the clock of an output is one of those that run
-  pub clock_below : (k : ℕ) (name : List ℕ) (node : ℕ) (fallible : Bool) → slice_get plan.sinks k ≡ Some (Output name node fallible)
+  pub clock_below : (k : ℕ) (name : List ℕ) (node : ℕ) (fallible wide : Bool) → slice_get plan.sinks k ≡ Some (Output name node fallible wide)
       → (clock : ℕ) → slice_get clocks.of node ≡ Some (Main clock) → (many : ℕ) → many ≡ clocks.running → clock < many
-  clock_below k name node fallible at clock is many size =
-      let main = are_main k name node fallible at in
+  clock_below k name node fallible wide at clock is many size =
+      let main = are_main k name node fallible wide at in
       let both : Some (Main main.0) ≡ Some (Main clock) = sym main.2 ∙ is in
       let same : main.0 ≡ clock = cc in
       let low = main.1 in
       omega (arith, low, same, size)
 
-pub main_below : (plan : Plan) (clocks : ClockMap) → AreMain plan clocks → (k : ℕ) (name : List ℕ) (node : ℕ) (fallible : Bool) → slice_get plan.sinks k ≡ Some (Output name node fallible)
+pub main_below : (plan : Plan) (clocks : ClockMap) → AreMain plan clocks → (k : ℕ) (name : List ℕ) (node : ℕ) (fallible wide : Bool) → slice_get plan.sinks k ≡ Some (Output name node fallible wide)
     → (clock : ℕ) → slice_get clocks.of node ≡ Some (Main clock) → (many : ℕ) → many ≡ clocks.running → clock < many
-main_below plan clocks main k name node fallible at clock is many size =
-    let found = main k name node fallible at in
+main_below plan clocks main k name node fallible wide at clock is many size =
+    let found = main k name node fallible wide at in
     let both : Some (Main found.0) ≡ Some (Main clock) = sym found.2 ∙ is in
     let same : found.0 ≡ clock = cc in
     let low = found.1 in

@@ -10,9 +10,9 @@ use Rattle.stations.proofs.Making.{front_made, names_both, none_more, then_front
 use Rattle.station_render.proofs.Creating.{take_more, take_whole, taken_and_left}
 
 module _ (sinks : List SinkPlan) (k : ℕ) where
-  names_next : (name : List ℕ) (node : ℕ) (fallible : Bool) → slice_get sinks k ≡ Some (Output name node fallible) → names_in (take (k + 1) sinks) ≡ names_in (take k sinks) ++ name ∷ []
-  names_next name node fallible at =
-      ap (λ n. names_in (take n sinks)) (add-one k) ∙ ap names_in (take_more sinks k (Output name node fallible) at) ∙ names_both (take k sinks) (Output name node fallible ∷ [])
+  names_next : (name : List ℕ) (node : ℕ) (fallible wide : Bool) → slice_get sinks k ≡ Some (Output name node fallible wide) → names_in (take (k + 1) sinks) ≡ names_in (take k sinks) ++ name ∷ []
+  names_next name node fallible wide at =
+      ap (λ n. names_in (take n sinks)) (add-one k) ∙ ap names_in (take_more sinks k (Output name node fallible wide) at) ∙ names_both (take k sinks) (Output name node fallible wide ∷ [])
 
   names_still : (buffer node : ℕ) → slice_get sinks k ≡ Some (Feed buffer node) → names_in (take (k + 1) sinks) ≡ names_in (take k sinks)
   names_still buffer node at =
@@ -27,19 +27,19 @@ module _ (sinks : List SinkPlan) (k : ℕ) where
     pub made_whole : length sinks ≤ k → between ≡ after_making (names_in sinks) before
     made_whole all = so_far ∙ ap (λ xs. after_making (names_in xs) before) (take_whole sinks k all)
 
-    module _ (name said : List ℕ) (node : ℕ) (fallible : Bool) (at : slice_get sinks k ≡ Some (Output name node fallible)) (said_is : said ≡ name) (after : Option (List (List ℕ))) where
+    module _ (name said : List ℕ) (node : ℕ) (fallible wide : Bool) (at : slice_get sinks k ≡ Some (Output name node fallible wide)) (said_is : said ≡ name) (after : Option (List (List ℕ))) where
       -- one more output was
       pub made_next : after ≡ after_making (said ∷ []) between → after ≡ after_making (names_in (take (k + 1) sinks)) before
       made_next one =
           then_made (names_in (take k sinks)) (said ∷ []) before between after so_far one
-          ∙ ap (λ n. after_making (names_in (take k sinks) ++ n ∷ []) before) said_is ∙ ap (λ names. after_making names before) (sym (names_next name node fallible at))
+          ∙ ap (λ n. after_making (names_in (take k sinks) ++ n ∷ []) before) said_is ∙ ap (λ names. after_making names before) (sym (names_next name node fallible wide at))
 
       -- one more may have been
       pub front_next : MadeFront (said ∷ []) between after → MadeFront (names_in sinks) before after
       front_next front =
           let whole : names_in sinks ≡ names_in (take k sinks) ++ said ∷ [] ++ names_in (drop (k + 1) sinks) =
           ap names_in (taken_and_left sinks (k + 1)) ∙ names_both (take (k + 1) sinks) (drop (k + 1) sinks)
-          ∙ ap (λ names. names ++ names_in (drop (k + 1) sinks)) (names_next name node fallible at ∙ ap (λ n. names_in (take k sinks) ++ n ∷ []) (sym said_is)) in
+          ∙ ap (λ names. names ++ names_in (drop (k + 1) sinks)) (names_next name node fallible wide at ∙ ap (λ n. names_in (take k sinks) ++ n ∷ []) (sym said_is)) in
           subst (λ names. MadeFront names before after) (sym whole)
           (front_made (names_in (take k sinks) ++ said ∷ []) (names_in (drop (k + 1) sinks)) before after
           (then_front (names_in (take k sinks)) (said ∷ []) before between after so_far front))

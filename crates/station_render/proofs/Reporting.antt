@@ -18,42 +18,42 @@ use Rattle.station_render.specs.Runs.{counted_lines, counts_from}
 use Rattle.station_render.proofs.Lists.{got_is}
 use Rattle.station_render.proofs.Creating.{take_more, written_next}
 
-pub count_at : (setting : Setting) (ticks : ℕ) (sinks : List SinkPlan) (k : ℕ) (name : List ℕ) (node : ℕ) (fallible : Bool) → slice_get sinks k ≡ Some (Output name node fallible)
+pub count_at : (setting : Setting) (ticks : ℕ) (sinks : List SinkPlan) (k : ℕ) (name : List ℕ) (node : ℕ) (fallible wide : Bool) → slice_get sinks k ≡ Some (Output name node fallible wide)
     → slice_get (counts_in setting ticks sinks) (length (written (take k sinks))) ≡ Some (gaps setting node ticks)
-count_at setting ticks [] k name node fallible at = absurd (cc)
-count_at setting ticks (Output other number free ∷ sinks) zero name node fallible at =
-    let both : Some (Output other number free) ≡ Some (Output name node fallible) = at in
+count_at setting ticks [] k name node fallible wide at = absurd (cc)
+count_at setting ticks (Output other number free broad ∷ sinks) zero name node fallible wide at =
+    let both : Some (Output other number free broad) ≡ Some (Output name node fallible wide) = at in
     let same : number ≡ node = cc in
     ap (λ n. Some (gaps setting n ticks)) same
-count_at setting ticks (Output other number free ∷ sinks) (suc k) name node fallible at = count_at setting ticks sinks k name node fallible at
-count_at setting ticks (Feed buffer number ∷ sinks) zero name node fallible at = absurd (cc)
-count_at setting ticks (Feed buffer number ∷ sinks) (suc k) name node fallible at = count_at setting ticks sinks k name node fallible at
+count_at setting ticks (Output other number free broad ∷ sinks) (suc k) name node fallible wide at = count_at setting ticks sinks k name node fallible wide at
+count_at setting ticks (Feed buffer number ∷ sinks) zero name node fallible wide at = absurd (cc)
+count_at setting ticks (Feed buffer number ∷ sinks) (suc k) name node fallible wide at = count_at setting ticks sinks k name node fallible wide at
 
 pub counts_many : (setting : Setting) (ticks : ℕ) (sinks : List SinkPlan) → length (counts_in setting ticks sinks) ≡ length (written sinks)
 counts_many setting ticks [] = refl
-counts_many setting ticks (Output name node fallible ∷ sinks) = ap suc (counts_many setting ticks sinks)
+counts_many setting ticks (Output name node fallible wide ∷ sinks) = ap suc (counts_many setting ticks sinks)
 counts_many setting ticks (Feed buffer node ∷ sinks) = counts_many setting ticks sinks
 
 -- an output that is still to come has a place
-pub place_below : (sinks : List SinkPlan) (k : ℕ) (name : List ℕ) (node : ℕ) (fallible : Bool) → slice_get sinks k ≡ Some (Output name node fallible) → length (written (take k sinks)) < length (written sinks)
-place_below [] k name node fallible at = absurd (cc)
-place_below (Output other number free ∷ sinks) zero name node fallible at = omega arith
-place_below (Output other number free ∷ sinks) (suc k) name node fallible at = let rest = place_below sinks k name node fallible at in omega (arith, rest)
-place_below (Feed buffer number ∷ sinks) zero name node fallible at = absurd (cc)
-place_below (Feed buffer number ∷ sinks) (suc k) name node fallible at = place_below sinks k name node fallible at
+pub place_below : (sinks : List SinkPlan) (k : ℕ) (name : List ℕ) (node : ℕ) (fallible wide : Bool) → slice_get sinks k ≡ Some (Output name node fallible wide) → length (written (take k sinks)) < length (written sinks)
+place_below [] k name node fallible wide at = absurd (cc)
+place_below (Output other number free broad ∷ sinks) zero name node fallible wide at = omega arith
+place_below (Output other number free broad ∷ sinks) (suc k) name node fallible wide at = let rest = place_below sinks k name node fallible wide at in omega (arith, rest)
+place_below (Feed buffer number ∷ sinks) zero name node fallible wide at = absurd (cc)
+place_below (Feed buffer number ∷ sinks) (suc k) name node fallible wide at = place_below sinks k name node fallible wide at
 
 lines_both : (station : Station) (run : Run) (xs ys : List SinkPlan) → rendered_lines station run (xs ++ ys) ≡ rendered_lines station run xs ++ rendered_lines station run ys
 lines_both station run [] ys = refl
-lines_both station run (Output name node fallible ∷ xs) ys =
+lines_both station run (Output name node fallible wide ∷ xs) ys =
     ap (λ rest. rendered_line name (station.ticks * station.plan.frame) (gaps_of station run node) ++ rest) (lines_both station run xs ys)
     ∙ sym (append_assoc (rendered_line name (station.ticks * station.plan.frame) (gaps_of station run node)) (rendered_lines station run xs) (rendered_lines station run ys))
 lines_both station run (Feed buffer node ∷ xs) ys = lines_both station run xs ys
 
-pub lines_next : (station : Station) (run : Run) (sinks : List SinkPlan) (k : ℕ) (name : List ℕ) (node : ℕ) (fallible : Bool) → slice_get sinks k ≡ Some (Output name node fallible)
+pub lines_next : (station : Station) (run : Run) (sinks : List SinkPlan) (k : ℕ) (name : List ℕ) (node : ℕ) (fallible wide : Bool) → slice_get sinks k ≡ Some (Output name node fallible wide)
     → rendered_lines station run (take (k + 1) sinks) ≡ rendered_lines station run (take k sinks) ++ rendered_line name (station.ticks * station.plan.frame) (gaps_of station run node)
-lines_next station run sinks k name node fallible at =
-    ap (λ n. rendered_lines station run (take n sinks)) (add-one k) ∙ ap (rendered_lines station run) (take_more sinks k (Output name node fallible) at)
-    ∙ lines_both station run (take k sinks) (Output name node fallible ∷ [])
+lines_next station run sinks k name node fallible wide at =
+    ap (λ n. rendered_lines station run (take n sinks)) (add-one k) ∙ ap (rendered_lines station run) (take_more sinks k (Output name node fallible wide) at)
+    ∙ lines_both station run (take k sinks) (Output name node fallible wide ∷ [])
     ∙ ap (λ line. rendered_lines station run (take k sinks) ++ line) (append-nil (rendered_line name (station.ticks * station.plan.frame) (gaps_of station run node)))
 
 pub lines_still : (station : Station) (run : Run) (sinks : List SinkPlan) (k buffer node : ℕ) → slice_get sinks k ≡ Some (Feed buffer node)
@@ -64,14 +64,14 @@ lines_still station run sinks k buffer node at =
 
 counts_both : (setting : Setting) (ticks : ℕ) (xs ys : List SinkPlan) → counts_in setting ticks (xs ++ ys) ≡ counts_in setting ticks xs ++ counts_in setting ticks ys
 counts_both setting ticks [] ys = refl
-counts_both setting ticks (Output name node fallible ∷ xs) ys = ap (λ rest. gaps setting node ticks ∷ rest) (counts_both setting ticks xs ys)
+counts_both setting ticks (Output name node fallible wide ∷ xs) ys = ap (λ rest. gaps setting node ticks ∷ rest) (counts_both setting ticks xs ys)
 counts_both setting ticks (Feed buffer node ∷ xs) ys = counts_both setting ticks xs ys
 
-pub counts_next : (setting : Setting) (ticks : ℕ) (sinks : List SinkPlan) (k : ℕ) (name : List ℕ) (node : ℕ) (fallible : Bool) → slice_get sinks k ≡ Some (Output name node fallible)
+pub counts_next : (setting : Setting) (ticks : ℕ) (sinks : List SinkPlan) (k : ℕ) (name : List ℕ) (node : ℕ) (fallible wide : Bool) → slice_get sinks k ≡ Some (Output name node fallible wide)
     → counts_in setting ticks (take (k + 1) sinks) ≡ counts_in setting ticks (take k sinks) ++ gaps setting node ticks ∷ []
-counts_next setting ticks sinks k name node fallible at =
-    ap (λ n. counts_in setting ticks (take n sinks)) (add-one k) ∙ ap (counts_in setting ticks) (take_more sinks k (Output name node fallible) at)
-    ∙ counts_both setting ticks (take k sinks) (Output name node fallible ∷ [])
+counts_next setting ticks sinks k name node fallible wide at =
+    ap (λ n. counts_in setting ticks (take n sinks)) (add-one k) ∙ ap (counts_in setting ticks) (take_more sinks k (Output name node fallible wide) at)
+    ∙ counts_both setting ticks (take k sinks) (Output name node fallible wide ∷ [])
 
 pub counts_still : (setting : Setting) (ticks : ℕ) (sinks : List SinkPlan) (k buffer node : ℕ) → slice_get sinks k ≡ Some (Feed buffer node)
     → counts_in setting ticks (take (k + 1) sinks) ≡ counts_in setting ticks (take k sinks)
@@ -80,26 +80,26 @@ counts_still setting ticks sinks k buffer node at =
     ∙ counts_both setting ticks (take k sinks) (Feed buffer node ∷ []) ∙ append-nil (counts_in setting ticks (take k sinks))
 
 -- the text after one more line
-pub line_more : (station : Station) (run : Run) (plan : Plan) (ticks : ℕ) (counts : List ℕ) (k : ℕ) (name : List ℕ) (node : ℕ) (fallible : Bool) (place : ℕ)
-    → slice_get plan.sinks k ≡ Some (Output name node fallible) → place ≡ length (written (take k plan.sinks))
+pub line_more : (station : Station) (run : Run) (plan : Plan) (ticks : ℕ) (counts : List ℕ) (k : ℕ) (name : List ℕ) (node : ℕ) (fallible wide : Bool) (place : ℕ)
+    → slice_get plan.sinks k ≡ Some (Output name node fallible wide) → place ≡ length (written (take k plan.sinks))
     → station.plan ≡ plan → station.ticks ≡ ticks → counts ≡ gaps_in_order station run
     → (old new said : List ℕ) (samples : ℕ) → said ≡ name → samples ≡ ticks * plan.frame → new ≡ old ++ rendered_line said samples (get_or counts place 0)
     → old ≡ rendered_lines station run (take k plan.sinks) → new ≡ rendered_lines station run (take (k + 1) plan.sinks)
-line_more station run plan ticks counts k name node fallible place at place_is plan_is ticks_is counts_are old new said samples said_is samples_are grew before =
-    let at_station : slice_get station.plan.sinks k ≡ Some (Output name node fallible) = ap (λ (p : Plan). slice_get p.sinks k) plan_is ∙ at in
+line_more station run plan ticks counts k name node fallible wide place at place_is plan_is ticks_is counts_are old new said samples said_is samples_are grew before =
+    let at_station : slice_get station.plan.sinks k ≡ Some (Output name node fallible wide) = ap (λ (p : Plan). slice_get p.sinks k) plan_is ∙ at in
     let place_station : place ≡ length (written (take k station.plan.sinks)) = place_is ∙ ap (λ (p : Plan). length (written (take k p.sinks))) (sym plan_is) in
     let count : slice_get counts place ≡ Some (gaps_of station run node) =
-    ap (λ cs. slice_get cs place) counts_are ∙ ap (slice_get (gaps_in_order station run)) place_station ∙ count_at (setting_of_run station run) station.ticks station.plan.sinks k name node fallible at_station in
+    ap (λ cs. slice_get cs place) counts_are ∙ ap (slice_get (gaps_in_order station run)) place_station ∙ count_at (setting_of_run station run) station.ticks station.plan.sinks k name node fallible wide at_station in
     let all_samples : samples ≡ station.ticks * station.plan.frame = samples_are ∙ ap (λ n. n * plan.frame) (sym ticks_is) ∙ ap (λ (p : Plan). station.ticks * p.frame) (sym plan_is) in
     grew ∙ ap (λ text. text ++ rendered_line said samples (get_or counts place 0)) before
     ∙ ap (λ line. rendered_lines station run (take k plan.sinks) ++ line)
     (ap (λ t. rendered_line t samples (get_or counts place 0)) said_is ∙ ap (λ n. rendered_line name n (get_or counts place 0)) all_samples
     ∙ ap (rendered_line name (station.ticks * station.plan.frame)) (got_is counts place (gaps_of station run node) 0 count))
-    ∙ sym (lines_next station run plan.sinks k name node fallible at)
+    ∙ sym (lines_next station run plan.sinks k name node fallible wide at)
 
-pub one_place : (sinks : List SinkPlan) (k : ℕ) (name : List ℕ) (node : ℕ) (fallible : Bool) → slice_get sinks k ≡ Some (Output name node fallible)
+pub one_place : (sinks : List SinkPlan) (k : ℕ) (name : List ℕ) (node : ℕ) (fallible wide : Bool) → slice_get sinks k ≡ Some (Output name node fallible wide)
     → length (written (take (k + 1) sinks)) ≡ length (written (take k sinks)) + 1
-one_place sinks k name node fallible at = ap length (written_next sinks k name node fallible at) ∙ length-append (written (take k sinks)) ((record { name = name; node = node }) ∷ [])
+one_place sinks k name node fallible wide at = ap length (written_next sinks k name node fallible wide at) ∙ length-append (written (take k sinks)) ((record { name = name; node = node }) ∷ [])
 
 -- the lines of a run's counts
 pub counted_are : (run : Run) (buffer : ℕ) (plans : List BufferPlan) → counted_lines buffer (counts_from run buffer plans) ≡ answered_lines run buffer plans

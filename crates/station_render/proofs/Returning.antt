@@ -53,7 +53,7 @@ module _ (plan : Plan) (library : Sounds) (clocks : ClockMap) (start ticks : ℕ
   station window trace = record { plan = plan; library = library; clocks = clocks; start = start; ticks = ticks; window = window; trace = trace; cues = false }
 
   pub in_main : AreMain plan clocks → LieInMain setting plan.sinks
-  in_main main k name node fallible at = let found = main k name node fallible at in (found.0, got_is clocks.of node (Main found.0) (Main 0) found.2)
+  in_main main k name node fallible wide at = let found = main k name node fallible wide at in (found.0, got_is clocks.of node (Main found.0) (Main 0) found.2)
 
   -- no engine was made, and the sinks are as they were
   pub starved : {S : Type 0} (name held : S → Option (List ℕ)) (left : S → Option ℕ) (faults : S → ℕ) (groups : List (List S)) (files : Option Files) (window : Option ℕ) (trace : Option (List ℕ))

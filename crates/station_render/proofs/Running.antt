@@ -33,7 +33,7 @@ use Rattle.station_render.proofs.Closing.{in_list}
 
 -- the nodes of these sinks lie in main clocks
 abbrev pub LieInMain : Setting → List SinkPlan → Type 0
-LieInMain setting sinks = (k : ℕ) (name : List ℕ) (node : ℕ) (fallible : Bool) → slice_get sinks k ≡ Some (Output name node fallible) → (m : ℕ) × (clock_of setting node ≡ Main m)
+LieInMain setting sinks = (k : ℕ) (name : List ℕ) (node : ℕ) (fallible wide : Bool) → slice_get sinks k ≡ Some (Output name node fallible wide) → (m : ℕ) × (clock_of setting node ≡ Main m)
 
 abbrev same_node : Written → ℕ × ℕ → Type 0
 same_node output pair = output.node ≡ pair.1
@@ -42,8 +42,8 @@ same_node output pair = output.node ≡ pair.1
 pub same_places : (setting : Setting) (m i : ℕ) (sinks : List SinkPlan) → LieInMain setting sinks
     → AllZip same_node (of_clock m (order_of setting (written sinks)) (written sinks)) (outputs_from setting m i sinks)
 same_places setting m i [] main = tt
-same_places setting m i (Output name node fallible ∷ sinks) main =
-    let in_clock = main 0 name node fallible refl in
+same_places setting m i (Output name node fallible wide ∷ sinks) main =
+    let in_clock = main 0 name node fallible wide refl in
     subst (λ clock. AllZip same_node
     (if nat_eq (main_of clock) m then (record { name = name; node = node }) ∷ of_clock m (order_of setting (written sinks)) (written sinks) else of_clock m (order_of setting (written sinks)) (written sinks))
     (if same_clock clock (Main m) then (i, node) ∷ outputs_from setting m (suc i) sinks else outputs_from setting m (suc i) sinks))
@@ -74,7 +74,7 @@ no_rising (suc j) k a b low at there = absurd (cc)
 
 pub rising : (setting : Setting) (m i : ℕ) (sinks : List SinkPlan) → Rising (outputs_from setting m i sinks)
 rising setting m i [] = no_rising
-rising setting m i (Output name node fallible ∷ sinks) =
+rising setting m i (Output name node fallible wide ∷ sinks) =
     rising_step (lies_in setting (Main m) node) i node (outputs_from setting m (suc i) sinks) (rising setting m (suc i) sinks)
     (λ k b at. let n = (are_there setting m (suc i) sinks k b at).number in omega (arith, n))
 rising setting m i (Feed buffer node ∷ sinks) = rising setting m (suc i) sinks
@@ -115,7 +115,8 @@ placed_at setting m main j output at =
       is_output = record {
         name = there.name;
         fallible = there.fallible;
-        there = ap (slice_get setting.plan.sinks) (let n = there.number in omega (arith, n)) ∙ there.there ∙ ap (λ node. Some (Output there.name node there.fallible)) (sym node_is);
+        wide = there.wide;
+        there = ap (slice_get setting.plan.sinks) (let n = there.number in omega (arith, n)) ∙ there.there ∙ ap (λ node. Some (Output there.name node there.fallible there.wide)) (sym node_is);
         in_clock = ap (clock_of setting) node_is ∙ same_clock-true (clock_of setting found.0.1) (Main m) there.inside;
       };
       before = λ k other lower at_other.
@@ -318,7 +319,7 @@ stand_after held name faults setting world ticks old new at run = record {
 
 -- the engine of an output
 module _ {S : Type 0} (plan : Plan) (clocks : ClockMap) (setting world : Setting) (ticks : ℕ) (plan_is : setting.plan ≡ plan) (clocks_is : setting.clocks ≡ clocks.of)
-    (k : ℕ) (name : List ℕ) (node : ℕ) (fallible : Bool) (at : slice_get plan.sinks k ≡ Some (Output name node fallible)) (clock : ℕ) (lies : slice_get clocks.of node ≡ Some (Main clock))
+    (k : ℕ) (name : List ℕ) (node : ℕ) (fallible wide : Bool) (at : slice_get plan.sinks k ≡ Some (Output name node fallible wide)) (clock : ℕ) (lies : slice_get clocks.of node ≡ Some (Main clock))
     (engine : ClockEngine S) (is : IsPast setting world ticks clock engine) where
   pub output_here : IsOutput (setting_of engine.parts) engine.parts.clock k node
   output_here =
@@ -327,6 +328,7 @@ module _ {S : Type 0} (plan : Plan) (clocks : ClockMap) (setting world : Setting
       (record {
         name = name;
         fallible = fallible;
+        wide = wide;
         there = ap (λ (p : Plan). slice_get p.sinks k) plan_is ∙ at;
         in_clock = ap (λ of. get_or of node (Main 0)) clocks_is ∙ got_is clocks.of node (Main clock) (Main 0) lies;
       }))

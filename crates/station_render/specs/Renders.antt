@@ -28,7 +28,7 @@ pub record Written : Type 0 where
 -- the outputs among these sinks, in their order
 abbrev pub written : List SinkPlan → List Written
 written [] = []
-written (Output name node fallible ∷ sinks) = record { name = name; node = node } ∷ written sinks
+written (Output name node fallible wide ∷ sinks) = record { name = name; node = node } ∷ written sinks
 written (Feed buffer node ∷ sinks) = written sinks
 
 -- the number of a main clock; a sink's node lies in one
@@ -106,5 +106,5 @@ pub record NoneCreated {S : Type 0} (order_old order_new : List ℕ) (old new : 
 
 -- the node of each output lies in a main clock that runs
 abbrev pub AreMain : Plan → ClockMap → Type 0
-AreMain plan clocks = (k : ℕ) (name : List ℕ) (node : ℕ) (fallible : Bool) → slice_get plan.sinks k ≡ Some (Output name node fallible)
+AreMain plan clocks = (k : ℕ) (name : List ℕ) (node : ℕ) (fallible wide : Bool) → slice_get plan.sinks k ≡ Some (Output name node fallible wide)
     → (m : ℕ) × (m < clocks.running) × (slice_get clocks.of node ≡ Some (Main m))

@@ -30,7 +30,7 @@ merged_puts run b = merged_put run.buffers b
 -- a report rests on the setting alone, and on what buffers answered
 same_outputs : (station : Station) (run other : Run) → setting_of_run station run ≡ setting_of_run station other → (sinks : List SinkPlan) → rendered_lines station run sinks ≡ rendered_lines station other sinks
 same_outputs station run other same [] = refl
-same_outputs station run other same (Output name node fallible ∷ sinks) =
+same_outputs station run other same (Output name node fallible wide ∷ sinks) =
     let rest = same_outputs station run other same sinks in
     λ i. rendered_line name (station.ticks * station.plan.frame) (gaps (same i) node station.ticks) ++ rest i
 same_outputs station run other same (Feed buffer node ∷ sinks) = same_outputs station run other same sinks

@@ -61,13 +61,13 @@ then_front names more before between after first front = record {
 -- the names of two rows of sinks
 pub names_both : (xs ys : List SinkPlan) → names_in (xs ++ ys) ≡ names_in xs ++ names_in ys
 names_both [] ys = refl
-names_both (Output name node fallible ∷ xs) ys = ap (λ zs. name ∷ zs) (names_both xs ys)
+names_both (Output name node fallible wide ∷ xs) ys = ap (λ zs. name ∷ zs) (names_both xs ys)
 names_both (Feed buffer node ∷ xs) ys = names_both xs ys
 
 -- the names of files
 outputs_named : (setting : Setting) (ticks : ℕ) (sinks : List SinkPlan) → map (λ (file : OutputFile). file.name) (outputs_in setting ticks sinks) ≡ names_in sinks
 outputs_named setting ticks [] = refl
-outputs_named setting ticks (Output name node fallible ∷ sinks) = ap (λ zs. name ∷ zs) (outputs_named setting ticks sinks)
+outputs_named setting ticks (Output name node fallible wide ∷ sinks) = ap (λ zs. name ∷ zs) (outputs_named setting ticks sinks)
 outputs_named setting ticks (Feed buffer node ∷ sinks) = outputs_named setting ticks sinks
 
 trace_named : (name : Option (List ℕ)) (trace : TraceValue) → map (λ (file : OutputFile). file.name) (traced name trace) ≡ trace_name name
@@ -80,7 +80,7 @@ traces_named (Some window) station run = trace_named station.trace _
 
 cues_named : (setting : Setting) (ticks : ℕ) (sinks : List SinkPlan) → map (λ (file : OutputFile). file.name) (cues_in setting ticks sinks) ≡ cue_names_in sinks
 cues_named setting ticks [] = refl
-cues_named setting ticks (Output name node fallible ∷ sinks) = ap (λ zs. cue_name name ∷ zs) (cues_named setting ticks sinks)
+cues_named setting ticks (Output name node fallible wide ∷ sinks) = ap (λ zs. cue_name name ∷ zs) (cues_named setting ticks sinks)
 cues_named setting ticks (Feed buffer node ∷ sinks) = cues_named setting ticks sinks
 
 wanted_named : (wanted : Bool) (setting : Setting) (ticks : ℕ) (sinks : List SinkPlan) → map (λ (file : OutputFile). file.name) (cues_if wanted setting ticks sinks) ≡ cue_names_if wanted sinks

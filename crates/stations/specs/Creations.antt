@@ -10,7 +10,7 @@ use Rattle.stations.specs.Traces.{files_of}
 -- the names of the outputs among these sinks, in their order
 abbrev pub names_in : List SinkPlan → List (List ℕ)
 names_in [] = []
-names_in (Output name node fallible ∷ sinks) = name ∷ names_in sinks
+names_in (Output name node fallible wide ∷ sinks) = name ∷ names_in sinks
 names_in (Feed buffer node ∷ sinks) = names_in sinks
 
 -- the name of a trace, where one is wanted

@@ -30,7 +30,7 @@ cue_name name = name ++ codes ".cue"
 -- the cue files of the outputs among these sinks, in their order
 abbrev pub cues_in : Setting → (ticks : ℕ) → List SinkPlan → List OutputFile
 cues_in setting ticks [] = []
-cues_in setting ticks (Output name node fallible ∷ sinks) =
+cues_in setting ticks (Output name node fallible wide ∷ sinks) =
     record { name = cue_name name; bytes = cue_text setting.library (cues setting node ticks) } ∷ cues_in setting ticks sinks
 cues_in setting ticks (Feed buffer node ∷ sinks) = cues_in setting ticks sinks
 
@@ -46,7 +46,7 @@ cue_files station run = cues_if station.cues (setting_of_run station run) statio
 -- the names of the cue files of the outputs among these sinks, in their order
 abbrev pub cue_names_in : List SinkPlan → List (List ℕ)
 cue_names_in [] = []
-cue_names_in (Output name node fallible ∷ sinks) = cue_name name ∷ cue_names_in sinks
+cue_names_in (Output name node fallible wide ∷ sinks) = cue_name name ∷ cue_names_in sinks
 cue_names_in (Feed buffer node ∷ sinks) = cue_names_in sinks
 
 abbrev pub cue_names_if : (wanted : Bool) → List SinkPlan → List (List ℕ)

@@ -30,7 +30,7 @@ rules_of plan = record { rate = plan.rate; file = 2 ^ 28; all = 2 ^ 32 }
 
 -- the name of an output; a feed has none
 abbrev pub name_of : SinkPlan → List ℕ
-name_of (Output name node fallible) = name
+name_of (Output name node fallible wide) = name
 name_of (Feed buffer node) = []
 
 -- the name of the first sink that is such
@@ -43,7 +43,7 @@ kind_at plan node = option_map_or (λ node. node.kind) (slice_get plan.nodes nod
 
 -- after so many ticks an output is too long for the header of its file
 abbrev pub is_too_long : Plan → (ticks : ℕ) → SinkPlan → Bool
-is_too_long plan ticks (Output name node fallible) = is_none (header_of (kind_at plan node) plan.rate (ticks * plan.frame))
+is_too_long plan ticks (Output name node fallible wide) = is_none (header_of (kind_at plan node) plan.rate (ticks * plan.frame))
 is_too_long plan ticks (Feed buffer node) = false
 
 -- these are the audio files of the plan

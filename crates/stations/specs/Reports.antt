@@ -18,7 +18,7 @@ rendered_line name samples gaps =
 
 abbrev pub rendered_lines : Station → Run → List SinkPlan → List ℕ
 rendered_lines station run [] = []
-rendered_lines station run (Output name node fallible ∷ sinks) =
+rendered_lines station run (Output name node fallible wide ∷ sinks) =
     rendered_line name (station.ticks * station.plan.frame) (gaps_of station run node) ++ rendered_lines station run sinks
 rendered_lines station run (Feed buffer node ∷ sinks) = rendered_lines station run sinks
 
@@ -62,7 +62,7 @@ checked_line clocks mark name node =
 
 abbrev pub checked_lines : ClockMap → (mark : ℕ → Bool) → List SinkPlan → List ℕ
 checked_lines clocks mark [] = []
-checked_lines clocks mark (Output name node fallible ∷ sinks) =
+checked_lines clocks mark (Output name node fallible wide ∷ sinks) =
     checked_line clocks mark name node ++ checked_lines clocks mark sinks
 checked_lines clocks mark (Feed buffer node ∷ sinks) = checked_lines clocks mark sinks
 

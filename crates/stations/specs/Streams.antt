@@ -27,14 +27,14 @@ front_bytes setting ticks made node = header_for setting ticks node ++ ticks_byt
 -- the files of the outputs among these sinks, in their order
 abbrev pub outputs_in : Setting → (ticks : ℕ) → List SinkPlan → List OutputFile
 outputs_in setting ticks [] = []
-outputs_in setting ticks (Output name node fallible ∷ sinks) =
+outputs_in setting ticks (Output name node fallible wide ∷ sinks) =
     record { name = name; bytes = output_bytes setting ticks node } ∷ outputs_in setting ticks sinks
 outputs_in setting ticks (Feed buffer node ∷ sinks) = outputs_in setting ticks sinks
 
 -- what was written of them, where clock m made so many ticks and tried so many
 abbrev pub parts_in : Setting → (ticks : ℕ) → (made tried : ℕ → ℕ) → List SinkPlan → List OutputPart
 parts_in setting ticks made tried [] = []
-parts_in setting ticks made tried (Output name node fallible ∷ sinks) =
+parts_in setting ticks made tried (Output name node fallible wide ∷ sinks) =
     record { name = name; least = front_bytes setting ticks (made (main_of setting node)) node; most = front_bytes setting ticks (tried (main_of setting node)) node }
     ∷ parts_in setting ticks made tried sinks
 parts_in setting ticks made tried (Feed buffer node ∷ sinks) = parts_in setting ticks made tried sinks
@@ -42,7 +42,7 @@ parts_in setting ticks made tried (Feed buffer node ∷ sinks) = parts_in settin
 -- the gaps of the outputs among these sinks, in their order
 abbrev pub counts_in : Setting → (ticks : ℕ) → List SinkPlan → List ℕ
 counts_in setting ticks [] = []
-counts_in setting ticks (Output name node fallible ∷ sinks) = gaps setting node ticks ∷ counts_in setting ticks sinks
+counts_in setting ticks (Output name node fallible wide ∷ sinks) = gaps setting node ticks ∷ counts_in setting ticks sinks
 counts_in setting ticks (Feed buffer node ∷ sinks) = counts_in setting ticks sinks
 
 -- all bytes of an output of a node in a run of the station
@@ -66,5 +66,5 @@ gaps_in_order station run = counts_in (setting_of_run station run) station.ticks
 
 -- an output of an infallible node has no gap
 abbrev pub HasNoGaps : Station → Run → Type 0
-HasNoGaps station run = (mark : ℕ → Bool) (name : List ℕ) (node : ℕ) (fallible : Bool) → IsMarking station.plan.nodes mark
-    → Contains station.plan.sinks (Output name node fallible) → mark node ≡ true → gaps_of station run node ≡ 0
+HasNoGaps station run = (mark : ℕ → Bool) (name : List ℕ) (node : ℕ) (fallible wide : Bool) → IsMarking station.plan.nodes mark
+    → Contains station.plan.sinks (Output name node fallible wide) → mark node ≡ true → gaps_of station run node ≡ 0

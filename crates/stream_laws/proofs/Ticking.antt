@@ -153,7 +153,7 @@ module _ (base : Setting) (clocks : ClockMap) (is : IsSetting base clocks) where
 
       give_goes : IsTickAlike base one other m (suc t) → (k : ℕ) (sink : SinkPlan) → slice_get base.plan.sinks k ≡ Some sink
           → Goes (length base.plan.buffers) (give_by (answered base one) first m t sink) (give_by (answered base other) second m t sink) ⊤
-      give_goes is' k (Output name node fallible) there = inr (record { same = refl; now = tt })
+      give_goes is' k (Output name node fallible wide) there = inr (record { same = refl; now = tt })
       give_goes is' k (Feed buffer node) there = by (lies_in base (Main m) node) refl
         where
           by : (b : Bool) → lies_in base (Main m) node ≡ b → Goes (length base.plan.buffers) (give_by (answered base one) first m t (Feed buffer node)) (give_by (answered base other) second m t (Feed buffer node)) ⊤

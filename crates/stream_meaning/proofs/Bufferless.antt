@@ -83,7 +83,7 @@ none_called setting sub free (suc depth) clock past =
 
 none_given : (setting : Setting) (accepted : ℕ → Bool) (m t : ℕ) (sinks : List SinkPlan) → ((k buffer node : ℕ) → slice_get sinks k ≡ Some (Feed buffer node) → ⊥) → flat_map (give_by setting accepted m t) sinks ≡ []
 none_given setting accepted m t [] free = refl
-none_given setting accepted m t (Output name node fallible ∷ sinks) free = none_given setting accepted m t sinks (λ k. free (suc k))
+none_given setting accepted m t (Output name node fallible wide ∷ sinks) free = none_given setting accepted m t sinks (λ k. free (suc k))
 none_given setting accepted m t (Feed buffer node ∷ sinks) free = absurd (free 0 buffer node refl)
 
 -- a plan without buffers makes no calls

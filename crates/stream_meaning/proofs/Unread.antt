@@ -82,7 +82,7 @@ no_given buffer to [] accepted = refl
 no_given buffer to (cell ∷ cells) accepted = refl
 
 no_given_by : (setting : Setting) (accepted : ℕ → Bool) (m t buffer : ℕ) (sink : SinkPlan) → answers_in buffer (give_by setting accepted m t sink) ≡ []
-no_given_by setting accepted m t buffer (Output name node fallible) = refl
+no_given_by setting accepted m t buffer (Output name node fallible wide) = refl
 no_given_by setting accepted m t buffer (Feed to node) = by (lies_in setting (Main m) node) refl
   where
     by : (b : Bool) → lies_in setting (Main m) node ≡ b → answers_in buffer (give_by setting accepted m t (Feed to node)) ≡ []

@@ -83,7 +83,7 @@ given buffer (cell ∷ cells) accepted = Given buffer (cell ∷ cells) accepted 
 
 -- what a sink gives at the end of tick t of main clock m, where `accepted b` is the answer of buffer b
 abbrev pub give_by : Setting → (accepted : ℕ → Bool) → (m t : ℕ) → SinkPlan → List Call
-give_by setting accepted m t (Output name node fallible) = []
+give_by setting accepted m t (Output name node fallible wide) = []
 give_by setting accepted m t (Feed buffer node) =
     if lies_in setting (Main m) node then given buffer (feed_cells setting node t) (accepted buffer) else []
 

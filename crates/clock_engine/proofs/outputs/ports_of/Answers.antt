@@ -13,7 +13,7 @@ use Rattle.clock_engine.proofs.outputs.ports_of.Goals as goal
 
 pub loop-i-preserved : goal.loop-i-preserved
 loop-i-preserved c =
-    let at : slice_get c.as_slice-sinks.result.now c.loop-i.i ≡ Some (Output c.in-Output.name c.in-Output.node c.in-Output.fallible) =
+    let at : slice_get c.as_slice-sinks.result.now c.loop-i.i ≡ Some (Output c.in-Output.name c.in-Output.node c.in-Output.fallible c.in-Output.wide) =
     slice_get_read _ _ _ _ refl c.loop-i-test.true c.index-sinks-i.is ∙ ap Some c.in-Output.is in
     let low : sink_node (get_or c.as_slice-sinks.result.now c.loop-i.i c.index-sinks-i.result) < length c.args.shape.now.plan.now.nodes =
     subst (λ sinks. All (λ sink. sink_node sink < length c.args.shape.now.plan.now.nodes) sinks) (sym c.as_slice-sinks.ensures) c.requires.sinks c.loop-i.i c.index-sinks-i.result c.loop-i-test.true in
@@ -27,7 +27,7 @@ loop-i-preserved c =
           ap (λ xs. map output_of xs ++ outputs_from (over c.args.shape.now.plan.now c.args.shape.now.library.now c.args.shape.now.clocks.now other) c.args.clock (c.loop-i.i + 1) (drop (c.loop-i.i + 1) c.as_slice-sinks.result.now)) c.in_ok-push.ensures.items
           ∙ outputs_more c.loop-i.ports.items c.in_ok-port_of.field-0 (c.loop-i.i, c.in-Output.node) _ c.in_ok-port_of.ensures.output
           ∙ ap (λ os. map output_of c.loop-i.ports.items ++ os)
-          (sym (at_output (over c.args.shape.now.plan.now c.args.shape.now.library.now c.args.shape.now.clocks.now other) c.args.clock c.loop-i.i c.as_slice-sinks.result.now c.in-Output.name c.in-Output.node c.in-Output.fallible at inside))
+          (sym (at_output (over c.args.shape.now.plan.now c.args.shape.now.library.now c.args.shape.now.clocks.now other) c.args.clock c.loop-i.i c.as_slice-sinks.result.now c.in-Output.name c.in-Output.node c.in-Output.fallible c.in-Output.wide at inside))
           ∙ c.loop-i.invariant.outputs other;
       new = λ other. subst (λ xs. All (IsNewPort (over c.args.shape.now.plan.now c.args.shape.now.library.now c.args.shape.now.clocks.now other)) xs) (sym c.in_ok-push.ensures.items)
           (all_more (IsNewPort (over c.args.shape.now.plan.now c.args.shape.now.library.now c.args.shape.now.clocks.now other)) c.loop-i.ports.items c.in_ok-port_of.field-0 (c.loop-i.invariant.new other) (c.in_ok-port_of.ensures.new other));

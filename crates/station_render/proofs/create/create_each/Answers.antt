@@ -33,38 +33,38 @@ pub opening_of-opening-requires-clause-clock : goal.opening_of-opening-requires-
 opening_of-opening-requires-clause-clock g c =
     let low : c.loop-sink.sink-index < length c.args.plan.now.sinks = subst (λ (xs : List SinkPlan). c.loop-sink.sink-index < length xs) c.as_slice-sink-items.ensures c.loop-sink-test.true in
     let item : c.sink-item.result ≡ slice_index_or c.args.plan.now.sinks c.loop-sink.sink-index c.sink-item.result = c.sink-item.is ∙ ap (λ (xs : List SinkPlan). slice_index_or xs c.loop-sink.sink-index c.sink-item.result) c.as_slice-sink-items.ensures in
-    let at : slice_get c.args.plan.now.sinks c.loop-sink.sink-index ≡ Some (Output c.in-Output.name c.in-Output.node c.in-Output.fallible) =
+    let at : slice_get c.args.plan.now.sinks c.loop-sink.sink-index ≡ Some (Output c.in-Output.name c.in-Output.node c.in-Output.fallible c.in-Output.wide) =
     got c.args.plan.now.sinks c.loop-sink.sink-index c.sink-item.result low ∙ ap Some (sym item ∙ c.in-Output.is) in
-    let main = are_main c.args.plan.now c.requires.fit.0 c.args.clocks.now c.args.ticks c.requires.fit.1 c.loop-sink.sink-index c.in-Output.name c.in-Output.node c.in-Output.fallible at in
+    let main = are_main c.args.plan.now c.requires.fit.0 c.args.clocks.now c.args.ticks c.requires.fit.1 c.loop-sink.sink-index c.in-Output.name c.in-Output.node c.in-Output.fallible c.in-Output.wide at in
     (main.0, main.2)
 
 pub opening_of-opening-requires-clause-fits : goal.opening_of-opening-requires-clause-fits
 opening_of-opening-requires-clause-fits g c =
     let low : c.loop-sink.sink-index < length c.args.plan.now.sinks = subst (λ (xs : List SinkPlan). c.loop-sink.sink-index < length xs) c.as_slice-sink-items.ensures c.loop-sink-test.true in
     let item : c.sink-item.result ≡ slice_index_or c.args.plan.now.sinks c.loop-sink.sink-index c.sink-item.result = c.sink-item.is ∙ ap (λ (xs : List SinkPlan). slice_index_or xs c.loop-sink.sink-index c.sink-item.result) c.as_slice-sink-items.ensures in
-    let at : slice_get c.args.plan.now.sinks c.loop-sink.sink-index ≡ Some (Output c.in-Output.name c.in-Output.node c.in-Output.fallible) =
+    let at : slice_get c.args.plan.now.sinks c.loop-sink.sink-index ≡ Some (Output c.in-Output.name c.in-Output.node c.in-Output.fallible c.in-Output.wide) =
     got c.args.plan.now.sinks c.loop-sink.sink-index c.sink-item.result low ∙ ap Some (sym item ∙ c.in-Output.is) in
-    header_fits c.args.plan.now c.requires.fit.0 c.args.clocks.now c.args.ticks c.requires.fit.1 c.loop-sink.sink-index c.in-Output.name c.in-Output.node c.in-Output.fallible at
+    header_fits c.args.plan.now c.requires.fit.0 c.args.clocks.now c.args.ticks c.requires.fit.1 c.loop-sink.sink-index c.in-Output.name c.in-Output.node c.in-Output.fallible c.in-Output.wide at
 
 pub create_one-requires-clause-below : goal.create_one-requires-clause-below
 create_one-requires-clause-below g c κs within =
     let low : c.loop-sink.sink-index < length c.args.plan.now.sinks = subst (λ (xs : List SinkPlan). c.loop-sink.sink-index < length xs) c.as_slice-sink-items.ensures c.loop-sink-test.true in
     let item : c.sink-item.result ≡ slice_index_or c.args.plan.now.sinks c.loop-sink.sink-index c.sink-item.result = c.sink-item.is ∙ ap (λ (xs : List SinkPlan). slice_index_or xs c.loop-sink.sink-index c.sink-item.result) c.as_slice-sink-items.ensures in
-    let at : slice_get c.args.plan.now.sinks c.loop-sink.sink-index ≡ Some (Output c.in-Output.name c.in-Output.node c.in-Output.fallible) =
+    let at : slice_get c.args.plan.now.sinks c.loop-sink.sink-index ≡ Some (Output c.in-Output.name c.in-Output.node c.in-Output.fallible c.in-Output.wide) =
     got c.args.plan.now.sinks c.loop-sink.sink-index c.sink-item.result low ∙ ap Some (sym item ∙ c.in-Output.is) in
-    clock_below c.args.plan.now c.requires.fit.0 c.args.clocks.now c.args.ticks c.requires.fit.1 c.loop-sink.sink-index c.in-Output.name c.in-Output.node c.in-Output.fallible at
+    clock_below c.args.plan.now c.requires.fit.0 c.args.clocks.now c.args.ticks c.requires.fit.1 c.loop-sink.sink-index c.in-Output.name c.in-Output.node c.in-Output.fallible c.in-Output.wide at
     c.opening_of-opening.result.clock c.opening_of-opening.ensures.clock (length (lists_of c.loop-sink.groups.items)) c.loop-sink.invariant.size
 
 pub returns-in_err-create_one-clause-begun : goal.returns-in_err-create_one-clause-begun
 returns-in_err-create_one-clause-begun g c =
     let low : c.loop-sink.sink-index < length c.args.plan.now.sinks = subst (λ (xs : List SinkPlan). c.loop-sink.sink-index < length xs) c.as_slice-sink-items.ensures c.loop-sink-test.true in
     let item : c.sink-item.result ≡ slice_index_or c.args.plan.now.sinks c.loop-sink.sink-index c.sink-item.result = c.sink-item.is ∙ ap (λ (xs : List SinkPlan). slice_index_or xs c.loop-sink.sink-index c.sink-item.result) c.as_slice-sink-items.ensures in
-    let at : slice_get c.args.plan.now.sinks c.loop-sink.sink-index ≡ Some (Output c.in-Output.name c.in-Output.node c.in-Output.fallible) =
+    let at : slice_get c.args.plan.now.sinks c.loop-sink.sink-index ≡ Some (Output c.in-Output.name c.in-Output.node c.in-Output.fallible c.in-Output.wide) =
     got c.args.plan.now.sinks c.loop-sink.sink-index c.sink-item.result low ∙ ap Some (sym item ∙ c.in-Output.is) in
-    let below = clock_below c.args.plan.now c.requires.fit.0 c.args.clocks.now c.args.ticks c.requires.fit.1 c.loop-sink.sink-index c.in-Output.name c.in-Output.node c.in-Output.fallible at
+    let below = clock_below c.args.plan.now c.requires.fit.0 c.args.clocks.now c.args.ticks c.requires.fit.1 c.loop-sink.sink-index c.in-Output.name c.in-Output.node c.in-Output.fallible c.in-Output.wide at
     c.opening_of-opening.result.clock c.opening_of-opening.ensures.clock (length (lists_of c.loop-sink.groups.items)) c.loop-sink.invariant.size in
     λ library start run made tried none. broken_off g.S.Out.Sink.name g.S.Out.Sink.held g.S.Out.Sink.room g.S.Out.Sink.faults (g.S.Shelf.files c.args.shelf.now) (g.S.Shelf.files c.loop-sink.shelf) c.loop-sink.invariant.files
-    (setting_for c.args.plan.now library c.args.clocks.now start) c.args.ticks c.loop-sink.sink-index c.in-Output.name c.as_str.result.now c.in-Output.node c.in-Output.fallible at c.as_str.ensures.same
+    (setting_for c.args.plan.now library c.args.clocks.now start) c.args.ticks c.loop-sink.sink-index c.in-Output.name c.as_str.result.now c.in-Output.node c.in-Output.fallible c.in-Output.wide at c.as_str.ensures.same
     c.opening_of-opening.result.clock c.opening_of-opening.result.header c.opening_of-opening.result.body c.loop-sink.order.items c.create_one.new.order.items
     (lists_of c.loop-sink.groups.items) (lists_of c.create_one.new.groups.items) below c.opening_of-opening.ensures.header (c.loop-sink.invariant.created library start) run made tried none c.in_err-create_one.ensures.broken
 
@@ -72,23 +72,23 @@ pub loop-sink-preserved : goal.loop-sink-preserved
 loop-sink-preserved g c =
     let low : c.loop-sink.sink-index < length c.args.plan.now.sinks = subst (λ (xs : List SinkPlan). c.loop-sink.sink-index < length xs) c.as_slice-sink-items.ensures c.loop-sink-test.true in
     let item : c.sink-item.result ≡ slice_index_or c.args.plan.now.sinks c.loop-sink.sink-index c.sink-item.result = c.sink-item.is ∙ ap (λ (xs : List SinkPlan). slice_index_or xs c.loop-sink.sink-index c.sink-item.result) c.as_slice-sink-items.ensures in
-    let at : slice_get c.args.plan.now.sinks c.loop-sink.sink-index ≡ Some (Output c.in-Output.name c.in-Output.node c.in-Output.fallible) =
+    let at : slice_get c.args.plan.now.sinks c.loop-sink.sink-index ≡ Some (Output c.in-Output.name c.in-Output.node c.in-Output.fallible c.in-Output.wide) =
     got c.args.plan.now.sinks c.loop-sink.sink-index c.sink-item.result low ∙ ap Some (sym item ∙ c.in-Output.is) in
-    let below = clock_below c.args.plan.now c.requires.fit.0 c.args.clocks.now c.args.ticks c.requires.fit.1 c.loop-sink.sink-index c.in-Output.name c.in-Output.node c.in-Output.fallible at
+    let below = clock_below c.args.plan.now c.requires.fit.0 c.args.clocks.now c.args.ticks c.requires.fit.1 c.loop-sink.sink-index c.in-Output.name c.in-Output.node c.in-Output.fallible c.in-Output.wide at
     c.opening_of-opening.result.clock c.opening_of-opening.ensures.clock (length (lists_of c.loop-sink.groups.items)) c.loop-sink.invariant.size in
     let made = c.in_ok-create_one.ensures.created in
     record {
       created = λ library start. next_ready g.S.Out.Sink.name g.S.Out.Sink.held g.S.Out.Sink.room g.S.Out.Sink.faults (g.S.Shelf.files c.args.shelf.now) (g.S.Shelf.files c.loop-sink.shelf) c.loop-sink.invariant.files
-          (setting_for c.args.plan.now library c.args.clocks.now start) c.args.ticks c.loop-sink.sink-index c.in-Output.name c.as_str.result.now c.in-Output.node c.in-Output.fallible at c.as_str.ensures.same
+          (setting_for c.args.plan.now library c.args.clocks.now start) c.args.ticks c.loop-sink.sink-index c.in-Output.name c.as_str.result.now c.in-Output.node c.in-Output.fallible c.in-Output.wide at c.as_str.ensures.same
           c.opening_of-opening.result.clock c.opening_of-opening.result.header c.opening_of-opening.result.body c.loop-sink.order.items c.create_one.new.order.items
           (lists_of c.loop-sink.groups.items) (lists_of c.create_one.new.groups.items) below c.opening_of-opening.ensures.header (c.loop-sink.invariant.created library start) c.opening_of-opening.ensures.body made;
       order = λ library start.
           order_more (setting_for c.args.plan.now library c.args.clocks.now start) (written (take c.loop-sink.sink-index c.args.plan.now.sinks)) (record { name = c.in-Output.name; node = c.in-Output.node })
           c.opening_of-opening.result.clock c.loop-sink.order.items c.create_one.new.order.items (c.loop-sink.invariant.order library start) made.order_is c.opening_of-opening.ensures.clock
-          ∙ ap (order_of (setting_for c.args.plan.now library c.args.clocks.now start)) (sym (written_next c.args.plan.now.sinks c.loop-sink.sink-index c.in-Output.name c.in-Output.node c.in-Output.fallible at));
+          ∙ ap (order_of (setting_for c.args.plan.now library c.args.clocks.now start)) (sym (written_next c.args.plan.now.sinks c.loop-sink.sink-index c.in-Output.name c.in-Output.node c.in-Output.fallible c.in-Output.wide at));
       size = added_many c.opening_of-opening.result.clock made.sink (lists_of c.loop-sink.groups.items) (lists_of c.create_one.new.groups.items) made.added ∙ c.loop-sink.invariant.size;
       files = c.create_one.ensures.files ∙ c.loop-sink.invariant.files;
-      made = made_next c.args.plan.now.sinks c.loop-sink.sink-index _ _ c.loop-sink.invariant.made c.in-Output.name c.as_str.result.now c.in-Output.node c.in-Output.fallible at c.as_str.ensures.same _
+      made = made_next c.args.plan.now.sinks c.loop-sink.sink-index _ _ c.loop-sink.invariant.made c.in-Output.name c.as_str.result.now c.in-Output.node c.in-Output.fallible c.in-Output.wide at c.as_str.ensures.same _
           c.in_ok-create_one.ensures.made;
       reads = omega (arith, c.create_one.ensures.reads, c.loop-sink.invariant.reads);
       writes = omega (arith, c.create_one.ensures.writes, c.loop-sink.invariant.writes);
@@ -113,9 +113,9 @@ pub returns-in_err-create_one-clause-front : goal.returns-in_err-create_one-clau
 returns-in_err-create_one-clause-front g c =
     let low : c.loop-sink.sink-index < length c.args.plan.now.sinks = subst (λ (xs : List SinkPlan). c.loop-sink.sink-index < length xs) c.as_slice-sink-items.ensures c.loop-sink-test.true in
     let item : c.sink-item.result ≡ slice_index_or c.args.plan.now.sinks c.loop-sink.sink-index c.sink-item.result = c.sink-item.is ∙ ap (λ (xs : List SinkPlan). slice_index_or xs c.loop-sink.sink-index c.sink-item.result) c.as_slice-sink-items.ensures in
-    let at : slice_get c.args.plan.now.sinks c.loop-sink.sink-index ≡ Some (Output c.in-Output.name c.in-Output.node c.in-Output.fallible) =
+    let at : slice_get c.args.plan.now.sinks c.loop-sink.sink-index ≡ Some (Output c.in-Output.name c.in-Output.node c.in-Output.fallible c.in-Output.wide) =
     got c.args.plan.now.sinks c.loop-sink.sink-index c.sink-item.result low ∙ ap Some (sym item ∙ c.in-Output.is) in
-    front_next c.args.plan.now.sinks c.loop-sink.sink-index _ _ c.loop-sink.invariant.made c.in-Output.name c.as_str.result.now c.in-Output.node c.in-Output.fallible at c.as_str.ensures.same _ c.create_one.ensures.front
+    front_next c.args.plan.now.sinks c.loop-sink.sink-index _ _ c.loop-sink.invariant.made c.in-Output.name c.as_str.result.now c.in-Output.node c.in-Output.fallible c.in-Output.wide at c.as_str.ensures.same _ c.create_one.ensures.front
 
 pub returns-clause-made : goal.returns-clause-made
 returns-clause-made g c =

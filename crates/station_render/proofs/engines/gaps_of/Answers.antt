@@ -20,28 +20,28 @@ pub clock_of-clock-requires : goal.clock_of-clock-requires
 clock_of-clock-requires g c =
     let low : c.loop-k.k < length c.args.plan.now.sinks = omega (arith, ap length c.as_slice-sinks.ensures) in
     let item : c.index-sinks-k.result ≡ slice_index_or c.args.plan.now.sinks c.loop-k.k c.index-sinks-k.result = c.index-sinks-k.is ∙ ap (λ (xs : List SinkPlan). slice_index_or xs c.loop-k.k c.index-sinks-k.result) c.as_slice-sinks.ensures in
-    let at : slice_get c.args.plan.now.sinks c.loop-k.k ≡ Some (Output c.in-Output.name c.in-Output.node c.in-Output.fallible) = got c.args.plan.now.sinks c.loop-k.k c.index-sinks-k.result low ∙ ap Some (sym item ∙ c.in-Output.is) in
-    let main = c.requires.main c.loop-k.k c.in-Output.name c.in-Output.node c.in-Output.fallible at in
+    let at : slice_get c.args.plan.now.sinks c.loop-k.k ≡ Some (Output c.in-Output.name c.in-Output.node c.in-Output.fallible c.in-Output.wide) = got c.args.plan.now.sinks c.loop-k.k c.index-sinks-k.result low ∙ ap Some (sym item ∙ c.in-Output.is) in
+    let main = c.requires.main c.loop-k.k c.in-Output.name c.in-Output.node c.in-Output.fallible c.in-Output.wide at in
     (main.0, main.2)
 
 pub bounds-engines-clock : goal.bounds-engines-clock
 bounds-engines-clock g c =
     let low : c.loop-k.k < length c.args.plan.now.sinks = omega (arith, ap length c.as_slice-sinks.ensures) in
     let item : c.index-sinks-k.result ≡ slice_index_or c.args.plan.now.sinks c.loop-k.k c.index-sinks-k.result = c.index-sinks-k.is ∙ ap (λ (xs : List SinkPlan). slice_index_or xs c.loop-k.k c.index-sinks-k.result) c.as_slice-sinks.ensures in
-    let at : slice_get c.args.plan.now.sinks c.loop-k.k ≡ Some (Output c.in-Output.name c.in-Output.node c.in-Output.fallible) = got c.args.plan.now.sinks c.loop-k.k c.index-sinks-k.result low ∙ ap Some (sym item ∙ c.in-Output.is) in
-    main_below c.args.plan.now c.args.clocks.now c.requires.main c.loop-k.k c.in-Output.name c.in-Output.node c.in-Output.fallible at c.clock_of-clock.result c.clock_of-clock.ensures (length c.args.engines.now) c.requires.size
+    let at : slice_get c.args.plan.now.sinks c.loop-k.k ≡ Some (Output c.in-Output.name c.in-Output.node c.in-Output.fallible c.in-Output.wide) = got c.args.plan.now.sinks c.loop-k.k c.index-sinks-k.result low ∙ ap Some (sym item ∙ c.in-Output.is) in
+    main_below c.args.plan.now c.args.clocks.now c.requires.main c.loop-k.k c.in-Output.name c.in-Output.node c.in-Output.fallible c.in-Output.wide at c.clock_of-clock.result c.clock_of-clock.ensures (length c.args.engines.now) c.requires.size
 
 pub gaps-requires : goal.gaps-requires
 gaps-requires g c =
     let low : c.loop-k.k < length c.args.plan.now.sinks = omega (arith, ap length c.as_slice-sinks.ensures) in
     let item : c.index-sinks-k.result ≡ slice_index_or c.args.plan.now.sinks c.loop-k.k c.index-sinks-k.result = c.index-sinks-k.is ∙ ap (λ (xs : List SinkPlan). slice_index_or xs c.loop-k.k c.index-sinks-k.result) c.as_slice-sinks.ensures in
-    let at : slice_get c.args.plan.now.sinks c.loop-k.k ≡ Some (Output c.in-Output.name c.in-Output.node c.in-Output.fallible) = got c.args.plan.now.sinks c.loop-k.k c.index-sinks-k.result low ∙ ap Some (sym item ∙ c.in-Output.is) in
-    let below = main_below c.args.plan.now c.args.clocks.now c.requires.main c.loop-k.k c.in-Output.name c.in-Output.node c.in-Output.fallible at c.clock_of-clock.result c.clock_of-clock.ensures (length c.args.engines.now) c.requires.size in
+    let at : slice_get c.args.plan.now.sinks c.loop-k.k ≡ Some (Output c.in-Output.name c.in-Output.node c.in-Output.fallible c.in-Output.wide) = got c.args.plan.now.sinks c.loop-k.k c.index-sinks-k.result low ∙ ap Some (sym item ∙ c.in-Output.is) in
+    let below = main_below c.args.plan.now c.args.clocks.now c.requires.main c.loop-k.k c.in-Output.name c.in-Output.node c.in-Output.fallible c.in-Output.wide at c.clock_of-clock.result c.clock_of-clock.ensures (length c.args.engines.now) c.requires.size in
     let there : slice_get c.args.engines.now c.clock_of-clock.result ≡ Some c.index-engines-clock.result = got c.args.engines.now c.clock_of-clock.result c.index-engines-clock.result below ∙ ap Some (sym c.index-engines-clock.is) in
     record {
       output = (
         c.in-Output.node,
-        output_here c.args.plan.now c.args.clocks.now c.requires.stand.0 c.requires.stand.1 c.requires.stand.2 c.requires.stand.3 c.requires.stand.4 c.loop-k.k c.in-Output.name c.in-Output.node c.in-Output.fallible at
+        output_here c.args.plan.now c.args.clocks.now c.requires.stand.0 c.requires.stand.1 c.requires.stand.2 c.requires.stand.3 c.requires.stand.4 c.loop-k.k c.in-Output.name c.in-Output.node c.in-Output.fallible c.in-Output.wide at
             c.clock_of-clock.result c.clock_of-clock.ensures c.index-engines-clock.result (c.requires.stand.5.each c.clock_of-clock.result c.index-engines-clock.result there),
       );
     }
@@ -50,13 +50,13 @@ pub loop-k-preserved : goal.loop-k-preserved
 loop-k-preserved g c =
     let low : c.loop-k.k < length c.args.plan.now.sinks = omega (arith, ap length c.as_slice-sinks.ensures) in
     let item : c.index-sinks-k.result ≡ slice_index_or c.args.plan.now.sinks c.loop-k.k c.index-sinks-k.result = c.index-sinks-k.is ∙ ap (λ (xs : List SinkPlan). slice_index_or xs c.loop-k.k c.index-sinks-k.result) c.as_slice-sinks.ensures in
-    let at : slice_get c.args.plan.now.sinks c.loop-k.k ≡ Some (Output c.in-Output.name c.in-Output.node c.in-Output.fallible) = got c.args.plan.now.sinks c.loop-k.k c.index-sinks-k.result low ∙ ap Some (sym item ∙ c.in-Output.is) in
-    let below = main_below c.args.plan.now c.args.clocks.now c.requires.main c.loop-k.k c.in-Output.name c.in-Output.node c.in-Output.fallible at c.clock_of-clock.result c.clock_of-clock.ensures (length c.args.engines.now) c.requires.size in
+    let at : slice_get c.args.plan.now.sinks c.loop-k.k ≡ Some (Output c.in-Output.name c.in-Output.node c.in-Output.fallible c.in-Output.wide) = got c.args.plan.now.sinks c.loop-k.k c.index-sinks-k.result low ∙ ap Some (sym item ∙ c.in-Output.is) in
+    let below = main_below c.args.plan.now c.args.clocks.now c.requires.main c.loop-k.k c.in-Output.name c.in-Output.node c.in-Output.fallible c.in-Output.wide at c.clock_of-clock.result c.clock_of-clock.ensures (length c.args.engines.now) c.requires.size in
     let there : slice_get c.args.engines.now c.clock_of-clock.result ≡ Some c.index-engines-clock.result = got c.args.engines.now c.clock_of-clock.result c.index-engines-clock.result below ∙ ap Some (sym c.index-engines-clock.is) in
     let items : c.push.new.self.items ≡ c.loop-k.gaps.items ++ c.gaps.result ∷ [] = search rules in
     λ setting world ticks plan_is clocks_is engines.
     items ∙ ap (λ counts. counts ++ c.gaps.result ∷ []) (c.loop-k.invariant setting world ticks plan_is clocks_is engines)
     ∙ ap (λ count. counts_in world ticks (take c.loop-k.k c.args.plan.now.sinks) ++ count ∷ [])
-    (gaps_here c.args.plan.now c.args.clocks.now setting world ticks plan_is clocks_is c.loop-k.k c.in-Output.name c.in-Output.node c.in-Output.fallible at c.clock_of-clock.result c.clock_of-clock.ensures
+    (gaps_here c.args.plan.now c.args.clocks.now setting world ticks plan_is clocks_is c.loop-k.k c.in-Output.name c.in-Output.node c.in-Output.fallible c.in-Output.wide at c.clock_of-clock.result c.clock_of-clock.ensures
     c.index-engines-clock.result (engines.each c.clock_of-clock.result c.index-engines-clock.result there) c.gaps.result c.gaps.ensures.made)
-    ∙ sym (counts_next world ticks c.args.plan.now.sinks c.loop-k.k c.in-Output.name c.in-Output.node c.in-Output.fallible at)
+    ∙ sym (counts_next world ticks c.args.plan.now.sinks c.loop-k.k c.in-Output.name c.in-Output.node c.in-Output.fallible c.in-Output.wide at)

@@ -23,18 +23,18 @@ pub bounds-gaps-place : goal.bounds-gaps-place
 bounds-gaps-place c =
     let low : c.loop-sink.sink-index < length c.args.plan.now.sinks = subst (λ (xs : List SinkPlan). c.loop-sink.sink-index < length xs) c.as_slice-sink-items.ensures c.loop-sink-test.true in
     let item : c.sink-item.result ≡ slice_index_or c.args.plan.now.sinks c.loop-sink.sink-index c.sink-item.result = c.sink-item.is ∙ ap (λ (xs : List SinkPlan). slice_index_or xs c.loop-sink.sink-index c.sink-item.result) c.as_slice-sink-items.ensures in
-    let at : slice_get c.args.plan.now.sinks c.loop-sink.sink-index ≡ Some (Output c.in-Output.name c.in-Output.node c.in-Output.fallible) =
+    let at : slice_get c.args.plan.now.sinks c.loop-sink.sink-index ≡ Some (Output c.in-Output.name c.in-Output.node c.in-Output.fallible c.in-Output.wide) =
     got c.args.plan.now.sinks c.loop-sink.sink-index c.sink-item.result low ∙ ap Some (sym item ∙ c.in-Output.is) in
-    let below = place_below c.args.plan.now.sinks c.loop-sink.sink-index c.in-Output.name c.in-Output.node c.in-Output.fallible at in
+    let below = place_below c.args.plan.now.sinks c.loop-sink.sink-index c.in-Output.name c.in-Output.node c.in-Output.fallible c.in-Output.wide at in
     omega (arith, below, c.loop-sink.invariant.place, c.requires.many)
 
 pub offset_bounds-gaps-place : goal.offset_bounds-gaps-place
 offset_bounds-gaps-place c =
     let low : c.loop-sink.sink-index < length c.args.plan.now.sinks = subst (λ (xs : List SinkPlan). c.loop-sink.sink-index < length xs) c.as_slice-sink-items.ensures c.loop-sink-test.true in
     let item : c.sink-item.result ≡ slice_index_or c.args.plan.now.sinks c.loop-sink.sink-index c.sink-item.result = c.sink-item.is ∙ ap (λ (xs : List SinkPlan). slice_index_or xs c.loop-sink.sink-index c.sink-item.result) c.as_slice-sink-items.ensures in
-    let at : slice_get c.args.plan.now.sinks c.loop-sink.sink-index ≡ Some (Output c.in-Output.name c.in-Output.node c.in-Output.fallible) =
+    let at : slice_get c.args.plan.now.sinks c.loop-sink.sink-index ≡ Some (Output c.in-Output.name c.in-Output.node c.in-Output.fallible c.in-Output.wide) =
     got c.args.plan.now.sinks c.loop-sink.sink-index c.sink-item.result low ∙ ap Some (sym item ∙ c.in-Output.is) in
-    let below = place_below c.args.plan.now.sinks c.loop-sink.sink-index c.in-Output.name c.in-Output.node c.in-Output.fallible at in
+    let below = place_below c.args.plan.now.sinks c.loop-sink.sink-index c.in-Output.name c.in-Output.node c.in-Output.fallible c.in-Output.wide at in
     let inside : c.loop-sink.place < length c.args.gaps.now = omega (arith, below, c.loop-sink.invariant.place, c.requires.many) in
     search (rules, arith)
 
@@ -42,9 +42,9 @@ pub overflow_add-place : goal.overflow_add-place
 overflow_add-place c =
     let low : c.loop-sink.sink-index < length c.args.plan.now.sinks = subst (λ (xs : List SinkPlan). c.loop-sink.sink-index < length xs) c.as_slice-sink-items.ensures c.loop-sink-test.true in
     let item : c.sink-item.result ≡ slice_index_or c.args.plan.now.sinks c.loop-sink.sink-index c.sink-item.result = c.sink-item.is ∙ ap (λ (xs : List SinkPlan). slice_index_or xs c.loop-sink.sink-index c.sink-item.result) c.as_slice-sink-items.ensures in
-    let at : slice_get c.args.plan.now.sinks c.loop-sink.sink-index ≡ Some (Output c.in-Output.name c.in-Output.node c.in-Output.fallible) =
+    let at : slice_get c.args.plan.now.sinks c.loop-sink.sink-index ≡ Some (Output c.in-Output.name c.in-Output.node c.in-Output.fallible c.in-Output.wide) =
     got c.args.plan.now.sinks c.loop-sink.sink-index c.sink-item.result low ∙ ap Some (sym item ∙ c.in-Output.is) in
-    let below = place_below c.args.plan.now.sinks c.loop-sink.sink-index c.in-Output.name c.in-Output.node c.in-Output.fallible at in
+    let below = place_below c.args.plan.now.sinks c.loop-sink.sink-index c.in-Output.name c.in-Output.node c.in-Output.fallible c.in-Output.wide at in
     let inside : c.loop-sink.place < length c.args.gaps.now = omega (arith, below, c.loop-sink.invariant.place, c.requires.many) in
     search (rules, arith)
 
@@ -52,12 +52,12 @@ pub loop-sink-preserved : goal.loop-sink-preserved
 loop-sink-preserved c =
     let low : c.loop-sink.sink-index < length c.args.plan.now.sinks = subst (λ (xs : List SinkPlan). c.loop-sink.sink-index < length xs) c.as_slice-sink-items.ensures c.loop-sink-test.true in
     let item : c.sink-item.result ≡ slice_index_or c.args.plan.now.sinks c.loop-sink.sink-index c.sink-item.result = c.sink-item.is ∙ ap (λ (xs : List SinkPlan). slice_index_or xs c.loop-sink.sink-index c.sink-item.result) c.as_slice-sink-items.ensures in
-    let at : slice_get c.args.plan.now.sinks c.loop-sink.sink-index ≡ Some (Output c.in-Output.name c.in-Output.node c.in-Output.fallible) =
+    let at : slice_get c.args.plan.now.sinks c.loop-sink.sink-index ≡ Some (Output c.in-Output.name c.in-Output.node c.in-Output.fallible c.in-Output.wide) =
     got c.args.plan.now.sinks c.loop-sink.sink-index c.sink-item.result low ∙ ap Some (sym item ∙ c.in-Output.is) in
     record {
-      place = ap (λ n. n + 1) c.loop-sink.invariant.place ∙ sym (one_place c.args.plan.now.sinks c.loop-sink.sink-index c.in-Output.name c.in-Output.node c.in-Output.fallible at);
+      place = ap (λ n. n + 1) c.loop-sink.invariant.place ∙ sym (one_place c.args.plan.now.sinks c.loop-sink.sink-index c.in-Output.name c.in-Output.node c.in-Output.fallible c.in-Output.wide at);
       told = λ station run plan_is ticks_is counts.
-          line_more station run c.args.plan.now c.args.ticks c.args.gaps.now c.loop-sink.sink-index c.in-Output.name c.in-Output.node c.in-Output.fallible c.loop-sink.place at c.loop-sink.invariant.place
+          line_more station run c.args.plan.now c.args.ticks c.args.gaps.now c.loop-sink.sink-index c.in-Output.name c.in-Output.node c.in-Output.fallible c.in-Output.wide c.loop-sink.place at c.loop-sink.invariant.place
           plan_is ticks_is counts (string_bytes c.loop-sink.text) (string_bytes c.push_line.new.text) c.as_str.result.now _ c.as_str.ensures.same (ap (λ n. c.args.ticks * n) c.from.ensures)
           c.in_ok-push_line.ensures (c.loop-sink.invariant.told station run plan_is ticks_is counts);
     }
