@@ -1,5 +1,5 @@
 -- Records by hand: of a buffer whose reader's clock does not run, and one whose ticks can be ordered; and calls that part.
-use Rattle.std.proofs.Common.{◌≡◌, ◌<◌, ◌≤◌, ℕ, zero, suc, Some, None, List, [], ◌∷◌, Bool, true, false, refl, ap, sym, subst, ◌++◌, length, length-append, arith, map, int_eq, true≢false}
+use Rattle.std.proofs.Common.{◌≡◌, ◌<◌, ◌≤◌, ℕ, zero, suc, Some, None, List, [], ◌∷◌, Bool, true, false, inl, inr, flat_map, refl, ap, sym, subst, ◌++◌, length, length-append, arith, map, int_eq, true≢false}
 use Rattle.std.specs.Prelude.{Option, pos, ⊤}
 use Rattle.frame_core.specs.declared.cell.Cell.{Cell}
 use Rattle.frame_core.specs.Legal.{Legal, IsRun}
@@ -12,6 +12,8 @@ use Rattle.stream_meaning.specs.Arithmetic.{cells_of}
 use Rattle.stream_meaning.specs.Instants.{Setting, answered}
 use Rattle.stream_meaning.specs.Calls.{joined_upto, calls_of_tick}
 use Rattle.run_records.proofs.Plans.{new, more, under, file, node, out, setting}
+use Rattle.run_records.specs.Pace.{IsDrawn, KeepPace, has_none}
+use Rattle.run_records.proofs.Sunk.{sink_is_drawn}
 use Rattle.run_records.specs.Buffers.{feeder, reader}
 use Rattle.run_records.specs.Records.{AreWindowsBegun, Run, IsLawful, IsRounds, rounds_of, Window, Follows, windows_of, setting_in, capacity_of, on, start, calls_in, windows_in}
 use Rattle.stream_laws.specs.Parting.{ArePart}
@@ -249,3 +251,20 @@ invented_is_refused W N begun = gets_nothing (begun.legal 0 (omega arith)).1.1
 
 invented_alone_is_refused : (W N : ℕ) → AreWindowsBegun alone 1 W N invented → ⊥
 invented_alone_is_refused W N begun = gets_nothing (begun.legal 0 (omega arith)).1.1
+
+-- its reader is the node of an output, so it is drawn; and one chunk is less than two windows of two ticks
+late_is_drawn : IsDrawn (setting_in joined late) 0 1 1 (node (Buffer 0) [])
+late_is_drawn = sink_is_drawn (setting_in joined late) 0 1 1 (node (Buffer 0) []) refl refl refl refl refl
+
+-- windows of one tick that keep pace, over a buffer of one chunk: one less than two windows, and a put is refused
+abbrev narrow : List Window
+narrow = (Some one ∷ [], None ∷ []) ∷ (None ∷ [], Some one ∷ []) ∷ []
+
+narrow_keeps_pace : KeepPace 1 0 0 narrow
+narrow_keeps_pace = (omega arith, omega arith, 0, inl refl, (omega arith, omega arith, 0, inr (omega arith), omega arith))
+
+narrow_is_run : IsRun 1 [] narrow []
+narrow_is_run = (one ∷ [], Legal.empty (Legal.accepted (omega arith) Legal.ended), ([], Legal.full refl (Legal.got Legal.ended), refl))
+
+narrow_refuses : has_none (flat_map (λ (window : Window). window.0) narrow) ≡ true
+narrow_refuses = refl

@@ -7,5 +7,14 @@ pub mod Resting
 pub mod Alone
 pub mod Beginning
 pub mod Replaying
+pub mod Pace
+pub mod Owing
+pub mod Putting
+pub mod Drawing
+pub mod Drawn
+pub mod Paced
+pub mod Short
+pub mod Roomy
+pub mod Sunk
 mod Plans
 mod Examples

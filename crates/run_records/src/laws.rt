@@ -1,14 +1,19 @@
 // Laws of records. Each is a contract of a function that does nothing.
-ghost use Rattle.std.specs.Prelude.{◌≡◌, ◌<◌, ℕ, All, Bool, List, length};
+ghost use Rattle.std.specs.Prelude.{◌*◌, ◌+◌, ◌<◌, ◌≡◌, ◌≤◌, [], ℕ, All, Bool, List, false, length, max, suc};
+ghost use Rattle.std.specs.List.{flat_map};
+ghost use Rattle.frame_core.specs.declared.cell.Cell.{Cell as Sample};
+ghost use Rattle.frame_core.specs.Legal.{IsRun};
+ghost use Rattle.plan_core.specs.declared.node.Node.{Node as PlanNode};
 ghost use Rattle.clock_infer.specs.declared.clock_map.ClockMap.{ClockMap as Map};
 ghost use Rattle.op_leaf.specs.Readers.{Answer};
 ghost use Rattle.stream_meaning.specs.Calls.{calls_of_tick};
-ghost use Rattle.stream_meaning.specs.Instants.{Setting, answered};
+ghost use Rattle.stream_meaning.specs.Instants.{Setting, answered, prefill};
 ghost use Rattle.stream_meaning.specs.Settings.{IsSetting};
 ghost use Rattle.run_records.specs.Buffers.{feeder};
 ghost use Rattle.run_records.specs.Ordered.{HasSameText, IsOrdered};
 ghost use Rattle.run_records.specs.Owning.{IsOwn};
-ghost use Rattle.run_records.specs.Records.{AreRoundsBegun, AreWindowsBegun, IsLawful, IsRounds, Run, setting_in};
+ghost use Rattle.run_records.specs.Pace.{IsDrawn, KeepPace, has_none};
+ghost use Rattle.run_records.specs.Records.{AreRoundsBegun, AreWindowsBegun, IsLawful, IsRounds, Run, Window, capacity_of, puts_of, setting_in};
 ghost use Rattle.run_records.specs.Rounds.{BeginsRounds, HasNoJoin, IsAsOnOneThread, merged};
 
 /// A tick of a clock takes only of buffers that this clock reads, and gives only to those that it feeds.
@@ -59,4 +64,20 @@ pub fn broken_windows_begin_rounds()
 pub fn broken_rounds_begin_rounds()
     ensures { (setting : Setting) (clocks : Map) → IsSetting setting clocks → (running N : ℕ) (run rounds : Run)
         → AreRoundsBegun setting running N run → IsRounds setting running N rounds → BeginsRounds setting run rounds }
+{}
+
+/// Windows of at most W puts that keep pace: where the buffer has room for two windows and for what may be owed, no put is
+/// refused, whatever the order within a window.
+pub fn paced_windows_refuse_nothing()
+    ensures { (capacity W D : ℕ) (windows : List Window) (rest : List (List Sample)) → W + W + D ≤ capacity → KeepPace W D D windows
+        → IsRun capacity [] windows rest → has_none (flat_map (λ (window : Window). window.0) windows) ≡ false }
+{}
+
+/// A lawful record refuses no put to a buffer that has room for two windows and for D chunks more, where its prefill is at most
+/// D + 1 frames and its reader lies in a main clock that runs and is demanded at each instant.
+pub fn roomy_buffers_refuse_nothing()
+    ensures { (setting : Setting) (clocks : Map) → IsSetting setting clocks → (W N D buffer m i : ℕ) (node : PlanNode) (run : Run)
+        → IsLawful setting clocks.running W N run → buffer < length setting.plan.buffers → IsDrawn (setting_in setting run) buffer m i node
+        → m < clocks.running → max 1 (prefill setting buffer) ≤ suc D * setting.plan.frame → W + W + D ≤ capacity_of setting buffer
+        → has_none (puts_of run buffer) ≡ false }
 {}
