@@ -137,7 +137,13 @@ impl Draft {
 
     /// Adds an output of a node to the file of this name, of 24 bits a sample if it is `wide`, else of 16. Where there is no room for it, which is memory or the 2^32nd
     /// sink, the plan is as it was.
-    pub fn push_output(&mut self, name: Text, node: u32, fallible: bool, wide: bool) -> Result<(), Memory>
+    pub fn push_output(
+        &mut self,
+        name: Text,
+        node: u32,
+        fallible: bool,
+        wide: bool,
+    ) -> Result<(), Memory>
         ensures added { OnOk result (self.new ≡ with_output self.old name node fallible wide) }
         ensures room { OnOk result (length self.old.sinks + 1 < 2 ^ 32) }
         ensures well_formed { OnOk result (IsWellFormed self.old → node < length self.old.nodes → IsWellFormed self.new) }
