@@ -6,6 +6,6 @@ mod laws;
 
 pub use laws::{
     as_on_one_thread, broken_rounds_begin_rounds, broken_windows_begin_rounds, feeders_run,
-    lawful_records_are_rounds, paced_windows_refuse_nothing, roomy_buffers_refuse_nothing, rounds_are_one,
-    text_is_whole, ticks_call_their_own,
+    lawful_records_are_rounds, paced_windows_refuse_nothing, roomy_buffers_refuse_nothing,
+    rounds_are_one, text_is_whole, ticks_call_their_own,
 };
