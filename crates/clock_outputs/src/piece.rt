@@ -1,8 +1,8 @@
 // The bytes of an output in a tick.
 ghost use Rattle.std.specs.Prelude.{◌≡◌, ◌+◌, ◌*◌, ◌≤◌, ◌++◌, [], length, replicate, IfOk, None};
-ghost use Rattle.std.specs.List.{concat, flat_map};
-ghost use Rattle.std.specs.Simd.Lanes.{zip2};
-ghost use Rattle.stream_meaning.specs.Sinks.{block_length, sample_block, slot_block};
+ghost use Rattle.std.specs.List.{flat_map};
+ghost use Rattle.stream_meaning.specs.Sinks.{block_length, slot_block};
+ghost use Rattle.clock_outputs.specs.Blocks.{sample_blocks};
 
 use liq_base::{Kind, Memory};
 use sample_kernels::{encode, encode_wide};
@@ -49,7 +49,7 @@ impl Piece {
     pub fn add_cells(&mut self, wide: bool, kind: Kind, left: &[i16], right: &[i16])
         requires same { length right.now ≡ length left.now }
         requires room { length self.old.bytes + length left.now * block_length wide kind ≤ self.old.room }
-        ensures { self.new ≡ record { bytes = self.old.bytes ++ concat (zip2 (sample_block wide kind) left.now right.now); room = self.old.room } }
+        ensures { self.new ≡ record { bytes = self.old.bytes ++ sample_blocks wide kind left.now right.now; room = self.old.room } }
     {
         let start = self.filled;
         let end = start + left.len() * block_size(wide, kind);
@@ -88,7 +88,7 @@ pub fn block_size(wide: bool, kind: Kind) -> usize
 fn lay_samples(wide: bool, kind: Kind, left: &[i16], right: &[i16], into: &mut [u8])
     requires same { length right.now ≡ length left.now }
     requires room { length into.old ≡ length left.now * block_length wide kind }
-    ensures { into.new ≡ concat (zip2 (sample_block wide kind) left.now right.now) }
+    ensures { into.new ≡ sample_blocks wide kind left.now right.now }
 {
     if wide {
         encode_wide(left, right, kind, into);
