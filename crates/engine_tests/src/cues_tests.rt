@@ -1,6 +1,6 @@
 //! The marks that an engine keeps. A tick has three samples, and so has the file, which is played again and again: it begins
 //! with each tick, and its title is 1.
-ghost use Rattle.std.specs.Prelude.{◌≡◌, ◌×◌, ℕ, Some, length, slice_get};
+ghost use Rattle.std.specs.Prelude.{◌≡◌, ℕ, Some, length, slice_get};
 ghost use Rattle.plan_core.specs.Plans.{IsWellFormed};
 ghost use Rattle.clock_infer.specs.Answers.{IsClockMap};
 ghost use Rattle.clock_infer.specs.declared.clock_map.NodeClock.TheVariants.{Main as InMain};

@@ -36,7 +36,7 @@ pub(crate) fn one_name(alloc: Global) -> Result<Vec<Text>, AllocError>
     ensures { IfOk result (λ names. length names.items ≡ 1) }
 {
     let name = Text::from_string(String::new(alloc));
-    Vec::from_array(alloc, [name])
+    Ok(Vec::from_array(alloc, [name])?)
 }
 
 // Whether this is the main clock of this number.
