@@ -1,5 +1,5 @@
 -- The outputs of a plan with one.
-use Rattle.std.proofs.Common.{◌≡◌, ◌∙◌, ℕ, Bool, Some, None, List, [], ◌∷◌, length, slice_get, cond, ap, sym, subst, refl}
+use Rattle.std.proofs.Common.{◌≡◌, ◌∙◌, ℕ, Bool, Some, List, [], ◌∷◌, length, slice_get, cond, ap}
 use Rattle.std.proofs.lemmas.Option.{get_or_from_slice_get, none-some}
 use Rattle.plan_core.specs.declared.plan.Plan.{Plan}
 use Rattle.plan_core.specs.declared.sink.SinkPlan.{SinkPlan}
@@ -7,7 +7,7 @@ use Rattle.plan_core.specs.declared.sink.SinkPlan.TheVariants.{Output, Feed}
 use Rattle.clock_infer.specs.declared.clock_map.ClockMap.{ClockMap}
 use Rattle.clock_infer.specs.declared.clock_map.NodeClock.TheVariants.{Main}
 use Rattle.frame_core.specs.Library.{Sounds}
-use Rattle.stream_meaning.specs.Instants.{Setting, clock_of, same_clock}
+use Rattle.stream_meaning.specs.Instants.{same_clock}
 use Rattle.node_states.specs.Ticks.{IsOutput}
 use Rattle.clock_engine.specs.Engines.{outputs_from, outputs_of}
 use Rattle.engine_tests.specs.Joined.{setting_over}
