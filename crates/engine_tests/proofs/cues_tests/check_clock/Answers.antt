@@ -14,6 +14,9 @@ check_marks-requires g c =
     let clock : last.clock ≡ 0 =
     c.tick_on-in-Ok-2.ensures.clock ∙ c.tick_on-in-Ok.ensures.clock ∙ c.tick_on.ensures.clock ∙ c.keep_cues.ensures.clock ∙ c.in-Ok.ensures.clock in
     record {
-      output = (0, output_moved first (setting_of last) 0 last.clock 0 0 (sym setting) (sym clock)
-          (is_output c.args.plan.now c.args.library.now c.args.clocks.now 0 c.requires.sinks c.requires.clock));
+      output = (
+        0,
+        output_moved first (setting_of last) 0 last.clock 0 0 (sym setting) (sym clock)
+            (is_output c.args.plan.now c.args.library.now c.args.clocks.now 0 c.requires.sinks c.requires.clock),
+      );
     }
