@@ -10,14 +10,13 @@ use Rattle.plan_core.specs.declared.node.Op.TheVariants.{Fail}
 use Rattle.plan_core.specs.Plans.{AreNodes}
 use Rattle.plan_core.proofs.Paths.{child_below}
 use Rattle.clock_infer.specs.declared.clock_map.NodeClock.{NodeClock}
-use Rattle.frame_core.specs.declared.cell.Cell.{Cell}
 use Rattle.frame_core.specs.Slots.{Slot, slot_at, title_of}
 use Rattle.op_select.specs.declared.rule.Picked.{Picked}
 use Rattle.op_select.specs.Selection.{picked}
 use Rattle.stream_meaning.specs.declared.part.Part.{Part}
 use Rattle.stream_meaning.specs.Arithmetic.{Mixing, Adds, Scales, Halves, Doubles, Passes, mix_slot}
 use Rattle.stream_meaning.specs.Operators.{Work, Plays, Picks, Mixes, Fades, Reads, child_used, marks_at}
-use Rattle.stream_meaning.specs.Instants.{Setting, Moment, choices, demanded, gives, is_root, last_pick, lies_in, moment_after, offer, offering, part_at, parts_upto, picked_part, second_at, silent, slots_at, uses_by, uses_from, work_at}
+use Rattle.stream_meaning.specs.Instants.{Setting, Moment, choices, demanded, gives, is_root, last_pick, lies_in, moment_after, offer, offering, part_at, parts_upto, picked_part, second_at, slots_at, uses_by, uses_from, work_at}
 use Rattle.segment_laws.specs.Stretches.{IsNode, IsStretch, KeepsTitle, lane}
 use Rattle.segment_laws.proofs.Staying.{picked-none, picked-some}
 use Rattle.segment_laws.proofs.Demanding.{used_demanded}
