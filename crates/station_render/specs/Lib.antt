@@ -3,3 +3,4 @@ pub mod Sinks
 pub mod Renders
 pub mod Engines
 pub mod Runs
+pub mod Marks

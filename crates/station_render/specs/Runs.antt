@@ -1,21 +1,19 @@
 -- What a run of a station leaves in its sinks, and what is told of it.
 use Rattle.std.specs.Borrow.{Bor}
-use Rattle.std.specs.Prelude.{◌≡◌, ℕ, suc, List, [], ◌∷◌, ◌++◌, Option, Some, IsSomeAnd, length, map, option_map}
+use Rattle.std.specs.Prelude.{◌≡◌, ℕ, suc, List, [], ◌∷◌, ◌++◌, Option, Some, None, length, map, option_map}
 use Rattle.std.specs.Option.{ForSome}
 use Rattle.liq_base.specs.Files.{Files}
-use Rattle.liq_base.specs.Kept.{HoldsPartOr}
-use Rattle.plan_core.specs.declared.plan.Plan.{Plan}
 use Rattle.plan_core.specs.declared.sink.BufferPlan.{BufferPlan}
 use Rattle.clock_infer.specs.declared.clock_map.ClockMap.{ClockMap}
 use Rattle.stream_meaning.specs.Instants.{Setting}
 use Rattle.run_records.specs.Records.{Run, setting_in, setting_then, windows_of}
-use Rattle.trace_log.specs.Values.{TraceValue}
-use Rattle.stations.specs.Outputs.{OutputFile, with_outputs}
+use Rattle.stations.specs.Cues.{marks_of}
+use Rattle.stations.specs.Findings.{IsFit}
+use Rattle.stations.specs.Outputs.{with_outputs}
 use Rattle.stations.specs.Reports.{answers_line}
 use Rattle.stations.specs.Stations.{IsBegun, IsBegunIn, IsLawful, IsLawfulIn, Station, bare, made_in, made_of, setting_of_run, station_of, tried_in, tried_of}
 use Rattle.stations.specs.Streams.{gaps_in_order, output_files}
-use Rattle.stations.specs.Traces.{files_of, traced}
-use Rattle.stations.specs.declared.ready.Ready.{Ready}
+use Rattle.stations.specs.Traces.{files_of}
 use Rattle.buffer_ends.specs.Local.{Answers}
 use Rattle.buffer_ends.specs.declared.counts.Counts.{Counts}
 use Rattle.buffer_ends.specs.declared.run_end.End.{End}
@@ -24,9 +22,11 @@ use Rattle.clock_engine.specs.declared.engine.ClockEngine.{ClockEngine}
 use Rattle.buffer_sides.specs.Logs.{told}
 use Rattle.rounds_run.specs.Rounds.{HaveRunPart}
 use Rattle.rounds_run.specs.Runs.{HaveRunTicks, counts_of_run, counts_of_windows}
-use Rattle.station_render.specs.Engines.{AreAt, AreEmptyBelow, outs_of}
+use Rattle.station_render.specs.Engines.{AreAt, AreEmptyBelow, ArePast, outs_of}
 use Rattle.station_render.specs.Sinks.{AreCreated, HasFailed}
-use Rattle.station_render.specs.Renders.{AreBegun, IsReady, IsWhole, order_of, written}
+use Rattle.station_render.specs.Marks.{cues_of}
+use Rattle.station_render.specs.Renders.{AreBegun, IsReady, IsWhole, order_of, setting_for, written}
+use Rattle.station_render.specs.declared.job.Job.{Job}
 use Rattle.station_render.specs.declared.rendered.Rendered.{Rendered}
 use Rattle.station_render.specs.declared.threading.Threading.{Threading}
 
@@ -43,15 +43,35 @@ counts_of station run = counts_from run 0 station.plan.buffers
 abbrev pub name_in : Threading → Option (List ℕ)
 name_in threading = option_map (λ (name : Bor (List ℕ)). name.now) threading.trace
 
--- the station of a plan that is rendered so by threads
-abbrev pub station_by : Plan → Ready → (start ticks : ℕ) → Threading → Station
-station_by plan ready start ticks threading = station_of plan ready start ticks (Some threading.window) (name_in threading)
+-- what a job may rely on
+abbrev pub IsFitting : Job → Type 0
+IsFitting job = IsFit job.plan.now job.ready.now.library job.ready.now.clocks job.ticks
 
--- this is told of a run: the gaps of each output, in sink order, and of each buffer its counts and which answers each window had
+-- what the streams of a job rest on, before its buffers have answered
+abbrev pub setting_by : Job → Setting
+setting_by job = setting_for job.plan.now job.ready.now.library job.ready.now.clocks job.start.second
+
+-- the engines of a job have made so many ticks, in some run
+abbrev pub HaveEnded : {S : Type 0} → Job → List (ClockEngine S) → Type 0
+HaveEnded job engines = (setting : Setting) × (world : Setting) × (ticks : ℕ) × (setting.plan ≡ job.plan.now) × (setting.clocks ≡ job.ready.now.clocks.of) × ArePast setting world ticks engines
+
+-- the station of a job that is rendered by threads in such windows, or on one thread; with a trace of this name, if one is wanted
+abbrev pub station_in : Job → (window : Option ℕ) → (trace : Option (List ℕ)) → Station
+station_in job window trace = station_of job.plan.now job.ready.now job.start.second job.ticks window trace job.cues
+
+abbrev pub station_by : Job → Threading → Station
+station_by job threading = station_in job (Some threading.window) (name_in threading)
+
+abbrev pub station_alone : Job → Station
+station_alone job = station_in job None None
+
+-- this is told of a run: the gaps of each output, in sink order; of each buffer its counts and which answers each window had; and the
+-- marks of each output, where cue files are wanted
 pub record IsTold (station : Station) (run : Run) (rendered : Rendered) : Type 0 where
   pub gaps_are : rendered.gaps.items ≡ gaps_in_order station run
   pub counts_are : rendered.counts.items ≡ counts_of station run
   pub logs_are : rendered.logs.items ≡ map (map told) run.buffers
+  pub cues_are : cues_of rendered.cues.items ≡ marks_of station run
 
 -- a run of the station wrote all its outputs, and this is told of it
 pub record WroteOutputs (station : Station) (before after : Option Files) (rendered : Rendered) : Type 0 where
@@ -59,12 +79,6 @@ pub record WroteOutputs (station : Station) (before after : Option Files) (rende
   pub lawful : IsLawful station run
   pub told : IsTold station run rendered
   pub outputs_written : ForSome before (λ files. after ≡ Some (with_outputs files (output_files station run)))
-
--- the file of this trace holds a prefix of its text, or, for this cause, what its name held
-pub record LeftPart (name : Option (List ℕ)) (trace : TraceValue) (cause : Type 0) (before after : Option Files) : Type 0 where
-  pub file : OutputFile
-  pub wanted : traced name trace ≡ file ∷ []
-  pub part : ForSome before (λ files. IsSomeAnd after (HoldsPartOr cause files file.name file.bytes))
 
 -- a run of the station wrote all its files, and this is told of it
 pub record IsRendered (station : Station) (before after : Option Files) (rendered : Rendered) : Type 0 where

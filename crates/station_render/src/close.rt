@@ -4,7 +4,7 @@ ghost use Rattle.std.specs.Option.{ForSome};
 ghost use Rattle.liq_base.specs.Counts.{Rose};
 ghost use Rattle.liq_base.specs.Files.{Files};
 ghost use Rattle.stations.specs.Outputs.{OutputFile, OutputPart, with_outputs, HoldsParts};
-ghost use Rattle.stations.specs.Renderings.{WroteOutputsPart};
+ghost use Rattle.stations.specs.Renderings.{WrotePart};
 ghost use Rattle.stations.specs.Stations.{Station};
 ghost use Rattle.station_render.specs.Runs.{RanPart, RanWhole, WroteOutputs};
 ghost use Rattle.station_render.specs.Sinks.{AreCreated, HasFailed, HaveSizes, HoldsFront, HoldsWhole, AreAllEmpty, WasTaken, lists_of};
@@ -25,7 +25,8 @@ pub(crate) fn close_all<S: Shelf>(
         → IfOk result (WroteOutputs station before (S.files shelf.new)) }
     ensures part { (station : Station) (before : Option Files) (count : ℕ) → S.files shelf.old ≡ before → count ≤ S.write_count shelf.old
         → RanPart S.Out.name S.Out.held S.Out.faults before station order.now (lists_of groups.items)
-        → ForSome before (λ files. WroteOutputsPart station count (S.write_count shelf.new) files (S.files shelf.new)) }
+        → IfOk wrote (RanWhole S.Out.name S.Out.held before station order.now (lists_of groups.items))
+        → ForSome before (λ files. WrotePart station count (S.write_count shelf.new) files (S.files shelf.new)) }
     ensures cause { IsErrOf result RenderFault.Write → IsErrOf wrote RenderFault.Write ⊎ Rose (S.write_count shelf.old) (S.write_count shelf.new) }
     ensures failed { HasFailed S.Out.faults (lists_of groups.items) → Rose (S.write_count shelf.old) (S.write_count shelf.new) }
     ensures well { OnOk result (is_ok wrote ≡ true) }

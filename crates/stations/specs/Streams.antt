@@ -39,6 +39,13 @@ parts_in setting ticks made tried (Output name node fallible wide ∷ sinks) =
     ∷ parts_in setting ticks made tried sinks
 parts_in setting ticks made tried (Feed buffer node ∷ sinks) = parts_in setting ticks made tried sinks
 
+-- what they hold at least and at most, where all ticks were made
+abbrev pub ends_in : Setting → (ticks : ℕ) → List SinkPlan → List OutputPart
+ends_in setting ticks [] = []
+ends_in setting ticks (Output name node fallible wide ∷ sinks) =
+    record { name = name; least = output_bytes setting ticks node; most = output_bytes setting ticks node } ∷ ends_in setting ticks sinks
+ends_in setting ticks (Feed buffer node ∷ sinks) = ends_in setting ticks sinks
+
 -- the gaps of the outputs among these sinks, in their order
 abbrev pub counts_in : Setting → (ticks : ℕ) → List SinkPlan → List ℕ
 counts_in setting ticks [] = []
@@ -60,6 +67,10 @@ output_files station run = outputs_in (setting_of_run station run) station.ticks
 -- what a run which was broken off has written of its outputs, if these answers had followed
 abbrev pub parts_with : (station : Station) (run : Run) → IsBegun station run → (rest : ℕ → List Answer) → List OutputPart
 parts_with station run begun rest = parts_in (setting_with station run rest) station.ticks (made_of station run begun) (tried_of station run begun) station.plan.sinks
+
+-- what the outputs hold of a run that ended well, before they are closed
+abbrev pub ends_of : Station → Run → List OutputPart
+ends_of station run = ends_in (setting_of_run station run) station.ticks station.plan.sinks
 
 abbrev pub gaps_in_order : Station → Run → List ℕ
 gaps_in_order station run = counts_in (setting_of_run station run) station.ticks station.plan.sinks
