@@ -19,9 +19,9 @@ pub record WroteOutputsPart (station : Station) (count last : ℕ) (files : File
   pub begun : IsBegun station run
   pub parts : (rest : ℕ → List Answer) → IsSomeAnd after (λ now. HoldsSome count files (parts_with station run begun rest) now last)
 
--- A run made all its ticks, and what came behind them broke off: a closing of an output, each of which holds its bytes, or, where the
--- count of failed writes rose at its closing, a prefix of them or what it held; or, once all outputs were written, a file among the cue
--- files and the trace.
+-- A run made all its ticks, and what came behind them broke off: a last zero byte or a closing of the outputs, each of which holds its
+-- bytes, maybe without that byte, or, where the count of failed writes rose at its closing, a prefix of them or what it held; or, once all
+-- outputs were written, a file among the cue files and the trace.
 pub record WroteLastPart (station : Station) (count last : ℕ) (files : Files) (after : Option Files) : Type 0 where
   pub run : Run
   pub lawful : IsLawful station run
