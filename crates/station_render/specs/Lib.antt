@@ -1,5 +1,6 @@
 pub mod Faults
 pub mod Sinks
+pub mod OutputSinks
 pub mod Renders
 pub mod Engines
 pub mod Runs

@@ -87,12 +87,12 @@ pub record IsRendered (station : Station) (before after : Option Files) (rendere
   pub told : IsTold station run rendered
   pub all_written : ForSome before (λ files. after ≡ Some (with_outputs files (files_of station run)))
 
--- a run of the station wrote all bytes of its outputs into their sinks, and this is told of it
-pub record RanWhole {S : Type 0} (name held : S → Option (List ℕ)) (files : Option Files) (station : Station) (order : List ℕ) (groups : List (List S)) (rendered : Rendered) : Type 0 where
+-- a run of the station wrote all bytes of its outputs into their sinks, but for the ones that they owe, and this is told of it
+pub record RanWhole {S : Type 0} (name held : S → Option (List ℕ)) (debt : S → ℕ) (files : Option Files) (station : Station) (order : List ℕ) (groups : List (List S)) (rendered : Rendered) : Type 0 where
   pub run : Run
   pub lawful : IsLawful station run
   pub told : IsTold station run rendered
-  pub whole : AreCreated (IsWhole name held files (setting_of_run station run) station.ticks) (written station.plan.sinks) order groups
+  pub whole : AreCreated (IsWhole name held debt files (setting_of_run station run) station.ticks) (written station.plan.sinks) order groups
 
 -- a run of the station came so far, and each sink holds as much of its bytes
 pub record RanPart {S : Type 0} (name held : S → Option (List ℕ)) (faults : S → ℕ) (files : Option Files) (station : Station) (order : List ℕ) (groups : List (List S)) : Type 0 where
@@ -102,12 +102,12 @@ pub record RanPart {S : Type 0} (name held : S → Option (List ℕ)) (faults : 
 
 -- The outputs of a plan were created, in this order of their clocks, and the engines of all clocks took the sinks, each of which holds
 -- its header and has room for its samples. No tick was made.
-pub record AreOpened {S : Type 0} (name held : S → Option (List ℕ)) (left : S → Option ℕ) (files : Option Files) (setting : Setting) (clocks : ClockMap) (ticks : ℕ)
+pub record AreOpened {S : Type 0} (name held : S → Option (List ℕ)) (left : S → Option ℕ) (debt : S → ℕ) (files : Option Files) (setting : Setting) (clocks : ClockMap) (ticks : ℕ)
     (order : List ℕ) (engines : List (ClockEngine S)) (groups : List (List S)) : Type 0 where
   pub order_is : order ≡ order_of setting (written setting.plan.sinks)
   pub all : length engines ≡ clocks.running
   pub at : AreAt setting engines
-  pub ready : AreCreated (IsReady name held left files setting ticks) (written setting.plan.sinks) (order_of setting (written setting.plan.sinks)) (outs_of engines)
+  pub ready : AreCreated (IsReady name held left debt files setting ticks) (written setting.plan.sinks) (order_of setting (written setting.plan.sinks)) (outs_of engines)
   pub many : length groups ≡ length engines
   pub taken : AreEmptyBelow (length engines) groups
 
