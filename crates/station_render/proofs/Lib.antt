@@ -12,3 +12,5 @@ pub mod Ending
 pub mod Gathering
 pub mod Returning
 pub mod Tracing
+pub mod Leaving
+pub mod CueFiles

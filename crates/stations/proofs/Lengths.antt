@@ -71,7 +71,7 @@ output_long station run wide node =
     let both = length-append (header_for setting wide station.ticks node) (ticks_bytes setting wide node station.ticks) in
     let front = header_long setting wide station.ticks node in
     let back = ticks_long setting wide node station.ticks in
-    let last = length-replicate (size % 2) 0 in
+    let last = length-replicate {A = ℕ} (size % 2) 0 in
     let sized : size ≡ station.ticks * (station.plan.frame * block) = ap (λ b. station.ticks * (station.plan.frame * b)) (same_block wide (kind_of setting node)) in
     let same : station.ticks * (station.plan.frame * block) ≡ station.ticks * station.plan.frame * block = omega arith in
     let sums : length (bytes_of station run wide node) ≡ 44 + padded size = omega (arith, whole, both, front, back, last) in
