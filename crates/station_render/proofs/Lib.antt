@@ -14,3 +14,4 @@ pub mod Returning
 pub mod Tracing
 pub mod Leaving
 pub mod CueFiles
+pub mod Writing

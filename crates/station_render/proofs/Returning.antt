@@ -26,7 +26,8 @@ use Rattle.station_render.specs.Sinks.{AreCreated, HasFailed}
 use Rattle.station_render.specs.Engines.{AreEmptyBelow, AreKeeping, ArePast, outs_of}
 use Rattle.station_render.specs.Marks.{cues_of}
 use Rattle.station_render.specs.Renders.{AreMain, IsPart, IsReady, IsWhole, order_of, setting_for, written}
-use Rattle.station_render.specs.Runs.{AreOpened, RanAll, RanPart, RanSome, RanWhole, counts_from}
+use Rattle.station_render.specs.EngineRuns.{AreOpened, RanAll, RanSome}
+use Rattle.station_render.specs.Runs.{RanPart, RanWhole, counts_from}
 use Rattle.station_render.specs.declared.rendered.Rendered.{Rendered}
 use Rattle.station_render.proofs.Lists.{got, got_is}
 use Rattle.station_render.proofs.Creating.{created_as, part_of_ready}

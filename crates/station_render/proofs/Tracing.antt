@@ -1,14 +1,8 @@
--- The trace behind the outputs: what it leaves, and that a run's logs are one.
+-- The logs of a run by threads are a trace.
 use Rattle.std.proofs.Common.{◌≡◌, ◌<◌, ◌≤◌, ◌+◌, ◌*◌, ◌-◌, ◌/◌, ◌∙◌, ◌++◌, ◌⊎◌, ℕ, zero, suc, Bool, List, [], ◌∷◌, length, map, slice_index_or, append-nil, arith, refl, ap, sym, subst, inl, inr, false}
 use Rattle.std.specs.Prelude.{Option, Some, None, Result, Ok, Err, OnOk, OnErr, IfOk, IsSome, IsSomeAnd, is_some}
-use Rattle.std.specs.Option.{ForSome}
 use Rattle.std.proofs.lemmas.Nat.{div-mul-add}
 use Rattle.std.proofs.Math.Nat.{min-eq_left, min-eq_right, suc-mul}
-use Rattle.liq_base.specs.Counts.{Rose}
-use Rattle.liq_base.specs.Created.{is_told, part_left_or}
-use Rattle.liq_base.specs.Files.{Files, Closed, ClosedPart, with_file}
-use Rattle.liq_base.specs.Kept.{HoldsPartOr, later_cause, rose_within, some_and}
-use Rattle.liq_base.specs.Pieces.{Took, TookPart, grown}
 use Rattle.plan_core.specs.Plans.{IsWellFormed, ReadsBuffer}
 use Rattle.plan_core.specs.declared.node.Node.{Node}
 use Rattle.plan_core.specs.declared.node.Op.{Op}
@@ -22,51 +16,7 @@ use Rattle.clock_windows.proofs.Meeting.{low_or_high}
 use Rattle.clock_windows.proofs.Starts.{start_zero}
 use Rattle.trace_log.specs.Texts.{IsTrace, trace_text, windows_of}
 use Rattle.trace_log.specs.Values.{TraceValue}
-use Rattle.stations.specs.Cues.{cues_if}
-use Rattle.stations.specs.Outputs.{OutputFile, with_outputs}
-use Rattle.stations.proofs.Parts.{outputs_within}
-use Rattle.stations.specs.Renderings.{WroteOutputsPart, WrotePart}
-use Rattle.stations.specs.Stations.{Station, setting_of_run}
-use Rattle.stations.specs.Streams.{output_files}
-use Rattle.stations.specs.Traces.{traced, traces_in, traces_of}
-use Rattle.station_render.specs.Runs.{IsRendered, LeftPart, WroteOutputs}
-use Rattle.station_render.specs.declared.rendered.Rendered.{Rendered}
 use Rattle.station_render.proofs.Lists.{many_mapped, within}
-
-pub if_ok : {A E : Type 0} (r : Result A E) (P Q : A → Type 0) → ((x : A) → P x → Q x) → IfOk r P → IfOk r Q
-if_ok (Ok x) P Q f p = f x p
-if_ok (Err e) P Q f p = tt
-
-on_err : {A E : Type 0} (r : Result A E) (P Q : Type 0) → (P → Q) → OnErr r P → OnErr r Q
-on_err (Ok x) P Q f p = tt
-on_err (Err e) P Q f p = f p
-
--- a file that was created, took its bytes, wholly or in part, and was closed
-module _ {S : Type 0} (held name : S → Option (List ℕ)) {room : S → Option ℕ} (old new : S) (before created after : Option Files) (n bytes : List ℕ) (same : created ≡ before)
-    (tells : IsSome before → IsSome (name old) × IsSome (held old)) (named : ForSome (name old) (λ said. said ≡ n)) (empty : ForSome (held old) (λ said. said ≡ [])) (kept : name new ≡ name old) where
-  pub whole_left : Took held room bytes old new → Closed created (name new) (held new) after → ForSome before (λ files. after ≡ Some (with_file files n bytes))
-  whole_left took closed = λ files at.
-      let t = tells (ap is_some at) in
-      closed files (same ∙ at) n (kept ∙ is_told (name old) n t.0 named) bytes (took.held_grew ∙ ap (grown bytes) (is_told (held old) [] t.1 empty))
-
-  pub part_left : {E : Type 0} (r : Result (Unit {0}) E) → TookPart held room bytes old new
-      → OnOk r (Closed created (name new) (held new) after) → OnErr r (ClosedPart created (name new) (held new) after)
-      → ForSome before (λ files. IsSomeAnd after (HoldsPart files n bytes))
-  part_left r part closed closed_part = λ files at.
-      some_and after (HoldsPartOr ⊤ files n bytes) (HoldsPart files n bytes) (λ now p. without_cause files now p)
-      (part_left_or ⊤ held room name old new r before created after n bytes same tells named empty kept part closed closed_part (always r) files at)
-    where
-      without_cause : (files now : Files) → HoldsPartOr ⊤ files n bytes now → HoldsPart files n bytes now
-      without_cause files now (inl kept_so) = inl kept_so.1
-      without_cause files now (inr part) = inr part
-
-      always : {E : Type 0} (r : Result (Unit {0}) E) → OnErr r ⊤
-      always (Ok x) = tt
-      always (Err e) = tt
-
--- a whole piece is a part of itself
-pub took_whole : {S : Type 0} {held : S → Option (List ℕ)} {room : S → Option ℕ} (bytes : List ℕ) (old new : S) → Took held room bytes old new → TookPart held room bytes old new
-took_whole bytes old new took = record { taken = bytes; is_front = record { rest = []; whole_is = sym (append-nil bytes) }; took = took }
 
 -- Where each of the numbers below m has a place below n, and no place is that of two, there are at least as many places.
 pub places_fit : (n m : ℕ) (At : ℕ → ℕ → Type 0) → ((b : ℕ) → b < m → (i : ℕ) × (i < n) × At b i) → ((a b i : ℕ) → a < m → b < m → At a i → At b i → a ≡ b) → m ≤ n

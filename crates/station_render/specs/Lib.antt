@@ -4,4 +4,5 @@ pub mod OutputSinks
 pub mod Renders
 pub mod Engines
 pub mod Runs
+pub mod EngineRuns
 pub mod Marks

@@ -4,7 +4,8 @@ ghost use Rattle.liq_base.specs.Counts.{Rose};
 ghost use Rattle.stations.specs.Creations.{MadeFront, after_making, names_in};
 ghost use Rattle.station_render.specs.Engines.{AreKeeping};
 ghost use Rattle.station_render.specs.OutputSinks.{owed, spared, told};
-ghost use Rattle.station_render.specs.Runs.{AreOpened, IsFitting, RanPart, setting_by, station_in};
+ghost use Rattle.station_render.specs.EngineRuns.{AreOpened};
+ghost use Rattle.station_render.specs.Runs.{IsFitting, RanPart, setting_by, station_in};
 ghost use Rattle.station_render.specs.Sinks.{AreEmpty, HasFailed, lists_of};
 
 use crate::create::create_each;
