@@ -91,6 +91,12 @@ rooms_if room groups (Ok x) is rooms = rooms
 rooms_if room groups (Err e) is rooms = absurd (true≢false (sym is))
 
 module _ (station : Station) where
+  -- the sinks have room for what they owe
+  pub rooms_of : {O : Type 0} (name held : O → Option (List ℕ)) (room : O → Option ℕ) (before : Option Files) (order : List ℕ) (groups : List (List (OutputSink O))) {E : Type 0} (wrote : Result Rendered E)
+      → IfOk wrote (RanWhole (told name) (told held) (owed room) before station order groups) → OnOk wrote (HaveRooms room groups)
+  rooms_of name held room before order groups (Ok rendered) whole = rooms_are name held room before (setting_of_run station whole.run) station.ticks (written station.plan.sinks) order groups whole.whole
+  rooms_of name held room before order groups (Err fault) whole = tt
+
   module _ {O : Type 0} (name held : O → Option (List ℕ)) (room : O → Option ℕ) (before mid after : Option Files) (same : mid ≡ before) (order : List ℕ) (groups : List (List (OutputSink O))) where
     -- all outputs were created, and closed without a fault
     pub all_written : (rendered : Rendered) → RanWhole (told name) (told held) (owed room) before station order groups rendered

@@ -15,3 +15,4 @@ pub mod Tracing
 pub mod Leaving
 pub mod CueFiles
 pub mod Writing
+pub mod Known

@@ -15,7 +15,7 @@ loop-clock-preserved g c =
     items c.loop-clock.invariant.count c.in-Ok.ensures.outs c.in-Ok.ensures.taken in
     record {
       made = taking_at c.loop-clock.engines.items c.push.new.self.items c.in-Ok.engine (lists_of c.loop-clock.groups.items) (lists_of c.make_engine.new.groups.items) c.loop-clock.clock
-          items c.loop-clock.invariant.count c.in-Ok.ensures.outs c.in-Ok.ensures.taken (setting_for c.args.plan.now c.args.ready.now.library c.args.ready.now.clocks c.args.start.second)
+          items c.loop-clock.invariant.count c.in-Ok.ensures.outs c.in-Ok.ensures.taken (setting_for c.args.job.now.plan.now c.args.job.now.ready.now.library c.args.job.now.ready.now.clocks c.args.job.now.start.second)
           c.loop-clock.invariant.made c.in-Ok.ensures.made;
       count = taking_count c.loop-clock.engines.items c.push.new.self.items c.in-Ok.engine (lists_of c.loop-clock.groups.items) (lists_of c.make_engine.new.groups.items) c.loop-clock.clock
           items c.loop-clock.invariant.count c.in-Ok.ensures.outs c.in-Ok.ensures.taken;

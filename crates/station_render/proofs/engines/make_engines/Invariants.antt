@@ -6,7 +6,7 @@ use Rattle.station_render.proofs.engines.make_engines.Given as goal
 
 abbrev pub invariant-loop-clock : goal.invariant-loop-clock
 invariant-loop-clock g l = record {
-  made : AreAt (setting_for l.plan l.ready.library l.ready.clocks l.start.second) l.engines.items;
+  made : AreAt (setting_by l.job) l.engines.items;
   count : length l.engines.items ≡ l.clock;
   len : vec_len l.engines ≡ l.clock;
   room : length (lists_of l.fn.groups.items) ≤ vec_capacity l.engines;

@@ -18,29 +18,29 @@ use Rattle.station_render.proofs.rendering.render_alone.Goals as goal
 
 pub returns-in_err-groups-clause-part : goal.returns-in_err-groups-clause-part
 returns-in_err-groups-clause-part g c =
-    λ files at. inl (none_written (station_of c.args.plan.now c.args.ready.now c.args.start.second c.args.ticks None None) (run_of (length c.args.plan.now.buffers) [])
-    (not_begun (setting_for c.args.plan.now c.args.ready.now.library c.args.ready.now.clocks c.args.start.second) c.args.ready.now.clocks.running c.args.ticks None).0 _ _ (omega arith) _ _ refl files at)
+    λ files at. inl (none_written (station_alone c.args.job.now) (run_of (length c.args.job.now.plan.now.buffers) [])
+    (not_begun (setting_for c.args.job.now.plan.now c.args.job.now.ready.now.library c.args.job.now.ready.now.clocks c.args.job.now.start.second) c.args.job.now.ready.now.clocks.running c.args.job.now.ticks None).0 _ _ (omega arith) _ _ refl files at)
 
 pub close_all-requires-clause-sizes : goal.close_all-requires-clause-sizes
 close_all-requires-clause-sizes g c κs lives =
     let part = c.write_alone-wrote.ensures.part in
-    let station = station_of c.args.plan.now c.args.ready.now c.args.start.second c.args.ticks None None in
+    let station = station_alone c.args.job.now in
     subst (λ o. HaveSizes o (lists_of c.write_alone-wrote.new.groups.items)) (sym c.deref.ensures.value)
-    (sizes (IsPart g.S.Out.Sink.name g.S.Out.Sink.held g.S.Out.Sink.faults (g.S.Shelf.files c.args.shelf.now) (setting_with station part.run (λ buffer. [])) c.args.ticks (made_of station part.run part.begun) (tried_of station part.run part.begun))
+    (sizes (IsPart (told g.S.Out.Sink.name) (told g.S.Out.Sink.held) (told g.S.Out.Sink.faults) (g.S.Shelf.files c.args.shelf.now) (setting_with station part.run (λ buffer. [])) c.args.job.now.ticks (made_of station part.run part.begun) (tried_of station part.run part.begun))
     part.parts.created c.write_alone-wrote.new.order.items (lists_of c.write_alone-wrote.new.groups.items) (part.parts.parts (λ buffer. [])))
 
 pub returns-clause-part : goal.returns-clause-part
 returns-clause-part g c =
-    let station = station_of c.args.plan.now c.args.ready.now c.args.start.second c.args.ticks None None in
+    let station = station_alone c.args.job.now in
     λ files at. inl (c.close_all.ensures.part station (g.S.Shelf.files c.args.shelf.now) _ c.write_alone-wrote.ensures.files c.write_alone-wrote.ensures.writes
-    (subst (λ o. RanPart g.S.Out.Sink.name g.S.Out.Sink.held g.S.Out.Sink.faults (g.S.Shelf.files c.args.shelf.now) station o (lists_of c.write_alone-wrote.new.groups.items)) (sym c.deref.ensures.value) c.write_alone-wrote.ensures.part) files at)
+    (subst (λ o. RanPart (told g.S.Out.Sink.name) (told g.S.Out.Sink.held) (told g.S.Out.Sink.faults) (g.S.Shelf.files c.args.shelf.now) station o (lists_of c.write_alone-wrote.new.groups.items)) (sym c.deref.ensures.value) c.write_alone-wrote.ensures.part) files at)
 
 pub returns-clause-done : goal.returns-clause-done
 returns-clause-done g c =
-    let station = station_of c.args.plan.now c.args.ready.now c.args.start.second c.args.ticks None None in
+    let station = station_alone c.args.job.now in
     if_ok c.close_all.result _ _ (untraced station _ _ refl refl)
     (c.close_all.ensures.done station (g.S.Shelf.files c.args.shelf.now) c.write_alone-wrote.ensures.files
-    (subst (λ o. IfOk c.write_alone-wrote.result (RanWhole g.S.Out.Sink.name g.S.Out.Sink.held (g.S.Shelf.files c.args.shelf.now) station o (lists_of c.write_alone-wrote.new.groups.items))) (sym c.deref.ensures.value) c.write_alone-wrote.ensures.done))
+    (subst (λ o. IfOk c.write_alone-wrote.result (RanWhole (told g.S.Out.Sink.name) (told g.S.Out.Sink.held) (owed g.S.Out.Sink.room) (g.S.Shelf.files c.args.shelf.now) station o (lists_of c.write_alone-wrote.new.groups.items))) (sym c.deref.ensures.value) c.write_alone-wrote.ensures.done))
 
 pub returns-clause-cause : goal.returns-clause-cause
 returns-clause-cause g c = λ e.
@@ -51,8 +51,8 @@ returns-in_err-groups-clause-front g c = none_made _ _ _ refl
 
 pub returns-clause-made : goal.returns-clause-made
 returns-clause-made g c =
-    on_ok c.close_all.result _ _ (λ made. then_made (names_in c.args.plan.now.sinks) [] _ _ _ made (none_more _))
-    (closed_made c.close_all.result c.write_alone-wrote.result (names_in c.args.plan.now.sinks) _ _ _ c.close_all.ensures.well c.write_alone-wrote.ensures.made c.close_all.ensures.created)
+    on_ok c.close_all.result _ _ (λ made. then_made (names_in c.args.job.now.plan.now.sinks) [] _ _ _ made (none_more _))
+    (closed_made c.close_all.result c.write_alone-wrote.result (names_in c.args.job.now.plan.now.sinks) _ _ _ c.close_all.ensures.well c.write_alone-wrote.ensures.made c.close_all.ensures.created)
 
 pub returns-clause-front : goal.returns-clause-front
-returns-clause-front g c = front_made (names_in c.args.plan.now.sinks) [] _ _ (front_kept _ _ _ _ c.close_all.ensures.created c.write_alone-wrote.ensures.front)
+returns-clause-front g c = front_made (names_in c.args.job.now.plan.now.sinks) [] _ _ (front_kept _ _ _ _ c.close_all.ensures.created c.write_alone-wrote.ensures.front)
