@@ -69,8 +69,9 @@ fn close_each<S: Shelf>(
         return Ok(());
     };
     let mut groups = groups;
-    let output = take_first(&mut groups, *clock);
-    let (sink, ended) = end_if(well, output);
+    let mut output = take_first(&mut groups, *clock);
+    let ended = end_if(well, &mut output);
+    let OutputSink { sink, odd: _odd } = output;
     let first = shelf.close(sink);
     let goes_on = still_well(well, ended, first);
     let others = close_each(shelf, rest, groups, goes_on);
