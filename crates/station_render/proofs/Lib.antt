@@ -16,3 +16,4 @@ pub mod Leaving
 pub mod CueFiles
 pub mod Writing
 pub mod Known
+pub mod Marking
