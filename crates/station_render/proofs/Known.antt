@@ -5,17 +5,17 @@ use Rattle.station_render.specs.OutputSinks.{known, owed, told, told_name}
 use Rattle.station_render.specs.declared.output_sink.OutputSink.{OutputSink}
 
 -- the first number of a name, and what stands behind it
-first_of : Option (List ℕ) → ℕ
+abbrev first_of : Option (List ℕ) → ℕ
 first_of None = 0
 first_of (Some []) = 0
 first_of (Some (n ∷ ns)) = n
 
-rest_of : Option (List ℕ) → List ℕ
+abbrev rest_of : Option (List ℕ) → List ℕ
 rest_of None = []
 rest_of (Some []) = []
 rest_of (Some (n ∷ ns)) = ns
 
-name_of : List ℕ → Option (List ℕ)
+abbrev name_of : List ℕ → Option (List ℕ)
 name_of [] = None
 name_of (n ∷ ns) = Some ns
 
