@@ -113,11 +113,14 @@ created_mapped f So ys order groups are = record {
 module _ (header body : ℕ) (odd : Bool) (odd_is : odd ≡ nat_eq (body % 2) 1) where
   room_by : (r : ℕ) (b : Bool) → b ≡ nat_eq r 1 → r < 2 → (before after : Option ℕ) → ForSome before (λ told. told ≡ header + body + r) → after ≡ narrowed header before → HasRoom (but_one_if b after) body × (owed_by b after ≡ 2 * r)
   room_by zero false is low None after told fell = ((λ left at. absurd (let none : None ≡ Some left = sym fell ∙ at in cc)), refl)
-  room_by zero false is low (Some before) after told fell = ((λ left at.
-      let same : Some (before - header) ≡ Some left = sym fell ∙ at in
-      let left_is : before - header ≡ left = cc in
-      let whole : before ≡ header + body + 0 = told before refl in
-      omega (arith, left_is, whole)), refl)
+  room_by zero false is low (Some before) after told fell = (
+    (λ left at.
+        let same : Some (before - header) ≡ Some left = sym fell ∙ at in
+        let left_is : before - header ≡ left = cc in
+        let whole : before ≡ header + body + 0 = told before refl in
+        omega (arith, left_is, whole)),
+    refl,
+  )
   room_by zero true is low before after told fell = absurd cc
   room_by (suc zero) false is low before after told fell = absurd cc
   room_by (suc zero) true is low None after told fell = (subst (λ a. HasRoom (but_one a) body) (sym fell) (λ left at. absurd cc), ap (λ a. owed_by true a) fell)

@@ -1,6 +1,6 @@
 -- Cue files that are written one after another.
-use Rattle.std.proofs.Common.{◌≡◌, ◌∙◌, ◌++◌, ◌<◌, ◌≤◌, ◌+◌, ℕ, zero, suc, Bool, List, [], ◌∷◌, length, map, take, drop, get_or, slice_get, append-nil, append_assoc, add-one, refl, ap, sym, subst}
-use Rattle.std.specs.Prelude.{Option, Some, None, IsSomeAnd, Vec}
+use Rattle.std.proofs.Common.{◌≡◌, ◌∙◌, ◌++◌, ◌<◌, ◌≤◌, ◌+◌, ℕ, zero, suc, Bool, List, [], ◌∷◌, length, map, take, drop, get_or, slice_get, add-one, refl, ap, sym, subst}
+use Rattle.std.specs.Prelude.{Option, Some, IsSomeAnd, Vec}
 use Rattle.std.specs.declared.alloc.Global.{Global}
 use Rattle.std.specs.Option.{ForSome}
 use Rattle.std.proofs.lemmas.List.{map-append}
@@ -11,8 +11,8 @@ use Rattle.plan_core.specs.declared.sink.SinkPlan.TheVariants.{Output, Feed}
 use Rattle.stream_meaning.specs.Sinks.{Cue}
 use Rattle.stations.specs.Creations.{MadeFront, after_making, names_in}
 use Rattle.stations.specs.Cues.{cue_name, cue_names_in}
-use Rattle.stations.specs.Outputs.{HoldsUpto, OutputFile, with_outputs}
-use Rattle.stations.proofs.Making.{front_made, names_both, then_front, then_made}
+use Rattle.stations.specs.Outputs.{HoldsUpto, with_outputs}
+use Rattle.stations.proofs.Making.{front_made, then_front, then_made}
 use Rattle.stations.proofs.Parts.{upto_all}
 use Rattle.clock_engine.specs.declared.cues.CueMark.{CueMark}
 use Rattle.station_render.specs.Marks.{cue_file, cue_files_with, cue_of, cues_of}

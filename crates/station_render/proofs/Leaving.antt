@@ -11,7 +11,6 @@ use Rattle.plan_core.specs.declared.sink.SinkPlan.TheVariants.{Output, Feed}
 use Rattle.stream_meaning.specs.Instants.{Setting}
 use Rattle.stream_meaning.specs.Sinks.{Cue, cues}
 use Rattle.clock_engine.specs.declared.cues.CueMark.{CueMark}
-use Rattle.clock_engine.specs.Cues.{mark_of}
 use Rattle.buffer_ends.specs.Local.{Answers}
 use Rattle.trace_log.specs.Texts.{trace_text}
 use Rattle.trace_log.specs.Values.{TraceValue}
@@ -23,11 +22,10 @@ use Rattle.stations.specs.Stations.{Station, setting_of_run}
 use Rattle.stations.specs.Streams.{output_files}
 use Rattle.stations.specs.Traces.{later_files, traced, traces_in, traces_of}
 use Rattle.stations.proofs.Making.{none_more}
-use Rattle.stations.proofs.Parts.{both_outputs, upto_all, upto_front, upto_none, upto_then}
-use Rattle.station_render.specs.Marks.{cue_file, cue_files_if, cue_files_with, cue_of, cues_of}
+use Rattle.stations.proofs.Parts.{both_outputs, upto_front, upto_none, upto_then}
+use Rattle.station_render.specs.Marks.{cue_file, cue_files_if, cue_files_with, cues_of}
 use Rattle.station_render.specs.Renders.{written}
 use Rattle.station_render.specs.Runs.{IsRendered, IsTold, WroteOutputs}
-use Rattle.station_render.specs.Sinks.{lists_of}
 use Rattle.station_render.specs.declared.rendered.Rendered.{Rendered}
 
 -- the cue files, by the marks

@@ -10,8 +10,8 @@ ghost use Rattle.station_render.specs.Runs.{RanPart, RanWhole, WroteOutputs};
 ghost use Rattle.station_render.specs.OutputSinks.{HaveRooms, HoldsBody, HoldsFrontIf, owed, told};
 ghost use Rattle.station_render.specs.Sinks.{AreCreated, HasFailed, HaveSizes, AreAllEmpty, WasTaken, lists_of};
 
-use crate::{RenderFault, Rendered};
 use crate::output_sink::{OutputSink, end_if};
+use crate::{RenderFault, Rendered};
 use liq_base::{Failed, Shelf};
 
 /// Closes all sinks in sink order, whatever was written, and answers what was told of it.

@@ -1,6 +1,5 @@
-use Rattle.std.proofs.Common.{◌≡◌, ◌∙◌, refl, subst, ap, sym, true}
+use Rattle.std.proofs.Common.{◌≡◌, ◌∙◌, refl, subst, ap, sym}
 use Rattle.std.specs.Prelude.{IfOk, Ok, Result, is_ok}
-use Rattle.std.specs.Option.{ForSome}
 use Rattle.station_render.specs.declared.fault.RenderFault.{RenderFault}
 use Rattle.station_render.specs.declared.rendered.Rendered.{Rendered}
 use Rattle.station_render.specs.OutputSinks.{owed, told}

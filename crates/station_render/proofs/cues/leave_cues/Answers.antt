@@ -5,7 +5,7 @@ use Rattle.plan_core.specs.declared.sink.SinkPlan.TheVariants.{Output, Feed}
 use Rattle.station_render.specs.Marks.{cues_of}
 use Rattle.station_render.proofs.Lists.{got}
 use Rattle.station_render.proofs.Creating.{written_still}
-use Rattle.station_render.proofs.CueFiles.{cues_front, cues_next, cues_still, cues_whole, files_next, files_part, files_still, files_upto, files_whole, marks_at, named_as, part_named_as}
+use Rattle.station_render.proofs.CueFiles.{cues_front, cues_next, cues_still, files_next, files_part, files_still, files_upto, files_whole, marks_at, named_as, part_named_as}
 use Rattle.station_render.proofs.Reporting.{one_place, place_below}
 use Rattle.station_render.proofs.cues.leave_cues.Goals as goal
 

@@ -1,4 +1,4 @@
-use Rattle.std.proofs.Common.{rules, arith, refl, List, ◌≡◌, ◌<◌, ◌∙◌, ◌++◌, ◌∷◌, [], length, slice_get, slice_index_or, take, ap, sym}
+use Rattle.std.proofs.Common.{rules, arith, refl, List, ◌≡◌, ◌<◌, ◌∙◌, ◌++◌, ◌∷◌, [], length, slice_get, slice_index_or, ap, sym}
 use Rattle.std.specs.Prelude.{Some}
 use Rattle.plan_core.specs.declared.sink.SinkPlan.{SinkPlan}
 use Rattle.plan_core.specs.declared.sink.SinkPlan.TheVariants.{Output, Feed}

@@ -1,4 +1,4 @@
-use Rattle.std.proofs.Common.{◌≡◌, ◌++◌, [], arith, rules, length, refl, sym, subst, true}
+use Rattle.std.proofs.Common.{◌≡◌, ◌++◌, [], arith, rules, length, refl, sym, subst}
 use Rattle.std.specs.Prelude.{IsErrOf, IsSomeAnd, Some}
 use Rattle.std.specs.Option.{ForSome}
 use Rattle.liq_base.specs.Counts.{Rose}
