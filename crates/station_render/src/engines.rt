@@ -1,24 +1,26 @@
 // The engines of all clocks.
-ghost use Rattle.std.specs.Prelude.{◌≡◌, ◌<◌, ◌≤◌, ◌^◌, [], ◌∷◌, ℕ, List, length, map, slice_get, Some, IfOk, OnOk, OnErr, IsErrOf};
+ghost use Rattle.std.specs.Prelude.{◌≡◌, ◌<◌, ◌≤◌, ◌^◌, [], ◌∷◌, ℕ, List, length, map, slice_get, Some, true, IfOk, OnOk, OnErr, IsErrOf};
 ghost use Rattle.std.specs.List.{slice_set};
 ghost use Rattle.buffer_ends.specs.declared.run_end.End.TheVariants.{Done, Write as WriteEnd};
-ghost use Rattle.clock_engine.specs.Engines.{outputs_of};
+ghost use Rattle.clock_engine.specs.Engines.{EngineStands, outputs_of, setting_of};
+ghost use Rattle.rounds_run.specs.Rounds.{nothing};
 ghost use Rattle.stream_meaning.specs.Instants.{Setting};
-ghost use Rattle.stations.specs.Findings.{IsFit};
+ghost use Rattle.stations.specs.Cues.{marks_if as marks_wanted, marks_in};
 ghost use Rattle.stations.specs.Streams.{counts_in};
 ghost use Rattle.station_render.specs.Sinks.{lists_of};
-ghost use Rattle.station_render.specs.Engines.{AreAt, AreEmptyBelow, ArePast, IsAt, outs_of, pooled};
-ghost use Rattle.station_render.specs.Renders.{AreMain, setting_for};
+ghost use Rattle.station_render.specs.Engines.{AreAt, AreEmptyBelow, AreKeeping, ArePast, IsAt, outs_of, pooled};
+ghost use Rattle.station_render.specs.Marks.{cues_of};
+ghost use Rattle.station_render.specs.Renders.{AreMain};
+ghost use Rattle.station_render.specs.EngineRuns.{HaveEnded};
+ghost use Rattle.station_render.specs.Runs.{IsFitting, setting_by};
 
 use crate::headers::clock_of;
-use crate::{RenderFault, Rendered};
+use crate::{Job, RenderFault, Rendered};
 use buffer_ends::{End, RunEnd};
-use clock_engine::ClockEngine;
+use clock_engine::{ClockEngine, CueMark};
 use clock_infer::ClockMap;
-use fixed_text::WeekSecond;
 use liq_base::{Memory, Sink};
 use plan_core::{Plan, SinkPlan};
-use stations::Ready;
 use std::alloc::{AllocError, Global};
 use std::mem;
 
@@ -39,21 +41,36 @@ fn take_out<O>(alloc: Global, groups: &mut Vec<Vec<O>>, clock: usize) -> Vec<O>
     mem::replace(&mut groups[clock], Vec::new(alloc))
 }
 
+// The engine, which keeps its marks if they are wanted.
+fn keep_if<'a, O: Sink>(wanted: bool, engine: ClockEngine<'a, O>) -> ClockEngine<'a, O>
+    requires { EngineStands engine.parts 0 nothing }
+    ensures setting { setting_of result.parts ≡ setting_of engine.entry.parts }
+    ensures clock { result.parts.clock ≡ engine.entry.parts.clock }
+    ensures stands { EngineStands result.parts 0 nothing }
+    ensures outs { result.outs ≡ engine.entry.outs }
+    ensures keeping { wanted ≡ true → result.parts.cues.keeping ≡ true }
+{
+    let mut engine = engine;
+    if wanted {
+        engine.keep_cues();
+    }
+    engine
+}
+
 // Makes the engine of a clock, which takes its sinks.
 fn make_engine<'a, O: Sink>(
     alloc: Global,
-    plan: &'a Plan,
-    ready: &'a Ready,
-    start: WeekSecond,
+    job: &Job<'a>,
     groups: &mut Vec<Vec<O>>,
     clock: usize,
 ) -> Result<ClockEngine<'a, O>, Memory>
-    requires fit { (ticks : ℕ) × IsFit plan.now ready.now.library ready.now.clocks ticks }
+    requires fit { IsFitting job.now }
     requires below { clock < length (lists_of groups.old.items) }
     requires few { clock < 2 ^ 32 }
     requires sinks { (group : List O) → slice_get (lists_of groups.old.items) clock ≡ Some group
-        → length group ≡ length (outputs_of (setting_for plan.now ready.now.library ready.now.clocks start.second) clock) }
-    ensures made { IfOk result (IsAt (setting_for plan.now ready.now.library ready.now.clocks start.second) clock) }
+        → length group ≡ length (outputs_of (setting_by job.now) clock) }
+    ensures made { IfOk result (IsAt (setting_by job.now) clock) }
+    ensures keeping { IfOk result (λ engine. job.now.cues ≡ true → engine.parts.cues.keeping ≡ true) }
     ensures outs { IfOk result (λ engine. slice_get (lists_of groups.old.items) clock ≡ Some engine.outs) }
     ensures taken { OnOk result (lists_of groups.new.items ≡ slice_set (lists_of groups.old.items) clock []) }
     ensures back { OnErr result (lists_of groups.new.items ≡ lists_of groups.old.items) }
@@ -61,14 +78,14 @@ fn make_engine<'a, O: Sink>(
     let outs = take_out(alloc, groups, clock);
     match ClockEngine::new(
         alloc,
-        plan,
-        &ready.clocks,
+        job.plan,
+        &job.ready.clocks,
         clock as u32,
-        &ready.library,
+        &job.ready.library,
         outs,
-        start,
+        job.start,
     ) {
-        Ok(engine) => Ok(engine),
+        Ok(engine) => Ok(keep_if(job.cues, engine)),
         Err((outs, refused)) => {
             put_back(groups, clock, outs);
             Err(refused)
@@ -92,16 +109,15 @@ fn give_back<O: Sink>(engines: Vec<ClockEngine<'_, O>>, groups: &mut Vec<Vec<O>>
 /// Makes the engines of all clocks, which take the sinks.
 pub(crate) fn make_engines<'a, O: Sink>(
     alloc: Global,
-    plan: &'a Plan,
-    ready: &'a Ready,
-    start: WeekSecond,
+    job: &Job<'a>,
     groups: &mut Vec<Vec<O>>,
 ) -> Result<Vec<ClockEngine<'a, O>>, Memory>
-    requires fit { (ticks : ℕ) × IsFit plan.now ready.now.library ready.now.clocks ticks }
+    requires fit { IsFitting job.now }
     requires few { length (lists_of groups.old.items) < 2 ^ 32 }
     requires sinks { (clock : ℕ) (group : List O) → slice_get (lists_of groups.old.items) clock ≡ Some group
-        → length group ≡ length (outputs_of (setting_for plan.now ready.now.library ready.now.clocks start.second) clock) }
-    ensures made { IfOk result (λ engines. AreAt (setting_for plan.now ready.now.library ready.now.clocks start.second) engines.items) }
+        → length group ≡ length (outputs_of (setting_by job.now) clock) }
+    ensures made { IfOk result (λ engines. AreAt (setting_by job.now) engines.items) }
+    ensures keeping { IfOk result (λ engines. AreKeeping job.now.cues engines.items) }
     ensures outs { IfOk result (λ engines. outs_of engines.items ≡ lists_of groups.old.items) }
     ensures taken { IfOk result (λ engines. AreEmptyBelow (length engines.items) (lists_of groups.new.items)) }
     ensures size { OnOk result (length (lists_of groups.new.items) ≡ length (lists_of groups.old.items)) }
@@ -109,7 +125,7 @@ pub(crate) fn make_engines<'a, O: Sink>(
 {
     let mut engines = Vec::with_capacity(alloc, groups.len())?;
     for clock in 0..groups.len() {
-        match make_engine(alloc, plan, ready, start, groups, clock) {
+        match make_engine(alloc, job, groups, clock) {
             Ok(engine) => engines.push(engine).unwrap(),
             Err(refused) => {
                 give_back(engines, groups);
@@ -146,21 +162,79 @@ fn gaps_of<O: Sink>(
     Ok(gaps)
 }
 
-// What is told of a run that ended so.
-fn tell<O: Sink>(
+// The marks of the outputs of a plan, in sink order, once the engines have made their ticks.
+fn marks_of<O: Sink>(
     alloc: Global,
     plan: &Plan,
     clocks: &ClockMap,
     engines: &[ClockEngine<'_, O>],
-    run: RunEnd,
-) -> Result<Rendered, RenderFault>
+) -> Result<Vec<Vec<CueMark>>, AllocError>
     requires main { AreMain plan.now clocks.now }
     requires size { length engines.now ≡ clocks.now.running }
     requires few { length plan.now.sinks < 2 ^ 32 }
-    requires stand { run.end ≡ Done → (setting : Setting) × (world : Setting) × (ticks : ℕ) × (setting.plan ≡ plan.now) × (setting.clocks ≡ clocks.now.of) × ArePast setting world ticks engines.now }
+    requires keeping { AreKeeping true engines.now }
+    requires stand { (setting : Setting) × (world : Setting) × (ticks : ℕ) × (setting.plan ≡ plan.now) × (setting.clocks ≡ clocks.now.of) × ArePast setting world ticks engines.now }
+    ensures { IfOk result (λ marks. (setting world : Setting) (ticks : ℕ) → setting.plan ≡ plan.now → setting.clocks ≡ clocks.now.of → ArePast setting world ticks engines.now
+        → cues_of marks.items ≡ marks_in world ticks plan.now.sinks) }
+{
+    let sinks = plan.sinks.as_slice();
+    let mut all = Vec::with_capacity(alloc, sinks.len())?;
+    for k in 0..sinks.len() {
+        let SinkPlan::Output { node, .. } = &sinks[k] else {
+            continue;
+        };
+        let clock = clock_of(clocks, *node) as usize;
+        all.push(copied(alloc, engines[clock].cues(k as u32))?)?;
+    }
+    Ok(all)
+}
+
+// The same marks once more.
+fn copied(alloc: Global, marks: &[CueMark]) -> Result<Vec<CueMark>, AllocError>
+    ensures { IfOk result (λ own. own.items ≡ marks.now) }
+{
+    let mut own = Vec::with_capacity(alloc, marks.len())?;
+    own.extend_from_slice(marks)?;
+    Ok(own)
+}
+
+// The marks, where they are wanted.
+fn marks_if<O: Sink>(
+    alloc: Global,
+    job: &Job<'_>,
+    engines: &[ClockEngine<'_, O>],
+) -> Result<Vec<Vec<CueMark>>, AllocError>
+    requires main { AreMain job.now.plan.now job.now.ready.now.clocks }
+    requires size { length engines.now ≡ job.now.ready.now.clocks.running }
+    requires few { length job.now.plan.now.sinks < 2 ^ 32 }
+    requires keeping { AreKeeping job.now.cues engines.now }
+    requires stand { HaveEnded job.now engines.now }
+    ensures { IfOk result (λ marks. (setting world : Setting) (ticks : ℕ) → setting.plan ≡ job.now.plan.now → setting.clocks ≡ job.now.ready.now.clocks.of → ArePast setting world ticks engines.now
+        → cues_of marks.items ≡ marks_wanted job.now.cues world ticks job.now.plan.now.sinks) }
+{
+    if !job.cues {
+        return Ok(Vec::new(alloc));
+    }
+    marks_of(alloc, job.plan, &job.ready.clocks, engines)
+}
+
+// What is told of a run that ended so.
+fn tell<O: Sink>(
+    alloc: Global,
+    job: &Job<'_>,
+    engines: &[ClockEngine<'_, O>],
+    run: RunEnd,
+) -> Result<Rendered, RenderFault>
+    requires main { AreMain job.now.plan.now job.now.ready.now.clocks }
+    requires size { length engines.now ≡ job.now.ready.now.clocks.running }
+    requires few { length job.now.plan.now.sinks < 2 ^ 32 }
+    requires keeping { run.end ≡ Done → AreKeeping job.now.cues engines.now }
+    requires stand { run.end ≡ Done → HaveEnded job.now engines.now }
     ensures done { OnOk result (run.end ≡ Done) }
-    ensures gaps { IfOk result (λ rendered. (setting world : Setting) (ticks : ℕ) → setting.plan ≡ plan.now → setting.clocks ≡ clocks.now.of → ArePast setting world ticks engines.now
-        → rendered.gaps.items ≡ counts_in world ticks plan.now.sinks) }
+    ensures gaps { IfOk result (λ rendered. (setting world : Setting) (ticks : ℕ) → setting.plan ≡ job.now.plan.now → setting.clocks ≡ job.now.ready.now.clocks.of → ArePast setting world ticks engines.now
+        → rendered.gaps.items ≡ counts_in world ticks job.now.plan.now.sinks) }
+    ensures cues { IfOk result (λ rendered. (setting world : Setting) (ticks : ℕ) → setting.plan ≡ job.now.plan.now → setting.clocks ≡ job.now.ready.now.clocks.of → ArePast setting world ticks engines.now
+        → cues_of rendered.cues.items ≡ marks_wanted job.now.cues world ticks job.now.plan.now.sinks) }
     ensures counts { IfOk result (λ rendered. rendered.counts.items ≡ run.counts.items) }
     ensures logs { IfOk result (λ rendered. rendered.logs.items ≡ run.logs.items) }
     ensures write { IsErrOf result RenderFault.Write → (clock : ℕ) × (sink : ℕ) × (run.end ≡ WriteEnd clock sink) }
@@ -168,8 +242,14 @@ fn tell<O: Sink>(
     let RunEnd { counts, logs, end } = run;
     match end {
         End::Done => {
-            let gaps = gaps_of(alloc, plan, clocks, engines)?;
-            Ok(Rendered { gaps, counts, logs })
+            let gaps = gaps_of(alloc, job.plan, &job.ready.clocks, engines)?;
+            let cues = marks_if(alloc, job, engines)?;
+            Ok(Rendered {
+                gaps,
+                counts,
+                logs,
+                cues,
+            })
         }
         End::Write { .. } => Err(RenderFault::Write),
         End::Memory => Err(RenderFault::Memory),
@@ -179,27 +259,29 @@ fn tell<O: Sink>(
 /// Takes the sinks of the engines back, after a run that ended so, and answers what is told of it.
 pub(crate) fn take_back<O: Sink>(
     alloc: Global,
-    plan: &Plan,
-    clocks: &ClockMap,
+    job: &Job<'_>,
     engines: Vec<ClockEngine<'_, O>>,
     run: RunEnd,
     groups: &mut Vec<Vec<O>>,
 ) -> Result<Rendered, RenderFault>
-    requires main { AreMain plan.now clocks.now }
-    requires size { length engines.items ≡ clocks.now.running }
-    requires few { length plan.now.sinks < 2 ^ 32 }
-    requires stand { run.end ≡ Done → (setting : Setting) × (world : Setting) × (ticks : ℕ) × (setting.plan ≡ plan.now) × (setting.clocks ≡ clocks.now.of) × ArePast setting world ticks engines.items }
+    requires main { AreMain job.now.plan.now job.now.ready.now.clocks }
+    requires size { length engines.items ≡ job.now.ready.now.clocks.running }
+    requires few { length job.now.plan.now.sinks < 2 ^ 32 }
+    requires keeping { run.end ≡ Done → AreKeeping job.now.cues engines.items }
+    requires stand { run.end ≡ Done → HaveEnded job.now engines.items }
     requires many { length (lists_of groups.old.items) ≡ length engines.items }
     requires empty { AreEmptyBelow (length engines.items) (lists_of groups.old.items) }
     ensures back { lists_of groups.new.items ≡ outs_of engines.entry.items }
     ensures done { OnOk result (run.end ≡ Done) }
-    ensures gaps { IfOk result (λ rendered. (setting world : Setting) (ticks : ℕ) → setting.plan ≡ plan.now → setting.clocks ≡ clocks.now.of → ArePast setting world ticks engines.entry.items
-        → rendered.gaps.items ≡ counts_in world ticks plan.now.sinks) }
+    ensures gaps { IfOk result (λ rendered. (setting world : Setting) (ticks : ℕ) → setting.plan ≡ job.now.plan.now → setting.clocks ≡ job.now.ready.now.clocks.of → ArePast setting world ticks engines.entry.items
+        → rendered.gaps.items ≡ counts_in world ticks job.now.plan.now.sinks) }
+    ensures cues { IfOk result (λ rendered. (setting world : Setting) (ticks : ℕ) → setting.plan ≡ job.now.plan.now → setting.clocks ≡ job.now.ready.now.clocks.of → ArePast setting world ticks engines.entry.items
+        → cues_of rendered.cues.items ≡ marks_wanted job.now.cues world ticks job.now.plan.now.sinks) }
     ensures counts { IfOk result (λ rendered. rendered.counts.items ≡ run.counts.items) }
     ensures logs { IfOk result (λ rendered. rendered.logs.items ≡ run.logs.items) }
     ensures write { IsErrOf result RenderFault.Write → (clock : ℕ) × (sink : ℕ) × (run.end ≡ WriteEnd clock sink) }
 {
-    let told = tell(alloc, plan, clocks, &engines, run);
+    let told = tell(alloc, job, &engines, run);
     give_back(engines, groups);
     told
 }

@@ -1,14 +1,18 @@
 //! A station is rendered into its files: outputs are created in sink order, the clocks' ticks are made by threads in
-//! windows, or in rounds on one thread, and all outputs are closed, also after a fault; then a trace is left, where one is
-//! wanted.
+//! windows, or in rounds on one thread, and all outputs are closed, also after a fault; then cue files and a trace are left, where
+//! they are wanted.
 #![tactic(auto)]
 
 mod close;
 mod create;
+mod cues;
 mod engines;
 mod fault;
+mod files;
 mod headers;
+mod job;
 mod opened;
+mod output_sink;
 mod rendered;
 mod rendering;
 mod reports;
@@ -17,6 +21,7 @@ mod threading;
 mod traces;
 
 pub use fault::RenderFault;
+pub use job::Job;
 pub use rendered::Rendered;
 pub use rendering::{render, render_alone};
 pub use reports::report;

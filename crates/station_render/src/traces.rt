@@ -1,17 +1,17 @@
 // The trace of a rendering.
-ghost use Rattle.std.specs.Prelude.{◌≡◌, ◌≤◌, ◌⊎◌, ◌∷◌, [], Some, IfOk, IsErrOf, IsSomeAnd, OnOk};
+ghost use Rattle.std.specs.Prelude.{◌≡◌, ◌≤◌, ◌∷◌, [], Some, IfOk, IsErrOf, IsSomeAnd, OnOk};
 ghost use Rattle.std.specs.Option.{ForSome};
 ghost use Rattle.liq_base.specs.Counts.{Rose};
-ghost use Rattle.liq_base.specs.Files.{with_file};
-ghost use Rattle.liq_base.specs.Kept.{HoldsPartOr};
+ghost use Rattle.liq_base.specs.Files.{HoldsPart, with_file};
 ghost use Rattle.trace_log.specs.Texts.{IsTrace, trace_text};
 ghost use Rattle.stations.specs.Creations.{MadeFront, after_making, trace_name};
-ghost use Rattle.stations.specs.Outputs.{with_outputs};
+ghost use Rattle.stations.specs.Outputs.{HoldsUpto, with_outputs};
 ghost use Rattle.stations.specs.Traces.{traced};
-ghost use Rattle.station_render.specs.Runs.{LeftPart, name_in};
+ghost use Rattle.station_render.specs.Runs.{name_in};
 
+use crate::files::write_file;
 use crate::{RenderFault, Rendered, Threading};
-use liq_base::{Shelf, Sink};
+use liq_base::Shelf;
 use std::alloc::Global;
 use trace_log::{Trace, print};
 
@@ -29,9 +29,9 @@ pub(crate) fn leave_trace<S: Shelf>(
     ensures logs { IfOk result (λ told. told.logs.items ≡ rendered.logs.items) }
     ensures written { OnOk result (ForSome (S.files shelf.old) (λ files. S.files shelf.new
         ≡ Some (with_outputs files (traced (name_in threading.entry) (record { ticks = ticks; window = threading.entry.window; buffers = rendered.logs.items }))))) }
-    ensures part { (S.files shelf.new ≡ S.files shelf.old)
-        ⊎ LeftPart (name_in threading.entry) (record { ticks = ticks; window = threading.entry.window; buffers = rendered.logs.items })
-        (Rose (S.write_count shelf.old) (S.write_count shelf.new)) (S.files shelf.old) (S.files shelf.new) }
+    ensures cues { IfOk result (λ told. told.cues.items ≡ rendered.cues.items) }
+    ensures part { ForSome (S.files shelf.old) (λ files. IsSomeAnd (S.files shelf.new)
+        (HoldsUpto files (traced (name_in threading.entry) (record { ticks = ticks; window = threading.entry.window; buffers = rendered.logs.items })))) }
     ensures cause { IsErrOf result RenderFault.Write → Rose (S.write_count shelf.old) (S.write_count shelf.new) }
     ensures made { OnOk result (S.created shelf.new ≡ after_making (trace_name (name_in threading.entry)) (S.created shelf.old)) }
     ensures front { MadeFront (trace_name (name_in threading.entry)) (S.created shelf.old) (S.created shelf.new) }
@@ -41,7 +41,12 @@ pub(crate) fn leave_trace<S: Shelf>(
     let Some(name) = threading.trace else {
         return Ok(rendered);
     };
-    let Rendered { gaps, counts, logs } = rendered;
+    let Rendered {
+        gaps,
+        counts,
+        logs,
+        cues,
+    } = rendered;
     let trace = Trace {
         ticks,
         window: threading.window,
@@ -49,7 +54,12 @@ pub(crate) fn leave_trace<S: Shelf>(
     };
     let wrote = write_trace(alloc, shelf, name, &trace);
     let Trace { buffers: logs, .. } = trace;
-    let told = Rendered { gaps, counts, logs };
+    let told = Rendered {
+        gaps,
+        counts,
+        logs,
+        cues,
+    };
     wrote?;
     Ok(told)
 }
@@ -63,8 +73,7 @@ fn write_trace<S: Shelf>(
 ) -> Result<(), RenderFault>
     requires { IsTrace trace.now }
     ensures written { OnOk result (ForSome (S.files shelf.old) (λ files. S.files shelf.new ≡ Some (with_file files name.now (trace_text trace.now)))) }
-    ensures part { (S.files shelf.new ≡ S.files shelf.old)
-        ⊎ ForSome (S.files shelf.old) (λ files. IsSomeAnd (S.files shelf.new) (HoldsPartOr (Rose (S.write_count shelf.old) (S.write_count shelf.new)) files name.now (trace_text trace.now))) }
+    ensures part { ForSome (S.files shelf.old) (λ files. IsSomeAnd (S.files shelf.new) (HoldsPart files name.now (trace_text trace.now))) }
     ensures cause { IsErrOf result RenderFault.Write → Rose (S.write_count shelf.old) (S.write_count shelf.new) }
     ensures made { OnOk result (S.created shelf.new ≡ after_making (name.now ∷ []) (S.created shelf.old)) }
     ensures front { MadeFront (name.now ∷ []) (S.created shelf.old) (S.created shelf.new) }
@@ -74,24 +83,4 @@ fn write_trace<S: Shelf>(
     let mut text = Vec::new(alloc);
     print(trace, &mut text)?;
     write_file(shelf, name, &text)
-}
-
-// Creates a file of this name with room for exactly these bytes, hands them over as one piece, and closes it, whatever the
-// piece came to.
-fn write_file<S: Shelf>(shelf: &mut S, name: &str, text: &[u8]) -> Result<(), RenderFault>
-    ensures written { OnOk result (ForSome (S.files shelf.old) (λ files. S.files shelf.new ≡ Some (with_file files name.now text.now))) }
-    ensures part { (S.files shelf.new ≡ S.files shelf.old)
-        ⊎ ForSome (S.files shelf.old) (λ files. IsSomeAnd (S.files shelf.new) (HoldsPartOr (Rose (S.write_count shelf.old) (S.write_count shelf.new)) files name.now text.now)) }
-    ensures cause { IsErrOf result RenderFault.Write → Rose (S.write_count shelf.old) (S.write_count shelf.new) }
-    ensures made { OnOk result (S.created shelf.new ≡ after_making (name.now ∷ []) (S.created shelf.old)) }
-    ensures front { MadeFront (name.now ∷ []) (S.created shelf.old) (S.created shelf.new) }
-    ensures reads { S.read_count shelf.old ≤ S.read_count shelf.new }
-    ensures writes { S.write_count shelf.old ≤ S.write_count shelf.new }
-{
-    let mut sink = shelf.create(name, text.len() as u64)?;
-    let wrote = sink.append(text);
-    let closed = shelf.close(sink);
-    wrote?;
-    closed?;
-    Ok(())
 }

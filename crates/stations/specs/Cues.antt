@@ -23,6 +23,21 @@ cue_line library cue = decimal cue.at ++ spaced (name_of library cue.title) ++ c
 abbrev pub cue_text : Sounds → List Cue → List ℕ
 cue_text library marks = flat_map (cue_line library) marks
 
+-- the marks of the outputs among these sinks, in their order
+abbrev pub marks_in : Setting → (ticks : ℕ) → List SinkPlan → List (List Cue)
+marks_in setting ticks [] = []
+marks_in setting ticks (Output name node fallible wide ∷ sinks) = cues setting node ticks ∷ marks_in setting ticks sinks
+marks_in setting ticks (Feed buffer node ∷ sinks) = marks_in setting ticks sinks
+
+-- the same where cue files are wanted
+abbrev pub marks_if : (wanted : Bool) → Setting → (ticks : ℕ) → List SinkPlan → List (List Cue)
+marks_if false setting ticks sinks = []
+marks_if true setting ticks sinks = marks_in setting ticks sinks
+
+-- the marks that are kept in a run of the station
+abbrev pub marks_of : Station → Run → List (List Cue)
+marks_of station run = marks_if station.cues (setting_of_run station run) station.ticks station.plan.sinks
+
 -- the name of the cue file of an output
 abbrev pub cue_name : List ℕ → List ℕ
 cue_name name = name ++ codes ".cue"

@@ -15,7 +15,7 @@ use Rattle.clock_infer.specs.declared.clock_map.ClockFault.{ClockFault}
 use Rattle.clock_infer.specs.declared.clock_map.ClockFault.TheVariants.{Memory as no_memory}
 use Rattle.clock_infer.specs.Answers.{IsClockMap, IsCause}
 use Rattle.fallible_infer.specs.Infallible.{IsMarking, refuses}
-use Rattle.wav_io.specs.Header.{header_of}
+use Rattle.wav_io.specs.Header.{header_at}
 use Rattle.track_library.specs.declared.rules.Rules.{Rules}
 use Rattle.track_library.specs.declared.fault.LoadFault.{LoadFault}
 use Rattle.track_library.specs.declared.fault.LoadFault.TheVariants.{Missing, BadAudio, FileTooLarge, AllTooLarge, ReadFault, Memory}
@@ -43,7 +43,7 @@ kind_at plan node = option_map_or (λ node. node.kind) (slice_get plan.nodes nod
 
 -- after so many ticks an output is too long for the header of its file
 abbrev pub is_too_long : Plan → (ticks : ℕ) → SinkPlan → Bool
-is_too_long plan ticks (Output name node fallible wide) = is_none (header_of (kind_at plan node) plan.rate (ticks * plan.frame))
+is_too_long plan ticks (Output name node fallible wide) = is_none (header_at wide (kind_at plan node) plan.rate (ticks * plan.frame))
 is_too_long plan ticks (Feed buffer node) = false
 
 -- these are the audio files of the plan

@@ -37,3 +37,15 @@ pub record HoldsSome (count : ℕ) (files : Files) (outputs : List OutputPart) (
   pub others : List OutputPart
   pub outputs_are : outputs ≡ created ++ others
   pub parts : HoldsParts count files created after last
+
+-- the name of the first of these files, if there is one, holds a prefix of its bytes, or what it held; nothing else changed
+abbrev pub HoldsNext : Files → List OutputFile → Files → Type 0
+HoldsNext files [] after = after ≡ files
+HoldsNext files (output ∷ outputs) after = HoldsPart files output.name output.bytes after
+
+-- the first of these files were written whole, one after another, and then maybe a part of the next one
+pub record HoldsUpto (files : Files) (outputs : List OutputFile) (after : Files) : Type 0 where
+  pub whole : List OutputFile
+  pub others : List OutputFile
+  pub outputs_are : outputs ≡ whole ++ others
+  pub part : HoldsNext (with_outputs files whole) others after

@@ -1,19 +1,17 @@
 -- What a rendering leaves that was broken off, and what threads render beside one thread.
-use Rattle.std.specs.Prelude.{◌≡◌, ◌⊎◌, ℕ, List, [], ◌∷◌, None, Option, IsSomeAnd}
-use Rattle.liq_base.specs.Counts.{Rose}
+use Rattle.std.specs.Prelude.{◌≡◌, ◌⊎◌, ℕ, List, None, Option, IsSomeAnd}
 use Rattle.liq_base.specs.Files.{Files}
-use Rattle.liq_base.specs.Kept.{HoldsPartOr}
 use Rattle.op_leaf.specs.Readers.{Answer}
 use Rattle.run_records.specs.Records.{IsRounds, Run}
 use Rattle.run_records.specs.Rounds.{BeginsRounds, HasNoJoin}
 use Rattle.stations.specs.Cues.{cue_files}
-use Rattle.stations.specs.Outputs.{HoldsSome, OutputFile, with_outputs}
+use Rattle.stations.specs.Outputs.{HoldsParts, HoldsSome, HoldsUpto, with_outputs}
 use Rattle.stations.specs.Reports.{report_of}
 use Rattle.stations.specs.Stations.{Station, IsBegun, IsLawful, bare}
-use Rattle.stations.specs.Streams.{output_files, parts_with}
-use Rattle.stations.specs.Traces.{traces_of}
+use Rattle.stations.specs.Streams.{ends_of, output_files, parts_with}
+use Rattle.stations.specs.Traces.{later_files}
 
--- A run was broken off, and no trace was created: whatever answers had followed those that it got, each output that was created holds its
+-- A run was broken off: whatever answers had followed those that it got, each output that was created holds its
 -- bytes of the ticks that its clock made, and then a front of those of the tick in which it stopped; or, where the count of failed writes
 -- rose at its closing, a prefix of them or what it held. Over the outputs that count rose from `count` to `last`.
 pub record WroteOutputsPart (station : Station) (count last : ℕ) (files : Files) (after : Option Files) : Type 0 where
@@ -21,17 +19,17 @@ pub record WroteOutputsPart (station : Station) (count last : ℕ) (files : File
   pub begun : IsBegun station run
   pub parts : (rest : ℕ → List Answer) → IsSomeAnd after (λ now. HoldsSome count files (parts_with station run begun rest) now last)
 
--- A run wrote all outputs; and the name of the trace holds a prefix of its text, or, for this cause, what it held.
-pub record WroteTracePart (station : Station) (cause : Type 0) (files : Files) (after : Option Files) : Type 0 where
+-- A run made all its ticks, and what came behind them broke off: a last zero byte or a closing of the outputs, each of which holds its
+-- bytes, maybe without that byte, or, where the count of failed writes rose at its closing, a prefix of them or what it held; or, once all
+-- outputs were written, a file among the cue files and the trace.
+pub record WroteLastPart (station : Station) (count last : ℕ) (files : Files) (after : Option Files) : Type 0 where
   pub run : Run
   pub lawful : IsLawful station run
-  pub trace : OutputFile
-  pub wanted : traces_of station run ≡ trace ∷ []
-  pub part : IsSomeAnd after (HoldsPartOr cause (with_outputs files (output_files station run)) trace.name trace.bytes)
+  pub part : IsSomeAnd after (λ now. HoldsParts count files (ends_of station run) now last ⊎ HoldsUpto (with_outputs files (output_files station run)) (later_files station run) now)
 
 -- what a rendering leaves, whatever it ended with
 abbrev pub WrotePart : Station → (count last : ℕ) → Files → (after : Option Files) → Type 0
-WrotePart station count last files after = WroteOutputsPart station count last files after ⊎ WroteTracePart station (Rose count last) files after
+WrotePart station count last files after = WroteOutputsPart station count last files after ⊎ WroteLastPart station count last files after
 
 -- A run renders what one thread renders: rounds of the station have one record, and the outputs, the cue files
 -- and the report are those of it.

@@ -1,5 +1,5 @@
 -- What an accepted script renders.
-use Rattle.std.specs.Prelude.{ℕ, ◌+◌, List, [], Option, Some, None, Bool, false}
+use Rattle.std.specs.Prelude.{ℕ, ◌+◌, List, [], Option, Some, None, Bool}
 use Rattle.frame_core.specs.Library.{Sounds}
 use Rattle.plan_core.specs.declared.plan.Plan.{Plan}
 use Rattle.clock_infer.specs.declared.clock_map.ClockMap.{ClockMap}
@@ -72,8 +72,8 @@ abbrev pub tried_of : (station : Station) (run : Run) → IsBegun station run �
 tried_of station run begun = tried_in (bare station) station.clocks.running station.ticks station.window run begun
 
 -- the station of a plan with these files and clocks
-abbrev pub station_of : Plan → Ready → (start ticks : ℕ) → (window : Option ℕ) → (trace : Option (List ℕ)) → Station
-station_of plan ready start ticks window trace = record {
+abbrev pub station_of : Plan → Ready → (start ticks : ℕ) → (window : Option ℕ) → (trace : Option (List ℕ)) → (cues : Bool) → Station
+station_of plan ready start ticks window trace cues = record {
   plan = plan;
   library = ready.library;
   clocks = ready.clocks;
@@ -81,5 +81,5 @@ station_of plan ready start ticks window trace = record {
   ticks = ticks;
   window = window;
   trace = trace;
-  cues = false;
+  cues = cues;
 }

@@ -1,43 +1,68 @@
 -- What the outputs of a station hold, and their gaps.
-use Rattle.std.specs.Prelude.{◌≡◌, ℕ, ◌*◌, Bool, true, List, [], ◌∷◌, ◌++◌, Contains}
+use Rattle.std.specs.Prelude.{◌≡◌, ℕ, ◌*◌, ◌%◌, Bool, true, false, List, [], ◌∷◌, ◌++◌, Contains, replicate}
+use Rattle.liq_base.specs.declared.memory.Kind.{Kind}
 use Rattle.plan_core.specs.declared.sink.SinkPlan.{SinkPlan}
 use Rattle.plan_core.specs.declared.sink.SinkPlan.TheVariants.{Output, Feed}
 use Rattle.fallible_infer.specs.Infallible.{IsMarking}
 use Rattle.stream_meaning.specs.Instants.{Setting}
-use Rattle.stream_meaning.specs.Sinks.{kind_of, ticks_bytes, gaps}
-use Rattle.wav_io.specs.Header.{header_bytes}
+use Rattle.stream_meaning.specs.Sinks.{block_length, kind_of, ticks_bytes, gaps}
+use Rattle.wav_io.specs.Header.{header_bytes, wide_header_bytes}
 use Rattle.stations.specs.Outputs.{OutputFile, OutputPart}
 use Rattle.op_leaf.specs.Readers.{Answer}
 use Rattle.run_records.specs.Buffers.{main_of}
 use Rattle.run_records.specs.Records.{Run}
 use Rattle.stations.specs.Stations.{IsBegun, Station, made_of, setting_of_run, setting_with, tried_of}
 
+-- the header before so many samples of 16 or 24 bits
+abbrev pub header_bytes_at : (wide : Bool) → Kind → (rate samples : ℕ) → List ℕ
+header_bytes_at false kind rate samples = header_bytes kind rate samples
+header_bytes_at true kind rate samples = wide_header_bytes kind rate samples
+
 -- the header of an output of a node, for so many ticks
-abbrev pub header_for : Setting → (ticks node : ℕ) → List ℕ
-header_for setting ticks node = header_bytes (kind_of setting node) setting.plan.rate (ticks * setting.plan.frame)
+abbrev pub header_for : Setting → (wide : Bool) → (ticks node : ℕ) → List ℕ
+header_for setting wide ticks node = header_bytes_at wide (kind_of setting node) setting.plan.rate (ticks * setting.plan.frame)
 
--- all bytes of an output of a node: its header, and tick by tick what the node offers
-abbrev pub output_bytes : Setting → (ticks node : ℕ) → List ℕ
-output_bytes setting ticks node = header_for setting ticks node ++ ticks_bytes setting node ticks
+-- its header, and tick by tick what the node offers
+abbrev pub output_bytes : Setting → (wide : Bool) → (ticks node : ℕ) → List ℕ
+output_bytes setting wide ticks node = header_for setting wide ticks node ++ ticks_bytes setting wide node ticks
 
--- the first bytes of an output of a node: its header, and what the node offers in the first ticks, as many as were made
-abbrev pub front_bytes : Setting → (ticks made node : ℕ) → List ℕ
-front_bytes setting ticks made node = header_for setting ticks node ++ ticks_bytes setting node made
+-- the first of these bytes: its header, and what the node offers in the first ticks, as many as were made
+abbrev pub front_bytes : Setting → (wide : Bool) → (ticks made node : ℕ) → List ℕ
+front_bytes setting wide ticks made node = header_for setting wide ticks node ++ ticks_bytes setting wide node made
+
+-- how many bytes of samples stand behind the header
+abbrev pub body_size : Setting → (wide : Bool) → (ticks node : ℕ) → ℕ
+body_size setting wide ticks node = ticks * (setting.plan.frame * block_length wide (kind_of setting node))
+
+-- one zero byte behind samples of so many bytes, where that is odd
+abbrev pub zeros_after : (size : ℕ) → List ℕ
+zeros_after size = replicate (size % 2) 0
+
+-- all bytes of the file of an output
+abbrev pub file_bytes : Setting → (wide : Bool) → (ticks node : ℕ) → List ℕ
+file_bytes setting wide ticks node = output_bytes setting wide ticks node ++ zeros_after (body_size setting wide ticks node)
 
 -- the files of the outputs among these sinks, in their order
 abbrev pub outputs_in : Setting → (ticks : ℕ) → List SinkPlan → List OutputFile
 outputs_in setting ticks [] = []
 outputs_in setting ticks (Output name node fallible wide ∷ sinks) =
-    record { name = name; bytes = output_bytes setting ticks node } ∷ outputs_in setting ticks sinks
+    record { name = name; bytes = file_bytes setting wide ticks node } ∷ outputs_in setting ticks sinks
 outputs_in setting ticks (Feed buffer node ∷ sinks) = outputs_in setting ticks sinks
 
 -- what was written of them, where clock m made so many ticks and tried so many
 abbrev pub parts_in : Setting → (ticks : ℕ) → (made tried : ℕ → ℕ) → List SinkPlan → List OutputPart
 parts_in setting ticks made tried [] = []
 parts_in setting ticks made tried (Output name node fallible wide ∷ sinks) =
-    record { name = name; least = front_bytes setting ticks (made (main_of setting node)) node; most = front_bytes setting ticks (tried (main_of setting node)) node }
+    record { name = name; least = front_bytes setting wide ticks (made (main_of setting node)) node; most = front_bytes setting wide ticks (tried (main_of setting node)) node }
     ∷ parts_in setting ticks made tried sinks
 parts_in setting ticks made tried (Feed buffer node ∷ sinks) = parts_in setting ticks made tried sinks
+
+-- what they hold at least and at most, where all ticks were made
+abbrev pub ends_in : Setting → (ticks : ℕ) → List SinkPlan → List OutputPart
+ends_in setting ticks [] = []
+ends_in setting ticks (Output name node fallible wide ∷ sinks) =
+    record { name = name; least = output_bytes setting wide ticks node; most = file_bytes setting wide ticks node } ∷ ends_in setting ticks sinks
+ends_in setting ticks (Feed buffer node ∷ sinks) = ends_in setting ticks sinks
 
 -- the gaps of the outputs among these sinks, in their order
 abbrev pub counts_in : Setting → (ticks : ℕ) → List SinkPlan → List ℕ
@@ -46,8 +71,8 @@ counts_in setting ticks (Output name node fallible wide ∷ sinks) = gaps settin
 counts_in setting ticks (Feed buffer node ∷ sinks) = counts_in setting ticks sinks
 
 -- all bytes of an output of a node in a run of the station
-abbrev pub bytes_of : Station → Run → (node : ℕ) → List ℕ
-bytes_of station run node = output_bytes (setting_of_run station run) station.ticks node
+abbrev pub bytes_of : Station → Run → (wide : Bool) → (node : ℕ) → List ℕ
+bytes_of station run wide node = file_bytes (setting_of_run station run) wide station.ticks node
 
 -- at how many instants of a run a node offers nothing
 abbrev pub gaps_of : Station → Run → (node : ℕ) → ℕ
@@ -60,6 +85,10 @@ output_files station run = outputs_in (setting_of_run station run) station.ticks
 -- what a run which was broken off has written of its outputs, if these answers had followed
 abbrev pub parts_with : (station : Station) (run : Run) → IsBegun station run → (rest : ℕ → List Answer) → List OutputPart
 parts_with station run begun rest = parts_in (setting_with station run rest) station.ticks (made_of station run begun) (tried_of station run begun) station.plan.sinks
+
+-- what the outputs hold of a run that ended well, before they are closed
+abbrev pub ends_of : Station → Run → List OutputPart
+ends_of station run = ends_in (setting_of_run station run) station.ticks station.plan.sinks
 
 abbrev pub gaps_in_order : Station → Run → List ℕ
 gaps_in_order station run = counts_in (setting_of_run station run) station.ticks station.plan.sinks

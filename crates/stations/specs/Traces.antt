@@ -26,6 +26,10 @@ traces_in (Some window) station run = traced station.trace (trace_of station win
 abbrev pub traces_of : Station → Run → List OutputFile
 traces_of station run = traces_in station.window station run
 
--- all files that a run writes: the outputs in sink order, then their cue files, and then the trace
+-- the files that a run writes behind its outputs: their cue files, and then the trace
+abbrev pub later_files : Station → Run → List OutputFile
+later_files station run = cue_files station run ++ traces_of station run
+
+-- all files that a run writes: the outputs in sink order, and then those behind them
 abbrev pub files_of : Station → Run → List OutputFile
-files_of station run = output_files station run ++ (cue_files station run ++ traces_of station run)
+files_of station run = output_files station run ++ later_files station run

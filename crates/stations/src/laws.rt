@@ -1,5 +1,5 @@
 // Laws of stations. Each is a contract of a function that does nothing.
-ghost use Rattle.std.specs.Prelude.{◌≡◌, ℕ, ◌+◌, ◌*◌, ◌++◌, ◌<◌, length};
+ghost use Rattle.std.specs.Prelude.{◌≡◌, ℕ, ◌+◌, ◌*◌, ◌++◌, ◌<◌, Bool, length};
 ghost use Rattle.clock_infer.specs.declared.clock_map.ClockMap.{ClockMap as Clocks};
 ghost use Rattle.frame_core.specs.Library.{Sounds};
 ghost use Rattle.liq_base.specs.Files.{Files};
@@ -11,9 +11,9 @@ ghost use Rattle.run_records.specs.Records.{Run};
 ghost use Rattle.run_records.specs.Rounds.{HasNoJoin};
 ghost use Rattle.stations.specs.Renderings.{BeginsAsOneThread, HasOneRecord, IsDetermined, RendersAsOneThread};
 ghost use Rattle.stations.specs.Stations.{IsBegun, IsLawful, Station, bare, setting_of_run};
-ghost use Rattle.stations.specs.Streams.{HasNoGaps, bytes_of, header_for};
+ghost use Rattle.stations.specs.Streams.{HasNoGaps, body_size, bytes_of, header_for, zeros_after};
 ghost use Rattle.stream_meaning.specs.Sinks.{kind_of, ticks_bytes};
-ghost use Rattle.wav_io.specs.Header.{block_size};
+ghost use Rattle.wav_io.specs.Header.{block_of, padded};
 
 use run_records::{
     broken_rounds_begin_rounds, broken_windows_begin_rounds, lawful_records_are_rounds,
@@ -60,12 +60,13 @@ pub fn broken_renderings_begin_those_of_one_thread()
     broken_rounds_begin_rounds();
 }
 
-/// The bytes of an output are its header and then those of all ticks, as many as its samples take.
+/// The bytes of an output are its header, then those of all ticks, as many as its samples take, and then one zero byte, where these are odd.
 pub fn outputs_are_whole()
-    ensures bytes { (station : Station) (run : Run) (node : ℕ)
-        → bytes_of station run node ≡ header_for (setting_of_run station run) station.ticks node ++ ticks_bytes (setting_of_run station run) node station.ticks }
-    ensures long { (station : Station) (run : Run) (node : ℕ) → length (bytes_of station run node)
-        ≡ 44 + station.ticks * station.plan.frame * block_size (kind_of (setting_of_run station run) node) }
+    ensures bytes { (station : Station) (run : Run) (wide : Bool) (node : ℕ) → bytes_of station run wide node
+        ≡ header_for (setting_of_run station run) wide station.ticks node ++ ticks_bytes (setting_of_run station run) wide node station.ticks
+        ++ zeros_after (body_size (setting_of_run station run) wide station.ticks node) }
+    ensures long { (station : Station) (run : Run) (wide : Bool) (node : ℕ) → length (bytes_of station run wide node)
+        ≡ 44 + padded (station.ticks * station.plan.frame * block_of wide (kind_of (setting_of_run station run) node)) }
 {}
 
 /// The names under which a rendering creates its files are those of the files that each run writes, in their order.

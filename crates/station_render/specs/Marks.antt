@@ -1,0 +1,38 @@
+-- The cue files of a rendering, by the marks that its engines kept.
+use Rattle.std.specs.Prelude.{ℕ, Bool, true, false, List, [], ◌∷◌, Vec, map}
+use Rattle.std.specs.declared.alloc.Global.{Global}
+use Rattle.frame_core.specs.Library.{Sounds}
+use Rattle.plan_core.specs.declared.sink.SinkPlan.{SinkPlan}
+use Rattle.plan_core.specs.declared.sink.SinkPlan.TheVariants.{Output, Feed}
+use Rattle.stream_meaning.specs.Sinks.{Cue}
+use Rattle.clock_engine.specs.declared.cues.CueMark.{CueMark}
+use Rattle.stations.specs.Cues.{cue_name, cue_text}
+use Rattle.stations.specs.Outputs.{OutputFile}
+use Rattle.station_render.specs.Sinks.{lists_of}
+use Rattle.station_render.specs.declared.job.Job.{Job}
+
+abbrev pub cue_of : CueMark → Cue
+cue_of mark = record { at = mark.at; title = mark.title }
+
+-- the marks of each output
+abbrev pub cues_of : List (Vec CueMark Global) → List (List Cue)
+cues_of marks = map (map cue_of) (lists_of marks)
+
+-- the cue file of an output that has these marks
+abbrev pub cue_file : Sounds → (name : List ℕ) → List Cue → OutputFile
+cue_file library name cues = record { name = cue_name name; bytes = cue_text library cues }
+
+-- the cue files of the outputs among these sinks, which have these marks, each in its turn
+abbrev pub cue_files_with : Sounds → List SinkPlan → List (List Cue) → List OutputFile
+cue_files_with library [] marks = []
+cue_files_with library (Output name node fallible wide ∷ sinks) [] = []
+cue_files_with library (Output name node fallible wide ∷ sinks) (cues ∷ marks) = cue_file library name cues ∷ cue_files_with library sinks marks
+cue_files_with library (Feed buffer node ∷ sinks) marks = cue_files_with library sinks marks
+
+-- the same for a job, where they are wanted
+abbrev pub cue_files_if : (wanted : Bool) → Sounds → List SinkPlan → List (List Cue) → List OutputFile
+cue_files_if false library sinks marks = []
+cue_files_if true library sinks marks = cue_files_with library sinks marks
+
+abbrev pub cue_files_by : Job → List (List Cue) → List OutputFile
+cue_files_by job marks = cue_files_if job.cues job.ready.now.library job.plan.now.sinks marks

@@ -1,0 +1,138 @@
+// The cue files of a rendering.
+ghost use Rattle.std.specs.Prelude.{◌≡◌, ◌≤◌, ◌++◌, ◌∷◌, [], Some, true, IfOk, IsErrOf, IsSomeAnd, OnOk, length, map, string_bytes};
+ghost use Rattle.std.specs.Option.{ForSome};
+ghost use Rattle.frame_core.specs.Library.{name_of};
+ghost use Rattle.liq_base.specs.Counts.{Rose};
+ghost use Rattle.stations.specs.Cues.{cue_line, cue_name, cue_names_if, cue_names_in, cue_text, spaced};
+ghost use Rattle.stations.specs.Creations.{MadeFront, after_making};
+ghost use Rattle.stations.specs.Outputs.{HoldsUpto, with_outputs};
+ghost use Rattle.station_render.specs.Marks.{cue_file, cue_files_by, cue_files_with, cue_of, cues_of};
+ghost use Rattle.station_render.specs.Renders.{written};
+
+use crate::files::write_file;
+use crate::{Job, RenderFault};
+use clock_engine::CueMark;
+use frame_core::Library;
+use liq_base::Shelf;
+use plan_core::{Plan, SinkPlan};
+use std::alloc::{AllocError, Global};
+
+/// Leaves the cue file of each output, in sink order, where these are wanted: the instants at which its tracks begin, and
+/// their titles. `marks` has those of each output.
+pub(crate) fn leave_wanted<S: Shelf>(
+    alloc: Global,
+    job: &Job<'_>,
+    marks: &[Vec<CueMark>],
+    shelf: &mut S,
+) -> Result<(), RenderFault>
+    requires many { job.now.cues ≡ true → length marks.now ≡ length (written job.now.plan.now.sinks) }
+    ensures written { OnOk result (ForSome (S.files shelf.old) (λ files. S.files shelf.new ≡ Some (with_outputs files (cue_files_by job.now (cues_of marks.now))))) }
+    ensures part { ForSome (S.files shelf.old) (λ files. IsSomeAnd (S.files shelf.new) (HoldsUpto files (cue_files_by job.now (cues_of marks.now)))) }
+    ensures cause { IsErrOf result RenderFault.Write → Rose (S.write_count shelf.old) (S.write_count shelf.new) }
+    ensures made { OnOk result (S.created shelf.new ≡ after_making (cue_names_if job.now.cues job.now.plan.now.sinks) (S.created shelf.old)) }
+    ensures front { MadeFront (cue_names_if job.now.cues job.now.plan.now.sinks) (S.created shelf.old) (S.created shelf.new) }
+    ensures reads { S.read_count shelf.old ≤ S.read_count shelf.new }
+    ensures writes { S.write_count shelf.old ≤ S.write_count shelf.new }
+{
+    if !job.cues {
+        return Ok(());
+    }
+    leave_cues(alloc, job.plan, &job.ready.library, marks, shelf)
+}
+
+// Leaves the cue file of each output.
+fn leave_cues<S: Shelf>(
+    alloc: Global,
+    plan: &Plan,
+    library: &Library,
+    marks: &[Vec<CueMark>],
+    shelf: &mut S,
+) -> Result<(), RenderFault>
+    requires many { length marks.now ≡ length (written plan.now.sinks) }
+    ensures written { OnOk result (ForSome (S.files shelf.old) (λ files. S.files shelf.new ≡ Some (with_outputs files (cue_files_with library.now plan.now.sinks (cues_of marks.now))))) }
+    ensures part { ForSome (S.files shelf.old) (λ files. IsSomeAnd (S.files shelf.new) (HoldsUpto files (cue_files_with library.now plan.now.sinks (cues_of marks.now)))) }
+    ensures cause { IsErrOf result RenderFault.Write → Rose (S.write_count shelf.old) (S.write_count shelf.new) }
+    ensures made { OnOk result (S.created shelf.new ≡ after_making (cue_names_in plan.now.sinks) (S.created shelf.old)) }
+    ensures front { MadeFront (cue_names_in plan.now.sinks) (S.created shelf.old) (S.created shelf.new) }
+    ensures reads { S.read_count shelf.old ≤ S.read_count shelf.new }
+    ensures writes { S.write_count shelf.old ≤ S.write_count shelf.new }
+{
+    let mut place = 0;
+    for sink in plan.sinks.as_slice() {
+        let SinkPlan::Output { name, .. } = sink else {
+            continue;
+        };
+        leave_one(alloc, library, name.as_str(), &marks[place], shelf)?;
+        place += 1;
+    }
+    Ok(())
+}
+
+// The cue file of the output of this name.
+fn leave_one<S: Shelf>(
+    alloc: Global,
+    library: &Library,
+    name: &str,
+    marks: &[CueMark],
+    shelf: &mut S,
+) -> Result<(), RenderFault>
+    ensures written { OnOk result (ForSome (S.files shelf.old) (λ files. S.files shelf.new ≡ Some (with_outputs files (cue_file library.now name.now (map cue_of marks.now) ∷ [])))) }
+    ensures part { ForSome (S.files shelf.old) (λ files. IsSomeAnd (S.files shelf.new) (HoldsUpto files (cue_file library.now name.now (map cue_of marks.now) ∷ []))) }
+    ensures cause { IsErrOf result RenderFault.Write → Rose (S.write_count shelf.old) (S.write_count shelf.new) }
+    ensures made { OnOk result (S.created shelf.new ≡ after_making (cue_name name.now ∷ []) (S.created shelf.old)) }
+    ensures front { MadeFront (cue_name name.now ∷ []) (S.created shelf.old) (S.created shelf.new) }
+    ensures reads { S.read_count shelf.old ≤ S.read_count shelf.new }
+    ensures writes { S.write_count shelf.old ≤ S.write_count shelf.new }
+{
+    let file = name_of_file(alloc, name)?;
+    let text = text_of(alloc, library, marks)?;
+    write_file(shelf, file.as_str(), text.as_bytes())
+}
+
+// The name of the cue file beside an output.
+fn name_of_file(alloc: Global, name: &str) -> Result<String, AllocError>
+    ensures { IfOk result (λ file. string_bytes file ≡ cue_name name.now) }
+{
+    let mut file = String::from_str(alloc, name)?;
+    file.push_str(".cue")?;
+    Ok(file)
+}
+
+// A line for each mark.
+fn text_of(alloc: Global, library: &Library, marks: &[CueMark]) -> Result<String, AllocError>
+    ensures { IfOk result (λ text. string_bytes text ≡ cue_text library.now (map cue_of marks.now)) }
+{
+    let mut text = String::new(alloc);
+    for mark in marks {
+        push_line(alloc, &mut text, library, *mark)?;
+    }
+    Ok(text)
+}
+
+// The line of a mark.
+fn push_line(
+    alloc: Global,
+    text: &mut String,
+    library: &Library,
+    mark: CueMark,
+) -> Result<(), AllocError>
+    ensures { OnOk result (string_bytes text.new ≡ string_bytes text.old ++ cue_line library.now (cue_of mark)) }
+{
+    text.push_str(&mark.at.to_string(alloc)?)?;
+    push_title(text, library, mark.title)?;
+    text.push_str("\n")
+}
+
+// The name that a title stands for, behind a space.
+fn push_title(text: &mut String, library: &Library, title: u32) -> Result<(), AllocError>
+    ensures { OnOk result (string_bytes text.new ≡ string_bytes text.old ++ spaced (name_of library.now title)) }
+{
+    if title == 0 {
+        return Ok(());
+    }
+    let Some(name) = library.names().get(title as usize - 1) else {
+        return Ok(());
+    };
+    text.push_str(" ")?;
+    text.push_str(name.as_str())
+}
