@@ -1,15 +1,17 @@
 // Laws of records. Each is a contract of a function that does nothing.
-ghost use Rattle.std.specs.Prelude.{◌*◌, ◌+◌, ◌<◌, ◌≡◌, ◌≤◌, [], ℕ, All, Bool, List, false, length, max, suc};
-ghost use Rattle.std.specs.List.{flat_map};
+ghost use Rattle.std.specs.Prelude.{◌*◌, ◌+◌, ◌<◌, ◌≡◌, ◌≤◌, [], ℕ, All, Bool, List, false, length, max, suc, is_none};
+ghost use Rattle.std.specs.List.{count_by, flat_map};
 ghost use Rattle.frame_core.specs.declared.cell.Cell.{Cell as Sample};
 ghost use Rattle.frame_core.specs.Legal.{IsRun};
 ghost use Rattle.plan_core.specs.declared.node.Node.{Node as PlanNode};
+ghost use Rattle.plan_core.specs.Plans.{ReadsBuffer};
 ghost use Rattle.clock_infer.specs.declared.clock_map.ClockMap.{ClockMap as Map};
 ghost use Rattle.op_leaf.specs.Readers.{Answer};
 ghost use Rattle.stream_meaning.specs.Calls.{calls_of_tick};
 ghost use Rattle.stream_meaning.specs.Instants.{Setting, answered, prefill};
 ghost use Rattle.stream_meaning.specs.Settings.{IsSetting};
 ghost use Rattle.run_records.specs.Buffers.{feeder};
+ghost use Rattle.run_records.specs.Heard.{HasRoom, IsHeard};
 ghost use Rattle.run_records.specs.Ordered.{HasSameText, IsOrdered};
 ghost use Rattle.run_records.specs.Owning.{IsOwn};
 ghost use Rattle.run_records.specs.Pace.{IsDrawn, KeepPace, has_none};
@@ -80,4 +82,26 @@ pub fn roomy_buffers_refuse_nothing()
         → IsLawful setting clocks.running W N run → buffer < length setting.plan.buffers → IsDrawn (setting_in setting run) buffer m i node
         → m < clocks.running → max 1 (prefill setting buffer) ≤ suc D * setting.plan.frame → W + W + D ≤ capacity_of setting buffer
         → has_none (puts_of run buffer) ≡ false }
+{}
+
+/// A lawful record refuses no put to a buffer whose reader is always heard, and which has room for two windows and its prefill:
+/// so a report tells of none that found it full.
+pub fn heard_buffers_refuse_nothing()
+    ensures { (setting : Setting) (clocks : Map) → IsSetting setting clocks → (W N buffer m : ℕ) (above : List ℕ) (i : ℕ) (run : Run)
+        → ReadsBuffer setting.plan buffer i → IsHeard setting m above i → HasRoom setting W buffer
+        → IsLawful setting clocks.running W N run → count_by is_none (puts_of run buffer) ≡ 0 }
+{}
+
+/// And neither does the record of a run in windows that was broken off.
+pub fn broken_windows_refuse_nothing()
+    ensures { (setting : Setting) (clocks : Map) → IsSetting setting clocks → (W N buffer m : ℕ) (above : List ℕ) (i : ℕ) (run : Run)
+        → ReadsBuffer setting.plan buffer i → IsHeard setting m above i → HasRoom setting W buffer
+        → AreWindowsBegun setting clocks.running W N run → count_by is_none (puts_of run buffer) ≡ 0 }
+{}
+
+/// A buffer that gathers whole ticks before it plays has room for windows of W ticks where it holds at least 2W - 1 ticks more.
+pub fn whole_ticks_have_room()
+    ensures { (setting : Setting) (W buffer gathers holds : ℕ) → 1 ≤ setting.plan.frame → 1 ≤ gathers
+        → prefill setting buffer ≡ gathers * setting.plan.frame → capacity_of setting buffer ≡ holds → W + W + gathers ≤ suc holds
+        → HasRoom setting W buffer }
 {}
