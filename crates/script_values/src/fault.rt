@@ -5,57 +5,73 @@ ghost use Rattle.script_values.specs.Faults.{fault_in};
 
 use liq_base::{Memory, Text};
 use std::alloc::{AllocError, AllocFailed};
+use thiserror::Error;
 
 /// A limit of the language.
-#[derive(Clone, Copy, Debug, PartialEq, Eq)]
+#[derive(Clone, Copy, Debug, PartialEq, Eq, Error)]
 pub enum Limit {
     /// Calls of defs that run at one time: 16.
+    #[error("calls that run at one time")]
     Calls,
 
     /// Outputs of a script: 64.
+    #[error("outputs")]
     Outputs,
 
     /// Children of a node: 65535.
+    #[error("children of a source")]
     Children,
 
     /// Crossfades on a path down through children: 4.
+    #[error("crossfades on a path")]
     Crossfades,
 
     /// An overlap of a crossfade: 4194304 samples.
+    #[error("overlap of a crossfade")]
     Overlap,
 
     /// The prefill of a buffer: 4194304 samples.
+    #[error("prefill of a buffer")]
     Prefill,
 
     /// The capacity of a buffer: 65536 chunks.
+    #[error("capacity of a buffer")]
     Capacity,
 }
 
 /// Why a script has no plan. Statements are counted from 1, tokens from 0.
-#[derive(Debug, Drop)]
+#[derive(Debug, Drop, Error)]
 pub enum EvalFault {
     /// A setting that may not stand there, or with a value that it may not have.
+    #[error("bad setting in statement {}", .stmt)]
     BadSetting { stmt: u32 },
 
     /// A bad value, at the token of a call's name, of an operator or of `%wav`.
+    #[error("bad value in statement {} at token {}", .stmt, .at)]
     BadValue { stmt: u32, at: u32 },
 
     /// The work is more than a script may cost.
+    #[error("too much work in statement {}", .stmt)]
     TooMuchWork { stmt: u32 },
 
     /// There would be more nodes than a plan may have.
+    #[error("too many sources")]
     TooManySources,
 
     /// The script ends without an output.
+    #[error("no output")]
     NoOutput,
 
     /// An earlier output has this name.
+    #[error("two outputs {}", .0.as_str())]
     SameOutput(Text),
 
     /// A limit is passed.
+    #[error("too large: {}", .0)]
     TooLarge(Limit),
 
     /// Memory was refused.
+    #[error("out of memory")]
     Memory,
 }
 
