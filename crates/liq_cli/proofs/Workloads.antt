@@ -1,5 +1,5 @@
 -- What a workload leaves, by the way that it ends.
-use Rattle.std.proofs.Common.{◌≡◌, ◌++◌, ◌∙◌, ℕ, List, [], refl, sym, ap, subst, append-nil, arith}
+use Rattle.std.proofs.Common.{◌≡◌, ◌++◌, ◌∙◌, ℕ, List, [], refl, sym, ap, subst, append-nil, arith, false}
 use Rattle.std.specs.Prelude.{Option, Some, None, Result, Ok, Err, IfOk, String, string_bytes}
 use Rattle.std.specs.FinMap.{from_entries}
 use Rattle.std.specs.Option.{ForSome}
@@ -37,13 +37,13 @@ never_rose rose = omega arith
 
 -- what is found over the shelf is found over the files of the workload
 pub one_made : (seed size : ℕ) (shelf : Files) (file : List ℕ) (outcome : Outcome) → shelf ≡ files_made seed size → file ≡ made_script
-    → ForSome (Some shelf) (λ files. IsOneOutcome files file None 500 outcome) → IsOneOutcome (files_made seed size) made_script None 500 outcome
+    → ForSome (Some shelf) (λ files. IsOneOutcome files file None false 500 outcome) → IsOneOutcome (files_made seed size) made_script None false 500 outcome
 one_made seed size shelf file outcome shelf_is file_is found =
-    subst (λ f. IsOneOutcome (files_made seed size) f None 500 outcome) file_is (found (files_made seed size) (ap Some shelf_is))
+    subst (λ f. IsOneOutcome (files_made seed size) f None false 500 outcome) file_is (found (files_made seed size) (ap Some shelf_is))
 
 -- the steps before the rendering ended
 pub stopped_made : {T U : Type 0} (seed size : ℕ) (shelf : Files) (file : List ℕ) (told : Option Files) (reads writes : ℕ) (e : Halt) → shelf ≡ files_made seed size → file ≡ made_script
-    → EndsFor {T = T} (Some shelf) file None 500 0 0 (Err e) → Stops {T = U} (Make seed size) told told reads reads writes writes (Err e)
+    → EndsFor {T = T} (Some shelf) file None false 500 0 0 (Err e) → Stops {T = U} (Make seed size) told told reads reads writes writes (Err e)
 stopped_made seed size shelf file told reads writes e shelf_is file_is ends = record {
   fault = λ fault at files t. for_one (Make seed size) files (Lost fault) (λ a. a ≡ Refused fault) (one_made seed size shelf file (Lost fault) shelf_is file_is (ends.fault fault (cc))) refl;
   fault_kept = λ fault at. refl;
@@ -61,7 +61,7 @@ broke_made seed size told reads writes render_write cause = absurd (never_rose (
 broke_made seed size told reads writes render_memory cause = stopped_for_memory (Make seed size) told told reads reads writes writes refl (omega arith)
 
 -- the summary
-pub summed : (seed size : ℕ) (plan : Plan) (library : Sounds) (clocks : ClockMap) → IsOneOutcome (files_made seed size) made_script None 500 (Found plan library clocks)
+pub summed : (seed size : ℕ) (plan : Plan) (library : Sounds) (clocks : ClockMap) → IsOneOutcome (files_made seed size) made_script None false 500 (Found plan library clocks)
     → (shelf after : Files) (report : List ℕ) (value : Shown) → shelf ≡ files_made seed size
     → IsRendered (station_for (Make seed size) plan library clocks) (Some shelf) (Some after) value
     → ((run : Run) → IsTold (station_for (Make seed size) plan library clocks) run value

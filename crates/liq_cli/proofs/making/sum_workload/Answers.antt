@@ -1,4 +1,4 @@
-use Rattle.std.proofs.Common.{arith, ◌≡◌, ◌∙◌, ap, refl, Err, lit<}
+use Rattle.std.proofs.Common.{arith, ◌≡◌, ◌∙◌, ap, refl, Err, lit<, false}
 use Rattle.std.specs.Prelude.{None, Some, string_bytes}
 use Rattle.std.proofs.lemmas.Result.{err_from_is_err_and}
 use Rattle.stations.specs.Stations.{Station}
@@ -29,7 +29,7 @@ returns-clause-done g c =
     let work = c.in_ok-work.work in
     let made = files_made c.args.seed c.args.size.files in
     let station : Station = station_for (Make c.args.seed c.args.size.files) work.plan work.ready.library work.ready.clocks in
-    let one : IsOneOutcome made made_script None 500 (Found work.plan work.ready.library work.ready.clocks) =
+    let one : IsOneOutcome made made_script None false 500 (Found work.plan work.ready.library work.ready.clocks) =
     one_made c.args.seed c.args.size.files c.args.shelf.now c.script_name.result.now _ c.requires c.script_name.ensures c.in_ok-work.ensures.found in
     let kept : Some c.prepare.new.shelf ≡ Some c.args.shelf.now = c.prepare.ensures.shelf.files_kept in
     let same : c.prepare.new.shelf ≡ c.args.shelf.now = cc in
