@@ -1,15 +1,18 @@
 -- Sinks that are closed one after another.
-use Rattle.std.proofs.Common.{◌≡◌, ◌<◌, ◌≤◌, ◌∙◌, ◌⊎◌, ℕ, zero, suc, List, [], ◌∷◌, ◌++◌, append_assoc, length, slice_get, nat_eq, arith, refl, ap, sym, subst, inl, inr, if◌then◌else◌}
+use Rattle.std.proofs.Common.{◌≡◌, ◌<◌, ◌≤◌, ◌∙◌, ◌⊎◌, ℕ, zero, suc, Bool, true, List, [], ◌∷◌, ◌++◌, append_assoc, length, slice_get, nat_eq, arith, refl, ap, sym, subst, inl, inr, if◌then◌else◌}
 use Rattle.std.specs.Prelude.{Option, Some, None, Result, Ok, Err, OnOk, OnErr, IsSomeAnd}
 use Rattle.std.specs.Option.{ForSome}
 use Rattle.std.proofs.lemmas.Bool.{cases_Bool, eqb-true, eqb-false, eq-eqb}
 use Rattle.liq_base.specs.Counts.{Rose}
 use Rattle.liq_base.specs.Files.{Files, with_file, Closed, ClosedPart, HoldsPart as FileHoldsPart}
 use Rattle.liq_base.specs.Kept.{some_and}
-use Rattle.liq_base.specs.Pieces.{IsPrefix}
+use Rattle.liq_base.specs.Pieces.{HasRoom, IsPrefix, grown}
 use Rattle.stations.specs.Outputs.{OutputFile, OutputPart, with_outputs, HoldsBetween, HoldsParts}
-use Rattle.station_render.specs.Sinks.{AreCreated, AreAllEmpty, HasFailed, HaveSizes, HoldsFront, HoldsWhole, WasTaken, count_of}
+use Rattle.station_render.specs.OutputSinks.{HasEnded, HasEndedPart, HaveRooms, HoldsBody, HoldsFrontIf, last_byte}
+use Rattle.station_render.specs.Sinks.{AreCreated, AreAllEmpty, HasFailed, HaveSizes, HoldsFront, WasTaken, count_of}
+use Rattle.station_render.specs.declared.output_sink.OutputSink.{OutputSink}
 use Rattle.station_render.proofs.Lists.{within, no_items, set_here, set_many, set_other}
+use Rattle.station_render.proofs.Creating.{created_as}
 use Rattle.station_render.proofs.Dealing.{first_so, others_so}
 
 -- nothing was created
@@ -125,24 +128,77 @@ module _ {S : Type 0} (order rest : List ℕ) (clock : ℕ) (split : order ≡ c
           failed = more;
         })
 
-    module _ (name held : S → Option (List ℕ)) (before mid after : Option Files) where
-      pub whole_then : Closed before (name sink) (held sink) mid
-          → ForSome mid (λ files. (outputs : List OutputFile) → AreCreated (HoldsWhole name held) outputs rest new → after ≡ Some (with_outputs files outputs))
-          → ForSome before (λ files. (outputs : List OutputFile) → AreCreated (HoldsWhole name held) outputs order old → after ≡ Some (with_outputs files outputs))
-      whole_then closed others files told [] are = (let size = are.size in let long = ap length split in absurd (omega (arith, size, long)))
-      whole_then closed others files told (y ∷ ys) are =
-          let these = subst (λ o. AreCreated (HoldsWhole name held) (y ∷ ys) o old) split are in
-          let so = (first_so (HoldsWhole name held) clock rest old new sink taken y ys these).0 in
-          others (with_file files y.name y.bytes) (closed files told y.name so.named y.bytes so.holds) ys (others_so (HoldsWhole name held) clock rest old new sink taken y ys these)
+-- the first output got the byte that it owed, and was closed, and then the others were
+module _ {O : Type 0} (order rest : List ℕ) (clock : ℕ) (split : order ≡ clock ∷ rest) (old new : List (List (OutputSink O))) (sink : OutputSink O) (taken : WasTaken clock old sink new)
+    (name held : O → Option (List ℕ)) (out : O) (kept : name out ≡ name sink.sink) (before mid after : Option Files) where
+  pub whole_then : HasEnded held sink.odd sink.sink out → Closed before (name out) (held out) mid
+      → ForSome mid (λ files. (outputs : List OutputFile) → AreCreated (HoldsBody name held) outputs rest new → after ≡ Some (with_outputs files outputs))
+      → ForSome before (λ files. (outputs : List OutputFile) → AreCreated (HoldsBody name held) outputs order old → after ≡ Some (with_outputs files outputs))
+  whole_then ended closed others files at [] are = (let size = are.size in let long = ap length split in absurd (omega (arith, size, long)))
+  whole_then ended closed others files at (y ∷ ys) are =
+      let these = subst (λ o. AreCreated (HoldsBody name held) (y ∷ ys) o old) split are in
+      let so = (first_so (HoldsBody name held) clock rest old new sink taken y ys these).0 in
+      let holds : held out ≡ Some y.bytes = ended ∙ ap (grown (last_byte sink.odd)) so.holds ∙ ap Some (sym so.whole) in
+      others (with_file files y.name y.bytes) (closed files at y.name (kept ∙ so.named) y.bytes holds) ys (others_so (HoldsBody name held) clock rest old new sink taken y ys these)
 
-      pub part_then : {E : Type 0} (r : Result (Unit {0}) E) (w0 w1 w2 : ℕ) (faults : S → ℕ) → w0 ≤ w1
-          → OnOk r (Closed before (name sink) (held sink) mid) → OnErr r (ClosedPart before (name sink) (held sink) mid) → OnErr r (Rose w0 w1) → (0 < faults sink → Rose w0 w1)
-          → ForSome mid (λ files. (outputs : List OutputPart) → AreCreated (HoldsFront name held faults) outputs rest new → IsSomeAnd after (λ now. HoldsParts w1 files outputs now w2))
-          → ForSome before (λ files. (outputs : List OutputPart) → AreCreated (HoldsFront name held faults) outputs order old → IsSomeAnd after (λ now. HoldsParts w0 files outputs now w2))
-      part_then r w0 w1 w2 faults low closed part cause failed others files told [] are = (let size = are.size in let long = ap length split in absurd (omega (arith, size, long)))
-      part_then r w0 w1 w2 faults low closed part cause failed others files told (y ∷ ys) are =
-          let these = subst (λ o. AreCreated (HoldsFront name held faults) (y ∷ ys) o old) split are in
-          let so = (first_so (HoldsFront name held faults) clock rest old new sink taken y ys these).0 in
-          one_part w0 w1 w2 low files y ys mid after
-          (closed_between r w0 w1 before mid (name sink) (held sink) files y so.part closed part cause (least_or (faults sink) w0 w1 (IsPrefix y.least so.part) failed so.least) told so.named so.holds so.most)
-          (λ found at. others found at ys (others_so (HoldsFront name held faults) clock rest old new sink taken y ys these))
+  module _ (faults : O → ℕ) (well goes : Bool) (still : goes ≡ true → well ≡ true) (fewer : faults sink.sink ≤ faults out) where
+    least_later : (least part : List ℕ) → IsPrefix least part ⊎ (0 < faults sink.sink) → IsPrefix least (part ++ 0 ∷ []) ⊎ (0 < faults out)
+    least_later least part (inl front) = inl (record { rest = front.rest ++ 0 ∷ []; whole_is = ap (λ v. v ++ 0 ∷ []) front.whole_is ∙ append_assoc least front.rest (0 ∷ []) })
+    least_later least part (inr failed) = inr (omega (arith, failed, fewer))
+
+    least_same : (least part : List ℕ) → IsPrefix least part ⊎ (0 < faults sink.sink) → IsPrefix least part ⊎ (0 < faults out)
+    least_same least part (inl front) = inl front
+    least_same least part (inr failed) = inr (omega (arith, failed, fewer))
+
+    -- the first one holds as much as it should, with the byte or without
+    after_end : (y : OutputPart) → HasEndedPart held well sink.odd sink.sink out → HoldsFrontIf well name held faults y sink → HoldsFront name held faults y out
+    after_end y (inl same) so = record {
+      named = kept ∙ so.front.named;
+      part = so.front.part;
+      holds = same ∙ so.front.holds;
+      most = so.front.most;
+      least = least_same y.least so.front.part so.front.least;
+    }
+    after_end y (inr ended) so = record {
+      named = kept ∙ so.front.named;
+      part = so.front.part ++ 0 ∷ [];
+      holds = ended.2 ∙ ap (grown (0 ∷ [])) so.front.holds;
+      most = so.more ended.0 ended.1;
+      least = least_later y.least so.front.part so.front.least;
+    }
+
+    pub part_then : {E : Type 0} (r : Result (Unit {0}) E) (w0 w1 w2 : ℕ) → w0 ≤ w1 → HasEndedPart held well sink.odd sink.sink out
+        → OnOk r (Closed before (name out) (held out) mid) → OnErr r (ClosedPart before (name out) (held out) mid) → OnErr r (Rose w0 w1) → (0 < faults out → Rose w0 w1)
+        → ForSome mid (λ files. (outputs : List OutputPart) → AreCreated (HoldsFrontIf goes name held faults) outputs rest new → IsSomeAnd after (λ now. HoldsParts w1 files outputs now w2))
+        → ForSome before (λ files. (outputs : List OutputPart) → AreCreated (HoldsFrontIf well name held faults) outputs order old → IsSomeAnd after (λ now. HoldsParts w0 files outputs now w2))
+    part_then r w0 w1 w2 low ended closed part cause failed others files at [] are = (let size = are.size in let long = ap length split in absurd (omega (arith, size, long)))
+    part_then r w0 w1 w2 low ended closed part cause failed others files at (y ∷ ys) are =
+        let So = HoldsFrontIf well name held faults in
+        let these = subst (λ o. AreCreated (HoldsFrontIf well name held faults) (y ∷ ys) o old) split are in
+        let so = after_end y ended (first_so So clock rest old new sink taken y ys these).0 in
+        let left = created_as So (HoldsFrontIf goes name held faults) (λ z out is. record { front = is.front; more = λ on odd. is.more (still on) odd }) ys rest new (others_so So clock rest old new sink taken y ys these) in
+        one_part w0 w1 w2 low files y ys mid after
+        (closed_between r w0 w1 before mid (name out) (held out) files y so.part closed part cause (least_or (faults out) w0 w1 (IsPrefix y.least so.part) failed so.least) at so.named so.holds so.most)
+        (λ found there. others found there ys left)
+
+-- where all went well before, and still does
+pub whole_if : {T E : Type 0} (r : Result T E) (well goes : Bool) (P Q : Type 0) → (well ≡ true → goes ≡ true) → (well ≡ true → P → Q) → OnOk r (goes ≡ true → P) → OnOk r (well ≡ true → Q)
+whole_if (Ok x) well goes P Q still f p = λ on. f on (p (still on))
+whole_if (Err e) well goes P Q still f p = tt
+
+-- the first of the sinks, and the others, have room for what they owe
+module _ {O : Type 0} (room : O → Option ℕ) (clock : ℕ) (old new : List (List (OutputSink O))) (sink : OutputSink O) (taken : WasTaken clock old sink new) where
+  pub rooms_first : HaveRooms room old → sink.odd ≡ true → HasRoom (room sink.sink) 1
+  rooms_first rooms odd = rooms clock 0 (sink ∷ taken.rest) sink taken.was refl odd
+
+  pub rooms_left : HaveRooms room old → HaveRooms room new
+  rooms_left rooms m k group output there at odd = elim (cases_Bool (nat_eq clock m)) [
+    | inl same ↦ (let is_here : clock ≡ m = eqb-true clock m same in
+        let found : Some taken.rest ≡ Some group = sym (set_here old clock taken.rest (within old clock (sink ∷ taken.rest) taken.was))
+        ∙ ap (λ gs. slice_get gs clock) (sym taken.is) ∙ ap (slice_get new) is_here ∙ there in
+        let is : taken.rest ≡ group = cc in
+        rooms clock (suc k) (sink ∷ taken.rest) output taken.was (ap (λ g. slice_get g k) is ∙ at) odd)
+    | inr other ↦ (let apart : clock ≡ m → ⊥ = eqb-false clock m other in
+        let found : slice_get old m ≡ Some group = sym (set_other old clock m taken.rest apart) ∙ ap (λ gs. slice_get gs m) (sym taken.is) ∙ there in
+        rooms m k group output found at odd)
+  ]

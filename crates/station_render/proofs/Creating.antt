@@ -1,8 +1,9 @@
 -- Outputs that are created one after another.
-use Rattle.std.proofs.Common.{◌≡◌, ◌<◌, ◌≤◌, ◌+◌, ◌-◌, ◌∙◌, ◌++◌, ◌⊎◌, ℕ, zero, suc, Bool, List, [], ◌∷◌, length, map, take, drop, slice_get, arith, refl, ap, sym, subst, inl, inr, true, false, nat_eq, append_assoc, add-one, if◌then◌else◌}
+use Rattle.std.proofs.Common.{◌≡◌, ◌<◌, ◌≤◌, ◌+◌, ◌-◌, ◌*◌, ◌%◌, ◌∙◌, ◌++◌, ◌⊎◌, ℕ, zero, suc, Bool, List, [], ◌∷◌, length, map, take, drop, slice_get, arith, refl, ap, sym, subst, inl, inr, true, false, nat_eq, append_assoc, add-one, if◌then◌else◌}
 use Rattle.std.specs.Prelude.{Option, Some, None, IsSome, is_some}
 use Rattle.std.specs.Option.{ForSome}
 use Rattle.std.specs.List.{AllZip}
+use Rattle.std.proofs.Math.Nat.{mod-lt}
 use Rattle.std.proofs.lemmas.List.{map-append, append-nil}
 use Rattle.liq_base.specs.Created.{is_told}
 use Rattle.liq_base.specs.Counts.{Rose}
@@ -16,9 +17,10 @@ use Rattle.stream_meaning.specs.Instants.{Setting, answered, clock_of}
 use Rattle.stream_meaning.specs.Sinks.{ticks_bytes}
 use Rattle.run_records.specs.Records.{Run, answers_of, setting_then}
 use Rattle.run_records.specs.Buffers.{main_of as main_clock}
-use Rattle.stations.specs.Streams.{front_bytes, header_for, output_bytes, outputs_in, parts_in}
+use Rattle.stations.specs.Streams.{body_size, ends_in, file_bytes, front_bytes, header_for, outputs_in, parts_in}
+use Rattle.station_render.specs.OutputSinks.{but_one, but_one_if, owed_by}
 use Rattle.station_render.specs.Sinks.{AreCreated, HasFailed, HoldsPart, HoldsWhole, WasAdded, of_clock}
-use Rattle.station_render.specs.Renders.{AreBegun, IsPart, IsReady, NoneCreated, WasBroken, WasCreated, Written, body_size, file_of, front_file, main_of, order_of, written}
+use Rattle.station_render.specs.Renders.{AreBegun, IsPart, IsReady, NoneCreated, WasBroken, WasCreated, Written, debt_of, end_of, file_of, front_file, main_of, order_of, written}
 use Rattle.station_render.proofs.Lists.{got_is, set_here, set_many, many_mapped}
 use Rattle.station_render.proofs.Dealing.{one_added}
 
@@ -41,11 +43,11 @@ taken_and_left (x ∷ xs) (suc k) = ap (λ zs. x ∷ zs) (taken_and_left xs k)
 
 pub written_both : (xs ys : List SinkPlan) → written (xs ++ ys) ≡ written xs ++ written ys
 written_both [] ys = refl
-written_both (Output name node fallible wide ∷ xs) ys = ap (λ zs. (record { name = name; node = node }) ∷ zs) (written_both xs ys)
+written_both (Output name node fallible wide ∷ xs) ys = ap (λ zs. (record { name = name; node = node; wide = wide }) ∷ zs) (written_both xs ys)
 written_both (Feed buffer node ∷ xs) ys = written_both xs ys
 
 pub written_more : (sinks : List SinkPlan) (k : ℕ) (name : List ℕ) (node : ℕ) (fallible wide : Bool) → slice_get sinks k ≡ Some (Output name node fallible wide)
-    → written (take (suc k) sinks) ≡ written (take k sinks) ++ (record { name = name; node = node }) ∷ []
+    → written (take (suc k) sinks) ≡ written (take k sinks) ++ (record { name = name; node = node; wide = wide }) ∷ []
 written_more sinks k name node fallible wide at = ap written (take_more sinks k (Output name node fallible wide) at) ∙ written_both (take k sinks) (Output name node fallible wide ∷ [])
 
 pub written_same : (sinks : List SinkPlan) (k buffer node : ℕ) → slice_get sinks k ≡ Some (Feed buffer node) → written (take (suc k) sinks) ≡ written (take k sinks)
@@ -54,13 +56,18 @@ written_same sinks k buffer node at =
 
 pub files_are : (setting : Setting) (ticks : ℕ) (sinks : List SinkPlan) → outputs_in setting ticks sinks ≡ map (file_of setting ticks) (written sinks)
 files_are setting ticks [] = refl
-files_are setting ticks (Output name node fallible wide ∷ sinks) = ap (λ zs. (record { name = name; bytes = output_bytes setting ticks node }) ∷ zs) (files_are setting ticks sinks)
+files_are setting ticks (Output name node fallible wide ∷ sinks) = ap (λ zs. (record { name = name; bytes = file_bytes setting wide ticks node }) ∷ zs) (files_are setting ticks sinks)
 files_are setting ticks (Feed buffer node ∷ sinks) = files_are setting ticks sinks
 
 pub fronts_are : (setting : Setting) (ticks : ℕ) (made tried : ℕ → ℕ) (sinks : List SinkPlan) → parts_in setting ticks made tried sinks ≡ map (front_file setting ticks made tried) (written sinks)
 fronts_are setting ticks made tried [] = refl
-fronts_are setting ticks made tried (Output name node fallible wide ∷ sinks) = ap (λ zs. front_file setting ticks made tried (record { name = name; node = node }) ∷ zs) (fronts_are setting ticks made tried sinks)
+fronts_are setting ticks made tried (Output name node fallible wide ∷ sinks) = ap (λ zs. front_file setting ticks made tried (record { name = name; node = node; wide = wide }) ∷ zs) (fronts_are setting ticks made tried sinks)
 fronts_are setting ticks made tried (Feed buffer node ∷ sinks) = fronts_are setting ticks made tried sinks
+
+pub ends_are : (setting : Setting) (ticks : ℕ) (sinks : List SinkPlan) → ends_in setting ticks sinks ≡ map (end_of setting ticks) (written sinks)
+ends_are setting ticks [] = refl
+ends_are setting ticks (Output name node fallible wide ∷ sinks) = ap (λ zs. end_of setting ticks (record { name = name; node = node; wide = wide }) ∷ zs) (ends_are setting ticks sinks)
+ends_are setting ticks (Feed buffer node ∷ sinks) = ends_are setting ticks sinks
 
 zip_as : {Y S : Type 0} (So Other : Y → S → Type 0) → ((y : Y) (x : S) → So y x → Other y x) → (ys : List Y) (xs : List S) → AllZip So ys xs → AllZip Other ys xs
 zip_as So Other f [] [] z = tt
@@ -101,16 +108,32 @@ created_mapped f So ys order groups are = record {
   each = λ m group at. subst (λ zs. AllZip So zs group) (sym (dealt_mapped f m order ys)) (zip_mapped f So (of_clock m order ys) group (are.each m group at));
 }
 
--- the room after the header
-pub room_left : (before after : Option ℕ) (header body : ℕ) → ForSome before (λ told. told ≡ header + body) → after ≡ narrowed header before → HasRoom after body
-room_left None after header body told fell = λ left at. absurd (let none : None ≡ Some left = sym fell ∙ at in cc)
-room_left (Some before) after header body told fell = λ left at.
-    let is : Some (before - header) ≡ Some left = sym fell ∙ at in
-    let same : before - header ≡ left = cc in
-    let whole : before ≡ header + body = told before refl in
-    omega (arith, same, whole)
+-- the room after the header, where a byte is kept back behind an odd body
+module _ (header body : ℕ) (odd : Bool) (odd_is : odd ≡ nat_eq (body % 2) 1) where
+  room_by : (r : ℕ) (b : Bool) → b ≡ nat_eq r 1 → r < 2 → (before after : Option ℕ) → ForSome before (λ told. told ≡ header + body + r) → after ≡ narrowed header before → HasRoom (but_one_if b after) body × (owed_by b after ≡ 2 * r)
+  room_by zero false is low None after told fell = ((λ left at. absurd (let none : None ≡ Some left = sym fell ∙ at in cc)), refl)
+  room_by zero false is low (Some before) after told fell = ((λ left at.
+      let same : Some (before - header) ≡ Some left = sym fell ∙ at in
+      let left_is : before - header ≡ left = cc in
+      let whole : before ≡ header + body + 0 = told before refl in
+      omega (arith, left_is, whole)), refl)
+  room_by zero true is low before after told fell = absurd cc
+  room_by (suc zero) false is low before after told fell = absurd cc
+  room_by (suc zero) true is low None after told fell = (subst (λ a. HasRoom (but_one a) body) (sym fell) (λ left at. absurd cc), ap (λ a. owed_by true a) fell)
+  room_by (suc zero) true is low (Some before) after told fell =
+      let whole : before ≡ header + body + 1 = told before refl in
+      let least : before - header ≡ suc body = omega (arith, whole) in
+      let is_after : after ≡ Some (suc body) = fell ∙ ap (λ n. Some n) least in
+      (subst (λ a. HasRoom (but_one a) body) (sym is_after) (λ left at. let same : Some (suc body - 1) ≡ Some left = at in let left_is : suc body - 1 ≡ left = cc in omega (arith, left_is)), ap (λ a. owed_by true a) is_after)
+  room_by (suc (suc r)) b is low before after told fell = absurd (omega (arith, low))
 
-module _ {S : Type 0} (name held : S → Option (List ℕ)) (left : S → Option ℕ) (faults : S → ℕ) (files : Option Files) where
+  pub room_left : (before after : Option ℕ) → ForSome before (λ told. told ≡ header + body + body % 2) → after ≡ narrowed header before → HasRoom (but_one_if odd after) body
+  room_left before after told fell = let low = mod-lt body {m = 2} (omega arith) in (room_by (body % 2) odd odd_is low before after told fell).0
+
+  pub owed_left : (before after : Option ℕ) → ForSome before (λ told. told ≡ header + body + body % 2) → after ≡ narrowed header before → owed_by odd after ≡ debt_of body
+  owed_left before after told fell = let low = mod-lt body {m = 2} (omega arith) in (room_by (body % 2) odd odd_is low before after told fell).1
+
+module _ {S : Type 0} (name held : S → Option (List ℕ)) (left : S → Option ℕ) (debt : S → ℕ) (faults : S → ℕ) (files : Option Files) where
   -- a new sink that took its header whole, or a part of it
   pub told_whole : (old new : S) (title bytes : List ℕ) → (IsSome files → IsSome (name old) × IsSome (held old)) → ForSome (name old) (λ told. told ≡ title) → ForSome (held old) (λ told. told ≡ [])
       → name new ≡ name old → held new ≡ grown bytes (held old) → ForSome files (λ all. HoldsWhole name held (record { name = title; bytes = bytes }) new)
@@ -134,69 +157,70 @@ module _ {S : Type 0} (name held : S → Option (List ℕ)) (left : S → Option
 
   module _ (setting : Setting) (ticks : ℕ) where
     -- the header is what an output has before any tick, whatever buffers answer
-    pub part_of_ready : (made tried : ℕ → ℕ) → ((k : ℕ) → made k ≡ 0) → (answers : ℕ → List Answer) (output : Written) (sink : S) → IsReady name held left files setting ticks output sink
+    pub part_of_ready : (made tried : ℕ → ℕ) → ((k : ℕ) → made k ≡ 0) → (answers : ℕ → List Answer) (output : Written) (sink : S) → IsReady name held left debt files setting ticks output sink
         → IsPart name held faults files (answered setting answers) ticks made tried output sink
     part_of_ready made tried none answers output sink ready all at =
-        let world : Setting = answered setting answers in let m = main_clock world output.node in let header = header_for setting ticks output.node in
+        let world : Setting = answered setting answers in let m = main_clock world output.node in let header = header_for setting output.wide ticks output.node in
         record {
           named = (ready.told all at).named;
           part = header;
           holds = (ready.told all at).holds;
-          most = record { rest = ticks_bytes world output.node (tried m); whole_is = refl };
-          least = inl (record { rest = []; whole_is = sym (append-nil (header ++ ticks_bytes world output.node (made m)) ∙ ap (λ n. header ++ ticks_bytes world output.node n) (none m) ∙ append-nil header) });
+          most = record { rest = ticks_bytes world output.wide output.node (tried m); whole_is = refl };
+          least = inl (record { rest = []; whole_is = sym (append-nil (header ++ ticks_bytes world output.wide output.node (made m)) ∙ ap (λ n. header ++ ticks_bytes world output.wide output.node n) (none m) ∙ append-nil header) });
         }
 
     pub ready_more : (ys : List Written) (output : Written) (clock : ℕ) (header : List ℕ) (body : ℕ) (order order_new : List ℕ) (old new : List (List S)) → clock < length old
-        → header ≡ header_for setting ticks output.node → body ≡ body_size setting ticks output.node
-        → AreCreated (IsReady name held left files setting ticks) ys order old
-        → WasCreated name held left files clock output.name header body order order_new old new
-        → AreCreated (IsReady name held left files setting ticks) (ys ++ output ∷ []) order_new new
+        → header ≡ header_for setting output.wide ticks output.node → body ≡ body_size setting output.wide ticks output.node
+        → AreCreated (IsReady name held left debt files setting ticks) ys order old
+        → WasCreated name held left debt files clock output.name header body order order_new old new
+        → AreCreated (IsReady name held left debt files setting ticks) (ys ++ output ∷ []) order_new new
     ready_more ys output clock header body order order_new old new low header_is body_is are was =
-        let ready : IsReady name held left files setting ticks output was.sink = record {
+        let ready : IsReady name held left debt files setting ticks output was.sink = record {
           told = subst (λ h. ForSome files (λ all. HoldsWhole name held (record { name = output.name; bytes = h }) was.sink)) header_is was.told;
           room = subst (λ n. HasRoom (left was.sink) n) body_is was.room;
+          owes = was.owes ∙ ap debt_of body_is;
         } in
-        subst (λ o. AreCreated (IsReady name held left files setting ticks) (ys ++ output ∷ []) o new) (sym was.order_is)
-        (one_added (IsReady name held left files setting ticks) ys order old new output clock was.sink low are ready was.added)
+        subst (λ o. AreCreated (IsReady name held left debt files setting ticks) (ys ++ output ∷ []) o new) (sym was.order_is)
+        (one_added (IsReady name held left debt files setting ticks) ys order old new output clock was.sink low are ready was.added)
 
     pub part_more : (made tried : ℕ → ℕ) → ((k : ℕ) → made k ≡ 0) → (answers : ℕ → List Answer) (ys : List Written) (output : Written) (clock : ℕ) (header : List ℕ) (order order_new : List ℕ) (old new : List (List S)) → clock < length old
-        → header ≡ header_for setting ticks output.node
-        → AreCreated (IsReady name held left files setting ticks) ys order old
+        → header ≡ header_for setting output.wide ticks output.node
+        → AreCreated (IsReady name held left debt files setting ticks) ys order old
         → WasBroken name held faults files clock output.name header order order_new old new
         → AreCreated (IsPart name held faults files (answered setting answers) ticks made tried) (ys ++ output ∷ []) order_new new
     part_more made tried none answers ys output clock header order order_new old new low header_is are was =
         let world : Setting = answered setting answers in let n = tried (main_clock world output.node) in
         let part : IsPart name held faults files world ticks made tried output was.sink = λ all at.
         let told = was.told all at in
-        let whole : front_bytes world ticks n output.node ≡ header ++ ticks_bytes world output.node n = ap (λ h. h ++ ticks_bytes world output.node n) (sym header_is) in
+        let whole : front_bytes world output.wide ticks n output.node ≡ header ++ ticks_bytes world output.wide output.node n = ap (λ h. h ++ ticks_bytes world output.wide output.node n) (sym header_is) in
         record {
           named = told.named;
           part = told.part;
           holds = told.holds;
           most = record {
-            rest = told.front.rest ++ ticks_bytes world output.node n;
-            whole_is = whole ∙ ap (λ h. h ++ ticks_bytes world output.node n) told.front.whole_is ∙ append_assoc told.part told.front.rest (ticks_bytes world output.node n);
+            rest = told.front.rest ++ ticks_bytes world output.wide output.node n;
+            whole_is = whole ∙ ap (λ h. h ++ ticks_bytes world output.wide output.node n) told.front.whole_is ∙ append_assoc told.part told.front.rest (ticks_bytes world output.wide output.node n);
           };
           least = inr was.failed;
         } in
         subst (λ o. AreCreated (IsPart name held faults files world ticks made tried) (ys ++ output ∷ []) o new) (sym was.order_is)
         (one_added (IsPart name held faults files world ticks made tried) ys order old new output clock was.sink low
-        (created_as (IsReady name held left files setting ticks) (IsPart name held faults files world ticks made tried) (part_of_ready made tried none answers) ys order old are) part was.added)
+        (created_as (IsReady name held left debt files setting ticks) (IsPart name held faults files world ticks made tried) (part_of_ready made tried none answers) ys order old are) part was.added)
 
     -- what is begun, where the first sinks were gone through
     module _ (run : Run) (made tried : ℕ → ℕ) (none : (k : ℕ) → made k ≡ 0) where
-      pub begun_here : (k : ℕ) (order : List ℕ) (groups : List (List S)) → AreCreated (IsReady name held left files setting ticks) (written (take k setting.plan.sinks)) order groups
+      pub begun_here : (k : ℕ) (order : List ℕ) (groups : List (List S)) → AreCreated (IsReady name held left debt files setting ticks) (written (take k setting.plan.sinks)) order groups
           → AreBegun name held faults files setting run ticks made tried order groups
       begun_here k order groups are = record {
         created = written (take k setting.plan.sinks);
         others = written (drop k setting.plan.sinks);
         all = ap written (taken_and_left setting.plan.sinks k) ∙ written_both (take k setting.plan.sinks) (drop k setting.plan.sinks);
-        parts = λ rest. created_as (IsReady name held left files setting ticks) (IsPart name held faults files (setting_then setting run rest) ticks made tried) (part_of_ready made tried none (λ buffer. answers_of run buffer ++ rest buffer))
+        parts = λ rest. created_as (IsReady name held left debt files setting ticks) (IsPart name held faults files (setting_then setting run rest) ticks made tried) (part_of_ready made tried none (λ buffer. answers_of run buffer ++ rest buffer))
             (written (take k setting.plan.sinks)) order groups are;
       }
 
       pub begun_next : (k : ℕ) (title : List ℕ) (node : ℕ) (fallible wide : Bool) (order : List ℕ) (groups : List (List S)) → slice_get setting.plan.sinks k ≡ Some (Output title node fallible wide)
-          → ((rest : ℕ → List Answer) → AreCreated (IsPart name held faults files (setting_then setting run rest) ticks made tried) (written (take k setting.plan.sinks) ++ (record { name = title; node = node }) ∷ []) order groups)
+          → ((rest : ℕ → List Answer) → AreCreated (IsPart name held faults files (setting_then setting run rest) ticks made tried) (written (take k setting.plan.sinks) ++ (record { name = title; node = node; wide = wide }) ∷ []) order groups)
           → AreBegun name held faults files setting run ticks made tried order groups
       begun_next k title node fallible wide order groups at are = record {
         created = written (take (suc k) setting.plan.sinks);
@@ -207,18 +231,18 @@ module _ {S : Type 0} (name held : S → Option (List ℕ)) (left : S → Option
 
       -- after a creation that broke off
       pub begun_broken : (k : ℕ) (title : List ℕ) (node : ℕ) (fallible wide : Bool) (clock : ℕ) (header : List ℕ) (order order_new : List ℕ) (old new : List (List S)) → clock < length old
-          → slice_get setting.plan.sinks k ≡ Some (Output title node fallible wide) → header ≡ header_for setting ticks node
-          → AreCreated (IsReady name held left files setting ticks) (written (take k setting.plan.sinks)) order old
+          → slice_get setting.plan.sinks k ≡ Some (Output title node fallible wide) → header ≡ header_for setting wide ticks node
+          → AreCreated (IsReady name held left debt files setting ticks) (written (take k setting.plan.sinks)) order old
           → NoneCreated order order_new old new ⊎ WasBroken name held faults files clock title header order order_new old new
           → AreBegun name held faults files setting run ticks made tried order_new new
       begun_broken k title node fallible wide clock header order order_new old new low at header_is are (inl same) =
           subst (λ o. AreBegun name held faults files setting run ticks made tried o new) (sym same.order_is) (subst (λ gs. AreBegun name held faults files setting run ticks made tried order gs) (sym same.same) (begun_here k order old are))
       begun_broken k title node fallible wide clock header order order_new old new low at header_is are (inr broken) =
           begun_next k title node fallible wide order_new new at
-          (λ rest. part_more made tried none (λ buffer. answers_of run buffer ++ rest buffer) (written (take k setting.plan.sinks)) (record { name = title; node = node }) clock header order order_new old new low header_is are broken)
+          (λ rest. part_more made tried none (λ buffer. answers_of run buffer ++ rest buffer) (written (take k setting.plan.sinks)) (record { name = title; node = node; wide = wide }) clock header order order_new old new low header_is are broken)
 
 pub written_next : (sinks : List SinkPlan) (k : ℕ) (name : List ℕ) (node : ℕ) (fallible wide : Bool) → slice_get sinks k ≡ Some (Output name node fallible wide)
-    → written (take (k + 1) sinks) ≡ written (take k sinks) ++ (record { name = name; node = node }) ∷ []
+    → written (take (k + 1) sinks) ≡ written (take k sinks) ++ (record { name = name; node = node; wide = wide }) ∷ []
 written_next sinks k name node fallible wide at = ap (λ n. written (take n sinks)) (add-one k) ∙ written_more sinks k name node fallible wide at
 
 pub written_still : (sinks : List SinkPlan) (k buffer node : ℕ) → slice_get sinks k ≡ Some (Feed buffer node) → written (take (k + 1) sinks) ≡ written (take k sinks)
@@ -227,23 +251,23 @@ written_still sinks k buffer node at = ap (λ n. written (take n sinks)) (add-on
 pub created_by : {S : Type 0} {So : Written → S → Type 0} (ys zs : List Written) (order : List ℕ) (groups : List (List S)) → zs ≡ ys → AreCreated So ys order groups → AreCreated So zs order groups
 created_by {S} {So} ys zs order groups same are = subst (λ ws. AreCreated So ws order groups) (sym same) are
 
-module _ {S : Type 0} (name held : S → Option (List ℕ)) (left : S → Option ℕ) (faults : S → ℕ) (files before : Option Files) (same : before ≡ files) (setting : Setting) (ticks : ℕ) (k : ℕ)
+module _ {S : Type 0} (name held : S → Option (List ℕ)) (left : S → Option ℕ) (debt : S → ℕ) (faults : S → ℕ) (files before : Option Files) (same : before ≡ files) (setting : Setting) (ticks : ℕ) (k : ℕ)
     (title said : List ℕ) (node : ℕ) (fallible wide : Bool) (at : slice_get setting.plan.sinks k ≡ Some (Output title node fallible wide)) (said_is : said ≡ title)
-    (clock : ℕ) (header : List ℕ) (body : ℕ) (order order_new : List ℕ) (old new : List (List S)) (low : clock < length old) (header_is : header ≡ header_for setting ticks node)
-    (are : AreCreated (IsReady name held left files setting ticks) (written (take k setting.plan.sinks)) order old) where
+    (clock : ℕ) (header : List ℕ) (body : ℕ) (order order_new : List ℕ) (old new : List (List S)) (low : clock < length old) (header_is : header ≡ header_for setting wide ticks node)
+    (are : AreCreated (IsReady name held left debt files setting ticks) (written (take k setting.plan.sinks)) order old) where
   -- after one more creation
-  pub next_ready : body ≡ body_size setting ticks node → WasCreated name held left before clock said header body order order_new old new
-      → AreCreated (IsReady name held left files setting ticks) (written (take (k + 1) setting.plan.sinks)) order_new new
+  pub next_ready : body ≡ body_size setting wide ticks node → WasCreated name held left debt before clock said header body order order_new old new
+      → AreCreated (IsReady name held left debt files setting ticks) (written (take (k + 1) setting.plan.sinks)) order_new new
   next_ready body_is was =
-      created_by (written (take k setting.plan.sinks) ++ (record { name = title; node = node }) ∷ []) (written (take (k + 1) setting.plan.sinks)) order_new new (written_next setting.plan.sinks k title node fallible wide at)
-      (ready_more name held left faults files setting ticks (written (take k setting.plan.sinks)) (record { name = title; node = node }) clock header body order order_new old new low header_is body_is are
-      (subst (λ f. WasCreated name held left f clock title header body order order_new old new) same (subst (λ t. WasCreated name held left before clock t header body order order_new old new) said_is was)))
+      created_by (written (take k setting.plan.sinks) ++ (record { name = title; node = node; wide = wide }) ∷ []) (written (take (k + 1) setting.plan.sinks)) order_new new (written_next setting.plan.sinks k title node fallible wide at)
+      (ready_more name held left debt faults files setting ticks (written (take k setting.plan.sinks)) (record { name = title; node = node; wide = wide }) clock header body order order_new old new low header_is body_is are
+      (subst (λ f. WasCreated name held left debt f clock title header body order order_new old new) same (subst (λ t. WasCreated name held left debt before clock t header body order order_new old new) said_is was)))
 
   -- after one that broke off
   pub broken_off : (run : Run) (made tried : ℕ → ℕ) → ((k : ℕ) → made k ≡ 0) → NoneCreated order order_new old new ⊎ WasBroken name held faults before clock said header order order_new old new
       → AreBegun name held faults files setting run ticks made tried order_new new
   broken_off run made tried none was =
-      begun_broken name held left faults files setting ticks run made tried none k title node fallible wide clock header order order_new old new low at header_is are
+      begun_broken name held left debt faults files setting ticks run made tried none k title node fallible wide clock header order order_new old new low at header_is are
       (subst (λ f. NoneCreated order order_new old new ⊎ WasBroken name held faults f clock title header order order_new old new) same
       (subst (λ t. NoneCreated order order_new old new ⊎ WasBroken name held faults before clock t header order order_new old new) said_is was))
 

@@ -9,7 +9,7 @@ use Rattle.clock_infer.specs.declared.clock_map.ClockMap.{ClockMap}
 use Rattle.clock_infer.specs.declared.clock_map.NodeClock.TheVariants.{Main}
 use Rattle.clock_infer.proofs.MapLaws as map_law
 use Rattle.frame_core.specs.Library.{Sounds}
-use Rattle.wav_io.specs.Header.{header_of}
+use Rattle.wav_io.specs.Header.{header_at}
 use Rattle.stations.specs.Findings.{IsFit, first_name, is_too_long, kind_at, name_of}
 use Rattle.station_render.specs.Renders.{AreMain}
 use Rattle.station_render.proofs.Lists.{within, got_is}
@@ -39,7 +39,7 @@ module _ (plan : Plan) (library : Sounds) (clocks : ClockMap) (ticks : ℕ) (fit
       (fit.plan_is.sinks k (Output name node fallible wide) (within plan.sinks k (Output name node fallible wide) at))
 
   pub header_fits : (k : ℕ) (name : List ℕ) (node : ℕ) (fallible wide : Bool) → slice_get plan.sinks k ≡ Some (Output name node fallible wide)
-      → is_none (header_of (kind_at plan node) plan.rate (ticks * plan.frame)) ≡ false
+      → is_none (header_at wide (kind_at plan node) plan.rate (ticks * plan.frame)) ≡ false
   header_fits k name node fallible wide at = none_such (is_too_long plan ticks) plan.sinks k (Output name node fallible wide) fit.none at
 
   -- the clock of an output is one of those that run

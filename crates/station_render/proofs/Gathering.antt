@@ -32,7 +32,7 @@ use Rattle.clock_threads.specs.Runs as threads
 use Rattle.stations.specs.Stations.{IsBegunIn, IsLawfulIn, made_in}
 use Rattle.station_render.specs.Sinks.{HasFailed}
 use Rattle.station_render.specs.Engines.{AreAt, IsAt, outs_of}
-use Rattle.station_render.specs.Runs.{RanAll, RanSome}
+use Rattle.station_render.specs.EngineRuns.{RanAll, RanSome}
 use Rattle.station_render.proofs.Lists.{got_is, mapped, within}
 
 -- no tick before the first turn

@@ -12,3 +12,6 @@ pub mod Ending
 pub mod Gathering
 pub mod Returning
 pub mod Tracing
+pub mod Leaving
+pub mod CueFiles
+pub mod Writing

@@ -10,11 +10,11 @@ use Rattle.stations.proofs.Making.{front_made, names_both, none_more, then_front
 use Rattle.station_render.proofs.Creating.{take_more, take_whole, taken_and_left}
 
 module _ (sinks : List SinkPlan) (k : ℕ) where
-  names_next : (name : List ℕ) (node : ℕ) (fallible wide : Bool) → slice_get sinks k ≡ Some (Output name node fallible wide) → names_in (take (k + 1) sinks) ≡ names_in (take k sinks) ++ name ∷ []
+  pub names_next : (name : List ℕ) (node : ℕ) (fallible wide : Bool) → slice_get sinks k ≡ Some (Output name node fallible wide) → names_in (take (k + 1) sinks) ≡ names_in (take k sinks) ++ name ∷ []
   names_next name node fallible wide at =
       ap (λ n. names_in (take n sinks)) (add-one k) ∙ ap names_in (take_more sinks k (Output name node fallible wide) at) ∙ names_both (take k sinks) (Output name node fallible wide ∷ [])
 
-  names_still : (buffer node : ℕ) → slice_get sinks k ≡ Some (Feed buffer node) → names_in (take (k + 1) sinks) ≡ names_in (take k sinks)
+  pub names_still : (buffer node : ℕ) → slice_get sinks k ≡ Some (Feed buffer node) → names_in (take (k + 1) sinks) ≡ names_in (take k sinks)
   names_still buffer node at =
       ap (λ n. names_in (take n sinks)) (add-one k) ∙ ap names_in (take_more sinks k (Feed buffer node) at) ∙ names_both (take k sinks) (Feed buffer node ∷ []) ∙ append-nil (names_in (take k sinks))
 

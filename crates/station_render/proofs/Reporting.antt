@@ -99,7 +99,7 @@ line_more station run plan ticks counts k name node fallible wide place at place
 
 pub one_place : (sinks : List SinkPlan) (k : ℕ) (name : List ℕ) (node : ℕ) (fallible wide : Bool) → slice_get sinks k ≡ Some (Output name node fallible wide)
     → length (written (take (k + 1) sinks)) ≡ length (written (take k sinks)) + 1
-one_place sinks k name node fallible wide at = ap length (written_next sinks k name node fallible wide at) ∙ length-append (written (take k sinks)) ((record { name = name; node = node }) ∷ [])
+one_place sinks k name node fallible wide at = ap length (written_next sinks k name node fallible wide at) ∙ length-append (written (take k sinks)) ((record { name = name; node = node; wide = wide }) ∷ [])
 
 -- the lines of a run's counts
 pub counted_are : (run : Run) (buffer : ℕ) (plans : List BufferPlan) → counted_lines buffer (counts_from run buffer plans) ≡ answered_lines run buffer plans

@@ -1,5 +1,5 @@
 -- What a run of all engines leaves in the sinks, once they are given back.
-use Rattle.std.proofs.Common.{◌≡◌, ◌<◌, ◌+◌, ◌∙◌, ◌++◌, ℕ, suc, List, [], ◌∷◌, length, map, get_or, slice_index_or, arith, refl, ap, sym, subst, false}
+use Rattle.std.proofs.Common.{◌≡◌, ◌<◌, ◌+◌, ◌∙◌, ◌++◌, ℕ, suc, List, [], ◌∷◌, length, map, get_or, slice_index_or, arith, refl, ap, sym, subst, Bool}
 use Rattle.std.specs.Prelude.{Option, Result, Ok, Err, OnOk, IfOk}
 use Rattle.liq_base.specs.Files.{Files}
 use Rattle.liq_base.specs.Pieces.{HasRoom}
@@ -20,18 +20,21 @@ use Rattle.rounds_run.proofs.Records.{run_of}
 use Rattle.clock_threads.specs.Runs as threads
 use Rattle.stations.specs.Findings.{IsFit}
 use Rattle.stations.specs.Stations.{Station, made_in, tried_in}
-use Rattle.stations.specs.Streams.{counts_in}
+use Rattle.stations.specs.Cues.{marks_if}
+use Rattle.stations.specs.Streams.{body_size, counts_in}
 use Rattle.station_render.specs.Sinks.{AreCreated, HasFailed}
-use Rattle.station_render.specs.Engines.{AreEmptyBelow, ArePast, outs_of}
-use Rattle.station_render.specs.Renders.{AreMain, IsPart, IsReady, IsWhole, body_size, order_of, setting_for, written}
-use Rattle.station_render.specs.Runs.{AreOpened, RanAll, RanPart, RanSome, RanWhole, counts_from}
+use Rattle.station_render.specs.Engines.{AreEmptyBelow, AreKeeping, ArePast, outs_of}
+use Rattle.station_render.specs.Marks.{cues_of}
+use Rattle.station_render.specs.Renders.{AreMain, IsPart, IsReady, IsWhole, order_of, setting_for, written}
+use Rattle.station_render.specs.EngineRuns.{AreOpened, RanAll, RanSome}
+use Rattle.station_render.specs.Runs.{RanPart, RanWhole, counts_from}
 use Rattle.station_render.specs.declared.rendered.Rendered.{Rendered}
 use Rattle.station_render.proofs.Lists.{got, got_is}
 use Rattle.station_render.proofs.Creating.{created_as, part_of_ready}
 use Rattle.station_render.proofs.Ending.{begun_all}
 use Rattle.station_render.proofs.Fits.{are_main}
 use Rattle.station_render.proofs.Gathering.{lawful_many, not_begun}
-use Rattle.station_render.proofs.Running.{LieInMain, all_part, all_whole, may_run, stand_after}
+use Rattle.station_render.proofs.Running.{AreAlike, LieInMain, all_part, all_whole, keep_after, may_run, stand_after}
 
 -- the counts of a record are those of its buffers
 counts_at : (run : Run) (b : ℕ) (xs : List (List Window)) (plans : List BufferPlan) → length xs ≡ length plans → ((k : ℕ) → slice_index_or run.buffers (b + k) [] ≡ slice_index_or xs k [])
@@ -49,43 +52,44 @@ module _ (plan : Plan) (library : Sounds) (clocks : ClockMap) (start ticks : ℕ
   abbrev setting : Setting
   setting = setting_for plan library clocks start
 
-  abbrev station : (window : Option ℕ) → (trace : Option (List ℕ)) → Station
-  station window trace = record { plan = plan; library = library; clocks = clocks; start = start; ticks = ticks; window = window; trace = trace; cues = false }
+  abbrev station : (window : Option ℕ) → (trace : Option (List ℕ)) → (cues : Bool) → Station
+  station window trace cues = record { plan = plan; library = library; clocks = clocks; start = start; ticks = ticks; window = window; trace = trace; cues = cues }
 
   pub in_main : AreMain plan clocks → LieInMain setting plan.sinks
   in_main main k name node fallible wide at = let found = main k name node fallible wide at in (found.0, got_is clocks.of node (Main found.0) (Main 0) found.2)
 
   -- no engine was made, and the sinks are as they were
-  pub starved : {S : Type 0} (name held : S → Option (List ℕ)) (left : S → Option ℕ) (faults : S → ℕ) (groups : List (List S)) (files : Option Files) (window : Option ℕ) (trace : Option (List ℕ))
-      → AreCreated (IsReady name held left files setting ticks) (written plan.sinks) (order_of setting (written plan.sinks)) groups
-      → RanPart name held faults files (station window trace) (order_of setting (written plan.sinks)) groups
-  starved name held left faults groups files window trace ready =
+  pub starved : {S : Type 0} (name held : S → Option (List ℕ)) (left : S → Option ℕ) (debt faults : S → ℕ) (groups : List (List S)) (files : Option Files) (window : Option ℕ) (trace : Option (List ℕ)) (cues : Bool)
+      → AreCreated (IsReady name held left debt files setting ticks) (written plan.sinks) (order_of setting (written plan.sinks)) groups
+      → RanPart name held faults files (station window trace cues) (order_of setting (written plan.sinks)) groups
+  starved name held left debt faults groups files window trace cues ready =
       let begun = not_begun setting clocks.running ticks window in let none = run_of (length plan.buffers) [] in
       let made = made_in setting clocks.running ticks window none begun.0 in let tried = tried_in setting clocks.running ticks window none begun.0 in
       record {
         run = none;
         begun = begun.0;
         parts = begun_all name held faults files setting none ticks made tried (order_of setting (written plan.sinks)) groups
-            (λ rest. created_as (IsReady name held left files setting ticks) (IsPart name held faults files (setting_then setting none rest) ticks made tried)
-            (part_of_ready name held left faults files setting ticks made tried begun.1 (λ buffer. answers_of none buffer ++ rest buffer))
+            (λ rest. created_as (IsReady name held left debt files setting ticks) (IsPart name held faults files (setting_then setting none rest) ticks made tried)
+            (part_of_ready name held left debt faults files setting ticks made tried begun.1 (λ buffer. answers_of none buffer ++ rest buffer))
             (written plan.sinks) (order_of setting (written plan.sinks)) groups ready);
       }
 
 -- the same engines in another place
-pub opened_at : {S : Type 0} {name held : S → Option (List ℕ)} {left : S → Option ℕ} {files : Option Files} {setting : Setting} {clocks : ClockMap} {ticks : ℕ} {order : List ℕ} {engines old : List (ClockEngine S)} {groups : List (List S)}
-    → old ≡ engines → AreOpened name held left files setting clocks ticks order engines groups → AreOpened name held left files setting clocks ticks order old groups
-opened_at {S} {name} {held} {left} {files} {setting} {clocks} {ticks} {order} {engines} {old} {groups} same opened = subst (λ es. AreOpened name held left files setting clocks ticks order es groups) (sym same) opened
+pub opened_at : {S : Type 0} {name held : S → Option (List ℕ)} {left : S → Option ℕ} {debt : S → ℕ} {files : Option Files} {setting : Setting} {clocks : ClockMap} {ticks : ℕ} {order : List ℕ} {engines old : List (ClockEngine S)} {groups : List (List S)}
+    → old ≡ engines → AreOpened name held left debt files setting clocks ticks order engines groups → AreOpened name held left debt files setting clocks ticks order old groups
+opened_at {S} {name} {held} {left} {debt} {files} {setting} {clocks} {ticks} {order} {engines} {old} {groups} same opened = subst (λ es. AreOpened name held left debt files setting clocks ticks order es groups) (sym same) opened
 
-module _ {plan : Plan} {library : Sounds} {clocks : ClockMap} {start ticks : ℕ} {S : Type 0} {name held : S → Option (List ℕ)} {left : S → Option ℕ} {files : Option Files} {order : List ℕ}
-    {old : List (ClockEngine S)} {groups : List (List S)} (fit : IsFit plan library clocks ticks) (opened : AreOpened name held left files (setting_for plan library clocks start) clocks ticks order old groups) where
+module _ {plan : Plan} {library : Sounds} {clocks : ClockMap} {start ticks : ℕ} {S : Type 0} {name title held : S → Option (List ℕ)} {left : S → Option ℕ} {debt : S → ℕ} {files : Option Files} {order : List ℕ}
+    {old : List (ClockEngine S)} {groups : List (List S)} (alike : AreAlike name title debt) (fit : IsFit plan library clocks ticks)
+    (opened : AreOpened title held left debt files (setting_for plan library clocks start) clocks ticks order old groups) where
   abbrev world : Setting
   world = setting_for plan library clocks start
 
   mains : LieInMain world plan.sinks
   mains = in_main plan library clocks start ticks (are_main plan library clocks ticks fit)
 
-  rooms : AreCreated (λ output sink. HasRoom (left sink) (body_size world ticks output.node)) (written plan.sinks) (order_of world (written plan.sinks)) (outs_of old)
-  rooms = created_as (IsReady name held left files world ticks) (λ output sink. HasRoom (left sink) (body_size world ticks output.node)) (λ output sink is. is.room)
+  rooms : AreCreated (λ output sink. HasRoom (left sink) (body_size world output.wide ticks output.node)) (written plan.sinks) (order_of world (written plan.sinks)) (outs_of old)
+  rooms = created_as (IsReady title held left debt files world ticks) (λ output sink. HasRoom (left sink) (body_size world output.wide ticks output.node)) (λ output sink is. is.room)
       (written plan.sinks) (order_of world (written plan.sinks)) (outs_of old) opened.ready
 
   -- the engines may begin, in rounds and by threads
@@ -141,24 +145,29 @@ module _ {plan : Plan} {library : Sounds} {clocks : ClockMap} {start ticks : ℕ
           → (other : Setting) × (meant : Setting) × (t : ℕ) × (other.plan ≡ plan) × (other.clocks ≡ clocks.of) × ArePast other meant t last
       stand_so ran = (world, setting_in world ran.run, ticks, refl, refl, stand ran)
 
+      -- and keep their marks, where these are wanted
+      pub keep_so : {counts : List Counts} {logs : List (List Answers)} (wanted : Bool) → AreKeeping wanted old → RanAll held name faults world clocks.running ticks window old new counts logs → AreKeeping wanted last
+      keep_so wanted keep ran = subst (AreKeeping wanted) (sym last_is) (keep_after held name faults (setting_in world ran.run) ticks wanted old new keep ran.engines)
+
       module _ {groups_new : List (List S)} (back : groups_new ≡ outs_of last) where
-        pub part_back : {trace : Option (List ℕ)} {end : End} → RanSome held name faults world clocks.running ticks window old new end → RanPart name held faults files (record { plan = plan; library = library; clocks = clocks; start = start; ticks = ticks; window = window; trace = trace; cues = false }) order groups_new
+        pub part_back : {trace : Option (List ℕ)} {cues : Bool} {end : End} → RanSome held name faults world clocks.running ticks window old new end → RanPart title held faults files (record { plan = plan; library = library; clocks = clocks; start = start; ticks = ticks; window = window; trace = trace; cues = cues }) order groups_new
         part_back some = record {
           run = some.run;
           begun = some.begun;
-          parts = begun_all name held faults files world some.run ticks (made_in world clocks.running ticks window some.run some.begun) (tried_in world clocks.running ticks window some.run some.begun) order groups_new
-              (λ rest. subst (λ (z : List ℕ × List (List S)). AreCreated (IsPart name held faults files (setting_then world some.run rest) ticks (made_in world clocks.running ticks window some.run some.begun) (tried_in world clocks.running ticks window some.run some.begun)) (written plan.sinks) z.0 z.1)
+          parts = begun_all title held faults files world some.run ticks (made_in world clocks.running ticks window some.run some.begun) (tried_in world clocks.running ticks window some.run some.begun) order groups_new
+              (λ rest. subst (λ (z : List ℕ × List (List S)). AreCreated (IsPart title held faults files (setting_then world some.run rest) ticks (made_in world clocks.running ticks window some.run some.begun) (tried_in world clocks.running ticks window some.run some.begun)) (written plan.sinks) z.0 z.1)
               (λ i. (sym opened.order_is i, sym (groups_are groups_new back) i))
-              (all_part world ticks mains name held left faults files old new opened.at opened.ready some.run (made_in world clocks.running ticks window some.run some.begun) (tried_in world clocks.running ticks window some.run some.begun) some.part rest));
+              (all_part world ticks mains name title held left debt faults alike files old new opened.at opened.ready some.run (made_in world clocks.running ticks window some.run some.begun) (tried_in world clocks.running ticks window some.run some.begun) some.part rest));
         }
 
         pub failed_back : {end : End} → RanSome held name faults world clocks.running ticks window old new end → (clock sink : ℕ) → end ≡ Write clock sink → HasFailed faults groups_new
         failed_back some clock sink is = subst (λ gs. HasFailed faults gs) (sym (groups_are groups_new back)) (some.failed clock sink is)
 
         -- where all ticks were made, this is told of them
-        whole_back : {trace : Option (List ℕ)} {counts : List Counts} {logs : List (List Answers)} (ran : RanAll held name faults world clocks.running ticks window old new counts logs) (rendered : Rendered)
-            → rendered.counts.items ≡ counts → rendered.logs.items ≡ logs → rendered.gaps.items ≡ counts_in (setting_in world ran.run) ticks plan.sinks → RanWhole name held files (record { plan = plan; library = library; clocks = clocks; start = start; ticks = ticks; window = window; trace = trace; cues = false }) order groups_new rendered
-        whole_back ran rendered counts_are logs_are gaps_are = record {
+        whole_back : {trace : Option (List ℕ)} {cues : Bool} {counts : List Counts} {logs : List (List Answers)} (ran : RanAll held name faults world clocks.running ticks window old new counts logs) (rendered : Rendered)
+            → rendered.counts.items ≡ counts → rendered.logs.items ≡ logs → rendered.gaps.items ≡ counts_in (setting_in world ran.run) ticks plan.sinks
+            → cues_of rendered.cues.items ≡ marks_if cues (setting_in world ran.run) ticks plan.sinks → RanWhole title held debt files (record { plan = plan; library = library; clocks = clocks; start = start; ticks = ticks; window = window; trace = trace; cues = cues }) order groups_new rendered
+        whole_back ran rendered counts_are logs_are gaps_are cues_are = record {
           run = ran.run;
           lawful = ran.lawful;
           told = record {
@@ -166,16 +175,18 @@ module _ {plan : Plan} {library : Sounds} {clocks : ClockMap} {start ticks : ℕ
             counts_are = counts_are ∙ ran.counts_are
                 ∙ counts_at ran.run 0 ran.run.buffers plan.buffers (lawful_many world clocks.running ticks window ran.run ran.lawful) (λ k. let same : 0 + k ≡ k = omega arith in ap (λ n. slice_index_or ran.run.buffers n []) same);
             logs_are = logs_are ∙ ran.logs_are;
+            cues_are = cues_are;
           };
-          whole = subst (λ (z : List ℕ × List (List S)). AreCreated (IsWhole name held files (setting_in world ran.run) ticks) (written plan.sinks) z.0 z.1) (λ i. (sym opened.order_is i, sym (groups_are groups_new back) i))
-              (all_whole world ticks mains name held left faults files old new opened.at opened.ready (answers_of ran.run) ran.engines);
+          whole = subst (λ (z : List ℕ × List (List S)). AreCreated (IsWhole title held debt files (setting_in world ran.run) ticks) (written plan.sinks) z.0 z.1) (λ i. (sym opened.order_is i, sym (groups_are groups_new back) i))
+              (all_whole world ticks mains name title held left debt faults alike files old new opened.at opened.ready (answers_of ran.run) ran.engines);
         }
 
-        pub whole_told : (trace : Option (List ℕ)) {counts : List Counts} {logs : List (List Answers)} {E Done : Type 0} (result : Result Rendered E)
+        pub whole_told : (trace : Option (List ℕ)) (cues : Bool) {counts : List Counts} {logs : List (List Answers)} {E Done : Type 0} (result : Result Rendered E)
             → (Done → RanAll held name faults world clocks.running ticks window old new counts logs) → OnOk result Done
             → IfOk result (λ rendered. (other meant : Setting) (t : ℕ) → other.plan ≡ plan → other.clocks ≡ clocks.of → ArePast other meant t last → rendered.gaps.items ≡ counts_in meant t plan.sinks)
-            → IfOk result (λ rendered. rendered.counts.items ≡ counts) → IfOk result (λ rendered. rendered.logs.items ≡ logs) → IfOk result (RanWhole name held files (record { plan = plan; library = library; clocks = clocks; start = start; ticks = ticks; window = window; trace = trace; cues = false }) order groups_new)
-        whole_told trace (Ok rendered) all done gaps counts_are logs_are =
+            → IfOk result (λ rendered. (other meant : Setting) (t : ℕ) → other.plan ≡ plan → other.clocks ≡ clocks.of → ArePast other meant t last → cues_of rendered.cues.items ≡ marks_if cues meant t plan.sinks)
+            → IfOk result (λ rendered. rendered.counts.items ≡ counts) → IfOk result (λ rendered. rendered.logs.items ≡ logs) → IfOk result (RanWhole title held debt files (record { plan = plan; library = library; clocks = clocks; start = start; ticks = ticks; window = window; trace = trace; cues = cues }) order groups_new)
+        whole_told trace cues (Ok rendered) all done gaps marks counts_are logs_are =
             let ran = all done in
-            whole_back ran rendered counts_are logs_are (gaps world (setting_in world ran.run) ticks refl refl (stand ran))
-        whole_told trace (Err fault) all done gaps counts_are logs_are = tt
+            whole_back ran rendered counts_are logs_are (gaps world (setting_in world ran.run) ticks refl refl (stand ran)) (marks world (setting_in world ran.run) ticks refl refl (stand ran))
+        whole_told trace cues (Err fault) all done gaps marks counts_are logs_are = tt

@@ -1,7 +1,8 @@
 -- What a run leaves in the sinks of a clock, place by place.
-use Rattle.std.proofs.Common.{◌≡◌, ◌<◌, ◌∙◌, ◌++◌, ℕ, zero, suc, Bool, true, false, List, [], ◌∷◌, length, slice_get, get_or, nat_eq, arith, refl, ap, sym, subst, append_assoc, inl, if◌then◌else◌}
+use Rattle.std.proofs.Common.{◌≡◌, ◌<◌, ◌+◌, ◌*◌, ◌∙◌, ◌++◌, ℕ, zero, suc, Bool, true, false, List, [], ◌∷◌, length, map, slice_get, get_or, nat_eq, arith, refl, ap, sym, subst, append_assoc, inl, if◌then◌else◌}
 use Rattle.std.specs.Prelude.{Option, Some, None}
 use Rattle.std.specs.List.{AllZip}
+use Rattle.std.specs.Option.{option_map_or}
 use Rattle.std.proofs.lemmas.Bool.{eq-eqb, false_from_ne_true, eqb-true}
 use Rattle.liq_base.specs.Files.{Files}
 use Rattle.liq_base.specs.Pieces.{HasRoom, IsPrefix, grown}
@@ -10,23 +11,25 @@ use Rattle.plan_core.specs.declared.sink.SinkPlan.{SinkPlan}
 use Rattle.plan_core.specs.declared.sink.SinkPlan.TheVariants.{Output, Feed}
 use Rattle.clock_infer.specs.declared.clock_map.NodeClock.TheVariants.{Main}
 use Rattle.stream_meaning.specs.Instants.{Setting, answered, clock_of, lies_in, same_clock}
-use Rattle.stream_meaning.specs.Sinks.{gaps, ticks_bytes}
+use Rattle.stream_meaning.specs.Sinks.{block_length, cues, gaps, is_wide, kind_of, ticks_bytes, wide_sink}
 use Rattle.op_leaf.specs.Readers.{Answer}
 use Rattle.clock_infer.specs.declared.clock_map.ClockMap.{ClockMap}
 use Rattle.stream_meaning.proofs.Existence.{same_clock-true}
 use Rattle.node_states.specs.Ticks.{IsOutput, with_rest}
 use Rattle.clock_engine.specs.declared.engine.ClockEngine.{ClockEngine}
 use Rattle.clock_engine.specs.Engines.{EngineStands, held_in, held_of, outputs_from, outputs_of, setting_of}
-use Rattle.clock_engine.specs.Ticks.{HaveTicksRoom}
+use Rattle.clock_engine.specs.Ticks.{HaveTicksRoom, piece_size}
+use Rattle.clock_engine.specs.Cues.{mark_of}
+use Rattle.clock_engine.specs.declared.cues.CueMark.{CueMark}
 use Rattle.clock_engine.proofs.Numbered.{are_there}
 use Rattle.rounds_run.specs.Rounds.{AreEngines, HasRunPart, HaveRunPart}
 use Rattle.rounds_run.specs.Runs.{HasRunTicks, HaveRunTicks}
 use Rattle.run_records.specs.Records.{Run, setting_then}
-use Rattle.stations.specs.Streams.{header_for}
+use Rattle.stations.specs.Streams.{body_size, header_for}
 use Rattle.station_render.specs.Sinks.{AreCreated, of_clock}
-use Rattle.station_render.specs.Engines.{AreAt, ArePast, IsAt, IsPast, outs_of}
+use Rattle.station_render.specs.Engines.{AreAt, AreKeeping, ArePast, IsAt, IsPast, outs_of}
 use Rattle.run_records.specs.Buffers.{main_of as main_clock, main_within}
-use Rattle.station_render.specs.Renders.{IsPart, IsReady, IsWhole, Written, body_size, main_of, order_of, written}
+use Rattle.station_render.specs.Renders.{IsPart, IsReady, IsWhole, Written, main_of, order_of, written}
 use Rattle.station_render.proofs.Lists.{got_is, mapped, many_mapped, unmapped, within}
 use Rattle.station_render.proofs.Dealing.{zip_at, zip_from, zip_size}
 use Rattle.station_render.proofs.Closing.{in_list}
@@ -35,27 +38,43 @@ use Rattle.station_render.proofs.Closing.{in_list}
 abbrev pub LieInMain : Setting → List SinkPlan → Type 0
 LieInMain setting sinks = (k : ℕ) (name : List ℕ) (node : ℕ) (fallible wide : Bool) → slice_get sinks k ≡ Some (Output name node fallible wide) → (m : ℕ) × (clock_of setting node ≡ Main m)
 
-abbrev same_node : Written → ℕ × ℕ → Type 0
-same_node output pair = output.node ≡ pair.1
+-- an output has this number and node
+abbrev same_output : Setting → Written → ℕ × ℕ → Type 0
+same_output setting output pair = (output.node ≡ pair.1) × (is_wide setting pair.0 ≡ output.wide)
+
+-- these sinks are those of a plan from number i on
+abbrev StandFrom : Setting → (i : ℕ) → List SinkPlan → Type 0
+StandFrom setting i sinks = (k : ℕ) (sink : SinkPlan) → slice_get sinks k ≡ Some sink → slice_get setting.plan.sinks (i + k) ≡ Some sink
+
+stand_next : (setting : Setting) (i : ℕ) (first : SinkPlan) (sinks : List SinkPlan) → StandFrom setting i (first ∷ sinks) → StandFrom setting (suc i) sinks
+stand_next setting i first sinks from k sink at = let same : i + suc k ≡ suc i + k = omega arith in ap (slice_get setting.plan.sinks) (sym same) ∙ from (suc k) sink at
+
+pub stand_all : (setting : Setting) → StandFrom setting 0 setting.plan.sinks
+stand_all setting k sink at = let same : 0 + k ≡ k = omega arith in ap (slice_get setting.plan.sinks) same ∙ at
+
+width_there : (setting : Setting) (i : ℕ) (name : List ℕ) (node : ℕ) (fallible wide : Bool) → slice_get setting.plan.sinks i ≡ Some (Output name node fallible wide) → is_wide setting i ≡ wide
+width_there setting i name node fallible wide at = ap (λ sink. option_map_or wide_sink sink false) at
 
 -- the outputs of a clock stand in one order
-pub same_places : (setting : Setting) (m i : ℕ) (sinks : List SinkPlan) → LieInMain setting sinks
-    → AllZip same_node (of_clock m (order_of setting (written sinks)) (written sinks)) (outputs_from setting m i sinks)
-same_places setting m i [] main = tt
-same_places setting m i (Output name node fallible wide ∷ sinks) main =
+pub same_places : (setting : Setting) (m i : ℕ) (sinks : List SinkPlan) → LieInMain setting sinks → StandFrom setting i sinks
+    → AllZip (same_output setting) (of_clock m (order_of setting (written sinks)) (written sinks)) (outputs_from setting m i sinks)
+same_places setting m i [] main from = tt
+same_places setting m i (Output name node fallible wide ∷ sinks) main from =
     let in_clock = main 0 name node fallible wide refl in
-    subst (λ clock. AllZip same_node
-    (if nat_eq (main_of clock) m then (record { name = name; node = node }) ∷ of_clock m (order_of setting (written sinks)) (written sinks) else of_clock m (order_of setting (written sinks)) (written sinks))
+    let here : i + 0 ≡ i = omega arith in
+    let width = width_there setting i name node fallible wide (ap (slice_get setting.plan.sinks) (sym here) ∙ from 0 (Output name node fallible wide) refl) in
+    subst (λ clock. AllZip (same_output setting)
+    (if nat_eq (main_of clock) m then (record { name = name; node = node; wide = wide }) ∷ of_clock m (order_of setting (written sinks)) (written sinks) else of_clock m (order_of setting (written sinks)) (written sinks))
     (if same_clock clock (Main m) then (i, node) ∷ outputs_from setting m (suc i) sinks else outputs_from setting m (suc i) sinks))
-    (sym in_clock.1) (by_test (nat_eq in_clock.0 m) (same_places setting m (suc i) sinks (λ k. main (suc k))))
+    (sym in_clock.1) (by_test width (nat_eq in_clock.0 m) (same_places setting m (suc i) sinks (λ k. main (suc k)) (stand_next setting i (Output name node fallible wide) sinks from)))
   where
-    by_test : (b : Bool) → AllZip same_node (of_clock m (order_of setting (written sinks)) (written sinks)) (outputs_from setting m (suc i) sinks)
-        → AllZip same_node
-        (if b then (record { name = name; node = node }) ∷ of_clock m (order_of setting (written sinks)) (written sinks) else of_clock m (order_of setting (written sinks)) (written sinks))
+    by_test : is_wide setting i ≡ wide → (b : Bool) → AllZip (same_output setting) (of_clock m (order_of setting (written sinks)) (written sinks)) (outputs_from setting m (suc i) sinks)
+        → AllZip (same_output setting)
+        (if b then (record { name = name; node = node; wide = wide }) ∷ of_clock m (order_of setting (written sinks)) (written sinks) else of_clock m (order_of setting (written sinks)) (written sinks))
         (if b then (i, node) ∷ outputs_from setting m (suc i) sinks else outputs_from setting m (suc i) sinks)
-    by_test true rest = (refl, rest)
-    by_test false rest = rest
-same_places setting m i (Feed buffer node ∷ sinks) main = same_places setting m (suc i) sinks (λ k. main (suc k))
+    by_test width true rest = ((refl, width), rest)
+    by_test width false rest = rest
+same_places setting m i (Feed buffer node ∷ sinks) main from = same_places setting m (suc i) sinks (λ k. main (suc k)) (stand_next setting i (Feed buffer node) sinks from)
 
 -- the numbers of the outputs rise
 abbrev Rising : List (ℕ × ℕ) → Type 0
@@ -98,17 +117,22 @@ record IsPlaced (setting : Setting) (m j : ℕ) (output : Written) : Type 0 wher
   sink : ℕ
   there : slice_get (outputs_of setting m) j ≡ Some (sink, output.node)
   is_output : IsOutput setting m sink output.node
+  wide_is : is_output.wide ≡ output.wide
+  width_is : is_wide setting sink ≡ output.wide
   before : (k : ℕ) (other : ℕ × ℕ) → k < j → slice_get (outputs_of setting m) k ≡ Some other → nat_eq other.0 sink ≡ false
 
 placed_at : (setting : Setting) (m : ℕ) → LieInMain setting setting.plan.sinks → (j : ℕ) (output : Written)
     → slice_get (of_clock m (order_of setting (written setting.plan.sinks)) (written setting.plan.sinks)) j ≡ Some output → IsPlaced setting m j output
 placed_at setting m main j output at =
-    let places = same_places setting m 0 setting.plan.sinks main in
-    let size = zip_size same_node (of_clock m (order_of setting (written setting.plan.sinks)) (written setting.plan.sinks)) (outputs_of setting m) places in
+    let places = same_places setting m 0 setting.plan.sinks main (stand_all setting) in
+    let size = zip_size (same_output setting) (of_clock m (order_of setting (written setting.plan.sinks)) (written setting.plan.sinks)) (outputs_of setting m) places in
     let low = within (of_clock m (order_of setting (written setting.plan.sinks)) (written setting.plan.sinks)) j output at in
     let found = in_list (outputs_of setting m) j (omega (arith, size, low)) in
-    let node_is : output.node ≡ found.0.1 = zip_at same_node (of_clock m (order_of setting (written setting.plan.sinks)) (written setting.plan.sinks)) (outputs_of setting m) j output found.0 places at found.1 in
+    let same = zip_at (same_output setting) (of_clock m (order_of setting (written setting.plan.sinks)) (written setting.plan.sinks)) (outputs_of setting m) j output found.0 places at found.1 in
+    let node_is : output.node ≡ found.0.1 = same.0 in
     let there = are_there setting m 0 setting.plan.sinks j found.0 found.1 in
+    let stands : slice_get setting.plan.sinks found.0.0 ≡ Some (Output there.name output.node there.fallible there.wide) =
+    ap (slice_get setting.plan.sinks) (let n = there.number in omega (arith, n)) ∙ there.there ∙ ap (λ node. Some (Output there.name node there.fallible there.wide)) (sym node_is) in
     record {
       sink = found.0.0;
       there = found.1 ∙ ap (λ node. Some (found.0.0, node)) (sym node_is);
@@ -116,9 +140,11 @@ placed_at setting m main j output at =
         name = there.name;
         fallible = there.fallible;
         wide = there.wide;
-        there = ap (slice_get setting.plan.sinks) (let n = there.number in omega (arith, n)) ∙ there.there ∙ ap (λ node. Some (Output there.name node there.fallible there.wide)) (sym node_is);
+        there = stands;
         in_clock = ap (clock_of setting) node_is ∙ same_clock-true (clock_of setting found.0.1) (Main m) there.inside;
       };
+      wide_is = sym (width_there setting found.0.0 there.name output.node there.fallible there.wide stands) ∙ same.1;
+      width_is = same.1;
       before = λ k other lower at_other.
           let less : other.0 < found.0.0 = rising setting m 0 setting.plan.sinks k j other found.0 lower at_other found.1 in
           false_from_ne_true (nat_eq other.0 found.0.0) (λ e. let same : other.0 ≡ found.0.0 = eqb-true other.0 found.0.0 e in omega (arith, less, same));
@@ -133,11 +159,12 @@ module _ {S : Type 0} (held name : S → Option (List ℕ)) (faults : S → ℕ)
 
   held_both : setting_of new.parts ≡ here → new.parts.clock ≡ old.parts.clock → (j : ℕ) (output : Written) (before after : S)
       → slice_get mine j ≡ Some output → slice_get old.outs j ≡ Some before → slice_get new.outs j ≡ Some after
-      → (sink : ℕ) × IsOutput here old.parts.clock sink output.node × (held_of held old sink ≡ held before) × (held_of held new sink ≡ held after)
+      → (sink : ℕ) × (is : IsOutput here old.parts.clock sink output.node) × (is.wide ≡ output.wide) × (held_of held old sink ≡ held before) × (held_of held new sink ≡ held after)
   held_both over clock j output before after at was is =
       let place = placed_at here old.parts.clock main j output at in (
         place.sink,
         place.is_output,
+        place.wide_is,
         held_at held (outputs_of here old.parts.clock) old.outs j (place.sink, output.node) before place.before place.there was,
         ap (λ s. held_in held (outputs_of s new.parts.clock) new.outs place.sink) over
             ∙ ap (λ c. held_in held (outputs_of here c) new.outs place.sink) clock
@@ -147,27 +174,33 @@ module _ {S : Type 0} (held name : S → Option (List ℕ)) (faults : S → ℕ)
   -- after all ticks
   pub whole_at : (world : Setting) → HasRunTicks held name faults world ticks old new → (j : ℕ) (output : Written) (before after : S)
       → slice_get mine j ≡ Some output → slice_get old.outs j ≡ Some before → slice_get new.outs j ≡ Some after
-      → (name after ≡ name before) × (held after ≡ grown (ticks_bytes world output.node ticks) (held before))
+      → (name after ≡ name before) × (held after ≡ grown (ticks_bytes world output.wide output.node ticks) (held before))
   whole_at world run j output before after at was is =
       let both = held_both run.over run.clock j output before after at was is in
-      ((run.kept.each j before after was is).0, sym both.3 ∙ run.grew both.0 output.node both.1 ∙ ap (grown (ticks_bytes world output.node ticks)) both.2)
+      ((run.kept.each j before after was is).0,
+      sym both.4 ∙ run.grew both.0 output.node both.1 ∙ ap (λ w. grown (ticks_bytes world w output.node ticks) (held_of held old both.0)) both.2 ∙ ap (grown (ticks_bytes world output.wide output.node ticks)) both.3)
 
   -- after a part of them
   pub part_at : (worlds : (ℕ → List Answer) → Setting) (least most : ℕ) → HasRunPart held name faults worlds least most old new → (rest : ℕ → List Answer) (j : ℕ) (output : Written) (before after : S)
       → slice_get mine j ≡ Some output → slice_get old.outs j ≡ Some before → slice_get new.outs j ≡ Some after
       → (name after ≡ name before)
-      × ((bytes : List ℕ) × IsPrefix (ticks_bytes (worlds rest) output.node least) bytes × IsPrefix bytes (ticks_bytes (worlds rest) output.node most) × (held after ≡ grown bytes (held before)))
+      × ((bytes : List ℕ) × IsPrefix (ticks_bytes (worlds rest) output.wide output.node least) bytes × IsPrefix bytes (ticks_bytes (worlds rest) output.wide output.node most) × (held after ≡ grown bytes (held before)))
   part_at worlds least most run rest j output before after at was is =
       let both = held_both run.setting run.clock j output before after at was is in
       let part = run.part rest both.0 output.node both.1 in
-      ((run.kept.each j before after was is).0, (part.0, part.1, part.2, sym both.3 ∙ part.3 ∙ ap (grown part.0) both.2))
+      ((run.kept.each j before after was is).0, (
+        part.0,
+        subst (λ w. IsPrefix (ticks_bytes (worlds rest) w output.node least) part.0) both.2 part.1,
+        subst (λ w. IsPrefix part.0 (ticks_bytes (worlds rest) w output.node most)) both.2 part.2,
+        sym both.4 ∙ part.3 ∙ ap (grown part.0) both.3,
+      ))
 
   -- the output lies in this clock
   pub lies_here : (j : ℕ) (output : Written) → slice_get mine j ≡ Some output → clock_of here output.node ≡ Main old.parts.clock
   lies_here j output at = (placed_at here old.parts.clock main j output at).is_output.in_clock
 
   -- the room of each sink is that for its output
-  pub rooms_at : (left : S → Option ℕ) → ((j : ℕ) (output : Written) (out : S) → slice_get mine j ≡ Some output → slice_get old.outs j ≡ Some out → HasRoom (left out) (body_size here ticks output.node))
+  pub rooms_at : (left : S → Option ℕ) → ((j : ℕ) (output : Written) (out : S) → slice_get mine j ≡ Some output → slice_get old.outs j ≡ Some out → HasRoom (left out) (body_size here output.wide ticks output.node))
       → length old.outs ≡ length mine → HaveTicksRoom left old.parts old.outs ticks
   rooms_at left each size = record {
     each = λ k sink node out at there.
@@ -175,12 +208,18 @@ module _ {S : Type 0} (held name : S → Option (List ℕ)) (faults : S → ℕ)
         let found = in_list mine k (omega (arith, size, low)) in
         let place = placed_at here old.parts.clock main k found.0 found.1 in
         let pairs : (place.sink, found.0.node) ≡ (sink, node) = (let e : Some (place.sink, found.0.node) ≡ Some (sink, node) = sym place.there ∙ at in cc) in
-        subst (λ n. HasRoom (left out) (body_size here ticks n)) (ap (λ (p : ℕ × ℕ). p.1) pairs) (each k found.0 out found.1 there);
+        let width : is_wide here sink ≡ found.0.wide = ap (λ (p : ℕ × ℕ). is_wide here p.0) (sym pairs) ∙ place.width_is in
+        subst (λ n. HasRoom (left out) (ticks * piece_size here sink n)) (ap (λ (p : ℕ × ℕ). p.1) pairs)
+        (subst (λ w. HasRoom (left out) (ticks * (here.plan.frame * block_length w (kind_of here found.0.node)))) (sym width) (each k found.0 out found.1 there));
   }
 
 -- a front stays one behind a header
 headed : (header part rest whole : List ℕ) → whole ≡ part ++ rest → header ++ whole ≡ header ++ part ++ rest
 headed header part rest whole is = ap (λ b. header ++ b) is ∙ sym (append_assoc header part rest)
+
+-- sinks that are known by one name have one title, and owe as much
+abbrev pub AreAlike : {S : Type 0} → (name title : S → Option (List ℕ)) → (debt : S → ℕ) → Type 0
+AreAlike name title debt = (one other : _) → name one ≡ name other → (title one ≡ title other) × (debt one ≡ debt other)
 
 -- the sinks of all clocks
 module _ {S : Type 0} (setting : Setting) (ticks : ℕ) (main : LieInMain setting setting.plan.sinks) where
@@ -192,7 +231,7 @@ module _ {S : Type 0} (setting : Setting) (ticks : ℕ) (main : LieInMain settin
       → length group ≡ length (outputs_of setting m)
   many_sinks So groups are m group at =
       zip_size So (of_clock m (order_of setting (written setting.plan.sinks)) (written setting.plan.sinks)) group (are.each m group at)
-      ∙ sym (zip_size same_node (of_clock m (order_of setting (written setting.plan.sinks)) (written setting.plan.sinks)) (outputs_of setting m) (same_places setting m 0 setting.plan.sinks main))
+      ∙ sym (zip_size (same_output setting) (of_clock m (order_of setting (written setting.plan.sinks)) (written setting.plan.sinks)) (outputs_of setting m) (same_places setting m 0 setting.plan.sinks main (stand_all setting)))
 
   mine_is : (engine : ClockEngine S) (m : ℕ) → IsAt setting m engine → of_clock engine.parts.clock (order_of (setting_of engine.parts) (written (setting_of engine.parts).plan.sinks)) (written (setting_of engine.parts).plan.sinks)
       ≡ of_clock m (order_of setting (written setting.plan.sinks)) (written setting.plan.sinks)
@@ -200,7 +239,7 @@ module _ {S : Type 0} (setting : Setting) (ticks : ℕ) (main : LieInMain settin
 
   -- the engines may run
   pub may_run : (left : S → Option ℕ) (engines : List (ClockEngine S)) → AreAt setting engines
-      → AreCreated (λ output sink. HasRoom (left sink) (body_size setting ticks output.node)) (written setting.plan.sinks) (order_of setting (written setting.plan.sinks)) (outs_of engines) → AreEngines left ticks setting engines
+      → AreCreated (λ output sink. HasRoom (left sink) (body_size setting output.wide ticks output.node)) (written setting.plan.sinks) (order_of setting (written setting.plan.sinks)) (outs_of engines) → AreEngines left ticks setting engines
   may_run left engines at rooms = record {
     each = λ m engine there.
         let is = at.each m engine there in
@@ -209,10 +248,10 @@ module _ {S : Type 0} (setting : Setting) (ticks : ℕ) (main : LieInMain settin
           fresh = is.stands;
           rooms = rooms_at (λ s. None) (λ s. None) (λ s. 0) ticks engine engine (main_here engine is.over) left
               (λ j output out mine_at out_at.
-              subst (λ s. HasRoom (left out) (body_size s ticks output.node)) (sym is.over)
-              (zip_at (λ output sink. HasRoom (left sink) (body_size setting ticks output.node)) (of_clock m (order_of setting (written setting.plan.sinks)) (written setting.plan.sinks)) engine.outs j output out zip
+              subst (λ s. HasRoom (left out) (body_size s output.wide ticks output.node)) (sym is.over)
+              (zip_at (λ output sink. HasRoom (left sink) (body_size setting output.wide ticks output.node)) (of_clock m (order_of setting (written setting.plan.sinks)) (written setting.plan.sinks)) engine.outs j output out zip
               (ap (λ ws. slice_get ws j) (sym (mine_is engine m is)) ∙ mine_at) out_at))
-              (zip_size (λ output sink. HasRoom (left sink) (body_size setting ticks output.node)) (of_clock m (order_of setting (written setting.plan.sinks)) (written setting.plan.sinks)) engine.outs zip ∙ sym (ap length (mine_is engine m is)));
+              (zip_size (λ output sink. HasRoom (left sink) (body_size setting output.wide ticks output.node)) (of_clock m (order_of setting (written setting.plan.sinks)) (written setting.plan.sinks)) engine.outs zip ∙ sym (ap length (mine_is engine m is)));
         };
     in_order = λ m engine there. (at.each m engine there).clock_is;
     over = λ m engine there. (at.each m engine there).over;
@@ -227,12 +266,12 @@ module _ {S : Type 0} (setting : Setting) (ticks : ℕ) (main : LieInMain settin
       let before = in_list old m (omega (arith, low, size)) in
       (before.0, after.0, before.1, after.1, after.2)
 
-  module _ (name held : S → Option (List ℕ)) (left : S → Option ℕ) (faults : S → ℕ) (files : Option Files) (old new : List (ClockEngine S)) (at : AreAt setting old)
-      (ready : AreCreated (IsReady name held left files setting ticks) (written setting.plan.sinks) (order_of setting (written setting.plan.sinks)) (outs_of old)) where
+  module _ (name title held : S → Option (List ℕ)) (left : S → Option ℕ) (debt faults : S → ℕ) (alike : AreAlike name title debt) (files : Option Files) (old new : List (ClockEngine S)) (at : AreAt setting old)
+      (ready : AreCreated (IsReady title held left debt files setting ticks) (written setting.plan.sinks) (order_of setting (written setting.plan.sinks)) (outs_of old)) where
     same_many : length new ≡ length old → length (outs_of new) ≡ length (outs_of old)
     same_many size = many_mapped (λ (e : ClockEngine S). e.outs) new ∙ size ∙ sym (many_mapped (λ (e : ClockEngine S). e.outs) old)
 
-    pub all_whole : (answers : ℕ → List Answer) → HaveRunTicks held name faults (answered setting answers) ticks old new → AreCreated (IsWhole name held files (answered setting answers) ticks) (written setting.plan.sinks) (order_of setting (written setting.plan.sinks)) (outs_of new)
+    pub all_whole : (answers : ℕ → List Answer) → HaveRunTicks held name faults (answered setting answers) ticks old new → AreCreated (IsWhole title held debt files (answered setting answers) ticks) (written setting.plan.sinks) (order_of setting (written setting.plan.sinks)) (outs_of new)
     all_whole answers run = record {
       size = ready.size;
       below = λ k clock there. subst (λ n. clock < n) (sym (same_many run.size)) (ready.below k clock there);
@@ -241,24 +280,28 @@ module _ {S : Type 0} (setting : Setting) (ticks : ℕ) (main : LieInMain settin
           let is = at.each m found.0 found.2 in
           let ran = run.each m found.0 found.1 found.2 found.3 in
           let zip = ready.each m found.0.outs (mapped (λ (e : ClockEngine S). e.outs) old m found.0 found.2) in
-          subst (λ g. AllZip (IsWhole name held files (answered setting answers) ticks) (of_clock m (order_of setting (written setting.plan.sinks)) (written setting.plan.sinks)) g) found.4
-          (zip_from (IsWhole name held files (answered setting answers) ticks) (of_clock m (order_of setting (written setting.plan.sinks)) (written setting.plan.sinks)) found.1.outs
-          (ran.outs ∙ zip_size (IsReady name held left files setting ticks) (of_clock m (order_of setting (written setting.plan.sinks)) (written setting.plan.sinks)) found.0.outs zip)
+          subst (λ g. AllZip (IsWhole title held debt files (answered setting answers) ticks) (of_clock m (order_of setting (written setting.plan.sinks)) (written setting.plan.sinks)) g) found.4
+          (zip_from (IsWhole title held debt files (answered setting answers) ticks) (of_clock m (order_of setting (written setting.plan.sinks)) (written setting.plan.sinks)) found.1.outs
+          (ran.outs ∙ zip_size (IsReady title held left debt files setting ticks) (of_clock m (order_of setting (written setting.plan.sinks)) (written setting.plan.sinks)) found.0.outs zip)
           (λ j output after mine_at after_at.
           let low = within found.1.outs j after after_at in
           let size = ran.outs in
           let before = in_list found.0.outs j (omega (arith, low, size)) in
-          let told = zip_at (IsReady name held left files setting ticks) (of_clock m (order_of setting (written setting.plan.sinks)) (written setting.plan.sinks)) found.0.outs j output before.0 zip mine_at before.1 in
+          let told = zip_at (IsReady title held left debt files setting ticks) (of_clock m (order_of setting (written setting.plan.sinks)) (written setting.plan.sinks)) found.0.outs j output before.0 zip mine_at before.1 in
           let did = whole_at held name faults ticks found.0 found.1 (main_here found.0 is.over) (answered setting answers) ran j output before.0 after
           (ap (λ ws. slice_get ws j) (mine_is found.0 m is) ∙ mine_at) before.1 after_at in
-          λ all here. record {
-            named = did.0 ∙ (told.told all here).named;
-            holds = did.1 ∙ ap (grown (ticks_bytes (answered setting answers) output.node ticks)) (told.told all here).holds;
+          let same = alike after before.0 did.0 in
+          record {
+            told = λ all here. record {
+              named = same.0 ∙ (told.told all here).named;
+              holds = did.1 ∙ ap (grown (ticks_bytes (answered setting answers) output.wide output.node ticks)) (told.told all here).holds;
+            };
+            owes = same.1 ∙ told.owes;
           }));
     }
 
     pub all_part : (run : Run) (least most : ℕ → ℕ) → HaveRunPart held name faults (setting_then setting run) least most old new → (rest : ℕ → List Answer)
-        → AreCreated (IsPart name held faults files (setting_then setting run rest) ticks least most) (written setting.plan.sinks) (order_of setting (written setting.plan.sinks)) (outs_of new)
+        → AreCreated (IsPart title held faults files (setting_then setting run rest) ticks least most) (written setting.plan.sinks) (order_of setting (written setting.plan.sinks)) (outs_of new)
     all_part record_of least most run rest = record {
       size = ready.size;
       below = λ k clock there. subst (λ n. clock < n) (sym (same_many run.size)) (ready.below k clock there);
@@ -268,34 +311,43 @@ module _ {S : Type 0} (setting : Setting) (ticks : ℕ) (main : LieInMain settin
           let is = at.each m found.0 found.2 in
           let ran = run.each m found.0 found.1 found.2 found.3 in
           let zip = ready.each m found.0.outs (mapped (λ (e : ClockEngine S). e.outs) old m found.0 found.2) in
-          subst (λ g. AllZip (IsPart name held faults files world ticks least most) (of_clock m (order_of setting (written setting.plan.sinks)) (written setting.plan.sinks)) g) found.4
-          (zip_from (IsPart name held faults files world ticks least most) (of_clock m (order_of setting (written setting.plan.sinks)) (written setting.plan.sinks)) found.1.outs
-          (ran.outs ∙ zip_size (IsReady name held left files setting ticks) (of_clock m (order_of setting (written setting.plan.sinks)) (written setting.plan.sinks)) found.0.outs zip)
+          subst (λ g. AllZip (IsPart title held faults files world ticks least most) (of_clock m (order_of setting (written setting.plan.sinks)) (written setting.plan.sinks)) g) found.4
+          (zip_from (IsPart title held faults files world ticks least most) (of_clock m (order_of setting (written setting.plan.sinks)) (written setting.plan.sinks)) found.1.outs
+          (ran.outs ∙ zip_size (IsReady title held left debt files setting ticks) (of_clock m (order_of setting (written setting.plan.sinks)) (written setting.plan.sinks)) found.0.outs zip)
           (λ j output after mine_at after_at.
           let low = within found.1.outs j after after_at in
           let size = ran.outs in
           let before = in_list found.0.outs j (omega (arith, low, size)) in
-          let told = zip_at (IsReady name held left files setting ticks) (of_clock m (order_of setting (written setting.plan.sinks)) (written setting.plan.sinks)) found.0.outs j output before.0 zip mine_at before.1 in
+          let told = zip_at (IsReady title held left debt files setting ticks) (of_clock m (order_of setting (written setting.plan.sinks)) (written setting.plan.sinks)) found.0.outs j output before.0 zip mine_at before.1 in
           let mine_here = ap (λ ws. slice_get ws j) (mine_is found.0 m is) ∙ mine_at in
           let did = part_at held name faults ticks found.0 found.1 (main_here found.0 is.over) (setting_then setting record_of) (least m) (most m) ran rest j output before.0 after mine_here before.1 after_at in
           let lies : clock_of setting output.node ≡ Main m =
           (λ i. clock_of (sym is.over i) output.node) ∙ lies_here held name faults ticks found.0 found.1 (main_here found.0 is.over) j output mine_here ∙ ap Main is.clock_is in
           let clock : main_clock world output.node ≡ m = ap (main_within world (length world.plan.nodes)) lies in
-          let header = header_for setting ticks output.node in
+          let header = header_for setting output.wide ticks output.node in
           λ all here. record {
-            named = did.0 ∙ (told.told all here).named;
+            named = (alike after before.0 did.0).0 ∙ (told.told all here).named;
             part = header ++ did.1.0;
             holds = did.1.3 ∙ ap (grown did.1.0) (told.told all here).holds;
             most = record {
               rest = did.1.2.rest;
-              whole_is = ap (λ k. header ++ ticks_bytes world output.node (most k)) clock ∙ headed header did.1.0 did.1.2.rest (ticks_bytes world output.node (most m)) did.1.2.whole_is;
+              whole_is = ap (λ k. header ++ ticks_bytes world output.wide output.node (most k)) clock ∙ headed header did.1.0 did.1.2.rest (ticks_bytes world output.wide output.node (most m)) did.1.2.whole_is;
             };
             least = inl (record {
               rest = did.1.1.rest;
-              whole_is = headed header (ticks_bytes world output.node (least m)) did.1.1.rest did.1.0 did.1.1.whole_is ∙ ap (λ k. (header ++ ticks_bytes world output.node (least k)) ++ did.1.1.rest) (sym clock);
+              whole_is = headed header (ticks_bytes world output.wide output.node (least m)) did.1.1.rest did.1.0 did.1.1.whole_is ∙ ap (λ k. (header ++ ticks_bytes world output.wide output.node (least k)) ++ did.1.1.rest) (sym clock);
             });
           }));
     }
+
+-- and keep their marks, if they did
+pub keep_after : {S : Type 0} (held name : S → Option (List ℕ)) (faults : S → ℕ) (world : Setting) (ticks : ℕ) (wanted : Bool) (old new : List (ClockEngine S)) → AreKeeping wanted old
+    → HaveRunTicks held name faults world ticks old new → AreKeeping wanted new
+keep_after held name faults world ticks wanted old new keep run is m after there =
+    let low = within new m after there in
+    let size = run.size in
+    let before = in_list old m (omega (arith, low, size)) in
+    (run.each m before.0 after before.1 there).keeping ∙ keep is m before.0 before.1
 
 -- after a run the engines stand for its ticks
 pub stand_after : {S : Type 0} (held name : S → Option (List ℕ)) (faults : S → ℕ) (setting world : Setting) (ticks : ℕ) (old new : List (ClockEngine S)) → AreAt setting old
@@ -332,6 +384,12 @@ module _ {S : Type 0} (plan : Plan) (clocks : ClockMap) (setting world : Setting
         there = ap (λ (p : Plan). slice_get p.sinks k) plan_is ∙ at;
         in_clock = ap (λ of. get_or of node (Main 0)) clocks_is ∙ got_is clocks.of node (Main clock) (Main 0) lies;
       }))
+
+  pub marks_here : (marks : List CueMark) → ((t : ℕ) (answers rest : ℕ → List Answer) (other : ℕ) → EngineStands engine.parts t answers → engine.parts.cues.keeping ≡ true
+      → IsOutput (setting_of engine.parts) engine.parts.clock k other → marks ≡ map mark_of (cues (with_rest (setting_of engine.parts) answers rest) other t)) → engine.parts.cues.keeping ≡ true
+      → marks ≡ map mark_of (cues world node ticks)
+  marks_here marks told keeping =
+      told ticks is.answers is.rest node is.stands keeping output_here ∙ ap (λ s. map mark_of (cues (with_rest s is.answers is.rest) node ticks)) is.over ∙ ap (λ w. map mark_of (cues w node ticks)) is.given
 
   pub gaps_here : (count : ℕ) → ((t : ℕ) (answers rest : ℕ → List Answer) (other : ℕ) → EngineStands engine.parts t answers
       → IsOutput (setting_of engine.parts) engine.parts.clock k other → count ≡ gaps (with_rest (setting_of engine.parts) answers rest) other t) → count ≡ gaps world node ticks

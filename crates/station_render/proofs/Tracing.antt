@@ -1,14 +1,8 @@
--- The trace behind the outputs: what it leaves, and that a run's logs are one.
+-- The logs of a run by threads are a trace.
 use Rattle.std.proofs.Common.{◌≡◌, ◌<◌, ◌≤◌, ◌+◌, ◌*◌, ◌-◌, ◌/◌, ◌∙◌, ◌++◌, ◌⊎◌, ℕ, zero, suc, Bool, List, [], ◌∷◌, length, map, slice_index_or, append-nil, arith, refl, ap, sym, subst, inl, inr, false}
 use Rattle.std.specs.Prelude.{Option, Some, None, Result, Ok, Err, OnOk, OnErr, IfOk, IsSome, IsSomeAnd, is_some}
-use Rattle.std.specs.Option.{ForSome}
 use Rattle.std.proofs.lemmas.Nat.{div-mul-add}
 use Rattle.std.proofs.Math.Nat.{min-eq_left, min-eq_right, suc-mul}
-use Rattle.liq_base.specs.Counts.{Rose}
-use Rattle.liq_base.specs.Created.{is_told, part_left_or}
-use Rattle.liq_base.specs.Files.{Files, Closed, ClosedPart, with_file}
-use Rattle.liq_base.specs.Kept.{HoldsPartOr, later_cause, rose_within, some_and}
-use Rattle.liq_base.specs.Pieces.{Took, TookPart, grown}
 use Rattle.plan_core.specs.Plans.{IsWellFormed, ReadsBuffer}
 use Rattle.plan_core.specs.declared.node.Node.{Node}
 use Rattle.plan_core.specs.declared.node.Op.{Op}
@@ -22,117 +16,7 @@ use Rattle.clock_windows.proofs.Meeting.{low_or_high}
 use Rattle.clock_windows.proofs.Starts.{start_zero}
 use Rattle.trace_log.specs.Texts.{IsTrace, trace_text, windows_of}
 use Rattle.trace_log.specs.Values.{TraceValue}
-use Rattle.stations.specs.Cues.{cues_if}
-use Rattle.stations.specs.Outputs.{OutputFile, with_outputs}
-use Rattle.stations.proofs.Parts.{outputs_within}
-use Rattle.stations.specs.Renderings.{WroteOutputsPart, WrotePart}
-use Rattle.stations.specs.Stations.{Station, setting_of_run}
-use Rattle.stations.specs.Streams.{output_files}
-use Rattle.stations.specs.Traces.{traced, traces_in, traces_of}
-use Rattle.station_render.specs.Runs.{IsRendered, LeftPart, WroteOutputs}
-use Rattle.station_render.specs.declared.rendered.Rendered.{Rendered}
 use Rattle.station_render.proofs.Lists.{many_mapped, within}
-
-pub if_ok : {A E : Type 0} (r : Result A E) (P Q : A → Type 0) → ((x : A) → P x → Q x) → IfOk r P → IfOk r Q
-if_ok (Ok x) P Q f p = f x p
-if_ok (Err e) P Q f p = tt
-
-on_err : {A E : Type 0} (r : Result A E) (P Q : Type 0) → (P → Q) → OnErr r P → OnErr r Q
-on_err (Ok x) P Q f p = tt
-on_err (Err e) P Q f p = f p
-
--- a file that was created, took its bytes, wholly or in part, and was closed
-module _ {S : Type 0} (held name : S → Option (List ℕ)) {room : S → Option ℕ} (old new : S) (before created after : Option Files) (n bytes : List ℕ) (same : created ≡ before)
-    (tells : IsSome before → IsSome (name old) × IsSome (held old)) (named : ForSome (name old) (λ said. said ≡ n)) (empty : ForSome (held old) (λ said. said ≡ [])) (kept : name new ≡ name old) where
-  pub whole_left : Took held room bytes old new → Closed created (name new) (held new) after → ForSome before (λ files. after ≡ Some (with_file files n bytes))
-  whole_left took closed = λ files at.
-      let t = tells (ap is_some at) in
-      closed files (same ∙ at) n (kept ∙ is_told (name old) n t.0 named) bytes (took.held_grew ∙ ap (grown bytes) (is_told (held old) [] t.1 empty))
-
-  pub part_left : {E : Type 0} (r : Result (Unit {0}) E) (w0 w1 w2 : ℕ) → w0 ≤ w1 → TookPart held room bytes old new
-      → OnOk r (Closed created (name new) (held new) after) → OnErr r (ClosedPart created (name new) (held new) after) → OnErr r (Rose w1 w2)
-      → ForSome before (λ files. IsSomeAnd after (HoldsPartOr (Rose w0 w2) files n bytes))
-  part_left r w0 w1 w2 low part closed closed_part cause =
-      part_left_or (Rose w0 w2) held room name old new r before created after n bytes same tells named empty kept part closed closed_part
-      (on_err r (Rose w1 w2) (Rose w0 w2) (rose_within w0 w1 w2 w2 low (omega arith)) cause)
-
--- a whole piece is a part of itself
-pub took_whole : {S : Type 0} {held : S → Option (List ℕ)} {room : S → Option ℕ} (bytes : List ℕ) (old new : S) → Took held room bytes old new → TookPart held room bytes old new
-took_whole bytes old new took = record { taken = bytes; is_front = record { rest = []; whole_is = sym (append-nil bytes) }; took = took }
-
--- the file of a trace that is wanted
-module _ (name : Option (List ℕ)) (trace : TraceValue) (n : List ℕ) (is : name ≡ Some n) (before after : Option Files) where
-  pub wrote_so : ForSome before (λ files. after ≡ Some (with_file files n (trace_text trace))) → ForSome before (λ files. after ≡ Some (with_outputs files (traced name trace)))
-  wrote_so wrote = λ files at. wrote files at ∙ ap (λ o. Some (with_outputs files (traced o trace))) (sym is)
-
-  pub left_so : (cause : Type 0) → (after ≡ before) ⊎ ForSome before (λ files. IsSomeAnd after (HoldsPartOr cause files n (trace_text trace))) → (after ≡ before) ⊎ LeftPart name trace cause before after
-  left_so cause (inl same) = inl same
-  left_so cause (inr part) = inr (record { file = record { name = n; bytes = trace_text trace }; wanted = ap (λ o. traced o trace) is; part = part })
-
-pub none_so : (name : Option (List ℕ)) (trace : TraceValue) (before : Option Files) → name ≡ None → ForSome before (λ files. before ≡ Some (with_outputs files (traced name trace)))
-none_so name trace before is = λ files at. at ∙ ap (λ o. Some (with_outputs files (traced o trace))) (sym is)
-
--- files after some outputs and then others
-both_outputs : (files : Files) (xs ys : List OutputFile) → with_outputs files (xs ++ ys) ≡ with_outputs (with_outputs files xs) ys
-both_outputs files [] ys = refl
-both_outputs files (x ∷ xs) ys = both_outputs (with_file files x.name x.bytes) xs ys
-
--- without a trace and cue files the outputs are all files
-pub untraced : (station : Station) (before after : Option Files) → station.window ≡ None → station.cues ≡ false → (rendered : Rendered) → WroteOutputs station before after rendered → IsRendered station before after rendered
-untraced station before after alone uncued rendered wrote = record {
-  run = wrote.run;
-  lawful = wrote.lawful;
-  told = wrote.told;
-  all_written = λ files at.
-      let outputs = output_files station wrote.run in
-      wrote.outputs_written files at ∙ ap (λ all. Some (with_outputs files all)) (sym (append-nil outputs) ∙ ap (λ w. outputs ++ traces_in w station wrote.run) (sym alone)
-      ∙ ap (λ b. outputs ++ (cues_if b (setting_of_run station wrote.run) station.ticks station.plan.sinks ++ traces_of station wrote.run)) (sym uncued));
-}
-
-module _ (station : Station) (window : ℕ) (in_windows : station.window ≡ Some window) (uncued : station.cues ≡ false) (before mid : Option Files) (rendered : Rendered) (wrote : WroteOutputs station before mid rendered) where
-  abbrev outputs : List OutputFile
-  outputs = output_files station wrote.run
-
-  abbrev trace : TraceValue
-  trace = record { ticks = station.ticks; window = window; buffers = rendered.logs.items }
-
-  traces_are : traces_of station wrote.run ≡ traced station.trace trace
-  traces_are =
-      ap (λ w. traces_in w station wrote.run) in_windows
-      ∙ ap (λ (bs : List (List Answers)). traced station.trace (record { ticks = station.ticks; window = window; buffers = bs })) (sym wrote.told.logs_are)
-
-  -- all files of the run
-  pub files_written : {E : Type 0} (r : Result Rendered E) (after : Option Files) → IfOk r (λ said. said.gaps.items ≡ rendered.gaps.items) → IfOk r (λ said. said.counts.items ≡ rendered.counts.items)
-      → IfOk r (λ said. said.logs.items ≡ rendered.logs.items) → OnOk r (ForSome mid (λ files. after ≡ Some (with_outputs files (traced station.trace trace)))) → IfOk r (IsRendered station before after)
-  files_written (Ok said) after gaps counts logs written = record {
-    run = wrote.run;
-    lawful = wrote.lawful;
-    told = record {
-      gaps_are = gaps ∙ wrote.told.gaps_are;
-      counts_are = counts ∙ wrote.told.counts_are;
-      logs_are = logs ∙ wrote.told.logs_are;
-    };
-    all_written = λ files at.
-        written (with_outputs files outputs) (wrote.outputs_written files at)
-        ∙ ap (λ (all : Files). Some all) (ap (with_outputs (with_outputs files outputs)) (sym traces_are) ∙ sym (both_outputs files outputs (traces_of station wrote.run))
-        ∙ ap (λ b. with_outputs files (outputs ++ (cues_if b (setting_of_run station wrote.run) station.ticks station.plan.sinks ++ traces_of station wrote.run))) (sym uncued));
-  }
-  files_written (Err e) after gaps counts logs written = tt
-
-  -- or a part of them
-  pub part_written : (w0 w1 w2 : ℕ) → w0 ≤ w1 → w1 ≤ w2 → (after : Option Files) → ForSome before (λ files. WroteOutputsPart station w0 w1 files mid)
-      → (after ≡ mid) ⊎ LeftPart station.trace trace (Rose w1 w2) mid after → ForSome before (λ files. WrotePart station w0 w2 files after)
-  part_written w0 w1 w2 low high after part (inl same) = λ files at.
-      inl (subst (λ a. WroteOutputsPart station w0 w2 files a) (sym same) (outputs_within station w0 w0 w1 w2 (omega arith) high files mid (part files at)))
-  part_written w0 w1 w2 low high after part (inr left) = λ files at. inr (record {
-    run = wrote.run;
-    lawful = wrote.lawful;
-    trace = left.file;
-    wanted = traces_are ∙ left.wanted;
-    part = some_and after (HoldsPartOr (Rose w1 w2) (with_outputs files outputs) left.file.name left.file.bytes) (HoldsPartOr (Rose w0 w2) (with_outputs files outputs) left.file.name left.file.bytes)
-        (λ all p. later_cause (Rose w1 w2) (Rose w0 w2) (with_outputs files outputs) left.file.name left.file.bytes all (rose_within w0 w1 w2 w2 low (omega arith)) p)
-        (left.part (with_outputs files outputs) (wrote.outputs_written files at));
-  })
 
 -- Where each of the numbers below m has a place below n, and no place is that of two, there are at least as many places.
 pub places_fit : (n m : ℕ) (At : ℕ → ℕ → Type 0) → ((b : ℕ) → b < m → (i : ℕ) × (i < n) × At b i) → ((a b i : ℕ) → a < m → b < m → At a i → At b i → a ≡ b) → m ≤ n

@@ -1,31 +1,24 @@
 -- What a run of a station leaves in its sinks, and what is told of it.
 use Rattle.std.specs.Borrow.{Bor}
-use Rattle.std.specs.Prelude.{◌≡◌, ℕ, suc, List, [], ◌∷◌, ◌++◌, Option, Some, None, length, map, option_map}
+use Rattle.std.specs.Prelude.{◌≡◌, ℕ, suc, List, [], ◌∷◌, ◌++◌, Option, Some, None, map, option_map}
 use Rattle.std.specs.Option.{ForSome}
 use Rattle.liq_base.specs.Files.{Files}
 use Rattle.plan_core.specs.declared.sink.BufferPlan.{BufferPlan}
-use Rattle.clock_infer.specs.declared.clock_map.ClockMap.{ClockMap}
 use Rattle.stream_meaning.specs.Instants.{Setting}
-use Rattle.run_records.specs.Records.{Run, setting_in, setting_then, windows_of}
+use Rattle.run_records.specs.Records.{Run, windows_of}
 use Rattle.stations.specs.Cues.{marks_of}
 use Rattle.stations.specs.Findings.{IsFit}
 use Rattle.stations.specs.Outputs.{with_outputs}
 use Rattle.stations.specs.Reports.{answers_line}
-use Rattle.stations.specs.Stations.{IsBegun, IsBegunIn, IsLawful, IsLawfulIn, Station, bare, made_in, made_of, setting_of_run, station_of, tried_in, tried_of}
+use Rattle.stations.specs.Stations.{IsBegun, IsLawful, Station, bare, made_of, setting_of_run, station_of, tried_of}
 use Rattle.stations.specs.Streams.{gaps_in_order, output_files}
 use Rattle.stations.specs.Traces.{files_of}
-use Rattle.buffer_ends.specs.Local.{Answers}
 use Rattle.buffer_ends.specs.declared.counts.Counts.{Counts}
-use Rattle.buffer_ends.specs.declared.run_end.End.{End}
-use Rattle.buffer_ends.specs.declared.run_end.End.TheVariants.{Write}
-use Rattle.clock_engine.specs.declared.engine.ClockEngine.{ClockEngine}
 use Rattle.buffer_sides.specs.Logs.{told}
-use Rattle.rounds_run.specs.Rounds.{HaveRunPart}
-use Rattle.rounds_run.specs.Runs.{HaveRunTicks, counts_of_run, counts_of_windows}
-use Rattle.station_render.specs.Engines.{AreAt, AreEmptyBelow, ArePast, outs_of}
-use Rattle.station_render.specs.Sinks.{AreCreated, HasFailed}
+use Rattle.rounds_run.specs.Runs.{counts_of_windows}
+use Rattle.station_render.specs.Sinks.{AreCreated}
 use Rattle.station_render.specs.Marks.{cues_of}
-use Rattle.station_render.specs.Renders.{AreBegun, IsReady, IsWhole, order_of, setting_for, written}
+use Rattle.station_render.specs.Renders.{AreBegun, IsWhole, setting_for, written}
 use Rattle.station_render.specs.declared.job.Job.{Job}
 use Rattle.station_render.specs.declared.rendered.Rendered.{Rendered}
 use Rattle.station_render.specs.declared.threading.Threading.{Threading}
@@ -50,10 +43,6 @@ IsFitting job = IsFit job.plan.now job.ready.now.library job.ready.now.clocks jo
 -- what the streams of a job rest on, before its buffers have answered
 abbrev pub setting_by : Job → Setting
 setting_by job = setting_for job.plan.now job.ready.now.library job.ready.now.clocks job.start.second
-
--- the engines of a job have made so many ticks, in some run
-abbrev pub HaveEnded : {S : Type 0} → Job → List (ClockEngine S) → Type 0
-HaveEnded job engines = (setting : Setting) × (world : Setting) × (ticks : ℕ) × (setting.plan ≡ job.plan.now) × (setting.clocks ≡ job.ready.now.clocks.of) × ArePast setting world ticks engines
 
 -- the station of a job that is rendered by threads in such windows, or on one thread; with a trace of this name, if one is wanted
 abbrev pub station_in : Job → (window : Option ℕ) → (trace : Option (List ℕ)) → Station
@@ -87,48 +76,18 @@ pub record IsRendered (station : Station) (before after : Option Files) (rendere
   pub told : IsTold station run rendered
   pub all_written : ForSome before (λ files. after ≡ Some (with_outputs files (files_of station run)))
 
--- a run of the station wrote all bytes of its outputs into their sinks, and this is told of it
-pub record RanWhole {S : Type 0} (name held : S → Option (List ℕ)) (files : Option Files) (station : Station) (order : List ℕ) (groups : List (List S)) (rendered : Rendered) : Type 0 where
+-- a run of the station wrote all bytes of its outputs into their sinks, but for the ones that they owe, and this is told of it
+pub record RanWhole {S : Type 0} (name held : S → Option (List ℕ)) (debt : S → ℕ) (files : Option Files) (station : Station) (order : List ℕ) (groups : List (List S)) (rendered : Rendered) : Type 0 where
   pub run : Run
   pub lawful : IsLawful station run
   pub told : IsTold station run rendered
-  pub whole : AreCreated (IsWhole name held files (setting_of_run station run) station.ticks) (written station.plan.sinks) order groups
+  pub whole : AreCreated (IsWhole name held debt files (setting_of_run station run) station.ticks) (written station.plan.sinks) order groups
 
 -- a run of the station came so far, and each sink holds as much of its bytes
 pub record RanPart {S : Type 0} (name held : S → Option (List ℕ)) (faults : S → ℕ) (files : Option Files) (station : Station) (order : List ℕ) (groups : List (List S)) : Type 0 where
   pub run : Run
   pub begun : IsBegun station run
   pub parts : AreBegun name held faults files (bare station) run station.ticks (made_of station run begun) (tried_of station run begun) order groups
-
--- The outputs of a plan were created, in this order of their clocks, and the engines of all clocks took the sinks, each of which holds
--- its header and has room for its samples. No tick was made.
-pub record AreOpened {S : Type 0} (name held : S → Option (List ℕ)) (left : S → Option ℕ) (files : Option Files) (setting : Setting) (clocks : ClockMap) (ticks : ℕ)
-    (order : List ℕ) (engines : List (ClockEngine S)) (groups : List (List S)) : Type 0 where
-  pub order_is : order ≡ order_of setting (written setting.plan.sinks)
-  pub all : length engines ≡ clocks.running
-  pub at : AreAt setting engines
-  pub ready : AreCreated (IsReady name held left files setting ticks) (written setting.plan.sinks) (order_of setting (written setting.plan.sinks)) (outs_of engines)
-  pub many : length groups ≡ length engines
-  pub taken : AreEmptyBelow (length engines) groups
-
--- The engines of so many clocks made all ticks, and this is their record: each stands for its ticks and has written their bytes, given
--- what the record's takes got, and these are the record's counts and logs.
-pub record RanAll {S : Type 0} (held name : S → Option (List ℕ)) (faults : S → ℕ) (setting : Setting) (clocks ticks : ℕ) (window : Option ℕ)
-    (old new : List (ClockEngine S)) (counts : List Counts) (logs : List (List Answers)) : Type 0 where
-  pub run : Run
-  pub lawful : IsLawfulIn setting clocks ticks window run
-  pub engines : HaveRunTicks held name faults (setting_in setting run) ticks old new
-  pub counts_are : counts ≡ counts_of_run run
-  pub logs_are : logs ≡ map (map told) run.buffers
-
--- The engines came so far, and this is their record: each has written its bytes of the ticks that it made, and a front of those of the one
--- that it tried, whatever answers follow. A write that ended the run is one of a sink that failed.
-pub record RanSome {S : Type 0} (held name : S → Option (List ℕ)) (faults : S → ℕ) (setting : Setting) (clocks ticks : ℕ) (window : Option ℕ)
-    (old new : List (ClockEngine S)) (end : End) : Type 0 where
-  pub run : Run
-  pub begun : IsBegunIn setting clocks ticks window run
-  pub part : HaveRunPart held name faults (setting_then setting run) (made_in setting clocks ticks window run begun) (tried_in setting clocks ticks window run begun) old new
-  pub failed : (clock sink : ℕ) → end ≡ Write clock sink → HasFailed faults (outs_of new)
 
 -- the lines of these counts, of which the first is that of this buffer
 abbrev pub counted_lines : (buffer : ℕ) → List Counts → List ℕ

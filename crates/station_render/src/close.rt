@@ -7,53 +7,59 @@ ghost use Rattle.stations.specs.Outputs.{OutputFile, OutputPart, with_outputs, H
 ghost use Rattle.stations.specs.Renderings.{WrotePart};
 ghost use Rattle.stations.specs.Stations.{Station};
 ghost use Rattle.station_render.specs.Runs.{RanPart, RanWhole, WroteOutputs};
-ghost use Rattle.station_render.specs.Sinks.{AreCreated, HasFailed, HaveSizes, HoldsFront, HoldsWhole, AreAllEmpty, WasTaken, lists_of};
+ghost use Rattle.station_render.specs.OutputSinks.{HaveRooms, HoldsBody, HoldsFrontIf, owed, told};
+ghost use Rattle.station_render.specs.Sinks.{AreCreated, HasFailed, HaveSizes, AreAllEmpty, WasTaken, lists_of};
 
 use crate::{RenderFault, Rendered};
+use crate::output_sink::{OutputSink, end_if};
 use liq_base::{Failed, Shelf};
 
 /// Closes all sinks in sink order, whatever was written, and answers what was told of it.
 pub(crate) fn close_all<S: Shelf>(
     shelf: &mut S,
     order: &[u32],
-    groups: Vec<Vec<S::Out>>,
+    groups: Vec<Vec<OutputSink<S::Out>>>,
     wrote: Result<Rendered, RenderFault>,
 ) -> Result<Rendered, RenderFault>
     requires sizes { HaveSizes order.now (lists_of groups.items) }
+    requires rooms { OnOk wrote (HaveRooms S.Out.room (lists_of groups.items)) }
     ensures done { (station : Station) (before : Option Files) → S.files shelf.old ≡ before
-        → IfOk wrote (RanWhole S.Out.name S.Out.held before station order.now (lists_of groups.items))
+        → IfOk wrote (RanWhole (told S.Out.name) (told S.Out.held) (owed S.Out.room) before station order.now (lists_of groups.items))
         → IfOk result (WroteOutputs station before (S.files shelf.new)) }
     ensures part { (station : Station) (before : Option Files) (count : ℕ) → S.files shelf.old ≡ before → count ≤ S.write_count shelf.old
-        → RanPart S.Out.name S.Out.held S.Out.faults before station order.now (lists_of groups.items)
-        → IfOk wrote (RanWhole S.Out.name S.Out.held before station order.now (lists_of groups.items))
+        → RanPart (told S.Out.name) (told S.Out.held) (told S.Out.faults) before station order.now (lists_of groups.items)
+        → IfOk wrote (RanWhole (told S.Out.name) (told S.Out.held) (owed S.Out.room) before station order.now (lists_of groups.items))
         → ForSome before (λ files. WrotePart station count (S.write_count shelf.new) files (S.files shelf.new)) }
     ensures cause { IsErrOf result RenderFault.Write → IsErrOf wrote RenderFault.Write ⊎ Rose (S.write_count shelf.old) (S.write_count shelf.new) }
-    ensures failed { HasFailed S.Out.faults (lists_of groups.items) → Rose (S.write_count shelf.old) (S.write_count shelf.new) }
+    ensures failed { HasFailed (told S.Out.faults) (lists_of groups.items) → Rose (S.write_count shelf.old) (S.write_count shelf.new) }
     ensures well { OnOk result (is_ok wrote ≡ true) }
     ensures created { S.created shelf.new ≡ S.created shelf.old }
     ensures reads { S.read_count shelf.old ≤ S.read_count shelf.new }
     ensures writes { S.write_count shelf.old ≤ S.write_count shelf.new }
 {
-    let closed = close_each(shelf, order, groups);
+    let closed = close_each(shelf, order, groups, wrote.is_ok());
     let rendered = wrote?;
     closed?;
     Ok(rendered)
 }
 
-// Closes the sinks in sink order, also those behind one whose closing failed.
+// Closes the sinks in sink order, also those behind one whose closing failed. As long as all went well, each gets the byte
+// that it owes before.
 fn close_each<S: Shelf>(
     shelf: &mut S,
     order: &[u32],
-    groups: Vec<Vec<S::Out>>,
+    groups: Vec<Vec<OutputSink<S::Out>>>,
+    well: bool,
 ) -> Result<(), Failed>
     requires sizes { HaveSizes order.now (lists_of groups.items) }
-    ensures whole { OnOk result (ForSome (S.files shelf.old) (λ files. (outputs : List OutputFile)
-        → AreCreated (HoldsWhole S.Out.name S.Out.held) outputs order.now (lists_of groups.items) → S.files shelf.new ≡ Some (with_outputs files outputs))) }
+    requires rooms { well ≡ true → HaveRooms S.Out.room (lists_of groups.items) }
+    ensures whole { OnOk result (well ≡ true → ForSome (S.files shelf.old) (λ files. (outputs : List OutputFile)
+        → AreCreated (HoldsBody S.Out.name S.Out.held) outputs order.now (lists_of groups.items) → S.files shelf.new ≡ Some (with_outputs files outputs))) }
     ensures part { ForSome (S.files shelf.old) (λ files. (outputs : List OutputPart)
-        → AreCreated (HoldsFront S.Out.name S.Out.held S.Out.faults) outputs order.now (lists_of groups.items)
+        → AreCreated (HoldsFrontIf well S.Out.name S.Out.held S.Out.faults) outputs order.now (lists_of groups.items)
         → IsSomeAnd (S.files shelf.new) (λ now. HoldsParts (S.write_count shelf.old) files outputs now (S.write_count shelf.new))) }
     ensures cause { OnErr result (Rose (S.write_count shelf.old) (S.write_count shelf.new)) }
-    ensures failed { HasFailed S.Out.faults (lists_of groups.items) → Rose (S.write_count shelf.old) (S.write_count shelf.new) }
+    ensures failed { HasFailed (told S.Out.faults) (lists_of groups.items) → Rose (S.write_count shelf.old) (S.write_count shelf.new) }
     ensures created { S.created shelf.new ≡ S.created shelf.old }
     ensures reads { S.read_count shelf.old ≤ S.read_count shelf.new }
     ensures writes { S.write_count shelf.old ≤ S.write_count shelf.new }
@@ -63,11 +69,22 @@ fn close_each<S: Shelf>(
         return Ok(());
     };
     let mut groups = groups;
-    let sink = take_first(&mut groups, *clock);
+    let output = take_first(&mut groups, *clock);
+    let (sink, ended) = end_if(well, output);
     let first = shelf.close(sink);
-    let others = close_each(shelf, rest, groups);
+    let goes_on = still_well(well, ended, first);
+    let others = close_each(shelf, rest, groups, goes_on);
+    ended?;
     first?;
     others
+}
+
+// Whether all still goes well.
+fn still_well(well: bool, ended: Result<(), Failed>, closed: Result<(), Failed>) -> bool
+    ensures before { result ≡ true → well ≡ true }
+    ensures still { OnOk ended (OnOk closed (well ≡ true → result ≡ true)) }
+{
+    well && ended.is_ok() && closed.is_ok()
 }
 
 // Takes the first sink of this clock.

@@ -5,11 +5,13 @@ ghost use Rattle.frame_core.specs.Library.{Sounds};
 ghost use Rattle.run_records.specs.Records.{Run};
 ghost use Rattle.stations.specs.Creations.{MadeFront, after_making, names_in};
 ghost use Rattle.stations.specs.Findings.{IsFit};
+ghost use Rattle.station_render.specs.OutputSinks.{owed, spared, told};
 ghost use Rattle.station_render.specs.Sinks.{AreCreated, AreEmpty, HasFailed, lists_of};
 ghost use Rattle.station_render.specs.Renders.{AreBegun, IsReady, NoneCreated, WasBroken, WasCreated, order_of, setting_for, written};
 
 use crate::RenderFault;
 use crate::headers::{Opening, opening_of};
+use crate::output_sink::OutputSink;
 use crate::sinks::{add_one, reserve_one};
 use clock_infer::ClockMap;
 use liq_base::{Shelf, Sink};
@@ -25,18 +27,18 @@ pub(crate) fn create_each<S: Shelf>(
     ticks: u64,
     shelf: &mut S,
     order: &mut Vec<u32>,
-    groups: &mut Vec<Vec<S::Out>>,
+    groups: &mut Vec<Vec<OutputSink<S::Out>>>,
 ) -> Result<(), RenderFault>
     requires fit { (library : Sounds) × IsFit plan.now library clocks.now ticks }
     requires none { order.old.items ≡ [] }
     requires empty { AreEmpty clocks.now.running (lists_of groups.old.items) }
-    ensures ready { OnOk result ((library : Sounds) → (start : ℕ) → AreCreated (IsReady S.Out.name S.Out.held S.Out.room (S.files shelf.old) (setting_for plan.now library clocks.now start) ticks)
+    ensures ready { OnOk result ((library : Sounds) → (start : ℕ) → AreCreated (IsReady (told S.Out.name) (told S.Out.held) (spared S.Out.room) (owed S.Out.room) (S.files shelf.old) (setting_for plan.now library clocks.now start) ticks)
         (written plan.now.sinks) order.new.items (lists_of groups.new.items)) }
     ensures order { OnOk result ((library : Sounds) → (start : ℕ) → order.new.items ≡ order_of (setting_for plan.now library clocks.now start) (written plan.now.sinks)) }
     ensures begun { (library : Sounds) → (start : ℕ) → (run : Run) → (made tried : ℕ → ℕ) → ((k : ℕ) → made k ≡ 0)
-        → AreBegun S.Out.name S.Out.held S.Out.faults (S.files shelf.old) (setting_for plan.now library clocks.now start) run ticks made tried order.new.items (lists_of groups.new.items) }
+        → AreBegun (told S.Out.name) (told S.Out.held) (told S.Out.faults) (S.files shelf.old) (setting_for plan.now library clocks.now start) run ticks made tried order.new.items (lists_of groups.new.items) }
     ensures size { length (lists_of groups.new.items) ≡ clocks.now.running }
-    ensures cause { IsErrOf result RenderFault.Write → Rose (S.write_count shelf.old) (S.write_count shelf.new) ⊎ HasFailed S.Out.faults (lists_of groups.new.items) }
+    ensures cause { IsErrOf result RenderFault.Write → Rose (S.write_count shelf.old) (S.write_count shelf.new) ⊎ HasFailed (told S.Out.faults) (lists_of groups.new.items) }
     ensures files { S.files shelf.new ≡ S.files shelf.old }
     ensures made { OnOk result (S.created shelf.new ≡ after_making (names_in plan.now.sinks) (S.created shelf.old)) }
     ensures front { MadeFront (names_in plan.now.sinks) (S.created shelf.old) (S.created shelf.new) }
@@ -44,31 +46,35 @@ pub(crate) fn create_each<S: Shelf>(
     ensures writes { S.write_count shelf.old ≤ S.write_count shelf.new }
 {
     for sink in plan.sinks.as_slice() {
-        let SinkPlan::Output { name, node, .. } = sink else {
+        let SinkPlan::Output {
+            name, node, wide, ..
+        } = sink
+        else {
             continue;
         };
-        let opening = opening_of(plan, clocks, *node, ticks);
+        let opening = opening_of(plan, clocks, *node, *wide, ticks);
         create_one(shelf, name.as_str(), &opening, order, groups)?;
     }
     Ok(())
 }
 
-// Creates an output of this name, with its header as one piece.
+// Creates an output of this name, with its header as one piece. Its room is for exactly its bytes, with a last zero byte behind an
+// odd number of them.
 fn create_one<S: Shelf>(
     shelf: &mut S,
     name: &str,
     opening: &Opening,
     order: &mut Vec<u32>,
-    groups: &mut Vec<Vec<S::Out>>,
+    groups: &mut Vec<Vec<OutputSink<S::Out>>>,
 ) -> Result<(), RenderFault>
     requires below { opening.now.clock < length (lists_of groups.old.items) }
     requires short { opening.now.body ≤ 1000000000000000 }
-    ensures created { OnOk result (WasCreated S.Out.name S.Out.held S.Out.room (S.files shelf.old) opening.now.clock name.now opening.now.header opening.now.body
+    ensures created { OnOk result (WasCreated (told S.Out.name) (told S.Out.held) (spared S.Out.room) (owed S.Out.room) (S.files shelf.old) opening.now.clock name.now opening.now.header opening.now.body
         order.old.items order.new.items (lists_of groups.old.items) (lists_of groups.new.items)) }
     ensures broken { OnErr result (NoneCreated order.old.items order.new.items (lists_of groups.old.items) (lists_of groups.new.items)
-        ⊎ WasBroken S.Out.name S.Out.held S.Out.faults (S.files shelf.old) opening.now.clock name.now opening.now.header
+        ⊎ WasBroken (told S.Out.name) (told S.Out.held) (told S.Out.faults) (S.files shelf.old) opening.now.clock name.now opening.now.header
         order.old.items order.new.items (lists_of groups.old.items) (lists_of groups.new.items)) }
-    ensures cause { IsErrOf result RenderFault.Write → Rose (S.write_count shelf.old) (S.write_count shelf.new) ⊎ HasFailed S.Out.faults (lists_of groups.new.items) }
+    ensures cause { IsErrOf result RenderFault.Write → Rose (S.write_count shelf.old) (S.write_count shelf.new) ⊎ HasFailed (told S.Out.faults) (lists_of groups.new.items) }
     ensures files { S.files shelf.new ≡ S.files shelf.old }
     ensures made { OnOk result (S.created shelf.new ≡ after_making (name.now ∷ []) (S.created shelf.old)) }
     ensures front { MadeFront (name.now ∷ []) (S.created shelf.old) (S.created shelf.new) }
@@ -77,10 +83,12 @@ fn create_one<S: Shelf>(
 {
     order.reserve(1)?;
     reserve_one(groups, opening.clock)?;
-    let mut sink = shelf.create(name, HEADER_BYTES + opening.body)?;
+    let zeros = opening.body % 2;
+    let mut sink = shelf.create(name, HEADER_BYTES + opening.body + zeros)?;
     let wrote = sink.append(&opening.header);
     order.push(opening.clock).unwrap();
-    add_one(groups, opening.clock, sink);
+    let odd = zeros == 1;
+    add_one(groups, opening.clock, OutputSink { sink, odd });
     wrote?;
     Ok(())
 }

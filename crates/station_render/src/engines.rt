@@ -11,7 +11,8 @@ ghost use Rattle.station_render.specs.Sinks.{lists_of};
 ghost use Rattle.station_render.specs.Engines.{AreAt, AreEmptyBelow, AreKeeping, ArePast, IsAt, outs_of, pooled};
 ghost use Rattle.station_render.specs.Marks.{cues_of};
 ghost use Rattle.station_render.specs.Renders.{AreMain};
-ghost use Rattle.station_render.specs.Runs.{HaveEnded, IsFitting, setting_by};
+ghost use Rattle.station_render.specs.EngineRuns.{HaveEnded};
+ghost use Rattle.station_render.specs.Runs.{IsFitting, setting_by};
 
 use crate::headers::clock_of;
 use crate::{Job, RenderFault, Rendered};

@@ -1,15 +1,16 @@
 // What an output begins with.
 ghost use Rattle.std.specs.Prelude.{◌≡◌, ◌<◌, ◌≤◌, ◌*◌, ℕ, Some, length, slice_get, is_none, false};
-ghost use Rattle.liq_base.specs.Kinds.{channels_of};
 ghost use Rattle.plan_core.specs.Plans.{IsWellFormed};
 ghost use Rattle.clock_infer.specs.declared.clock_map.NodeClock.TheVariants.{Main as InMain};
-ghost use Rattle.wav_io.specs.Header.{header_bytes, header_of};
+ghost use Rattle.stream_meaning.specs.Sinks.{block_length};
+ghost use Rattle.wav_io.specs.Header.{header_at};
+ghost use Rattle.stations.specs.Streams.{header_bytes_at};
 ghost use Rattle.stations.specs.Findings.{kind_at, is_too_long};
 
 use clock_infer::{ClockMap, NodeClock};
 use liq_base::Kind;
 use plan_core::Plan;
-use wav_io::header;
+use wav_io::{header, header_wide};
 
 /// What an output is created with.
 #[derive(Clone, Copy)]
@@ -36,22 +37,28 @@ pub(crate) fn clock_of(clocks: &ClockMap, node: u32) -> u32
 }
 
 /// What the output of a node is created with.
-pub(crate) fn opening_of(plan: &Plan, clocks: &ClockMap, node: u32, ticks: u64) -> Opening
+pub(crate) fn opening_of(
+    plan: &Plan,
+    clocks: &ClockMap,
+    node: u32,
+    wide: bool,
+    ticks: u64,
+) -> Opening
     requires plan { IsWellFormed plan.now }
     requires within { node < length plan.now.nodes }
     requires few { ticks ≤ 1000000000 }
     requires clock { (m : ℕ) × (slice_get clocks.now.of node ≡ Some (InMain m)) }
-    requires fits { is_none (header_of (kind_at plan.now node) plan.now.rate (ticks * plan.now.frame)) ≡ false }
+    requires fits { is_none (header_at wide (kind_at plan.now node) plan.now.rate (ticks * plan.now.frame)) ≡ false }
     ensures clock { slice_get clocks.now.of node ≡ Some (InMain result.clock) }
-    ensures header { result.header ≡ header_bytes (kind_at plan.now node) plan.now.rate (ticks * plan.now.frame) }
-    ensures body { result.body ≡ ticks * (plan.now.frame * (2 * channels_of (kind_at plan.now node))) }
+    ensures header { result.header ≡ header_bytes_at wide (kind_at plan.now node) plan.now.rate (ticks * plan.now.frame) }
+    ensures body { result.body ≡ ticks * (plan.now.frame * block_length wide (kind_at plan.now node)) }
     ensures short { result.body ≤ 1000000000000000 }
 {
     let kind = kind_of(plan, node);
-    let block = 2 * u64::from(kind.channels());
+    let block = block_len(wide, kind);
     Opening {
         clock: clock_of(clocks, node),
-        header: header_for(plan, kind, ticks),
+        header: header_for(plan, kind, wide, ticks),
         body: ticks * (u64::from(plan.frame) * block),
     }
 }
@@ -64,12 +71,25 @@ fn kind_of(plan: &Plan, node: u32) -> Kind
     plan.nodes.as_slice()[node as usize].kind
 }
 
+// The bytes of one instant of an output of this kind.
+fn block_len(wide: bool, kind: Kind) -> u64
+    ensures { result ≡ block_length wide kind }
+{
+    let channels = u64::from(kind.channels());
+    if wide { 3 * channels } else { 2 * channels }
+}
+
 // The header of an output of this kind.
-fn header_for(plan: &Plan, kind: Kind, ticks: u64) -> [u8; 44]
+fn header_for(plan: &Plan, kind: Kind, wide: bool, ticks: u64) -> [u8; 44]
     requires plan { IsWellFormed plan.now }
     requires few { ticks ≤ 1000000000 }
-    requires fits { is_none (header_of kind plan.now.rate (ticks * plan.now.frame)) ≡ false }
-    ensures { result ≡ header_bytes kind plan.now.rate (ticks * plan.now.frame) }
+    requires fits { is_none (header_at wide kind plan.now.rate (ticks * plan.now.frame)) ≡ false }
+    ensures { result ≡ header_bytes_at wide kind plan.now.rate (ticks * plan.now.frame) }
 {
-    header(kind, plan.rate, ticks * u64::from(plan.frame)).unwrap()
+    let samples = ticks * u64::from(plan.frame);
+    if wide {
+        header_wide(kind, plan.rate, samples).unwrap()
+    } else {
+        header(kind, plan.rate, samples).unwrap()
+    }
 }

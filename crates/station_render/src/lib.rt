@@ -12,6 +12,7 @@ mod files;
 mod headers;
 mod job;
 mod opened;
+mod output_sink;
 mod rendered;
 mod rendering;
 mod reports;

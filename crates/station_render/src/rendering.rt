@@ -4,6 +4,7 @@ ghost use Rattle.std.specs.Option.{ForSome};
 ghost use Rattle.liq_base.specs.Counts.{Rose};
 ghost use Rattle.stations.specs.Creations.{MadeFront, after_making, names_in, names_of};
 ghost use Rattle.stations.specs.Renderings.{WrotePart};
+ghost use Rattle.station_render.specs.OutputSinks.{owed, told};
 ghost use Rattle.station_render.specs.Sinks.{AreEmpty, HasFailed, lists_of};
 ghost use Rattle.station_render.specs.Runs.{IsFitting, IsRendered, RanPart, RanWhole, WroteOutputs, station_alone, station_by};
 
@@ -11,6 +12,7 @@ use crate::close::close_all;
 use crate::cues::leave_wanted;
 use crate::engines::take_back;
 use crate::opened::open_all;
+use crate::output_sink::OutputSink;
 use crate::sinks::no_sinks;
 use crate::traces::leave_trace;
 use crate::{Job, RenderFault, Rendered, Threading};
@@ -138,14 +140,14 @@ fn write_by_threads<S: Shelf, G: Gate + Sync, R: Threads + Wait + Sync>(
     shelf: &mut S,
     gate: &G,
     order: &mut Vec<u32>,
-    groups: &mut Vec<Vec<S::Out>>,
+    groups: &mut Vec<Vec<OutputSink<S::Out>>>,
 ) -> Result<Rendered, RenderFault>
     requires fit { IsFitting job.now }
     requires none { order.old.items ≡ [] }
     requires empty { AreEmpty job.now.ready.now.clocks.running (lists_of groups.old.items) }
-    ensures done { IfOk result (RanWhole S.Out.name S.Out.held (S.files shelf.old) (station_by job.now threading.entry) order.new.items (lists_of groups.new.items)) }
-    ensures part { RanPart S.Out.name S.Out.held S.Out.faults (S.files shelf.old) (station_by job.now threading.entry) order.new.items (lists_of groups.new.items) }
-    ensures cause { IsErrOf result RenderFault.Write → Rose (S.write_count shelf.old) (S.write_count shelf.new) ⊎ HasFailed S.Out.faults (lists_of groups.new.items) }
+    ensures done { IfOk result (RanWhole (told S.Out.name) (told S.Out.held) (owed S.Out.room) (S.files shelf.old) (station_by job.now threading.entry) order.new.items (lists_of groups.new.items)) }
+    ensures part { RanPart (told S.Out.name) (told S.Out.held) (told S.Out.faults) (S.files shelf.old) (station_by job.now threading.entry) order.new.items (lists_of groups.new.items) }
+    ensures cause { IsErrOf result RenderFault.Write → Rose (S.write_count shelf.old) (S.write_count shelf.new) ⊎ HasFailed (told S.Out.faults) (lists_of groups.new.items) }
     ensures files { S.files shelf.new ≡ S.files shelf.old }
     ensures made { OnOk result (S.created shelf.new ≡ after_making (names_in job.now.plan.now.sinks) (S.created shelf.old)) }
     ensures front { MadeFront (names_in job.now.plan.now.sinks) (S.created shelf.old) (S.created shelf.new) }
@@ -172,14 +174,14 @@ fn write_alone<S: Shelf>(
     job: &Job<'_>,
     shelf: &mut S,
     order: &mut Vec<u32>,
-    groups: &mut Vec<Vec<S::Out>>,
+    groups: &mut Vec<Vec<OutputSink<S::Out>>>,
 ) -> Result<Rendered, RenderFault>
     requires fit { IsFitting job.now }
     requires none { order.old.items ≡ [] }
     requires empty { AreEmpty job.now.ready.now.clocks.running (lists_of groups.old.items) }
-    ensures done { IfOk result (RanWhole S.Out.name S.Out.held (S.files shelf.old) (station_alone job.now) order.new.items (lists_of groups.new.items)) }
-    ensures part { RanPart S.Out.name S.Out.held S.Out.faults (S.files shelf.old) (station_alone job.now) order.new.items (lists_of groups.new.items) }
-    ensures cause { IsErrOf result RenderFault.Write → Rose (S.write_count shelf.old) (S.write_count shelf.new) ⊎ HasFailed S.Out.faults (lists_of groups.new.items) }
+    ensures done { IfOk result (RanWhole (told S.Out.name) (told S.Out.held) (owed S.Out.room) (S.files shelf.old) (station_alone job.now) order.new.items (lists_of groups.new.items)) }
+    ensures part { RanPart (told S.Out.name) (told S.Out.held) (told S.Out.faults) (S.files shelf.old) (station_alone job.now) order.new.items (lists_of groups.new.items) }
+    ensures cause { IsErrOf result RenderFault.Write → Rose (S.write_count shelf.old) (S.write_count shelf.new) ⊎ HasFailed (told S.Out.faults) (lists_of groups.new.items) }
     ensures files { S.files shelf.new ≡ S.files shelf.old }
     ensures made { OnOk result (S.created shelf.new ≡ after_making (names_in job.now.plan.now.sinks) (S.created shelf.old)) }
     ensures front { MadeFront (names_in job.now.plan.now.sinks) (S.created shelf.old) (S.created shelf.new) }

@@ -1,5 +1,6 @@
 -- What the outputs of a station hold, and their gaps.
 use Rattle.std.specs.Prelude.{◌≡◌, ℕ, ◌*◌, ◌%◌, Bool, true, false, List, [], ◌∷◌, ◌++◌, Contains, replicate}
+use Rattle.liq_base.specs.declared.memory.Kind.{Kind}
 use Rattle.plan_core.specs.declared.sink.SinkPlan.{SinkPlan}
 use Rattle.plan_core.specs.declared.sink.SinkPlan.TheVariants.{Output, Feed}
 use Rattle.fallible_infer.specs.Infallible.{IsMarking}
@@ -12,10 +13,14 @@ use Rattle.run_records.specs.Buffers.{main_of}
 use Rattle.run_records.specs.Records.{Run}
 use Rattle.stations.specs.Stations.{IsBegun, Station, made_of, setting_of_run, setting_with, tried_of}
 
+-- the header before so many samples of 16 or 24 bits
+abbrev pub header_bytes_at : (wide : Bool) → Kind → (rate samples : ℕ) → List ℕ
+header_bytes_at false kind rate samples = header_bytes kind rate samples
+header_bytes_at true kind rate samples = wide_header_bytes kind rate samples
+
 -- the header of an output of a node, for so many ticks
 abbrev pub header_for : Setting → (wide : Bool) → (ticks node : ℕ) → List ℕ
-header_for setting false ticks node = header_bytes (kind_of setting node) setting.plan.rate (ticks * setting.plan.frame)
-header_for setting true ticks node = wide_header_bytes (kind_of setting node) setting.plan.rate (ticks * setting.plan.frame)
+header_for setting wide ticks node = header_bytes_at wide (kind_of setting node) setting.plan.rate (ticks * setting.plan.frame)
 
 -- its header, and tick by tick what the node offers
 abbrev pub output_bytes : Setting → (wide : Bool) → (ticks node : ℕ) → List ℕ
