@@ -62,15 +62,15 @@ pub record Told (station : Station) (files : Files) (after : Option Files) (repo
   pub marking : IsMarking station.plan.nodes mark
   pub report_is : report ≡ check_report_of station mark
 
--- No file changed, and this is the summary of a run over the files of a workload. Where no buffer joins two clocks, it is that of the one
--- record that rounds on one thread have.
+-- No file changed, and this is the summary of a run over the files of a workload. It is that of the one record that rounds on one thread
+-- have, so it rests on the station and its files alone.
 pub record Summed (made : Files) (station : Station) (files : Files) (after : Option Files) (report : List ℕ) : Type 0 where
   pub kept : after ≡ Some files
   pub run : Run
   pub lawful : IsLawful station run
   pub report_is : report ≡ summary_of made station run
   pub no_gaps : HasNoGaps station run
-  pub as_one_thread : HasNoJoin (bare station) station.clocks.running → SumsAsOneThread made station report
+  pub as_one_thread : SumsAsOneThread made station report
 
 abbrev pub Rendered : Answer → Files → Option Files → List ℕ → Type 0
 Rendered (Made made station) files after report = Summed made station files after report
