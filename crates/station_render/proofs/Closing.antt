@@ -202,3 +202,12 @@ module _ {O : Type 0} (room : O → Option ℕ) (clock : ℕ) (old new : List (L
         let found : slice_get old m ≡ Some group = sym (set_other old clock m taken.rest apart) ∙ ap (λ gs. slice_get gs m) (sym taken.is) ∙ there in
         rooms m k group output found at odd)
   ]
+
+-- what holds whatever a call answers
+pub on_err_so : {T E : Type 0} (r : Result T E) (P : Type 0) → P → OnErr r P
+on_err_so (Ok x) P p = tt
+on_err_so (Err e) P p = p
+
+-- what holds where two calls went well
+pub both_ok : {T E U F : Type 0} (r : Result T E) (s : Result U F) (x : T) (y : U) (P : Type 0) → r ≡ Ok x → s ≡ Ok y → OnOk r (OnOk s P) → P
+both_ok r s x y P one two p = subst (λ b. OnOk b P) two (subst (λ a. OnOk a (OnOk s P)) one p)

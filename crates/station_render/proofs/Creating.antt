@@ -8,7 +8,7 @@ use Rattle.std.proofs.lemmas.List.{map-append, append-nil}
 use Rattle.liq_base.specs.Created.{is_told}
 use Rattle.liq_base.specs.Counts.{Rose}
 use Rattle.liq_base.specs.Files.{Files}
-use Rattle.liq_base.specs.Pieces.{HasRoom, TookPart, grown, narrowed}
+use Rattle.liq_base.specs.Pieces.{HasRoom, Took, TookPart, grown, narrowed}
 use Rattle.plan_core.specs.declared.sink.SinkPlan.{SinkPlan}
 use Rattle.plan_core.specs.declared.sink.SinkPlan.TheVariants.{Output, Feed}
 use Rattle.clock_infer.specs.declared.clock_map.NodeClock.TheVariants.{Main}
@@ -18,7 +18,8 @@ use Rattle.stream_meaning.specs.Sinks.{ticks_bytes}
 use Rattle.run_records.specs.Records.{Run, answers_of, setting_then}
 use Rattle.run_records.specs.Buffers.{main_of as main_clock}
 use Rattle.stations.specs.Streams.{body_size, ends_in, file_bytes, front_bytes, header_for, outputs_in, parts_in}
-use Rattle.station_render.specs.OutputSinks.{but_one, but_one_if, owed_by}
+use Rattle.station_render.specs.OutputSinks.{but_one, but_one_if, owed, owed_by, spared, told}
+use Rattle.station_render.specs.declared.output_sink.OutputSink.{OutputSink}
 use Rattle.station_render.specs.Sinks.{AreCreated, HasFailed, HoldsPart, HoldsWhole, WasAdded, of_clock}
 use Rattle.station_render.specs.Renders.{AreBegun, IsPart, IsReady, NoneCreated, WasBroken, WasCreated, Written, debt_of, end_of, file_of, front_file, main_of, order_of, written}
 use Rattle.station_render.proofs.Lists.{got_is, set_here, set_many, many_mapped}
@@ -112,11 +113,14 @@ created_mapped f So ys order groups are = record {
 module _ (header body : ℕ) (odd : Bool) (odd_is : odd ≡ nat_eq (body % 2) 1) where
   room_by : (r : ℕ) (b : Bool) → b ≡ nat_eq r 1 → r < 2 → (before after : Option ℕ) → ForSome before (λ told. told ≡ header + body + r) → after ≡ narrowed header before → HasRoom (but_one_if b after) body × (owed_by b after ≡ 2 * r)
   room_by zero false is low None after told fell = ((λ left at. absurd (let none : None ≡ Some left = sym fell ∙ at in cc)), refl)
-  room_by zero false is low (Some before) after told fell = ((λ left at.
-      let same : Some (before - header) ≡ Some left = sym fell ∙ at in
-      let left_is : before - header ≡ left = cc in
-      let whole : before ≡ header + body + 0 = told before refl in
-      omega (arith, left_is, whole)), refl)
+  room_by zero false is low (Some before) after told fell = (
+    (λ left at.
+        let same : Some (before - header) ≡ Some left = sym fell ∙ at in
+        let left_is : before - header ≡ left = cc in
+        let whole : before ≡ header + body + 0 = told before refl in
+        omega (arith, left_is, whole)),
+    refl,
+  )
   room_by zero true is low before after told fell = absurd cc
   room_by (suc zero) false is low before after told fell = absurd cc
   room_by (suc zero) true is low None after told fell = (subst (λ a. HasRoom (but_one a) body) (sym fell) (λ left at. absurd cc), ap (λ a. owed_by true a) fell)
@@ -296,3 +300,32 @@ added_failed faults clock sink old new low added failed = record {
   stands = at_last added.before sink;
   failed = failed;
 }
+
+-- the sink of a new output took its header, wholly or in part, and was added
+module _ {O : Type 0} (name held : O → Option (List ℕ)) (room : O → Option ℕ) (files : Option Files) (clock : ℕ) (title bytes : List ℕ) where
+  pub was_created : (body : ℕ) → length bytes ≡ 44 → (first : O) (sink : OutputSink O) → sink.odd ≡ nat_eq (body % 2) 1 → (IsSome files → IsSome (name first) × IsSome (held first)) → ForSome (name first) (λ told. told ≡ title)
+      → ForSome (held first) (λ told. told ≡ []) → ForSome (room first) (λ told. told ≡ 44 + body + body % 2) → name sink.sink ≡ name first → Took held room bytes first sink.sink
+      → (order order_new : List ℕ) (old between new : List (List (OutputSink O))) → order_new ≡ order ++ clock ∷ [] → between ≡ old → WasAdded clock sink between new
+      → WasCreated (told name) (told held) (spared room) (owed room) files clock title bytes body order order_new old new
+  was_created body long first sink odd tells named empty left kept took order order_new old between new more same added =
+      let fell : room sink.sink ≡ narrowed 44 (room first) = took.room_fell ∙ ap (λ n. narrowed n (room first)) long in
+      record {
+        sink = sink;
+        order_is = more;
+        added = subst (λ gs. WasAdded clock sink gs new) same added;
+        told = λ all at. let so = told_whole name held room (λ s. 0) (λ s. 0) files first sink.sink title bytes tells named empty kept took.held_grew all at in record { named = so.named; holds = so.holds };
+        room = room_left 44 body sink.odd odd (room first) (room sink.sink) left fell;
+        owes = owed_left 44 body sink.odd odd (room first) (room sink.sink) left fell;
+      }
+
+  pub was_broken : (faults : O → ℕ) (first : O) (sink : OutputSink O) → (IsSome files → IsSome (name first) × IsSome (held first)) → ForSome (name first) (λ told. told ≡ title) → ForSome (held first) (λ told. told ≡ [])
+      → name sink.sink ≡ name first → TookPart held room bytes first sink.sink → 0 < faults sink.sink
+      → (order order_new : List ℕ) (old between new : List (List (OutputSink O))) → order_new ≡ order ++ clock ∷ [] → between ≡ old → WasAdded clock sink between new
+      → NoneCreated order order_new old new ⊎ WasBroken (told name) (told held) (told faults) files clock title bytes order order_new old new
+  was_broken faults first sink tells named empty kept part failed order order_new old between new more same added = inr (record {
+    sink = sink;
+    order_is = more;
+    added = subst (λ gs. WasAdded clock sink gs new) same added;
+    told = λ all at. let so = told_part name held room (λ s. 0) (λ s. 0) files first sink.sink title bytes tells named empty kept part all at in record { named = so.named; part = so.part; holds = so.holds; front = so.front };
+    failed = failed;
+  })

@@ -1,6 +1,7 @@
 -- Cue files that are written one after another.
-use Rattle.std.proofs.Common.{◌≡◌, ◌∙◌, ◌++◌, ◌<◌, ◌≤◌, ◌+◌, ℕ, zero, suc, Bool, List, [], ◌∷◌, length, map, take, drop, slice_get, append-nil, append_assoc, add-one, refl, ap, sym, subst}
-use Rattle.std.specs.Prelude.{Option, Some, None, IsSomeAnd}
+use Rattle.std.proofs.Common.{◌≡◌, ◌∙◌, ◌++◌, ◌<◌, ◌≤◌, ◌+◌, ℕ, zero, suc, Bool, List, [], ◌∷◌, length, map, take, drop, get_or, slice_get, add-one, refl, ap, sym, subst}
+use Rattle.std.specs.Prelude.{Option, Some, IsSomeAnd, Vec}
+use Rattle.std.specs.declared.alloc.Global.{Global}
 use Rattle.std.specs.Option.{ForSome}
 use Rattle.std.proofs.lemmas.List.{map-append}
 use Rattle.liq_base.specs.Files.{Files}
@@ -10,9 +11,13 @@ use Rattle.plan_core.specs.declared.sink.SinkPlan.TheVariants.{Output, Feed}
 use Rattle.stream_meaning.specs.Sinks.{Cue}
 use Rattle.stations.specs.Creations.{MadeFront, after_making, names_in}
 use Rattle.stations.specs.Cues.{cue_name, cue_names_in}
-use Rattle.stations.specs.Outputs.{HoldsUpto, OutputFile, with_outputs}
-use Rattle.stations.proofs.Making.{front_made, names_both, then_front, then_made}
-use Rattle.station_render.specs.Marks.{cue_file, cue_files_with}
+use Rattle.stations.specs.Outputs.{HoldsUpto, with_outputs}
+use Rattle.stations.proofs.Making.{front_made, then_front, then_made}
+use Rattle.stations.proofs.Parts.{upto_all}
+use Rattle.clock_engine.specs.declared.cues.CueMark.{CueMark}
+use Rattle.station_render.specs.Marks.{cue_file, cue_files_with, cue_of, cues_of}
+use Rattle.station_render.specs.Sinks.{lists_of}
+use Rattle.station_render.proofs.Lists.{got, mapped}
 use Rattle.station_render.specs.Renders.{written}
 use Rattle.station_render.proofs.Creating.{take_whole, taken_and_left}
 use Rattle.station_render.proofs.Leaving.{part_behind, part_first, whole_behind}
@@ -83,6 +88,9 @@ module _ (library : Sounds) (sinks : List SinkPlan) (marks : List (List Cue)) (k
   pub files_whole : length sinks ≤ k → ForSome before (λ files. between ≡ Some (with_outputs files (cue_files_with library sinks marks)))
   files_whole all files told = so_far files told ∙ ap (λ xs. Some (with_outputs files (cue_files_with library xs marks))) (take_whole sinks k all)
 
+  pub files_upto : length sinks ≤ k → ForSome before (λ files. IsSomeAnd between (HoldsUpto files (cue_files_with library sinks marks)))
+  files_upto all files told = subst (λ now. IsSomeAnd now (HoldsUpto files (cue_files_with library sinks marks))) (sym (files_whole all files told)) (upto_all files (cue_files_with library sinks marks))
+
   module _ (name : List ℕ) (node : ℕ) (fallible wide : Bool) (at : slice_get sinks k ≡ Some (Output name node fallible wide)) (cues : List Cue) (there : slice_get marks (length (written (take k sinks))) ≡ Some cues)
       (after : Option Files) where
     next_is : cue_files_with library (take (k + 1) sinks) marks ≡ cue_files_with library (take k sinks) marks ++ cue_file library name cues ∷ []
@@ -129,3 +137,20 @@ module _ (sinks : List SinkPlan) (k : ℕ) (before between : Option (List (List 
         subst (λ names. MadeFront names before after) (sym whole)
         (front_made (cue_names_in (take k sinks) ++ cue_name said ∷ []) (cue_names_in (drop (k + 1) sinks)) before after
         (then_front (cue_names_in (take k sinks)) (cue_name said ∷ []) before between after so_far front))
+
+-- the marks of an output, by its place
+pub marks_at : (marks : List (Vec CueMark Global)) (place index : ℕ) → place ≡ index → (found : Vec CueMark Global) → place < length marks → found ≡ get_or marks place found → (slice : List CueMark) → slice ≡ found.items
+    → slice_get (cues_of marks) index ≡ Some (map cue_of slice)
+marks_at marks place index same found low is slice items =
+    let there : slice_get marks place ≡ Some found = got marks place found low ∙ ap Some (sym is) in
+    ap (slice_get (cues_of marks)) (sym same)
+    ∙ mapped (map cue_of) (lists_of marks) place found.items (mapped (λ (one : Vec CueMark Global). one.items) marks place found there)
+    ∙ ap (λ xs. Some (map cue_of xs)) (sym items)
+
+-- a cue file by the name of its output
+module _ (library : Sounds) (said name : List ℕ) (same : said ≡ name) (cues : List Cue) (before after : Option Files) where
+  pub named_as : ForSome before (λ files. after ≡ Some (with_outputs files (cue_file library said cues ∷ []))) → ForSome before (λ files. after ≡ Some (with_outputs files (cue_file library name cues ∷ [])))
+  named_as = subst (λ n. ForSome before (λ files. after ≡ Some (with_outputs files (cue_file library n cues ∷ [])))) same
+
+  pub part_named_as : ForSome before (λ files. IsSomeAnd after (HoldsUpto files (cue_file library said cues ∷ []))) → ForSome before (λ files. IsSomeAnd after (HoldsUpto files (cue_file library name cues ∷ [])))
+  part_named_as = subst (λ n. ForSome before (λ files. IsSomeAnd after (HoldsUpto files (cue_file library n cues ∷ [])))) same

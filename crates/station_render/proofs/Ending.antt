@@ -91,6 +91,12 @@ rooms_if room groups (Ok x) is rooms = rooms
 rooms_if room groups (Err e) is rooms = absurd (true≢false (sym is))
 
 module _ (station : Station) where
+  -- the sinks have room for what they owe
+  pub rooms_of : {O : Type 0} (name held : O → Option (List ℕ)) (room : O → Option ℕ) (before : Option Files) (order : List ℕ) (groups : List (List (OutputSink O))) {E : Type 0} (wrote : Result Rendered E)
+      → IfOk wrote (RanWhole (told name) (told held) (owed room) before station order groups) → OnOk wrote (HaveRooms room groups)
+  rooms_of name held room before order groups (Ok rendered) whole = rooms_are name held room before (setting_of_run station whole.run) station.ticks (written station.plan.sinks) order groups whole.whole
+  rooms_of name held room before order groups (Err fault) whole = tt
+
   module _ {O : Type 0} (name held : O → Option (List ℕ)) (room : O → Option ℕ) (before mid after : Option Files) (same : mid ≡ before) (order : List ℕ) (groups : List (List (OutputSink O))) where
     -- all outputs were created, and closed without a fault
     pub all_written : (rendered : Rendered) → RanWhole (told name) (told held) (owed room) before station order groups rendered
@@ -156,12 +162,14 @@ module _ (station : Station) where
     }
 
     -- whatever was written
-    pub part_written : {E : Type 0} (faults : O → ℕ) (w0 w1 w2 : ℕ) → w0 ≤ w1 → (wrote : Result Rendered E) → RanPart (told name) (told held) (told faults) before station order groups
+    pub part_written : {E : Type 0} (faults : O → ℕ) (w0 w1 w2 : ℕ) → w0 ≤ w1 → (wrote : Result Rendered E) (well : Bool) → well ≡ is_ok wrote → RanPart (told name) (told held) (told faults) before station order groups
         → IfOk wrote (RanWhole (told name) (told held) (owed room) before station order groups)
-        → ForSome mid (λ files. (outputs : List OutputPart) → AreCreated (HoldsFrontIf (is_ok wrote) name held faults) outputs order groups → IsSomeAnd after (λ now. HoldsParts w1 files outputs now w2))
+        → ForSome mid (λ files. (outputs : List OutputPart) → AreCreated (HoldsFrontIf well name held faults) outputs order groups → IsSomeAnd after (λ now. HoldsParts w1 files outputs now w2))
         → ForSome before (λ files. WrotePart station w0 w2 files after)
-    part_written faults w0 w1 w2 low (Ok rendered) ran whole closed files at = inr (ends_written faults w0 w1 w2 low rendered whole closed files at)
-    part_written faults w0 w1 w2 low (Err fault) ran whole closed files at = inl (some_written faults w0 w1 w2 low ran closed files at)
+    part_written faults w0 w1 w2 low (Ok rendered) well is ran whole closed files at =
+        inr (ends_written faults w0 w1 w2 low rendered whole (subst (λ b. ForSome mid (λ files. (outputs : List OutputPart) → AreCreated (HoldsFrontIf b name held faults) outputs order groups → IsSomeAnd after (λ now. HoldsParts w1 files outputs now w2))) is closed) files at)
+    part_written faults w0 w1 w2 low (Err fault) well is ran whole closed files at =
+        inl (some_written faults w0 w1 w2 low ran (subst (λ b. ForSome mid (λ files. (outputs : List OutputPart) → AreCreated (HoldsFrontIf b name held faults) outputs order groups → IsSomeAnd after (λ now. HoldsParts w1 files outputs now w2))) is closed) files at)
 
 -- all outputs of a plan are begun, where each holds a part of its bytes
 pub begun_all : {S : Type 0} (name held : S → Option (List ℕ)) (faults : S → ℕ) (files : Option Files) (setting : Setting) (run : Run) (ticks : ℕ) (made tried : ℕ → ℕ) (order : List ℕ) (groups : List (List S))

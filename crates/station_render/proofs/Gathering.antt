@@ -155,6 +155,7 @@ both_are old new k before after was is = λ i. (got_is old k before before was i
 module _ {S : Type 0} {held name : S → Option (List ℕ)} {faults : S → ℕ} {setting : Setting} {clocks : ClockMap} {window ticks : ℕ} {old new : List (ClockEngine S)} (at : AreAt setting old) where
   pub threads_all : {counts : List Counts} {logs : List (List Answers)} → threads.HasRunAll held name faults setting clocks window ticks old new counts logs
       → RanAll held name faults setting clocks.running ticks (Some window) old new counts logs
+  unfolding output_in
   threads_all ran = record {
     run = ran.run;
     lawful = ran.has_run.lawful;
@@ -182,6 +183,7 @@ module _ {S : Type 0} {held name : S → Option (List ℕ)} {faults : S → ℕ}
   }
 
   pub threads_some : {end : End} → threads.HasRunSome held name faults setting clocks window ticks old new end → RanSome held name faults setting clocks.running ticks (Some window) old new end
+  unfolding output_in
   threads_some ran = record {
     run = ran.run;
     begun = ran.begun;

@@ -15,3 +15,5 @@ pub mod Tracing
 pub mod Leaving
 pub mod CueFiles
 pub mod Writing
+pub mod Known
+pub mod Marking

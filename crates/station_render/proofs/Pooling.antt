@@ -1,12 +1,12 @@
 -- Engines that take sinks and give them back.
-use Rattle.std.proofs.Common.{◌≡◌, ◌<◌, ◌≤◌, ◌+◌, ◌∙◌, ◌++◌, ℕ, zero, suc, Some, List, [], ◌∷◌, length, get_or, set, slice_get, arith, ap, sym, subst, vec_len, add-one}
+use Rattle.std.proofs.Common.{◌≡◌, ◌<◌, ◌≤◌, ◌+◌, ◌∙◌, ◌++◌, ℕ, zero, suc, Bool, true, Some, List, [], ◌∷◌, length, get_or, set, slice_get, arith, ap, sym, subst, vec_len, add-one}
 use Rattle.std.specs.Prelude.{Vec}
 use Rattle.std.specs.declared.alloc.Global.{Global}
 use Rattle.std.proofs.lemmas.List.{map-append, length-append}
 use Rattle.clock_engine.specs.declared.engine.ClockEngine.{ClockEngine}
 use Rattle.stream_meaning.specs.Instants.{Setting}
 use Rattle.station_render.specs.Sinks.{lists_of}
-use Rattle.station_render.specs.Engines.{AreAt, AreEmptyBelow, IsAt, outs_of, pooled}
+use Rattle.station_render.specs.Engines.{AreAt, AreEmptyBelow, AreKeeping, IsAt, outs_of, pooled}
 use Rattle.station_render.proofs.Lists.{here_is, many_mapped, set_many, set_other, within}
 use Rattle.station_render.proofs.Pools.{empty_below_fewer, empty_below_more, empty_last, pool_back, pool_more}
 
@@ -113,3 +113,15 @@ module _ {S : Type 0} where
     pub taking_at : (setting : Setting) → AreAt setting engines → IsAt setting clock engine → AreAt setting engines_new
     taking_at setting at here =
         subst (λ es. AreAt setting es) (sym is) (at_more setting engines engine at (subst (λ n. IsAt setting n engine) (sym count) here))
+
+-- one more engine keeps its marks
+pub taking_keeping : {S : Type 0} (wanted : Bool) (engines more : List (ClockEngine S)) (engine : ClockEngine S) → more ≡ engines ++ engine ∷ [] → AreKeeping wanted engines
+    → (wanted ≡ true → engine.parts.cues.keeping ≡ true) → AreKeeping wanted more
+taking_keeping wanted engines more engine items keep one is m other at =
+    keep_at engines (λ k e found. keep is k e found) m other (ap (λ es. slice_get es m) (sym items) ∙ at)
+  where
+    keep_at : (front : List (ClockEngine _)) → ((k : ℕ) (e : ClockEngine _) → slice_get front k ≡ Some e → e.parts.cues.keeping ≡ true) → (n : ℕ) (found : ClockEngine _) → slice_get (front ++ engine ∷ []) n ≡ Some found → found.parts.cues.keeping ≡ true
+    keep_at [] each zero found there = let same : engine ≡ found = cc in subst (λ e. e.parts.cues.keeping ≡ true) same (one is)
+    keep_at [] each (suc n) found there = absurd cc
+    keep_at (e ∷ front) each zero found there = each 0 found there
+    keep_at (e ∷ front) each (suc n) found there = keep_at front (λ k f at_k. each (suc k) f at_k) n found there

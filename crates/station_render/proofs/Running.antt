@@ -176,9 +176,10 @@ module _ {S : Type 0} (held name : S → Option (List ℕ)) (faults : S → ℕ)
       → slice_get mine j ≡ Some output → slice_get old.outs j ≡ Some before → slice_get new.outs j ≡ Some after
       → (name after ≡ name before) × (held after ≡ grown (ticks_bytes world output.wide output.node ticks) (held before))
   whole_at world run j output before after at was is =
-      let both = held_both run.over run.clock j output before after at was is in
-      ((run.kept.each j before after was is).0,
-      sym both.4 ∙ run.grew both.0 output.node both.1 ∙ ap (λ w. grown (ticks_bytes world w output.node ticks) (held_of held old both.0)) both.2 ∙ ap (grown (ticks_bytes world output.wide output.node ticks)) both.3)
+      let both = held_both run.over run.clock j output before after at was is in (
+        (run.kept.each j before after was is).0,
+        sym both.4 ∙ run.grew both.0 output.node both.1 ∙ ap (λ w. grown (ticks_bytes world w output.node ticks) (held_of held old both.0)) both.2 ∙ ap (grown (ticks_bytes world output.wide output.node ticks)) both.3,
+      )
 
   -- after a part of them
   pub part_at : (worlds : (ℕ → List Answer) → Setting) (least most : ℕ) → HasRunPart held name faults worlds least most old new → (rest : ℕ → List Answer) (j : ℕ) (output : Written) (before after : S)
@@ -187,13 +188,15 @@ module _ {S : Type 0} (held name : S → Option (List ℕ)) (faults : S → ℕ)
       × ((bytes : List ℕ) × IsPrefix (ticks_bytes (worlds rest) output.wide output.node least) bytes × IsPrefix bytes (ticks_bytes (worlds rest) output.wide output.node most) × (held after ≡ grown bytes (held before)))
   part_at worlds least most run rest j output before after at was is =
       let both = held_both run.setting run.clock j output before after at was is in
-      let part = run.part rest both.0 output.node both.1 in
-      ((run.kept.each j before after was is).0, (
-        part.0,
-        subst (λ w. IsPrefix (ticks_bytes (worlds rest) w output.node least) part.0) both.2 part.1,
-        subst (λ w. IsPrefix part.0 (ticks_bytes (worlds rest) w output.node most)) both.2 part.2,
-        sym both.4 ∙ part.3 ∙ ap (grown part.0) both.3,
-      ))
+      let part = run.part rest both.0 output.node both.1 in (
+        (run.kept.each j before after was is).0,
+        (
+          part.0,
+          subst (λ w. IsPrefix (ticks_bytes (worlds rest) w output.node least) part.0) both.2 part.1,
+          subst (λ w. IsPrefix part.0 (ticks_bytes (worlds rest) w output.node most)) both.2 part.2,
+          sym both.4 ∙ part.3 ∙ ap (grown part.0) both.3,
+        ),
+      )
 
   -- the output lies in this clock
   pub lies_here : (j : ℕ) (output : Written) → slice_get mine j ≡ Some output → clock_of here output.node ≡ Main old.parts.clock

@@ -1,6 +1,6 @@
 -- The logs of a run by threads are a trace.
-use Rattle.std.proofs.Common.{◌≡◌, ◌<◌, ◌≤◌, ◌+◌, ◌*◌, ◌-◌, ◌/◌, ◌∙◌, ◌++◌, ◌⊎◌, ℕ, zero, suc, Bool, List, [], ◌∷◌, length, map, slice_index_or, append-nil, arith, refl, ap, sym, subst, inl, inr, false}
-use Rattle.std.specs.Prelude.{Option, Some, None, Result, Ok, Err, OnOk, OnErr, IfOk, IsSome, IsSomeAnd, is_some}
+use Rattle.std.proofs.Common.{◌≡◌, ◌<◌, ◌≤◌, ◌+◌, ◌*◌, ◌-◌, ◌/◌, ◌∙◌, ◌++◌, ◌⊎◌, ℕ, zero, suc, Bool, List, [], ◌∷◌, length, map, slice_index_or, arith, refl, ap, sym, subst, inl, inr}
+use Rattle.std.specs.Prelude.{Some}
 use Rattle.std.proofs.lemmas.Nat.{div-mul-add}
 use Rattle.std.proofs.Math.Nat.{min-eq_left, min-eq_right, suc-mul}
 use Rattle.plan_core.specs.Plans.{IsWellFormed, ReadsBuffer}
@@ -14,8 +14,7 @@ use Rattle.buffer_ends.specs.Local.{Answers}
 use Rattle.buffer_sides.specs.Logs.{told}
 use Rattle.clock_windows.proofs.Meeting.{low_or_high}
 use Rattle.clock_windows.proofs.Starts.{start_zero}
-use Rattle.trace_log.specs.Texts.{IsTrace, trace_text, windows_of}
-use Rattle.trace_log.specs.Values.{TraceValue}
+use Rattle.trace_log.specs.Texts.{IsTrace, windows_of}
 use Rattle.station_render.proofs.Lists.{many_mapped, within}
 
 -- Where each of the numbers below m has a place below n, and no place is that of two, there are at least as many places.

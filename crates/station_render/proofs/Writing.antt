@@ -1,5 +1,5 @@
 -- A file that is written at once, wholly or in part.
-use Rattle.std.proofs.Common.{◌≡◌, ◌∙◌, ◌-◌, ℕ, List, [], ◌∷◌, length, append-nil, arith, refl, ap, sym, subst, inl, inr}
+use Rattle.std.proofs.Common.{◌≡◌, ◌∙◌, ℕ, List, [], ◌∷◌, length, append-nil, arith, refl, ap, sym, subst, inl, inr}
 use Rattle.std.specs.Prelude.{⊤, Option, Some, None, Result, Ok, Err, OnOk, OnErr, IsSome, IsSomeAnd, is_some}
 use Rattle.std.specs.Option.{ForSome}
 use Rattle.liq_base.specs.Created.{is_told, part_left_or}

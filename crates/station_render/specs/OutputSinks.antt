@@ -1,5 +1,5 @@
 -- The sinks of outputs, each of which may owe a last zero byte.
-use Rattle.std.specs.Prelude.{◌≡◌, ◌⊎◌, ℕ, ◌-◌, Bool, true, false, Option, Some, None, List, [], ◌∷◌, ◌++◌, nat_lt, slice_get, if◌then◌else◌}
+use Rattle.std.specs.Prelude.{◌≡◌, ◌⊎◌, ℕ, zero, suc, ◌-◌, Bool, true, false, Option, Some, None, List, [], ◌∷◌, ◌++◌, slice_get, if◌then◌else◌}
 use Rattle.liq_base.specs.Pieces.{HasRoom, IsPrefix, grown}
 use Rattle.stations.specs.Outputs.{OutputFile, OutputPart}
 use Rattle.station_render.specs.Sinks.{HoldsFront}
@@ -25,7 +25,8 @@ spared room output = but_one_if output.odd (room output.sink)
 -- whether there is room for a byte, as far as it is told
 abbrev pub has_one : Option ℕ → Bool
 has_one None = true
-has_one (Some room) = nat_lt 0 room
+has_one (Some zero) = false
+has_one (Some (suc room)) = true
 
 -- what is owed: nothing, or a byte, and whether there is room for it
 abbrev pub owed_by : (odd : Bool) → Option ℕ → ℕ

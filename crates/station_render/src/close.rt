@@ -10,8 +10,8 @@ ghost use Rattle.station_render.specs.Runs.{RanPart, RanWhole, WroteOutputs};
 ghost use Rattle.station_render.specs.OutputSinks.{HaveRooms, HoldsBody, HoldsFrontIf, owed, told};
 ghost use Rattle.station_render.specs.Sinks.{AreCreated, HasFailed, HaveSizes, AreAllEmpty, WasTaken, lists_of};
 
-use crate::{RenderFault, Rendered};
 use crate::output_sink::{OutputSink, end_if};
+use crate::{RenderFault, Rendered};
 use liq_base::{Failed, Shelf};
 
 /// Closes all sinks in sink order, whatever was written, and answers what was told of it.
@@ -69,8 +69,9 @@ fn close_each<S: Shelf>(
         return Ok(());
     };
     let mut groups = groups;
-    let output = take_first(&mut groups, *clock);
-    let (sink, ended) = end_if(well, output);
+    let mut output = take_first(&mut groups, *clock);
+    let ended = end_if(well, &mut output);
+    let OutputSink { sink, odd: _odd } = output;
     let first = shelf.close(sink);
     let goes_on = still_well(well, ended, first);
     let others = close_each(shelf, rest, groups, goes_on);

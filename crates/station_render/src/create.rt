@@ -47,7 +47,10 @@ pub(crate) fn create_each<S: Shelf>(
 {
     for sink in plan.sinks.as_slice() {
         let SinkPlan::Output {
-            name, node, wide, ..
+            name,
+            node,
+            wide,
+            ..
         } = sink
         else {
             continue;

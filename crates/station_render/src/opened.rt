@@ -39,13 +39,6 @@ pub(crate) fn open_all<'a, S: Shelf>(
     ensures reads { S.read_count shelf.old ≤ S.read_count shelf.new }
     ensures writes { S.write_count shelf.old ≤ S.write_count shelf.new }
 {
-    create_each(
-        job.plan,
-        &job.ready.clocks,
-        job.ticks,
-        shelf,
-        order,
-        groups,
-    )?;
+    create_each(job.plan, &job.ready.clocks, job.ticks, shelf, order, groups)?;
     Ok(make_engines(alloc, job, groups)?)
 }

@@ -1,8 +1,7 @@
 // The sink of an output.
-ghost use Rattle.std.specs.Prelude.{◌≡◌, ◌⊎◌, ◌<◌, ◌≤◌, true, length, OnOk, OnErr, is_ok};
-ghost use Rattle.liq_base.specs.Counts.{Rose};
+ghost use Rattle.std.specs.Prelude.{◌≡◌, ◌<◌, ◌≤◌, true, OnOk, OnErr};
 ghost use Rattle.liq_base.specs.Pieces.{HasRoom};
-ghost use Rattle.station_render.specs.OutputSinks.{HasEnded, HasEndedPart, told};
+ghost use Rattle.station_render.specs.OutputSinks.{HasEnded, HasEndedPart};
 
 use liq_base::{Failed, Sink};
 
@@ -33,20 +32,17 @@ impl<O: Sink> Sink for OutputSink<O> {
     }
 }
 
-/// The sink of an output, before it is closed: where all went well, it gets one zero byte if a byte is owed.
-pub(crate) fn end_if<O: Sink>(well: bool, output: OutputSink<O>) -> (O, Result<(), Failed>)
-    requires { well ≡ true → output.odd ≡ true → HasRoom (O.room output.sink) 1 }
-    ensures name { O.name result.0 ≡ O.name output.sink }
-    ensures ended { OnOk result.1 (well ≡ true → HasEnded O.held output.odd output.sink result.0) }
-    ensures part { HasEndedPart O.held well output.odd output.sink result.0 }
-    ensures faults { O.faults output.sink ≤ O.faults result.0 }
-    ensures cause { OnErr result.1 (0 < O.faults result.0) }
+/// Ends an output, before it is closed: where all went well, its sink gets one zero byte if a byte is owed.
+pub(crate) fn end_if<O: Sink>(well: bool, output: &mut OutputSink<O>) -> Result<(), Failed>
+    requires { well ≡ true → output.old.odd ≡ true → HasRoom (O.room output.old.sink) 1 }
+    ensures name { O.name output.new.sink ≡ O.name output.old.sink }
+    ensures ended { OnOk result (well ≡ true → HasEnded O.held output.old.odd output.old.sink output.new.sink) }
+    ensures part { HasEndedPart O.held well output.old.odd output.old.sink output.new.sink }
+    ensures faults { O.faults output.old.sink ≤ O.faults output.new.sink }
+    ensures cause { OnErr result (0 < O.faults output.new.sink) }
 {
-    let OutputSink { sink, odd } = output;
-    let mut sink = sink;
-    if !well || !odd {
-        return (sink, Ok(()));
+    if !well || !output.odd {
+        return Ok(());
     }
-    let wrote = sink.append(&[0]);
-    (sink, wrote)
+    output.sink.append(&[0])
 }

@@ -1,6 +1,5 @@
-use Rattle.std.proofs.Common.{◌≡◌, ◌∙◌, refl, subst, ap, sym, true}
+use Rattle.std.proofs.Common.{◌≡◌, ◌∙◌, refl, subst, ap, sym}
 use Rattle.std.specs.Prelude.{IfOk, Ok, Result, is_ok}
-use Rattle.std.specs.Option.{ForSome}
 use Rattle.station_render.specs.declared.fault.RenderFault.{RenderFault}
 use Rattle.station_render.specs.declared.rendered.Rendered.{Rendered}
 use Rattle.station_render.specs.OutputSinks.{owed, told}
@@ -11,25 +10,25 @@ use Rattle.station_render.proofs.close.close_all.Goals as goal
 
 pub close_each-closed-requires-clause-rooms : goal.close_each-closed-requires-clause-rooms
 close_each-closed-requires-clause-rooms g c = λ κs lives well.
-    rooms_if g.S.Out.Sink.room (lists_of c.args.groups.items) c.args.wrote (sym c.is_ok.ensures ∙ well) c.requires.rooms
+    rooms_if g.S.Out.Sink.room (lists_of c.args.groups.items) c.args.wrote (sym c.is_ok.ensures.value ∙ well) c.requires.rooms
 
 pub returns-in_err-rendered-clause-part : goal.returns-in_err-rendered-clause-part
 returns-in_err-rendered-clause-part g c = λ station before count same low part whole.
-    part_written station g.S.Out.Sink.name g.S.Out.Sink.held g.S.Out.Sink.room before _ _ same c.args.order.now (lists_of c.args.groups.items) g.S.Out.Sink.faults count _ _ low c.args.wrote part whole c.close_each-closed.ensures.part
+    part_written station g.S.Out.Sink.name g.S.Out.Sink.held g.S.Out.Sink.room before _ _ same c.args.order.now (lists_of c.args.groups.items) g.S.Out.Sink.faults count _ _ low c.args.wrote c.is_ok.result c.is_ok.ensures.value part whole c.close_each-closed.ensures.part
 
 pub returns-in_err-closed-clause-part : goal.returns-in_err-closed-clause-part
 returns-in_err-closed-clause-part g c = λ station before count same low part whole.
-    part_written station g.S.Out.Sink.name g.S.Out.Sink.held g.S.Out.Sink.room before _ _ same c.args.order.now (lists_of c.args.groups.items) g.S.Out.Sink.faults count _ _ low c.args.wrote part whole c.close_each-closed.ensures.part
+    part_written station g.S.Out.Sink.name g.S.Out.Sink.held g.S.Out.Sink.room before _ _ same c.args.order.now (lists_of c.args.groups.items) g.S.Out.Sink.faults count _ _ low c.args.wrote c.is_ok.result c.is_ok.ensures.value part whole c.close_each-closed.ensures.part
 
 pub returns-clause-part : goal.returns-clause-part
 returns-clause-part g c = λ station before count same low part whole.
-    part_written station g.S.Out.Sink.name g.S.Out.Sink.held g.S.Out.Sink.room before _ _ same c.args.order.now (lists_of c.args.groups.items) g.S.Out.Sink.faults count _ _ low c.args.wrote part whole c.close_each-closed.ensures.part
+    part_written station g.S.Out.Sink.name g.S.Out.Sink.held g.S.Out.Sink.room before _ _ same c.args.order.now (lists_of c.args.groups.items) g.S.Out.Sink.faults count _ _ low c.args.wrote c.is_ok.result c.is_ok.ensures.value part whole c.close_each-closed.ensures.part
 
 pub returns-clause-done : goal.returns-clause-done
 returns-clause-done g c = λ station before same whole.
     let is : c.args.wrote ≡ Ok c.in_ok-rendered.rendered = c.branch-rendered.ensures ∙ (rw c.in_ok-rendered.is refl) in
     all_written station g.S.Out.Sink.name g.S.Out.Sink.held g.S.Out.Sink.room before _ _ same c.args.order.now (lists_of c.args.groups.items) c.in_ok-rendered.rendered
-    (subst (λ (r : Result Rendered RenderFault). IfOk r (RanWhole (told g.S.Out.Sink.name) (told g.S.Out.Sink.held) (owed g.S.Out.Sink.room) before station c.args.order.now (lists_of c.args.groups.items))) is whole) (c.in_ok-closed.ensures.whole (ap is_ok is))
+    (subst (λ (r : Result Rendered RenderFault). IfOk r (RanWhole (told g.S.Out.Sink.name) (told g.S.Out.Sink.held) (owed g.S.Out.Sink.room) before station c.args.order.now (lists_of c.args.groups.items))) is whole) (c.in_ok-closed.ensures.whole (c.is_ok.ensures.value ∙ ap is_ok is))
 
 pub returns-clause-well : goal.returns-clause-well
 returns-clause-well g c =

@@ -2,6 +2,7 @@ use Rattle.std.proofs.Common.{arith, List, ◌≡◌, ◌<◌, ◌≤◌, ◌+�
 use Rattle.std.specs.Prelude.{Some}
 use Rattle.plan_core.specs.declared.sink.SinkPlan.{SinkPlan}
 use Rattle.plan_core.specs.declared.sink.SinkPlan.TheVariants.{Output, Feed}
+use Rattle.station_render.specs.OutputSinks.{owed, spared, told}
 use Rattle.station_render.specs.Sinks.{lists_of}
 use Rattle.station_render.specs.Renders.{order_of, setting_for, written}
 use Rattle.station_render.proofs.Lists.{got}
@@ -63,7 +64,7 @@ returns-in_err-create_one-clause-begun g c =
     got c.args.plan.now.sinks c.loop-sink.sink-index c.sink-item.result low ∙ ap Some (sym item ∙ c.in-Output.is) in
     let below = clock_below c.args.plan.now c.requires.fit.0 c.args.clocks.now c.args.ticks c.requires.fit.1 c.loop-sink.sink-index c.in-Output.name c.in-Output.node c.in-Output.fallible c.in-Output.wide at
     c.opening_of-opening.result.clock c.opening_of-opening.ensures.clock (length (lists_of c.loop-sink.groups.items)) c.loop-sink.invariant.size in
-    λ library start run made tried none. broken_off g.S.Out.Sink.name g.S.Out.Sink.held g.S.Out.Sink.room g.S.Out.Sink.faults (g.S.Shelf.files c.args.shelf.now) (g.S.Shelf.files c.loop-sink.shelf) c.loop-sink.invariant.files
+    λ library start run made tried none. broken_off (told g.S.Out.Sink.name) (told g.S.Out.Sink.held) (spared g.S.Out.Sink.room) (owed g.S.Out.Sink.room) (told g.S.Out.Sink.faults) (g.S.Shelf.files c.args.shelf.now) (g.S.Shelf.files c.loop-sink.shelf) c.loop-sink.invariant.files
     (setting_for c.args.plan.now library c.args.clocks.now start) c.args.ticks c.loop-sink.sink-index c.in-Output.name c.as_str.result.now c.in-Output.node c.in-Output.fallible c.in-Output.wide at c.as_str.ensures.same
     c.opening_of-opening.result.clock c.opening_of-opening.result.header c.opening_of-opening.result.body c.loop-sink.order.items c.create_one.new.order.items
     (lists_of c.loop-sink.groups.items) (lists_of c.create_one.new.groups.items) below c.opening_of-opening.ensures.header (c.loop-sink.invariant.created library start) run made tried none c.in_err-create_one.ensures.broken
@@ -78,12 +79,12 @@ loop-sink-preserved g c =
     c.opening_of-opening.result.clock c.opening_of-opening.ensures.clock (length (lists_of c.loop-sink.groups.items)) c.loop-sink.invariant.size in
     let made = c.in_ok-create_one.ensures.created in
     record {
-      created = λ library start. next_ready g.S.Out.Sink.name g.S.Out.Sink.held g.S.Out.Sink.room g.S.Out.Sink.faults (g.S.Shelf.files c.args.shelf.now) (g.S.Shelf.files c.loop-sink.shelf) c.loop-sink.invariant.files
+      created = λ library start. next_ready (told g.S.Out.Sink.name) (told g.S.Out.Sink.held) (spared g.S.Out.Sink.room) (owed g.S.Out.Sink.room) (told g.S.Out.Sink.faults) (g.S.Shelf.files c.args.shelf.now) (g.S.Shelf.files c.loop-sink.shelf) c.loop-sink.invariant.files
           (setting_for c.args.plan.now library c.args.clocks.now start) c.args.ticks c.loop-sink.sink-index c.in-Output.name c.as_str.result.now c.in-Output.node c.in-Output.fallible c.in-Output.wide at c.as_str.ensures.same
           c.opening_of-opening.result.clock c.opening_of-opening.result.header c.opening_of-opening.result.body c.loop-sink.order.items c.create_one.new.order.items
           (lists_of c.loop-sink.groups.items) (lists_of c.create_one.new.groups.items) below c.opening_of-opening.ensures.header (c.loop-sink.invariant.created library start) c.opening_of-opening.ensures.body made;
       order = λ library start.
-          order_more (setting_for c.args.plan.now library c.args.clocks.now start) (written (take c.loop-sink.sink-index c.args.plan.now.sinks)) (record { name = c.in-Output.name; node = c.in-Output.node })
+          order_more (setting_for c.args.plan.now library c.args.clocks.now start) (written (take c.loop-sink.sink-index c.args.plan.now.sinks)) (record { name = c.in-Output.name; node = c.in-Output.node; wide = c.in-Output.wide })
           c.opening_of-opening.result.clock c.loop-sink.order.items c.create_one.new.order.items (c.loop-sink.invariant.order library start) made.order_is c.opening_of-opening.ensures.clock
           ∙ ap (order_of (setting_for c.args.plan.now library c.args.clocks.now start)) (sym (written_next c.args.plan.now.sinks c.loop-sink.sink-index c.in-Output.name c.in-Output.node c.in-Output.fallible c.in-Output.wide at));
       size = added_many c.opening_of-opening.result.clock made.sink (lists_of c.loop-sink.groups.items) (lists_of c.create_one.new.groups.items) made.added ∙ c.loop-sink.invariant.size;
@@ -106,7 +107,7 @@ returns-clause-order g c =
     λ library start. c.loop-sink.invariant.order library start ∙ ap (λ sinks. order_of (setting_for c.args.plan.now library c.args.clocks.now start) (written sinks)) (take_whole c.args.plan.now.sinks c.loop-sink.sink-index all)
 
 pub returns-clause-begun : goal.returns-clause-begun
-returns-clause-begun g c = λ library start run made tried none. begun_here g.S.Out.Sink.name g.S.Out.Sink.held g.S.Out.Sink.room g.S.Out.Sink.faults (g.S.Shelf.files c.args.shelf.now)
+returns-clause-begun g c = λ library start run made tried none. begun_here (told g.S.Out.Sink.name) (told g.S.Out.Sink.held) (spared g.S.Out.Sink.room) (owed g.S.Out.Sink.room) (told g.S.Out.Sink.faults) (g.S.Shelf.files c.args.shelf.now)
     (setting_for c.args.plan.now library c.args.clocks.now start) c.args.ticks run made tried none c.loop-sink.sink-index c.loop-sink.order.items (lists_of c.loop-sink.groups.items) (c.loop-sink.invariant.created library start)
 
 pub returns-in_err-create_one-clause-front : goal.returns-in_err-create_one-clause-front

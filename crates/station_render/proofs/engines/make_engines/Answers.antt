@@ -1,10 +1,10 @@
 use Rattle.std.proofs.Common.{rules, arith, ◌≡◌, ◌+◌, ◌∙◌, ◌++◌, ◌∷◌, [], length, sym, vec_len}
 use Rattle.station_render.specs.Sinks.{lists_of}
 use Rattle.station_render.specs.Engines.{outs_of}
-use Rattle.station_render.specs.Renders.{setting_for}
+use Rattle.station_render.specs.Runs.{setting_by}
 use Rattle.station_render.proofs.Lists.{lists_many}
 use Rattle.station_render.proofs.Pools.{pool_all}
-use Rattle.station_render.proofs.Pooling.{outs_many, taking_at, taking_count, taking_empty, taking_left, taking_many, taking_pool}
+use Rattle.station_render.proofs.Pooling.{outs_many, taking_at, taking_count, taking_empty, taking_keeping, taking_left, taking_many, taking_pool}
 use Rattle.station_render.proofs.engines.make_engines.Goals as goal
 
 pub loop-clock-preserved : goal.loop-clock-preserved
@@ -15,8 +15,9 @@ loop-clock-preserved g c =
     items c.loop-clock.invariant.count c.in-Ok.ensures.outs c.in-Ok.ensures.taken in
     record {
       made = taking_at c.loop-clock.engines.items c.push.new.self.items c.in-Ok.engine (lists_of c.loop-clock.groups.items) (lists_of c.make_engine.new.groups.items) c.loop-clock.clock
-          items c.loop-clock.invariant.count c.in-Ok.ensures.outs c.in-Ok.ensures.taken (setting_for c.args.plan.now c.args.ready.now.library c.args.ready.now.clocks c.args.start.second)
+          items c.loop-clock.invariant.count c.in-Ok.ensures.outs c.in-Ok.ensures.taken (setting_by c.args.job.now)
           c.loop-clock.invariant.made c.in-Ok.ensures.made;
+      keeping = taking_keeping c.args.job.now.cues c.loop-clock.engines.items c.push.new.self.items c.in-Ok.engine items c.loop-clock.invariant.keeping c.in-Ok.ensures.keeping;
       count = taking_count c.loop-clock.engines.items c.push.new.self.items c.in-Ok.engine (lists_of c.loop-clock.groups.items) (lists_of c.make_engine.new.groups.items) c.loop-clock.clock
           items c.loop-clock.invariant.count c.in-Ok.ensures.outs c.in-Ok.ensures.taken;
       len = omega (arith, len, c.loop-clock.invariant.len);

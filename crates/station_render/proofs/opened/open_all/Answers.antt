@@ -1,10 +1,11 @@
 use Rattle.std.proofs.Common.{◌≡◌, ◌∙◌, ℕ, List, [], length, ap, sym, subst}
 use Rattle.std.proofs.lemmas.Result.{err_from_is_err_and}
 use Rattle.rounds_run.proofs.Records.{run_of}
-use Rattle.stations.specs.Stations.{station_of}
 use Rattle.station_render.specs.Sinks.{AreCreated, lists_of}
 use Rattle.station_render.specs.Renders.{IsReady, order_of, setting_for, written}
-use Rattle.station_render.specs.Runs.{RanPart}
+use Rattle.station_render.specs.OutputSinks.{owed, spared, told}
+use Rattle.station_render.specs.Runs.{RanPart, station_in}
+use Rattle.station_render.specs.declared.output_sink.OutputSink.{OutputSink}
 use Rattle.station_render.proofs.Fits.{are_main}
 use Rattle.station_render.proofs.Gathering.{not_begun}
 use Rattle.station_render.proofs.Pooling.{outs_many}
@@ -17,49 +18,49 @@ pub returns-in_err-create_each-clause-part : goal.returns-in_err-create_each-cla
 returns-in_err-create_each-clause-part g c =
     let p = err_from_is_err_and c.from_residual.result c.from_residual.ensures.1 in rw p.1
     (λ window trace. record {
-      run = run_of (length c.args.plan.now.buffers) [];
-      begun = (not_begun (setting_for c.args.plan.now c.args.ready.now.library c.args.ready.now.clocks c.args.start.second) c.args.ready.now.clocks.running c.args.ticks window).0;
-      parts = c.create_each.ensures.begun c.args.ready.now.library c.args.start.second (run_of (length c.args.plan.now.buffers) []) _ _
-          (not_begun (setting_for c.args.plan.now c.args.ready.now.library c.args.ready.now.clocks c.args.start.second) c.args.ready.now.clocks.running c.args.ticks window).1;
+      run = run_of (length c.args.job.now.plan.now.buffers) [];
+      begun = (not_begun (setting_for c.args.job.now.plan.now c.args.job.now.ready.now.library c.args.job.now.ready.now.clocks c.args.job.now.start.second) c.args.job.now.ready.now.clocks.running c.args.job.now.ticks window).0;
+      parts = c.create_each.ensures.begun c.args.job.now.ready.now.library c.args.job.now.start.second (run_of (length c.args.job.now.plan.now.buffers) []) _ _
+          (not_begun (setting_for c.args.job.now.plan.now c.args.job.now.ready.now.library c.args.job.now.ready.now.clocks c.args.job.now.start.second) c.args.job.now.ready.now.clocks.running c.args.job.now.ticks window).1;
     })
 
 pub make_engines-requires-clause-sinks : goal.make_engines-requires-clause-sinks
 make_engines-requires-clause-sinks g c =
-    let setting = setting_for c.args.plan.now c.args.ready.now.library c.args.ready.now.clocks c.args.start.second in
-    let main = are_main c.args.plan.now c.args.ready.now.library c.args.ready.now.clocks c.args.ticks c.requires.fit in
-    let ready : AreCreated (IsReady g.S.Out.Sink.name g.S.Out.Sink.held g.S.Out.Sink.room (g.S.Shelf.files c.args.shelf.now) setting c.args.ticks) (written c.args.plan.now.sinks) (order_of setting (written c.args.plan.now.sinks)) (lists_of c.create_each.new.groups.items) =
-    subst (λ o. AreCreated (IsReady g.S.Out.Sink.name g.S.Out.Sink.held g.S.Out.Sink.room (g.S.Shelf.files c.args.shelf.now) setting c.args.ticks) (written c.args.plan.now.sinks) o (lists_of c.create_each.new.groups.items))
-    (c.in_ok-create_each.ensures.order c.args.ready.now.library c.args.start.second) (c.in_ok-create_each.ensures.ready c.args.ready.now.library c.args.start.second) in
+    let setting = setting_for c.args.job.now.plan.now c.args.job.now.ready.now.library c.args.job.now.ready.now.clocks c.args.job.now.start.second in
+    let main = are_main c.args.job.now.plan.now c.args.job.now.ready.now.library c.args.job.now.ready.now.clocks c.args.job.now.ticks c.requires.fit in
+    let ready : AreCreated (IsReady (told g.S.Out.Sink.name) (told g.S.Out.Sink.held) (spared g.S.Out.Sink.room) (owed g.S.Out.Sink.room) (g.S.Shelf.files c.args.shelf.now) setting c.args.job.now.ticks) (written c.args.job.now.plan.now.sinks) (order_of setting (written c.args.job.now.plan.now.sinks)) (lists_of c.create_each.new.groups.items) =
+    subst (λ o. AreCreated (IsReady (told g.S.Out.Sink.name) (told g.S.Out.Sink.held) (spared g.S.Out.Sink.room) (owed g.S.Out.Sink.room) (g.S.Shelf.files c.args.shelf.now) setting c.args.job.now.ticks) (written c.args.job.now.plan.now.sinks) o (lists_of c.create_each.new.groups.items))
+    (c.in_ok-create_each.ensures.order c.args.job.now.ready.now.library c.args.job.now.start.second) (c.in_ok-create_each.ensures.ready c.args.job.now.ready.now.library c.args.job.now.start.second) in
     λ clock group at.
-    many_sinks setting c.args.ticks (in_main c.args.plan.now c.args.ready.now.library c.args.ready.now.clocks c.args.start.second c.args.ticks main)
-    (IsReady g.S.Out.Sink.name g.S.Out.Sink.held g.S.Out.Sink.room (g.S.Shelf.files c.args.shelf.now) setting c.args.ticks) (lists_of c.create_each.new.groups.items) ready clock group at
+    many_sinks setting c.args.job.now.ticks (in_main c.args.job.now.plan.now c.args.job.now.ready.now.library c.args.job.now.ready.now.clocks c.args.job.now.start.second c.args.job.now.ticks main)
+    (IsReady (told g.S.Out.Sink.name) (told g.S.Out.Sink.held) (spared g.S.Out.Sink.room) (owed g.S.Out.Sink.room) (g.S.Shelf.files c.args.shelf.now) setting c.args.job.now.ticks) (lists_of c.create_each.new.groups.items) ready clock group at
 
 pub returns-in_err-make_engines-clause-part : goal.returns-in_err-make_engines-clause-part
 returns-in_err-make_engines-clause-part g c =
     let p = err_from_is_err_and c.from_residual-in_err-make_engines.result c.from_residual-in_err-make_engines.ensures.1 in
-    let setting = setting_for c.args.plan.now c.args.ready.now.library c.args.ready.now.clocks c.args.start.second in
-    let order_is = c.in_ok-create_each.ensures.order c.args.ready.now.library c.args.start.second in
-    let ready : AreCreated (IsReady g.S.Out.Sink.name g.S.Out.Sink.held g.S.Out.Sink.room (g.S.Shelf.files c.args.shelf.now) setting c.args.ticks) (written c.args.plan.now.sinks) (order_of setting (written c.args.plan.now.sinks)) (lists_of c.create_each.new.groups.items) =
-    subst (λ o. AreCreated (IsReady g.S.Out.Sink.name g.S.Out.Sink.held g.S.Out.Sink.room (g.S.Shelf.files c.args.shelf.now) setting c.args.ticks) (written c.args.plan.now.sinks) o (lists_of c.create_each.new.groups.items))
-    order_is (c.in_ok-create_each.ensures.ready c.args.ready.now.library c.args.start.second) in
+    let setting = setting_for c.args.job.now.plan.now c.args.job.now.ready.now.library c.args.job.now.ready.now.clocks c.args.job.now.start.second in
+    let order_is = c.in_ok-create_each.ensures.order c.args.job.now.ready.now.library c.args.job.now.start.second in
+    let ready : AreCreated (IsReady (told g.S.Out.Sink.name) (told g.S.Out.Sink.held) (spared g.S.Out.Sink.room) (owed g.S.Out.Sink.room) (g.S.Shelf.files c.args.shelf.now) setting c.args.job.now.ticks) (written c.args.job.now.plan.now.sinks) (order_of setting (written c.args.job.now.plan.now.sinks)) (lists_of c.create_each.new.groups.items) =
+    subst (λ o. AreCreated (IsReady (told g.S.Out.Sink.name) (told g.S.Out.Sink.held) (spared g.S.Out.Sink.room) (owed g.S.Out.Sink.room) (g.S.Shelf.files c.args.shelf.now) setting c.args.job.now.ticks) (written c.args.job.now.plan.now.sinks) o (lists_of c.create_each.new.groups.items))
+    order_is (c.in_ok-create_each.ensures.ready c.args.job.now.ready.now.library c.args.job.now.start.second) in
     rw p.1 (λ window trace.
-    subst (λ (z : List ℕ × List (List g.row.S-Out.Denot)). RanPart g.S.Out.Sink.name g.S.Out.Sink.held g.S.Out.Sink.faults (g.S.Shelf.files c.args.shelf.now) (station_of c.args.plan.now c.args.ready.now c.args.start.second c.args.ticks window trace) z.0 z.1)
+    subst (λ (z : List ℕ × List (List (OutputSink g.row.S-Out.Denot))). RanPart (told g.S.Out.Sink.name) (told g.S.Out.Sink.held) (told g.S.Out.Sink.faults) (g.S.Shelf.files c.args.shelf.now) (station_in c.args.job.now window trace) z.0 z.1)
     (λ i. (sym order_is i, sym c.in_err-make_engines.ensures.back i))
-    (starved c.args.plan.now c.args.ready.now.library c.args.ready.now.clocks c.args.start.second c.args.ticks g.S.Out.Sink.name g.S.Out.Sink.held g.S.Out.Sink.room g.S.Out.Sink.faults
-    (lists_of c.create_each.new.groups.items) (g.S.Shelf.files c.args.shelf.now) window trace ready))
+    (starved c.args.job.now.plan.now c.args.job.now.ready.now.library c.args.job.now.ready.now.clocks c.args.job.now.start.second c.args.job.now.ticks (told g.S.Out.Sink.name) (told g.S.Out.Sink.held) (spared g.S.Out.Sink.room) (owed g.S.Out.Sink.room) (told g.S.Out.Sink.faults)
+    (lists_of c.create_each.new.groups.items) (g.S.Shelf.files c.args.shelf.now) window trace c.args.job.now.cues ready))
 
 pub returns-clause-opened : goal.returns-clause-opened
 returns-clause-opened g c =
-    let setting = setting_for c.args.plan.now c.args.ready.now.library c.args.ready.now.clocks c.args.start.second in
-    let order_is = c.in_ok-create_each.ensures.order c.args.ready.now.library c.args.start.second in
+    let setting = setting_for c.args.job.now.plan.now c.args.job.now.ready.now.library c.args.job.now.ready.now.clocks c.args.job.now.start.second in
+    let order_is = c.in_ok-create_each.ensures.order c.args.job.now.ready.now.library c.args.job.now.start.second in
     let engines = c.in_ok-make_engines.field-0.items in
     let many : length engines ≡ length (lists_of c.create_each.new.groups.items) = sym (outs_many engines) ∙ ap length c.in_ok-make_engines.ensures.outs in
     record {
       order_is = order_is;
       all = many ∙ c.create_each.ensures.size;
       at = c.in_ok-make_engines.ensures.made;
-      ready = subst (λ (z : List ℕ × List (List g.row.S-Out.Denot)). AreCreated (IsReady g.S.Out.Sink.name g.S.Out.Sink.held g.S.Out.Sink.room (g.S.Shelf.files c.args.shelf.now) setting c.args.ticks) (written c.args.plan.now.sinks) z.0 z.1)
-          (λ i. (order_is i, sym c.in_ok-make_engines.ensures.outs i)) (c.in_ok-create_each.ensures.ready c.args.ready.now.library c.args.start.second);
+      ready = subst (λ (z : List ℕ × List (List (OutputSink g.row.S-Out.Denot))). AreCreated (IsReady (told g.S.Out.Sink.name) (told g.S.Out.Sink.held) (spared g.S.Out.Sink.room) (owed g.S.Out.Sink.room) (g.S.Shelf.files c.args.shelf.now) setting c.args.job.now.ticks) (written c.args.job.now.plan.now.sinks) z.0 z.1)
+          (λ i. (order_is i, sym c.in_ok-make_engines.ensures.outs i)) (c.in_ok-create_each.ensures.ready c.args.job.now.ready.now.library c.args.job.now.start.second);
       many = c.in_ok-make_engines.ensures.size ∙ sym many;
       taken = c.in_ok-make_engines.ensures.taken;
     }

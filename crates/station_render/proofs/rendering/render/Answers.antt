@@ -1,44 +1,85 @@
-use Rattle.std.proofs.Common.{arith, inl, refl}
+use Rattle.std.proofs.Common.{◌≡◌, ◌++◌, ◌≤◌, arith, rules, length, refl, sym, subst}
+use Rattle.std.specs.Prelude.{IsErrOf, IsSomeAnd, Some}
+use Rattle.std.specs.Option.{ForSome}
+use Rattle.liq_base.specs.Counts.{Rose}
 use Rattle.liq_base.specs.Kept.{rose_within}
-use Rattle.station_render.specs.Runs.{station_by, name_in}
-use Rattle.station_render.proofs.Tracing.{files_written, is_trace, part_written}
-use Rattle.stations.proofs.Making.{front_made, then_front, then_made}
-use Rattle.station_render.proofs.Lists.{on_ok}
 use Rattle.stations.specs.Creations.{names_in, trace_name}
+use Rattle.stations.specs.Cues.{cue_names_if}
+use Rattle.stations.specs.Outputs.{HoldsUpto, with_outputs}
+use Rattle.stations.proofs.Making.{front_made, then_front, then_made}
+use Rattle.station_render.specs.Marks.{cue_files_by, cues_of}
+use Rattle.station_render.specs.Renders.{written}
+use Rattle.station_render.specs.Runs.{name_in, station_by}
+use Rattle.station_render.specs.declared.fault.RenderFault.TheVariants.{Write}
+use Rattle.station_render.proofs.Leaving.{has_marks, later_by, later_part, part_behind, part_first, rendered_by}
+use Rattle.station_render.proofs.Lists.{on_ok}
+use Rattle.station_render.proofs.Tracing.{is_trace}
 use Rattle.station_render.proofs.rendering.render.Goals as goal
 
-pub returns-in_err-rendered-clause-part : goal.returns-in_err-rendered-clause-part
-returns-in_err-rendered-clause-part g c = λ files at. inl (c.render_outputs.ensures.part files at)
+pub leave_wanted-requires-clause-many : goal.leave_wanted-requires-clause-many
+leave_wanted-requires-clause-many g c κs lives wanted =
+    subst (λ marks. length marks ≡ length (written c.args.job.now.plan.now.sinks)) (sym c.deref.ensures.value)
+    (has_marks (station_by c.args.job.now c.args.threading) _ _ c.in_ok-rendered.rendered c.in_ok-rendered.ensures.done wanted)
 
 pub leave_trace-requires-clause-trace : goal.leave_trace-requires-clause-trace
 leave_trace-requires-clause-trace g c =
     λ κs lives.
     let wrote = c.in_ok-rendered.ensures.done in
-    is_trace _ _ c.args.threading.window c.args.ticks wrote.run _ c.requires.fit.plan_is c.requires.fit.few c.args.threading.some c.args.threading.few wrote.lawful wrote.told.logs_are
+    is_trace _ _ c.args.threading.window c.args.job.now.ticks wrote.run _ c.requires.fit.plan_is c.requires.fit.few c.args.threading.some c.args.threading.few wrote.lawful wrote.told.logs_are
 
-pub returns-clause-done : goal.returns-clause-done
-returns-clause-done g c =
-    let station = station_by c.args.plan.now c.args.ready.now c.args.start.second c.args.ticks c.args.threading in
-    files_written station c.args.threading.window refl refl _ _ c.in_ok-rendered.rendered c.in_ok-rendered.ensures.done
-    c.leave_trace.result _ c.leave_trace.ensures.gaps c.leave_trace.ensures.counts c.leave_trace.ensures.logs c.leave_trace.ensures.written
+pub returns-in_err-leave_wanted-clause-part : goal.returns-in_err-leave_wanted-clause-part
+returns-in_err-leave_wanted-clause-part g c =
+    let station = station_by c.args.job.now c.args.threading in
+    let wrote = c.in_ok-rendered.ensures.done in
+    later_part station _ _ c.in_ok-rendered.rendered wrote _ _ _ _ (later_by station _ _ c.in_ok-rendered.rendered wrote c.args.threading.window refl)
+    (part_first _ (g.S.Shelf.files c.leave_wanted.new.shelf) _ _ _
+    (subst (λ marks. ForSome (g.S.Shelf.files c.render_outputs.new.shelf) (λ files. IsSomeAnd (g.S.Shelf.files c.leave_wanted.new.shelf) (HoldsUpto files (cue_files_by c.args.job.now (cues_of marks))))) c.deref.ensures.value c.leave_wanted.ensures.part))
 
 pub returns-clause-part : goal.returns-clause-part
 returns-clause-part g c =
-    let station = station_by c.args.plan.now c.args.ready.now c.args.start.second c.args.ticks c.args.threading in
-    part_written station c.args.threading.window refl refl _ _ c.in_ok-rendered.rendered c.in_ok-rendered.ensures.done
-    _ _ _ c.render_outputs.ensures.writes c.leave_trace.ensures.writes _ c.render_outputs.ensures.part c.leave_trace.ensures.part
+    let station = station_by c.args.job.now c.args.threading in
+    let wrote = c.in_ok-rendered.ensures.done in
+    later_part station _ _ c.in_ok-rendered.rendered wrote _ _ _ _ (later_by station _ _ c.in_ok-rendered.rendered wrote c.args.threading.window refl)
+    (part_behind _ _ _ _ _
+    (subst (λ marks. ForSome (g.S.Shelf.files c.render_outputs.new.shelf) (λ files. g.S.Shelf.files c.leave_wanted.new.shelf ≡ Some (with_outputs files (cue_files_by c.args.job.now (cues_of marks))))) c.deref.ensures.value c.in_ok-leave_wanted.ensures.written)
+    c.leave_trace.ensures.part)
+
+pub returns-clause-done : goal.returns-clause-done
+returns-clause-done g c =
+    let station = station_by c.args.job.now c.args.threading in
+    rendered_by station _ _ c.in_ok-rendered.rendered c.in_ok-rendered.ensures.done c.leave_trace.result c.args.threading.window refl _ _
+    (subst (λ marks. ForSome (g.S.Shelf.files c.render_outputs.new.shelf) (λ files. g.S.Shelf.files c.leave_wanted.new.shelf ≡ Some (with_outputs files (cue_files_by c.args.job.now (cues_of marks))))) c.deref.ensures.value c.in_ok-leave_wanted.ensures.written)
+    c.leave_trace.ensures.gaps c.leave_trace.ensures.counts c.leave_trace.ensures.logs c.leave_trace.ensures.cues c.leave_trace.ensures.written
+
+pub returns-in_err-leave_wanted-clause-cause : goal.returns-in_err-leave_wanted-clause-cause
+returns-in_err-leave_wanted-clause-cause g c =
+    let cause : IsErrOf c.from_residual-in_err-leave_wanted.result Write → Rose (g.S.Shelf.write_count c.render_outputs.new.shelf) (g.S.Shelf.write_count c.leave_wanted.new.shelf) = search rules in
+    λ e. rose_within _ _ _ _ c.render_outputs.ensures.writes (omega arith) (cause e)
 
 pub returns-clause-cause : goal.returns-clause-cause
-returns-clause-cause g c = λ e. rose_within _ _ _ _ c.render_outputs.ensures.writes (omega arith) (c.leave_trace.ensures.cause e)
+returns-clause-cause g c = λ e.
+    let low : g.S.Shelf.write_count c.args.shelf.now ≤ g.S.Shelf.write_count c.leave_wanted.new.shelf = omega (arith, c.render_outputs.ensures.writes, c.leave_wanted.ensures.writes) in
+    rose_within _ _ _ _ low (omega arith) (c.leave_trace.ensures.cause e)
 
 pub returns-in_err-rendered-clause-front : goal.returns-in_err-rendered-clause-front
-returns-in_err-rendered-clause-front g c = front_made (names_in c.args.plan.now.sinks) (trace_name (name_in c.args.threading)) _ _ c.render_outputs.ensures.front
+returns-in_err-rendered-clause-front g c =
+    front_made (names_in c.args.job.now.plan.now.sinks) (cue_names_if c.args.job.now.cues c.args.job.now.plan.now.sinks ++ trace_name (name_in c.args.threading)) _ _ c.render_outputs.ensures.front
+
+pub returns-in_err-leave_wanted-clause-front : goal.returns-in_err-leave_wanted-clause-front
+returns-in_err-leave_wanted-clause-front g c =
+    let sinks = c.args.job.now.plan.now.sinks in
+    then_front (names_in sinks) (cue_names_if c.args.job.now.cues sinks ++ trace_name (name_in c.args.threading)) _ _ _ c.in_ok-rendered.ensures.made
+    (front_made (cue_names_if c.args.job.now.cues sinks) (trace_name (name_in c.args.threading)) _ _ c.leave_wanted.ensures.front)
 
 pub returns-clause-made : goal.returns-clause-made
 returns-clause-made g c =
+    let sinks = c.args.job.now.plan.now.sinks in
     on_ok c.leave_trace.result _ _
-    (λ made. then_made (names_in c.args.plan.now.sinks) (trace_name (name_in c.args.threading)) _ _ _ c.in_ok-rendered.ensures.made made) c.leave_trace.ensures.made
+    (λ made. then_made (names_in sinks) (cue_names_if c.args.job.now.cues sinks ++ trace_name (name_in c.args.threading)) _ _ _ c.in_ok-rendered.ensures.made
+    (then_made (cue_names_if c.args.job.now.cues sinks) (trace_name (name_in c.args.threading)) _ _ _ c.in_ok-leave_wanted.ensures.made made)) c.leave_trace.ensures.made
 
 pub returns-clause-front : goal.returns-clause-front
 returns-clause-front g c =
-    then_front (names_in c.args.plan.now.sinks) (trace_name (name_in c.args.threading)) _ _ _ c.in_ok-rendered.ensures.made c.leave_trace.ensures.front
+    let sinks = c.args.job.now.plan.now.sinks in
+    then_front (names_in sinks) (cue_names_if c.args.job.now.cues sinks ++ trace_name (name_in c.args.threading)) _ _ _ c.in_ok-rendered.ensures.made
+    (then_front (cue_names_if c.args.job.now.cues sinks) (trace_name (name_in c.args.threading)) _ _ _ c.in_ok-leave_wanted.ensures.made c.leave_trace.ensures.front)

@@ -1,58 +1,65 @@
-use Rattle.std.proofs.Common.{arith, [], inl, length, refl, sym, subst}
-use Rattle.std.specs.Prelude.{None, IfOk}
-use Rattle.rounds_run.proofs.Records.{run_of}
-use Rattle.stations.specs.Stations.{made_of, setting_with, station_of, tried_of}
-use Rattle.station_render.specs.Sinks.{HaveSizes, lists_of}
-use Rattle.station_render.specs.Renders.{IsPart, setting_for}
-use Rattle.station_render.specs.Runs.{RanPart, RanWhole}
-use Rattle.station_render.proofs.Dealing.{sizes}
-use Rattle.station_render.proofs.Ending.{cause_of}
-use Rattle.stations.proofs.Parts.{none_written}
-use Rattle.station_render.proofs.Gathering.{not_begun}
-use Rattle.station_render.proofs.Tracing.{if_ok, untraced}
-use Rattle.station_render.proofs.Naming.{closed_made, front_kept}
-use Rattle.stations.proofs.Making.{front_made, none_made, none_more, then_made}
-use Rattle.station_render.proofs.Lists.{on_ok}
+use Rattle.std.proofs.Common.{◌≡◌, ◌++◌, [], arith, rules, length, refl, sym, subst}
+use Rattle.std.specs.Prelude.{IsErrOf, IsSomeAnd, Some}
+use Rattle.std.specs.Option.{ForSome}
+use Rattle.liq_base.specs.Counts.{Rose}
+use Rattle.liq_base.specs.Kept.{rose_within}
 use Rattle.stations.specs.Creations.{names_in}
+use Rattle.stations.specs.Cues.{cue_names_if}
+use Rattle.stations.specs.Outputs.{HoldsUpto, with_outputs}
+use Rattle.stations.proofs.Making.{front_made, none_more, then_front, then_made}
+use Rattle.station_render.specs.Marks.{cue_files_by, cues_of}
+use Rattle.station_render.specs.Renders.{written}
+use Rattle.station_render.specs.Runs.{station_alone}
+use Rattle.station_render.specs.declared.fault.RenderFault.TheVariants.{Write}
+use Rattle.station_render.proofs.Leaving.{has_marks, later_alone, later_part, later_whole}
 use Rattle.station_render.proofs.rendering.render_alone.Goals as goal
 
-pub returns-in_err-groups-clause-part : goal.returns-in_err-groups-clause-part
-returns-in_err-groups-clause-part g c =
-    λ files at. inl (none_written (station_of c.args.plan.now c.args.ready.now c.args.start.second c.args.ticks None None) (run_of (length c.args.plan.now.buffers) [])
-    (not_begun (setting_for c.args.plan.now c.args.ready.now.library c.args.ready.now.clocks c.args.start.second) c.args.ready.now.clocks.running c.args.ticks None).0 _ _ (omega arith) _ _ refl files at)
+pub leave_wanted-requires-clause-many : goal.leave_wanted-requires-clause-many
+leave_wanted-requires-clause-many g c κs lives wanted =
+    subst (λ marks. length marks ≡ length (written c.args.job.now.plan.now.sinks)) (sym c.deref.ensures.value)
+    (has_marks (station_alone c.args.job.now) _ _ c.in_ok-rendered.rendered c.in_ok-rendered.ensures.done wanted)
 
-pub close_all-requires-clause-sizes : goal.close_all-requires-clause-sizes
-close_all-requires-clause-sizes g c κs lives =
-    let part = c.write_alone-wrote.ensures.part in
-    let station = station_of c.args.plan.now c.args.ready.now c.args.start.second c.args.ticks None None in
-    subst (λ o. HaveSizes o (lists_of c.write_alone-wrote.new.groups.items)) (sym c.deref.ensures.value)
-    (sizes (IsPart g.S.Out.Sink.name g.S.Out.Sink.held g.S.Out.Sink.faults (g.S.Shelf.files c.args.shelf.now) (setting_with station part.run (λ buffer. [])) c.args.ticks (made_of station part.run part.begun) (tried_of station part.run part.begun))
-    part.parts.created c.write_alone-wrote.new.order.items (lists_of c.write_alone-wrote.new.groups.items) (part.parts.parts (λ buffer. [])))
+pub returns-in_err-leave_wanted-clause-part : goal.returns-in_err-leave_wanted-clause-part
+returns-in_err-leave_wanted-clause-part g c =
+    let station = station_alone c.args.job.now in
+    let wrote = c.in_ok-rendered.ensures.done in
+    later_part station _ _ c.in_ok-rendered.rendered wrote _ _ _ _ (later_alone station _ _ c.in_ok-rendered.rendered wrote refl)
+    (subst (λ marks. ForSome (g.S.Shelf.files c.render_outputs_alone.new.shelf) (λ files. IsSomeAnd (g.S.Shelf.files c.leave_wanted.new.shelf) (HoldsUpto files (cue_files_by c.args.job.now (cues_of marks))))) c.deref.ensures.value c.leave_wanted.ensures.part)
 
 pub returns-clause-part : goal.returns-clause-part
 returns-clause-part g c =
-    let station = station_of c.args.plan.now c.args.ready.now c.args.start.second c.args.ticks None None in
-    λ files at. inl (c.close_all.ensures.part station (g.S.Shelf.files c.args.shelf.now) _ c.write_alone-wrote.ensures.files c.write_alone-wrote.ensures.writes
-    (subst (λ o. RanPart g.S.Out.Sink.name g.S.Out.Sink.held g.S.Out.Sink.faults (g.S.Shelf.files c.args.shelf.now) station o (lists_of c.write_alone-wrote.new.groups.items)) (sym c.deref.ensures.value) c.write_alone-wrote.ensures.part) files at)
+    let station = station_alone c.args.job.now in
+    let wrote = c.in_ok-rendered.ensures.done in
+    later_part station _ _ c.in_ok-rendered.rendered wrote _ _ _ _ (later_alone station _ _ c.in_ok-rendered.rendered wrote refl)
+    (subst (λ marks. ForSome (g.S.Shelf.files c.render_outputs_alone.new.shelf) (λ files. IsSomeAnd (g.S.Shelf.files c.leave_wanted.new.shelf) (HoldsUpto files (cue_files_by c.args.job.now (cues_of marks))))) c.deref.ensures.value c.leave_wanted.ensures.part)
 
 pub returns-clause-done : goal.returns-clause-done
 returns-clause-done g c =
-    let station = station_of c.args.plan.now c.args.ready.now c.args.start.second c.args.ticks None None in
-    if_ok c.close_all.result _ _ (untraced station _ _ refl refl)
-    (c.close_all.ensures.done station (g.S.Shelf.files c.args.shelf.now) c.write_alone-wrote.ensures.files
-    (subst (λ o. IfOk c.write_alone-wrote.result (RanWhole g.S.Out.Sink.name g.S.Out.Sink.held (g.S.Shelf.files c.args.shelf.now) station o (lists_of c.write_alone-wrote.new.groups.items))) (sym c.deref.ensures.value) c.write_alone-wrote.ensures.done))
+    let station = station_alone c.args.job.now in
+    let wrote = c.in_ok-rendered.ensures.done in
+    later_whole station _ _ c.in_ok-rendered.rendered wrote _ _ c.in_ok-rendered.rendered (later_alone station _ _ c.in_ok-rendered.rendered wrote refl) wrote.told
+    (subst (λ marks. ForSome (g.S.Shelf.files c.render_outputs_alone.new.shelf) (λ files. g.S.Shelf.files c.leave_wanted.new.shelf ≡ Some (with_outputs files (cue_files_by c.args.job.now (cues_of marks))))) c.deref.ensures.value c.in_ok-leave_wanted.ensures.written)
 
-pub returns-clause-cause : goal.returns-clause-cause
-returns-clause-cause g c = λ e.
-    cause_of (g.S.Shelf.write_count c.args.shelf.now) _ _ _ _ c.write_alone-wrote.ensures.writes c.close_all.ensures.writes (c.close_all.ensures.cause e) c.write_alone-wrote.ensures.cause c.close_all.ensures.failed
+pub returns-in_err-leave_wanted-clause-cause : goal.returns-in_err-leave_wanted-clause-cause
+returns-in_err-leave_wanted-clause-cause g c =
+    let cause : IsErrOf c.from_residual-in_err-leave_wanted.result Write → Rose (g.S.Shelf.write_count c.render_outputs_alone.new.shelf) (g.S.Shelf.write_count c.leave_wanted.new.shelf) = search rules in
+    λ e. rose_within _ _ _ _ c.render_outputs_alone.ensures.writes (omega arith) (cause e)
 
-pub returns-in_err-groups-clause-front : goal.returns-in_err-groups-clause-front
-returns-in_err-groups-clause-front g c = none_made _ _ _ refl
+pub returns-in_err-rendered-clause-front : goal.returns-in_err-rendered-clause-front
+returns-in_err-rendered-clause-front g c = front_made (names_in c.args.job.now.plan.now.sinks) (cue_names_if c.args.job.now.cues c.args.job.now.plan.now.sinks ++ []) _ _ c.render_outputs_alone.ensures.front
+
+pub returns-in_err-leave_wanted-clause-front : goal.returns-in_err-leave_wanted-clause-front
+returns-in_err-leave_wanted-clause-front g c =
+    let sinks = c.args.job.now.plan.now.sinks in
+    then_front (names_in sinks) (cue_names_if c.args.job.now.cues sinks ++ []) _ _ _ c.in_ok-rendered.ensures.made (front_made (cue_names_if c.args.job.now.cues sinks) [] _ _ c.leave_wanted.ensures.front)
 
 pub returns-clause-made : goal.returns-clause-made
 returns-clause-made g c =
-    on_ok c.close_all.result _ _ (λ made. then_made (names_in c.args.plan.now.sinks) [] _ _ _ made (none_more _))
-    (closed_made c.close_all.result c.write_alone-wrote.result (names_in c.args.plan.now.sinks) _ _ _ c.close_all.ensures.well c.write_alone-wrote.ensures.made c.close_all.ensures.created)
+    let sinks = c.args.job.now.plan.now.sinks in
+    then_made (names_in sinks) (cue_names_if c.args.job.now.cues sinks ++ []) _ _ _ c.in_ok-rendered.ensures.made
+    (then_made (cue_names_if c.args.job.now.cues sinks) [] _ _ _ c.in_ok-leave_wanted.ensures.made (none_more _))
 
 pub returns-clause-front : goal.returns-clause-front
-returns-clause-front g c = front_made (names_in c.args.plan.now.sinks) [] _ _ (front_kept _ _ _ _ c.close_all.ensures.created c.write_alone-wrote.ensures.front)
+returns-clause-front g c =
+    let sinks = c.args.job.now.plan.now.sinks in
+    then_front (names_in sinks) (cue_names_if c.args.job.now.cues sinks ++ []) _ _ _ c.in_ok-rendered.ensures.made (front_made (cue_names_if c.args.job.now.cues sinks) [] _ _ c.leave_wanted.ensures.front)

@@ -1,12 +1,13 @@
-use Rattle.std.proofs.Common.{arith, [], length, refl, sym, subst}
+use Rattle.std.proofs.Common.{arith, [], inl, length, refl, sym, subst}
 use Rattle.std.specs.Prelude.{Some, IfOk}
 use Rattle.rounds_run.proofs.Records.{run_of}
 use Rattle.stations.specs.Stations.{made_of, setting_with, tried_of}
 use Rattle.station_render.specs.Sinks.{HaveSizes, lists_of}
+use Rattle.station_render.specs.OutputSinks.{owed, told}
 use Rattle.station_render.specs.Renders.{IsPart, setting_for}
 use Rattle.station_render.specs.Runs.{RanPart, RanWhole, station_by}
 use Rattle.station_render.proofs.Dealing.{sizes}
-use Rattle.station_render.proofs.Ending.{cause_of}
+use Rattle.station_render.proofs.Ending.{cause_of, rooms_of}
 use Rattle.stations.proofs.Parts.{none_written}
 use Rattle.station_render.proofs.Gathering.{not_begun}
 use Rattle.station_render.proofs.Naming.{closed_made, front_kept}
@@ -14,29 +15,34 @@ use Rattle.stations.proofs.Making.{none_made}
 use Rattle.station_render.proofs.rendering.render_outputs.Goals as goal
 
 pub returns-in_err-groups-clause-part : goal.returns-in_err-groups-clause-part
-returns-in_err-groups-clause-part g c =
-    none_written (station_by c.args.plan.now c.args.ready.now c.args.start.second c.args.ticks c.args.threading) (run_of (length c.args.plan.now.buffers) [])
-    (not_begun (setting_for c.args.plan.now c.args.ready.now.library c.args.ready.now.clocks c.args.start.second) c.args.ready.now.clocks.running c.args.ticks (Some c.args.threading.window)).0 _ _ (omega arith) _ _ refl
+returns-in_err-groups-clause-part g c = λ files at. inl (none_written (station_by c.args.job.now c.args.threading) (run_of (length c.args.job.now.plan.now.buffers) [])
+    (not_begun (setting_for c.args.job.now.plan.now c.args.job.now.ready.now.library c.args.job.now.ready.now.clocks c.args.job.now.start.second) c.args.job.now.ready.now.clocks.running c.args.job.now.ticks (Some c.args.threading.window)).0 _ _ (omega arith) _ _ refl files at)
 
 pub close_all-requires-clause-sizes : goal.close_all-requires-clause-sizes
 close_all-requires-clause-sizes g c κs lives =
     let part = c.write_by_threads-wrote.ensures.part in
-    let station = station_by c.args.plan.now c.args.ready.now c.args.start.second c.args.ticks c.args.threading in
+    let station = station_by c.args.job.now c.args.threading in
     subst (λ o. HaveSizes o (lists_of c.write_by_threads-wrote.new.groups.items)) (sym c.deref.ensures.value)
-    (sizes (IsPart g.S.Out.Sink.name g.S.Out.Sink.held g.S.Out.Sink.faults (g.S.Shelf.files c.args.shelf.now) (setting_with station part.run (λ buffer. [])) c.args.ticks (made_of station part.run part.begun) (tried_of station part.run part.begun))
+    (sizes (IsPart (told g.S.Out.Sink.name) (told g.S.Out.Sink.held) (told g.S.Out.Sink.faults) (g.S.Shelf.files c.args.shelf.now) (setting_with station part.run (λ buffer. [])) c.args.job.now.ticks (made_of station part.run part.begun) (tried_of station part.run part.begun))
     part.parts.created c.write_by_threads-wrote.new.order.items (lists_of c.write_by_threads-wrote.new.groups.items) (part.parts.parts (λ buffer. [])))
+
+pub close_all-requires-clause-rooms : goal.close_all-requires-clause-rooms
+close_all-requires-clause-rooms g c κs lives =
+    let station = station_by c.args.job.now c.args.threading in
+    rooms_of station g.S.Out.Sink.name g.S.Out.Sink.held g.S.Out.Sink.room (g.S.Shelf.files c.args.shelf.now) c.write_by_threads-wrote.new.order.items (lists_of c.write_by_threads-wrote.new.groups.items) c.write_by_threads-wrote.result c.write_by_threads-wrote.ensures.done
 
 pub returns-clause-part : goal.returns-clause-part
 returns-clause-part g c =
-    let station = station_by c.args.plan.now c.args.ready.now c.args.start.second c.args.ticks c.args.threading in
+    let station = station_by c.args.job.now c.args.threading in
     c.close_all.ensures.part station (g.S.Shelf.files c.args.shelf.now) _ c.write_by_threads-wrote.ensures.files c.write_by_threads-wrote.ensures.writes
-    (subst (λ o. RanPart g.S.Out.Sink.name g.S.Out.Sink.held g.S.Out.Sink.faults (g.S.Shelf.files c.args.shelf.now) station o (lists_of c.write_by_threads-wrote.new.groups.items)) (sym c.deref.ensures.value) c.write_by_threads-wrote.ensures.part)
+    (subst (λ o. RanPart (told g.S.Out.Sink.name) (told g.S.Out.Sink.held) (told g.S.Out.Sink.faults) (g.S.Shelf.files c.args.shelf.now) station o (lists_of c.write_by_threads-wrote.new.groups.items)) (sym c.deref.ensures.value) c.write_by_threads-wrote.ensures.part)
+    (subst (λ o. IfOk c.write_by_threads-wrote.result (RanWhole (told g.S.Out.Sink.name) (told g.S.Out.Sink.held) (owed g.S.Out.Sink.room) (g.S.Shelf.files c.args.shelf.now) station o (lists_of c.write_by_threads-wrote.new.groups.items))) (sym c.deref.ensures.value) c.write_by_threads-wrote.ensures.done)
 
 pub returns-clause-done : goal.returns-clause-done
 returns-clause-done g c =
-    let station = station_by c.args.plan.now c.args.ready.now c.args.start.second c.args.ticks c.args.threading in
+    let station = station_by c.args.job.now c.args.threading in
     c.close_all.ensures.done station (g.S.Shelf.files c.args.shelf.now) c.write_by_threads-wrote.ensures.files
-    (subst (λ o. IfOk c.write_by_threads-wrote.result (RanWhole g.S.Out.Sink.name g.S.Out.Sink.held (g.S.Shelf.files c.args.shelf.now) station o (lists_of c.write_by_threads-wrote.new.groups.items))) (sym c.deref.ensures.value) c.write_by_threads-wrote.ensures.done)
+    (subst (λ o. IfOk c.write_by_threads-wrote.result (RanWhole (told g.S.Out.Sink.name) (told g.S.Out.Sink.held) (owed g.S.Out.Sink.room) (g.S.Shelf.files c.args.shelf.now) station o (lists_of c.write_by_threads-wrote.new.groups.items))) (sym c.deref.ensures.value) c.write_by_threads-wrote.ensures.done)
 
 pub returns-clause-cause : goal.returns-clause-cause
 returns-clause-cause g c = λ e.

@@ -1,9 +1,11 @@
-use Rattle.std.proofs.Common.{◌≡◌, ◌∙◌, length, ap, inr, sym, vec_len}
+use Rattle.std.proofs.Common.{◌≡◌, ◌∙◌, length, ap, inr, subst, sym, vec_len}
 use Rattle.std.specs.Prelude.{None}
 use Rattle.clock_infer.proofs.Merging.{written_back}
+use Rattle.station_render.specs.Engines.{AreKeeping}
 use Rattle.station_render.proofs.Fits.{are_main}
 use Rattle.station_render.proofs.Gathering.{rounds_all, rounds_some}
-use Rattle.station_render.proofs.Returning.{failed_back, last_many, opened_at, over_plan, part_back, places_empty, places_many, stand_so, whole_told}
+use Rattle.station_render.proofs.Returning.{failed_back, last_many, opened_at, over_plan, part_back, places_empty, places_many, stand_so, keep_so, whole_told}
+use Rattle.station_render.proofs.Known.{known_alike}
 use Rattle.station_render.proofs.Naming.{on_ok_so}
 use Rattle.station_render.proofs.rendering.write_alone.Goals as goal
 
@@ -14,76 +16,86 @@ returns-in_err-engines-clause-part g c =
 pub run_rounds-run-requires-clause-engines : goal.run_rounds-run-requires-clause-engines
 run_rounds-run-requires-clause-engines g c =
     let opened = opened_at c.deref_mut.ensures.value c.in_ok-engines.ensures.opened in
-    let over = over_plan c.requires.fit opened in
+    let over = over_plan (known_alike g.S.Out.Sink.name g.S.Out.Sink.room) c.requires.fit opened in
     (_, over)
 
 pub take_back-requires-clause-main : goal.take_back-requires-clause-main
 take_back-requires-clause-main g c =
-    are_main c.args.plan.now c.args.ready.now.library c.args.ready.now.clocks c.args.ticks c.requires.fit
+    are_main c.args.job.now.plan.now c.args.job.now.ready.now.library c.args.job.now.ready.now.clocks c.args.job.now.ticks c.requires.fit
 
 pub take_back-requires-clause-size : goal.take_back-requires-clause-size
 take_back-requires-clause-size g c =
     let opened = opened_at c.deref_mut.ensures.value c.in_ok-engines.ensures.opened in
-    let over = over_plan c.requires.fit opened in
+    let over = over_plan (known_alike g.S.Out.Sink.name g.S.Out.Sink.room) c.requires.fit opened in
     let some = rounds_some opened.all (c.run_rounds-run.ensures.part _ over) in
     let len : vec_len c.in_ok-engines.engines ≡ length c.run_rounds-run.new.engines = c.in_ok-engines.engines.ok.0 ∙ ap length (sym c.deref_mut.ensures.value) ∙ sym some.part.size in
     let last = written_back _ c.run_rounds-run.new.engines _ len in
-    last_many c.requires.fit opened last some.part.size
+    last_many (known_alike g.S.Out.Sink.name g.S.Out.Sink.room) c.requires.fit opened last some.part.size
 
 pub take_back-requires-clause-stand : goal.take_back-requires-clause-stand
 take_back-requires-clause-stand g c =
     let opened = opened_at c.deref_mut.ensures.value c.in_ok-engines.ensures.opened in
-    let over = over_plan c.requires.fit opened in
+    let over = over_plan (known_alike g.S.Out.Sink.name g.S.Out.Sink.room) c.requires.fit opened in
     let some = rounds_some opened.all (c.run_rounds-run.ensures.part _ over) in
     let len : vec_len c.in_ok-engines.engines ≡ length c.run_rounds-run.new.engines = c.in_ok-engines.engines.ok.0 ∙ ap length (sym c.deref_mut.ensures.value) ∙ sym some.part.size in
     let last = written_back _ c.run_rounds-run.new.engines _ len in
-    λ done. stand_so c.requires.fit opened last (rounds_all opened.all (c.run_rounds-run.ensures.done done _ over))
+    λ done. stand_so (known_alike g.S.Out.Sink.name g.S.Out.Sink.room) c.requires.fit opened last (rounds_all opened.all (c.run_rounds-run.ensures.done done _ over))
+
+pub take_back-requires-clause-keeping : goal.take_back-requires-clause-keeping
+take_back-requires-clause-keeping g c =
+    let opened = opened_at c.deref_mut.ensures.value c.in_ok-engines.ensures.opened in
+    let over = over_plan (known_alike g.S.Out.Sink.name g.S.Out.Sink.room) c.requires.fit opened in
+    let some = rounds_some opened.all (c.run_rounds-run.ensures.part _ over) in
+    let len : vec_len c.in_ok-engines.engines ≡ length c.run_rounds-run.new.engines = c.in_ok-engines.engines.ok.0 ∙ ap length (sym c.deref_mut.ensures.value) ∙ sym some.part.size in
+    let last = written_back _ c.run_rounds-run.new.engines _ len in
+    λ done. keep_so (known_alike g.S.Out.Sink.name g.S.Out.Sink.room) c.requires.fit opened last c.args.job.now.cues
+    (subst (AreKeeping c.args.job.now.cues) (sym c.deref_mut.ensures.value) c.in_ok-engines.ensures.keeping) (rounds_all opened.all (c.run_rounds-run.ensures.done done _ over))
 
 pub take_back-requires-clause-many : goal.take_back-requires-clause-many
 take_back-requires-clause-many g c =
     let opened = opened_at c.deref_mut.ensures.value c.in_ok-engines.ensures.opened in
-    let over = over_plan c.requires.fit opened in
+    let over = over_plan (known_alike g.S.Out.Sink.name g.S.Out.Sink.room) c.requires.fit opened in
     let some = rounds_some opened.all (c.run_rounds-run.ensures.part _ over) in
     let len : vec_len c.in_ok-engines.engines ≡ length c.run_rounds-run.new.engines = c.in_ok-engines.engines.ok.0 ∙ ap length (sym c.deref_mut.ensures.value) ∙ sym some.part.size in
     let last = written_back _ c.run_rounds-run.new.engines _ len in
-    places_many c.requires.fit opened last some.part.size
+    places_many (known_alike g.S.Out.Sink.name g.S.Out.Sink.room) c.requires.fit opened last some.part.size
 
 pub take_back-requires-clause-empty : goal.take_back-requires-clause-empty
 take_back-requires-clause-empty g c =
     let opened = opened_at c.deref_mut.ensures.value c.in_ok-engines.ensures.opened in
-    let over = over_plan c.requires.fit opened in
+    let over = over_plan (known_alike g.S.Out.Sink.name g.S.Out.Sink.room) c.requires.fit opened in
     let some = rounds_some opened.all (c.run_rounds-run.ensures.part _ over) in
     let len : vec_len c.in_ok-engines.engines ≡ length c.run_rounds-run.new.engines = c.in_ok-engines.engines.ok.0 ∙ ap length (sym c.deref_mut.ensures.value) ∙ sym some.part.size in
     let last = written_back _ c.run_rounds-run.new.engines _ len in
-    places_empty c.requires.fit opened last some.part.size
+    places_empty (known_alike g.S.Out.Sink.name g.S.Out.Sink.room) c.requires.fit opened last some.part.size
 
 pub returns-clause-done : goal.returns-clause-done
 returns-clause-done g c =
     let opened = opened_at c.deref_mut.ensures.value c.in_ok-engines.ensures.opened in
-    let over = over_plan c.requires.fit opened in
+    let over = over_plan (known_alike g.S.Out.Sink.name g.S.Out.Sink.room) c.requires.fit opened in
     let some = rounds_some opened.all (c.run_rounds-run.ensures.part _ over) in
     let len : vec_len c.in_ok-engines.engines ≡ length c.run_rounds-run.new.engines = c.in_ok-engines.engines.ok.0 ∙ ap length (sym c.deref_mut.ensures.value) ∙ sym some.part.size in
     let last = written_back _ c.run_rounds-run.new.engines _ len in
-    whole_told c.requires.fit opened last c.take_back.ensures.back None c.take_back.result (λ done. rounds_all opened.all (c.run_rounds-run.ensures.done done _ over))
-    c.take_back.ensures.done c.take_back.ensures.gaps c.take_back.ensures.counts c.take_back.ensures.logs
+    whole_told (known_alike g.S.Out.Sink.name g.S.Out.Sink.room) c.requires.fit opened last c.take_back.ensures.back None c.args.job.now.cues c.take_back.result (λ done. rounds_all opened.all (c.run_rounds-run.ensures.done done _ over))
+    c.take_back.ensures.done c.take_back.ensures.gaps c.take_back.ensures.cues c.take_back.ensures.counts c.take_back.ensures.logs
 
 pub returns-clause-part : goal.returns-clause-part
 returns-clause-part g c =
     let opened = opened_at c.deref_mut.ensures.value c.in_ok-engines.ensures.opened in
-    let over = over_plan c.requires.fit opened in
+    let over = over_plan (known_alike g.S.Out.Sink.name g.S.Out.Sink.room) c.requires.fit opened in
     let some = rounds_some opened.all (c.run_rounds-run.ensures.part _ over) in
     let len : vec_len c.in_ok-engines.engines ≡ length c.run_rounds-run.new.engines = c.in_ok-engines.engines.ok.0 ∙ ap length (sym c.deref_mut.ensures.value) ∙ sym some.part.size in
     let last = written_back _ c.run_rounds-run.new.engines _ len in
-    part_back c.requires.fit opened last c.take_back.ensures.back some
+    part_back (known_alike g.S.Out.Sink.name g.S.Out.Sink.room) c.requires.fit opened last c.take_back.ensures.back some
 
 pub returns-clause-cause : goal.returns-clause-cause
 returns-clause-cause g c =
     let opened = opened_at c.deref_mut.ensures.value c.in_ok-engines.ensures.opened in
-    let over = over_plan c.requires.fit opened in
+    let over = over_plan (known_alike g.S.Out.Sink.name g.S.Out.Sink.room) c.requires.fit opened in
     let some = rounds_some opened.all (c.run_rounds-run.ensures.part _ over) in
     let len : vec_len c.in_ok-engines.engines ≡ length c.run_rounds-run.new.engines = c.in_ok-engines.engines.ok.0 ∙ ap length (sym c.deref_mut.ensures.value) ∙ sym some.part.size in
     let last = written_back _ c.run_rounds-run.new.engines _ len in
-    λ e. (let write = c.take_back.ensures.write e in inr (failed_back c.requires.fit opened last c.take_back.ensures.back some write.0 write.1 write.2))
+    λ e. (let write = c.take_back.ensures.write e in inr (failed_back (known_alike g.S.Out.Sink.name g.S.Out.Sink.room) c.requires.fit opened last c.take_back.ensures.back some write.0 write.1 write.2))
 
 pub returns-clause-made : goal.returns-clause-made
 returns-clause-made g c = on_ok_so c.take_back.result _ c.in_ok-engines.ensures.made

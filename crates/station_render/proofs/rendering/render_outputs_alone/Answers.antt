@@ -1,0 +1,58 @@
+use Rattle.std.proofs.Common.{arith, [], inl, length, refl, sym, subst}
+use Rattle.std.specs.Prelude.{None, IfOk}
+use Rattle.rounds_run.proofs.Records.{run_of}
+use Rattle.stations.specs.Stations.{made_of, setting_with, tried_of}
+use Rattle.station_render.specs.Sinks.{HaveSizes, lists_of}
+use Rattle.station_render.specs.OutputSinks.{owed, told}
+use Rattle.station_render.specs.Renders.{IsPart, setting_for}
+use Rattle.station_render.specs.Runs.{RanPart, RanWhole, station_alone}
+use Rattle.station_render.proofs.Dealing.{sizes}
+use Rattle.station_render.proofs.Ending.{cause_of, rooms_of}
+use Rattle.stations.proofs.Parts.{none_written}
+use Rattle.station_render.proofs.Gathering.{not_begun}
+use Rattle.station_render.proofs.Naming.{closed_made, front_kept}
+use Rattle.stations.proofs.Making.{none_made}
+use Rattle.station_render.proofs.rendering.render_outputs_alone.Goals as goal
+
+pub returns-in_err-groups-clause-part : goal.returns-in_err-groups-clause-part
+returns-in_err-groups-clause-part g c = λ files at. inl (none_written (station_alone c.args.job.now) (run_of (length c.args.job.now.plan.now.buffers) [])
+    (not_begun (setting_for c.args.job.now.plan.now c.args.job.now.ready.now.library c.args.job.now.ready.now.clocks c.args.job.now.start.second) c.args.job.now.ready.now.clocks.running c.args.job.now.ticks None).0 _ _ (omega arith) _ _ refl files at)
+
+pub close_all-requires-clause-sizes : goal.close_all-requires-clause-sizes
+close_all-requires-clause-sizes g c κs lives =
+    let part = c.write_alone-wrote.ensures.part in
+    let station = station_alone c.args.job.now in
+    subst (λ o. HaveSizes o (lists_of c.write_alone-wrote.new.groups.items)) (sym c.deref.ensures.value)
+    (sizes (IsPart (told g.S.Out.Sink.name) (told g.S.Out.Sink.held) (told g.S.Out.Sink.faults) (g.S.Shelf.files c.args.shelf.now) (setting_with station part.run (λ buffer. [])) c.args.job.now.ticks (made_of station part.run part.begun) (tried_of station part.run part.begun))
+    part.parts.created c.write_alone-wrote.new.order.items (lists_of c.write_alone-wrote.new.groups.items) (part.parts.parts (λ buffer. [])))
+
+pub close_all-requires-clause-rooms : goal.close_all-requires-clause-rooms
+close_all-requires-clause-rooms g c κs lives =
+    let station = station_alone c.args.job.now in
+    rooms_of station g.S.Out.Sink.name g.S.Out.Sink.held g.S.Out.Sink.room (g.S.Shelf.files c.args.shelf.now) c.write_alone-wrote.new.order.items (lists_of c.write_alone-wrote.new.groups.items) c.write_alone-wrote.result c.write_alone-wrote.ensures.done
+
+pub returns-clause-part : goal.returns-clause-part
+returns-clause-part g c =
+    let station = station_alone c.args.job.now in
+    c.close_all.ensures.part station (g.S.Shelf.files c.args.shelf.now) _ c.write_alone-wrote.ensures.files c.write_alone-wrote.ensures.writes
+    (subst (λ o. RanPart (told g.S.Out.Sink.name) (told g.S.Out.Sink.held) (told g.S.Out.Sink.faults) (g.S.Shelf.files c.args.shelf.now) station o (lists_of c.write_alone-wrote.new.groups.items)) (sym c.deref.ensures.value) c.write_alone-wrote.ensures.part)
+    (subst (λ o. IfOk c.write_alone-wrote.result (RanWhole (told g.S.Out.Sink.name) (told g.S.Out.Sink.held) (owed g.S.Out.Sink.room) (g.S.Shelf.files c.args.shelf.now) station o (lists_of c.write_alone-wrote.new.groups.items))) (sym c.deref.ensures.value) c.write_alone-wrote.ensures.done)
+
+pub returns-clause-done : goal.returns-clause-done
+returns-clause-done g c =
+    let station = station_alone c.args.job.now in
+    c.close_all.ensures.done station (g.S.Shelf.files c.args.shelf.now) c.write_alone-wrote.ensures.files
+    (subst (λ o. IfOk c.write_alone-wrote.result (RanWhole (told g.S.Out.Sink.name) (told g.S.Out.Sink.held) (owed g.S.Out.Sink.room) (g.S.Shelf.files c.args.shelf.now) station o (lists_of c.write_alone-wrote.new.groups.items))) (sym c.deref.ensures.value) c.write_alone-wrote.ensures.done)
+
+pub returns-clause-cause : goal.returns-clause-cause
+returns-clause-cause g c = λ e.
+    cause_of (g.S.Shelf.write_count c.args.shelf.now) _ _ _ _ c.write_alone-wrote.ensures.writes c.close_all.ensures.writes (c.close_all.ensures.cause e) c.write_alone-wrote.ensures.cause c.close_all.ensures.failed
+
+pub returns-in_err-groups-clause-front : goal.returns-in_err-groups-clause-front
+returns-in_err-groups-clause-front g c = none_made _ _ _ refl
+
+pub returns-clause-made : goal.returns-clause-made
+returns-clause-made g c = closed_made c.close_all.result c.write_alone-wrote.result _ _ _ _ c.close_all.ensures.well c.write_alone-wrote.ensures.made c.close_all.ensures.created
+
+pub returns-clause-front : goal.returns-clause-front
+returns-clause-front g c = front_kept _ _ _ _ c.close_all.ensures.created c.write_alone-wrote.ensures.front
