@@ -37,8 +37,8 @@ pub last_is : {A : Type 0} (xs : List A) (x : A) → slice_get (xs ++ x ∷ []) 
 last_is [] x = refl
 last_is (y ∷ xs) x = last_is xs x
 
-count_output : (sinks : List SinkPlan) (name : List ℕ) (n : ℕ) (b : Bool) → count_by is_output (sinks ++ Output name n b w ∷ []) ≡ count_by is_output sinks + 1
-count_output sinks name n b = sum_by-append (λ s. cond (is_output s) 1 0) sinks (Output name n b w ∷ [])
+count_output : (sinks : List SinkPlan) (name : List ℕ) (n : ℕ) (b w : Bool) → count_by is_output (sinks ++ Output name n b w ∷ []) ≡ count_by is_output sinks + 1
+count_output sinks name n b w = sum_by-append (λ s. cond (is_output s) 1 0) sinks (Output name n b w ∷ [])
 
 count_feed : (sinks : List SinkPlan) (b n : ℕ) → count_by is_output (sinks ++ Feed b n ∷ []) ≡ count_by is_output sinks
 count_feed sinks b n =
@@ -193,30 +193,30 @@ unfolding add_buffer
 buffered m s k b x done source is = buffered_by (nat_le MAX_NODES (length m.plan.nodes)) m s k b x refl source is done
 
 -- an output
-sound_output : (m : Machine) (name : List ℕ) (s : ℕ) (b : Bool) → s < length m.plan.nodes → count_by is_output m.plan.sinks < MAX_OUTPUTS → IsSound m → IsSound (record m { plan = with_output m.plan name s b })
-sound_output m name s b there few_outputs so =
+sound_output : (m : Machine) (name : List ℕ) (s : ℕ) (b w : Bool) → s < length m.plan.nodes → count_by is_output m.plan.sinks < MAX_OUTPUTS → IsSound m → IsSound (record m { plan = with_output m.plan name s b w })
+sound_output m name s b w there few_outputs so =
     let few_nodes = so.well_formed.few_nodes in
     let outputs = so.outputs in
     let feeds = so.feeds in
     let sinks : length m.plan.sinks + 1 < 2 ^ 32 = omega arith in
     let more_sinks = length-append m.plan.sinks (Output name s b w ∷ []) in
-    let count = count_output m.plan.sinks name s b in
+    let count = count_output m.plan.sinks name s b w in
     record {
-      well_formed = output_keeps m.plan so.well_formed name s b sinks there;
+      well_formed = output_keeps m.plan so.well_formed name s b w sinks there;
       outputs = omega (arith, count, few_outputs);
       feeds = omega (arith, more_sinks, count, feeds);
     }
 
-put_by : (t u : Bool) (m : Machine) (name : List ℕ) (s : ℕ) (b : Bool) (x : Value × Machine) → nat_lt (count_by is_output m.plan.sinks) MAX_OUTPUTS ≡ u → s < length m.plan.nodes
-    → ◌≡◌ {A = Result (Value × Machine) Fault} (elim t [ true ↦ Err (SameOutput name) | false ↦ elim u [ true ↦ Ok (Nothing, record m { plan = with_output m.plan name s b }) | false ↦ Err (TooLarge Outputs) ] ]) (Ok x) → Keeps m x.1
-put_by true u m name s b x test there is = absurd cc
-put_by false false m name s b x test there is = absurd cc
-put_by false true m name s b x test there is =
+put_by : (t u : Bool) (m : Machine) (name : List ℕ) (s : ℕ) (b w : Bool) (x : Value × Machine) → nat_lt (count_by is_output m.plan.sinks) MAX_OUTPUTS ≡ u → s < length m.plan.nodes
+    → ◌≡◌ {A = Result (Value × Machine) Fault} (elim t [ true ↦ Err (SameOutput name) | false ↦ elim u [ true ↦ Ok (Nothing, record m { plan = with_output m.plan name s b w }) | false ↦ Err (TooLarge Outputs) ] ]) (Ok x) → Keeps m x.1
+put_by true u m name s b w x test there is = absurd cc
+put_by false false m name s b w x test there is = absurd cc
+put_by false true m name s b w x test there is =
     let few_outputs : count_by is_output m.plan.sinks < MAX_OUTPUTS = grind arith in
-    let state : record m { plan = with_output m.plan name s b } ≡ x.1 = ap (λ (y : Value × Machine). y.1) (ok_is (Nothing, record m { plan = with_output m.plan name s b }) x is) in
-    let after_it : Keeps m (record m { plan = with_output m.plan name s b }) = record { sound = sound_output m name s b there few_outputs; nodes = λ i old is. is } in
+    let state : record m { plan = with_output m.plan name s b w } ≡ x.1 = ap (λ (y : Value × Machine). y.1) (ok_is (Nothing, record m { plan = with_output m.plan name s b w }) x is) in
+    let after_it : Keeps m (record m { plan = with_output m.plan name s b w }) = record { sound = sound_output m name s b w there few_outputs; nodes = λ i old is. is } in
     subst (Keeps m) state after_it
 
-pub put_output : (m : Machine) (name : List ℕ) (s : ℕ) (b : Bool) (k : Kind) (x : Value × Machine) → add_output name s b m ≡ Ok x → IsSource m.plan.nodes k s → Keeps m x.1
+pub put_output : (m : Machine) (name : List ℕ) (s : ℕ) (b w : Bool) (k : Kind) (x : Value × Machine) → add_output name s b w m ≡ Ok x → IsSource m.plan.nodes k s → Keeps m x.1
 unfolding add_output
-put_output m name s b k x is source = put_by (list_any (is_named name) m.plan.sinks) (nat_lt (count_by is_output m.plan.sinks) MAX_OUTPUTS) m name s b x refl (below_length m.plan.nodes k s source) is
+put_output m name s b w k x is source = put_by (list_any (is_named name) m.plan.sinks) (nat_lt (count_by is_output m.plan.sinks) MAX_OUTPUTS) m name s b w x refl (below_length m.plan.nodes k s source) is

@@ -142,10 +142,10 @@ abbrev outputs : ℕ → Machine
 outputs n = record slow { plan = record slow.plan { nodes = faded 0; sinks = replicate n (Output (codes "A") 0 true false) } }
 
 -- the name is looked at before the number
-same_name : add_output (codes "A") 0 false (outputs 64) ≡ Err (SameOutput (codes "A"))
+same_name : add_output (codes "A") 0 false false (outputs 64) ≡ Err (SameOutput (codes "A"))
 unfolding add_output
 same_name = refl
 
-outputs_65 : add_output (codes "B") 0 false (outputs 64) ≡ Err (TooLarge Outputs)
+outputs_65 : add_output (codes "B") 0 false true (outputs 64) ≡ Err (TooLarge Outputs)
 unfolding add_output
 outputs_65 = refl

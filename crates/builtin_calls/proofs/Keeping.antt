@@ -153,7 +153,7 @@ rate_is (Number d) r is = absurd cc
 rate_is (Text t) r is = absurd cc
 rate_is (Truth b) r is = absurd cc
 rate_is Nothing r is = absurd cc
-rate_is Format r is = absurd cc
+rate_is (Format wide) r is = absurd cc
 rate_is (Pred p) r is = absurd cc
 rate_is (Source i) r is = absurd cc
 rate_is (Listed vs) r is = absurd cc
@@ -414,18 +414,18 @@ clock_keeps kinds given m x is =
 output_file_keeps : (kinds : List Kind) (given : List Given) (m : Machine) (x : Value × Machine) → output_file kinds given m ≡ Ok x → Keeps m x.1
 unfolding output_file
 output_file_keeps kinds given m x is =
-    let step0 = after (bool_or (codes "fallible") false given) (λ fallible. plain_format fallible.1 >>= λ format. plain_text format.1 >>= λ name. one_kind kinds >>= λ k. plain_source m.plan.nodes k name.1 >>= λ s. add_output name.0 s.0 fallible.0 m) x is in
+    let step0 = after (bool_or (codes "fallible") false given) (λ fallible. plain_format fallible.1 >>= λ format. plain_text format.1 >>= λ name. one_kind kinds >>= λ k. plain_source m.plan.nodes k name.1 >>= λ s. add_output name.0 s.0 fallible.0 format.0 m) x is in
     let fallible = step0.0 in
-    let step1 = after (plain_format fallible.1) (λ format. plain_text format.1 >>= λ name. one_kind kinds >>= λ k. plain_source m.plan.nodes k name.1 >>= λ s. add_output name.0 s.0 fallible.0 m) x step0.2 in
+    let step1 = after (plain_format fallible.1) (λ format. plain_text format.1 >>= λ name. one_kind kinds >>= λ k. plain_source m.plan.nodes k name.1 >>= λ s. add_output name.0 s.0 fallible.0 format.0 m) x step0.2 in
     let format = step1.0 in
-    let step2 = after (plain_text format.1) (λ name. one_kind kinds >>= λ k. plain_source m.plan.nodes k name.1 >>= λ s. add_output name.0 s.0 fallible.0 m) x step1.2 in
+    let step2 = after (plain_text format.1) (λ name. one_kind kinds >>= λ k. plain_source m.plan.nodes k name.1 >>= λ s. add_output name.0 s.0 fallible.0 format.0 m) x step1.2 in
     let name = step2.0 in
-    let step3 = after (one_kind kinds) (λ k. plain_source m.plan.nodes k name.1 >>= λ s. add_output name.0 s.0 fallible.0 m) x step2.2 in
+    let step3 = after (one_kind kinds) (λ k. plain_source m.plan.nodes k name.1 >>= λ s. add_output name.0 s.0 fallible.0 format.0 m) x step2.2 in
     let k = step3.0 in
-    let step4 = after (plain_source m.plan.nodes k name.1) (λ s. add_output name.0 s.0 fallible.0 m) x step3.2 in
+    let step4 = after (plain_source m.plan.nodes k name.1) (λ s. add_output name.0 s.0 fallible.0 format.0 m) x step3.2 in
     let s = step4.0 in
     let source = a_source m.plan.nodes k name.1 s step4.1 in
-    put_output m name.0 s.0 fallible.0 k x step4.2 source
+    put_output m name.0 s.0 fallible.0 format.0 k x step4.2 source
 
 set_keeps : (given : List Given) (m : Machine) (x : Value × Machine) → set given m ≡ Ok x → Keeps m x.1
 unfolding set

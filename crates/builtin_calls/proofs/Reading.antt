@@ -54,7 +54,7 @@ source_is nodes k (Number d) n is = absurd cc
 source_is nodes k (Text t) n is = absurd cc
 source_is nodes k (Truth b) n is = absurd cc
 source_is nodes k Nothing n is = absurd cc
-source_is nodes k Format n is = absurd cc
+source_is nodes k (Format wide) n is = absurd cc
 source_is nodes k (Pred p) n is = absurd cc
 source_is nodes k (Listed vs) n is = absurd cc
 source_is nodes k (Tuple vs) n is = absurd cc
@@ -75,7 +75,7 @@ sources_are nodes k (Number d) rs is = absurd cc
 sources_are nodes k (Text t) rs is = absurd cc
 sources_are nodes k (Truth b) rs is = absurd cc
 sources_are nodes k Nothing rs is = absurd cc
-sources_are nodes k Format rs is = absurd cc
+sources_are nodes k (Format wide) rs is = absurd cc
 sources_are nodes k (Pred p) rs is = absurd cc
 sources_are nodes k (Tuple vs) rs is = absurd cc
 
@@ -100,7 +100,7 @@ pair_is nodes k (Number d) x is = absurd cc
 pair_is nodes k (Text t) x is = absurd cc
 pair_is nodes k (Truth b) x is = absurd cc
 pair_is nodes k Nothing x is = absurd cc
-pair_is nodes k Format x is = absurd cc
+pair_is nodes k (Format wide) x is = absurd cc
 pair_is nodes k (Pred p) x is = absurd cc
 
 -- sources of a kind, and as many predicates
@@ -130,7 +130,7 @@ pairs_in_value nodes k (Number d) x is = absurd cc
 pairs_in_value nodes k (Text t) x is = absurd cc
 pairs_in_value nodes k (Truth b) x is = absurd cc
 pairs_in_value nodes k Nothing x is = absurd cc
-pairs_in_value nodes k Format x is = absurd cc
+pairs_in_value nodes k (Format wide) x is = absurd cc
 pairs_in_value nodes k (Pred p) x is = absurd cc
 
 pub a_source : (nodes : List Node) (k : Kind) (given : List Given) (x : ℕ × List Given) → plain_source nodes k given ≡ Ok x → IsSource nodes k x.0

@@ -38,7 +38,7 @@ output_file kinds given m = do
   name ← plain_text format.1
   k ← one_kind kinds
   s ← plain_source m.plan.nodes k name.1
-  add_output name.0 s.0 fallible.0 m
+  add_output name.0 s.0 fallible.0 format.0 m
 
 -- set(key, value)
 unfoldable pub set : List Given → Machine → Outcome

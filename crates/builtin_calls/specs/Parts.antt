@@ -34,8 +34,9 @@ unfoldable pub as_bool : Value → Result Bool Fault
 as_bool (Truth b) = Ok b
 as_bool v = Err Stuck
 
-unfoldable pub as_format : Value → Result (Unit {0}) Fault
-as_format Format = Ok tt
+-- whether the samples of a format are wide
+unfoldable pub as_format : Value → Result Bool Fault
+as_format (Format wide) = Ok wide
 as_format v = Err Stuck
 
 abbrev pub is_kind : Kind → Kind → Bool
@@ -110,11 +111,11 @@ plain_decimal given = do
   number ← as_decimal x.0
   Ok (number, x.1)
 
-unfoldable pub plain_format : List Given → Result (Unit {0} × List Given) Fault
+unfoldable pub plain_format : List Given → Result (Bool × List Given) Fault
 plain_format given = do
   x ← plain given
-  format ← as_format x.0
-  Ok (format, x.1)
+  wide ← as_format x.0
+  Ok (wide, x.1)
 
 unfoldable pub plain_source : List Node → Kind → List Given → Result (ℕ × List Given) Fault
 plain_source nodes k given = do

@@ -16,12 +16,12 @@ is_named name (Output other node fallible wide) = bytes_eq name other
 is_named name (Feed buffer node) = false
 
 -- an output of a name that no earlier one has, at most 64 of them
-unfoldable pub add_output : List ℕ → ℕ → Bool → Machine → Outcome
-add_output name node fallible m =
+unfoldable pub add_output : List ℕ → ℕ → (fallible wide : Bool) → Machine → Outcome
+add_output name node fallible wide m =
     elim (list_any (is_named name) m.plan.sinks) [
       | true ↦ Err (SameOutput name)
       | false ↦ elim (nat_lt (count_by is_output m.plan.sinks) MAX_OUTPUTS) [
-        | true ↦ Ok (Nothing, record m { plan = with_output m.plan name node fallible })
+        | true ↦ Ok (Nothing, record m { plan = with_output m.plan name node fallible wide })
         | false ↦ Err (TooLarge Outputs)
       ]
     ]

@@ -25,11 +25,11 @@ pub(crate) fn output_file(
     ensures { Gives (λ v. (view_value v, machine.new)) result (output_file kinds.now (map view_given given.old.items) machine.old) }
 {
     let fallible = bool_or(given, "fallible", false)?;
-    plain_format(given)?;
+    let wide = plain_format(given)?;
     let name = plain_text(given)?;
     let kind = one_kind(kinds)?;
     let source = plain_source(&machine.plan, kind, given)?;
-    add_output(machine, name, source, fallible)
+    add_output(machine, name, source, fallible, wide)
 }
 
 fn is_named(name: &str, sink: &SinkPlan) -> bool
@@ -68,8 +68,14 @@ fn outputs(sinks: &[SinkPlan]) -> usize
 
 // Adds an output of a name that no earlier one has, at most 64 of them.
 #[tactic(auto, unfolding(crate::specs::Sinks::add_output))]
-fn add_output(machine: &mut Machine, name: Text, node: u32, fallible: bool) -> Result<Value, Fault>
-    ensures { Gives (λ v. (view_value v, machine.new)) result (add_output name node fallible machine.old) }
+fn add_output(
+    machine: &mut Machine,
+    name: Text,
+    node: u32,
+    fallible: bool,
+    wide: bool,
+) -> Result<Value, Fault>
+    ensures { Gives (λ v. (view_value v, machine.new)) result (add_output name node fallible wide machine.old) }
 {
     if has_name(name.as_str(), machine.plan.plan().sinks.as_slice()) {
         return Err(Fault::SameOutput(name));
@@ -77,6 +83,6 @@ fn add_output(machine: &mut Machine, name: Text, node: u32, fallible: bool) -> R
     if outputs(machine.plan.plan().sinks.as_slice()) >= MAX_OUTPUTS as usize {
         return Err(Fault::TooLarge(Limit::Outputs));
     }
-    machine.plan.push_output(name, node, fallible)?;
+    machine.plan.push_output(name, node, fallible, wide)?;
     Ok(Value::Nothing)
 }

@@ -50,14 +50,14 @@ pub(crate) fn plain_decimal(given: &mut Vec<Given>) -> Result<Decimal, Fault>
     Ok(number)
 }
 
-/// The next plain parameter, a format.
+/// The next plain parameter, a format: whether its samples are wide.
 #[tactic(auto, unfolding(crate::specs::Parts::plain_format))]
-pub(crate) fn plain_format(given: &mut Vec<Given>) -> Result<(), Fault>
-    ensures { Gives (λ _. (tt, map view_given given.new.items)) result (plain_format (map view_given given.old.items)) }
+pub(crate) fn plain_format(given: &mut Vec<Given>) -> Result<bool, Fault>
+    ensures { Gives (λ w. (w, map view_given given.new.items)) result (plain_format (map view_given given.old.items)) }
 {
     let value = plain(given)?;
-    as_format(&value)?;
-    Ok(())
+    let wide = as_format(&value)?;
+    Ok(wide)
 }
 
 /// A labelled bool, or its default.
@@ -161,11 +161,11 @@ fn as_bool(value: &Value) -> Result<bool, Fault>
 }
 
 #[tactic(auto, unfolding(crate::specs::Parts::as_format))]
-fn as_format(value: &Value) -> Result<(), Fault>
-    ensures { Gives (λ _. tt) result (as_format (view_value value.now)) }
+fn as_format(value: &Value) -> Result<bool, Fault>
+    ensures { Gives (λ w. w) result (as_format (view_value value.now)) }
 {
     match value {
-        Value::Format => Ok(()),
+        Value::Format { wide } => Ok(*wide),
         _ => Err(Fault::Stuck),
     }
 }

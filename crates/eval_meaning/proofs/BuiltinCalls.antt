@@ -35,12 +35,12 @@ output_file_safe : (kinds : List Kind) (given : List Given) (m : Machine) (j : K
 unfolding output_file
 output_file_safe kinds given m j is_kinds whole =
     let taking = behind_id m.plan.nodes (perhaps (codes "fallible") ∷ in_place (codes "format") ∷ in_place (codes "name") ∷ in_place (codes "s") ∷ []) (base_type base.Text) (base_type base.Bool ∷ base_type base.Format ∷ base_type base.Text ∷ source j ∷ []) given whole in
-    fixed m.plan.nodes (λ (y : Bool × List Given). Taking strip m.plan.nodes (in_place (codes "format") ∷ in_place (codes "name") ∷ in_place (codes "s") ∷ []) (base_type base.Format ∷ base_type base.Text ∷ source j ∷ []) y.1) (Of (unit)) (bool_or (codes "fallible") false given) (λ fallible. plain_format fallible.1 >>= λ format. plain_text format.1 >>= λ name. one_kind kinds >>= λ k. plain_source m.plan.nodes k name.1 >>= λ s. add_output name.0 s.0 fallible.0 m) (bool_or_step strip m.plan.nodes (codes "fallible") (in_place (codes "format") ∷ in_place (codes "name") ∷ in_place (codes "s") ∷ []) (base_type base.Format ∷ base_type base.Text ∷ source j ∷ []) given false (strip_commutes (Some (codes "fallible")) (label_other (codes "fallible") refl)) taking) (λ fallible taking0.
-    fixed m.plan.nodes (λ (y : Unit {0} × List Given). Taking strip m.plan.nodes (in_place (codes "name") ∷ in_place (codes "s") ∷ []) (base_type base.Text ∷ source j ∷ []) y.1) (Of (unit)) (plain_format fallible.1) (λ format. plain_text format.1 >>= λ name. one_kind kinds >>= λ k. plain_source m.plan.nodes k name.1 >>= λ s. add_output name.0 s.0 fallible.0 m) (format_step strip m.plan.nodes (codes "format") (in_place (codes "name") ∷ in_place (codes "s") ∷ []) (base_type base.Text ∷ source j ∷ []) fallible.1 (strip_commutes None plain_other) taking0) (λ format taking1.
-    fixed m.plan.nodes (λ (y : List ℕ × List Given). Taking strip m.plan.nodes (in_place (codes "s") ∷ []) (source j ∷ []) y.1) (Of (unit)) (plain_text format.1) (λ name. one_kind kinds >>= λ k. plain_source m.plan.nodes k name.1 >>= λ s. add_output name.0 s.0 fallible.0 m) (text_step strip m.plan.nodes (codes "name") (in_place (codes "s") ∷ []) (source j ∷ []) format.1 (strip_commutes None plain_other) taking1) (λ name taking2.
-    fixed m.plan.nodes (λ k. k ≡ j) (Of (unit)) (one_kind kinds) (λ k. plain_source m.plan.nodes k name.1 >>= λ s. add_output name.0 s.0 fallible.0 m) (kind_step kinds j is_kinds) (λ k is_k.
-    fixed m.plan.nodes (λ (y : ℕ × List Given). Taking strip m.plan.nodes [] [] y.1) (Of (unit)) (plain_source m.plan.nodes k name.1) (λ s. add_output name.0 s.0 fallible.0 m) (source_step strip m.plan.nodes (codes "s") [] [] name.1 k (strip_commutes None plain_other) (subst (λ (i : Kind). Taking strip m.plan.nodes (in_place (codes "s") ∷ []) (source i ∷ []) name.1) (sym is_k) taking2)) (λ s taking4.
-    output_safe name.0 s.0 fallible.0 m)))))
+    fixed m.plan.nodes (λ (y : Bool × List Given). Taking strip m.plan.nodes (in_place (codes "format") ∷ in_place (codes "name") ∷ in_place (codes "s") ∷ []) (base_type base.Format ∷ base_type base.Text ∷ source j ∷ []) y.1) (Of (unit)) (bool_or (codes "fallible") false given) (λ fallible. plain_format fallible.1 >>= λ format. plain_text format.1 >>= λ name. one_kind kinds >>= λ k. plain_source m.plan.nodes k name.1 >>= λ s. add_output name.0 s.0 fallible.0 format.0 m) (bool_or_step strip m.plan.nodes (codes "fallible") (in_place (codes "format") ∷ in_place (codes "name") ∷ in_place (codes "s") ∷ []) (base_type base.Format ∷ base_type base.Text ∷ source j ∷ []) given false (strip_commutes (Some (codes "fallible")) (label_other (codes "fallible") refl)) taking) (λ fallible taking0.
+    fixed m.plan.nodes (λ (y : Bool × List Given). Taking strip m.plan.nodes (in_place (codes "name") ∷ in_place (codes "s") ∷ []) (base_type base.Text ∷ source j ∷ []) y.1) (Of (unit)) (plain_format fallible.1) (λ format. plain_text format.1 >>= λ name. one_kind kinds >>= λ k. plain_source m.plan.nodes k name.1 >>= λ s. add_output name.0 s.0 fallible.0 format.0 m) (format_step strip m.plan.nodes (codes "format") (in_place (codes "name") ∷ in_place (codes "s") ∷ []) (base_type base.Text ∷ source j ∷ []) fallible.1 (strip_commutes None plain_other) taking0) (λ format taking1.
+    fixed m.plan.nodes (λ (y : List ℕ × List Given). Taking strip m.plan.nodes (in_place (codes "s") ∷ []) (source j ∷ []) y.1) (Of (unit)) (plain_text format.1) (λ name. one_kind kinds >>= λ k. plain_source m.plan.nodes k name.1 >>= λ s. add_output name.0 s.0 fallible.0 format.0 m) (text_step strip m.plan.nodes (codes "name") (in_place (codes "s") ∷ []) (source j ∷ []) format.1 (strip_commutes None plain_other) taking1) (λ name taking2.
+    fixed m.plan.nodes (λ k. k ≡ j) (Of (unit)) (one_kind kinds) (λ k. plain_source m.plan.nodes k name.1 >>= λ s. add_output name.0 s.0 fallible.0 format.0 m) (kind_step kinds j is_kinds) (λ k is_k.
+    fixed m.plan.nodes (λ (y : ℕ × List Given). Taking strip m.plan.nodes [] [] y.1) (Of (unit)) (plain_source m.plan.nodes k name.1) (λ s. add_output name.0 s.0 fallible.0 format.0 m) (source_step strip m.plan.nodes (codes "s") [] [] name.1 k (strip_commutes None plain_other) (subst (λ (i : Kind). Taking strip m.plan.nodes (in_place (codes "s") ∷ []) (source i ∷ []) name.1) (sym is_k) taking2)) (λ s taking4.
+    output_safe name.0 s.0 fallible.0 format.0 m)))))
 
 single_safe : (kinds : List Kind) (given : List Given) (m : Machine) (j : Kind) → j ∷ [] ≡ kinds → Taking all m.plan.nodes (perhaps (codes "id") ∷ in_place (codes "file") ∷ []) (base_type base.Text ∷ base_type base.Text ∷ []) given → Safe m.plan.nodes (Of (source j)) (single kinds given m)
 unfolding single

@@ -61,7 +61,7 @@ text_read ns (value.Int n) is = absurd cc
 text_read ns (value.Number d) is = absurd cc
 text_read ns (value.Truth b) is = absurd cc
 text_read ns value.Nothing is = absurd cc
-text_read ns value.Format is = absurd cc
+text_read ns (value.Format wide) is = absurd cc
 text_read ns (value.Pred p) is = absurd cc
 text_read ns (value.Source n) is = let e = is.2 in absurd cc
 text_read ns (value.Listed vs) is = let e = is.1 in absurd cc
@@ -74,7 +74,7 @@ decimal_read ns (value.Text t) is = absurd cc
 decimal_read ns (value.Int n) is = absurd cc
 decimal_read ns (value.Truth b) is = absurd cc
 decimal_read ns value.Nothing is = absurd cc
-decimal_read ns value.Format is = absurd cc
+decimal_read ns (value.Format wide) is = absurd cc
 decimal_read ns (value.Pred p) is = absurd cc
 decimal_read ns (value.Source n) is = let e = is.2 in absurd cc
 decimal_read ns (value.Listed vs) is = let e = is.1 in absurd cc
@@ -87,7 +87,7 @@ int_read ns (value.Number d) is = absurd cc
 int_read ns (value.Text t) is = absurd cc
 int_read ns (value.Truth b) is = absurd cc
 int_read ns value.Nothing is = absurd cc
-int_read ns value.Format is = absurd cc
+int_read ns (value.Format wide) is = absurd cc
 int_read ns (value.Pred p) is = absurd cc
 int_read ns (value.Source n) is = let e = is.2 in absurd cc
 int_read ns (value.Listed vs) is = let e = is.1 in absurd cc
@@ -100,7 +100,7 @@ bool_read ns (value.Text t) is = absurd cc
 bool_read ns (value.Int n) is = absurd cc
 bool_read ns (value.Number d) is = absurd cc
 bool_read ns value.Nothing is = absurd cc
-bool_read ns value.Format is = absurd cc
+bool_read ns (value.Format wide) is = absurd cc
 bool_read ns (value.Pred p) is = absurd cc
 bool_read ns (value.Source n) is = let e = is.2 in absurd cc
 bool_read ns (value.Listed vs) is = let e = is.1 in absurd cc
@@ -108,7 +108,7 @@ bool_read ns (value.Tuple vs) is = let e = is.1 in absurd cc
 
 format_read : (ns : List Node) (v : Value) → IsA ns v (base_type base.Format) → NotStuck (λ _. ⊤) (as_format v)
 unfolding as_format
-format_read ns value.Format is = tt
+format_read ns (value.Format wide) is = tt
 format_read ns (value.Text t) is = absurd cc
 format_read ns (value.Int n) is = absurd cc
 format_read ns (value.Number d) is = absurd cc
@@ -122,7 +122,7 @@ format_read ns (value.Tuple vs) is = let e = is.1 in absurd cc
 pred_read : (ns : List Node) (v : Value) → IsA ns v (base_type base.Pred) → NotStuck (λ _. ⊤) (pred_of v)
 unfolding pred_of
 pred_read ns (value.Pred p) is = tt
-pred_read ns value.Format is = absurd cc
+pred_read ns (value.Format wide) is = absurd cc
 pred_read ns (value.Text t) is = absurd cc
 pred_read ns (value.Int n) is = absurd cc
 pred_read ns (value.Number d) is = absurd cc
@@ -148,7 +148,7 @@ source_there ns k n one stands same =
 source_read : (ns : List Node) (k : Kind) (v : Value) → IsA ns v (source k) → NotStuck (λ _. ⊤) (source_of ns k v)
 unfolding source_of
 source_read ns k (value.Source n) is = source_there ns k n is.0 is.1 is.2
-source_read ns k value.Format is = absurd cc
+source_read ns k (value.Format wide) is = absurd cc
 source_read ns k (value.Text t) is = absurd cc
 source_read ns k (value.Int n) is = absurd cc
 source_read ns k (value.Number d) is = absurd cc
@@ -169,7 +169,7 @@ unfolding sources_of
 sources_read ns k (value.Listed vs) is =
     let same : is.0 ≡ source k = (let e = is.1 in cc) in
     nodes_read ns k vs [] (subst (λ (t : Ground). AllAre ns vs t) same is.2)
-sources_read ns k value.Format is = absurd cc
+sources_read ns k (value.Format wide) is = absurd cc
 sources_read ns k (value.Text t) is = absurd cc
 sources_read ns k (value.Int n) is = absurd cc
 sources_read ns k (value.Number d) is = absurd cc
@@ -200,7 +200,7 @@ unfolding pair_of
 pair_read ns k (value.Tuple vs) is =
     let same : is.0 ≡ pair_types k = (let e = is.1 in cc) in
     in_pair ns k vs (subst (λ (t : Grounds). EachIs ns vs t) same is.2)
-pair_read ns k value.Format is = absurd cc
+pair_read ns k (value.Format wide) is = absurd cc
 pair_read ns k (value.Text t) is = absurd cc
 pair_read ns k (value.Int n) is = absurd cc
 pair_read ns k (value.Number d) is = absurd cc
@@ -221,7 +221,7 @@ unfolding pairs_of
 all_pairs_read ns k (value.Listed vs) is =
     let same : is.0 ≡ tuple (pair_types k) = (let e = is.1 in cc) in
     pairs_read ns k vs [] [] (subst (λ (t : Ground). AllAre ns vs t) same is.2)
-all_pairs_read ns k value.Format is = absurd cc
+all_pairs_read ns k (value.Format wide) is = absurd cc
 all_pairs_read ns k (value.Text t) is = absurd cc
 all_pairs_read ns k (value.Int n) is = absurd cc
 all_pairs_read ns k (value.Number d) is = absurd cc
@@ -248,7 +248,7 @@ module _ (S : List Given → List Given) (ns : List Node) (name : List ℕ) (ps 
   unfolding plain_decimal plain
   decimal_step commutes taking = needed_step (base_type base.Decimal) as_decimal (decimal_read ns) commutes taking
 
-  pub format_step : Commutes S None → Taking S ns (in_place name ∷ ps) (base_type base.Format ∷ ts) given → NotStuck (λ (y : Unit {0} × List Given). Taking S ns ps ts y.1) (plain_format given)
+  pub format_step : Commutes S None → Taking S ns (in_place name ∷ ps) (base_type base.Format ∷ ts) given → NotStuck (λ (y : Bool × List Given). Taking S ns ps ts y.1) (plain_format given)
   unfolding plain_format plain
   format_step commutes taking = needed_step (base_type base.Format) as_format (format_read ns) commutes taking
 
@@ -406,14 +406,14 @@ buffered_safe s k plan m = buffer_by (nat_le MAX_NODES (length m.plan.nodes)) m 
 abbrev pub unit : Ground
 unit = base_type base.Unit
 
-output_by : (a b : Bool) (m : Machine) (name : List ℕ) (s : ℕ) (f : Bool) → Safe m.plan.nodes (Of unit) (elim a as (λ _. Outcome) [ true ↦ Err (SameOutput name) | false ↦ elim b as (λ _. Outcome) [ true ↦ Ok (value.Nothing, record m { plan = with_output m.plan name s f }) | false ↦ Err (TooLarge Outputs) ] ])
-output_by true b m name s f = tt
-output_by false true m name s f = (λ i old there_is. there_is, refl)
-output_by false false m name s f = tt
+output_by : (a b : Bool) (m : Machine) (name : List ℕ) (s : ℕ) (f w : Bool) → Safe m.plan.nodes (Of unit) (elim a as (λ _. Outcome) [ true ↦ Err (SameOutput name) | false ↦ elim b as (λ _. Outcome) [ true ↦ Ok (value.Nothing, record m { plan = with_output m.plan name s f w }) | false ↦ Err (TooLarge Outputs) ] ])
+output_by true b m name s f w = tt
+output_by false true m name s f w = (λ i old there_is. there_is, refl)
+output_by false false m name s f w = tt
 
-pub output_safe : (name : List ℕ) (s : ℕ) (f : Bool) (m : Machine) → Safe m.plan.nodes (Of unit) (add_output name s f m)
+pub output_safe : (name : List ℕ) (s : ℕ) (f w : Bool) (m : Machine) → Safe m.plan.nodes (Of unit) (add_output name s f w m)
 unfolding add_output
-output_safe name s f m = output_by (list_any (is_named name) m.plan.sinks) (nat_lt (count_by is_output m.plan.sinks) MAX_OUTPUTS) m name s f
+output_safe name s f w m = output_by (list_any (is_named name) m.plan.sinks) (nat_lt (count_by is_output m.plan.sinks) MAX_OUTPUTS) m name s f w
 
 -- ---- settings
 
@@ -424,7 +424,7 @@ rate_told (value.Number d) = tt
 rate_told (value.Text t) = tt
 rate_told (value.Truth b) = tt
 rate_told value.Nothing = tt
-rate_told value.Format = tt
+rate_told (value.Format wide) = tt
 rate_told (value.Pred p) = tt
 rate_told (value.Source n) = tt
 rate_told (value.Listed vs) = tt
@@ -437,7 +437,7 @@ duration_told (value.Int n) = tt
 duration_told (value.Text t) = tt
 duration_told (value.Truth b) = tt
 duration_told value.Nothing = tt
-duration_told value.Format = tt
+duration_told (value.Format wide) = tt
 duration_told (value.Pred p) = tt
 duration_told (value.Source n) = tt
 duration_told (value.Listed vs) = tt

@@ -1,6 +1,6 @@
 -- Small scripts, whose meaning is computed.
 use Rattle.std.proofs.Common.{◌≡◌, ℕ, zero, suc, ◌+◌, ◌*◌, List, [], ◌∷◌, true, false, Some, None, Ok, Err, refl}
-use Rattle.std.specs.Prelude.{pos, codes}
+use Rattle.std.specs.Prelude.{ℤ, pos, codes}
 use Rattle.liq_base.specs.declared.memory.Kind.TheVariants.{Mono, Stereo}
 use Rattle.plan_core.specs.declared.node.Op.TheVariants as node_op
 use Rattle.plan_core.specs.declared.sink.SinkPlan.TheVariants.{Output}
@@ -197,3 +197,26 @@ uses_of_kinds =
 each_kind : evaluation two_kinds uses_of_kinds ≡ Ok (record { rate = 44100; frame = 1764; nodes = record { op = node_op.Blank 0; kind = Mono; children = [] } ∷ record { op = node_op.Blank 0; kind = Stereo; children = [] } ∷ []; sinks = Output (codes "A") 0 false false ∷ Output (codes "B") 1 false false ∷ []; buffers = [] })
 unfolding statements turned statement full expr ors conj ands nega compare sum addeds product multiplieds prim call arguments argued applied builtin blank output_file decimal_or bool_or plain plain_format plain_text plain_source as_format as_text source_of track_of add push add_output parameters inners body call_by count ended
 each_kind = refl
+
+-- ---- formats
+
+-- output.file(%wav(samplesize=bits), "A", blank())
+abbrev sized : ℤ → Script
+sized bits = more (Stmt (CallPart (Call 0 (codes "output.file") (more (unlabelled 1 (Format 1 (Some bits))) (more (unlabelled 8 (Quoted 8 (codes "A"))) (more (unlabelled 10 (Called (Call 10 (codes "blank") none))) none))))) false) none
+
+abbrev uses_of_sized : List Use
+uses_of_sized =
+    record { at = 0; target = target.Builtin builtins.OutputFile; kinds = kind_of.Fixed Stereo ∷ [] }
+    ∷ record { at = 10; target = target.Builtin builtins.Blank; kinds = kind_of.Fixed Stereo ∷ [] } ∷ []
+
+narrow_output : evaluation (sized (pos 16)) uses_of_sized ≡ Ok (record { rate = 44100; frame = 1764; nodes = record { op = node_op.Blank 0; kind = Stereo; children = [] } ∷ []; sinks = Output (codes "A") 0 false false ∷ []; buffers = [] })
+unfolding statements turned statement full expr ors conj ands nega compare sum addeds product multiplieds prim call arguments argued applied builtin blank output_file decimal_or bool_or plain plain_format plain_text plain_source as_format as_text source_of track_of add push add_output count ended
+narrow_output = refl
+
+wide_output : evaluation (sized (pos 24)) uses_of_sized ≡ Ok (record { rate = 44100; frame = 1764; nodes = record { op = node_op.Blank 0; kind = Stereo; children = [] } ∷ []; sinks = Output (codes "A") 0 false true ∷ []; buffers = [] })
+unfolding statements turned statement full expr ors conj ands nega compare sum addeds product multiplieds prim call arguments argued applied builtin blank output_file decimal_or bool_or plain plain_format plain_text plain_source as_format as_text source_of track_of add push add_output count ended
+wide_output = refl
+
+other_size : evaluation (sized (pos 20)) uses_of_sized ≡ Err (Some (told.BadValue 1 1))
+unfolding statements turned statement full expr ors conj ands nega compare sum addeds product multiplieds prim call arguments argued applied builtin output_file count ended
+other_size = refl

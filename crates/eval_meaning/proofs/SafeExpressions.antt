@@ -53,12 +53,27 @@ unfolding meaning.named
 named_safe s t None g m knows has = absurd has
 named_safe s t (Some u) g m knows has = meant_safe s t u.target g m knows has
 
+-- a size other than 16
+abbrev of_other_size : ℕ → ℤ → Result Value Fault
+of_other_size at n =
+    elim (int_le n (pos 24) && int_le (pos 24) n) [
+      | true ↦ Ok (value.Format true)
+      | false ↦ Err (faults.BadValue at)
+    ]
+
+other_size_safe : (ns : List Node) (at : ℕ) (n : ℤ) (g : Ground) → g ≡ base_type base.Format → NotStuck (λ (u : Value). IsA ns u g) (of_other_size at n)
+other_size_safe ns at n g has =
+    elim (int_le n (pos 24) && int_le (pos 24) n) as (λ b. NotStuck (λ (u : Value). IsA ns u g) (elim b [ true ↦ Ok (value.Format true) | false ↦ Err (faults.BadValue at) ])) [
+      | true ↦ has
+      | false ↦ tt
+    ]
+
 format_safe : (ns : List Node) (at : ℕ) (bits : Option ℤ) (g : Ground) → g ≡ base_type base.Format → NotStuck (λ (u : Value). IsA ns u g) (meaning.format at bits)
 format_safe ns at None g has = has
 format_safe ns at (Some n) g has =
-    elim (int_le n (pos 16) && int_le (pos 16) n) as (λ b. NotStuck (λ (u : Value). IsA ns u g) (elim b [ true ↦ Ok value.Format | false ↦ Err (faults.BadValue at) ])) [
+    elim (int_le n (pos 16) && int_le (pos 16) n) as (λ b. NotStuck (λ (u : Value). IsA ns u g) (elim b [ true ↦ Ok (value.Format false) | false ↦ of_other_size at n ])) [
       | true ↦ has
-      | false ↦ tt
+      | false ↦ other_size_safe ns at n g has
     ]
 
 -- ---- calls

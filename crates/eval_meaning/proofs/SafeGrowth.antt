@@ -30,7 +30,7 @@ mutual
   is_later a b grows (value.Text t) g is = is
   is_later a b grows (value.Truth t) g is = is
   is_later a b grows value.Nothing g is = is
-  is_later a b grows value.Format g is = is
+  is_later a b grows (value.Format wide) g is = is
   is_later a b grows (value.Pred p) g is = is
   is_later a b grows (value.Source n) g is = (is.0, grows n is.0 is.1, is.2)
   is_later a b grows (value.Listed vs) g is = (is.0, is.1, all_later a b grows vs is.0 is.2)

@@ -28,7 +28,7 @@ int_value ns (value.Number d) is = absurd cc
 int_value ns (value.Text t) is = absurd cc
 int_value ns (value.Truth b) is = absurd cc
 int_value ns value.Nothing is = absurd cc
-int_value ns value.Format is = absurd cc
+int_value ns (value.Format wide) is = absurd cc
 int_value ns (value.Pred p) is = absurd cc
 int_value ns (value.Source n) is = let e = is.2 in absurd cc
 int_value ns (value.Listed vs) is = let e = is.1 in absurd cc
@@ -40,7 +40,7 @@ decimal_value ns (value.Number d) is = (d, refl)
 decimal_value ns (value.Text t) is = absurd cc
 decimal_value ns (value.Truth b) is = absurd cc
 decimal_value ns value.Nothing is = absurd cc
-decimal_value ns value.Format is = absurd cc
+decimal_value ns (value.Format wide) is = absurd cc
 decimal_value ns (value.Pred p) is = absurd cc
 decimal_value ns (value.Source n) is = let e = is.2 in absurd cc
 decimal_value ns (value.Listed vs) is = let e = is.1 in absurd cc
@@ -52,7 +52,7 @@ truth_value ns (value.Number d) is = absurd cc
 truth_value ns (value.Text t) is = absurd cc
 truth_value ns (value.Truth b) is = (b, refl)
 truth_value ns value.Nothing is = absurd cc
-truth_value ns value.Format is = absurd cc
+truth_value ns (value.Format wide) is = absurd cc
 truth_value ns (value.Pred p) is = absurd cc
 truth_value ns (value.Source n) is = let e = is.2 in absurd cc
 truth_value ns (value.Listed vs) is = let e = is.1 in absurd cc

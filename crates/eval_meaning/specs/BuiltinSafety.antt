@@ -28,7 +28,7 @@ abbrev mutual
   IsA ns (value.Text t) g = g ≡ base_type base.Text
   IsA ns (value.Truth b) g = g ≡ base_type base.Bool
   IsA ns value.Nothing g = g ≡ base_type base.Unit
-  IsA ns value.Format g = g ≡ base_type base.Format
+  IsA ns (value.Format wide) g = g ≡ base_type base.Format
   IsA ns (value.Pred p) g = g ≡ base_type base.Pred
   IsA ns (value.Source n) g = (node : Node) × (slice_get ns n ≡ Some node) × (g ≡ source node.kind)
   IsA ns (value.Listed vs) g = (t : Ground) × (g ≡ list t) × AllAre ns vs t

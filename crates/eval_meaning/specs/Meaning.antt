@@ -58,12 +58,16 @@ unfoldable pub applied : Scope → Option Use → ℕ → List Given → Machine
 applied s None at given m = Err Stuck
 applied s (Some u) at given m = applied_to s u.target at (kinds_of s.kinds u.kinds) given m
 
+-- the format that `%wav` names at this token: its samples have 16 bits without a size and with 16, they are wide with 24, and no other size is one
 abbrev pub format : ℕ → Option ℤ → Result Value Fault
-format at None = Ok value.Format
+format at None = Ok (value.Format false)
 format at (Some n) =
     elim (int_le n (pos 16) && int_le (pos 16) n) [
-      | true ↦ Ok value.Format
-      | false ↦ Err (BadValue at)
+      | true ↦ Ok (value.Format false)
+      | false ↦ elim (int_le n (pos 24) && int_le (pos 24) n) [
+        | true ↦ Ok (value.Format true)
+        | false ↦ Err (BadValue at)
+      ]
     ]
 
 -- an operator on the value to its left and the operand to its right, which was evaluated

@@ -66,15 +66,17 @@ pub fn kinds_of(
     Ok(Some(kinds))
 }
 
-/// The format that `%wav` names.
+/// The format that `%wav` names: of 16 bits without a size and with 16, of 24 with 24, and of no other size.
 pub fn format(at: u32, size: Option<i64>) -> Result<Value, Fault>
     ensures { Gives (λ v. view_value v) result (format at size) }
 {
     match size {
-        None => Ok(Value::Format),
+        None => Ok(Value::Format { wide: false }),
         Some(bits) => {
             if bits == 16 {
-                Ok(Value::Format)
+                Ok(Value::Format { wide: false })
+            } else if bits == 24 {
+                Ok(Value::Format { wide: true })
             } else {
                 Err(Fault::BadValue(at))
             }

@@ -99,7 +99,7 @@ fn run(
 
 // A statement, with the end of the settings before it.
 #[tactic(auto, unfolding(eval_meaning::specs::Scripts::turned), using(crate::proofs::Statements::fault_is_told))]
-fn turn(
+pub(crate) fn turn(
     alloc: Global,
     defs: &Defs<'_>,
     uses: &Uses<'_>,

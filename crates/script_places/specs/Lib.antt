@@ -1,4 +1,5 @@
 pub mod Counting
+pub mod Showing
 pub mod Pointing
 pub mod Starts
 pub mod Standing

@@ -45,8 +45,8 @@ fn are_utf8(count: usize, bytes: &[u8]) -> bool
     count <= bytes.len() && is_utf8(&bytes[..count])
 }
 
-// How many bytes the first character has. A byte with which none begins counts as one.
-fn width(bytes: &[u8]) -> usize
+/// How many bytes the first character has. A byte with which none begins counts as one.
+pub fn width(bytes: &[u8]) -> usize
     requires { 0 < length bytes.now }
     ensures width { result ≡ width bytes.now }
     ensures some { 0 < result }

@@ -5,6 +5,7 @@ mod counting;
 mod named;
 mod place;
 mod pointing;
+mod showing;
 mod starts;
 
 pub use named::{Named, named_in};

@@ -1,28 +1,28 @@
 // The two lines that show a place.
 ghost use Rattle.std.specs.Prelude.{◌≡◌, ◌++◌, IfOk, OnOk, codes, string_bytes};
-ghost use Rattle.script_places.specs.Pointing.{trimmed, up_to_lf, blank_for, blanks_for, head, pointer};
+ghost use Rattle.script_places.specs.Pointing.{trimmed, up_to_lf, without_cr, blank_for, blanks_for, head, front, caret, pointer};
+ghost use Rattle.script_places.specs.Showing.{shown};
 
 use crate::counting::{column, first_character, in_line, line};
 use crate::place::{before, behind};
+use crate::showing::{is_marked, push_shown};
 use liq_base::Memory;
 use std::alloc::Global;
 
 /// The lines that show the byte of this number, counted from 0, or the end of the text past it: `FILE:LINE:COLUMN: ` and
-/// the text of the line without its leading blanks, and below it a caret.
+/// the text of the line without its leading blanks, and below it a caret. Bytes of control characters are shown by their
+/// numbers, and a byte order mark that stands at the place is told in words.
 pub fn pointer(alloc: Global, file: &str, text: &[u8], at: usize) -> Result<Vec<u8>, Memory>
     ensures { IfOk result (λ lines. lines.items ≡ pointer file.now text.now at) }
 {
     let before = before(text, at);
     let head = head(alloc, file, before)?;
-    let front = trimmed(in_line(before));
+    let mut front = Vec::new(alloc);
+    push_shown(&mut front, trimmed(in_line(before)))?;
     let mut lines = Vec::new(alloc);
-    push_line(
-        &mut lines,
-        head.as_bytes(),
-        front,
-        up_to_lf(behind(text, at)),
-    )?;
-    push_caret(&mut lines, head.as_bytes(), front)?;
+    let rest = cut_cr(up_to_lf(behind(text, at)));
+    push_line(&mut lines, head.as_bytes(), &front, rest)?;
+    push_caret(&mut lines, head.as_bytes(), &front, caret(text, at))?;
     Ok(lines)
 }
 
@@ -34,25 +34,46 @@ fn head(alloc: Global, file: &str, before: &[u8]) -> Result<String, Memory>
     Ok(format!(in alloc; "{file}:{line}:{column}: ")?)
 }
 
-// Adds a line of three parts.
+// Adds a line of three parts, the last of them as it is shown.
 fn push_line(lines: &mut Vec<u8>, head: &[u8], front: &[u8], rest: &[u8]) -> Result<(), Memory>
-    ensures { OnOk result (lines.new.items ≡ lines.old.items ++ head.now ++ front.now ++ rest.now ++ codes "\n") }
+    ensures { OnOk result (lines.new.items ≡ lines.old.items ++ head.now ++ front.now ++ shown rest.now ++ codes "\n") }
 {
     lines.extend_from_slice(head)?;
     lines.extend_from_slice(front)?;
-    lines.extend_from_slice(rest)?;
+    push_shown(lines, rest)?;
     lines.push(b'\n')?;
     Ok(())
 }
 
-// Adds a line with a caret behind two parts.
-fn push_caret(lines: &mut Vec<u8>, head: &[u8], front: &[u8]) -> Result<(), Memory>
-    ensures { OnOk result (lines.new.items ≡ lines.old.items ++ blanks_for head.now ++ blanks_for front.now ++ codes "^\n") }
+// Adds a line with a caret below what stands behind two parts.
+fn push_caret(lines: &mut Vec<u8>, head: &[u8], front: &[u8], caret: &[u8]) -> Result<(), Memory>
+    ensures { OnOk result (lines.new.items ≡ lines.old.items ++ blanks_for head.now ++ blanks_for front.now ++ caret.now) }
 {
     push_blanks(lines, head)?;
     push_blanks(lines, front)?;
-    lines.extend_from_slice(b"^\n")?;
+    lines.extend_from_slice(caret)?;
     Ok(())
+}
+
+// The caret; below a byte order mark with a word.
+fn caret(text: &[u8], at: usize) -> &'static [u8]
+    ensures { result.now ≡ caret text.now at }
+{
+    if at == 0 && is_marked(text) {
+        b"^ a byte order mark: save the script without it\n"
+    } else {
+        b"^\n"
+    }
+}
+
+// A line without the CR at its end.
+fn cut_cr(line: &[u8]) -> &[u8]
+    ensures { result.now ≡ without_cr line.now }
+{
+    match line.strip_suffix(b"\r".as_slice()) {
+        Some(front) => front,
+        None => line,
+    }
 }
 
 // Without its leading blanks.

@@ -15,7 +15,8 @@ pub data Tree : Sort → Type 0 where
   Text : List ℕ → Tree One
   Truth : Bool → Tree One
   Nothing : Tree One
-  Format : Tree One
+  -- a format of samples of 24 bits, or of 16
+  Format : (wide : Bool) → Tree One
   Pred : Predicate → Tree One
   -- a source is the number of its node
   Source : ℕ → Tree One
@@ -43,7 +44,7 @@ size (Number d) = 1
 size (Text t) = 1
 size (Truth b) = 1
 size Nothing = 1
-size Format = 1
+size (Format wide) = 1
 size (Pred p) = 1
 size (Source n) = 1
 size (Listed vs) = size vs + 1

@@ -10,7 +10,7 @@ abbrev mutual
   view_value (value.Text t) = Text t
   view_value (value.Truth b) = Truth b
   view_value value.Nothing = Nothing
-  view_value value.Format = Format
+  view_value (value.Format wide) = Format wide
   view_value (value.Pred p) = Pred (view_pred p)
   view_value (value.Source n) = Source n
   view_value (value.Listed' shape parts) = Listed (view_values parts)

@@ -26,8 +26,11 @@ pub enum Value {
     /// The value of `()`, of an output and of a setting.
     Nothing,
 
-    /// The format that `%wav` names.
-    Format,
+    /// The format that `%wav` names, of samples of 24 bits where it is wide, else of 16.
+    Format {
+        /// Whether the samples have 24 bits.
+        wide: bool,
+    },
 
     /// A predicate on the time of the week.
     Pred(Pred),
@@ -65,7 +68,7 @@ pub fn copy(alloc: Global, value: &Value) -> Result<Value, Memory>
         Value::Text(text) => Ok(Value::Text(text.copy(alloc)?)),
         Value::Truth(truth) => Ok(Value::Truth(*truth)),
         Value::Nothing => Ok(Value::Nothing),
-        Value::Format => Ok(Value::Format),
+        Value::Format { wide } => Ok(Value::Format { wide: *wide }),
         Value::Pred(pred) => Ok(Value::Pred(pred.copy(alloc)?)),
         Value::Source(node) => Ok(Value::Source(*node)),
         Value::Listed(parts) => Ok(Value::Listed(copies(alloc, parts)?)),

@@ -1,16 +1,18 @@
 // Outputs that are too long for the header of their files.
-ghost use Rattle.std.specs.Prelude.{◌≡◌, ◌≤◌, IfErr, None, OnOk};
+ghost use Rattle.std.specs.Prelude.{◌≡◌, ◌≤◌, IfErr, None, OnOk, is_none};
 ghost use Rattle.plan_core.specs.Plans.{IsWellFormed};
 ghost use Rattle.stations.specs.Findings.{first_name, is_too_long, kind_at};
+ghost use Rattle.wav_io.specs.Header.{header_at};
 ghost use Rattle.station_check.specs.Halts.{LengthHalts};
 
 use crate::Halt;
 use crate::gaps::output_name;
 use liq_base::Kind;
+use liq_base::limits::MAX_RATE;
 use plan_core::{Plan, SinkPlan};
 use stations::StationFault;
 use std::alloc::Global;
-use wav_io::header;
+use wav_io::{header, header_wide};
 
 /// Refuses the first output that is too long for the header of its file after so many ticks, at most 1000000000.
 pub fn check_lengths(alloc: Global, plan: &Plan, ticks: u64) -> Result<(), Halt>
@@ -45,10 +47,22 @@ fn is_too_long(plan: &Plan, ticks: u64, sink: &SinkPlan) -> bool
     ensures { result ≡ is_too_long plan.now ticks sink.now }
 {
     match sink {
-        SinkPlan::Output { node, .. } => {
+        SinkPlan::Output { node, wide, .. } => {
             let kind = kind_at(plan, *node);
-            header(kind, plan.rate, ticks * u64::from(plan.frame)).is_none()
+            has_no_header(*wide, kind, plan.rate, ticks * u64::from(plan.frame))
         }
         SinkPlan::Feed { .. } => false,
+    }
+}
+
+// Whether a file of this width with so many samples on each side has no header.
+fn has_no_header(wide: bool, kind: Kind, rate: u32, samples: u64) -> bool
+    requires { rate ≤ MAX_RATE }
+    ensures { result ≡ is_none (header_at wide kind rate samples) }
+{
+    if wide {
+        header_wide(kind, rate, samples).is_none()
+    } else {
+        header(kind, rate, samples).is_none()
     }
 }

@@ -10,12 +10,12 @@ returns-in_err-value c =
     let p = err_from_is_err_and c.from_residual.result c.from_residual.ensures.1 in
     rw (p.1, p.2) (ends_with c.in_err-value.field-0.0 _ _ c.in_err-value.ensures (λ q. rw (q) refl))
 
-pub returns-in_err-as_format : goal.returns-in_err-as_format
+pub returns-in_err-wide : goal.returns-in_err-wide
 unfolding plain_format
-returns-in_err-as_format c =
-    let p = err_from_is_err_and c.from_residual-in_err-as_format.result c.from_residual-in_err-as_format.ensures.1 in
-    rw (p.1, p.2) (ends_with c.in_err-as_format.field-0.0 _ _ c.in_err-as_format.ensures (λ q. rw (c.in_ok-value.ensures, q) refl))
+returns-in_err-wide c =
+    let p = err_from_is_err_and c.from_residual-in_err-wide.result c.from_residual-in_err-wide.ensures.1 in
+    rw (p.1, p.2) (ends_with c.in_err-wide.field-0.0 _ _ c.in_err-wide.ensures (λ q. rw (c.in_ok-value.ensures, q) refl))
 
 pub returns : goal.returns
 unfolding plain_format
-returns c = rw (c.in_ok-value.ensures, c.in_ok-as_format.ensures) refl
+returns c = rw (c.in_ok-value.ensures, c.in_ok-wide.ensures) refl

@@ -1,0 +1,50 @@
+-- How a text is shown at a terminal: the bytes of a character that would drive it, or that nobody would see, by their numbers.
+use Rattle.std.specs.Prelude.{ℕ, zero, suc, ◌+◌, ◌-◌, ◌/◌, ◌%◌, Bool, true, false, not, ◌&&◌, ◌||◌, ◌==◌, nat_le, nat_lt, List, [], ◌∷◌, ◌++◌, length, take, drop, if◌then◌else◌}
+use Rattle.std.specs.Str.{bytes_eq}
+use Rattle.script_places.specs.Counting.{width}
+
+-- a control byte other than a TAB: below 32, or from 127 to 159
+abbrev pub is_control : ℕ → Bool
+is_control b = (nat_lt b 32 && not (b == 9)) || (nat_le 127 b && nat_lt b 160)
+
+-- whether the byte behind the first one is such
+abbrev pub has_control_next : List ℕ → Bool
+has_control_next [] = false
+has_control_next (b ∷ []) = false
+has_control_next (b ∷ c ∷ bs) = is_control c
+
+-- the byte order mark at the front
+abbrev pub is_marked : List ℕ → Bool
+is_marked bytes = bytes_eq (take 3 bytes) (0xEF ∷ 0xBB ∷ 0xBF ∷ [])
+
+-- whether bytes begin with a character that is not shown as it is: a control byte, the byte order mark, or a control character from U+0080 on, whose first byte is 194
+unfoldable pub is_hidden : List ℕ → Bool
+is_hidden [] = false
+is_hidden (b ∷ bs) = is_control b || (b == 194 && has_control_next (b ∷ bs)) || is_marked (b ∷ bs)
+
+-- a hexadecimal digit
+abbrev pub digit : ℕ → ℕ
+digit n = if nat_lt n 10 then n + 48 else n + 87
+
+-- a byte by its number: `\x` and two digits
+abbrev pub escape : ℕ → List ℕ
+escape b = 92 ∷ 120 ∷ digit (b / 16) ∷ digit (b % 16) ∷ []
+
+abbrev pub byte_shown : Bool → ℕ → List ℕ
+byte_shown true b = escape b
+byte_shown false b = b ∷ []
+
+-- each byte of a character
+abbrev pub character_shown : Bool → List ℕ → List ℕ
+character_shown hidden [] = []
+character_shown hidden (b ∷ bs) = byte_shown hidden b ++ character_shown hidden bs
+
+-- where so many bytes at the front belong to a character that has begun, which is hidden or not
+unfoldable pub shown_within : ℕ → Bool → List ℕ → List ℕ
+shown_within inside hidden [] = []
+shown_within zero hidden (b ∷ bs) = byte_shown (is_hidden (b ∷ bs)) b ++ shown_within (width (b ∷ bs) - 1) (is_hidden (b ∷ bs)) bs
+shown_within (suc n) hidden (b ∷ bs) = byte_shown hidden b ++ shown_within n hidden bs
+
+-- a text as it is shown
+abbrev pub shown : List ℕ → List ℕ
+shown bytes = shown_within 0 false bytes

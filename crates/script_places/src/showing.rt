@@ -1,0 +1,112 @@
+// How a text is shown at a terminal.
+ghost use Rattle.std.specs.Prelude.{◌≡◌, ◌<◌, ◌++◌, IfOk, OnOk, length};
+ghost use Rattle.script_places.specs.Showing.{byte_shown, character_shown, digit, escape, has_control_next, is_control, is_hidden, is_marked, shown};
+
+use crate::counting::width;
+use liq_base::Memory;
+
+/// The bytes of the byte order mark.
+const MARK: [u8; 3] = [0xEF, 0xBB, 0xBF];
+
+// A control byte other than a TAB.
+fn is_control(byte: u8) -> bool
+    ensures { result ≡ is_control byte }
+{
+    (byte < 32 && byte != b'\t') || (127 <= byte && byte < 160)
+}
+
+// Whether the byte behind the first one is such.
+fn has_control_next(bytes: &[u8]) -> bool
+    ensures { result ≡ has_control_next bytes.now }
+{
+    match bytes {
+        [] => false,
+        [_] => false,
+        [_, next, ..] => is_control(*next),
+    }
+}
+
+/// Whether a text begins with the byte order mark.
+pub fn is_marked(bytes: &[u8]) -> bool
+    ensures { result ≡ is_marked bytes.now }
+{
+    bytes.starts_with(MARK.as_slice())
+}
+
+// Whether bytes begin with a character that is not shown as it is.
+#[tactic(auto, unfolding(crate::specs::Showing::is_hidden))]
+fn is_hidden(bytes: &[u8]) -> bool
+    ensures { result ≡ is_hidden bytes.now }
+{
+    match bytes {
+        [] => false,
+        [first, ..] => {
+            is_control(*first) || (*first == 194 && has_control_next(bytes)) || is_marked(bytes)
+        }
+    }
+}
+
+// A hexadecimal digit.
+fn digit(number: u8) -> u8
+    requires { number < 16 }
+    ensures { result ≡ digit number }
+{
+    if number < 10 {
+        number + 48
+    } else {
+        number + 87
+    }
+}
+
+// Adds a byte by its number.
+fn push_escape(out: &mut Vec<u8>, byte: u8) -> Result<(), Memory>
+    ensures { OnOk result (out.new.items ≡ out.old.items ++ escape byte) }
+{
+    out.extend_from_slice(&[92, 120, digit(byte / 16), digit(byte % 16)])?;
+    Ok(())
+}
+
+// Adds a byte of a character that is hidden or not.
+fn push_byte(out: &mut Vec<u8>, byte: u8, hidden: bool) -> Result<(), Memory>
+    ensures { OnOk result (out.new.items ≡ out.old.items ++ byte_shown hidden byte) }
+{
+    if hidden {
+        push_escape(out, byte)?;
+    } else {
+        out.push(byte)?;
+    }
+    Ok(())
+}
+
+// Adds the bytes of a character that is hidden or not.
+fn push_character(out: &mut Vec<u8>, character: &[u8], hidden: bool) -> Result<(), Memory>
+    ensures { OnOk result (out.new.items ≡ out.old.items ++ character_shown hidden character.now) }
+{
+    for byte in character {
+        push_byte(out, *byte, hidden)?;
+    }
+    Ok(())
+}
+
+// Adds the first character as it is shown, and answers what stands behind it.
+fn push_first<'a>(out: &mut Vec<u8>, bytes: &'a [u8]) -> Result<&'a [u8], Memory>
+    requires { 0 < length bytes.now }
+    ensures shown { IfOk result (λ behind. out.new.items ++ shown behind.now ≡ out.old.items ++ shown bytes.now) }
+    ensures shorter { IfOk result (λ behind. length behind.now < length bytes.now) }
+{
+    let (character, behind) = bytes.split_at(width(bytes));
+    push_character(out, character, is_hidden(bytes))?;
+    Ok(behind)
+}
+
+/// Adds a text as it is shown: the bytes of a control character but for a TAB, and of the byte order mark, as `\x` and two
+/// digits each.
+pub fn push_shown(out: &mut Vec<u8>, bytes: &[u8]) -> Result<(), Memory>
+    ensures { OnOk result (out.new.items ≡ out.old.items ++ shown bytes.now) }
+{
+    let mut rest = bytes;
+    while !rest.is_empty() {
+        rest = push_first(out, rest)?;
+    }
+    Ok(())
+}
