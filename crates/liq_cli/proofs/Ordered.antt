@@ -61,16 +61,16 @@ CreatesNone asked = (files : Files) (answer : Answer) → IsAnswerTo asked files
 pub check_creates_none : (file : List ℕ) → CreatesNone (Check file)
 check_creates_none file files Usage is = refl
 check_creates_none file files (Refused fault) is = refl
-check_creates_none file files (Checked station) is = refl
-check_creates_none file files (Accepted station) is = absurd is
-check_creates_none file files (Made made station) is = refl
+check_creates_none file files (Checked _) is = refl
+check_creates_none file files (Accepted _) is = absurd is
+check_creates_none file files (Made made _) is = refl
 
 pub make_creates_none : (seed size : ℕ) → CreatesNone (Make seed size)
 make_creates_none seed size files Usage is = refl
 make_creates_none seed size files (Refused fault) is = refl
-make_creates_none seed size files (Checked station) is = refl
-make_creates_none seed size files (Accepted station) is = absurd is
-make_creates_none seed size files (Made made station) is = refl
+make_creates_none seed size files (Checked _) is = refl
+make_creates_none seed size files (Accepted _) is = absurd is
+make_creates_none seed size files (Made made _) is = refl
 
 module _ (asked : Asked) (none : CreatesNone asked) (before after : Option (List (List ℕ))) (same : after ≡ before) where
   whole_of_none : (files : Files) (P : Answer → Type 0) → ForOne asked files P → ForOne asked files (λ a. after ≡ after_making (creations a) before)

@@ -45,10 +45,7 @@ fn shelf(alloc: Global, script: &str) -> Result<MemShelf, AllocError> {
     let one = file(alloc, "M", b"b.wav\n")?;
     let loud = file(alloc, "a.wav", LOUD)?;
     let silent = file(alloc, "b.wav", SILENT)?;
-    Ok(MemShelf::new(
-        alloc,
-        vec![in alloc; script, both, one, loud, silent]?,
-    ))
+    Ok(MemShelf::new(alloc, vec![in alloc; script, both, one, loud, silent]?))
 }
 
 // A call of these words over this script ends with 0 and leaves this text beside the output `A`.
@@ -74,7 +71,13 @@ const STARTS: &[u8] = b"0 a.wav\n2 b.wav\n6 a.wav\n8 b.wav\n12 a.wav\n14 b.wav\n
 fn a_cue_file_has_a_line_for_each_track(rt: HostRuntime) -> Result<(), Fail> {
     let alloc = rt.alloc();
     check_text(&rt, alloc, CROSSED, "render f 2 --cues", STARTS)?;
-    check_text(&rt, alloc, CROSSED, "render f 2 --cues --one-thread", STARTS)?;
+    check_text(
+        &rt,
+        alloc,
+        CROSSED,
+        "render f 2 --cues --one-thread",
+        STARTS,
+    )?;
     check_text(&rt, alloc, ENDING, "render f 1 --cues", b"0 b.wav\n5\n")?;
     check_text(&rt, alloc, TWO, "render f 3 --cues", b"0\n")?;
     check_text(&rt, alloc, NOTHING, "render f 1 --cues", b"")?;
@@ -153,7 +156,8 @@ fn an_empty_cue_file_gets_no_piece(rt: HostRuntime) -> Result<(), Fail> {
 }
 
 /// Two outputs, of which the second has the name of the first one's cue file.
-const NAMED_AS_A_CUE_FILE: &str = "output.file(%wav, \"A\", blank())\noutput.file(%wav, \"A.cue\", blank())\n";
+const NAMED_AS_A_CUE_FILE: &str =
+    "output.file(%wav, \"A\", blank())\noutput.file(%wav, \"A.cue\", blank())\n";
 
 // A call of these words over this script is refused with this line, and creates nothing.
 fn check_refused<R: Abort + Threads + Wait + Sync>(

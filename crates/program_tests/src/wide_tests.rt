@@ -52,10 +52,7 @@ fn shelf(alloc: Global, script: &str) -> Result<MemShelf, AllocError> {
     let pair = file(alloc, "S", PAIR)?;
     let odd = file(alloc, "O", ODD)?;
     let wide = file(alloc, "Q", TOO_WIDE)?;
-    Ok(MemShelf::new(
-        alloc,
-        vec![in alloc; script, pair, odd, wide]?,
-    ))
+    Ok(MemShelf::new(alloc, vec![in alloc; script, pair, odd, wide]?))
 }
 
 // A call of these words over this script ends with this status and leaves this output.
@@ -114,7 +111,9 @@ fn audio_of_32_bits_is_refused(rt: HostRuntime) -> Result<(), Fail> {
     let mut out = sink(alloc)?;
     let mut err = sink(alloc)?;
     let words = words_of(alloc, "check f")?;
-    let status = liq(&rt, alloc, &words, &mut shelf, &mut out, &mut err, &FreeGate);
+    let status = liq(
+        &rt, alloc, &words, &mut shelf, &mut out, &mut err, &FreeGate,
+    );
     assert_eq!(rt; status, 1);
     assert_eq!(rt; err.held(), b"E21 bad audio Q: 4\n".as_slice());
     Ok(())
