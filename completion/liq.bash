@@ -11,7 +11,7 @@ _liq() {
         check:* | render:3 | make:*) ;;
         render:*)
             compopt -o nospace 2>/dev/null
-            mapfile -t COMPREPLY < <(compgen -W "--one-thread --window= --start= --trace=" -- "$word")
+            mapfile -t COMPREPLY < <(compgen -W "--one-thread --window= --start= --trace= --cues" -- "$word")
             ;;
     esac
 }

@@ -1,20 +1,21 @@
 -- What a job leaves, by the way that it ends.
-use Rattle.std.proofs.Common.{◌≡◌, ◌≤◌, ℕ, Bool, List, refl, sym, subst, ◌∙◌, inl, inr, arith}
+use Rattle.std.proofs.Common.{◌≡◌, ◌<◌, ◌≤◌, ℕ, Bool, false, List, refl, sym, subst, ◌∙◌, inl, inr, arith}
 use Rattle.std.specs.Prelude.{Option, Some, None, Result, Ok, Err, IfOk, IfErr}
 use Rattle.std.specs.Option.{ForSome}
 use Rattle.liq_base.specs.Counts.{Rose}
 use Rattle.liq_base.specs.Files.{Files}
 use Rattle.frame_core.specs.Library.{Sounds}
 use Rattle.plan_core.specs.declared.plan.Plan.{Plan}
+use Rattle.plan_core.specs.Plans.{IsWellFormed}
 use Rattle.clock_infer.specs.declared.clock_map.ClockMap.{ClockMap}
 use Rattle.fallible_infer.specs.Infallible.{IsMarking}
 use Rattle.run_records.specs.Records.{Run}
 use Rattle.run_records.specs.Rounds.{HasNoJoin}
+use Rattle.stations.specs.Findings.{IsAccepted}
 use Rattle.stations.specs.Renderings.{BeginsAsOneThread, HasOneRecord, IsDetermined, RendersAsOneThread, WrotePart}
 use Rattle.stations.proofs.Parts.{some_within}
-use Rattle.stations.specs.Outputs.{with_outputs}
 use Rattle.stations.specs.Stations.{IsBegun, IsLawful, Station, bare}
-use Rattle.stations.specs.Streams.{HasNoGaps, output_files, parts_with}
+use Rattle.stations.specs.Streams.{HasNoGaps, parts_with}
 use Rattle.stations.specs.Reports.{check_report_of, report_of}
 use Rattle.station_render.specs.declared.fault.RenderFault.{RenderFault}
 use Rattle.station_render.specs.declared.fault.RenderFault.TheVariants.{Write as render_write, Memory as render_memory}
@@ -22,12 +23,12 @@ use Rattle.station_render.specs.Runs.{IsRendered, IsTold}
 use Rattle.station_render.specs.declared.rendered.Rendered.{Rendered as Shown}
 use Rattle.liq_cli.specs.declared.halt.Halt.{Halt}
 use Rattle.liq_cli.specs.declared.halt.Halt.TheVariants.{Memory as no_memory}
-use Rattle.liq_cli.specs.Words.{Asked, Check, Render, file_of, ticks_of, trace_of}
+use Rattle.liq_cli.specs.Words.{Asked, Check, Render, cues_of, file_of, ticks_of, trace_of}
 use Rattle.liq_cli.specs.Answer.{Answer, Usage, Refused, Checked, Accepted, Made, IsAnswerTo, files_for}
 use Rattle.liq_cli.specs.Call.{Broken, Left, Rendered, Starved}
 use Rattle.liq_cli.specs.Prepared.{EndsFor, ForOne, Found, IsOneOutcome, Lost, Stops, halt_of_render, station_for}
 use Rattle.liq_cli.proofs.Outcomes.{for_each, for_one}
-use Rattle.liq_cli.proofs.Parts.{part_later}
+use Rattle.liq_cli.proofs.Parts.{last_within}
 use Rattle.liq_cli.proofs.Uncalled.{left_nothing}
 
 -- where nothing was created, each answer has what it may
@@ -43,11 +44,11 @@ kept_starved asked files (Accepted station) count last low before after is told 
 -- a job over the files of the shelf ends as the steps before the rendering do
 pub stopped_early : {T U : Type 0} (asked : Asked) → ((files : Files) → files_for asked files ≡ files)
     → (told left : Option Files) (reads_before reads_after writes_before writes_after : ℕ) (e : Halt)
-    → EndsFor {T = T} told (file_of asked) (trace_of asked) (ticks_of asked) reads_before reads_after (Err e) → left ≡ told → writes_before ≤ writes_after
+    → EndsFor {T = T} told (file_of asked) (trace_of asked) (cues_of asked) (ticks_of asked) reads_before reads_after (Err e) → left ≡ told → writes_before ≤ writes_after
     → Stops {T = U} asked told left reads_before reads_after writes_before writes_after (Err e)
 stopped_early asked own told left reads_before reads_after writes_before writes_after e ends same low = record {
   fault = λ fault at files t. for_one asked files (Lost fault) (λ a. a ≡ Refused fault)
-      (subst (λ fs. IsOneOutcome fs (file_of asked) (trace_of asked) (ticks_of asked) (Lost fault)) (sym (own files)) (ends.fault fault (cc) files t)) refl;
+      (subst (λ fs. IsOneOutcome fs (file_of asked) (trace_of asked) (cues_of asked) (ticks_of asked) (Lost fault)) (sym (own files)) (ends.fault fault (cc) files t)) refl;
   fault_kept = λ fault at. same;
   read = λ at. ends.read (cc);
   read_kept = λ at. same;
@@ -97,83 +98,94 @@ of_report (Err e) s P Q is holds on = tt
 
 -- the report of a check
 pub checked : (file : List ℕ) (told left : Option Files) (plan : Plan) (library : Sounds) (clocks : ClockMap) (report : List ℕ)
-    → ForSome told (λ files. IsOneOutcome files file None 0 (Found plan library clocks)) → left ≡ told
+    → ForSome told (λ files. IsOneOutcome files file None false 0 (Found plan library clocks)) → left ≡ told
     → (mark : ℕ → Bool) × IsMarking plan.nodes mark × ((station : Station) → station.plan ≡ plan → station.clocks ≡ clocks → report ≡ check_report_of station mark)
     → ForSome told (λ files. ForOne (Check file) files (λ a. Rendered a files left report))
 checked file told left plan library clocks report one same tells files t =
     for_one (Check file) files (Found plan library clocks) (λ a. Rendered a files left report) (one files t)
     (record { kept = same ∙ t; mark = tells.0; marking = tells.1; report_is = tells.2 (station_for (Check file) plan library clocks) refl refl })
 
-module _ (file : List ℕ) (start ticks : ℕ) (window : Option ℕ) (trace : Option (List ℕ)) (told left : Option Files) (plan : Plan) (library : Sounds) (clocks : ClockMap)
-    (one : ForSome told (λ files. IsOneOutcome files file trace ticks (Found plan library clocks))) where
-  abbrev station : Station
-  station = station_for (Render file start ticks window trace) plan library clocks
+-- what is said of runs that may be relied on
+pub record RunLaws : Type 0 where
+  pub gapless : (files : Files) (station : Station) (run : Run) → IsWellFormed station.plan → IsAccepted files station.plan station.ticks station.library station.clocks → station.start < 604800
+      → HasNoGaps station run
+  pub begins : (files : Files) (station : Station) (run : Run) → IsWellFormed station.plan → IsAccepted files station.plan station.ticks station.library station.clocks → station.start < 604800
+      → IsBegun station run → IsDetermined station → BeginsAsOneThread station run
+  pub one : (files : Files) (station : Station) (run : Run) → IsWellFormed station.plan → IsAccepted files station.plan station.ticks station.library station.clocks → station.start < 604800
+      → IsLawful station run → HasOneRecord station run
+  pub renders : (files : Files) (station : Station) (run : Run) → IsWellFormed station.plan → IsAccepted files station.plan station.ticks station.library station.clocks → station.start < 604800
+      → IsLawful station run → HasNoJoin (bare station) station.clocks.running → RendersAsOneThread station run
 
-  -- what a run of it that broke off is beside one thread
-  abbrev pub Alike : Type 0
-  Alike = (files : Files) (run : Run) → IsOneOutcome files file trace ticks (Found plan library clocks) → IsBegun station run → IsDetermined station → BeginsAsOneThread station run
+module _ (file : List ℕ) (start ticks : ℕ) (window : Option ℕ) (trace : Option (List ℕ)) (cues : Bool) (told left : Option Files) (plan : Plan) (library : Sounds) (clocks : ClockMap)
+    (one : ForSome told (λ files. IsOneOutcome files file trace cues ticks (Found plan library clocks))) (laws : RunLaws) (well : IsWellFormed plan) (early : start < 604800) where
+  abbrev station : Station
+  station = station_for (Render file start ticks window trace cues) plan library clocks
 
   -- a part that was written may be told from before
-  wrote_later : (writes_before writes_between writes_after : ℕ) → writes_before ≤ writes_between → Alike → (files : Files) → told ≡ Some files → WrotePart station writes_between writes_after files left
+  wrote_later : (writes_before writes_between writes_after : ℕ) → writes_before ≤ writes_between → (files : Files) → told ≡ Some files → WrotePart station writes_between writes_after files left
       → Left station writes_before writes_after files left
-  wrote_later writes_before writes_between writes_after le alike files t (inl wrote) = inl (record {
+  wrote_later writes_before writes_between writes_after le files t (inl wrote) = inl (record {
     wrote = record {
       run = wrote.run;
       begun = wrote.begun;
       parts = λ rest. some_within writes_before writes_between writes_after writes_after le (omega arith) files (parts_with station wrote.run wrote.begun rest) left (wrote.parts rest);
     };
-    as_one_thread = alike files wrote.run (one files t) wrote.begun;
+    as_one_thread = laws.begins files station wrote.run well (one files t).holds.accepted early wrote.begun;
   })
-  wrote_later writes_before writes_between writes_after le alike files t (inr wrote) = inr (record {
-    run = wrote.run;
-    lawful = wrote.lawful;
-    trace = wrote.trace;
-    wanted = wrote.wanted;
-    part = part_later (Rose writes_between writes_after) (Rose writes_before writes_after) (λ rose. omega arith) (with_outputs files (output_files station wrote.run)) wrote.trace left wrote.part;
+  wrote_later writes_before writes_between writes_after le files t (inr wrote) = inr (record {
+    wrote = record { run = wrote.run; lawful = wrote.lawful; part = last_within station writes_before writes_between writes_after le files wrote.run left wrote.part };
+    one = laws.one files station wrote.run well (one files t).holds.accepted early wrote.lawful;
+    as_one_thread = laws.renders files station wrote.run well (one files t).holds.accepted early wrote.lawful;
   })
 
   -- a rendering broke off
-  pub broke_off : {U : Type 0} (reads_before reads_after writes_before writes_between writes_after : ℕ) (e : RenderFault) → writes_before ≤ writes_between → Alike
+  pub broke_off : {U : Type 0} (reads_before reads_after writes_before writes_between writes_after : ℕ) (e : RenderFault) → writes_before ≤ writes_between
       → ForSome told (λ files. WrotePart station writes_between writes_after files left)
       → (e ≡ render_write → Rose writes_between writes_after)
-      → Stops {T = U} (Render file start ticks window trace) told left reads_before reads_after writes_before writes_after (Err (halt_of_render e))
-  broke_off reads_before reads_after writes_before writes_between writes_after render_write le alike parts cause = record {
+      → Stops {T = U} (Render file start ticks window trace cues) told left reads_before reads_after writes_before writes_after (Err (halt_of_render e))
+  broke_off reads_before reads_after writes_before writes_between writes_after render_write le parts cause = record {
     fault = λ fault at. absurd (cc);
     fault_kept = λ fault at. absurd (cc);
     read = λ at. absurd (cc);
     read_kept = λ at. absurd (cc);
     write = λ at. let rose = cause refl in omega arith;
-    broken = λ at files t. for_one (Render file start ticks window trace) files (Found plan library clocks) (λ a. Broken a writes_before writes_after files left) (one files t)
-        (wrote_later writes_before writes_between writes_after le alike files t (parts files t));
+    broken = λ at files t. for_one (Render file start ticks window trace cues) files (Found plan library clocks) (λ a. Broken a writes_before writes_after files left) (one files t)
+        (wrote_later writes_before writes_between writes_after le files t (parts files t));
     memory = λ at. absurd (cc);
   }
-  broke_off reads_before reads_after writes_before writes_between writes_after render_memory le alike parts cause = record {
+  broke_off reads_before reads_after writes_before writes_between writes_after render_memory le parts cause = record {
     fault = λ fault at. absurd (cc);
     fault_kept = λ fault at. absurd (cc);
     read = λ at. absurd (cc);
     read_kept = λ at. absurd (cc);
     write = λ at. absurd (cc);
     broken = λ at. absurd (cc);
-    memory = λ at files t. for_each (Render file start ticks window trace) files (Found plan library clocks) (λ a. Starved a writes_before writes_after files left) (one files t)
-        (wrote_later writes_before writes_between writes_after le alike files t (parts files t));
+    memory = λ at files t. for_each (Render file start ticks window trace cues) files (Found plan library clocks) (λ a. Starved a writes_before writes_after files left) (one files t)
+        (wrote_later writes_before writes_between writes_after le files t (parts files t));
   }
 
   -- a rendering whose last step is its report: memory may be refused for that
-  pub ended_written : {U : Type 0} (r : Result U Halt) (reads_before reads_after writes_before writes_between writes_after : ℕ) → IfErr r (λ e. e ≡ no_memory) → writes_before ≤ writes_between → Alike
+  pub ended_written : {U : Type 0} (r : Result U Halt) (reads_before reads_after writes_before writes_between writes_after : ℕ) → IfErr r (λ e. e ≡ no_memory) → writes_before ≤ writes_between
       → ForSome told (λ files. WrotePart station writes_between writes_after files left)
-      → Stops {T = U} (Render file start ticks window trace) told left reads_before reads_after writes_before writes_after r
-  ended_written {U} (Ok v) reads_before reads_after writes_before writes_between writes_after starved le alike parts = went_on (Render file start ticks window trace) told left reads_before reads_after writes_before writes_after v
-  ended_written {U} (Err e) reads_before reads_after writes_before writes_between writes_after starved le alike parts =
-      subst (λ x. Stops {T = U} (Render file start ticks window trace) told left reads_before reads_after writes_before writes_after (Err x)) (sym starved)
-      (broke_off reads_before reads_after writes_before writes_between writes_after render_memory le alike parts (λ at. absurd (cc)))
+      → Stops {T = U} (Render file start ticks window trace cues) told left reads_before reads_after writes_before writes_after r
+  ended_written {U} (Ok v) reads_before reads_after writes_before writes_between writes_after starved le parts =
+      went_on (Render file start ticks window trace cues) told left reads_before reads_after writes_before writes_after v
+  ended_written {U} (Err e) reads_before reads_after writes_before writes_between writes_after starved le parts =
+      subst (λ x. Stops {T = U} (Render file start ticks window trace cues) told left reads_before reads_after writes_before writes_after (Err x)) (sym starved)
+      (broke_off reads_before reads_after writes_before writes_between writes_after render_memory le parts (λ at. absurd (cc)))
 
   -- the report of a rendering
   pub rendered : (before : Option Files) (report : List ℕ) (value : Shown) → before ≡ told → IsRendered station before left value
       → ((run : Run) → IsTold station run value → report ≡ report_of station run)
-      → ((files : Files) (run : Run) → IsOneOutcome files file trace ticks (Found plan library clocks) → HasNoGaps station run)
-      → ((files : Files) (run : Run) → IsOneOutcome files file trace ticks (Found plan library clocks) → IsLawful station run → HasOneRecord station run)
-      → ((files : Files) (run : Run) → IsOneOutcome files file trace ticks (Found plan library clocks) → IsLawful station run → HasNoJoin (bare station) station.clocks.running → RendersAsOneThread station run)
-      → ForSome told (λ files. ForOne (Render file start ticks window trace) files (λ a. Rendered a files left report))
-  rendered before report value kept is report_is gapless single alike files t =
-      for_one (Render file start ticks window trace) files (Found plan library clocks) (λ a. Rendered a files left report) (one files t)
-      (record { run = is.run; lawful = is.lawful; written = is.all_written files (kept ∙ t); report_is = report_is is.run is.told; no_gaps = gapless files is.run (one files t); one = single files is.run (one files t) is.lawful; as_one_thread = alike files is.run (one files t) is.lawful })
+      → ForSome told (λ files. ForOne (Render file start ticks window trace cues) files (λ a. Rendered a files left report))
+  rendered before report value kept is report_is files t =
+      let accepted = (one files t).holds.accepted in
+      for_one (Render file start ticks window trace cues) files (Found plan library clocks) (λ a. Rendered a files left report) (one files t) (record {
+        run = is.run;
+        lawful = is.lawful;
+        written = is.all_written files (kept ∙ t);
+        report_is = report_is is.run is.told;
+        no_gaps = laws.gapless files station is.run well accepted early;
+        one = laws.one files station is.run well accepted early is.lawful;
+        as_one_thread = laws.renders files station is.run well accepted early is.lawful;
+      })

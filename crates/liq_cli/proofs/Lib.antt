@@ -1,3 +1,4 @@
+mod Clashing
 mod Reading
 mod Asking
 mod Threading

@@ -1,5 +1,5 @@
 -- What a call creates, by the way that its job ended.
-use Rattle.std.proofs.Common.{◌≡◌, ◌∙◌, ℕ, List, [], refl, sym, ap, subst, ⊎_elim, arith}
+use Rattle.std.proofs.Common.{◌≡◌, ◌∙◌, ℕ, Bool, List, [], refl, sym, ap, subst, ⊎_elim, arith}
 use Rattle.std.specs.Prelude.{Option, Some, None, Result, Ok, Err, IfOk, IfErr, String, string_bytes}
 use Rattle.std.specs.Option.{ForSome}
 use Rattle.std.specs.declared.alloc.Global.{Global}
@@ -12,7 +12,7 @@ use Rattle.stations.specs.Stations.{Station}
 use Rattle.stations.proofs.Making.{all_made, none_made, none_more}
 use Rattle.station_render.specs.declared.fault.RenderFault.{RenderFault}
 use Rattle.station_render.specs.declared.fault.RenderFault.TheVariants.{Write as render_write, Memory as render_memory}
-use Rattle.liq_cli.specs.Words.{Asked, Check, Make, Render, HasNoForm, IsAsked, file_of, ticks_of, trace_of}
+use Rattle.liq_cli.specs.Words.{Asked, Check, Make, Render, HasNoForm, IsAsked, cues_of, file_of, ticks_of, trace_of}
 use Rattle.liq_cli.specs.Answer.{Answer, Usage, Refused, Checked, Accepted, Made, ForAnswer, ForEachAnswer, IsAnswerTo}
 use Rattle.liq_cli.specs.Call.{Rendered}
 use Rattle.liq_cli.specs.Creating.{CreatesInOrder, creations}
@@ -25,30 +25,30 @@ use Rattle.liq_cli.proofs.Outcomes.{for_each, for_one}
 
 -- a step before the rendering ended
 pub created_early : {T : Type 0} (asked : Asked) (told : Option Files) (reads_before reads_after : ℕ) (before after : Option (List (List ℕ))) (e : Halt)
-    → EndsFor {T = T} told (file_of asked) (trace_of asked) (ticks_of asked) reads_before reads_after (Err e) → after ≡ before → CreatedFor asked told before after (Err e)
+    → EndsFor {T = T} told (file_of asked) (trace_of asked) (cues_of asked) (ticks_of asked) reads_before reads_after (Err e) → after ≡ before → CreatedFor asked told before after (Err e)
 created_early asked told reads_before reads_after before after (refused_for fault) ends same = same
 created_early asked told reads_before reads_after before after Read ends same = same
 created_early asked told reads_before reads_after before after Write ends same = absurd (ends.no_write (cc))
 created_early asked told reads_before reads_after before after Memory ends same = λ files t answer is. none_made (creations answer) before after same
 
-module _ (file : List ℕ) (start ticks : ℕ) (window : Option ℕ) (trace : Option (List ℕ)) (told : Option Files) (plan : Plan) (library : Sounds) (clocks : ClockMap)
-    (one : ForSome told (λ files. IsOneOutcome files file trace ticks (Found plan library clocks))) (before between after : Option (List (List ℕ))) (same : between ≡ before) where
+module _ (file : List ℕ) (start ticks : ℕ) (window : Option ℕ) (trace : Option (List ℕ)) (cues : Bool) (told : Option Files) (plan : Plan) (library : Sounds) (clocks : ClockMap)
+    (one : ForSome told (λ files. IsOneOutcome files file trace cues ticks (Found plan library clocks))) (before between after : Option (List (List ℕ))) (same : between ≡ before) where
   abbrev station : Station
-  station = station_for (Render file start ticks window trace) plan library clocks
+  station = station_for (Render file start ticks window trace cues) plan library clocks
 
   -- a rendering broke off
-  pub created_broken : (e : RenderFault) → MadeFront (names_of station) between after → CreatedFor (Render file start ticks window trace) told before after (Err (halt_of_render e))
+  pub created_broken : (e : RenderFault) → MadeFront (names_of station) between after → CreatedFor (Render file start ticks window trace cues) told before after (Err (halt_of_render e))
   created_broken render_write front = λ files t.
-      for_one (Render file start ticks window trace) files (Found plan library clocks) (λ a. MadeFront (creations a) before after) (one files t) (subst (λ b. MadeFront (names_of station) b after) same front)
+      for_one (Render file start ticks window trace cues) files (Found plan library clocks) (λ a. MadeFront (creations a) before after) (one files t) (subst (λ b. MadeFront (names_of station) b after) same front)
   created_broken render_memory front = λ files t.
-      for_each (Render file start ticks window trace) files (Found plan library clocks) (λ a. MadeFront (creations a) before after) (one files t) (subst (λ b. MadeFront (names_of station) b after) same front)
+      for_each (Render file start ticks window trace cues) files (Found plan library clocks) (λ a. MadeFront (creations a) before after) (one files t) (subst (λ b. MadeFront (names_of station) b after) same front)
 
   -- a rendering whose last step is its report: memory may be refused for that
-  pub created_all : (r : Result (String Global) Halt) → IfErr r (λ e. e ≡ Memory) → after ≡ after_making (names_of station) between → CreatedFor (Render file start ticks window trace) told before after r
+  pub created_all : (r : Result (String Global) Halt) → IfErr r (λ e. e ≡ Memory) → after ≡ after_making (names_of station) between → CreatedFor (Render file start ticks window trace cues) told before after r
   created_all (Ok v) starved made = λ files t.
-      for_one (Render file start ticks window trace) files (Found plan library clocks) (λ a. after ≡ after_making (creations a) before) (one files t) (made ∙ ap (after_making (names_of station)) same)
+      for_one (Render file start ticks window trace cues) files (Found plan library clocks) (λ a. after ≡ after_making (creations a) before) (one files t) (made ∙ ap (after_making (names_of station)) same)
   created_all (Err e) starved made =
-      subst (λ x. CreatedFor (Render file start ticks window trace) told before after (Err x)) (sym starved) (created_broken render_memory (all_made (names_of station) between after made))
+      subst (λ x. CreatedFor (Render file start ticks window trace cues) told before after (Err x)) (sym starved) (created_broken render_memory (all_made (names_of station) between after made))
 
 -- where nothing was read of the words, they have no form
 pub unread : (words : List (List ℕ)) → ((asked : Asked) → IsAsked words asked → ◌≡◌ {A = Option Asked} None (Some asked)) → HasNoForm words
@@ -61,16 +61,16 @@ CreatesNone asked = (files : Files) (answer : Answer) → IsAnswerTo asked files
 pub check_creates_none : (file : List ℕ) → CreatesNone (Check file)
 check_creates_none file files Usage is = refl
 check_creates_none file files (Refused fault) is = refl
-check_creates_none file files (Checked station) is = refl
-check_creates_none file files (Accepted station) is = absurd is
-check_creates_none file files (Made made station) is = refl
+check_creates_none file files (Checked _) is = refl
+check_creates_none file files (Accepted _) is = absurd is
+check_creates_none file files (Made made _) is = refl
 
 pub make_creates_none : (seed size : ℕ) → CreatesNone (Make seed size)
 make_creates_none seed size files Usage is = refl
 make_creates_none seed size files (Refused fault) is = refl
-make_creates_none seed size files (Checked station) is = refl
-make_creates_none seed size files (Accepted station) is = absurd is
-make_creates_none seed size files (Made made station) is = refl
+make_creates_none seed size files (Checked _) is = refl
+make_creates_none seed size files (Accepted _) is = absurd is
+make_creates_none seed size files (Made made _) is = refl
 
 module _ (asked : Asked) (none : CreatesNone asked) (before after : Option (List (List ℕ))) (same : after ≡ before) where
   whole_of_none : (files : Files) (P : Answer → Type 0) → ForOne asked files P → ForOne asked files (λ a. after ≡ after_making (creations a) before)

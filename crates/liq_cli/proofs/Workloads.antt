@@ -1,5 +1,5 @@
 -- What a workload leaves, by the way that it ends.
-use Rattle.std.proofs.Common.{◌≡◌, ◌++◌, ◌∙◌, ℕ, List, [], refl, sym, ap, subst, append-nil, arith}
+use Rattle.std.proofs.Common.{◌≡◌, ◌++◌, ◌∙◌, ℕ, List, [], length, refl, sym, ap, subst, append-nil, arith, false}
 use Rattle.std.specs.Prelude.{Option, Some, None, Result, Ok, Err, IfOk, String, string_bytes}
 use Rattle.std.specs.FinMap.{from_entries}
 use Rattle.std.specs.Option.{ForSome}
@@ -12,7 +12,7 @@ use Rattle.clock_infer.specs.declared.clock_map.ClockMap.{ClockMap}
 use Rattle.run_records.specs.Records.{Run}
 use Rattle.run_records.specs.Rounds.{HasNoJoin}
 use Rattle.stations.specs.Outputs.{with_outputs}
-use Rattle.stations.specs.Stations.{IsLawful, bare}
+use Rattle.stations.specs.Stations.{IsLawful, Station, bare}
 use Rattle.stations.specs.Streams.{HasNoGaps, output_files}
 use Rattle.station_render.specs.declared.fault.RenderFault.{RenderFault}
 use Rattle.station_render.specs.declared.fault.RenderFault.TheVariants.{Write as render_write, Memory as render_memory}
@@ -37,13 +37,13 @@ never_rose rose = omega arith
 
 -- what is found over the shelf is found over the files of the workload
 pub one_made : (seed size : ℕ) (shelf : Files) (file : List ℕ) (outcome : Outcome) → shelf ≡ files_made seed size → file ≡ made_script
-    → ForSome (Some shelf) (λ files. IsOneOutcome files file None 500 outcome) → IsOneOutcome (files_made seed size) made_script None 500 outcome
+    → ForSome (Some shelf) (λ files. IsOneOutcome files file None false 500 outcome) → IsOneOutcome (files_made seed size) made_script None false 500 outcome
 one_made seed size shelf file outcome shelf_is file_is found =
-    subst (λ f. IsOneOutcome (files_made seed size) f None 500 outcome) file_is (found (files_made seed size) (ap Some shelf_is))
+    subst (λ f. IsOneOutcome (files_made seed size) f None false 500 outcome) file_is (found (files_made seed size) (ap Some shelf_is))
 
 -- the steps before the rendering ended
 pub stopped_made : {T U : Type 0} (seed size : ℕ) (shelf : Files) (file : List ℕ) (told : Option Files) (reads writes : ℕ) (e : Halt) → shelf ≡ files_made seed size → file ≡ made_script
-    → EndsFor {T = T} (Some shelf) file None 500 0 0 (Err e) → Stops {T = U} (Make seed size) told told reads reads writes writes (Err e)
+    → EndsFor {T = T} (Some shelf) file None false 500 0 0 (Err e) → Stops {T = U} (Make seed size) told told reads reads writes writes (Err e)
 stopped_made seed size shelf file told reads writes e shelf_is file_is ends = record {
   fault = λ fault at files t. for_one (Make seed size) files (Lost fault) (λ a. a ≡ Refused fault) (one_made seed size shelf file (Lost fault) shelf_is file_is (ends.fault fault (cc))) refl;
   fault_kept = λ fault at. refl;
@@ -60,8 +60,12 @@ pub broke_made : {U : Type 0} (seed size : ℕ) (told : Option Files) (reads wri
 broke_made seed size told reads writes render_write cause = absurd (never_rose (cause refl))
 broke_made seed size told reads writes render_memory cause = stopped_for_memory (Make seed size) told told reads reads writes writes refl (omega arith)
 
+-- where there is no buffer, none joins two clocks
+none_joins : (station : Station) → station.plan.buffers ≡ [] → HasNoJoin (bare station) station.clocks.running
+none_joins station none buffer below = absurd (let empty = ap length none in omega (arith, empty, below))
+
 -- the summary
-pub summed : (seed size : ℕ) (plan : Plan) (library : Sounds) (clocks : ClockMap) → IsOneOutcome (files_made seed size) made_script None 500 (Found plan library clocks)
+pub summed : (seed size : ℕ) (plan : Plan) (library : Sounds) (clocks : ClockMap) → plan.buffers ≡ [] → IsOneOutcome (files_made seed size) made_script None false 500 (Found plan library clocks)
     → (shelf after : Files) (report : List ℕ) (value : Shown) → shelf ≡ files_made seed size
     → IsRendered (station_for (Make seed size) plan library clocks) (Some shelf) (Some after) value
     → ((run : Run) → IsTold (station_for (Make seed size) plan library clocks) run value
@@ -70,7 +74,7 @@ pub summed : (seed size : ℕ) (plan : Plan) (library : Sounds) (clocks : ClockM
     → ((run : Run) → IsLawful (station_for (Make seed size) plan library clocks) run → HasNoJoin (bare (station_for (Make seed size) plan library clocks)) clocks.running
     → SumsAsOneThread (files_made seed size) (station_for (Make seed size) plan library clocks) (summary_of (files_made seed size) (station_for (Make seed size) plan library clocks) run))
     → (files : Files) → ForOne (Make seed size) files (λ a. Rendered a files (Some files) report)
-summed seed size plan library clocks one shelf after report value shelf_is is report_is gapless alike files =
+summed seed size plan library clocks none one shelf after report value shelf_is is report_is gapless alike files =
     let station = station_for (Make seed size) plan library clocks in
     let made = files_made seed size in
     let all : Some after ≡ Some (with_outputs made (output_files station is.run ++ [])) = is.all_written made (ap Some shelf_is) in
@@ -83,7 +87,7 @@ summed seed size plan library clocks one shelf after report value shelf_is is re
       lawful = is.lawful;
       report_is = same;
       no_gaps = gapless is.run;
-      as_one_thread = λ local. subst (SumsAsOneThread made station) (sym same) (alike is.run is.lawful local);
+      as_one_thread = subst (SumsAsOneThread made station) (sym same) (alike is.run is.lawful (none_joins station none));
     })
 
 -- what is told over any files is told over those of a shelf that stays as it was

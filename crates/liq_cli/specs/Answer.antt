@@ -1,7 +1,8 @@
 -- What a call answers, by its words and the files.
-use Rattle.std.specs.Prelude.{◌≡◌, ℕ, ◌-◌, Bool, true, false, List, Option, None, Some, codes}
+use Rattle.std.specs.Prelude.{◌≡◌, ◌||◌, ◌&&◌, ℕ, ◌-◌, Bool, true, false, List, [], ◌∷◌, Option, None, Some, codes, if◌then◌else◌}
 use Rattle.std.specs.FinMap.{from_entries}
 use Rattle.std.specs.List.{list_any}
+use Rattle.std.specs.Option.{option_or}
 use Rattle.std.specs.Str.{bytes_eq}
 use Rattle.liq_base.specs.Files.{Files, file_at}
 use Rattle.plan_core.specs.declared.plan.Plan.{Plan}
@@ -10,12 +11,13 @@ use Rattle.plan_core.specs.declared.sink.SinkPlan.TheVariants.{Output, Feed}
 use Rattle.script_plan.specs.declared.fault.ScriptFault.{ScriptFault}
 use Rattle.script_plan.specs.Plans.{IsPlan, IsPlanFault}
 use Rattle.stations.specs.declared.fault.StationFault.{StationFault}
+use Rattle.stations.specs.Cues.{cue_name}
 use Rattle.stations.specs.Stations.{Station}
 use Rattle.stations.specs.Findings.{IsAccepted, IsStationFault}
 use Rattle.refusal_lines.specs.declared.fault.Fault.{Fault}
-use Rattle.refusal_lines.specs.declared.fault.Fault.TheVariants.{NoScript, Script, SameTrace, Station as Unfit}
+use Rattle.refusal_lines.specs.declared.fault.Fault.TheVariants.{NoScript, Script, SameFile, Station as Unfit}
 use Rattle.workload_gen.specs.Files.{workload}
-use Rattle.liq_cli.specs.Words.{Asked, Check, Make, Render, IsAsked, HasNoForm, file_of, start_of, ticks_of, trace_of, window_of}
+use Rattle.liq_cli.specs.Words.{Asked, Check, Make, Render, IsAsked, HasNoForm, cues_of, file_of, start_of, ticks_of, trace_of, window_of}
 
 -- the usage line, the first fault of the script, a station that is checked, one that is rendered, or that of a workload, with its files
 pub data Answer : Type 0 where
@@ -26,7 +28,7 @@ pub data Answer : Type 0 where
   Made : Files → Station → Answer
 
 abbrev pub usage_line : List ℕ
-usage_line = codes "usage: check FILE | render FILE N [--one-thread] [--window=W] [--start=D:HH:MM:SS] [--trace=NAME] | make SEED SIZE\n"
+usage_line = codes "usage: check FILE | render FILE N [--one-thread] [--window=W] [--start=D:HH:MM:SS] [--trace=NAME] [--cues] | make SEED SIZE\n"
 
 -- the script is there, and this is its plan
 pub record HasPlan (files : Files) (file : List ℕ) (plan : Plan) : Type 0 where
@@ -45,43 +47,66 @@ abbrev pub has_name : (name : List ℕ) → SinkPlan → Bool
 has_name name (Output own node fallible wide) = bytes_eq own name
 has_name name (Feed buffer node) = false
 
--- the trace, if one is wanted, has the name of an output
-abbrev pub clashes : Plan → (trace : Option (List ℕ)) → Bool
-clashes plan None = false
-clashes plan (Some name) = list_any (has_name name) plan.sinks
+-- the name of the cue file of an output, if one of all outputs has it
+abbrev pub cue_clash_at : (all : List SinkPlan) → SinkPlan → Option (List ℕ)
+cue_clash_at all (Output name node fallible wide) = if list_any (has_name (cue_name name)) all then Some (cue_name name) else None
+cue_clash_at all (Feed buffer node) = None
 
--- the script has a plan, and this is the name of the trace and of an output
-pub record HasClash (files : Files) (file : List ℕ) (trace : Option (List ℕ)) (name : List ℕ) : Type 0 where
+-- the first such name among these outputs
+abbrev pub first_cue_clash : (all : List SinkPlan) → List SinkPlan → Option (List ℕ)
+first_cue_clash all [] = None
+first_cue_clash all (sink ∷ sinks) = option_or (cue_clash_at all sink) (first_cue_clash all sinks)
+
+-- the same, where cue files are wanted
+abbrev pub cue_clash : Plan → (cues : Bool) → Option (List ℕ)
+cue_clash plan false = None
+cue_clash plan true = first_cue_clash plan.sinks plan.sinks
+
+-- a sink is the output of this name, or, where cue files are wanted, one whose cue file has it
+abbrev pub writes_to : (name : List ℕ) (cues : Bool) → SinkPlan → Bool
+writes_to name cues (Output own node fallible wide) = bytes_eq own name || (cues && bytes_eq name (cue_name own))
+writes_to name cues (Feed buffer node) = false
+
+-- the name of the trace, if one is wanted and an output or a cue file has it
+abbrev pub trace_clash : Plan → (trace : Option (List ℕ)) (cues : Bool) → Option (List ℕ)
+trace_clash plan None cues = None
+trace_clash plan (Some name) cues = if list_any (writes_to name cues) plan.sinks then Some name else None
+
+-- the first name that two files of a rendering would have: that of a cue file and an output, in sink order; then that of the trace and an
+-- output or a cue file
+abbrev pub clash_of : Plan → (trace : Option (List ℕ)) (cues : Bool) → Option (List ℕ)
+clash_of plan trace cues = option_or (cue_clash plan cues) (trace_clash plan trace cues)
+
+-- the script has a plan, and this is the first name that two files of its rendering would have
+pub record HasClash (files : Files) (file : List ℕ) (trace : Option (List ℕ)) (cues : Bool) (name : List ℕ) : Type 0 where
   pub plan : Plan
   pub has_plan : HasPlan files file plan
-  pub trace_is : trace ≡ Some name
-  pub clash : clashes plan trace ≡ true
+  pub clash : clash_of plan trace cues ≡ Some name
 
--- the script has a plan, whose outputs have other names than the trace, and which for so many ticks has this fault
-pub record HasUnfitPlan (files : Files) (file : List ℕ) (trace : Option (List ℕ)) (ticks : ℕ) (fault : StationFault) : Type 0 where
+-- the script has a plan, whose rendering writes no name twice, and which for so many ticks has this fault
+pub record HasUnfitPlan (files : Files) (file : List ℕ) (trace : Option (List ℕ)) (cues : Bool) (ticks : ℕ) (fault : StationFault) : Type 0 where
   pub plan : Plan
   pub has_plan : HasPlan files file plan
-  pub apart : clashes plan trace ≡ false
+  pub apart : clash_of plan trace cues ≡ None
   pub is_fault : IsStationFault files plan ticks fault
 
--- the first fault of a script, for so many ticks and a trace of this name
-abbrev pub IsFault : Files → (file : List ℕ) (trace : Option (List ℕ)) (ticks : ℕ) → Fault → Type 0
-IsFault files file trace ticks NoScript = file_at files file ≡ None
-IsFault files file trace ticks (Script fault) = HasFault files file fault
-IsFault files file trace ticks (SameTrace name) = HasClash files file trace name
-IsFault files file trace ticks (Unfit fault) = HasUnfitPlan files file trace ticks fault
+-- the first fault of a script, for so many ticks, a trace of this name, and cue files where they are wanted
+abbrev pub IsFault : Files → (file : List ℕ) (trace : Option (List ℕ)) (cues : Bool) (ticks : ℕ) → Fault → Type 0
+IsFault files file trace cues ticks NoScript = file_at files file ≡ None
+IsFault files file trace cues ticks (Script fault) = HasFault files file fault
+IsFault files file trace cues ticks (SameFile name) = HasClash files file trace cues name
+IsFault files file trace cues ticks (Unfit fault) = HasUnfitPlan files file trace cues ticks fault
 
--- the script is accepted, and this is its station: its plan, with its audio files and clocks, and what else is asked for; no words ask
--- for cue files
+-- the script is accepted, and this is its station: its plan, with its audio files and clocks, and what else is asked for
 pub record IsStation (asked : Asked) (files : Files) (station : Station) : Type 0 where
   pub has_plan : HasPlan files (file_of asked) station.plan
-  pub apart : clashes station.plan (trace_of asked) ≡ false
+  pub apart : clash_of station.plan (trace_of asked) (cues_of asked) ≡ None
   pub accepted : IsAccepted files station.plan (ticks_of asked) station.library station.clocks
   pub start_is : station.start ≡ start_of asked
   pub ticks_are : station.ticks ≡ ticks_of asked
   pub window_is : station.window ≡ window_of asked
   pub trace_is : station.trace ≡ trace_of asked
-  pub uncued : station.cues ≡ false
+  pub cues_are : station.cues ≡ cues_of asked
 
 -- the files of a workload
 unfoldable pub files_made : (seed size : ℕ) → Files
@@ -90,31 +115,31 @@ files_made seed size = from_entries (workload seed (size - 1))
 -- the files over which it is answered what is asked for: a workload brings its own
 abbrev pub files_for : Asked → Files → Files
 files_for (Check file) files = files
-files_for (Render file start ticks window trace) files = files
+files_for (Render file start ticks window trace cues) files = files
 files_for (Make seed size) files = files_made seed size
 
 -- a station is the answer to a check
 abbrev pub IsChecked : Asked → Files → Station → Type 0
 IsChecked (Check file) files station = IsStation (Check file) files station
-IsChecked (Render file start ticks window trace) files station = ⊥
+IsChecked (Render file start ticks window trace cues) files station = ⊥
 IsChecked (Make seed size) files station = ⊥
 
 -- or to a rendering
 abbrev pub IsRendered : Asked → Files → Station → Type 0
 IsRendered (Check file) files station = ⊥
-IsRendered (Render file start ticks window trace) files station = IsStation (Render file start ticks window trace) files station
+IsRendered (Render file start ticks window trace cues) files station = IsStation (Render file start ticks window trace cues) files station
 IsRendered (Make seed size) files station = ⊥
 
 -- or, with the files of the workload, to `make`
 abbrev pub IsMade : Asked → (made : Files) → Station → Type 0
 IsMade (Check file) made station = ⊥
-IsMade (Render file start ticks window trace) made station = ⊥
+IsMade (Render file start ticks window trace cues) made station = ⊥
 IsMade (Make seed size) made station = (made ≡ files_made seed size) × IsStation (Make seed size) made station
 
 -- this is the answer to what is asked for
 abbrev pub IsAnswerTo : Asked → Files → Answer → Type 0
 IsAnswerTo asked files Usage = ⊥
-IsAnswerTo asked files (Refused fault) = IsFault (files_for asked files) (file_of asked) (trace_of asked) (ticks_of asked) fault
+IsAnswerTo asked files (Refused fault) = IsFault (files_for asked files) (file_of asked) (trace_of asked) (cues_of asked) (ticks_of asked) fault
 IsAnswerTo asked files (Checked station) = IsChecked asked files station
 IsAnswerTo asked files (Accepted station) = IsRendered asked files station
 IsAnswerTo asked files (Made made station) = IsMade asked made station

@@ -8,7 +8,7 @@ use Rattle.fallible_infer.specs.Infallible.{IsMarking}
 use Rattle.run_records.specs.Records.{Run}
 use Rattle.run_records.specs.Rounds.{HasNoJoin}
 use Rattle.stations.specs.Outputs.{with_outputs}
-use Rattle.stations.specs.Renderings.{BeginsAsOneThread, HasOneRecord, IsDetermined, RendersAsOneThread, WroteOutputsPart, WroteTracePart}
+use Rattle.stations.specs.Renderings.{BeginsAsOneThread, HasOneRecord, IsDetermined, RendersAsOneThread, WroteLastPart, WroteOutputsPart}
 use Rattle.stations.specs.Stations.{Station, IsLawful, bare}
 use Rattle.stations.specs.Streams.{HasNoGaps}
 use Rattle.stations.specs.Traces.{files_of}
@@ -43,8 +43,9 @@ pub record GrewPart (line : List ℕ) (old new : Option (List ℕ)) : Type 0 whe
   pub is_front : IsPrefix part line
   pub grew : new ≡ grown part old
 
--- A run wrote all outputs and then its trace, if one is wanted, and this is its report. On one thread there is no other run, so it always
--- writes and tells the same. Where no buffer joins two clocks, one thread writes the same outputs and tells the same.
+-- A run wrote all outputs, then their cue files, where these are wanted, and then its trace, if one is wanted; and this is its report. On
+-- one thread there is no other run, so it always writes and tells the same. Where no buffer joins two clocks, one thread writes the same
+-- outputs and cue files and tells the same.
 pub record Wrote (station : Station) (files : Files) (after : Option Files) (report : List ℕ) : Type 0 where
   pub run : Run
   pub lawful : IsLawful station run
@@ -61,15 +62,15 @@ pub record Told (station : Station) (files : Files) (after : Option Files) (repo
   pub marking : IsMarking station.plan.nodes mark
   pub report_is : report ≡ check_report_of station mark
 
--- No file changed, and this is the summary of a run over the files of a workload. Where no buffer joins two clocks, it is that of the one
--- record that rounds on one thread have.
+-- No file changed, and this is the summary of a run over the files of a workload. It is that of the one record that rounds on one thread
+-- have, so it rests on the station and its files alone.
 pub record Summed (made : Files) (station : Station) (files : Files) (after : Option Files) (report : List ℕ) : Type 0 where
   pub kept : after ≡ Some files
   pub run : Run
   pub lawful : IsLawful station run
   pub report_is : report ≡ summary_of made station run
   pub no_gaps : HasNoGaps station run
-  pub as_one_thread : HasNoJoin (bare station) station.clocks.running → SumsAsOneThread made station report
+  pub as_one_thread : SumsAsOneThread made station report
 
 abbrev pub Rendered : Answer → Files → Option Files → List ℕ → Type 0
 Rendered (Made made station) files after report = Summed made station files after report
@@ -84,9 +85,16 @@ pub record BrokeOff (station : Station) (count last : ℕ) (files : Files) (afte
   pub wrote : WroteOutputsPart station count last files after
   pub as_one_thread : IsDetermined station → BeginsAsOneThread station wrote.run
 
--- or it broke off with its trace
+-- It broke off once its run had made all ticks: at the closing of an output, a cue file or the trace. On one thread there is no other run,
+-- and where no buffer joins two clocks, it is one that renders what one thread does.
+pub record BrokeLate (station : Station) (count last : ℕ) (files : Files) (after : Option Files) : Type 0 where
+  pub wrote : WroteLastPart station count last files after
+  pub one : HasOneRecord station wrote.run
+  pub as_one_thread : HasNoJoin (bare station) station.clocks.running → RendersAsOneThread station wrote.run
+
+-- what a rendering leaves that broke off
 abbrev pub Left : Station → (count last : ℕ) → Files → (after : Option Files) → Type 0
-Left station count last files after = BrokeOff station count last files after ⊎ WroteTracePart station (Rose count last) files after
+Left station count last files after = BrokeOff station count last files after ⊎ BrokeLate station count last files after
 
 abbrev pub Broken : Answer → (count last : ℕ) → Files → Option Files → Type 0
 Broken (Made made station) count last files after = ⊥
@@ -115,7 +123,7 @@ pub record ReportBroke (answer : Answer) (files : Files) (old new : Moment) : Ty
   pub reported : GrewPart report old.out new.out
   pub cause : Rose old.out_faults new.out_faults
 
--- a creation, an output, the trace or a closing failed
+-- a creation, an output, a cue file, the trace or a closing failed
 pub record OutputBroke (answer : Answer) (files : Files) (old new : Moment) : Type 0 where
   pub broken : Broken answer old.writes new.writes files new.files
   pub out_kept : new.out ≡ old.out

@@ -5,8 +5,9 @@ use Rattle.liq_base.specs.Files.{Files}
 use Rattle.stations.specs.Creations.{MadeFront, after_making, names_of}
 use Rattle.liq_cli.specs.Answer.{Answer, Usage, Refused, Checked, Accepted, Made, ForAnswer, ForEachAnswer}
 
--- the names of the files that are to be created for an answer, in order: for a rendering those of its outputs, in sink order, and then that
--- of its trace, if one is wanted; for any other answer none. A workload is rendered into a shelf of its own
+-- the names of the files that are to be created for an answer, in order: for a rendering those of its outputs, in sink order, then those of
+-- their cue files, where these are wanted, and then that of its trace, if one is wanted; for any other answer none. A workload is rendered
+-- into a shelf of its own
 abbrev pub creations : Answer → List (List ℕ)
 creations (Accepted station) = names_of station
 creations (Checked station) = []

@@ -1,5 +1,5 @@
 -- What is found of a script before anything is rendered. Only what is private cites this.
-use Rattle.std.specs.Prelude.{◌≡◌, ◌≤◌, ℕ, List, Result, Ok, Err, Option, Some, String, IsErrOf, true, false}
+use Rattle.std.specs.Prelude.{◌≡◌, ◌≤◌, ℕ, Bool, List, Result, Ok, Err, Option, Some, None, String, IsErrOf}
 use Rattle.std.specs.Option.{ForSome}
 use Rattle.std.specs.declared.alloc.Global.{Global}
 use Rattle.liq_base.specs.Counts.{Rose}
@@ -17,9 +17,9 @@ use Rattle.station_check.specs.declared.halt.Halt.TheVariants.{Refused as check_
 use Rattle.station_render.specs.declared.fault.RenderFault.{RenderFault}
 use Rattle.station_render.specs.declared.fault.RenderFault.TheVariants.{Write as render_write, Memory as render_memory}
 use Rattle.refusal_lines.specs.declared.fault.Fault.{Fault}
-use Rattle.refusal_lines.specs.declared.fault.Fault.TheVariants.{SameTrace, Script, Station as Unfit}
-use Rattle.liq_cli.specs.Words.{Asked, Check, Make, Render, file_of, start_of, ticks_of, trace_of, window_of}
-use Rattle.liq_cli.specs.Answer.{Answer, Refused, Checked, Accepted, Made, HasPlan, IsFault, IsAnswerTo, clashes, files_for, files_made}
+use Rattle.refusal_lines.specs.declared.fault.Fault.TheVariants.{SameFile, Script, Station as Unfit}
+use Rattle.liq_cli.specs.Words.{Asked, Check, Make, Render, cues_of, file_of, start_of, ticks_of, trace_of, window_of}
+use Rattle.liq_cli.specs.Answer.{Answer, Refused, Checked, Accepted, Made, HasPlan, IsFault, IsAnswerTo, clash_of, files_for, files_made}
 use Rattle.liq_cli.specs.Call.{Broken, Starved}
 use Rattle.liq_cli.specs.Creating.{creations}
 use Rattle.liq_cli.specs.declared.halt.Halt.{Halt}
@@ -31,14 +31,14 @@ pub data Outcome : Type 0 where
   Found : Plan → Sounds → ClockMap → Outcome
   Lost : Fault → Outcome
 
-pub record IsPrepared (files : Files) (file : List ℕ) (trace : Option (List ℕ)) (ticks : ℕ) (plan : Plan) (library : Sounds) (clocks : ClockMap) : Type 0 where
+pub record IsPrepared (files : Files) (file : List ℕ) (trace : Option (List ℕ)) (cues : Bool) (ticks : ℕ) (plan : Plan) (library : Sounds) (clocks : ClockMap) : Type 0 where
   pub has_plan : HasPlan files file plan
-  pub apart : clashes plan trace ≡ false
+  pub apart : clash_of plan trace cues ≡ None
   pub accepted : IsAccepted files plan ticks library clocks
 
-abbrev pub IsOutcome : Files → (file : List ℕ) (trace : Option (List ℕ)) (ticks : ℕ) → Outcome → Type 0
-IsOutcome files file trace ticks (Found plan library clocks) = IsPrepared files file trace ticks plan library clocks
-IsOutcome files file trace ticks (Lost fault) = IsFault files file trace ticks fault
+abbrev pub IsOutcome : Files → (file : List ℕ) (trace : Option (List ℕ)) (cues : Bool) (ticks : ℕ) → Outcome → Type 0
+IsOutcome files file trace cues ticks (Found plan library clocks) = IsPrepared files file trace cues ticks plan library clocks
+IsOutcome files file trace cues ticks (Lost fault) = IsFault files file trace cues ticks fault
 
 -- the station of an outcome, and the answer
 abbrev pub station_for : Asked → Plan → Sounds → ClockMap → Station
@@ -50,23 +50,23 @@ station_for asked plan library clocks = record {
   ticks = ticks_of asked;
   window = window_of asked;
   trace = trace_of asked;
-  cues = false;
+  cues = cues_of asked;
 }
 
 abbrev pub answer_of : Asked → Outcome → Answer
 answer_of asked (Lost fault) = Refused fault
 answer_of (Check file) (Found plan library clocks) = Checked (station_for (Check file) plan library clocks)
-answer_of (Render file start ticks window trace) (Found plan library clocks) = Accepted (station_for (Render file start ticks window trace) plan library clocks)
+answer_of (Render file start ticks window trace cues) (Found plan library clocks) = Accepted (station_for (Render file start ticks window trace cues) plan library clocks)
 answer_of (Make seed size) (Found plan library clocks) = Made (files_made seed size) (station_for (Make seed size) plan library clocks)
 
 -- this is the outcome, and there is no other
-pub record IsOneOutcome (files : Files) (file : List ℕ) (trace : Option (List ℕ)) (ticks : ℕ) (outcome : Outcome) : Type 0 where
-  pub holds : IsOutcome files file trace ticks outcome
-  pub only : (other : Outcome) → IsOutcome files file trace ticks other → other ≡ outcome
+pub record IsOneOutcome (files : Files) (file : List ℕ) (trace : Option (List ℕ)) (cues : Bool) (ticks : ℕ) (outcome : Outcome) : Type 0 where
+  pub holds : IsOutcome files file trace cues ticks outcome
+  pub only : (other : Outcome) → IsOutcome files file trace cues ticks other → other ≡ outcome
 
 -- it is that of what is asked for, over the files that are its
 abbrev pub IsOneFor : Asked → Files → Outcome → Type 0
-IsOneFor asked files outcome = IsOneOutcome (files_for asked files) (file_of asked) (trace_of asked) (ticks_of asked) outcome
+IsOneFor asked files outcome = IsOneOutcome (files_for asked files) (file_of asked) (trace_of asked) (cues_of asked) (ticks_of asked) outcome
 
 abbrev pub outcome_of : Work → Outcome
 outcome_of work = Found work.plan work.ready.library work.ready.clocks
@@ -78,14 +78,14 @@ pub record OnlyRead {S : Type 0} (files : S → Option Files) (reads writes : S 
   pub writes_grew : writes old ≤ writes new
 
 -- why a step that reads ended: a fault only where it is the outcome, and a read fault only where a read failed
-pub record EndsFor {T : Type 0} (told : Option Files) (file : List ℕ) (trace : Option (List ℕ)) (ticks reads_before reads_after : ℕ) (result : Result T Halt) : Type 0 where
-  pub fault : (fault : Fault) → result ≡ Err (refused_for fault) → ForSome told (λ files. IsOneOutcome files file trace ticks (Lost fault))
+pub record EndsFor {T : Type 0} (told : Option Files) (file : List ℕ) (trace : Option (List ℕ)) (cues : Bool) (ticks reads_before reads_after : ℕ) (result : Result T Halt) : Type 0 where
+  pub fault : (fault : Fault) → result ≡ Err (refused_for fault) → ForSome told (λ files. IsOneOutcome files file trace cues ticks (Lost fault))
   pub read : IsErrOf result Read → Rose reads_before reads_after
   pub no_write : IsErrOf result Write → ⊥
 
--- why the test of a trace's name ended: the name is that of an output
-pub record ClashEnds {T : Type 0} (plan : Plan) (trace : Option (List ℕ)) (result : Result T Halt) : Type 0 where
-  pub fault : (fault : Fault) → result ≡ Err (refused_for fault) → (name : List ℕ) × (fault ≡ SameTrace name) × (trace ≡ Some name) × (clashes plan trace ≡ true)
+-- why a test of the names of files ended: this is the name of two
+pub record ClashEnds {T : Type 0} (clash : Option (List ℕ)) (result : Result T Halt) : Type 0 where
+  pub fault : (fault : Fault) → result ≡ Err (refused_for fault) → (name : List ℕ) × (fault ≡ SameFile name) × (clash ≡ Some name)
   pub no_read : IsErrOf result Read → ⊥
   pub no_write : IsErrOf result Write → ⊥
 

@@ -19,12 +19,13 @@ options_of options = record {
   window = option_map (λ window. window.ticks) options.window;
   start = option_map (λ start. start.second) options.start;
   trace = named options.trace;
+  cues = options.cues;
 }
 
 -- what a form asks for
 abbrev pub asked_to_render : Rendering → Asked
 asked_to_render rendering =
-    Render rendering.file.now rendering.start.second rendering.ticks.count (Some rendering.window.ticks) (named rendering.trace)
+    Render rendering.file.now rendering.start.second rendering.ticks.count (Some rendering.window.ticks) (named rendering.trace) rendering.cues
 
 abbrev pub asked_by_threads : Threaded → Asked
 asked_by_threads (renders rendering) = asked_to_render rendering
@@ -32,5 +33,5 @@ asked_by_threads (makes seed size) = Make seed size.files
 
 abbrev pub asked_of : Form → Asked
 asked_of (checks file) = Check file.now
-asked_of (alone file start ticks) = Render file.now start.second ticks.count None None
+asked_of (alone file start ticks cues) = Render file.now start.second ticks.count None None cues
 asked_of (threaded what) = asked_by_threads what

@@ -10,7 +10,7 @@ use Rattle.stations.specs.Outputs.{with_outputs}
 use Rattle.stations.specs.Stations.{Station, bare}
 use Rattle.stations.specs.Streams.{gaps_of, output_files}
 
--- the sum of the samples behind the header of a WAV file, of both sides
+-- the sum of the samples behind the header of a WAV file of 16 bits, as each output of a workload is, of both sides
 abbrev pub sum_of : List ℕ → ℤ
 sum_of bytes = fold ◌+ℤ◌ (pos 0) (samples_in (drop 44 bytes))
 

@@ -5,10 +5,11 @@ use Rattle.fixed_text.specs.Texts.{IsStartText}
 
 -- What the words of a form ask for: that the script in a file is checked; that it is rendered, from a second of the week on and for so
 -- many ticks: by threads in windows of so many, or, where no window is there, on one thread; the trace of its buffers goes to the file
--- of this name, if one is there; or that the workload of a seed and of so many audio files is rendered and told.
+-- of this name, if one is there; and cue files are written, or not; or that the workload of a seed and of so many audio files is rendered
+-- and told.
 pub data Asked : Type 0 where
   Check : (file : List ℕ) → Asked
-  Render : (file : List ℕ) (start ticks : ℕ) (window : Option ℕ) (trace : Option (List ℕ)) → Asked
+  Render : (file : List ℕ) (start ticks : ℕ) (window : Option ℕ) (trace : Option (List ℕ)) (cues : Bool) → Asked
   Make : (seed size : ℕ) → Asked
 
 -- the name of a workload's script
@@ -18,44 +19,50 @@ made_script = codes "make.liq"
 -- the file of the script
 abbrev pub file_of : Asked → List ℕ
 file_of (Check file) = file
-file_of (Render file start ticks window trace) = file
+file_of (Render file start ticks window trace cues) = file
 file_of (Make seed size) = made_script
 
--- the first second, the ticks, the window and the trace: a check renders no tick, on one thread; a workload is rendered for 500 ticks,
--- by threads in windows of 16
+-- the first second, the ticks, the window, the trace and whether cue files are wanted: a check renders no tick, on one thread; a workload
+-- is rendered for 500 ticks, by threads in windows of 16; neither has cue files
 abbrev pub start_of : Asked → ℕ
 start_of (Check file) = 0
-start_of (Render file start ticks window trace) = start
+start_of (Render file start ticks window trace cues) = start
 start_of (Make seed size) = 0
 
 abbrev pub ticks_of : Asked → ℕ
 ticks_of (Check file) = 0
-ticks_of (Render file start ticks window trace) = ticks
+ticks_of (Render file start ticks window trace cues) = ticks
 ticks_of (Make seed size) = 500
 
 abbrev pub window_of : Asked → Option ℕ
 window_of (Check file) = None
-window_of (Render file start ticks window trace) = window
+window_of (Render file start ticks window trace cues) = window
 window_of (Make seed size) = Some 16
 
 abbrev pub trace_of : Asked → Option (List ℕ)
 trace_of (Check file) = None
-trace_of (Render file start ticks window trace) = trace
+trace_of (Render file start ticks window trace cues) = trace
 trace_of (Make seed size) = None
+
+abbrev pub cues_of : Asked → Bool
+cues_of (Check file) = false
+cues_of (Render file start ticks window trace cues) = cues
+cues_of (Make seed size) = false
 
 abbrev pub texts : List (String Global) → List (List ℕ)
 texts words = map string_bytes words
 
--- the options of a rendering: whether it runs on one thread; and how many ticks a window has, the second of the week at which it
--- begins, and the name of its trace, where these are said
+-- the options of a rendering: whether it runs on one thread; how many ticks a window has, the second of the week at which it begins, and
+-- the name of its trace, where these are said; and whether cue files are wanted
 pub record Options : Type 0 where
   pub one_thread : Bool
   pub window : Option ℕ
   pub start : Option ℕ
   pub trace : Option (List ℕ)
+  pub cues : Bool
 
 abbrev pub no_options : Options
-no_options = record { one_thread = false; window = None; start = None; trace = None }
+no_options = record { one_thread = false; window = None; start = None; trace = None; cues = false }
 
 -- where it is not said, it begins with the week
 abbrev pub start_in : Options → ℕ
@@ -88,7 +95,7 @@ pub record IsTraceName (word name : List ℕ) : Type 0 where
   pub word_is : word ≡ codes "--trace=" ++ name
   pub some : name ≢ []
 
--- a word that is an option which none before it was: `--one-thread`, a window, a start, or a trace
+-- a word that is an option which none before it was: `--one-thread`, a window, a start, a trace, or `--cues`
 pub record SaysOneThread (word : List ℕ) (before after : Options) : Type 0 where
   pub word_is : word ≡ codes "--one-thread"
   pub once : before.one_thread ≡ false
@@ -112,8 +119,14 @@ pub record SaysTrace (word : List ℕ) (before after : Options) : Type 0 where
   pub once : before.trace ≡ None
   pub after_is : after ≡ record before { trace = Some name }
 
+pub record SaysCues (word : List ℕ) (before after : Options) : Type 0 where
+  pub word_is : word ≡ codes "--cues"
+  pub once : before.cues ≡ false
+  pub after_is : after ≡ record before { cues = true }
+
 abbrev pub IsOption : (word : List ℕ) (before after : Options) → Type 0
-IsOption word before after = SaysOneThread word before after ⊎ SaysWindow word before after ⊎ SaysStart word before after ⊎ SaysTrace word before after
+IsOption word before after =
+    SaysOneThread word before after ⊎ SaysWindow word before after ⊎ SaysStart word before after ⊎ SaysTrace word before after ⊎ SaysCues word before after
 
 -- with these words, in any order and each option at most once, the options `before` become `all`
 abbrev pub AreOptions : (before : Options) → List (List ℕ) → (all : Options) → Type 0
@@ -128,7 +141,7 @@ AreApart options = options.one_thread ≡ true → (options.window ≡ None) × 
 pub record IsRendering (file number : List ℕ) (words : List (List ℕ)) (asked : Asked) : Type 0 where
   pub options : Options
   pub ticks : ℕ
-  pub asked_is : asked ≡ Render file (start_in options) ticks (window_in options) options.trace
+  pub asked_is : asked ≡ Render file (start_in options) ticks (window_in options) options.trace options.cues
   pub number_is : number ≡ decimal ticks
   pub few : ticks ≤ 10 ^ 9
   pub options_are : AreOptions no_options words options
@@ -177,8 +190,8 @@ HasNoForm words = (asked : Asked) → IsAsked words asked → ⊥
 -- this takes threads: a rendering in windows, and a workload
 abbrev pub TakesThreads : Asked → Type 0
 TakesThreads (Check file) = ⊥
-TakesThreads (Render file start ticks None trace) = ⊥
-TakesThreads (Render file start ticks (Some window) trace) = ⊤
+TakesThreads (Render file start ticks None trace cues) = ⊥
+TakesThreads (Render file start ticks (Some window) trace cues) = ⊤
 TakesThreads (Make seed size) = ⊤
 
 -- the words ask for what takes threads

@@ -18,7 +18,7 @@ use std::sync::Wait;
 use std::thread::Threads;
 
 const USAGE: &str =
-    "usage: check FILE | render FILE N [--one-thread] [--window=W] [--start=D:HH:MM:SS] [--trace=NAME] | make SEED SIZE\n";
+    "usage: check FILE | render FILE N [--one-thread] [--window=W] [--start=D:HH:MM:SS] [--trace=NAME] [--cues] | make SEED SIZE\n";
 
 /// All was written.
 const DONE: u8 = 0;
@@ -101,7 +101,12 @@ pub fn liq_alone<S: Shelf, O: Sink, E: Sink>(
     };
     let job = match form {
         Form::Check { file } => check_job(alloc, file, shelf),
-        Form::Alone { file, start, ticks } => alone_job(alloc, file, start, ticks, shelf),
+        Form::Alone {
+            file,
+            start,
+            ticks,
+            cues,
+        } => alone_job(alloc, file, start, ticks, cues, shelf),
         Form::Threaded(_) => return None,
     };
     Some(finish(alloc, job, out, err))

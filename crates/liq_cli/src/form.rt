@@ -23,6 +23,9 @@ pub enum Form<'a> {
 
         /// How many ticks are rendered.
         ticks: Ticks,
+
+        /// Whether each output gets a cue file.
+        cues: bool,
     },
 
     /// What takes threads.
@@ -56,4 +59,7 @@ pub struct Rendering<'a> {
 
     /// The name of the file that gets the trace, if one is wanted.
     pub trace: Option<&'a str>,
+
+    /// Whether each output gets a cue file.
+    pub cues: bool,
 }

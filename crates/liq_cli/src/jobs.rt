@@ -14,7 +14,7 @@ use crate::ticks::Ticks;
 use fixed_text::WeekSecond;
 use liq_base::{Gate, Memory, Shelf};
 use station_check::check_report;
-use station_render::{Threading, render, render_alone, report};
+use station_render::{Job, Threading, render, render_alone, report};
 use stations::{
     broken_renderings_begin_those_of_one_thread, infallible_outputs_have_no_gaps,
     one_thread_has_one_record, threads_render_as_one_thread,
@@ -31,34 +31,42 @@ pub fn check_job<S: Shelf>(alloc: Global, file: &str, shelf: &mut S) -> Result<S
         (S.write_count shelf.old) (S.write_count shelf.new) result }
     ensures created { S.created shelf.new ≡ S.created shelf.old }
 {
-    let work = prepare(alloc, file, None, 0, shelf)?;
+    let work = prepare(alloc, file, None, false, 0, shelf)?;
     report_or_halt(check_report(alloc, &work.plan, &work.ready))
 }
 
-/// The report of a rendering on one thread, whose outputs are written.
+/// The report of a rendering on one thread, whose outputs, and then their cue files, if they are wanted, are written.
 pub fn alone_job<S: Shelf>(
     alloc: Global,
     file: &str,
     start: WeekSecond,
     ticks: Ticks,
+    cues: bool,
     shelf: &mut S,
 ) -> Result<String, Halt>
     ensures done { IfOk result (λ report. ForSome (S.files shelf.old) (λ files.
-        ForOne (Render file.now start.second ticks.count None None) files (λ answer. Rendered answer files (S.files shelf.new) (string_bytes report)))) }
-    ensures stops { Stops (Render file.now start.second ticks.count None None) (S.files shelf.old) (S.files shelf.new) (S.read_count shelf.old) (S.read_count shelf.new)
+        ForOne (Render file.now start.second ticks.count None None cues) files (λ answer. Rendered answer files (S.files shelf.new) (string_bytes report)))) }
+    ensures stops { Stops (Render file.now start.second ticks.count None None cues) (S.files shelf.old) (S.files shelf.new) (S.read_count shelf.old) (S.read_count shelf.new)
         (S.write_count shelf.old) (S.write_count shelf.new) result }
-    ensures order { CreatedFor (Render file.now start.second ticks.count None None) (S.files shelf.old) (S.created shelf.old) (S.created shelf.new) result }
+    ensures order { CreatedFor (Render file.now start.second ticks.count None None cues) (S.files shelf.old) (S.created shelf.old) (S.created shelf.new) result }
 {
-    let work = prepare(alloc, file, None, ticks.count, shelf)?;
+    let work = prepare(alloc, file, None, cues, ticks.count, shelf)?;
     infallible_outputs_have_no_gaps();
     threads_render_as_one_thread();
     one_thread_has_one_record();
     broken_renderings_begin_those_of_one_thread();
-    let rendered = render_alone(alloc, &work.plan, &work.ready, start, ticks.count, shelf)?;
+    let job = Job {
+        plan: &work.plan,
+        ready: &work.ready,
+        start,
+        ticks: ticks.count,
+        cues,
+    };
+    let rendered = render_alone(alloc, &job, shelf)?;
     report_or_halt(report(alloc, &work.plan, ticks.count, &rendered))
 }
 
-/// The report of a rendering by threads, whose outputs and then its trace, if one is wanted, are written.
+/// The report of a rendering by threads, whose outputs, then their cue files and then its trace, if these are wanted, are written.
 pub fn threads_job<S: Shelf, G: Gate + Sync, R: Threads + Wait + Sync>(
     rt: &R,
     alloc: Global,
@@ -73,26 +81,23 @@ pub fn threads_job<S: Shelf, G: Gate + Sync, R: Threads + Wait + Sync>(
     ensures order { CreatedFor (asked_to_render asked.now) (S.files shelf.old) (S.created shelf.old) (S.created shelf.new) result }
 {
     let ticks = asked.ticks.count;
-    let work = prepare(alloc, asked.file, asked.trace, ticks, shelf)?;
+    let work = prepare(alloc, asked.file, asked.trace, asked.cues, ticks, shelf)?;
     infallible_outputs_have_no_gaps();
     threads_render_as_one_thread();
     one_thread_has_one_record();
     broken_renderings_begin_those_of_one_thread();
+    let job = Job {
+        plan: &work.plan,
+        ready: &work.ready,
+        start: asked.start,
+        ticks,
+        cues: asked.cues,
+    };
     let threading = Threading {
         window: asked.window.ticks,
         trace: asked.trace,
     };
-    let rendered = render(
-        rt,
-        alloc,
-        &work.plan,
-        &work.ready,
-        asked.start,
-        ticks,
-        threading,
-        shelf,
-        gate,
-    )?;
+    let rendered = render(rt, alloc, &job, threading, shelf, gate)?;
     report_or_halt(report(alloc, &work.plan, ticks, &rendered))
 }
 

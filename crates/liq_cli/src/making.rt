@@ -1,5 +1,5 @@
 // A workload is made, rendered and told.
-ghost use Rattle.std.specs.Prelude.{◌≡◌, ℕ, Option, Some, IfOk, string_bytes};
+ghost use Rattle.std.specs.Prelude.{◌≡◌, ℕ, [], Option, Some, true, IfOk, string_bytes};
 ghost use Rattle.liq_base.specs.Files.{Files};
 ghost use Rattle.liq_cli.specs.Answer.{files_made};
 ghost use Rattle.liq_cli.specs.Call.{Rendered};
@@ -14,7 +14,8 @@ use crate::size::Size;
 use crate::summary::summary;
 use fixed_text::WeekSecond;
 use liq_base::{Gate, Memory, SureShelf};
-use station_render::{Threading, render};
+use plan_core::Plan;
+use station_render::{Job, Threading, render};
 use stations::infallible_outputs_have_no_gaps;
 use std::alloc::Global;
 use std::sync::Wait;
@@ -55,24 +56,34 @@ fn sum_workload<G: Gate + Sync, R: Threads + Wait + Sync>(
     ensures done { IfOk result (λ report. (files : Files) → ForOne (Make seed size.files) files (λ answer. Rendered answer files (Some files) (string_bytes report))) }
     ensures stops { (told : Option Files) (reads writes : ℕ) → Stops (Make seed size.files) told told reads reads writes writes result }
 {
-    let work = prepare(alloc, script_name(), None, TICKS, shelf)?;
+    let work = prepare(alloc, script_name(), None, false, TICKS, shelf)?;
+    // The script of a workload has no buffer. Through one its clocks could meet in one way or another, and what is told rests on the
+    // two numbers alone: so were there one, nothing would be told.
+    if !is_unbuffered(&work.plan) {
+        return Err(Halt::Memory);
+    }
     infallible_outputs_have_no_gaps();
     sums_are_as_on_one_thread();
-    let rendered = render(
-        rt,
-        alloc,
-        &work.plan,
-        &work.ready,
-        WeekSecond { second: 0 },
-        TICKS,
-        Threading {
-            window: WINDOW,
-            trace: None,
-        },
-        shelf,
-        gate,
-    )?;
+    let job = Job {
+        plan: &work.plan,
+        ready: &work.ready,
+        start: WeekSecond { second: 0 },
+        ticks: TICKS,
+        cues: false,
+    };
+    let threading = Threading {
+        window: WINDOW,
+        trace: None,
+    };
+    let rendered = render(rt, alloc, &job, threading, shelf, gate)?;
     report_or_halt(summary(alloc, &work.plan, TICKS, &rendered.gaps, shelf))
+}
+
+// Whether a plan has no buffer.
+fn is_unbuffered(plan: &Plan) -> bool
+    ensures { result ≡ true → plan.now.buffers ≡ [] }
+{
+    plan.buffers.as_slice().is_empty()
 }
 
 // A shelf with the files of a workload.

@@ -6,14 +6,15 @@ ghost use Rattle.liq_cli.specs.Words.{AreOptions, IsOption, IsStart, IsTraceName
 use crate::window::{Window, read_window_option};
 use fixed_text::{WeekSecond, read_start};
 
-/// The options of a rendering: whether it runs on one thread; and how many ticks a window has, where the week begins, and the
-/// name of the trace's file, if these are said.
+/// The options of a rendering: whether it runs on one thread; how many ticks a window has, the second of the week at which it
+/// begins, and the name of the trace's file, if these are said; and whether cue files are wanted.
 #[derive(Clone, Copy)]
 pub struct Options<'a> {
     pub one_thread: bool,
     pub window: Option<Window>,
     pub start: Option<WeekSecond>,
     pub trace: Option<&'a str>,
+    pub cues: bool,
 }
 
 /// The options that words are, in any order and each at most once.
@@ -26,6 +27,7 @@ pub fn read_options(words: &[String]) -> Option<Options<'_>>
         window: None,
         start: None,
         trace: None,
+        cues: false,
     };
     for word in words {
         options = read_option(word.as_str(), options)?;
@@ -40,6 +42,9 @@ fn read_option<'a>(word: &'a str, before: Options<'a>) -> Option<Options<'a>>
 {
     if word == "--one-thread" {
         return with_one_thread(before);
+    }
+    if word == "--cues" {
+        return with_cues(before);
     }
     if let Some(window) = read_window_option(word) {
         return with_window(window, before);
@@ -60,6 +65,19 @@ fn with_one_thread<'a>(before: Options<'a>) -> Option<Options<'a>>
     }
     Some(Options {
         one_thread: true,
+        ..before
+    })
+}
+
+// The options with `--cues`, where it was not there before.
+fn with_cues<'a>(before: Options<'a>) -> Option<Options<'a>>
+    ensures { option_map options_of result ≡ (if before.entry.cues then None else Some (record (options_of before.entry) { cues = true })) }
+{
+    if before.cues {
+        return None;
+    }
+    Some(Options {
+        cues: true,
         ..before
     })
 }

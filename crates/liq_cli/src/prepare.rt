@@ -1,5 +1,5 @@
 // What a script asks for: its plan, its audio files and its clocks.
-ghost use Rattle.std.specs.Prelude.{◌≡◌, ◌≤◌, ◌^◌, ℕ, List, Option, IfOk, Some};
+ghost use Rattle.std.specs.Prelude.{◌≡◌, ◌≤◌, ◌^◌, ℕ, Bool, List, Option, IfOk, Some};
 ghost use Rattle.std.specs.Option.{ForSome};
 ghost use Rattle.liq_base.specs.Files.{file_at};
 ghost use Rattle.stations.specs.Findings.{IsFit};
@@ -26,26 +26,27 @@ pub struct Work {
     pub ready: Ready,
 }
 
-/// What the script of this name asks for, for so many ticks: the script is read, and then its audio files are. Where a trace of
-/// this name is wanted, none of its outputs has it.
+/// What the script of this name asks for, for so many ticks: the script is read, and then its audio files are. Its outputs, its
+/// cue files where they are wanted, and the trace of this name where one is wanted, all have names of their own.
 pub fn prepare<S: Shelf>(
     alloc: Global,
     file: &str,
     trace: Option<&str>,
+    cues: bool,
     ticks: u64,
     shelf: &mut S,
 ) -> Result<Work, Halt>
     requires { ticks ≤ 10 ^ 9 }
-    ensures found { IfOk result (λ work. ForSome (S.files shelf.old) (λ files. IsOneOutcome files file.now (named trace.entry) ticks (outcome_of work))) }
+    ensures found { IfOk result (λ work. ForSome (S.files shelf.old) (λ files. IsOneOutcome files file.now (named trace.entry) cues ticks (outcome_of work))) }
     ensures fit { IfOk result (λ work. IsFit work.plan work.ready.library work.ready.clocks ticks) }
-    ensures ends { EndsFor (S.files shelf.old) file.now (named trace.entry) ticks (S.read_count shelf.old) (S.read_count shelf.new) result }
+    ensures ends { EndsFor (S.files shelf.old) file.now (named trace.entry) cues ticks (S.read_count shelf.old) (S.read_count shelf.new) result }
     ensures shelf { OnlyRead S.files S.read_count S.write_count shelf.old shelf.new }
     ensures created { S.created shelf.new ≡ S.created shelf.old }
 {
     let script = read_script(alloc, file, shelf)?;
     one_answer();
     let plan = plan_of(alloc, &script)?;
-    keep_apart(alloc, &plan, trace)?;
+    keep_apart(alloc, &plan, trace, cues)?;
     let ready = check_plan(alloc, &plan, ticks, shelf)?;
     Ok(Work { plan, ready })
 }
@@ -53,7 +54,7 @@ pub fn prepare<S: Shelf>(
 // The bytes of the script.
 fn read_script<S: Shelf>(alloc: Global, file: &str, shelf: &mut S) -> Result<Vec<u8>, Halt>
     ensures script { IfOk result (λ script. ForSome (S.files shelf.old) (λ files. file_at files file.now ≡ Some script.items)) }
-    ensures ends { (trace : Option (List ℕ)) (ticks : ℕ) → EndsFor (S.files shelf.old) file.now trace ticks (S.read_count shelf.old) (S.read_count shelf.new) result }
+    ensures ends { (trace : Option (List ℕ)) (cues : Bool) (ticks : ℕ) → EndsFor (S.files shelf.old) file.now trace cues ticks (S.read_count shelf.old) (S.read_count shelf.new) result }
     ensures shelf { OnlyRead S.files S.read_count S.write_count shelf.old shelf.new }
     ensures created { S.created shelf.new ≡ S.created shelf.old }
 {

@@ -82,7 +82,7 @@ fn read_make(words: &[String]) -> Option<Form<'_>>
 // The rendering of so many ticks that options ask for; nothing where a window or a trace stands beside `--one-thread`.
 fn form_of<'a>(file: &'a str, ticks: Ticks, options: Options<'a>) -> Option<Form<'a>>
     ensures found { IfSome result (λ form. asked_of form
-        ≡ AsksToRender file.now (start_in (options_of options.entry)) ticks.count (window_in (options_of options.entry)) (options_of options.entry).trace) }
+        ≡ AsksToRender file.now (start_in (options_of options.entry)) ticks.count (window_in (options_of options.entry)) (options_of options.entry).trace (options_of options.entry).cues) }
     ensures apart { OnSome result (AreApart (options_of options.entry)) }
     ensures only { AreApart (options_of options.entry) → IsSome result }
 {
@@ -94,10 +94,16 @@ fn form_of<'a>(file: &'a str, ticks: Ticks, options: Options<'a>) -> Option<Form
             ticks,
             window: window_of(options),
             trace: options.trace,
+            cues: options.cues,
         })));
     }
     if options.window.is_some() || options.trace.is_some() {
         return None;
     }
-    Some(Form::Alone { file, start, ticks })
+    Some(Form::Alone {
+        file,
+        start,
+        ticks,
+        cues: options.cues,
+    })
 }

@@ -3,6 +3,8 @@
 #![tactic(auto)]
 
 #[cfg(test)]
+mod cues_tests;
+#[cfg(test)]
 mod devices_tests;
 #[cfg(test)]
 mod liq_cli_tests;
@@ -12,5 +14,7 @@ mod real_files_tests;
 mod threads_tests;
 #[cfg(test)]
 mod traces_tests;
+#[cfg(test)]
+mod wide_tests;
 #[cfg(test)]
 mod workload_tests;

@@ -23,7 +23,7 @@ use Rattle.script_plan.specs.declared.fault.ScriptFault.TheVariants.{Lex, Parse,
 use Rattle.stations.specs.declared.fault.StationFault.{StationFault}
 use Rattle.stations.specs.declared.fault.StationFault.TheVariants.{Files, FallibleOutput, Clocks, OutputTooLong}
 use Rattle.refusal_lines.specs.declared.fault.Fault.{Fault}
-use Rattle.refusal_lines.specs.declared.fault.Fault.TheVariants.{NoScript, Script, SameTrace, Station}
+use Rattle.refusal_lines.specs.declared.fault.Fault.TheVariants.{NoScript, Script, SameFile, Station}
 use Rattle.refusal_lines.specs.Forms.{at_place, at_statement, at_token, of_audio, of_clocks, of_name}
 
 -- the bytes that are no tokens; want of memory is no refusal, and has no line
@@ -120,5 +120,5 @@ station_line (OutputTooLong name) = of_name (codes "E29 output too long") name
 abbrev pub line_of : Fault → List ℕ
 line_of NoScript = codes "E01 no script\n"
 line_of (Script fault) = script_line fault
-line_of (SameTrace name) = of_name (codes "E18 two outputs") name
+line_of (SameFile name) = of_name (codes "E18 two outputs") name
 line_of (Station fault) = station_line fault

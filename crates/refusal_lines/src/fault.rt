@@ -22,8 +22,8 @@ pub enum Fault {
     /// The script has no plan.
     Script(ScriptFault),
 
-    /// The trace that is wanted has the name of this output.
-    SameTrace(Text),
+    /// Two files of the rendering would have this name: a cue file and an output, or the trace and one of these.
+    SameFile(Text),
 
     /// Its plan is not rendered.
     Station(StationFault),
@@ -38,7 +38,7 @@ impl Fault {
         match self {
             Fault::NoScript => plain(alloc, "E01 no script"),
             Fault::Script(fault) => script_line(alloc, fault),
-            Fault::SameTrace(name) => of_name(alloc, "E18 two outputs", name.as_str()),
+            Fault::SameFile(name) => of_name(alloc, "E18 two outputs", name.as_str()),
             Fault::Station(fault) => station_line(alloc, fault),
         }
     }

@@ -2,7 +2,7 @@ use Rattle.std.proofs.Common.{◌≡◌, ◌∙◌, ap, refl}
 use Rattle.std.specs.Prelude.{Some}
 use Rattle.liq_base.specs.Files.{Files}
 use Rattle.liq_cli.specs.Read.{asked_by_threads, asked_to_render}
-use Rattle.liq_cli.specs.Words.{Asked, Make, texts}
+use Rattle.liq_cli.specs.Words.{Make, texts}
 use Rattle.liq_cli.proofs.Complete.{completes}
 use Rattle.liq_cli.proofs.Finished.{finished}
 use Rattle.liq_cli.proofs.Workloads.{told_of}
