@@ -6,31 +6,33 @@ ghost use Rattle.op_leaf.specs.Leaves.{HasRate, HasTracksOf};
 
 use fixed_text::read_decimal;
 use frame_core::{Cell, Chunk, Frame, Library, Track};
-use liq_base::{Kind, Memory};
+use liq_base::{Kind, Memory, Text};
 use op_leaf::{Leaf, LeafState, ReaderState};
 use std::alloc::{AllocError, Global};
 use std::process::Abort;
 use std::test::Fail;
 
-// A cell that begins a track.
-fn first(left: i16, right: i16) -> Option<Cell> {
+// A cell that begins a track of this title.
+fn first(title: u32, left: i16, right: i16) -> Option<Cell> {
     Some(Cell {
         left,
         right,
         first: true,
+        title,
     })
 }
 
-// A cell in the middle of a track.
-fn inner(left: i16, right: i16) -> Option<Cell> {
+// A cell in the middle of a track of this title.
+fn inner(title: u32, left: i16, right: i16) -> Option<Cell> {
     Some(Cell {
         left,
         right,
         first: false,
+        title,
     })
 }
 
-// A library of two files. Leaf 0 plays the first, leaf 1 both, and leaf 2 none.
+// A library of two files, of the titles 1 and 2. Leaf 0 plays the first, leaf 1 both, and leaf 2 none.
 fn library_of(alloc: Global, kind: Kind, one: &[i16], two: &[i16]) -> Result<Library, AllocError>
     requires one { IsSound (record { kind = kind; samples = one.now }) }
     requires two { IsSound (record { kind = kind; samples = two.now }) }
@@ -43,7 +45,9 @@ fn library_of(alloc: Global, kind: Kind, one: &[i16], two: &[i16]) -> Result<Lib
     let alone = Vec::from_slice(alloc, &[0])?;
     let both = Vec::from_slice(alloc, &[0, 1])?;
     let leaves = Vec::from_array(alloc, [alone, both, Vec::new(alloc)])?;
-    Ok(Library::new(files, leaves))
+    let (first, second) = (String::new(alloc), String::new(alloc));
+    let names = [Text::from_string(first), Text::from_string(second)];
+    Ok(Library::new(files, Vec::from_array(alloc, names)?, leaves))
 }
 
 // A leaf offers these slots, one after the other.
@@ -71,10 +75,11 @@ fn check_mono(rt: &impl Abort, library: &Library)
     requires library { IsLibrary library.now }
     requires leaves { length library.now.leaves ≡ 3 }
 {
-    let (one, two, three) = (first(1, 1), inner(2, 2), inner(3, 3));
+    let (one, two, three) = (first(1, 1, 1), inner(1, 2, 2), inner(1, 3, 3));
     let both_sides = [one, two, three, one, two, three];
     check(rt, library, files(0, true, Kind::Stereo), &both_sides);
-    let (one, two, three, four) = (first(1, 0), inner(2, 0), inner(3, 0), first(4, 0));
+    let (one, two, three) = (first(1, 1, 0), inner(1, 2, 0), inner(1, 3, 0));
+    let four = first(2, 4, 0);
     let again = [one, two, three, four, one, two, three, four];
     check(rt, library, files(1, true, Kind::Mono), &again);
     let once = [one, two, three, four, None, None];
@@ -92,7 +97,7 @@ fn mono_files_go_to_both_sides_and_in_order_again_or_once(rt: HostRuntime) -> Re
 #[test]
 fn a_stereo_file_gives_half_the_sum_of_its_sides(rt: HostRuntime) -> Result<(), Fail> {
     let library = library_of(rt.alloc(), Kind::Stereo, &[5, -2], &[1, 1])?;
-    let slots = [first(1, 0), first(1, 0)];
+    let slots = [first(1, 1, 0), first(1, 1, 0)];
     check(&rt, &library, files(0, true, Kind::Mono), &slots);
     Ok(())
 }
@@ -106,10 +111,10 @@ fn duration() -> Option<u64> {
 fn a_blank_of_12_samples_begins_at_each_twelfth(rt: HostRuntime) -> Result<(), Fail> {
     let library = library_of(rt.alloc(), Kind::Mono, &[1], &[2])?;
     assert_eq!(rt; duration(), Some(12));
-    let mut slots = [inner(0, 0); 26];
-    slots[0] = first(0, 0);
-    slots[12] = first(0, 0);
-    slots[24] = first(0, 0);
+    let mut slots = [inner(0, 0, 0); 26];
+    slots[0] = first(0, 0, 0);
+    slots[12] = first(0, 0, 0);
+    slots[24] = first(0, 0, 0);
     check(&rt, &library, Leaf::Blank { track: 12 }, &slots);
     Ok(())
 }
@@ -117,7 +122,7 @@ fn a_blank_of_12_samples_begins_at_each_twelfth(rt: HostRuntime) -> Result<(), F
 // A chunk of the sample 7 alone.
 fn chunk_of_seven(alloc: Global) -> Result<Option<Chunk>, Memory> {
     let mut frame = Frame::new(alloc, 1)?;
-    frame.set(0, inner(7, 7));
+    frame.set(0, inner(3, 7, 7));
     Chunk::from_frame(alloc, &frame)
 }
 
@@ -140,9 +145,9 @@ fn check_reader(rt: &impl Abort, alloc: Global, reader: &mut ReaderState) -> Res
     accept(rt, alloc, reader)?;
     assert!(rt; !reader.wants());
     reader.begin();
-    assert_eq!(rt; reader.offer(), first(7, 7));
+    assert_eq!(rt; reader.offer(), first(3, 7, 7));
     reader.advance();
-    assert_eq!(rt; reader.offer(), inner(7, 7));
+    assert_eq!(rt; reader.offer(), inner(3, 7, 7));
     reader.advance();
     assert_eq!(rt; reader.offer(), None);
     assert!(rt; reader.wants());
@@ -172,8 +177,8 @@ fn chunk_of(alloc: Global, cells: &[Option<Cell>]) -> Result<Option<Chunk>, Memo
 // track by its own mark, and the first since the reader begins to play.
 fn playing_reader(rt: &impl Abort, alloc: Global) -> Result<ReaderState, Fail> {
     let mut reader = ReaderState::new(alloc, 2, 4)?;
-    let one = [inner(1, -1)];
-    let more = [inner(2, -2), first(3, -3), inner(4, -4), inner(5, -5)];
+    let one = [inner(4, 1, -1)];
+    let more = [inner(4, 2, -2), first(4, 3, -3), inner(4, 4, -4), inner(4, 5, -5)];
     let (Some(one), Some(more)) = (chunk_of(alloc, &one)?, chunk_of(alloc, &more)?) else {
         return Err(Fail::from("no chunk"));
     };
@@ -224,14 +229,14 @@ fn check_run(rt: &impl Abort, reader: &mut ReaderState, single: &mut ReaderState
 fn a_reader_gives_its_cells_in_stretches_up_to_the_next_mark(rt: HostRuntime) -> Result<(), Fail> {
     let mut reader = playing_reader(&rt, rt.alloc())?;
     let mut single = playing_reader(&rt, rt.alloc())?;
-    assert_eq!(rt; reader.offer(), first(1, -1));
-    assert_eq!(rt; reader.rest(9), 0);
+    assert_eq!(rt; reader.offer(), first(4, 1, -1));
+    assert_eq!(rt; reader.rest(4, 9), 0);
     check_stretches(&rt, &reader, [1, 2, 2, 2]);
     check_run(&rt, &mut reader, &mut single, &[1]);
-    assert_eq!(rt; reader.offer(), inner(2, -2));
+    assert_eq!(rt; reader.offer(), inner(4, 2, -2));
     check_stretches(&rt, &reader, [1, 1, 1, 1]);
     check_run(&rt, &mut reader, &mut single, &[2]);
-    assert_eq!(rt; reader.offer(), first(3, -3));
+    assert_eq!(rt; reader.offer(), first(4, 3, -3));
     check_stretches(&rt, &reader, [1, 2, 3, 3]);
     check_run(&rt, &mut reader, &mut single, &[3, 4, 5]);
     assert_eq!(rt; reader.offer(), None);
@@ -243,9 +248,9 @@ fn a_run_over_all_of_a_first_stretch(rt: HostRuntime) -> Result<(), Fail> {
     let mut reader = playing_reader(&rt, rt.alloc())?;
     let mut single = playing_reader(&rt, rt.alloc())?;
     check_run(&rt, &mut reader, &mut single, &[1, 2]);
-    assert_eq!(rt; reader.offer(), first(3, -3));
+    assert_eq!(rt; reader.offer(), first(4, 3, -3));
     check_run(&rt, &mut reader, &mut single, &[3, 4]);
-    assert_eq!(rt; reader.offer(), inner(5, -5));
+    assert_eq!(rt; reader.offer(), inner(4, 5, -5));
     check_stretches(&rt, &reader, [1, 1, 1, 1]);
     Ok(())
 }

@@ -1,5 +1,5 @@
 -- What the outputs and feeds of a clock hear, one segment at a time.
-use Rattle.std.proofs.Common.{◌≡◌, ◌<◌, ◌≤◌, ◌+◌, ◌*◌, ◌∙◌, ◌++◌, ℕ, zero, suc, All, drop, Some, None, Bool, List, [], ◌∷◌, length, get_or, map, slice_get, take, append_assoc, append-nil, arith, refl, ap, sym, subst, inl, inr}
+use Rattle.std.proofs.Common.{◌≡◌, ◌<◌, ◌≤◌, ◌+◌, ◌*◌, ◌∙◌, ◌++◌, ℕ, zero, suc, All, drop, Some, None, Bool, true, false, List, [], ◌∷◌, length, get_or, map, slice_get, take, append_assoc, append-nil, arith, refl, ap, sym, subst, inl, inr}
 use Rattle.std.specs.List.{range_with_len}
 use Rattle.std.proofs.lemmas.Bool.{cases_lt}
 use Rattle.std.proofs.lemmas.Option.{slice_get_within, slice_get-get_or}
@@ -7,7 +7,6 @@ use Rattle.std.specs.Simd.Lanes.{put_chunk}
 use Rattle.std.proofs.lemmas.List.{get_or-map, length-append, length-map}
 use Rattle.std.proofs.lemmas.Simd.{length-put_chunk}
 use Rattle.std.proofs.Math.Nat.{mul-le-mul_right, suc-mul}
-use Rattle.liq_base.specs.Kinds.{channels_of}
 use Rattle.liq_base.specs.declared.memory.Kind.{Kind}
 use Rattle.liq_base.specs.declared.memory.Kind.TheVariants.{Mono, Stereo}
 use Rattle.plan_core.specs.declared.plan.Plan.{Plan}
@@ -19,7 +18,7 @@ use Rattle.op_leaf.specs.Readers.{Answer}
 use Rattle.stream_meaning.specs.Instants.{Setting, history, part_at}
 use Rattle.stream_meaning.specs.Calls.{HasAnswers, IsBegin, after_calls, calls_of, joined_upto}
 use Rattle.stream_meaning.proofs.Answering.{after_calls-none, after_calls-then, answers_first, answers_then, begin_all, begin_joined, begin_none, joined_same}
-use Rattle.stream_meaning.specs.Sinks.{slot_block}
+use Rattle.stream_meaning.specs.Sinks.{block_length, slot_block}
 use Rattle.clock_outputs.specs.declared.port.Port.{Port}
 use Rattle.clock_outputs.specs.declared.feed.FeedPort.{FeedPort}
 use Rattle.clock_outputs.specs.Feeds.{with_slots_from}
@@ -65,17 +64,21 @@ heard_all slots lanes many (port ∷ first) =
     ap (λ p. p ∷ map (λ port. after_slots port (segment_of lanes many port.node)) (map (λ port. after_slots (emptied port) (slots port.node)) first)) here
     ∙ ap (λ ps. after_slots (emptied port) (more_slots slots lanes many port.node) ∷ ps) rest
 
-pub block_long : (kind : Kind) (slot : Slot) → length (slot_block kind slot) ≡ 2 * channels_of kind
-block_long Mono None = refl
-block_long Mono (Some cell) = refl
-block_long Stereo None = refl
-block_long Stereo (Some cell) = refl
+pub block_long : (wide : Bool) (kind : Kind) (slot : Slot) → length (slot_block wide kind slot) ≡ block_length wide kind
+block_long true Mono None = refl
+block_long true Mono (Some cell) = refl
+block_long true Stereo None = refl
+block_long true Stereo (Some cell) = refl
+block_long false Mono None = refl
+block_long false Mono (Some cell) = refl
+block_long false Stereo None = refl
+block_long false Stereo (Some cell) = refl
 
 room_one : (left : ℕ) (port : Port) (slot : Slot) → HasRoomLeft (suc left) port → HasRoomLeft left (after_slot port slot)
 room_one left port slot room =
-    let long = length-append port.piece.bytes (slot_block port.kind slot) in
-    let block = block_long port.kind slot in
-    let more = suc-mul left (2 * channels_of port.kind) in
+    let long = length-append port.piece.bytes (slot_block port.wide port.kind slot) in
+    let block = block_long port.wide port.kind slot in
+    let more = suc-mul left (block_length port.wide port.kind) in
     omega (arith, room, long, block, more)
 
 room_many : (left : ℕ) (port : Port) (slots : List Slot) → HasRoomLeft (length slots + left) port → HasRoomLeft left (after_slots port slots)
@@ -96,7 +99,7 @@ room_left many left f long ports room k d h =
 pub room_less : (few many : ℕ) (ports : List Port) → few ≤ many → AllHaveRoomLeft many ports → AllHaveRoomLeft few ports
 room_less few many ports less room k d h =
     let port = get_or ports k d in
-    let more = mul-le-mul_right (2 * channels_of port.kind) less in
+    let more = mul-le-mul_right (block_length port.wide port.kind) less in
     omega (arith, room k d h, more)
 
 -- a list whose first items were changed: an item behind them is as it was

@@ -5,7 +5,6 @@ use Rattle.std.proofs.Math.Nat.{suc-mul}
 use Rattle.std.proofs.lemmas.Bool.{true≢false}
 use Rattle.std.proofs.lemmas.List.{append-nil, get_or_default, get_or-map, length-map, map-append}
 use Rattle.std.proofs.lemmas.Option.{none-some, slice_get_read, slice_get_within}
-use Rattle.liq_base.specs.Kinds.{channels_of}
 use Rattle.liq_base.specs.Pieces.{HasRoom, IsPrefix, grown, narrowed}
 use Rattle.clock_infer.specs.declared.clock_map.NodeClock.TheVariants.{Main}
 use Rattle.op_leaf.specs.Readers.{Answer}
@@ -13,7 +12,7 @@ use Rattle.frame_core.specs.Slots.{Slot}
 use Rattle.frame_core.specs.Calls.{Call}
 use Rattle.stream_meaning.specs.Arithmetic.{cells_of}
 use Rattle.stream_meaning.specs.Instants.{Setting, clock_of, sub_of}
-use Rattle.stream_meaning.specs.Sinks.{cues, feed_cells, gaps, kind_of, tick_bytes, tick_cues, tick_slots}
+use Rattle.stream_meaning.specs.Sinks.{block_length, cues, feed_cells, gaps, is_wide, kind_of, tick_bytes, tick_cues, tick_slots}
 use Rattle.stream_meaning.specs.Calls.{HasAnswers, IsBegin, IsUnread, after_calls, answers_in, calls_of_tick, give_by, joined_upto, takes_of_tick}
 use Rattle.stream_meaning.proofs.Answering.{answers_first, answers_in-append, begin_all, begin_behind, begin_more}
 use Rattle.stream_meaning.proofs.Unread.{no_given, no_tick_takes, none_in_joined}
@@ -33,8 +32,8 @@ use Rattle.clock_engine.specs.declared.fault.TickFault.{TickFault}
 use Rattle.clock_engine.specs.Engines.{AreParts, EngineStands, EngineStopped, after_tick, feed_of, feeds_of, held_in, output_of, outputs_of, scene_of, setting_of}
 use Rattle.clock_engine.specs.Ticks.{HasFailed, HaveTickRoom, RoomsFell, HaveTicksRoom, piece_size}
 use Rattle.clock_engine.proofs.Giving.{gives_are, gives_flat}
-use Rattle.clock_engine.proofs.Filling.{filled_before, filled_kind, filled_long, filled_room, filled_sink}
-use Rattle.clock_engine.proofs.Numbered.{all_at, from_mapped, got_mapped, port_inside, port_node}
+use Rattle.clock_engine.proofs.Filling.{filled_before, filled_kind, filled_long, filled_room, filled_sink, filled_wide}
+use Rattle.clock_engine.proofs.Numbered.{all_at, from_mapped, got_mapped, output_wide, port_inside, port_node}
 use Rattle.clock_engine.proofs.Holding.{GrewPart, held_grew, held_part}
 use Rattle.clock_engine.proofs.Mapped.{goes_down, meaning_of}
 use Rattle.clock_engine.proofs.Feeding.{feed_inside, own_buffers, own_readers}
@@ -113,9 +112,13 @@ module _ (parts other : EngineParts) (fit : AreParts parts)
     outputs = ap (map output_of) ports_are ∙ heard_outputs slots parts.ports.items ∙ fit.outputs;
     kinds = kept (λ port. port.kind ≡ kind_of (setting_of parts) port.node)
         (λ port is. filled_kind (emptied port) (slots port.node) ∙ is ∙ ap (kind_of (setting_of parts)) (sym (after_slots-node (emptied port) (slots port.node)))) fit.kinds;
-    rooms = kept (λ port. parts.shape.plan.now.frame * (2 * channels_of port.kind) ≤ port.piece.room)
+    widths = kept (λ port. port.wide ≡ is_wide (setting_of parts) port.sink)
+        (λ port is. filled_wide (emptied port) (slots port.node) ∙ is ∙ ap (is_wide (setting_of parts)) (sym (filled_sink (emptied port) (slots port.node)))) fit.widths;
+    rooms = kept (λ port. parts.shape.plan.now.frame * block_length port.wide port.kind ≤ port.piece.room)
         (λ port is.
-        let kind = ap (λ k. parts.shape.plan.now.frame * (2 * channels_of k)) (filled_kind (emptied port) (slots port.node)) in
+        let kind : parts.shape.plan.now.frame * block_length (hear port).wide (hear port).kind ≡ parts.shape.plan.now.frame * block_length port.wide port.kind =
+        ap (λ w. parts.shape.plan.now.frame * block_length w (hear port).kind) (filled_wide (emptied port) (slots port.node))
+        ∙ ap (λ k. parts.shape.plan.now.frame * block_length port.wide k) (filled_kind (emptied port) (slots port.node)) in
         let room = filled_room (emptied port) (slots port.node) in
         omega (arith, is, kind, room)) fit.rooms;
     feeds = same_feeds ∙ fit.feeds;
@@ -186,10 +189,11 @@ module _ (parts other : EngineParts) (fit : AreParts parts)
 
   module _ (long : (i : ℕ) → length (slots i) ≡ parts.shape.plan.now.frame) where
     -- the length of a piece
-    size_is : (k : ℕ) (port : Port) → slice_get parts.ports.items k ≡ Some port → length (hear port).piece.bytes ≡ piece_size (setting_of parts) port.node
+    size_is : (k : ℕ) (port : Port) → slice_get parts.ports.items k ≡ Some port → length (hear port).piece.bytes ≡ piece_size (setting_of parts) port.sink port.node
     size_is k port at =
         filled_long (emptied port) (slots port.node) parts.shape.plan.now.frame refl (long port.node)
-        ∙ ap (λ q. parts.shape.plan.now.frame * (2 * channels_of q)) (all_at (λ p. p.kind ≡ kind_of (setting_of parts) p.node) parts.ports.items fit.kinds k port at)
+        ∙ ap (λ w. parts.shape.plan.now.frame * block_length w port.kind) (all_at (λ p. p.wide ≡ is_wide (setting_of parts) p.sink) parts.ports.items fit.widths k port at)
+        ∙ ap (λ q. parts.shape.plan.now.frame * block_length (is_wide (setting_of parts) port.sink) q) (all_at (λ p. p.kind ≡ kind_of (setting_of parts) p.node) parts.ports.items fit.kinds k port at)
 
     -- the pieces have room where pieces of a tick have
     pub have_room : {S : Type 0} (room : S → Option ℕ) (outs : List S) → HaveTickRoom room parts outs → HaveRoom room other.ports.items outs
@@ -202,12 +206,12 @@ module _ (parts other : EngineParts) (fit : AreParts parts)
 
     -- the output at a place, and what a sink took of it
     output_port : (k sink node : ℕ) → slice_get (outputs_of (setting_of parts) parts.clock) k ≡ Some (sink, node)
-        → (port : Port) × (slice_get other.ports.items k ≡ Some (hear port)) × (length (hear port).piece.bytes ≡ piece_size (setting_of parts) node)
+        → (port : Port) × (slice_get other.ports.items k ≡ Some (hear port)) × (length (hear port).piece.bytes ≡ piece_size (setting_of parts) sink node)
     output_port k sink node at =
         let its = from_mapped output_of parts.ports.items k (sink, node) (ap (λ xs. slice_get xs k) fit.outputs ∙ at) in (
           its.0,
           ap (λ xs. slice_get xs k) ports_are ∙ got_mapped hear parts.ports.items k its.0 its.1,
-          size_is k its.0 its.1 ∙ ap (λ o. piece_size (setting_of parts) o.1) its.2,
+          size_is k its.0 its.1 ∙ ap (λ o. piece_size (setting_of parts) o.0 o.1) its.2,
         )
 
     pub rooms_fell : {S : Type 0} (held : S → Option (List ℕ)) (room : S → Option ℕ) (old new : List S) → TookAll held room other.ports.items (length other.ports.items) old new
@@ -230,9 +234,9 @@ module _ (parts other : EngineParts) (fit : AreParts parts)
           let before = get_or old k out in
           let was : slice_get old k ≡ Some before = slice_get_read old (length old) k before refl within (get_or_default old k out before within) in
           let fell = (took.each k (hear its.0) before out (slice_get_within other.ports.items k (hear its.0) its.1) its.1 was at_out).room_fell in
-          subst (λ r. HasRoom r (ticks * piece_size (setting_of parts) node)) (sym fell)
-          (subst (λ n. HasRoom (narrowed n (room before)) (ticks * piece_size (setting_of parts) node)) (sym its.2)
-          (room_less (room before) ticks (piece_size (setting_of parts) node) (all.each k sink node before at_output was)));
+          subst (λ r. HasRoom r (ticks * piece_size (setting_of parts) sink node)) (sym fell)
+          (subst (λ n. HasRoom (narrowed n (room before)) (ticks * piece_size (setting_of parts) sink node)) (sym its.2)
+          (room_less (room before) ticks (piece_size (setting_of parts) sink node) (all.each k sink node before at_output was)));
     }
 
 filled_whole : (slots frame : List Slot) → length slots ≡ length frame → slots ++ drop (length slots) frame ≡ slots
@@ -334,15 +338,18 @@ module _ (parts other : EngineParts) (fit : AreParts parts) {T : Type 0} (stands
         ∙ sym (map-append mark_of (cues S found.0.node t) (tick_cues S found.0.node t))
         ∙ ap (λ i. map mark_of (cues S i (suc t))) node
 
-    pub bytes_after : (sink node : ℕ) → IsOutput (setting_of parts) parts.clock sink node → (k : ℕ) (port : Port) → slice_get other.ports.items k ≡ Some port → port.sink ≡ sink
-        → port.piece.bytes ≡ tick_bytes S node t
+    pub bytes_after : (sink node : ℕ) (output : IsOutput (setting_of parts) parts.clock sink node) (k : ℕ) (port : Port) → slice_get other.ports.items k ≡ Some port → port.sink ≡ sink
+        → port.piece.bytes ≡ tick_bytes S output.wide node t
     bytes_after sink node output k port at same =
         let found = port_after k port at in
         let number : found.0.sink ≡ sink = sym (filled_sink (emptied found.0) (heard.slots found.0.node)) ∙ ap (λ p. p.sink) found.2 ∙ same in
         let its = port_node (setting_of parts) parts.clock parts.ports.items fit.outputs sink node output k found.0 found.1 number in
+        let width : found.0.wide ≡ output.wide = all_at (λ p. p.wide ≡ is_wide (setting_of parts) p.sink) parts.ports.items fit.widths k found.0 found.1
+        ∙ ap (is_wide (setting_of parts)) number ∙ output_wide (setting_of parts) parts.clock sink node output in
         sym (ap (λ p. p.piece.bytes) found.2)
         ∙ bytes_are S t found.0 (heard.slots found.0.node) (all_at (λ p. p.kind ≡ kind_of (setting_of parts) p.node) parts.ports.items fit.kinds k found.0 found.1) (output_slots k found.0 found.1)
-        ∙ ap (λ i. tick_bytes S i t) its
+        ∙ ap (λ i. tick_bytes S found.0.wide i t) its
+        ∙ ap (λ w. tick_bytes S w node t) width
 
     pub lanes_after : ClockStateStands S (sub_of S) (Main parts.clock) (suc t * parts.shape.plan.now.frame) (after_calls answers heard.more) other.state
     lanes_after = subst (λ n. ClockStateStands S (sub_of S) (Main parts.clock) n (after_calls answers heard.more) other.state) (sym (suc-mul t parts.shape.plan.now.frame)) ran.lanes_stand
@@ -435,11 +442,11 @@ module _ (parts other : EngineParts) (fit : AreParts parts) {T : Type 0} (stands
           are = calls_are_tick;
           stand = stands_after;
           grew = λ rest sink node output.
-              subst (λ os. held_in held os new sink ≡ grown (tick_bytes (with_rest (setting_of parts) (after_calls answers all_calls) rest) node t) (held_in held os old sink)) outputs_are
-              (held_grew held room sink (tick_bytes (with_rest (setting_of parts) (after_calls answers all_calls) rest) node t) other.ports.items old new
+              subst (λ os. held_in held os new sink ≡ grown (tick_bytes (with_rest (setting_of parts) (after_calls answers all_calls) rest) output.wide node t) (held_in held os old sink)) outputs_are
+              (held_grew held room sink (tick_bytes (with_rest (setting_of parts) (after_calls answers all_calls) rest) output.wide node t) other.ports.items old new
               (old_size ∙ sym in_ports) (new_size ∙ old_size ∙ sym in_ports)
               (λ k port at same. bytes_after (behind_calls all_calls rest) (has_first rest) sink node output k port at same
-              ∙ ap (λ W. tick_bytes W node t) (world_is (setting_of parts) answers all_calls rest)) took.each);
+              ∙ ap (λ W. tick_bytes W output.wide node t) (world_is (setting_of parts) answers all_calls rest)) took.each);
         }
 
   -- an output failed: no chunk was given
@@ -457,12 +464,12 @@ module _ (parts other : EngineParts) (fit : AreParts parts) {T : Type 0} (stands
             (subst (λ (cs : List Call). IsBegin heard.more cs) (takes_are (behind_calls heard.more rest) (world_has (setting_of parts) answers heard.more rest)) (begin_all heard.more)));
         part = λ rest sink node output.
             let S = with_rest (setting_of parts) answers (behind_calls heard.more rest) in
-            let grew = subst (λ os. GrewPart held room sink (tick_bytes S node t) (held_in held os old sink) (held_in held os new sink)) outputs_are
-            (held_part held room sink (tick_bytes S node t) other.ports.items old new
+            let grew = subst (λ os. GrewPart held room sink (tick_bytes S output.wide node t) (held_in held os old sink) (held_in held os new sink)) outputs_are
+            (held_part held room sink (tick_bytes S output.wide node t) other.ports.items old new
             (old_size ∙ sym in_ports) (new_size ∙ old_size ∙ sym in_ports)
             (λ k port at same. bytes_after (behind_calls heard.more rest) (world_has (setting_of parts) answers heard.more rest) sink node output k port at same) took.each) in (
               grew.part,
-              subst (λ W. IsPrefix grew.part (tick_bytes W node t)) (world_is (setting_of parts) answers heard.more rest) grew.front,
+              subst (λ W. IsPrefix grew.part (tick_bytes W output.wide node t)) (world_is (setting_of parts) answers heard.more rest) grew.front,
               grew.is,
             );
       }
@@ -486,12 +493,12 @@ module _ (parts other : EngineParts) (fit : AreParts parts) {T : Type 0} (stands
             (subst (λ (cs : List Call). IsBegin some.made cs) (gives_of (behind_calls made rest) (first rest) some.accepted) (some.begins own_feeds))));
         part = λ rest sink node output.
             let S = with_rest (setting_of parts) answers (behind_calls made rest) in (
-              tick_bytes (with_rest (setting_of parts) (after_calls answers made) rest) node t,
-              record { rest = []; whole_is = sym (append-nil (tick_bytes (with_rest (setting_of parts) (after_calls answers made) rest) node t)) },
-              subst (λ os. held_in held os new sink ≡ grown (tick_bytes (with_rest (setting_of parts) (after_calls answers made) rest) node t) (held_in held os old sink)) outputs_are
-                  (held_grew held room sink (tick_bytes (with_rest (setting_of parts) (after_calls answers made) rest) node t) other.ports.items old new
+              tick_bytes (with_rest (setting_of parts) (after_calls answers made) rest) output.wide node t,
+              record { rest = []; whole_is = sym (append-nil (tick_bytes (with_rest (setting_of parts) (after_calls answers made) rest) output.wide node t)) },
+              subst (λ os. held_in held os new sink ≡ grown (tick_bytes (with_rest (setting_of parts) (after_calls answers made) rest) output.wide node t) (held_in held os old sink)) outputs_are
+                  (held_grew held room sink (tick_bytes (with_rest (setting_of parts) (after_calls answers made) rest) output.wide node t) other.ports.items old new
                   (old_size ∙ sym in_ports) (new_size ∙ old_size ∙ sym in_ports)
-                  (λ k port at same. bytes_after (behind_calls made rest) (first rest) sink node output k port at same ∙ ap (λ W. tick_bytes W node t) (world_is (setting_of parts) answers made rest)) took.each),
+                  (λ k port at same. bytes_after (behind_calls made rest) (first rest) sink node output k port at same ∙ ap (λ W. tick_bytes W output.wide node t) (world_is (setting_of parts) answers made rest)) took.each),
             );
       }
 
@@ -509,7 +516,7 @@ has_broken parts other fit stands_for a b heard t answers stands held outs = rec
       (heard.begins S (sub_of S) (t * parts.shape.plan.now.frame) answers (meant_by parts fit answers (behind_calls heard.made rest)) (world_has (setting_of parts) answers heard.made rest) (stands.state (behind_calls heard.made rest))));
   part = λ rest sink node output. (
     [],
-    record { rest = tick_bytes (with_rest (setting_of parts) (after_calls answers heard.made) rest) node t; whole_is = refl },
+    record { rest = tick_bytes (with_rest (setting_of parts) (after_calls answers heard.made) rest) output.wide node t; whole_is = refl },
     grown_none (held_in held (outputs_of (setting_of parts) parts.clock) outs sink),
   );
 }

@@ -8,6 +8,8 @@ use Rattle.plan_core.specs.Plans.{sink_node}
 use Rattle.clock_infer.specs.declared.clock_map.NodeClock.TheVariants.{Main}
 use Rattle.stream_meaning.specs.Instants.{Setting, clock_of, lies_in, same_clock}
 use Rattle.stream_meaning.proofs.Existence.{same_clock-true}
+use Rattle.std.specs.Option.{option_map_or}
+use Rattle.stream_meaning.specs.Sinks.{is_wide, wide_sink}
 use Rattle.node_states.specs.Ticks.{IsOutput}
 use Rattle.clock_outputs.specs.declared.port.Port.{Port}
 use Rattle.clock_engine.specs.Engines.{output_of, outputs_from, outputs_of}
@@ -107,6 +109,10 @@ from_mapped f (x ∷ xs) (suc k) y e = from_mapped f xs k y e
 
 same_main : (m : ℕ) → same_clock (Main m) (Main m) ≡ true
 same_main m = eq-eqb m m refl
+
+-- the width of an output is that of its sink
+pub output_wide : (setting : Setting) (m sink node : ℕ) (output : IsOutput setting m sink node) → is_wide setting sink ≡ output.wide
+output_wide setting m sink node output = ap (λ found. option_map_or wide_sink found false) output.there
 
 module _ (setting : Setting) (m : ℕ) (ports : List Port) (outputs : map output_of ports ≡ outputs_of setting m) where
   pub port_there : (k : ℕ) (port : Port) → slice_get ports k ≡ Some port → IsThere setting m 0 setting.plan.sinks (output_of port)

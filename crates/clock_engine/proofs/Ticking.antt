@@ -55,8 +55,8 @@ gaps_more setting t port slots few small so_far are =
 
 -- the bytes of an output in a tick
 pub bytes_are : (setting : Setting) (t : ℕ) (port : Port) (slots : List Slot) → port.kind ≡ kind_of setting port.node → slots ≡ tick_slots setting port.node t
-    → (after_slots (emptied port) slots).piece.bytes ≡ tick_bytes setting port.node t
+    → (after_slots (emptied port) slots).piece.bytes ≡ tick_bytes setting port.wide port.node t
 bytes_are setting t port slots kind are =
     filled_bytes (emptied port) slots
-    ∙ ap (λ k. flat_map (slot_block k) slots) kind
-    ∙ ap (flat_map (slot_block (kind_of setting port.node))) are
+    ∙ ap (λ k. flat_map (slot_block port.wide k) slots) kind
+    ∙ ap (flat_map (slot_block port.wide (kind_of setting port.node))) are

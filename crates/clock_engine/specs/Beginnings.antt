@@ -1,6 +1,5 @@
 -- The parts of a new engine.
 use Rattle.std.specs.Prelude.{◌≡◌, ◌<◌, ◌≤◌, ◌*◌, ℕ, List, [], Some, length, slice_get}
-use Rattle.liq_base.specs.Kinds.{channels_of}
 use Rattle.plan_core.specs.declared.node.Node.{Node}
 use Rattle.plan_core.specs.declared.plan.Plan.{Plan}
 use Rattle.clock_infer.specs.declared.clock_map.NodeClock.{NodeClock}
@@ -8,7 +7,7 @@ use Rattle.clock_infer.specs.declared.clock_map.NodeClock.TheVariants.{Main}
 use Rattle.frame_core.specs.Slots.{Slot}
 use Rattle.frame_core.specs.Library.{IsLibrary, Sounds}
 use Rattle.stream_meaning.specs.Instants.{Setting, work_at}
-use Rattle.stream_meaning.specs.Sinks.{kind_of}
+use Rattle.stream_meaning.specs.Sinks.{block_length, is_wide, kind_of}
 use Rattle.node_states.specs.declared.state.NodeState.{NodeState}
 use Rattle.node_states.specs.States.{Fits, StateStands}
 use Rattle.engine_instants.specs.Takes.{IsUnder}
@@ -30,7 +29,8 @@ pub record AreNewStates (plan : Plan) (clocks : List NodeClock) (m n : ℕ) (sta
 -- an output before the first tick
 pub record IsNewPort (setting : Setting) (port : Port) : Type 0 where
   pub kind : port.kind ≡ kind_of setting port.node
-  pub room : setting.plan.frame * (2 * channels_of port.kind) ≤ port.piece.room
+  pub wide : port.wide ≡ is_wide setting port.sink
+  pub room : setting.plan.frame * block_length port.wide port.kind ≤ port.piece.room
   pub gaps : port.gaps ≡ 0
 
 -- a feed before the first tick

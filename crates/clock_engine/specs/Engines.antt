@@ -1,6 +1,5 @@
 -- An engine's parts, and for what they stand.
 use Rattle.std.specs.Prelude.{◌≡◌, ◌≤◌, ◌*◌, ℕ, suc, Bool, false, Option, Some, None, List, [], ◌∷◌, All, length, map, nat_eq, slice_get, take, if◌then◌else◌}
-use Rattle.liq_base.specs.Kinds.{channels_of}
 use Rattle.liq_base.specs.declared.limits.TheConstants.{MAX_NODES}
 use Rattle.plan_core.specs.declared.plan.Plan.{Plan}
 use Rattle.plan_core.specs.Plans.{AreNodes, IsWellFormed}
@@ -13,7 +12,7 @@ use Rattle.clock_infer.specs.Answers.{IsClockMap}
 use Rattle.frame_core.specs.Calls.{Call}
 use Rattle.op_leaf.specs.Readers.{Answer}
 use Rattle.stream_meaning.specs.Instants.{Setting, lies_in, sub_of}
-use Rattle.stream_meaning.specs.Sinks.{cues, gaps, kind_of}
+use Rattle.stream_meaning.specs.Sinks.{block_length, cues, gaps, is_wide, kind_of}
 use Rattle.stream_meaning.specs.Calls.{IsBegin, IsUnread, after_calls, calls_of_tick}
 use Rattle.node_states.specs.Ticks.{with_rest}
 use Rattle.clock_outputs.specs.declared.port.Port.{Port}
@@ -98,7 +97,8 @@ pub record AreParts (parts : EngineParts) : Type 0 where
   pub own : AreOwnRoots (setting_of parts) parts.own.items
   pub outputs : map output_of parts.ports.items ≡ outputs_of (setting_of parts) parts.clock
   pub kinds : All (λ port. port.kind ≡ kind_of (setting_of parts) port.node) parts.ports.items
-  pub rooms : All (λ port. parts.shape.plan.now.frame * (2 * channels_of port.kind) ≤ port.piece.room) parts.ports.items
+  pub widths : All (λ port. port.wide ≡ is_wide (setting_of parts) port.sink) parts.ports.items
+  pub rooms : All (λ port. parts.shape.plan.now.frame * block_length port.wide port.kind ≤ port.piece.room) parts.ports.items
   pub feeds : map feed_of parts.feeds.items ≡ feeds_of (setting_of parts) parts.clock
   pub frames : All (λ feed. length feed.frame ≡ parts.shape.plan.now.frame) parts.feeds.items
   pub lists : length parts.cues.lists.items ≡ length parts.ports.items

@@ -2,12 +2,11 @@
 use Rattle.std.specs.Prelude.{◌≡◌, ◌<◌, ◌+◌, ◌*◌, ℕ, Option, Some, true, List, ◌++◌, length, slice_get, ◌⊎◌}
 use Rattle.clock_infer.specs.declared.clock_map.NodeClock.TheVariants.{Main}
 use Rattle.engine_instants.specs.Takes.{HasReader}
-use Rattle.liq_base.specs.Kinds.{channels_of}
 use Rattle.liq_base.specs.Pieces.{HasRoom, narrowed}
 use Rattle.frame_core.specs.Calls.{Call}
 use Rattle.op_leaf.specs.Readers.{Answer}
 use Rattle.stream_meaning.specs.Instants.{Setting}
-use Rattle.stream_meaning.specs.Sinks.{kind_of}
+use Rattle.stream_meaning.specs.Sinks.{block_length, is_wide, kind_of}
 use Rattle.node_states.specs.Ticks.{HasStopped, HasTicked}
 use Rattle.clock_outputs.specs.Appends.{GotOnePiece, RoseAt}
 use Rattle.clock_engine.specs.Engines.{EngineStands, EngineStopped, feeds_of, held_in, outputs_of, setting_of}
@@ -19,19 +18,19 @@ use Rattle.clock_engine.specs.declared.fault.TickFault.TheVariants.{Write}
 abbrev pub HasEnds : EngineParts → Type 0
 HasEnds parts = HasReader parts.shape.plan.now parts.shape.clocks.now (Main parts.clock) ⊎ ((0 < length (feeds_of (setting_of parts) parts.clock)) ⊎ (parts.cues.keeping ≡ true))
 
--- the length of the piece of a tick, of an output with this node
-abbrev pub piece_size : Setting → (node : ℕ) → ℕ
-piece_size setting node = setting.plan.frame * (2 * channels_of (kind_of setting node))
+-- the length of the piece of a tick, of an output with this number and node
+abbrev pub piece_size : Setting → (sink node : ℕ) → ℕ
+piece_size setting sink node = setting.plan.frame * block_length (is_wide setting sink) (kind_of setting node)
 
 -- each sink that tells its room has room for the piece of a tick
 pub record HaveTickRoom {S : Type 0} (room : S → Option ℕ) (parts : EngineParts) (outs : List S) : Type 0 where
   pub each : (k sink node : ℕ) (out : S) → slice_get (outputs_of (setting_of parts) parts.clock) k ≡ Some (sink, node) → slice_get outs k ≡ Some out
-      → HasRoom (room out) (piece_size (setting_of parts) node)
+      → HasRoom (room out) (piece_size (setting_of parts) sink node)
 
 -- the same for the pieces of so many ticks
 pub record HaveTicksRoom {S : Type 0} (room : S → Option ℕ) (parts : EngineParts) (outs : List S) (ticks : ℕ) : Type 0 where
   pub each : (k sink node : ℕ) (out : S) → slice_get (outputs_of (setting_of parts) parts.clock) k ≡ Some (sink, node) → slice_get outs k ≡ Some out
-      → HasRoom (room out) (ticks * piece_size (setting_of parts) node)
+      → HasRoom (room out) (ticks * piece_size (setting_of parts) sink node)
 
 -- the fault is that of an output's sink, whose count of faults rose; the sinks up to it got one piece each
 pub record IsWriteFault {S : Type 0} (faults : S → ℕ) (appends : S → Option ℕ) (parts : EngineParts) (old new : List S) (fault : TickFault) : Type 0 where
@@ -69,4 +68,4 @@ pub record HasFailed {S T : Type 0} (held : S → Option (List ℕ)) (taps_stand
 -- the room of each sink that tells it fell by the piece of a tick
 pub record RoomsFell {S : Type 0} (room : S → Option ℕ) (parts : EngineParts) (old new : List S) : Type 0 where
   pub each : (k sink node : ℕ) (before after : S) → slice_get (outputs_of (setting_of parts) parts.clock) k ≡ Some (sink, node)
-      → slice_get old k ≡ Some before → slice_get new k ≡ Some after → room after ≡ narrowed (piece_size (setting_of parts) node) (room before)
+      → slice_get old k ≡ Some before → slice_get new k ≡ Some after → room after ≡ narrowed (piece_size (setting_of parts) sink node) (room before)

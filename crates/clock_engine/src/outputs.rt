@@ -2,12 +2,13 @@
 ghost use Rattle.std.specs.Prelude.{◌≡◌, ◌<◌, ◌≤◌, ◌^◌, ℕ, All, map, length, IfOk};
 ghost use Rattle.plan_core.specs.Plans.{sink_node};
 ghost use Rattle.stream_meaning.specs.Instants.{Setting};
+ghost use Rattle.stream_meaning.specs.Sinks.{is_wide};
 ghost use Rattle.engine_instants.specs.States.{over};
 ghost use Rattle.clock_engine.specs.Beginnings.{IsNewFeed, IsNewPort};
 ghost use Rattle.clock_engine.specs.Engines.{feed_of, feeds_of, output_of, outputs_of};
 
 use crate::parts::is_main;
-use clock_outputs::{FeedPort, Piece, Port};
+use clock_outputs::{FeedPort, Piece, Port, block_size};
 use engine_instants::Shape;
 use frame_core::Frame;
 use liq_base::Memory;
@@ -26,31 +27,33 @@ pub fn ports_of(alloc: Global, shape: &Shape<'_>, clock: u32) -> Result<Vec<Port
     let sinks = shape.plan.sinks.as_slice();
     let mut ports = Vec::with_capacity(alloc, sinks.len())?;
     for i in 0..sinks.len() {
-        let SinkPlan::Output { node, .. } = &sinks[i] else {
+        let SinkPlan::Output { node, wide, .. } = &sinks[i] else {
             continue;
         };
         if !is_main(shape.clocks[*node as usize], clock) {
             continue;
         }
-        ports.push(port_of(alloc, shape, i as u32, *node)?)?;
+        ports.push(port_of(alloc, shape, i as u32, *node, *wide)?)?;
     }
     Ok(ports)
 }
 
-// The output of a node.
-fn port_of(alloc: Global, shape: &Shape<'_>, sink: u32, node: u32) -> Result<Port, Memory>
+// The output of a node, wide or not, as the plan's sink of this number says.
+fn port_of(alloc: Global, shape: &Shape<'_>, sink: u32, node: u32, wide: bool) -> Result<Port, Memory>
     requires within { node < length shape.now.plan.now.nodes }
     requires frame { shape.now.plan.now.frame ≤ 65536 }
+    requires width { (other : Setting) → wide ≡ is_wide (over shape.now.plan.now shape.now.library.now shape.now.clocks.now other) sink }
     ensures output { IfOk result (λ port. output_of port ≡ (sink, node)) }
     ensures new { IfOk result (λ port. (other : Setting) → IsNewPort (over shape.now.plan.now shape.now.library.now shape.now.clocks.now other) port) }
 {
     let kind = shape.plan.nodes.as_slice()[node as usize].kind;
-    let room = shape.plan.frame as usize * (2 * kind.channels() as usize);
+    let room = shape.plan.frame as usize * block_size(wide, kind);
     let piece = Piece::new(alloc, room)?;
     Ok(Port {
         sink,
         node,
         kind,
+        wide,
         piece,
         gaps: 0,
         gaps_before: 0,

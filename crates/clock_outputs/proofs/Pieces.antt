@@ -1,48 +1,62 @@
 -- The bytes of a tick, and the slots that they are the blocks of.
-use Rattle.std.proofs.Common.{◌≡◌, ◌<◌, ◌≤◌, ◌+◌, ◌*◌, ◌^◌, ◌-◌, ◌∙◌, ◌++◌, min, ℕ, zero, suc, ℤ, false, Some, None, List, [], ◌∷◌, length, map, take, drop, replicate, set, arith, refl, ap, sym, append_assoc, append-nil, length-append}
+use Rattle.std.proofs.Common.{◌≡◌, ◌<◌, ◌≤◌, ◌+◌, ◌*◌, ◌^◌, ◌-◌, ◌∙◌, ◌++◌, min, ℕ, zero, suc, ℤ, Bool, true, false, Some, None, List, [], ◌∷◌, length, map, take, drop, replicate, set, arith, refl, ap, sym, append_assoc, append-nil, length-append}
 use Rattle.std.specs.List.{flat_map}
 use Rattle.std.specs.Simd.Lanes.{put_chunk}
 use Rattle.std.proofs.lemmas.List.{length-map}
 use Rattle.std.proofs.lemmas.Simd.{length-put_chunk, put_chunk_is, take_more_put_chunk}
 use Rattle.std.proofs.Math.Nat.{suc-mul}
-use Rattle.liq_base.specs.Kinds.{channels_of}
 use Rattle.liq_base.specs.declared.memory.Kind.{Kind}
 use Rattle.liq_base.specs.declared.memory.Kind.TheVariants.{Mono, Stereo}
 use Rattle.cell_ring.specs.Rings.{inner_cell, inner_cells}
 use Rattle.cell_ring.proofs.Runs.{long_run}
 use borrow.Rule.Slice.PartMut.{put_mid}
-use Rattle.sample_kernels.specs.Encoded.{block_of, encoded}
 use Rattle.frame_core.specs.Frames.{laid_slots}
-use Rattle.stream_meaning.specs.Sinks.{slot_block}
+use Rattle.stream_meaning.specs.Sinks.{block_length, sample_block, slot_block}
 use Rattle.clock_outputs.specs.Filled.{Filled}
+use Rattle.clock_outputs.specs.Blocks.{sample_blocks}
 use Rattle.clock_outputs.specs.declared.port.Port.{Port}
 use Rattle.frame_core.specs.declared.cell.Cell.{Cell}
 use Rattle.clock_outputs.specs.Ports.{HasRoomLeft, after_slot, after_slots, with_bytes}
 
-block_long : (kind : Kind) (left right : ℤ) → length (block_of kind left right) ≡ 2 * channels_of kind
-block_long Mono left right = refl
-block_long Stereo left right = refl
+block_long : (wide : Bool) (kind : Kind) (left right : ℤ) → length (sample_block wide kind left right) ≡ block_length wide kind
+block_long true Mono left right = refl
+block_long true Stereo left right = refl
+block_long false Mono left right = refl
+block_long false Stereo left right = refl
 
-pub encoded_long : (kind : Kind) (left right : List ℤ) → length right ≡ length left → length (encoded kind left right) ≡ length left * (2 * channels_of kind)
-encoded_long kind [] right same = (let none : 0 ≡ 0 * (2 * channels_of kind) = omega arith in none)
-encoded_long kind (l ∷ left) [] same = absurd (omega (arith, same))
-encoded_long kind (l ∷ left) (r ∷ right) same =
-    let rest = encoded_long kind left right (omega (arith, same)) in
-    let one = block_long kind l r in
-    let both = length-append (block_of kind l r) (encoded kind left right) in
-    let more = suc-mul (length left) (2 * channels_of kind) in
+pub blocks_long : (wide : Bool) (kind : Kind) (left right : List ℤ) → length right ≡ length left → length (sample_blocks wide kind left right) ≡ length left * block_length wide kind
+blocks_long wide kind [] right same = (let none : 0 ≡ 0 * block_length wide kind = omega arith in none)
+blocks_long wide kind (l ∷ left) [] same = absurd (omega (arith, same))
+blocks_long wide kind (l ∷ left) (r ∷ right) same =
+    let rest = blocks_long wide kind left right (omega (arith, same)) in
+    let one = block_long wide kind l r in
+    let both = length-append (sample_block wide kind l r) (sample_blocks wide kind left right) in
+    let more = suc-mul (length left) (block_length wide kind) in
     omega (arith, rest, one, both, more)
 
 -- the blocks of slots without a cell are zeros
-pub zeros_are : (kind : Kind) (count : ℕ) → replicate (count * (2 * channels_of kind)) 0 ≡ flat_map (slot_block kind) (replicate count None)
-zeros_are Mono zero = refl
-zeros_are Stereo zero = refl
-zeros_are Mono (suc count) =
-    let more : suc count * 2 ≡ suc (suc (count * 2)) = omega arith in
-    ap (λ n. replicate n 0) more ∙ ap (λ (bytes : List ℕ). 0 ∷ 0 ∷ bytes) (zeros_are Mono count)
-zeros_are Stereo (suc count) =
-    let more : suc count * 4 ≡ suc (suc (suc (suc (count * 4)))) = omega arith in
-    ap (λ n. replicate n 0) more ∙ ap (λ (bytes : List ℕ). 0 ∷ 0 ∷ 0 ∷ 0 ∷ bytes) (zeros_are Stereo count)
+zeros_block : (wide : Bool) (kind : Kind) (bytes : List ℕ) → replicate (block_length wide kind) 0 ++ bytes ≡ slot_block wide kind None ++ bytes
+zeros_block true Mono bytes = refl
+zeros_block true Stereo bytes = refl
+zeros_block false Mono bytes = refl
+zeros_block false Stereo bytes = refl
+
+pub zeros_are : (wide : Bool) (kind : Kind) (count : ℕ) → replicate (count * block_length wide kind) 0 ≡ flat_map (slot_block wide kind) (replicate count None)
+zeros_are wide kind zero = (let none : 0 * block_length wide kind ≡ 0 = omega arith in ap (λ n. replicate n 0) none)
+zeros_are wide kind (suc count) =
+    ap (λ n. replicate n 0) (suc-mul count (block_length wide kind))
+    ∙ zeros_more (count * block_length wide kind) (block_length wide kind)
+    ∙ zeros_block wide kind (replicate (count * block_length wide kind) 0)
+    ∙ ap (λ bytes. slot_block wide kind None ++ bytes) (zeros_are wide kind count)
+  where
+    zeros_first : (n m : ℕ) → replicate (n + m) 0 ≡ replicate n 0 ++ replicate m 0
+    zeros_first zero m = (let same : 0 + m ≡ m = omega arith in ap (λ k. replicate k 0) same)
+    zeros_first (suc n) m =
+        let same : suc n + m ≡ suc (n + m) = omega arith in
+        ap (λ k. replicate k 0) same ∙ ap (λ (bytes : List ℕ). 0 ∷ bytes) (zeros_first n m)
+
+    zeros_more : (m n : ℕ) → replicate (m + n) 0 ≡ replicate n 0 ++ replicate m 0
+    zeros_more m n = (let same : m + n ≡ n + m = omega arith in ap (λ k. replicate k 0) same) ∙ zeros_first n m
 
 -- bytes, and room for so many
 abbrev pub filled_as : List ℕ → ℕ → Filled
@@ -60,43 +74,43 @@ more_filled items now more start end was is long fits view =
 -- room for a cell and so many slots more
 pub room_after : (port : Port) (cell : Cell) (slots : ℕ) → HasRoomLeft (suc slots) port → HasRoomLeft slots (after_slot port (Some cell))
 room_after port cell slots room =
-    let block = block_long port.kind cell.left cell.right in
-    let both = length-append port.piece.bytes (block_of port.kind cell.left cell.right) in
-    let more = suc-mul slots (2 * channels_of port.kind) in
+    let block = block_long port.wide port.kind cell.left cell.right in
+    let both = length-append port.piece.bytes (sample_block port.wide port.kind cell.left cell.right) in
+    let more = suc-mul slots (block_length port.wide port.kind) in
     omega (arith, block, both, more, room)
 
 -- an output after cells that begin no track
 pub after_cells : (port : Port) (title : ℕ) (left right : List ℤ) → length right ≡ length left
-    → with_bytes port (port.piece.bytes ++ encoded port.kind left right) port.gaps ≡ after_slots port (map Some (inner_cells title left right))
+    → with_bytes port (port.piece.bytes ++ sample_blocks port.wide port.kind left right) port.gaps ≡ after_slots port (map Some (inner_cells title left right))
 after_cells port title [] right same = ap (λ bytes. with_bytes port bytes port.gaps) (append-nil port.piece.bytes)
 after_cells port title (l ∷ left) [] same = absurd (omega (arith, same))
 after_cells port title (l ∷ left) (r ∷ right) same =
-    ap (λ bytes. with_bytes port bytes port.gaps) (sym (append_assoc port.piece.bytes (block_of port.kind l r) (encoded port.kind left right)))
+    ap (λ bytes. with_bytes port bytes port.gaps) (sym (append_assoc port.piece.bytes (sample_block port.wide port.kind l r) (sample_blocks port.wide port.kind left right)))
     ∙ after_cells (after_slot port (Some (inner_cell title l r))) title left right (omega (arith, same))
 
 -- an output after slots without a cell
 after_more : (port : Port) (count : ℕ) → port.gaps ≤ 2 ^ 64 - 1
-    → with_bytes port (port.piece.bytes ++ flat_map (slot_block port.kind) (replicate count None)) (min (port.gaps + count) (2 ^ 64 - 1)) ≡ after_slots port (replicate count None)
+    → with_bytes port (port.piece.bytes ++ flat_map (slot_block port.wide port.kind) (replicate count None)) (min (port.gaps + count) (2 ^ 64 - 1)) ≡ after_slots port (replicate count None)
 after_more port zero few =
     let same : min (port.gaps + 0) (2 ^ 64 - 1) ≡ port.gaps = omega (arith, few) in
     ap (λ bytes. with_bytes port bytes (min (port.gaps + 0) (2 ^ 64 - 1))) (append-nil port.piece.bytes) ∙ ap (λ n. with_bytes port port.piece.bytes n) same
 after_more port (suc count) few =
-    let blocks = flat_map (slot_block port.kind) (replicate count None) in
+    let blocks = flat_map (slot_block port.wide port.kind) (replicate count None) in
     let same : min (port.gaps + suc count) (2 ^ 64 - 1) ≡ min (min (port.gaps + 1) (2 ^ 64 - 1) + count) (2 ^ 64 - 1) = omega (arith, few) in
     let less : min (port.gaps + 1) (2 ^ 64 - 1) ≤ 2 ^ 64 - 1 = omega arith in
-    ap (λ bytes. with_bytes port bytes (min (port.gaps + suc count) (2 ^ 64 - 1))) (sym (append_assoc port.piece.bytes (slot_block port.kind None) blocks))
-    ∙ ap (λ n. with_bytes port ((port.piece.bytes ++ slot_block port.kind None) ++ blocks) n) same
+    ap (λ bytes. with_bytes port bytes (min (port.gaps + suc count) (2 ^ 64 - 1))) (sym (append_assoc port.piece.bytes (slot_block port.wide port.kind None) blocks))
+    ∙ ap (λ n. with_bytes port ((port.piece.bytes ++ slot_block port.wide port.kind None) ++ blocks) n) same
     ∙ after_more (after_slot port None) count less
 
 pub after_gaps : (port : Port) (count : ℕ) → 0 < count
-    → with_bytes port (port.piece.bytes ++ flat_map (slot_block port.kind) (replicate count None)) (min (port.gaps + count) (2 ^ 64 - 1)) ≡ after_slots port (replicate count None)
+    → with_bytes port (port.piece.bytes ++ flat_map (slot_block port.wide port.kind) (replicate count None)) (min (port.gaps + count) (2 ^ 64 - 1)) ≡ after_slots port (replicate count None)
 after_gaps port zero some = absurd (omega (arith, some))
 after_gaps port (suc count) some =
-    let blocks = flat_map (slot_block port.kind) (replicate count None) in
+    let blocks = flat_map (slot_block port.wide port.kind) (replicate count None) in
     let same : min (port.gaps + suc count) (2 ^ 64 - 1) ≡ min (min (port.gaps + 1) (2 ^ 64 - 1) + count) (2 ^ 64 - 1) = omega arith in
     let less : min (port.gaps + 1) (2 ^ 64 - 1) ≤ 2 ^ 64 - 1 = omega arith in
-    ap (λ bytes. with_bytes port bytes (min (port.gaps + suc count) (2 ^ 64 - 1))) (sym (append_assoc port.piece.bytes (slot_block port.kind None) blocks))
-    ∙ ap (λ n. with_bytes port ((port.piece.bytes ++ slot_block port.kind None) ++ blocks) n) same
+    ap (λ bytes. with_bytes port bytes (min (port.gaps + suc count) (2 ^ 64 - 1))) (sym (append_assoc port.piece.bytes (slot_block port.wide port.kind None) blocks))
+    ∙ ap (λ n. with_bytes port ((port.piece.bytes ++ slot_block port.wide port.kind None) ++ blocks) n) same
     ∙ after_more (after_slot port None) count less
 
 -- a run has as many slots as samples

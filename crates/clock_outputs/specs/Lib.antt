@@ -1,4 +1,5 @@
 pub mod Filled
+pub mod Blocks
 pub mod Ports
 pub mod Segments
 pub mod Feeds

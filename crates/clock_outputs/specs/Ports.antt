@@ -1,8 +1,7 @@
 -- What an output has heard of its node: the bytes of the tick so far, and the gaps since the beginning, with and without the tick.
 use Rattle.std.specs.Prelude.{ℕ, ◌+◌, ◌-◌, ◌*◌, ◌^◌, ◌≤◌, min, Some, None, List, [], ◌∷◌, ◌++◌, All, length}
-use Rattle.liq_base.specs.Kinds.{channels_of}
 use Rattle.frame_core.specs.Slots.{Slot}
-use Rattle.stream_meaning.specs.Sinks.{slot_block}
+use Rattle.stream_meaning.specs.Sinks.{block_length, slot_block}
 use Rattle.clock_outputs.specs.declared.port.Port.{Port}
 
 -- one gap more at a slot without a cell, as far as a u64 counts
@@ -16,6 +15,7 @@ with_bytes port bytes gaps = record {
   sink = port.sink;
   node = port.node;
   kind = port.kind;
+  wide = port.wide;
   piece = record { bytes = bytes; room = port.piece.room };
   gaps = gaps;
   gaps_before = port.gaps_before;
@@ -27,6 +27,7 @@ emptied port = record {
   sink = port.sink;
   node = port.node;
   kind = port.kind;
+  wide = port.wide;
   piece = record { bytes = []; room = port.piece.room };
   gaps = port.gaps;
   gaps_before = port.gaps;
@@ -34,7 +35,7 @@ emptied port = record {
 
 -- after one more slot of its node
 abbrev pub after_slot : Port → Slot → Port
-after_slot port slot = with_bytes port (port.piece.bytes ++ slot_block port.kind slot) (counted port.gaps slot)
+after_slot port slot = with_bytes port (port.piece.bytes ++ slot_block port.wide port.kind slot) (counted port.gaps slot)
 
 -- after these slots
 abbrev pub after_slots : Port → List Slot → Port
@@ -43,7 +44,7 @@ after_slots port (slot ∷ slots) = after_slots (after_slot port slot) slots
 
 -- there is room for the blocks of so many slots more
 abbrev pub HasRoomLeft : ℕ → Port → Type 0
-HasRoomLeft slots port = length port.piece.bytes + slots * (2 * channels_of port.kind) ≤ port.piece.room
+HasRoomLeft slots port = length port.piece.bytes + slots * block_length port.wide port.kind ≤ port.piece.room
 
 abbrev pub AllHaveRoomLeft : ℕ → List Port → Type 0
 AllHaveRoomLeft slots ports = All (λ port. HasRoomLeft slots port) ports

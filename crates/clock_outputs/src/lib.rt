@@ -8,5 +8,5 @@ mod port;
 
 pub use appends::append_all;
 pub use feed::{FeedPort, give_all};
-pub use piece::Piece;
+pub use piece::{Piece, block_size};
 pub use port::{Port, begin_tick};

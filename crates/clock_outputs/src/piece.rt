@@ -1,12 +1,11 @@
 // The bytes of an output in a tick.
 ghost use Rattle.std.specs.Prelude.{◌≡◌, ◌+◌, ◌*◌, ◌≤◌, ◌++◌, [], length, replicate, IfOk, None};
 ghost use Rattle.std.specs.List.{flat_map};
-ghost use Rattle.liq_base.specs.Kinds.{channels_of};
-ghost use Rattle.sample_kernels.specs.Encoded.{encoded};
-ghost use Rattle.stream_meaning.specs.Sinks.{slot_block};
+ghost use Rattle.stream_meaning.specs.Sinks.{block_length, slot_block};
+ghost use Rattle.clock_outputs.specs.Blocks.{sample_blocks};
 
 use liq_base::{Kind, Memory};
-use sample_kernels::encode;
+use sample_kernels::{encode, encode_wide};
 use std::alloc::Global;
 use std::marker::Model;
 
@@ -46,25 +45,25 @@ impl Piece {
         self.filled = 0;
     }
 
-    /// Adds the blocks of cells with these samples, in an output of this kind.
-    pub fn add_cells(&mut self, kind: Kind, left: &[i16], right: &[i16])
+    /// Adds the blocks of cells with these samples, in an output of this width and kind.
+    pub fn add_cells(&mut self, wide: bool, kind: Kind, left: &[i16], right: &[i16])
         requires same { length right.now ≡ length left.now }
-        requires room { length self.old.bytes + length left.now * (2 * channels_of kind) ≤ self.old.room }
-        ensures { self.new ≡ record { bytes = self.old.bytes ++ encoded kind left.now right.now; room = self.old.room } }
+        requires room { length self.old.bytes + length left.now * block_length wide kind ≤ self.old.room }
+        ensures { self.new ≡ record { bytes = self.old.bytes ++ sample_blocks wide kind left.now right.now; room = self.old.room } }
     {
         let start = self.filled;
-        let end = start + left.len() * block_size(kind);
-        encode(left, right, kind, &mut self.bytes[start..end]);
+        let end = start + left.len() * block_size(wide, kind);
+        lay_samples(wide, kind, left, right, &mut self.bytes[start..end]);
         self.filled = end;
     }
 
-    /// Adds the blocks of so many slots without a cell, which are zeros, in an output of this kind.
-    pub fn add_gaps(&mut self, kind: Kind, count: usize)
-        requires { length self.old.bytes + count * (2 * channels_of kind) ≤ self.old.room }
-        ensures { self.new ≡ record { bytes = self.old.bytes ++ flat_map (slot_block kind) (replicate count None); room = self.old.room } }
+    /// Adds the blocks of so many slots without a cell, which are zeros, in an output of this width and kind.
+    pub fn add_gaps(&mut self, wide: bool, kind: Kind, count: usize)
+        requires { length self.old.bytes + count * block_length wide kind ≤ self.old.room }
+        ensures { self.new ≡ record { bytes = self.old.bytes ++ flat_map (slot_block wide kind) (replicate count None); room = self.old.room } }
     {
         let start = self.filled;
-        let end = start + count * block_size(kind);
+        let end = start + count * block_size(wide, kind);
         self.bytes[start..end].fill(0);
         self.filled = end;
     }
@@ -77,9 +76,23 @@ impl Piece {
     }
 }
 
-// How many bytes the block of a slot has.
-fn block_size(kind: Kind) -> usize
-    ensures { result ≡ 2 * channels_of kind }
+/// How many bytes the block of a slot has, in an output of this width and kind.
+pub fn block_size(wide: bool, kind: Kind) -> usize
+    ensures { result ≡ block_length wide kind }
 {
-    2 * usize::from(kind.channels())
+    let channels = usize::from(kind.channels());
+    if wide { 3 * channels } else { 2 * channels }
+}
+
+// Writes the blocks of these samples, which fill the bytes.
+fn lay_samples(wide: bool, kind: Kind, left: &[i16], right: &[i16], into: &mut [u8])
+    requires same { length right.now ≡ length left.now }
+    requires room { length into.old ≡ length left.now * block_length wide kind }
+    ensures { into.new ≡ sample_blocks wide kind left.now right.now }
+{
+    if wide {
+        encode_wide(left, right, kind, into);
+    } else {
+        encode(left, right, kind, into);
+    }
 }

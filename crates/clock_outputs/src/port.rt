@@ -14,6 +14,9 @@ pub struct Port {
     pub sink: u32,
     pub node: u32,
     pub kind: Kind,
+
+    /// Whether its samples have three bytes, and not two.
+    pub wide: bool,
     pub piece: Piece,
 
     /// At how many instants its node offered nothing, those of the tick so far among them.
@@ -54,7 +57,7 @@ impl Port {
         requires room { HasRoomLeft (length left.now) self.old }
         ensures { (title : ℕ) → self.new ≡ after_slots self.old (map Some (inner_cells title left.now right.now)) }
     {
-        self.piece.add_cells(self.kind, left, right);
+        self.piece.add_cells(self.wide, self.kind, left, right);
     }
 
     // Takes so many slots without a cell, at least one.
@@ -63,7 +66,7 @@ impl Port {
         requires room { HasRoomLeft count self.old }
         ensures { self.new ≡ after_slots self.old (replicate count None) }
     {
-        self.piece.add_gaps(self.kind, count);
+        self.piece.add_gaps(self.wide, self.kind, count);
         self.gaps = self.gaps.saturating_add(count as u64);
     }
 }

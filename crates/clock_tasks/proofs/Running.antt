@@ -53,9 +53,9 @@ part_moved setting other m k held t history first e same clock part = (
     halted = part.halted;
     accepted = part.accepted;
     begun = subst (λ (z : Setting × ℕ). (rest : ℕ → List Answer) → IsBegin part.made (calls_of_tick (with_rest z.0 (after_calls (answers_by history t) part.made) rest) part.accepted z.1 t)) (λ i. (same i, clock i)) part.begun;
-    part = subst (λ (z : Setting × ℕ). (rest : ℕ → List Answer) (sink node : ℕ) → IsOutput z.0 z.1 sink node → (front : List ℕ)
-        × IsPrefix (ticks_bytes (with_rest z.0 (after_calls (answers_by history t) part.made) rest) node t) front
-        × IsPrefix front (ticks_bytes (with_rest z.0 (after_calls (answers_by history t) part.made) rest) node (suc t)) × (held e sink ≡ grown front (first sink))) (λ i. (same i, clock i)) part.part;
+    part = subst (λ (z : Setting × ℕ). (rest : ℕ → List Answer) (sink node : ℕ) (output : IsOutput z.0 z.1 sink node) → (front : List ℕ)
+        × IsPrefix (ticks_bytes (with_rest z.0 (after_calls (answers_by history t) part.made) rest) output.wide node t) front
+        × IsPrefix front (ticks_bytes (with_rest z.0 (after_calls (answers_by history t) part.made) rest) output.wide node (suc t)) × (held e sink ≡ grown front (first sink))) (λ i. (same i, clock i)) part.part;
   },
   refl,
 )
@@ -165,11 +165,11 @@ module _ {S : Type 0} (room : S → Option ℕ) (parts : EngineParts) (outs : Li
   pub rooms_fewer : (m n : ℕ) → m ≤ n → HaveTicksRoom room parts outs n → HaveTicksRoom room parts outs m
   rooms_fewer m n h r = record {
     each = λ k sink node out p o left e. (let most = r.each k sink node out p o left e in
-        let less : m * piece_size (setting_of parts) node ≤ n * piece_size (setting_of parts) node = mul-le-mul_right (piece_size (setting_of parts) node) h in omega (arith, most, less));
+        let less : m * piece_size (setting_of parts) sink node ≤ n * piece_size (setting_of parts) sink node = mul-le-mul_right (piece_size (setting_of parts) sink node) h in omega (arith, most, less));
   }
 
   pub room_one : HaveTicksRoom room parts outs 1 → HaveTickRoom room parts outs
   room_one r = record {
     each = λ k sink node out p o left e. (let most = r.each k sink node out p o left e in
-        let one : 1 * piece_size (setting_of parts) node ≡ piece_size (setting_of parts) node = grind arith in omega (arith, most, one));
+        let one : 1 * piece_size (setting_of parts) sink node ≡ piece_size (setting_of parts) sink node = grind arith in omega (arith, most, one));
   }

@@ -98,10 +98,10 @@ module _ {E : Type 0} (setting : Setting) (stands : E → ℕ → (ℕ → List 
           holds = λ rest sink node output.
               let all : Setting = with_rest setting (answers_by h' (suc t)) rest in
               let same : all ≡ with_rest setting (after_calls (answers_by h t) more) rest = ap (λ (A : ℕ → List Answer). with_rest setting A rest) now in
-              let old : held e sink ≡ grown (ticks_bytes all node t) (first sink) =
-              gone.holds (behind (answers_by h t) more rest) sink node output ∙ ap (λ (s : Setting). grown (ticks_bytes s node t) (first sink)) (later setting (answers_by h t) more rest ∙ sym same) in
-              let new : held e' sink ≡ grown (tick_bytes all node t) (held e sink) = ticked.grew rest sink node output ∙ ap (λ (s : Setting). grown (tick_bytes s node t) (held e sink)) (sym same) in
-              new ∙ ap (λ o. grown (tick_bytes all node t) o) old ∙ grown_twice (ticks_bytes all node t) (tick_bytes all node t) (first sink);
+              let old : held e sink ≡ grown (ticks_bytes all output.wide node t) (first sink) =
+              gone.holds (behind (answers_by h t) more rest) sink node output ∙ ap (λ (s : Setting). grown (ticks_bytes s output.wide node t) (first sink)) (later setting (answers_by h t) more rest ∙ sym same) in
+              let new : held e' sink ≡ grown (tick_bytes all output.wide node t) (held e sink) = ticked.grew rest sink node output ∙ ap (λ (s : Setting). grown (tick_bytes s output.wide node t) (held e sink)) (sym same) in
+              new ∙ ap (λ o. grown (tick_bytes all output.wide node t) o) old ∙ grown_twice (ticks_bytes all output.wide node t) (tick_bytes all output.wide node t) (first sink);
         }
 
     pub gone_part : (halts : E → ℕ → (ℕ → List Answer) → List Call → Type 0) (made : List Call) (broke : HasStopped setting m t (answers_by h t) made (held e) (held e')) → halts e' t (answers_by h t) made
@@ -116,12 +116,12 @@ module _ {E : Type 0} (setting : Setting) (stands : E → ℕ → (ℕ → List 
         part = λ rest sink node output.
             let all : Setting = with_rest setting (after_calls (answers_by h t) made) rest in
             let p = broke.part rest sink node output in
-            let old : held e sink ≡ grown (ticks_bytes all node t) (first sink) =
-            gone.holds (behind (answers_by h t) made rest) sink node output ∙ ap (λ (s : Setting). grown (ticks_bytes s node t) (first sink)) (later setting (answers_by h t) made rest) in (
-              ticks_bytes all node t ++ p.0,
+            let old : held e sink ≡ grown (ticks_bytes all output.wide node t) (first sink) =
+            gone.holds (behind (answers_by h t) made rest) sink node output ∙ ap (λ (s : Setting). grown (ticks_bytes s output.wide node t) (first sink)) (later setting (answers_by h t) made rest) in (
+              ticks_bytes all output.wide node t ++ p.0,
               record { rest = p.0; whole_is = refl },
-              record { rest = p.1.rest; whole_is = ap (λ l. ticks_bytes all node t ++ l) p.1.whole_is ∙ sym (append_assoc (ticks_bytes all node t) p.0 p.1.rest) },
-              p.2 ∙ ap (λ o. grown p.0 o) old ∙ grown_twice (ticks_bytes all node t) p.0 (first sink),
+              record { rest = p.1.rest; whole_is = ap (λ l. ticks_bytes all output.wide node t ++ l) p.1.whole_is ∙ sym (append_assoc (ticks_bytes all output.wide node t) p.0 p.1.rest) },
+              p.2 ∙ ap (λ o. grown p.0 o) old ∙ grown_twice (ticks_bytes all output.wide node t) p.0 (first sink),
             );
       },
       refl,

@@ -173,9 +173,9 @@ module _ {S R : Type 0} (held name : S → Option (List ℕ)) (room : S → Opti
           rest = st.1;
           stands = st.2;
           are = ap (answered setting) (st.3 ∙ sym answers_are);
-          bytes = λ sink node out.
-              done_bytes held name room faults wires W N joined now logs d done setting map_of fresh.engines_are.is fresh.wires_are long inside (shared d) places_joined k h sink node out
-              ∙ ap (λ (A : ℕ → List (Option (List Cell))). grown (ticks_bytes (answered setting A) node N) (held_of held (slice_index_or joined k d).engine sink)) (sym answers_are);
+          bytes = λ sink node output.
+              done_bytes held name room faults wires W N joined now logs d done setting map_of fresh.engines_are.is fresh.wires_are long inside (shared d) places_joined k h sink node output
+              ∙ ap (λ (A : ℕ → List (Option (List Cell))). grown (ticks_bytes (answered setting A) output.wide node N) (held_of held (slice_index_or joined k d).engine sink)) (sym answers_are);
         }
 
     tasks_run : HasRunTasks held name faults wires setting map_of W N (map engine_of bare) now logs

@@ -49,7 +49,7 @@ pub record HasMadeAll {S : Type 0} (held name : S → Option (List ℕ)) (faults
   pub rest : ℕ → List Answer
   pub stands : EngineStands new.parts N answers
   pub are : with_rest setting answers rest ≡ setting_in setting run
-  pub bytes : (sink node : ℕ) → IsOutput setting k sink node → held_of held new sink ≡ grown (ticks_bytes (setting_in setting run) node N) (held_of held old sink)
+  pub bytes : (sink node : ℕ) (output : IsOutput setting k sink node) → held_of held new sink ≡ grown (ticks_bytes (setting_in setting run) output.wide node N) (held_of held old sink)
 
 -- All engines have made their ticks, in windows of W, and this is the record of their calls: it is lawful.
 pub record HasRun {S : Type 0} (held name : S → Option (List ℕ)) (faults : S → ℕ) (setting : Setting) (clocks : ClockMap) (W N : ℕ) (run : Run) (old new : List (ClockEngine S)) : Type 0 where
@@ -77,10 +77,10 @@ pub record HasMadePart {S : Type 0} (held name : S → Option (List ℕ)) (fault
   pub answers : ℕ → List Answer
   pub given : (rest : ℕ → List Answer) → (more : ℕ → List Answer) × (with_rest setting answers more ≡ setting_then setting run rest)
   pub stands : StandsOrStopped new made tried answers
-  pub part : (rest : ℕ → List Answer) (sink node : ℕ) → IsOutput setting k sink node
+  pub part : (rest : ℕ → List Answer) (sink node : ℕ) (output : IsOutput setting k sink node)
       → (bytes : List ℕ)
-      × IsPrefix (ticks_bytes (setting_then setting run rest) node made) bytes
-      × IsPrefix bytes (ticks_bytes (setting_then setting run rest) node tried)
+      × IsPrefix (ticks_bytes (setting_then setting run rest) output.wide node made) bytes
+      × IsPrefix bytes (ticks_bytes (setting_then setting run rest) output.wide node tried)
       × (held_of held new sink ≡ grown bytes (held_of held old sink))
 
 -- The end names an output of this clock, the lowest that stopped, and the count of faults of its sink rose.

@@ -54,9 +54,9 @@ pub record Came (setting : Setting) (m s e : ℕ) (history : History) (ticks tri
   pub inside : ((tried ≡ ticks) × (made ≡ [])) ⊎ (tried ≡ suc ticks)
   pub ticks_are : AreTicks setting m ticks history
   pub begun : (rest : Answers) → IsBegin made (calls_of_tick (with_rest setting (after_calls (answers_by history ticks) made) rest) accepted m ticks)
-  pub front : (rest : Answers) (sink node : ℕ) → IsOutput setting m sink node
-      → (bytes : List ℕ) × IsPrefix (ticks_bytes (with_rest setting (after_calls (answers_by history ticks) made) rest) node ticks) bytes
-      × IsPrefix bytes (ticks_bytes (with_rest setting (after_calls (answers_by history ticks) made) rest) node tried) × (new sink ≡ grown bytes (old sink))
+  pub front : (rest : Answers) (sink node : ℕ) (output : IsOutput setting m sink node)
+      → (bytes : List ℕ) × IsPrefix (ticks_bytes (with_rest setting (after_calls (answers_by history ticks) made) rest) output.wide node ticks) bytes
+      × IsPrefix bytes (ticks_bytes (with_rest setting (after_calls (answers_by history ticks) made) rest) output.wide node tried) × (new sink ≡ grown bytes (old sink))
 
 -- what a clock called since the last border; one that does not run called nothing
 pub record Reach (setting : Setting) (running m s e : ℕ) (history : History) (Stands : (made tried : ℕ) → Answers → Type 0) (old new : ℕ → Option (List ℕ)) : Type 0 where
@@ -231,11 +231,11 @@ module _ (setting : Setting) (map : ClockMap) (is : IsSetting setting map) (wire
     since_begins rest = begins_by rest came.inside
 
     -- each output of the clock has grown by its bytes of the ticks that were made, and by a front of those that were tried
-    pub fronts : (rest : Answers) (sink node : ℕ) → IsOutput setting m sink node
-        → (bytes : List ℕ) × IsPrefix (ticks_bytes (world rest) node (ticks m)) bytes × IsPrefix bytes (ticks_bytes (world rest) node (tried m)) × (new m sink ≡ grown bytes (old m sink))
-    fronts rest sink node out =
-        let f = came.front (whole_later rest) sink node out in
-        (f.0, subst (λ (w : Setting). IsPrefix (ticks_bytes w node (ticks m)) f.0) (whole_world rest) f.1, subst (λ (w : Setting). IsPrefix f.0 (ticks_bytes w node (tried m))) (whole_world rest) f.2, f.3)
+    pub fronts : (rest : Answers) (sink node : ℕ) (output : IsOutput setting m sink node)
+        → (bytes : List ℕ) × IsPrefix (ticks_bytes (world rest) output.wide node (ticks m)) bytes × IsPrefix bytes (ticks_bytes (world rest) output.wide node (tried m)) × (new m sink ≡ grown bytes (old m sink))
+    fronts rest sink node output =
+        let f = came.front (whole_later rest) sink node output in
+        (f.0, subst (λ (w : Setting). IsPrefix (ticks_bytes w output.wide node (ticks m)) f.0) (whole_world rest) f.1, subst (λ (w : Setting). IsPrefix f.0 (ticks_bytes w output.wide node (tried m))) (whole_world rest) f.2, f.3)
 
     -- it stands for the answers of the run that it got
     pub stood : Stands m (ticks m) (tried m) (answers_by (hs m) (ticks m))

@@ -9,6 +9,7 @@ use Rattle.stream_meaning.specs.Instants.{Setting, answered}
 use Rattle.stream_meaning.specs.Sinks.{ticks_bytes}
 use Rattle.stream_meaning.specs.Calls.{joined_upto}
 use Rattle.node_states.specs.Ticks.{IsOutput}
+use Rattle.node_states.proofs.Outputs.{output_moved}
 use Rattle.clock_engine.specs.Engines.{EngineStands, setting_of, held_of}
 use Rattle.clock_engine.specs.declared.engine.ClockEngine.{ClockEngine}
 use Rattle.clock_tasks.specs.declared.task.Task.{Task}
@@ -63,18 +64,18 @@ module _ {S R : Type 0} (held name : S → Option (List ℕ)) (room : S → Opti
   done_wired = is_lawful (meant setting) wires (length first) own W N done.windows done.all hs done.tight some places ticks (λ b less apart. (let g = done.going.joins b less apart in (g.chunks, g.run))) local
 
   -- what an output of clock k holds is what its source means, given what the takes of the record got
-  pub done_bytes : (k : ℕ) → k < length first → (sink node : ℕ) → IsOutput setting k sink node
+  pub done_bytes : (k : ℕ) → k < length first → (sink node : ℕ) (output : IsOutput setting k sink node)
       → held_of held (engine_of k) sink
-      ≡ grown (ticks_bytes (answered setting (answers_of done_windows)) node N) (held_of held (slice_index_or first k d).engine sink)
-  done_bytes k h sink node out =
+      ≡ grown (ticks_bytes (answered setting (answers_of done_windows)) output.wide node N) (held_of held (slice_index_or first k d).engine sink)
+  done_bytes k h sink node output =
       let most : N ≤ N = omega arith in
       let a = answers_whole (meant setting) wires (length first) own W N done.windows done.all hs k h (ticks k h) N most in
       let rest : Answers = λ b. (rests (meant setting) wires (length first) own W N done.windows done.all hs k h (ticks k h) N most b).0 in
       let there : IsOutput (setting_of (engine_of k).parts) (engine_of k).parts.clock sink node =
-      subst (λ (z : Setting × ℕ). IsOutput z.0 z.1 sink node) (λ j. (sym (setting_is k h) j, sym (clock_is k h) j)) out in
+      output_moved setting (setting_of (engine_of k).parts) k (engine_of k).parts.clock sink node (sym (setting_is k h)) (sym (clock_is k h)) output in
       (done.going.clocks k h).gone.holds rest sink node there
-      ∙ (λ j. grown (ticks_bytes (answered (setting_is k h j) (and_rest (got_same (hs k) (done.all j) j) rest)) node (done.all j)) (held_of held (slice_index_or first k d).engine sink))
-      ∙ ap (λ (A : Answers). grown (ticks_bytes (answered setting A) node N) (held_of held (slice_index_or first k d).engine sink)) a
+      ∙ (λ j. grown (ticks_bytes (answered (setting_is k h j) (and_rest (got_same (hs k) (done.all j) j) rest)) output.wide node (done.all j)) (held_of held (slice_index_or first k d).engine sink))
+      ∙ ap (λ (A : Answers). grown (ticks_bytes (answered setting A) output.wide node N) (held_of held (slice_index_or first k d).engine sink)) a
 
   -- an engine stands for all its ticks, and for what the takes of the record got of the buffers that it reads
   pub done_stands : (k : ℕ) → k < length first → (answers : Answers) × (rest : Answers) × EngineStands (engine_of k).parts N answers × (and_rest answers rest ≡ answers_of done_windows)

@@ -38,14 +38,14 @@ module _ {S : Type 0} (held : S → Option (List ℕ)) (setting : Setting) (m s 
     inside = inl (refl, refl);
     ticks_are = gone.ticks;
     begun = λ rest. begin_none (calls_of_tick (with_rest setting (after_calls (answers_by history t) []) rest) (λ b. true) m t);
-    front = λ rest sink node out.
+    front = λ rest sink node output.
         let same : with_rest setting (answers_by history t) rest ≡ with_rest setting (after_calls (answers_by history t) []) rest =
         ap (λ (A : Answers). with_rest setting A rest) (fun_ext (λ b. sym (append-nil (answers_by history t b)))) in
         let world = with_rest setting (answers_by history t) rest in (
-          ticks_bytes world node t,
-          subst (λ (w : Setting). IsPrefix (ticks_bytes w node t) (ticks_bytes world node t)) same (itself (ticks_bytes world node t)),
-          subst (λ (w : Setting). IsPrefix (ticks_bytes world node t) (ticks_bytes w node t)) same (itself (ticks_bytes world node t)),
-          gone.holds rest sink node out,
+          ticks_bytes world output.wide node t,
+          subst (λ (w : Setting). IsPrefix (ticks_bytes w output.wide node t) (ticks_bytes world output.wide node t)) same (itself (ticks_bytes world output.wide node t)),
+          subst (λ (w : Setting). IsPrefix (ticks_bytes world output.wide node t) (ticks_bytes w output.wide node t)) same (itself (ticks_bytes world output.wide node t)),
+          gone.holds rest sink node output,
         );
   }
 
@@ -199,8 +199,8 @@ module _ {S R : Type 0} (held name : S → Option (List ℕ)) (faults : S → �
       (r.0, subst (λ (z : List Call). Follows (wire_at wires b).capacity [] (on b (joined_upto (part.histories k).calls s ++ z)) r.0) (since_are k (places b low).0) r.1)))
 
   -- what each output holds
-  pub part_fronts : (k : ℕ) → k < length first → (rest : Answers) (sink node : ℕ) → IsOutput setting k sink node
-      → (front : List ℕ) × IsPrefix (ticks_bytes (setting_then setting part_run rest) node (reach k).ticks) front × IsPrefix front (ticks_bytes (setting_then setting part_run rest) node (reach k).tried)
+  pub part_fronts : (k : ℕ) → k < length first → (rest : Answers) (sink node : ℕ) (output : IsOutput setting k sink node)
+      → (front : List ℕ) × IsPrefix (ticks_bytes (setting_then setting part_run rest) output.wide node (reach k).ticks) front × IsPrefix front (ticks_bytes (setting_then setting part_run rest) output.wide node (reach k).tried)
       × (held_of held (slice_index_or now k d).engine sink ≡ grown front (held_of held (slice_index_or first k d).engine sink))
   part_fronts k low rest sink node out = fronts setting map is wires are W N part.closed part.histories Stands old new reach k (omega (arith, low, all_run)) rest sink node out
 

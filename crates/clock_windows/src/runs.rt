@@ -39,7 +39,16 @@ fn stopped_in<O, R>(tasks: &[Task<'_, O, ThreadTaps<'_, R>>]) -> Option<End>
     None
 }
 
-/// All clocks make so many ticks, in windows of so many.
+// Tells the gate which clocks a buffer joins.
+fn tell_joins<G: Gate>(wires: &[Wire], gate: &G) {
+    for wire in wires {
+        if wire.from != wire.to {
+            gate.join(wire.from, wire.to);
+        }
+    }
+}
+
+/// All clocks make so many ticks, in windows of so many. The gate is told first which clocks a buffer joins.
 pub fn run_windows<O: Sink + Send, G: Gate + Sync, R: Threads + Wait + Sync>(
     rt: &R,
     alloc: Global,
@@ -57,6 +66,7 @@ pub fn run_windows<O: Sink + Send, G: Gate + Sync, R: Threads + Wait + Sync>(
     ensures part { RunPart O.held O.name O.faults wires.now window ticks tasks.old tasks.new }
     ensures write { (clock sink : ℕ) → result ≡ Write clock sink → IsWriteAt O.faults clock sink tasks.old tasks.new }
 {
+    tell_joins(wires, gate);
     let mut made = 0;
     while made < ticks {
         let count = window.min(ticks - made);

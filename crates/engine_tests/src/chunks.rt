@@ -10,6 +10,7 @@ pub fn numbered(alloc: Global, number: i16) -> Result<Option<Chunk>, Memory> {
         left: number,
         right: 0,
         first: false,
+        title: 0,
     };
     frame.set(0, Some(cell));
     Chunk::from_frame(alloc, &frame)

@@ -10,12 +10,14 @@ const LOUD: Cell = Cell {
     left: -7,
     right: 9,
     first: true,
+    title: 2,
 };
 
 const SOFT: Cell = Cell {
     left: 1,
     right: 0,
     first: false,
+    title: 1,
 };
 
 // Sets three slots, and takes the middle one back.

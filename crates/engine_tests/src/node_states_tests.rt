@@ -51,6 +51,7 @@ fn zero(first: bool) -> Option<Cell> {
         left: 0,
         right: 0,
         first,
+        title: 0,
     })
 }
 
@@ -105,7 +106,7 @@ fn no_files(alloc: Global) -> Result<Library, AllocError>
     ensures leaves { IfOk result (λ library. length library.leaves ≡ 2) }
 {
     let leaves = Vec::from_array(alloc, [Vec::new(alloc), Vec::new(alloc)])?;
-    Ok(Library::new(Vec::new(alloc), leaves))
+    Ok(Library::new(Vec::new(alloc), Vec::new(alloc), leaves))
 }
 
 // A sample of a mono source.
@@ -114,6 +115,7 @@ fn sample(left: i16, first: bool) -> Option<Cell> {
         left,
         right: 0,
         first,
+        title: 0,
     })
 }
 

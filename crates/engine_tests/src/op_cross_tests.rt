@@ -8,24 +8,25 @@ use std::alloc::Global;
 use std::process::Abort;
 use std::test::Fail;
 
-// The slot of a sample, which begins a track or does not.
-fn slot(sample: i16, first: bool) -> Option<Cell> {
+// The slot of a sample of this title, which begins a track or does not.
+fn slot(sample: i16, title: u32, first: bool) -> Option<Cell> {
     Some(Cell {
         left: sample,
         right: sample,
         first,
+        title,
     })
 }
 
-// A crossfade over a source that gives these slots, again and again or once, gives items with these left samples, 0 where
-// one is empty.
+// A crossfade over a source that gives these slots, again and again or once, gives items with these left samples and titles,
+// both 0 where one is empty.
 fn check(
     rt: &impl Abort,
     alloc: Global,
     overlap: u32,
     slots: &[Option<Cell>],
     again: bool,
-    items: &[i16],
+    items: &[(i16, u32)],
 ) -> Result<(), Memory>
     requires { (0 < overlap) × (overlap ≤ 4194304) }
 {
@@ -42,7 +43,7 @@ fn check(
             }
         }
         let item = state.offer();
-        assert_eq!(rt; item.map_or(0, |cell| cell.left), *want);
+        assert_eq!(rt; item.map_or((0, 0), |cell| (cell.left, cell.title)), *want);
         state.advance(item.is_some());
     }
     Ok(())
@@ -50,11 +51,29 @@ fn check(
 
 #[test]
 fn overlaps_are_as_long_as_their_tracks(rt: HostRuntime) -> Result<(), Fail> {
-    let mut slots = [slot(0, false); 11];
-    slots[..6].fill(slot(80, false));
-    slots[0] = slot(80, true);
-    slots[6] = slot(0, true);
-    let items = [80, 80, 80, 60, 40, 20, 0, 80, 80, 60, 40, 20, 0, 80, 80, 60];
+    let mut slots = [slot(0, 2, false); 11];
+    slots[..6].fill(slot(80, 1, false));
+    slots[0] = slot(80, 1, true);
+    slots[6] = slot(0, 2, true);
+    // What is mixed has the title of the track that comes.
+    let items = [
+        (80, 1),
+        (80, 1),
+        (80, 2),
+        (60, 2),
+        (40, 2),
+        (20, 2),
+        (0, 1),
+        (80, 1),
+        (80, 2),
+        (60, 2),
+        (40, 2),
+        (20, 2),
+        (0, 1),
+        (80, 1),
+        (80, 2),
+        (60, 2),
+    ];
     check(&rt, rt.alloc(), 4, &slots, true, &items)?;
     Ok(())
 }
@@ -62,12 +81,13 @@ fn overlaps_are_as_long_as_their_tracks(rt: HostRuntime) -> Result<(), Fail> {
 #[test]
 fn an_overlap_of_one_keeps_every_other_sample(rt: HostRuntime) -> Result<(), Fail> {
     let slots = [
-        slot(10, true),
-        slot(20, false),
-        slot(30, false),
-        slot(1, true),
-        slot(2, false),
+        slot(10, 1, true),
+        slot(20, 1, false),
+        slot(30, 1, false),
+        slot(1, 2, true),
+        slot(2, 2, false),
     ];
-    check(&rt, rt.alloc(), 1, &slots, false, &[10, 20, 30, 2, 0, 0])?;
+    let items = [(10, 1), (20, 1), (30, 2), (2, 2), (0, 0), (0, 0)];
+    check(&rt, rt.alloc(), 1, &slots, false, &items)?;
     Ok(())
 }

@@ -15,6 +15,7 @@ fn offered(left: i16) -> Option<Cell> {
         left,
         right: 0,
         first,
+        title: 0,
     })
 }
 

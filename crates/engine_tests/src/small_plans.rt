@@ -1,10 +1,10 @@
 //! Nodes and outputs of small plans, and the clocks of their nodes.
-ghost use Rattle.std.specs.Prelude.{◌≡◌, [], Some, slice_get, false, true};
+ghost use Rattle.std.specs.Prelude.{◌≡◌, [], Some, IfOk, length, slice_get, false, true};
 
 use clock_infer::{ClockMap, NodeClock};
 use liq_base::{Kind, Text};
 use plan_core::{Items, Node, Op, SinkPlan};
-use std::alloc::Global;
+use std::alloc::{AllocError, Global};
 
 /// A mono node.
 pub(crate) fn mono(op: Op, children: Vec<u32>) -> Node
@@ -19,7 +19,7 @@ pub(crate) fn mono(op: Op, children: Vec<u32>) -> Node
     }
 }
 
-/// An output of this node, without a name.
+/// An output of this node, without a name, in two bytes a sample.
 pub(crate) fn output(alloc: Global, node: u32) -> SinkPlan
     ensures { result ≡ SinkPlan.Output [] node false false }
 {
@@ -29,6 +29,14 @@ pub(crate) fn output(alloc: Global, node: u32) -> SinkPlan
         fallible: false,
         wide: false,
     }
+}
+
+/// The name of one file, which is empty.
+pub(crate) fn one_name(alloc: Global) -> Result<Vec<Text>, AllocError>
+    ensures { IfOk result (λ names. length names.items ≡ 1) }
+{
+    let name = Text::from_string(String::new(alloc));
+    Vec::from_array(alloc, [name])
 }
 
 // Whether this is the main clock of this number.

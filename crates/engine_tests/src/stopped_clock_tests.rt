@@ -9,7 +9,7 @@ ghost use Rattle.clock_engine.specs.Engines.{outputs_of};
 ghost use Rattle.clock_threads.specs.Runs.{AreEngines, IsFresh};
 ghost use Rattle.engine_tests.specs.Joined.{joined_nodes, joined_sinks, no_room, setting_over};
 
-use crate::small_plans::{lies_in, mono, output};
+use crate::small_plans::{lies_in, mono, one_name, output};
 use buffer_ends::End;
 use clock_engine::ClockEngine;
 use clock_infer::{ClockMap, assign};
@@ -88,7 +88,8 @@ fn one_of_five(alloc: Global) -> Result<Library, AllocError>
         Vec::new(alloc),
     ];
     let leaves = Vec::from_array(alloc, rest)?;
-    Ok(Library::new(Vec::from_array(alloc, [file])?, leaves))
+    let files = Vec::from_array(alloc, [file])?;
+    Ok(Library::new(files, one_name(alloc)?, leaves))
 }
 
 const HEADER: &[u8] = b"head";

@@ -8,7 +8,7 @@ ghost use Rattle.clock_infer.specs.declared.clock_map.NodeClock.TheVariants.{Mai
 ghost use Rattle.frame_core.specs.Library.{IsLibrary};
 ghost use Rattle.clock_engine.specs.Engines.{setting_of};
 
-use crate::small_plans::{lies_in, mono, output};
+use crate::small_plans::{lies_in, mono, one_name, output};
 use buffer_ends::LocalTaps;
 use clock_engine::{ClockEngine, TickFault};
 use clock_infer::{ClockMap, assign};
@@ -91,7 +91,8 @@ fn one_file(alloc: Global) -> Result<Library, AllocError>
 {
     let file = Track::new(Kind::Mono, Vec::from_slice(alloc, &[1, 2, 3])?);
     let leaves = Vec::from_array(alloc, [Vec::from_slice(alloc, &[0])?])?;
-    Ok(Library::new(Vec::from_array(alloc, [file])?, leaves))
+    let files = Vec::from_array(alloc, [file])?;
+    Ok(Library::new(files, one_name(alloc)?, leaves))
 }
 
 // The file, which the first of three nodes plays.
@@ -102,7 +103,8 @@ fn one_of_three(alloc: Global) -> Result<Library, AllocError>
     let file = Track::new(Kind::Mono, Vec::from_slice(alloc, &[1, 2, 3])?);
     let first = Vec::from_slice(alloc, &[0])?;
     let leaves = Vec::from_array(alloc, [first, Vec::new(alloc), Vec::new(alloc)])?;
-    Ok(Library::new(Vec::from_array(alloc, [file])?, leaves))
+    let files = Vec::from_array(alloc, [file])?;
+    Ok(Library::new(files, one_name(alloc)?, leaves))
 }
 
 // The file, which the first of four nodes plays.
@@ -114,7 +116,8 @@ fn one_of_four(alloc: Global) -> Result<Library, AllocError>
     let first = Vec::from_slice(alloc, &[0])?;
     let rest = [first, Vec::new(alloc), Vec::new(alloc), Vec::new(alloc)];
     let leaves = Vec::from_array(alloc, rest)?;
-    Ok(Library::new(Vec::from_array(alloc, [file])?, leaves))
+    let files = Vec::from_array(alloc, [file])?;
+    Ok(Library::new(files, one_name(alloc)?, leaves))
 }
 
 // A sink with ample room that fails so.

@@ -11,3 +11,4 @@ pub mod Ahead
 pub mod Hearing
 mod Ran
 mod Through
+pub mod Outputs

@@ -35,18 +35,18 @@ pub record HasTicked (stands : ℕ → (ℕ → List Answer) → Type 0) (settin
   pub are : (rest : ℕ → List Answer) → more ≡ calls_of_tick (with_rest setting (after_calls answers more) rest) accepted m t
   pub stand : stands (suc t) (after_calls answers more)
   -- each output has grown by its bytes of the tick
-  pub grew : (rest : ℕ → List Answer) (sink node : ℕ) → IsOutput setting m sink node
-      → now sink ≡ grown (tick_bytes (with_rest setting (after_calls answers more) rest) node t) (held sink)
+  pub grew : (rest : ℕ → List Answer) (sink node : ℕ) (output : IsOutput setting m sink node)
+      → now sink ≡ grown (tick_bytes (with_rest setting (after_calls answers more) rest) output.wide node t) (held sink)
 
 -- after a fault in tick t, before which these calls were made: they are the first ones of the tick's
 pub record HasStopped (setting : Setting) (m t : ℕ) (answers : ℕ → List Answer) (made : List Call) (held now : ℕ → Option (List ℕ)) : Type 0 where
   pub accepted : ℕ → Bool
   pub begun : (rest : ℕ → List Answer) → IsBegin made (calls_of_tick (with_rest setting (after_calls answers made) rest) accepted m t)
   -- each output has grown by a part of its bytes, from the first on
-  pub part : (rest : ℕ → List Answer) (sink node : ℕ) → IsOutput setting m sink node
-      → (bytes : List ℕ) × IsPrefix bytes (tick_bytes (with_rest setting (after_calls answers made) rest) node t) × (now sink ≡ grown bytes (held sink))
+  pub part : (rest : ℕ → List Answer) (sink node : ℕ) (output : IsOutput setting m sink node)
+      → (bytes : List ℕ) × IsPrefix bytes (tick_bytes (with_rest setting (after_calls answers made) rest) output.wide node t) × (now sink ≡ grown bytes (held sink))
 
 -- each output of main clock m has grown by the bytes of so many ticks, whatever answers follow these
 pub record HoldTicks (setting : Setting) (m ticks : ℕ) (answers : ℕ → List Answer) (first now : ℕ → Option (List ℕ)) : Type 0 where
-  pub each : (rest : ℕ → List Answer) (sink node : ℕ) → IsOutput setting m sink node
-      → now sink ≡ grown (ticks_bytes (with_rest setting answers rest) node ticks) (first sink)
+  pub each : (rest : ℕ → List Answer) (sink node : ℕ) (output : IsOutput setting m sink node)
+      → now sink ≡ grown (ticks_bytes (with_rest setting answers rest) output.wide node ticks) (first sink)

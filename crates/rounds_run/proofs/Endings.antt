@@ -152,7 +152,7 @@ module _ {S : Type 0} (held name : S → Option (List ℕ)) (room : S → Option
         rest = rest;
         given = given;
         stands = run.stands;
-        grew = λ sink node output. run.grew.each rest sink node output ∙ ap (λ W. grown (ticks_bytes W node t) (held_of held before sink)) given;
+        grew = λ sink node output. run.grew.each rest sink node output ∙ ap (λ W. grown (ticks_bytes W output.wide node t) (held_of held before sink)) given;
         none_fell = run.none_fell;
         outs = run.outs;
         kept = run.kept;

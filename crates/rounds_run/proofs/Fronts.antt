@@ -1,5 +1,5 @@
 -- Fronts of bytes.
-use Rattle.std.proofs.Common.{◌≡◌, ◌≤◌, ◌∙◌, ◌++◌, ℕ, zero, suc, Some, None, Option, List, [], append_assoc, arith, refl, ap, sym, subst, inl, inr}
+use Rattle.std.proofs.Common.{◌≡◌, ◌≤◌, ◌∙◌, ◌++◌, ℕ, Bool, zero, suc, Some, None, Option, List, [], append_assoc, arith, refl, ap, sym, subst, inl, inr}
 use Rattle.std.proofs.lemmas.List.{append-nil}
 use Rattle.liq_base.specs.Pieces.{IsPrefix, grown}
 use Rattle.stream_meaning.specs.Instants.{Setting}
@@ -16,23 +16,23 @@ front_of a b c first next = record {
 }
 
 -- the bytes of fewer ticks are a front of those of more
-pub ticks_front : (setting : Setting) (node t n : ℕ) → t ≤ n → IsPrefix (ticks_bytes setting node t) (ticks_bytes setting node n)
-ticks_front setting node t zero h =
+pub ticks_front : (setting : Setting) (wide : Bool) (node t n : ℕ) → t ≤ n → IsPrefix (ticks_bytes setting wide node t) (ticks_bytes setting wide node n)
+ticks_front setting wide node t zero h =
     let none : t ≡ 0 = omega (arith, h) in
-    subst (λ k. IsPrefix (ticks_bytes setting node t) (ticks_bytes setting node k)) none (itself (ticks_bytes setting node t))
-ticks_front setting node t (suc n) h = elim (same_or_other t (suc n)) [
-  | inl same ↦ subst (λ k. IsPrefix (ticks_bytes setting node t) (ticks_bytes setting node k)) same (itself (ticks_bytes setting node t))
+    subst (λ k. IsPrefix (ticks_bytes setting wide node t) (ticks_bytes setting wide node k)) none (itself (ticks_bytes setting wide node t))
+ticks_front setting wide node t (suc n) h = elim (same_or_other t (suc n)) [
+  | inl same ↦ subst (λ k. IsPrefix (ticks_bytes setting wide node t) (ticks_bytes setting wide node k)) same (itself (ticks_bytes setting wide node t))
   | inr other ↦ (let fewer : t ≤ n = omega (arith, h, other) in
-      front_of (ticks_bytes setting node t) (ticks_bytes setting node n) (ticks_bytes setting node (suc n)) (ticks_front setting node t n fewer)
-      (record { rest = tick_bytes setting node n; whole_is = refl }))
+      front_of (ticks_bytes setting wide node t) (ticks_bytes setting wide node n) (ticks_bytes setting wide node (suc n)) (ticks_front setting wide node t n fewer)
+      (record { rest = tick_bytes setting wide node n; whole_is = refl }))
 ]
 
 -- so are those ticks and a front of the next one
-pub next_front : (setting : Setting) (node t : ℕ) (bytes : List ℕ) → IsPrefix bytes (tick_bytes setting node t)
-    → IsPrefix (ticks_bytes setting node t ++ bytes) (ticks_bytes setting node (suc t))
-next_front setting node t bytes front = record {
+pub next_front : (setting : Setting) (wide : Bool) (node t : ℕ) (bytes : List ℕ) → IsPrefix bytes (tick_bytes setting wide node t)
+    → IsPrefix (ticks_bytes setting wide node t ++ bytes) (ticks_bytes setting wide node (suc t))
+next_front setting wide node t bytes front = record {
   rest = front.rest;
-  whole_is = ap (λ b. ticks_bytes setting node t ++ b) front.whole_is ∙ sym (append_assoc (ticks_bytes setting node t) bytes front.rest);
+  whole_is = ap (λ b. ticks_bytes setting wide node t ++ b) front.whole_is ∙ sym (append_assoc (ticks_bytes setting wide node t) bytes front.rest);
 }
 
 pub grown_nothing : (held : Option (List ℕ)) → held ≡ grown [] held

@@ -17,6 +17,7 @@ use Rattle.clock_outputs.proofs.Gives.{adds_more, adds_nothing}
 use Rattle.clock_outputs.proofs.Since.{fell_then, kept_then, rose_since}
 use Rattle.clock_outputs.proofs.Taken.{fell_none, kept_none}
 use Rattle.node_states.specs.Ticks.{IsOutput, with_rest}
+use Rattle.node_states.proofs.Outputs.{output_moved}
 use Rattle.clock_outputs.specs.Appends.{AreKept, NoneFell}
 use Rattle.clock_outputs.proofs.Places.{low_or_high, same_or_other, slice_get-set_other, slice_get-set_same}
 use Rattle.clock_engine.specs.declared.engine.ClockEngine.{ClockEngine}
@@ -81,9 +82,9 @@ module _ {S : Type 0} (held name : S → Option (List ℕ)) (room : S → Option
   }
 
   module _ (t : ℕ) (calls : List Call) (first old new : ClockEngine S) (run : HasRunTurns held name faults calls t first old) where
-    output_now : (sink node : ℕ) → IsOutput (setting_of first.parts) first.parts.clock sink node → IsOutput (setting_of old.parts) old.parts.clock sink node
+    abbrev output_now : (sink node : ℕ) → IsOutput (setting_of first.parts) first.parts.clock sink node → IsOutput (setting_of old.parts) old.parts.clock sink node
     output_now sink node output =
-        subst (λ s. IsOutput s old.parts.clock sink node) (sym run.setting) (subst (λ m. IsOutput (setting_of first.parts) m sink node) (sym run.clock) output)
+        output_moved (setting_of first.parts) (setting_of old.parts) first.parts.clock old.parts.clock sink node (sym run.setting) (sym run.clock) output
 
     -- no answers of buffers that the clock does not read
     pub none_read : (buffer : ℕ) → IsUnread (setting_of first.parts) (Main first.parts.clock) buffer → run.answers buffer ≡ []
@@ -106,13 +107,13 @@ module _ {S : Type 0} (held name : S → Option (List ℕ)) (room : S → Option
           grew = record {
             each = λ rest sink node output.
                 let W = with_rest (setting_of first.parts) (after_calls run.answers made.more) rest in
-                let here : held_of held new sink ≡ grown (tick_bytes W node t) (held_of held old sink) =
-                subst (λ s. held_of held new sink ≡ grown (tick_bytes (with_rest s (after_calls run.answers made.more) rest) node t) (held_of held old sink)) run.setting
+                let here : held_of held new sink ≡ grown (tick_bytes W output.wide node t) (held_of held old sink) =
+                subst (λ s. held_of held new sink ≡ grown (tick_bytes (with_rest s (after_calls run.answers made.more) rest) output.wide node t) (held_of held old sink)) run.setting
                 (ticked.grew rest sink node (output_now sink node output)) in
-                let before : held_of held old sink ≡ grown (ticks_bytes W node t) (held_of held first sink) =
+                let before : held_of held old sink ≡ grown (ticks_bytes W output.wide node t) (held_of held first sink) =
                 run.grew.each (behind_calls made.more rest) sink node output
-                ∙ ap (λ V. grown (ticks_bytes V node t) (held_of held first sink)) (world_is (setting_of first.parts) run.answers made.more rest) in
-                here ∙ ap (grown (tick_bytes W node t)) before ∙ grown_twice (tick_bytes W node t) (ticks_bytes W node t) (held_of held first sink);
+                ∙ ap (λ V. grown (ticks_bytes V output.wide node t) (held_of held first sink)) (world_is (setting_of first.parts) run.answers made.more rest) in
+                here ∙ ap (grown (tick_bytes W output.wide node t)) before ∙ grown_twice (tick_bytes W output.wide node t) (ticks_bytes W output.wide node t) (held_of held first sink);
           };
           none_fell = fell_then faults first.outs old.outs new.outs run.none_fell did.none_fell;
           outs = did.outs ∙ run.outs;
@@ -126,11 +127,11 @@ module _ {S : Type 0} (held name : S → Option (List ℕ)) (room : S → Option
       clock = run.clock;
       part = λ rest sink node output.
           let W = world (setting_of first.parts) calls rest in (
-            ticks_bytes W node t,
-            ticks_front W node least t low,
-            ticks_front W node t most high,
+            ticks_bytes W output.wide node t,
+            ticks_front W output.wide node least t low,
+            ticks_front W output.wide node t most high,
             run.grew.each (meets (setting_of first.parts) (Main first.parts.clock) calls run.answers run.own rest) sink node output
-                ∙ ap (λ V. grown (ticks_bytes V node t) (held_of held first sink)) (meets_is (setting_of first.parts) (Main first.parts.clock) calls run.answers run.own rest none_read),
+                ∙ ap (λ V. grown (ticks_bytes V output.wide node t) (held_of held first sink)) (meets_is (setting_of first.parts) (Main first.parts.clock) calls run.answers run.own rest none_read),
           );
       none_fell = run.none_fell;
       outs = run.outs;
@@ -165,18 +166,18 @@ module _ {S : Type 0} (held name : S → Option (List ℕ)) (room : S → Option
               let W = world F all rest in
               let same : with_rest F answers behind ≡ W = meets_is F M all answers own rest none in
               let part = stopped.part behind sink node (output_now sink node output) in
-              let inside : IsPrefix part.0 (tick_bytes W node t) =
-              subst (λ V. IsPrefix part.0 (tick_bytes V node t)) same
-              (subst (λ s. IsPrefix part.0 (tick_bytes (with_rest s answers behind) node t)) run.setting part.1) in
-              let before : held_of held old sink ≡ grown (ticks_bytes W node t) (held_of held first sink) =
+              let inside : IsPrefix part.0 (tick_bytes W output.wide node t) =
+              subst (λ V. IsPrefix part.0 (tick_bytes V output.wide node t)) same
+              (subst (λ s. IsPrefix part.0 (tick_bytes (with_rest s answers behind) output.wide node t)) run.setting part.1) in
+              let before : held_of held old sink ≡ grown (ticks_bytes W output.wide node t) (held_of held first sink) =
               run.grew.each (behind_calls failed.made behind) sink node output
-              ∙ ap (λ V. grown (ticks_bytes V node t) (held_of held first sink)) (world_is F run.answers failed.made behind ∙ same) in (
-                ticks_bytes W node t ++ part.0,
-                front_of (ticks_bytes W node least) (ticks_bytes W node t) (ticks_bytes W node t ++ part.0)
-                    (ticks_front W node least t low) (record { rest = part.0; whole_is = refl }),
-                front_of (ticks_bytes W node t ++ part.0) (ticks_bytes W node (suc t)) (ticks_bytes W node most)
-                    (next_front W node t part.0 inside) (ticks_front W node (suc t) most (omega (arith, high))),
-                part.2 ∙ ap (grown part.0) before ∙ grown_twice part.0 (ticks_bytes W node t) (held_of held first sink),
+              ∙ ap (λ V. grown (ticks_bytes V output.wide node t) (held_of held first sink)) (world_is F run.answers failed.made behind ∙ same) in (
+                ticks_bytes W output.wide node t ++ part.0,
+                front_of (ticks_bytes W output.wide node least) (ticks_bytes W output.wide node t) (ticks_bytes W output.wide node t ++ part.0)
+                    (ticks_front W output.wide node least t low) (record { rest = part.0; whole_is = refl }),
+                front_of (ticks_bytes W output.wide node t ++ part.0) (ticks_bytes W output.wide node (suc t)) (ticks_bytes W output.wide node most)
+                    (next_front W output.wide node t part.0 inside) (ticks_front W output.wide node (suc t) most (omega (arith, high))),
+                part.2 ∙ ap (grown part.0) before ∙ grown_twice part.0 (ticks_bytes W output.wide node t) (held_of held first sink),
               );
           none_fell = fell_then faults first.outs old.outs new.outs run.none_fell fell;
           outs = many ∙ run.outs;
@@ -239,7 +240,7 @@ module _ {S : Type 0} (held name : S → Option (List ℕ)) (room : S → Option
           one_of : ((left : ℕ) × (r + (left + 1) ≡ total)) → HaveTickRoom room old.parts old.outs
           one_of (left, is) = record {
             each = λ k sink node out at_output at_out n e.
-                let size : ℕ = piece_size (setting_of old.parts) node in
+                let size : ℕ = piece_size (setting_of old.parts) sink node in
                 let more : (left + 1) * size ≤ n = (left_here (left + 1) is).each k sink node out at_output at_out n e in
                 let parts : (left + 1) * size ≡ left * size + size = ap (λ n. n * size) (add-one left) ∙ suc-mul left size in
                 omega (arith, more, parts);

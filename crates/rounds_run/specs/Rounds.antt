@@ -77,8 +77,8 @@ pub record HasRunTurns {S : Type 0} (held name : S → Option (List ℕ)) (fault
 pub record HasRunPart {S : Type 0} (held name : S → Option (List ℕ)) (faults : S → ℕ) (world : (ℕ → List Answer) → Setting) (least most : ℕ) (old new : ClockEngine S) : Type 0 where
   pub setting : setting_of new.parts ≡ setting_of old.parts
   pub clock : new.parts.clock ≡ old.parts.clock
-  pub part : (rest : ℕ → List Answer) (sink node : ℕ) → IsOutput (setting_of old.parts) old.parts.clock sink node
-      → (bytes : List ℕ) × IsPrefix (ticks_bytes (world rest) node least) bytes × IsPrefix bytes (ticks_bytes (world rest) node most) × (held_of held new sink ≡ grown bytes (held_of held old sink))
+  pub part : (rest : ℕ → List Answer) (sink node : ℕ) (output : IsOutput (setting_of old.parts) old.parts.clock sink node)
+      → (bytes : List ℕ) × IsPrefix (ticks_bytes (world rest) output.wide node least) bytes × IsPrefix bytes (ticks_bytes (world rest) output.wide node most) × (held_of held new sink ≡ grown bytes (held_of held old sink))
   pub none_fell : NoneFell faults old.outs new.outs
   pub outs : length new.outs ≡ length old.outs
   pub kept : AreKept name faults old.outs new.outs

@@ -36,7 +36,7 @@ pub record HasRunTicks {S : Type 0} (held name : S → Option (List ℕ)) (fault
   pub rest : ℕ → List Answer
   pub given : with_rest (setting_of old.parts) answers rest ≡ setting
   pub stands : EngineStands new.parts ticks answers
-  pub grew : (sink node : ℕ) → IsOutput (setting_of old.parts) old.parts.clock sink node → held_of held new sink ≡ grown (ticks_bytes setting node ticks) (held_of held old sink)
+  pub grew : (sink node : ℕ) (output : IsOutput (setting_of old.parts) old.parts.clock sink node) → held_of held new sink ≡ grown (ticks_bytes setting output.wide node ticks) (held_of held old sink)
   pub none_fell : NoneFell faults old.outs new.outs
   pub outs : length new.outs ≡ length old.outs
   pub kept : AreKept name faults old.outs new.outs

@@ -123,7 +123,7 @@ pub as_on_one_thread : (setting : Setting) (clock_map : ClockMap) → IsSetting 
     → IsRounds setting clock_map.running N other → IsAsOnOneThread setting run other
 as_on_one_thread setting clock_map is W N run other local lawful rounds = record {
   same_record = same;
-  same_bytes = λ i t. ap (λ (s : Setting). ticks_bytes s i t) settings;
+  same_bytes = λ wide i t. ap (λ (s : Setting). ticks_bytes s wide i t) settings;
   same_gaps = λ i t. ap (λ (s : Setting). gaps s i t) settings;
 }
   where

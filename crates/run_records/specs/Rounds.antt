@@ -1,5 +1,5 @@
 -- Records of a plan in which no buffer joins two clocks, beside that of rounds on one thread.
-use Rattle.std.specs.Prelude.{◌≡◌, ◌⊎◌, ◌<◌, ◌≤◌, ℕ, List, [], ◌∷◌, length, map}
+use Rattle.std.specs.Prelude.{◌≡◌, ◌⊎◌, ◌<◌, ◌≤◌, ℕ, Bool, List, [], ◌∷◌, length, map}
 use Rattle.std.specs.List.{flat_map}
 use Rattle.stream_meaning.specs.Instants.{Setting}
 use Rattle.stream_meaning.specs.Sinks.{ticks_bytes, gaps}
@@ -22,7 +22,7 @@ HasNoJoin setting clocks = (buffer : ℕ) → buffer < length setting.plan.buffe
 -- the same.
 pub record IsAsOnOneThread (setting : Setting) (run one_thread : Run) : Type 0 where
   pub same_record : merged run ≡ one_thread
-  pub same_bytes : (i t : ℕ) → ticks_bytes (setting_in setting run) i t ≡ ticks_bytes (setting_in setting one_thread) i t
+  pub same_bytes : (wide : Bool) (i t : ℕ) → ticks_bytes (setting_in setting run) wide i t ≡ ticks_bytes (setting_in setting one_thread) wide i t
   pub same_gaps : (i t : ℕ) → gaps (setting_in setting run) i t ≡ gaps (setting_in setting one_thread) i t
 
 -- A run that was broken off begins these rounds: with some answers behind those that it got, its takes get what theirs do. So what is

@@ -69,7 +69,7 @@ apart buffers (x ∷ front) behind others call got differ e = apart buffers fron
 alike_outputs : (base : Setting) (clocks : ClockMap) → IsSetting base clocks → (one other : ℕ → List Answer) (m ticks : ℕ) → IsTickAlike base one other m ticks
     → HasSameOutputs (answered base one) (answered base other) m ticks
 alike_outputs base clocks is one other m ticks alike = record {
-  same_bytes = λ i at. bytes_alike base clocks is one other m ticks i alike at;
+  same_bytes = λ wide i at. bytes_alike base clocks is one other wide m ticks i alike at;
   same_gaps = λ i at. gaps_alike base clocks is one other m ticks i alike at;
 }
 

@@ -121,9 +121,9 @@ module _ (base : Setting) (clocks : ClockMap) (is : IsSetting base clocks) where
         mul_up a b c low = mul-le-mul_right c low
 
     -- the bytes and the gaps of an output, as far as its clock is alike
-    pub bytes_alike : (m t i : ℕ) → IsTickAlike base one other m t → clock_of base i ≡ Main m → ticks_bytes (answered base one) i t ≡ ticks_bytes (answered base other) i t
-    bytes_alike m zero i is' at = refl
-    bytes_alike m (suc t) i is' at = (λ j. bytes_alike m t i (tick_before m t (suc t) (omega arith) is') at j ++ flat_map (slot_block (kind_of base i)) (slots_alike m t i is' at j))
+    pub bytes_alike : (wide : Bool) (m t i : ℕ) → IsTickAlike base one other m t → clock_of base i ≡ Main m → ticks_bytes (answered base one) wide i t ≡ ticks_bytes (answered base other) wide i t
+    bytes_alike wide m zero i is' at = refl
+    bytes_alike wide m (suc t) i is' at = (λ j. bytes_alike wide m t i (tick_before m t (suc t) (omega arith) is') at j ++ flat_map (slot_block wide (kind_of base i)) (slots_alike m t i is' at j))
 
     pub gaps_alike : (m t i : ℕ) → IsTickAlike base one other m t → clock_of base i ≡ Main m → gaps (answered base one) i t ≡ gaps (answered base other) i t
     gaps_alike m zero i is' at = refl

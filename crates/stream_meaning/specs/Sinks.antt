@@ -1,19 +1,41 @@
 -- What a clock's sinks write and give.
-use Rattle.std.specs.Prelude.{Some, None, List, [], ◌∷◌, ◌++◌, ℕ, zero, suc, pos, ◌+◌, ◌*◌, map, slice_get, if◌then◌else◌}
+use Rattle.std.specs.Prelude.{Bool, true, false, Some, None, List, [], ◌∷◌, ◌++◌, ℕ, ℤ, zero, suc, pos, ◌+◌, ◌*◌, map, slice_get, if◌then◌else◌}
 use Rattle.std.specs.List.{flat_map, range_with_len}
 use Rattle.std.specs.Option.{option_map_or}
 use Rattle.liq_base.specs.declared.memory.Kind.{Kind}
 use Rattle.liq_base.specs.declared.memory.Kind.TheVariants.{Stereo}
+use Rattle.liq_base.specs.Kinds.{channels_of}
+use Rattle.plan_core.specs.declared.sink.SinkPlan.{SinkPlan}
+use Rattle.plan_core.specs.declared.sink.SinkPlan.TheVariants.{Output, Feed}
 use Rattle.frame_core.specs.declared.cell.Cell.{Cell}
 use Rattle.frame_core.specs.Slots.{Slot}
 use Rattle.sample_kernels.specs.Encoded.{block_of}
+use Rattle.sample_kernels.specs.Wide.{wide_block_of}
 use Rattle.stream_meaning.specs.Arithmetic.{cells_of}
 use Rattle.stream_meaning.specs.Instants.{Setting, stream_of}
 
--- a slot in an output of this kind: the block of its cell, and of zeros for nothing
-abbrev pub slot_block : Kind → Slot → List ℕ
-slot_block kind None = block_of kind (pos 0) (pos 0)
-slot_block kind (Some cell) = block_of kind cell.left cell.right
+-- the block of an instant in an output: of samples of three bytes where it is wide, and else of two
+abbrev pub sample_block : (wide : Bool) → Kind → (left right : ℤ) → List ℕ
+sample_block true kind left right = wide_block_of kind left right
+sample_block false kind left right = block_of kind left right
+
+-- how many bytes that are
+abbrev pub block_length : (wide : Bool) → Kind → ℕ
+block_length true kind = 3 * channels_of kind
+block_length false kind = 2 * channels_of kind
+
+-- a slot in an output: the block of its cell, and of zeros for nothing
+abbrev pub slot_block : (wide : Bool) → Kind → Slot → List ℕ
+slot_block wide kind None = sample_block wide kind (pos 0) (pos 0)
+slot_block wide kind (Some cell) = sample_block wide kind cell.left cell.right
+
+-- whether a sink is a wide output
+abbrev pub wide_sink : SinkPlan → Bool
+wide_sink (Output name node fallible wide) = wide
+wide_sink (Feed buffer node) = false
+
+abbrev pub is_wide : Setting → (sink : ℕ) → Bool
+is_wide setting sink = option_map_or wide_sink (slice_get setting.plan.sinks sink) false
 
 abbrev pub kind_of : Setting → ℕ → Kind
 kind_of setting i = option_map_or (λ node. node.kind) (slice_get setting.plan.nodes i) Stereo
@@ -23,13 +45,13 @@ abbrev pub tick_slots : Setting → (i t : ℕ) → List Slot
 tick_slots setting i t = map (stream_of setting i) (range_with_len (t * setting.plan.frame) setting.plan.frame)
 
 -- the bytes of tick t of an output of node i
-abbrev pub tick_bytes : Setting → (i t : ℕ) → List ℕ
-tick_bytes setting i t = flat_map (slot_block (kind_of setting i)) (tick_slots setting i t)
+abbrev pub tick_bytes : Setting → (wide : Bool) → (i t : ℕ) → List ℕ
+tick_bytes setting wide i t = flat_map (slot_block wide (kind_of setting i)) (tick_slots setting i t)
 
 -- the bytes of the first so many ticks, behind the header
-abbrev pub ticks_bytes : Setting → (i ticks : ℕ) → List ℕ
-ticks_bytes setting i zero = []
-ticks_bytes setting i (suc ticks) = ticks_bytes setting i ticks ++ tick_bytes setting i ticks
+abbrev pub ticks_bytes : Setting → (wide : Bool) → (i ticks : ℕ) → List ℕ
+ticks_bytes setting wide i zero = []
+ticks_bytes setting wide i (suc ticks) = ticks_bytes setting wide i ticks ++ tick_bytes setting wide i ticks
 
 -- how many of these slots are nothing
 abbrev pub missing : List Slot → ℕ

@@ -51,6 +51,7 @@ returns-clause-parts c =
       own = record { each = (c.in_ok-own.ensures.roots S).each };
       outputs = c.in_ok-ports.ensures.outputs S;
       kinds = λ k d h. (c.in_ok-ports.ensures.new S k d h).kind;
+      widths = λ k d h. (c.in_ok-ports.ensures.new S k d h).wide;
       rooms = λ k d h. (c.in_ok-ports.ensures.new S k d h).room;
       feeds = c.in_ok-feeds.ensures.feeds S;
       frames = λ k d h. (c.in_ok-feeds.ensures.new k d h).long;

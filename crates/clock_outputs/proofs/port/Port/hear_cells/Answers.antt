@@ -6,5 +6,5 @@ use Rattle.clock_outputs.proofs.port.Port.hear_cells.Goals as goal
 pub returns : goal.returns
 returns c = λ title.
     let port = c.args.self.now in
-    ap (λ (piece : Filled). record { sink = port.sink; node = port.node; kind = port.kind; piece = piece; gaps = port.gaps; gaps_before = port.gaps_before }) c.add_cells.ensures
+    ap (λ (piece : Filled). record { sink = port.sink; node = port.node; kind = port.kind; wide = port.wide; piece = piece; gaps = port.gaps; gaps_before = port.gaps_before }) c.add_cells.ensures
     ∙ after_cells port title c.args.left.now c.args.right.now c.requires.same
