@@ -100,7 +100,7 @@ told_same base text old new told is = record {
 pub outputs_count : (setting : Setting) (m i : ℕ) (sinks : List SinkPlan) → length (outputs_from setting m i sinks) ≡ outputs_in setting.clocks m sinks
 outputs_count setting m i [] = refl
 outputs_count setting m i (Feed buffer node ∷ sinks) = outputs_count setting m (suc i) sinks
-outputs_count setting m i (Output name node fallible ∷ sinks) = by (is_output_in setting.clocks m (Output name node fallible)) (outputs_count setting m (suc i) sinks)
+outputs_count setting m i (Output name node fallible wide ∷ sinks) = by (is_output_in setting.clocks m (Output name node fallible wide)) (outputs_count setting m (suc i) sinks)
   where
     by : (t : Bool) → length (outputs_from setting m (suc i) sinks) ≡ outputs_in setting.clocks m sinks
         → length (cond t ((i, node) ∷ outputs_from setting m (suc i) sinks) (outputs_from setting m (suc i) sinks)) ≡ cond t (suc (outputs_in setting.clocks m sinks)) (outputs_in setting.clocks m sinks)

@@ -22,3 +22,7 @@ pub mod Accepting
 pub mod Leading
 pub mod Tracing
 pub mod Rendering
+pub mod Stopping
+pub mod Matching
+pub mod Retelling
+pub mod Lasting

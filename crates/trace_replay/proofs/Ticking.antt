@@ -77,7 +77,7 @@ given_takes b buffer [] accepted = refl
 given_takes b buffer (cell ∷ cells) accepted = refl
 
 give_takes : (setting : Setting) (accepted : ℕ → Bool) (b m t : ℕ) (sink : SinkPlan) → takes_of b (give_by setting accepted m t sink) ≡ []
-give_takes setting accepted b m t (Output name node fallible) = refl
+give_takes setting accepted b m t (Output name node fallible wide) = refl
 give_takes setting accepted b m t (Feed buffer node) = by (lies_in setting (Main m) node) refl
   where
     by : (s : Bool) → lies_in setting (Main m) node ≡ s → takes_of b (give_by setting accepted m t (Feed buffer node)) ≡ []

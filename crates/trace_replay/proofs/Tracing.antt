@@ -12,11 +12,11 @@ use Rattle.trace_replay.specs.Listings.{LeadOnward}
 use Rattle.trace_replay.specs.Traces.{IsAccepted, pair_of, text_of, trace_of}
 use Rattle.trace_replay.proofs.Leading.{ordered_onward}
 
-same_text : (windows : List Window) → map pair_of (map log_of windows) ≡ map told windows
+pub same_text : (windows : List Window) → map pair_of (map log_of windows) ≡ map told windows
 same_text [] = refl
 same_text (w ∷ windows) = ap (λ l. told w ∷ l) (same_text windows)
 
-log_at : (buffers : List (List Window)) (b : ℕ) → slice_index_or (map (map log_of) buffers) b [] ≡ map log_of (slice_index_or buffers b [])
+pub log_at : (buffers : List (List Window)) (b : ℕ) → slice_index_or (map (map log_of) buffers) b [] ≡ map log_of (slice_index_or buffers b [])
 log_at [] b = refl
 log_at (windows ∷ buffers) zero = refl
 log_at (windows ∷ buffers) (suc b) = log_at buffers b

@@ -200,11 +200,11 @@ module _ (base : Setting) (m n : ℕ) (accepted : ℕ → ℕ → Bool) (calls :
       ∙ ap (λ f. calls_of_tick (answered base g) f m n) (fun_ext (λ b. let on : nat_eq n n ≡ true = grind (arith, nat_tests) in sym (ap (λ (s : Bool). cond s (kept b) (accepted n b)) on))) in
       (λ i. (first ∙ same) i ++ last i)
 
-own_made : (base : Setting) (map_of : ClockMap) → IsSetting base map_of → (m n : ℕ) (accepted : ℕ → ℕ → Bool) (calls : List Call) → IsMadeBy base m n accepted calls → All (IsOwn base m) calls
+pub own_made : (base : Setting) (map_of : ClockMap) → IsSetting base map_of → (m n : ℕ) (accepted : ℕ → ℕ → Bool) (calls : List Call) → IsMadeBy base m n accepted calls → All (IsOwn base m) calls
 own_made base map_of is m n accepted calls are = subst (All (IsOwn base m)) (sym (are nothing))
     (own_joined base m (λ t. calls_of_tick (answered base (got_then calls nothing)) (accepted t) m t) (λ t. own_tick base map_of is (got_then calls nothing) (accepted t) m t) n)
 
-own_front : (base : Setting) (m : ℕ) (front rest : List Call) → All (IsOwn base m) (front ++ rest) → All (IsOwn base m) front
+pub own_front : (base : Setting) (m : ℕ) (front rest : List Call) → All (IsOwn base m) (front ++ rest) → All (IsOwn base m) front
 own_front base m [] rest all = All-nil (IsOwn base m)
 own_front base m (c ∷ front) rest all = All-cons (IsOwn base m) c front (All-head (IsOwn base m) c (front ++ rest) all) (own_front base m front rest (All-tail (IsOwn base m) c (front ++ rest) all))
 

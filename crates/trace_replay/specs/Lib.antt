@@ -7,3 +7,4 @@ pub mod Finds
 pub mod Traces
 pub mod Listings
 pub mod Replaying
+pub mod Replays

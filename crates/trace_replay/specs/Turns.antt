@@ -132,7 +132,7 @@ HaveBegun feeders readers m old new = (b : ℕ) (d : BufferState) → b < length
 
 -- an output of clock m
 abbrev pub is_output_in : List NodeClock → (m : ℕ) → SinkPlan → Bool
-is_output_in clocks m (Output name node fallible) = same_clock (slice_index_or clocks node (InMain 0)) (InMain m)
+is_output_in clocks m (Output name node fallible wide) = same_clock (slice_index_or clocks node (InMain 0)) (InMain m)
 is_output_in clocks m (Feed buffer node) = false
 
 -- how many there are among these sinks

@@ -6,15 +6,16 @@ mod accept;
 mod buffers;
 mod course;
 mod ends;
+mod engines;
 mod find;
 mod flat;
 mod laws;
 mod logs;
-mod replay;
 mod station;
 mod taps;
 mod told;
 mod turn;
+mod whole;
 mod windows;
 
 pub use accept::accepts;
@@ -22,4 +23,5 @@ pub use laws::{
     accepted_traces_tell_one_record, onward_records_are_ordered, onward_traces_are_accepted,
     ordered_traces_are_accepted, told_windows_are_legal,
 };
+pub use whole::replay;
 pub use windows::is_legal;

@@ -2,7 +2,7 @@ use Rattle.std.proofs.Common.{◌≡◌}
 use Rattle.trace_replay.specs.declared.course.Course.TheVariants.{Goes}
 use Rattle.trace_replay.specs.Replaying.{IsReplaying, MayReplay}
 use Rattle.trace_replay.specs.Turns.{Score}
-use Rattle.trace_replay.proofs.replay.replay_clock.Given as goal
+use Rattle.trace_replay.proofs.engines.replay_clock.Given as goal
 
 abbrev pub invariant-loop-tick : goal.invariant-loop-tick
 invariant-loop-tick g l = record {

@@ -1,8 +1,8 @@
 use Rattle.std.proofs.Common.{◌≡◌, ◌∙◌, ◌+◌, suc, length, sym, ap, subst, arith}
 use Rattle.trace_replay.specs.Replaying.{IsReplaying}
-use Rattle.trace_replay.proofs.Rendering.{replay_begins, replay_breaks, replay_goes_on, room_now, still_goes}
+use Rattle.trace_replay.proofs.Rendering.{replay_begins, replay_breaks, replay_goes_on, room_now, sink_failed, still_goes}
 use Rattle.node_states.proofs.Chunks.{on_err}
-use Rattle.trace_replay.proofs.replay.replay_clock.Goals as goal
+use Rattle.trace_replay.proofs.engines.replay_clock.Goals as goal
 
 pub loop-tick-init : goal.loop-tick-init
 loop-tick-init g c = record {
@@ -30,12 +30,12 @@ loop-tick-preserved g c =
     record {
       course = still_goes g.O.Sink.held g.O.Sink.name g.O.Sink.room g.O.Sink.faults c.requires.play.0 c.args.ticks c.args.engine.now.parts.clock c.loop-tick._tick c.loop-tick-test.true c.args.engine.now c.loop-tick.engine c.tick.new.self c.args.taps.now.buffers.items c.requires.play.1
           c.loop-tick.taps c.tick.new.taps (c.loop-tick.invariant.goes c.requires.play.0 c.requires.play.1) c.loop-tick.invariant.course c.tick.ensures.taps c.tick.ensures.setting c.tick.ensures.clock
-          c.in_ok-tick.ensures.ticked c.tick.ensures.whole.parts c.tick.ensures.faults c.tick.ensures.outs c.tick.ensures.kept c.in_ok-tick.ensures.room;
+          c.in_ok-tick.ensures.ticked c.tick.ensures.whole.parts c.tick.ensures.faults c.tick.ensures.outs c.tick.ensures.kept c.in_ok-tick.ensures.keeping c.in_ok-tick.ensures.room;
       goes = λ score may.
           subst (λ k. IsReplaying g.O.Sink.held g.O.Sink.name g.O.Sink.room g.O.Sink.faults score c.args.ticks c.args.engine.now.parts.clock k c.args.engine.now c.tick.new.self c.tick.new.taps.buffers.items) next
           (replay_goes_on g.O.Sink.held g.O.Sink.name g.O.Sink.room g.O.Sink.faults score c.args.ticks c.args.engine.now.parts.clock c.loop-tick._tick c.loop-tick-test.true c.args.engine.now c.loop-tick.engine c.tick.new.self c.args.taps.now.buffers.items may
           c.loop-tick.taps c.tick.new.taps (c.loop-tick.invariant.goes score may) c.loop-tick.invariant.course c.tick.ensures.taps c.tick.ensures.setting c.tick.ensures.clock
-          c.in_ok-tick.ensures.ticked c.tick.ensures.whole.parts c.tick.ensures.faults c.tick.ensures.outs c.tick.ensures.kept c.in_ok-tick.ensures.room);
+          c.in_ok-tick.ensures.ticked c.tick.ensures.whole.parts c.tick.ensures.faults c.tick.ensures.outs c.tick.ensures.kept c.in_ok-tick.ensures.keeping c.in_ok-tick.ensures.room);
     }
 
 pub returns-in_err-tick-clause-part : goal.returns-in_err-tick-clause-part
