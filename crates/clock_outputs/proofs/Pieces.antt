@@ -24,39 +24,27 @@ block_long true Stereo left right = refl
 block_long false Mono left right = refl
 block_long false Stereo left right = refl
 
-pub blocks_long : (wide : Bool) (kind : Kind) (left right : List ℤ) → length right ≡ length left → length (sample_blocks wide kind left right) ≡ length left * block_length wide kind
-blocks_long wide kind [] right same = (let none : 0 ≡ 0 * block_length wide kind = omega arith in none)
-blocks_long wide kind (l ∷ left) [] same = absurd (omega (arith, same))
-blocks_long wide kind (l ∷ left) (r ∷ right) same =
-    let rest = blocks_long wide kind left right (omega (arith, same)) in
-    let one = block_long wide kind l r in
-    let both = length-append (sample_block wide kind l r) (sample_blocks wide kind left right) in
-    let more = suc-mul (length left) (block_length wide kind) in
-    omega (arith, rest, one, both, more)
+abbrev zeros : ℕ → List ℕ
+zeros n = replicate n 0
 
 -- the blocks of slots without a cell are zeros
-zeros_block : (wide : Bool) (kind : Kind) (bytes : List ℕ) → replicate (block_length wide kind) 0 ++ bytes ≡ slot_block wide kind None ++ bytes
+zeros_block : (wide : Bool) (kind : Kind) (bytes : List ℕ) → zeros (block_length wide kind) ++ bytes ≡ slot_block wide kind None ++ bytes
 zeros_block true Mono bytes = refl
 zeros_block true Stereo bytes = refl
 zeros_block false Mono bytes = refl
 zeros_block false Stereo bytes = refl
 
-pub zeros_are : (wide : Bool) (kind : Kind) (count : ℕ) → replicate (count * block_length wide kind) 0 ≡ flat_map (slot_block wide kind) (replicate count None)
-zeros_are wide kind zero = (let none : 0 * block_length wide kind ≡ 0 = omega arith in ap (λ n. replicate n 0) none)
-zeros_are wide kind (suc count) =
-    ap (λ n. replicate n 0) (suc-mul count (block_length wide kind))
-    ∙ zeros_more (count * block_length wide kind) (block_length wide kind)
-    ∙ zeros_block wide kind (replicate (count * block_length wide kind) 0)
-    ∙ ap (λ bytes. slot_block wide kind None ++ bytes) (zeros_are wide kind count)
-  where
-    zeros_first : (n m : ℕ) → replicate (n + m) 0 ≡ replicate n 0 ++ replicate m 0
-    zeros_first zero m = (let same : 0 + m ≡ m = omega arith in ap (λ k. replicate k 0) same)
-    zeros_first (suc n) m =
-        let same : suc n + m ≡ suc (n + m) = omega arith in
-        ap (λ k. replicate k 0) same ∙ ap (λ (bytes : List ℕ). 0 ∷ bytes) (zeros_first n m)
+zeros_first : (n m : ℕ) → zeros (n + m) ≡ zeros n ++ zeros m
+zeros_first zero m = (let same : 0 + m ≡ m = omega arith in ap zeros same)
+zeros_first (suc n) m = (let same : suc n + m ≡ suc (n + m) = omega arith in ap zeros same ∙ ap (λ (bytes : List ℕ). 0 ∷ bytes) (zeros_first n m))
 
-    zeros_more : (m n : ℕ) → replicate (m + n) 0 ≡ replicate n 0 ++ replicate m 0
-    zeros_more m n = (let same : m + n ≡ n + m = omega arith in ap (λ k. replicate k 0) same) ∙ zeros_first n m
+pub zeros_are : (wide : Bool) (kind : Kind) (count : ℕ) → replicate (count * block_length wide kind) 0 ≡ flat_map (slot_block wide kind) (replicate count None)
+zeros_are wide kind zero = (let none : 0 * block_length wide kind ≡ 0 = omega arith in ap zeros none)
+zeros_are wide kind (suc count) =
+    let block : ℕ = block_length wide kind in
+    let more : suc count * block ≡ block + count * block = (let m = suc-mul count block in omega (arith, m)) in
+    ap zeros more ∙ zeros_first block (count * block) ∙ zeros_block wide kind (zeros (count * block))
+    ∙ ap (λ bytes. slot_block wide kind None ++ bytes) (zeros_are wide kind count)
 
 -- bytes, and room for so many
 abbrev pub filled_as : List ℕ → ℕ → Filled

@@ -7,6 +7,8 @@ mod buffers_tests;
 #[cfg(test)]
 mod chunks;
 #[cfg(test)]
+mod cues_tests;
+#[cfg(test)]
 mod ends_tests;
 #[cfg(test)]
 mod frames_tests;
@@ -20,6 +22,8 @@ mod op_select_tests;
 mod random_ops_tests;
 #[cfg(test)]
 mod seed_words_tests;
+#[cfg(test)]
+mod small_engines;
 #[cfg(test)]
 mod small_plans;
 #[cfg(test)]

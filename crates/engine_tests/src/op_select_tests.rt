@@ -36,7 +36,10 @@ fn check(
         }
         let slots = [offered(left, 5), offered(right, 6)];
         let picked = state.offer(&slots, &[eligible, true]);
-        assert_eq!(rt; picked.map(|it| (it.child, it.cell.title, it.cell.first)), used);
+        assert_eq!(rt;
+            picked.map(|it| (it.child, it.cell.title, it.cell.first)),
+            used
+        );
     }
 }
 

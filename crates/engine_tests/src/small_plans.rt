@@ -19,15 +19,15 @@ pub(crate) fn mono(op: Op, children: Vec<u32>) -> Node
     }
 }
 
-/// An output of this node, without a name, in two bytes a sample.
-pub(crate) fn output(alloc: Global, node: u32) -> SinkPlan
-    ensures { result ≡ SinkPlan.Output [] node false false }
+/// An output of this node, without a name, wide or not.
+pub(crate) fn output(alloc: Global, node: u32, wide: bool) -> SinkPlan
+    ensures { result ≡ SinkPlan.Output [] node false wide }
 {
     SinkPlan::Output {
         name: Text::from_string(String::new(alloc)),
         node,
         fallible: false,
-        wide: false,
+        wide,
     }
 }
 

@@ -48,7 +48,7 @@ fn sinks(alloc: Global) -> Result<Items<SinkPlan>, AllocError>
     ensures { IfOk result (λ sinks. sinks ≡ joined_sinks) }
 {
     let feed = SinkPlan::Feed { buffer: 0, node: 0 };
-    let all = vec![in alloc; output(alloc, 0), feed, output(alloc, 4)]?;
+    let all = vec![in alloc; output(alloc, 0, false), feed, output(alloc, 4, false)]?;
     Ok(Items::from_vec(all))
 }
 

@@ -2,41 +2,23 @@
 //! The file has the samples 1, 2 and 3; each is written as two bytes, the low one first.
 ghost use Rattle.std.specs.Prelude.{◌≡◌, ◌<◌, ◌≤◌, ◌∷◌, [], Some, length, slice_get, false, IfOk};
 ghost use Rattle.plan_core.specs.Plans.{IsWellFormed};
-ghost use Rattle.plan_core.specs.declared.sink.SinkPlan.TheVariants.{Output};
 ghost use Rattle.clock_infer.specs.Answers.{IsClockMap};
 ghost use Rattle.clock_infer.specs.declared.clock_map.NodeClock.TheVariants.{Main as InMain};
 ghost use Rattle.frame_core.specs.Library.{IsLibrary};
 ghost use Rattle.clock_engine.specs.Engines.{setting_of};
+ghost use Rattle.engine_tests.specs.Sole.{sole_node};
 
+use crate::small_engines::{begun, check_held, looped, one_file, one_sink, tick};
 use crate::small_plans::{lies_in, mono, one_name, output};
 use buffer_ends::LocalTaps;
 use clock_engine::{ClockEngine, TickFault};
 use clock_infer::{ClockMap, assign};
-use fixed_text::WeekSecond;
 use frame_core::{Library, Track};
-use liq_base::{Kind, MemSink, Memory, Text};
+use liq_base::{Kind, MemSink, Text};
 use plan_core::{Items, Op, Plan};
 use std::alloc::{AllocError, Global};
 use std::process::Abort;
 use std::test::Fail;
-
-// The file alone, played again and again.
-fn looped(alloc: Global) -> Result<Plan, AllocError>
-    ensures well_formed { IfOk result IsWellFormed }
-    ensures size { IfOk result (λ plan. length plan.nodes ≡ 1) }
-    ensures sinks { IfOk result (λ plan. plan.sinks ≡ Output [] 0 false false ∷ []) }
-{
-    let sinks = Items::from_vec(vec![in alloc; output(alloc, 0)]?);
-    let file = Text::from_string(String::new(alloc));
-    let single = mono(Op::Single(file), Vec::new(alloc));
-    Ok(Plan {
-        rate: 8000,
-        frame: 2,
-        nodes: Items::from_vec(vec![in alloc; single]?),
-        sinks,
-        buffers: Items::new(alloc),
-    })
-}
 
 // The file played once, and zeros after it, with so many samples a tick.
 fn once(alloc: Global, frame: u32) -> Result<Plan, AllocError>
@@ -44,9 +26,9 @@ fn once(alloc: Global, frame: u32) -> Result<Plan, AllocError>
     requires few { frame ≤ 65536 }
     ensures well_formed { IfOk result IsWellFormed }
     ensures size { IfOk result (λ plan. length plan.nodes ≡ 3) }
-    ensures sinks { IfOk result (λ plan. plan.sinks ≡ Output [] 2 false false ∷ []) }
+    ensures sinks { IfOk result (λ plan. sole_node plan.sinks ≡ Some 2) }
 {
-    let sinks = Items::from_vec(vec![in alloc; output(alloc, 2)]?);
+    let sinks = Items::from_vec(vec![in alloc; output(alloc, 2, false)]?);
     let both = vec![in alloc; 0, 1]?;
     let file = Text::from_string(String::new(alloc));
     let list = mono(Op::Playlist { file, again: false }, Vec::new(alloc));
@@ -66,9 +48,9 @@ fn turns(alloc: Global, seed: u64, node: u32) -> Result<Plan, AllocError>
     requires { node < 4 }
     ensures well_formed { IfOk result IsWellFormed }
     ensures size { IfOk result (λ plan. length plan.nodes ≡ 4) }
-    ensures sinks { IfOk result (λ plan. plan.sinks ≡ Output [] node false false ∷ []) }
+    ensures sinks { IfOk result (λ plan. sole_node plan.sinks ≡ Some node) }
 {
-    let sinks = Items::from_vec(vec![in alloc; output(alloc, node)]?);
+    let sinks = Items::from_vec(vec![in alloc; output(alloc, node, false)]?);
     let both = vec![in alloc; 0, 1]?;
     let file = Text::from_string(String::new(alloc));
     let single = mono(Op::Single(file), Vec::new(alloc));
@@ -82,17 +64,6 @@ fn turns(alloc: Global, seed: u64, node: u32) -> Result<Plan, AllocError>
         sinks,
         buffers: Items::new(alloc),
     })
-}
-
-// The file, which the first of these nodes plays.
-fn one_file(alloc: Global) -> Result<Library, AllocError>
-    ensures library { IfOk result (λ library. IsLibrary library) }
-    ensures leaves { IfOk result (λ library. length library.leaves ≡ 1) }
-{
-    let file = Track::new(Kind::Mono, Vec::from_slice(alloc, &[1, 2, 3])?);
-    let leaves = Vec::from_array(alloc, [Vec::from_slice(alloc, &[0])?])?;
-    let files = Vec::from_array(alloc, [file])?;
-    Ok(Library::new(files, one_name(alloc)?, leaves))
 }
 
 // The file, which the first of three nodes plays.
@@ -120,53 +91,6 @@ fn one_of_four(alloc: Global) -> Result<Library, AllocError>
     Ok(Library::new(files, one_name(alloc)?, leaves))
 }
 
-// A sink with ample room that fails so.
-fn one_sink(alloc: Global, fails: Vec<(u64, u64)>) -> Result<Vec<MemSink>, Fail>
-    ensures { IfOk result (λ outs. length outs.items ≡ 1) }
-{
-    let out = MemSink::new(alloc, 64, fails)?;
-    let outs = vec![in alloc; out]?;
-    Ok(outs)
-}
-
-// The engine of the main clock 0, which writes this node alone.
-fn begun<'a>(
-    alloc: Global,
-    plan: &'a Plan,
-    clocks: &'a ClockMap,
-    node: u32,
-    library: &'a Library,
-    outs: Vec<MemSink>,
-    start: WeekSecond,
-) -> Result<ClockEngine<'a, MemSink>, (Vec<MemSink>, Memory)>
-    requires plan { IsWellFormed plan.now }
-    requires clocks { IsClockMap plan.now clocks.now }
-    requires library { IsLibrary library.now }
-    requires leaves { length library.now.leaves ≡ length plan.now.nodes }
-    requires sinks { plan.now.sinks ≡ Output [] node false false ∷ [] }
-    requires clock { slice_get clocks.now.of node ≡ Some (InMain 0) }
-    requires one { length outs.items ≡ 1 }
-    ensures setting { IfOk result (λ engine. (setting_of engine.parts).plan ≡ plan.now) }
-{
-    ClockEngine::new(alloc, plan, clocks, 0, library, outs, start)
-}
-
-// Makes a tick of an engine that runs.
-fn tick(
-    rt: &impl Abort,
-    alloc: Global,
-    engine: &mut ClockEngine<'_, MemSink>,
-    taps: &mut LocalTaps,
-) -> Result<(), TickFault>
-    requires buffers { length taps.old ≡ length (setting_of engine.old.parts).plan.buffers }
-    ensures buffers { length taps.new ≡ length taps.old }
-    ensures setting { setting_of engine.new.parts ≡ setting_of engine.old.parts }
-{
-    assert!(rt; engine.ticks() < 1_000_000_000);
-    assert!(rt; engine.stopped().is_none());
-    engine.tick(alloc, taps)
-}
-
 // The first two ticks are made, the third ends so.
 fn check_ticks(
     rt: &impl Abort,
@@ -186,14 +110,6 @@ fn check_ticks(
     assert_eq!(rt; engine.ticks(), if ending.is_ok() { 3 } else { 2 });
 }
 
-// One sink holds these bytes.
-fn check_held(rt: &impl Abort, outs: &[MemSink], held: &[u8]) {
-    assert_eq!(rt; outs.len(), 1);
-    for out in outs {
-        assert_eq!(rt; out.held(), held);
-    }
-}
-
 // Three ticks of the clock 0 over these clocks.
 fn check_clock(
     rt: &impl Abort,
@@ -211,13 +127,12 @@ fn check_clock(
     requires clocks { IsClockMap plan.now clocks.now }
     requires library { IsLibrary library.now }
     requires leaves { length library.now.leaves ≡ length plan.now.nodes }
-    requires sinks { plan.now.sinks ≡ Output [] node false false ∷ [] }
+    requires sinks { sole_node plan.now.sinks ≡ Some node }
     requires clock { slice_get clocks.now.of node ≡ Some (InMain 0) }
     requires buffers { length taps.old ≡ length plan.now.buffers }
 {
     let outs = one_sink(alloc, fails)?;
-    let start = WeekSecond { second: 0 };
-    match begun(alloc, plan, clocks, node, library, outs, start) {
+    match begun(alloc, plan, clocks, node, library, outs) {
         Ok(mut engine) => {
             check_ticks(rt, alloc, &mut engine, taps, ending);
             check_held(rt, &engine.into_outs(), held);
@@ -241,7 +156,7 @@ fn check(
     requires plan { IsWellFormed plan.now }
     requires library { IsLibrary library.now }
     requires leaves { length library.now.leaves ≡ length plan.now.nodes }
-    requires sinks { plan.now.sinks ≡ Output [] node false false ∷ [] }
+    requires sinks { sole_node plan.now.sinks ≡ Some node }
 {
     let clocks = assign(alloc, plan)?;
     assert!(rt; lies_in(&clocks, node, 0));
@@ -262,7 +177,7 @@ fn check_looped(
 ) -> Result<(), Fail>
     requires plan { IsWellFormed plan.now }
     requires size { length plan.now.nodes ≡ 1 }
-    requires sinks { plan.now.sinks ≡ Output [] 0 false false ∷ [] }
+    requires sinks { sole_node plan.now.sinks ≡ Some 0 }
 {
     let library = one_file(alloc)?;
     check(rt, alloc, plan, 0, &library, fails, ending, held)
@@ -284,13 +199,12 @@ fn check_segments(
     requires clocks { IsClockMap plan.now clocks.now }
     requires library { IsLibrary library.now }
     requires leaves { length library.now.leaves ≡ length plan.now.nodes }
-    requires sinks { plan.now.sinks ≡ Output [] node false false ∷ [] }
+    requires sinks { sole_node plan.now.sinks ≡ Some node }
     requires clock { slice_get clocks.now.of node ≡ Some (InMain 0) }
     requires buffers { length taps.old ≡ length plan.now.buffers }
 {
     let outs = one_sink(alloc, Vec::new(alloc))?;
-    let start = WeekSecond { second: 0 };
-    match begun(alloc, plan, clocks, node, library, outs, start) {
+    match begun(alloc, plan, clocks, node, library, outs) {
         Ok(mut engine) => {
             assert_eq!(rt; tick(rt, alloc, &mut engine, taps), Ok(()));
             assert_eq!(rt; engine.segments(), segments);
@@ -314,7 +228,7 @@ fn check_tick(
     requires plan { IsWellFormed plan.now }
     requires library { IsLibrary library.now }
     requires leaves { length library.now.leaves ≡ length plan.now.nodes }
-    requires sinks { plan.now.sinks ≡ Output [] node false false ∷ [] }
+    requires sinks { sole_node plan.now.sinks ≡ Some node }
 {
     let clocks = assign(alloc, plan)?;
     assert!(rt; lies_in(&clocks, node, 0));
@@ -361,8 +275,16 @@ fn a_rotate_and_a_random_play_a_track_each_time(rt: HostRuntime) -> Result<(), F
 #[test]
 fn a_file_is_played_again_and_again(rt: HostRuntime) -> Result<(), Fail> {
     let alloc = rt.alloc();
-    let plan = looped(alloc)?;
+    let plan = looped(alloc, 2, false)?;
     let held = [1, 0, 2, 0, 3, 0, 1, 0, 2, 0, 3, 0];
+    check_looped(&rt, alloc, &plan, Vec::new(alloc), Ok(()), &held)
+}
+
+#[test]
+fn a_wide_output_has_three_bytes_a_sample(rt: HostRuntime) -> Result<(), Fail> {
+    let alloc = rt.alloc();
+    let plan = looped(alloc, 2, true)?;
+    let held = [0, 1, 0, 0, 2, 0, 0, 3, 0, 0, 1, 0, 0, 2, 0, 0, 3, 0];
     check_looped(&rt, alloc, &plan, Vec::new(alloc), Ok(()), &held)
 }
 
@@ -380,7 +302,7 @@ fn a_fallback_goes_on_behind_a_file(rt: HostRuntime) -> Result<(), Fail> {
 fn a_sink_fails_at_its_third_append(rt: HostRuntime) -> Result<(), Fail> {
     let alloc = rt.alloc();
     let fails = vec![in alloc; (2, 3)]?;
-    let plan = looped(alloc)?;
+    let plan = looped(alloc, 2, false)?;
     let fault = Err(TickFault::Write { sink: 0 });
     let held = [1, 0, 2, 0, 3, 0, 1, 0, 2, 0, 3];
     check_looped(&rt, alloc, &plan, fails, fault, &held)

@@ -61,7 +61,7 @@ module _ (b : ℕ) where
 
   gives_none : (setting : Setting) (accepted : ℕ → Bool) (m t : ℕ) (sinks : List SinkPlan) → takes_of b (flat_map (give_by setting accepted m t) sinks) ≡ []
   gives_none setting accepted m t [] = refl
-  gives_none setting accepted m t (Output name node fallible ∷ sinks) = gives_none setting accepted m t sinks
+  gives_none setting accepted m t (Output name node fallible wide ∷ sinks) = gives_none setting accepted m t sinks
   gives_none setting accepted m t (Feed to node ∷ sinks) =
       takes-append b (give_by setting accepted m t (Feed to node)) (flat_map (give_by setting accepted m t) sinks)
       ∙ (λ i. by (lies_in setting (Main m) node) i ++ gives_none setting accepted m t sinks i)

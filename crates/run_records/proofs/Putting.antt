@@ -108,7 +108,7 @@ module _ (b : ℕ) where
 
     no_gives : (sinks : List SinkPlan) → ((q node : ℕ) → slice_get sinks q ≡ Some (Feed b node) → ⊥) → puts_to b (flat_map (give_by setting accepted m t) sinks) ≡ []
     no_gives [] none = refl
-    no_gives (Output name node fallible ∷ sinks) none = no_gives sinks (λ q node at. none (suc q) node at)
+    no_gives (Output name node fallible wide ∷ sinks) none = no_gives sinks (λ q node at. none (suc q) node at)
     no_gives (Feed to node ∷ sinks) none = by (nat_eq b to) refl (no_gives sinks (λ q node at. none (suc q) node at))
       where
         by : (same : Bool) → nat_eq b to ≡ same → puts_to b (flat_map (give_by setting accepted m t) sinks) ≡ [] → puts_to b (flat_map (give_by setting accepted m t) (Feed to node ∷ sinks)) ≡ []
@@ -118,7 +118,7 @@ module _ (b : ℕ) where
     one_gives : (sinks : List SinkPlan) → ((p q x y : ℕ) → slice_get sinks p ≡ Some (Feed b x) → slice_get sinks q ≡ Some (Feed b y) → p ≡ q)
         → length (puts_to b (flat_map (give_by setting accepted m t) sinks)) ≤ 1
     one_gives [] one = omega arith
-    one_gives (Output name node fallible ∷ sinks) one =
+    one_gives (Output name node fallible wide ∷ sinks) one =
         one_gives sinks (λ p q x y at also. let same : suc p ≡ suc q = one (suc p) (suc q) x y at also in omega (arith, same))
     one_gives (Feed to node ∷ sinks) one = by (nat_eq b to) refl
         (one_gives sinks (λ p q x y at also. let same : suc p ≡ suc q = one (suc p) (suc q) x y at also in omega (arith, same)))

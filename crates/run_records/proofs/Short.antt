@@ -95,7 +95,7 @@ module _ (setting : Setting) (b : ℕ) where
 
   gives_small : (agreed : ℕ → Bool) (m t : ℕ) (sinks : List SinkPlan) → AreSmall setting.plan.frame (puts_to b (flat_map (give_by setting agreed m t) sinks))
   gives_small agreed m t [] = tt
-  gives_small agreed m t (Output name node fallible ∷ sinks) = gives_small agreed m t sinks
+  gives_small agreed m t (Output name node fallible wide ∷ sinks) = gives_small agreed m t sinks
   gives_small agreed m t (Feed to node ∷ sinks) =
       subst (AreSmall setting.plan.frame) (sym (puts-append b (give_by setting agreed m t (Feed to node)) (flat_map (give_by setting agreed m t) sinks)))
       (small_append setting.plan.frame (puts_to b (give_by setting agreed m t (Feed to node))) (puts_to b (flat_map (give_by setting agreed m t) sinks))

@@ -1,4 +1,4 @@
-use Rattle.std.proofs.Common.{◌≤◌, ◌+◌, ◌∙◌, ◌∷◌, suc, Some, None, List, length, map, replicate, set, ap, arith, sym}
+use Rattle.std.proofs.Common.{◌≤◌, ◌+◌, ◌∙◌, ◌∷◌, suc, Some, None, List, length, map, replicate, ap, arith, sym}
 use Rattle.std.specs.Simd.Lanes.{put_chunk}
 use Rattle.std.proofs.lemmas.List.{length-replicate, length-set}
 use Rattle.cell_ring.specs.Rings.{inner_cells}

@@ -1,7 +1,0 @@
-use Rattle.std.proofs.Common.{◌∙◌, sym}
-use Rattle.engine_tests.proofs.Outputs.{one_output}
-use Rattle.engine_tests.proofs.ticks_tests.begun.Goals as goal
-
-pub new-requires-clause-outs : goal.new-requires-clause-outs
-new-requires-clause-outs c =
-    c.requires.one ∙ sym (one_output c.args.plan.now c.args.library.now c.args.clocks.now.of c.args.start.second c.args.node c.requires.sinks c.requires.clock)

@@ -1,0 +1,116 @@
+//! The marks that an engine keeps. A tick has three samples, and so has the file, which is played again and again: it begins
+//! with each tick, and its title is 1.
+ghost use Rattle.std.specs.Prelude.{◌≡◌, ◌×◌, ℕ, Some, length, slice_get};
+ghost use Rattle.plan_core.specs.Plans.{IsWellFormed};
+ghost use Rattle.clock_infer.specs.Answers.{IsClockMap};
+ghost use Rattle.clock_infer.specs.declared.clock_map.NodeClock.TheVariants.{Main as InMain};
+ghost use Rattle.frame_core.specs.Library.{IsLibrary};
+ghost use Rattle.node_states.specs.Ticks.{IsOutput};
+ghost use Rattle.clock_engine.specs.Engines.{setting_of};
+ghost use Rattle.engine_tests.specs.Sole.{sole_node};
+
+use crate::small_engines::{begun, looped, one_file, one_sink, tick};
+use crate::small_plans::lies_in;
+use buffer_ends::LocalTaps;
+use clock_engine::{ClockEngine, CueMark, TickFault};
+use clock_infer::{ClockMap, assign};
+use frame_core::Library;
+use liq_base::MemSink;
+use plan_core::Plan;
+use std::alloc::Global;
+use std::process::Abort;
+use std::test::Fail;
+
+// Makes a tick, if the engine did not stop before.
+fn tick_on(
+    rt: &impl Abort,
+    alloc: Global,
+    engine: &mut ClockEngine<'_, MemSink>,
+    taps: &mut LocalTaps,
+)
+    requires buffers { length taps.old ≡ length (setting_of engine.old.parts).plan.buffers }
+    ensures buffers { length taps.new ≡ length taps.old }
+    ensures setting { setting_of engine.new.parts ≡ setting_of engine.old.parts }
+    ensures clock { engine.new.parts.clock ≡ engine.old.parts.clock }
+{
+    if engine.stopped().is_none() {
+        let _ = tick(rt, alloc, engine, taps);
+    }
+}
+
+// Of each tick that was made the output has one mark. Where memory sufficed, its marks are these.
+fn check_marks(rt: &impl Abort, engine: &ClockEngine<'_, MemSink>, marks: &[CueMark])
+    requires output { (node : ℕ) × IsOutput (setting_of engine.now.parts) engine.now.parts.clock 0 node }
+{
+    let cues = engine.cues(0);
+    assert_eq!(rt; cues.len() as u64, engine.ticks());
+    if engine.stopped() != Some(TickFault::Memory) {
+        assert_eq!(rt; cues, marks);
+    }
+}
+
+// The marks of three ticks, or of those before one that fails.
+fn check_clock(
+    rt: &impl Abort,
+    alloc: Global,
+    plan: &Plan,
+    clocks: &ClockMap,
+    library: &Library,
+    taps: &mut LocalTaps,
+    fails: Vec<(u64, u64)>,
+    marks: &[CueMark],
+) -> Result<(), Fail>
+    requires plan { IsWellFormed plan.now }
+    requires clocks { IsClockMap plan.now clocks.now }
+    requires library { IsLibrary library.now }
+    requires leaves { length library.now.leaves ≡ length plan.now.nodes }
+    requires sinks { sole_node plan.now.sinks ≡ Some 0 }
+    requires clock { slice_get clocks.now.of 0 ≡ Some (InMain 0) }
+    requires buffers { length taps.old ≡ length plan.now.buffers }
+{
+    let outs = one_sink(alloc, fails)?;
+    match begun(alloc, plan, clocks, 0, library, outs) {
+        Ok(mut engine) => {
+            engine.keep_cues();
+            tick_on(rt, alloc, &mut engine, taps);
+            tick_on(rt, alloc, &mut engine, taps);
+            tick_on(rt, alloc, &mut engine, taps);
+            check_marks(rt, &engine, marks);
+            drop(engine.into_outs());
+            Ok(())
+        }
+        Err((_, refused)) => Err(Fail::from(refused)),
+    }
+}
+
+// The same over the clocks that the plan has, with a sink that fails so.
+fn check(
+    rt: &impl Abort,
+    alloc: Global,
+    fails: Vec<(u64, u64)>,
+    marks: &[CueMark],
+) -> Result<(), Fail> {
+    let plan = looped(alloc, 3, false)?;
+    let library = one_file(alloc)?;
+    let clocks = assign(alloc, &plan)?;
+    assert!(rt; lies_in(&clocks, 0, 0));
+    let mut taps = LocalTaps::new(alloc, &plan)?;
+    check_clock(rt, alloc, &plan, &clocks, &library, &mut taps, fails, marks)
+}
+
+const MARKS: [CueMark; 3] = [
+    CueMark { at: 0, title: 1 },
+    CueMark { at: 3, title: 1 },
+    CueMark { at: 6, title: 1 },
+];
+
+#[test]
+fn a_file_begins_with_each_tick(rt: HostRuntime) -> Result<(), Fail> {
+    check(&rt, rt.alloc(), Vec::new(rt.alloc()), &MARKS)
+}
+
+#[test]
+fn a_tick_that_stops_the_engine_has_no_marks(rt: HostRuntime) -> Result<(), Fail> {
+    let fails = vec![in rt.alloc(); (2, 3)]?;
+    check(&rt, rt.alloc(), fails, &MARKS[..2])
+}
