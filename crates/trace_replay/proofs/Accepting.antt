@@ -19,7 +19,7 @@ use Rattle.trace_replay.specs.Told.{are_legal}
 use Rattle.trace_replay.specs.Clocks.{Log}
 use Rattle.trace_replay.specs.Passes.{IsFormed, IsLegalText, IsOrderedText}
 use Rattle.trace_replay.specs.Answering.{BufferState}
-use Rattle.trace_replay.specs.Turns.{AreFit, chunks_of, no_state}
+use Rattle.trace_replay.specs.Turns.{AreFit, AreTold, chunks_of, no_state}
 use Rattle.trace_replay.specs.Finds.{HaveFound}
 use Rattle.trace_replay.specs.Traces.{AreNew, new_state, pair_of, text_of}
 use Rattle.trace_replay.proofs.Completing.{completed, record_legal}
@@ -122,3 +122,6 @@ module _ (base : Setting) (clocks : ClockMap) (is : IsSetting base clocks) (trac
         let legal_now = record_legal base clocks is trace.window trace.ticks text ordered.run ordered.lawful ordered.told in
         let known : b < B = omega (arith, low, size) in
         some no_state (ap (λ (s : BufferState). s.takes) (state_is b no_state known) ∙ legal_now.unread b known (let same = sides b known in omega (arith, high, same)))
+
+pub told_in : (base : Setting) (W N : ℕ) (text : ℕ → Log) (states : List BufferState) (ends : List Ends) → AreFit base W N text states ends → AreTold base text states
+told_in base W N text states ends fit = fit.told

@@ -1,10 +1,11 @@
 -- The trace that a record leaves.
-use Rattle.std.proofs.Common.{◌≡◌, ◌∙◌, ℕ, zero, suc, List, [], ◌∷◌, length, map, slice_index_or, refl, ap, sym}
+use Rattle.std.proofs.Common.{◌≡◌, ◌∙◌, ℕ, zero, suc, List, [], ◌∷◌, length, map, slice_index_or, refl, ap, subst, sym}
 use Rattle.clock_infer.specs.declared.clock_map.ClockMap.{ClockMap}
 use Rattle.stream_meaning.specs.Instants.{Setting}
 use Rattle.stream_meaning.specs.Settings.{IsSetting}
 use Rattle.run_records.specs.Ordered.{IsOrdered, told}
 use Rattle.run_records.specs.Records.{IsLawful, Run, Window, setting_in, windows_of}
+use Rattle.buffer_ends.specs.Local.{Answers}
 use Rattle.buffer_sides.specs.Logs.{told as log_of}
 use Rattle.run_records.proofs.Replaying.{text_is_whole}
 use Rattle.trace_log.specs.Values.{TraceValue}
@@ -41,6 +42,11 @@ ordered_accepted base clocks is W N run lawful ordered = record {
 pub onward_accepted : (base : Setting) (clocks : ClockMap) → IsSetting base clocks → (W N : ℕ) (run : Run) → IsLawful base clocks.running W N run → (listing : List ℕ) → LeadOnward base clocks.running listing
     → IsAccepted base clocks.running N (trace_of W N run)
 onward_accepted base clocks is W N run lawful listing lead = ordered_accepted base clocks is W N run lawful (ordered_onward base clocks is W N run lawful listing lead)
+
+pub logs_accepted : (base : Setting) (clocks : ClockMap) → IsSetting base clocks → (W N : ℕ) (run : Run) → IsLawful base clocks.running W N run → (logs : List (List Answers)) → logs ≡ map (map log_of) run.buffers
+    → (listing : List ℕ) → LeadOnward base clocks.running listing → IsAccepted base clocks.running N (record { ticks = N; window = W; buffers = logs })
+logs_accepted base clocks is W N run lawful logs e listing lead =
+    subst (λ (l : List (List Answers)). IsAccepted base clocks.running N (record { ticks = N; window = W; buffers = l })) (sym e) (onward_accepted base clocks is W N run lawful listing lead)
 
 pub one_record : (base : Setting) (clocks : ClockMap) → IsSetting base clocks → (N : ℕ) (trace : TraceValue) → (accepted : IsAccepted base clocks.running N trace)
     → (run : Run) → IsLawful base clocks.running trace.window N run → trace ≡ trace_of trace.window N run → accepted.ordered.run ≡ run

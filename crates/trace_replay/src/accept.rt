@@ -2,10 +2,10 @@
 ghost use Rattle.std.specs.Prelude.{◌≡◌, ◌≤◌, ℕ, [], true, false, length, slice_index_or, IfOk};
 ghost use Rattle.stream_meaning.specs.Settings.{IsSetting};
 ghost use Rattle.trace_log.specs.Texts.{IsTrace};
-ghost use Rattle.trace_replay.specs.Finds.{base_at};
+ghost use Rattle.trace_replay.specs.Finds.{HaveFound, base_at};
 ghost use Rattle.trace_replay.specs.Passes.{IsOrderedText};
 ghost use Rattle.trace_replay.specs.Traces.{AreNew, IsAccepted, text_of};
-ghost use Rattle.trace_replay.specs.Turns.{AreSides, base_of};
+ghost use Rattle.trace_replay.specs.Turns.{AreSides, AreTold, base_of};
 
 use crate::buffers::{all_legal, sides_of, told_buffers, unread_stay};
 use crate::course::Course;
@@ -22,8 +22,9 @@ use plan_core::Plan;
 use std::alloc::Global;
 use trace_log::Trace;
 
-// Whether the text of a trace with as many buffers as the plan is that of a lawful record whose ticks can be ordered.
-fn judge(
+/// Whether the text of a trace with as many buffers as the plan is that of a lawful record whose ticks can be ordered. Where
+/// it is, the buffers then hold all the chunks that their feeds make.
+pub fn judge(
     alloc: Global,
     station: &Station<'_>,
     taps: &mut ToldTaps,
@@ -42,6 +43,8 @@ fn judge(
     requires new { AreNew station.now.plan.now.buffers logs.now (length station.now.plan.now.buffers) taps.old.buffers.items ends.now }
     ensures yes { IfOk result (λ found. found ≡ true → IsOrderedText (base_at station.now) station.now.clocks.now.running window ticks (text_of logs.now)) }
     ensures no { IfOk result (λ found. found ≡ false → IsOrderedText (base_at station.now) station.now.clocks.now.running window ticks (text_of logs.now) → ⊥) }
+    ensures found { IfOk result (λ found. found ≡ true → HaveFound (base_at station.now) station.now.clocks.now window ticks (text_of logs.now) taps.new.buffers.items) }
+    ensures told { IfOk result (λ found. found ≡ true → AreTold (base_at station.now) (text_of logs.now) taps.new.buffers.items) }
 {
     if !all_legal(station.plan.buffers.as_slice(), logs) {
         return Ok(false);

@@ -8,7 +8,10 @@ ghost use Rattle.stream_meaning.specs.Instants.{Setting};
 ghost use Rattle.stream_meaning.specs.Settings.{IsSetting};
 ghost use Rattle.run_records.specs.Ordered.{IsOrdered};
 ghost use Rattle.run_records.specs.Records.{IsLawful, Run, setting_in};
+ghost use Rattle.buffer_ends.specs.Local.{Answers};
+ghost use Rattle.buffer_sides.specs.Logs.{told};
 ghost use Rattle.trace_replay.specs.Listings.{LeadOnward};
+ghost use Rattle.trace_replay.specs.Replays.{IsRecordOf};
 ghost use Rattle.trace_log.specs.Values.{TraceValue};
 ghost use Rattle.trace_replay.specs.Told.{is_legal};
 ghost use Rattle.trace_replay.specs.Traces.{IsAccepted, trace_of};
@@ -38,8 +41,20 @@ pub fn onward_traces_are_accepted()
         → LeadOnward base clocks.running listing → IsAccepted base clocks.running N (trace_of W N run) }
 {}
 
+/// So is that of a run by threads, whose logs are the answers of a lawful record.
+pub fn logs_of_onward_runs_are_accepted()
+    ensures { (base : Setting) (clocks : Map) → IsSetting base clocks → (W N : ℕ) (run : Run) → IsLawful base clocks.running W N run → (logs : List (List Answers)) → logs ≡ map (map told) run.buffers
+        → (listing : List ℕ) → LeadOnward base clocks.running listing → IsAccepted base clocks.running N (record { ticks = N; window = W; buffers = logs }) }
+{}
+
 /// An accepted trace tells one record: that of the run that left it, if a run left it.
 pub fn accepted_traces_tell_one_record()
     ensures { (base : Setting) (clocks : Map) → IsSetting base clocks → (N : ℕ) (trace : TraceValue) → (accepted : IsAccepted base clocks.running N trace)
         → (run : Run) → IsLawful base clocks.running trace.window N run → trace ≡ trace_of trace.window N run → accepted.ordered.run ≡ run }
+{}
+
+/// The record of a replay is that of the run that left the trace, if a run left it: so the replay makes the run's bytes.
+pub fn replays_are_of_the_run()
+    ensures { (base : Setting) (clocks : Map) → IsSetting base clocks → (trace : TraceValue) (run other : Run) → IsRecordOf base clocks.running trace run
+        → IsLawful base clocks.running trace.window trace.ticks other → trace ≡ trace_of trace.window trace.ticks other → run ≡ other }
 {}

@@ -9,10 +9,10 @@ ghost use Rattle.trace_replay.specs.Replays.{HasReplayedAll, HasReplayedSome};
 ghost use Rattle.trace_replay.specs.Traces.{IsAccepted, counts_in, text_of};
 ghost use Rattle.trace_replay.specs.Turns.{AreSides, AreTold, base_of};
 
+use crate::accept::judge;
 use crate::buffers::{sides_of, told_buffers};
 use crate::course::Course;
 use crate::engines::replay_engines;
-use crate::find::find_chunks;
 use crate::logs::told_run;
 use crate::station::{Sides, Station};
 use crate::taps::ToldTaps;
@@ -47,7 +47,7 @@ fn all_chunks(
         course: Course::Goes,
         alloc,
     };
-    if find_chunks(
+    if judge(
         alloc,
         station,
         &mut taps,
@@ -55,6 +55,7 @@ fn all_chunks(
         &ends,
         trace.window,
         trace.ticks,
+        &trace.buffers,
     )? {
         return Ok((taps, sides));
     }

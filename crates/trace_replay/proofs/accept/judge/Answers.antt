@@ -3,7 +3,7 @@ use Rattle.std.specs.Prelude.{◌≤◌, slice_get, slice_index_or}
 use Rattle.trace_replay.specs.Answering.{BufferState}
 use Rattle.trace_replay.specs.Finds.{base_at}
 use Rattle.trace_replay.specs.Traces.{text_of}
-use Rattle.trace_replay.proofs.Accepting.{done, empty, fit, legal, not_legal, not_unread}
+use Rattle.trace_replay.proofs.Accepting.{done, empty, fit, legal, not_legal, not_unread, told_in}
 use Rattle.trace_replay.proofs.Readying.{ok_map}
 use Rattle.trace_replay.proofs.accept.judge.Goals as goal
 
@@ -55,3 +55,13 @@ returns-clause-yes c =
     (λ b plan at. c.all_legal.ensures.yes c.if-not-all_legal.false b plan (ap (λ l. slice_get l b) c.as_slice.ensures ∙ at))
     (λ b d low high. ap (λ (l : List BufferState). (slice_index_or l b d).takes) (sym there) ∙ c.unread_stay.ensures.yes c.if-not-unread_stay.false b d (subst (λ (l : List BufferState). b < length l) (sym there) low)
     (subst (λ (l : List ℕ). c.args.station.now.clocks.now.running ≤ slice_index_or l b 0) (sym reads) high)))) c.find_chunks.ensures.found
+
+pub returns-clause-found : goal.returns-clause-found
+returns-clause-found c = ok_map c.find_chunks.result (λ found h e. h e (text_of c.args.logs.now)
+    (fit (base_at c.args.station.now) c.args.station.now.clocks.now c.requires.setting (record { ticks = c.args.ticks; window = c.args.window; buffers = c.args.logs.now }) c.requires.trace c.requires.buffers
+    c.args.taps.now.buffers.items c.args.ends.now c.requires.size c.requires.new)) c.find_chunks.ensures.found
+
+pub returns-clause-told : goal.returns-clause-told
+returns-clause-told c = ok_map c.find_chunks.result (λ found h e. told_in (base_at c.args.station.now) c.args.window c.args.ticks (text_of c.args.logs.now) c.find_chunks.new.taps.buffers.items c.args.ends.now (h (text_of c.args.logs.now)
+    (fit (base_at c.args.station.now) c.args.station.now.clocks.now c.requires.setting (record { ticks = c.args.ticks; window = c.args.window; buffers = c.args.logs.now }) c.requires.trace c.requires.buffers
+    c.args.taps.now.buffers.items c.args.ends.now c.requires.size c.requires.new))) c.find_chunks.ensures.fit
