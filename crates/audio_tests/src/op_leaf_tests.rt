@@ -178,7 +178,12 @@ fn chunk_of(alloc: Global, cells: &[Option<Cell>]) -> Result<Option<Chunk>, Memo
 fn playing_reader(rt: &impl Abort, alloc: Global) -> Result<ReaderState, Fail> {
     let mut reader = ReaderState::new(alloc, 2, 4)?;
     let one = [inner(4, 1, -1)];
-    let more = [inner(4, 2, -2), first(4, 3, -3), inner(4, 4, -4), inner(4, 5, -5)];
+    let more = [
+        inner(4, 2, -2),
+        first(4, 3, -3),
+        inner(4, 4, -4),
+        inner(4, 5, -5),
+    ];
     let (Some(one), Some(more)) = (chunk_of(alloc, &one)?, chunk_of(alloc, &more)?) else {
         return Err(Fail::from("no chunk"));
     };
@@ -252,5 +257,37 @@ fn a_run_over_all_of_a_first_stretch(rt: HostRuntime) -> Result<(), Fail> {
     check_run(&rt, &mut reader, &mut single, &[3, 4]);
     assert_eq!(rt; reader.offer(), inner(4, 5, -5));
     check_stretches(&rt, &reader, [1, 1, 1, 1]);
+    Ok(())
+}
+
+// A reader that plays: it holds the samples 1 to 4, of which the third and the fourth have another title and begin no track.
+fn reader_of_two_titles(rt: &impl Abort, alloc: Global) -> Result<ReaderState, Fail> {
+    let mut reader = ReaderState::new(alloc, 1, 4)?;
+    let cells = [
+        inner(4, 1, -1),
+        inner(4, 2, -2),
+        inner(5, 3, -3),
+        inner(5, 4, -4),
+    ];
+    let Some(chunk) = chunk_of(alloc, &cells)? else {
+        return Err(Fail::from("no chunk"));
+    };
+    assert!(rt; reader.wants());
+    reader.accept(chunk);
+    reader.begin();
+    Ok(reader)
+}
+
+#[test]
+fn a_stretch_of_a_reader_ends_before_another_title(rt: HostRuntime) -> Result<(), Fail> {
+    let mut reader = reader_of_two_titles(&rt, rt.alloc())?;
+    let mut single = reader_of_two_titles(&rt, rt.alloc())?;
+    assert_eq!(rt; reader.offer(), first(4, 1, -1));
+    check_stretches(&rt, &reader, [1, 2, 2, 2]);
+    check_run(&rt, &mut reader, &mut single, &[1, 2]);
+    assert_eq!(rt; reader.offer(), inner(5, 3, -3));
+    assert_eq!(rt; reader.rest(4, 9), 0);
+    assert_eq!(rt; reader.rest(5, 9), 2);
+    check_stretches(&rt, &reader, [1, 2, 2, 2]);
     Ok(())
 }

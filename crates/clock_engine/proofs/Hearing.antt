@@ -1,5 +1,5 @@
 -- What the outputs and feeds of a clock hear, one segment at a time.
-use Rattle.std.proofs.Common.{◌≡◌, ◌<◌, ◌≤◌, ◌+◌, ◌*◌, ◌∙◌, ◌++◌, ℕ, zero, suc, All, drop, Some, None, Bool, true, false, List, [], ◌∷◌, length, get_or, map, slice_get, take, append_assoc, append-nil, arith, refl, ap, sym, subst, inl, inr}
+use Rattle.std.proofs.Common.{◌≡◌, ◌<◌, ◌≤◌, ◌+◌, ◌∙◌, ◌++◌, ℕ, zero, suc, All, drop, Some, None, Bool, true, false, List, [], ◌∷◌, length, get_or, map, slice_get, take, append_assoc, append-nil, arith, refl, ap, sym, subst, inl, inr}
 use Rattle.std.specs.List.{range_with_len}
 use Rattle.std.proofs.lemmas.Bool.{cases_lt}
 use Rattle.std.proofs.lemmas.Option.{slice_get_within, slice_get-get_or}

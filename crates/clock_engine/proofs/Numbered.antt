@@ -137,7 +137,7 @@ module _ (setting : Setting) (m : ℕ) (ports : List Port) (outputs : map output
   pub port_found : (sink node : ℕ) → IsOutput setting m sink node → (k : ℕ) × (port : Port) × (slice_get ports k ≡ Some port) × (port.sink ≡ sink)
   port_found sink node output =
       let inside : lies_in setting (Main m) node ≡ true = ap (λ clock. same_clock clock (Main m)) output.in_clock ∙ same_main m in
-      let found = is_found setting m 0 setting.plan.sinks sink output.name node output.fallible output.there inside in
+      let found = is_found setting m 0 setting.plan.sinks sink output.name node output.fallible output.wide output.there inside in
       let its = from_mapped output_of ports found.0 (0 + sink, node) (ap (λ xs. slice_get xs found.0) outputs ∙ found.1) in
       let number : 0 + sink ≡ sink = omega arith in
       (found.0, its.0, its.1, ap (λ pair. pair.0) its.2 ∙ number)

@@ -39,7 +39,13 @@ pub fn ports_of(alloc: Global, shape: &Shape<'_>, clock: u32) -> Result<Vec<Port
 }
 
 // The output of a node, wide or not, as the plan's sink of this number says.
-fn port_of(alloc: Global, shape: &Shape<'_>, sink: u32, node: u32, wide: bool) -> Result<Port, Memory>
+fn port_of(
+    alloc: Global,
+    shape: &Shape<'_>,
+    sink: u32,
+    node: u32,
+    wide: bool,
+) -> Result<Port, Memory>
     requires within { node < length shape.now.plan.now.nodes }
     requires frame { shape.now.plan.now.frame ≤ 65536 }
     requires width { (other : Setting) → wide ≡ is_wide (over shape.now.plan.now shape.now.library.now shape.now.clocks.now other) sink }
