@@ -1,5 +1,5 @@
 -- The engines of a replay, one after another.
-use Rattle.std.proofs.Common.{◌≡◌, ◌<◌, ◌≤◌, ◌+◌, ◌∙◌, ◌⊎◌, ℕ, zero, suc, true, false, cond, nat_eq, nat_lt, Some, Option, List, [], length, set, slice_get, inl, inr, refl, ap, sym, subst, arith}
+use Rattle.std.proofs.Common.{◌≡◌, ◌<◌, ◌≤◌, ◌+◌, ◌∙◌, ◌⊎◌, ℕ, zero, suc, Bool, true, false, cond, nat_eq, nat_lt, Some, Option, List, [], length, set, slice_get, inl, inr, refl, ap, sym, subst, arith}
 use Rattle.std.proofs.lemmas.Bool.{cases_lt, le-ltb, lt-ltb}
 use Rattle.std.proofs.lemmas.Bool.Decides.{nat_tests}
 use Rattle.std.proofs.lemmas.Option.{slice_get_within}
@@ -20,15 +20,15 @@ use Rattle.trace_replay.specs.Replays.{AreReplayed, HasReplayedPart, HasReplayed
 
 -- of the clocks below one, of this one, and of those above it
 to_below : (N clock n m : ℕ) → m < clock → ticks_to N clock n m ≡ N
-to_below N clock n m low = ap (λ b. cond b N (cond (nat_eq m clock) n 0)) (lt-ltb m clock low)
+to_below N clock n m low = ap (λ (b : Bool). cond b N (cond (nat_eq m clock) n 0)) (lt-ltb m clock low)
 
 to_here : (N clock n m : ℕ) → m ≡ clock → ticks_to N clock n m ≡ n
 to_here N clock n m e = (let none : nat_lt m clock ≡ false = le-ltb m clock (omega (arith, e)) in let on : nat_eq m clock ≡ true = grind (arith, nat_tests, e) in
-    ap (λ b. cond b N (cond (nat_eq m clock) n 0)) none ∙ ap (λ b. cond b n 0) on)
+    ap (λ (b : Bool). cond b N (cond (nat_eq m clock) n 0)) none ∙ ap (λ (b : Bool). cond b n 0) on)
 
 to_above : (N clock n m : ℕ) → clock < m → ticks_to N clock n m ≡ 0
 to_above N clock n m high = (let none : nat_lt m clock ≡ false = le-ltb m clock (omega (arith, high)) in let off : nat_eq m clock ≡ false = grind (arith, nat_tests, high) in
-    ap (λ b. cond b N (cond (nat_eq m clock) n 0)) none ∙ ap (λ b. cond b n 0) off)
+    ap (λ (b : Bool). cond b N (cond (nat_eq m clock) n 0)) none ∙ ap (λ (b : Bool). cond b n 0) off)
 
 module _ {S : Type 0} (held name : S → Option (List ℕ)) (faults : S → ℕ) (setting : Setting) (N : ℕ) where
   abbrev Part : (least most : ℕ) → ClockEngine S → ClockEngine S → Type 0
@@ -191,3 +191,7 @@ module _ {S : Type 0} (held name : S → Option (List ℕ)) (faults : S → ℕ)
     };
     write = λ failed sink e. absurd (no_write_here end (λ done. is) failed sink e);
   }
+
+  -- the same end, told again
+  pub ended_so : (first now : List (ClockEngine S)) (end told : End) → told ≡ end → HasReplayedTo held name faults setting N first now end → HasReplayedTo held name faults setting N first now told
+  ended_so first now end told is to = subst (HasReplayedTo held name faults setting N first now) (sym is) to

@@ -1,5 +1,5 @@
 -- The run of one engine over all the chunks of a record makes the record's ticks.
-use Rattle.std.proofs.Common.{◌≡◌, ◌<◌, ◌≤◌, ◌∙◌, ◌++◌, ◌×◌, ℕ, zero, suc, Bool, Option, List, [], ◌∷◌, length, slice_index_or, flat_map, inl, inr, refl, ap, sym, subst, arith, append-nil}
+use Rattle.std.proofs.Common.{◌≡◌, ◌<◌, ◌≤◌, ◌∙◌, ◌++◌, ℕ, zero, suc, Bool, Option, List, [], ◌∷◌, length, slice_index_or, flat_map, inl, inr, refl, ap, sym, subst, arith, append-nil}
 use Rattle.std.specs.Prelude.{All}
 use mathlib.Core.Path.{fun_ext}
 use Rattle.std.proofs.lemmas.Bool.{cases_lt, cases_eq}
@@ -96,6 +96,21 @@ module _ (base : Setting) (clocks : ClockMap) (is : IsSetting base clocks) (text
         taken = kept;
         whole = subst (λ (k : ℕ). HasReplayed base text W N k N (chunks_of states) (got_then calls nothing) kept) (sym clock_is) replayed_here;
       }
+
+  -- of so many ticks
+  pub replaying_here : {S : Type 0} (held name : S → Option (List ℕ)) (room : S → Option ℕ) (faults : S → ℕ) (n : ℕ) (first now : ClockEngine S) (new after : List BufferState) → n ≡ N → first.parts.clock ≡ m
+      → MayReplay room score_here N first.parts.clock first new
+      → ((score : Score) → MayReplay room score n first.parts.clock first new → IsReplaying held name room faults score n first.parts.clock n first now after) → IsReplaying held name room faults score_here N m N first now after
+  replaying_here held name room faults n first now new after same clock_is may told_run =
+      subst (λ (k : ℕ). IsReplaying held name room faults score_here N k N first now after) clock_is
+      (subst (λ (t : ℕ). MayReplay room score_here t first.parts.clock first new → IsReplaying held name room faults score_here t first.parts.clock t first now after) same (told_run score_here) may)
+
+  pub broken_here : {S : Type 0} (held name : S → Option (List ℕ)) (room : S → Option ℕ) (faults : S → ℕ) (n : ℕ) (first now : ClockEngine S) (new : List BufferState) → n ≡ N → first.parts.clock ≡ m
+      → MayReplay room score_here N first.parts.clock first new
+      → ((score : Score) → MayReplay room score n first.parts.clock first new → IsBrokenOff held name faults score n first.parts.clock first now) → IsBrokenOff held name faults score_here N m first now
+  broken_here held name room faults n first now new same clock_is may told_run =
+      subst (λ (k : ℕ). IsBrokenOff held name faults score_here N k first now) clock_is
+      (subst (λ (t : ℕ). MayReplay room score_here t first.parts.clock first new → IsBrokenOff held name faults score_here t first.parts.clock first now) same (told_run score_here) may)
 
   -- behind the last one
   module _ {S : Type 0} (held name : S → Option (List ℕ)) (room : S → Option ℕ) (faults : S → ℕ) (first now : ClockEngine S) (after : List BufferState)

@@ -15,6 +15,7 @@ ghost use Rattle.trace_replay.specs.Traces.{text_of};
 ghost use Rattle.trace_replay.specs.Turns.{AreSides, AreTold, Score};
 
 use crate::course::Course;
+use crate::parts::ticks_of;
 use crate::station::{Sides, Station};
 use crate::taps::{ToldTaps, begin_run};
 use buffer_ends::End;
@@ -88,7 +89,7 @@ fn replay_engine<O: Sink>(
         engine.clock(),
     );
     taps.course = Course::Goes;
-    replay_clock(alloc, engine, taps, trace.ticks)
+    replay_clock(alloc, engine, taps, ticks_of(trace))
 }
 
 /// Makes all ticks of each engine, one engine after another. The first fault ends it.

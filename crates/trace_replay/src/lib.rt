@@ -11,6 +11,7 @@ mod find;
 mod flat;
 mod laws;
 mod logs;
+mod parts;
 mod station;
 mod taps;
 mod told;

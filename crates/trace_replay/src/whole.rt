@@ -14,6 +14,7 @@ use crate::buffers::{sides_of, told_buffers};
 use crate::course::Course;
 use crate::engines::replay_engines;
 use crate::logs::told_run;
+use crate::parts::{logs_of, ticks_of, window_of};
 use crate::station::{Sides, Station};
 use crate::taps::ToldTaps;
 use buffer_ends::{BufferLog, End, RunEnd};
@@ -26,36 +27,31 @@ use plan_core::Plan;
 use std::alloc::Global;
 use trace_log::Trace;
 
-// The buffers of a plan with all the chunks of the record that a trace tells, and the clocks of their ends. A trace that is
-// accepted has them all, so memory alone is missing where there is no answer.
+// The buffers of a plan with all the chunks of the record that a text tells, and the clocks of their ends. The text of a
+// trace that is accepted tells them all, so memory alone is missing where there is no answer.
 fn all_chunks(
     alloc: Global,
     station: &Station<'_>,
-    trace: &Trace,
+    window: u64,
+    ticks: u64,
+    logs: &[BufferLog],
 ) -> Result<(ToldTaps, Sides), Memory>
     requires setting { IsSetting (base_at station.now) station.now.clocks.now }
-    requires trace { IsTrace trace.now }
-    requires accepted { IsAccepted (base_at station.now) station.now.clocks.now.running trace.now.ticks trace.now }
-    ensures told { IfOk result (λ r. AreTold (base_at station.now) (text_of trace.now.buffers) r.0.buffers.items) }
-    ensures found { IfOk result (λ r. HaveFound (base_at station.now) station.now.clocks.now trace.now.window trace.now.ticks (text_of trace.now.buffers) r.0.buffers.items) }
+    requires trace { IsTrace (record { ticks = ticks; window = window; buffers = logs.now }) }
+    requires buffers { length logs.now ≡ length station.now.plan.now.buffers }
+    ensures told { IfOk result (λ r. AreTold (base_at station.now) (text_of logs.now) r.0.buffers.items) }
+    ensures found { IfOk result (λ r. HaveFound (base_at station.now) station.now.clocks.now window ticks (text_of logs.now) r.0.buffers.items) }
     ensures sides { IfOk result (λ r. AreSides (base_at station.now) r.1.feeders.items r.1.readers.items) }
 {
     let sides = sides_of(alloc, station.plan, station.clocks)?;
-    let (buffers, ends) = told_buffers(alloc, station.plan.buffers.as_slice(), &trace.buffers)?;
+    let (buffers, ends) = told_buffers(alloc, station.plan.buffers.as_slice(), logs)?;
     let mut taps = ToldTaps {
         buffers,
         course: Course::Goes,
         alloc,
     };
     if judge(
-        alloc,
-        station,
-        &mut taps,
-        &sides,
-        &ends,
-        trace.window,
-        trace.ticks,
-        &trace.buffers,
+        alloc, station, &mut taps, &sides, &ends, window, ticks, logs,
     )? {
         return Ok((taps, sides));
     }
@@ -113,11 +109,14 @@ pub fn replay<O: Sink>(
         library,
         start,
     };
-    let Ok((mut taps, sides)) = all_chunks(alloc, &station, trace) else {
+    let logs = logs_of(trace);
+    let Ok((mut taps, sides)) =
+        all_chunks(alloc, &station, window_of(trace), ticks_of(trace), logs)
+    else {
         return ended(alloc, End::Memory);
     };
     match replay_engines(alloc, &station, engines, &mut taps, &sides, trace) {
-        Ok(()) => told_or_ended(alloc, &trace.buffers),
+        Ok(()) => told_or_ended(alloc, logs),
         Err(end) => ended(alloc, end),
     }
 }

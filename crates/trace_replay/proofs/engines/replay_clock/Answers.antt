@@ -1,6 +1,7 @@
 use Rattle.std.proofs.Common.{◌≡◌, ◌∙◌, ◌+◌, suc, length, sym, ap, subst, arith}
 use Rattle.trace_replay.specs.Replaying.{IsReplaying}
 use Rattle.trace_replay.proofs.Rendering.{replay_begins, replay_breaks, replay_goes_on, room_now, sink_failed, still_goes}
+use Rattle.std.proofs.lemmas.Result.{err_from_is_err_and}
 use Rattle.node_states.proofs.Chunks.{on_err}
 use Rattle.trace_replay.proofs.engines.replay_clock.Goals as goal
 
@@ -48,3 +49,10 @@ pub returns-clause-done : goal.returns-clause-done
 returns-clause-done g c = λ score may.
     let full : c.loop-tick._tick ≡ c.args.ticks = omega (arith, c.loop-tick-test.false, c.loop-tick.auto._tick-end) in
     subst (λ k. IsReplaying g.O.Sink.held g.O.Sink.name g.O.Sink.room g.O.Sink.faults score c.args.ticks c.args.engine.now.parts.clock k c.args.engine.now c.loop-tick.engine c.loop-tick.taps.buffers.items) full (c.loop-tick.invariant.goes score may)
+
+pub returns-in_err-tick-clause-cause : goal.returns-in_err-tick-clause-cause
+returns-in_err-tick-clause-cause g c =
+    let p = err_from_is_err_and c.from_residual.result c.from_residual.ensures.1 in rw (p.1, p.2) (λ sink e.
+    sink_failed g.O.Sink.held g.O.Sink.name g.O.Sink.room g.O.Sink.faults c.requires.play.0 c.args.ticks c.args.engine.now.parts.clock c.loop-tick._tick c.loop-tick-test.true c.args.engine.now c.loop-tick.engine c.tick.new.self c.args.taps.now.buffers.items c.requires.play.1
+    c.loop-tick.taps c.tick.new.taps (c.loop-tick.invariant.goes c.requires.play.0 c.requires.play.1) c.loop-tick.invariant.course c.tick.ensures.taps c.tick.ensures.setting c.tick.ensures.clock
+    c.in_err-tick.field-0 (c.in_err-tick.ensures.cause sink e) sink e)
