@@ -1,5 +1,5 @@
 -- The engines of a replay, one after another.
-use Rattle.std.proofs.Common.{◌≡◌, ◌<◌, ◌≤◌, ◌+◌, ◌∙◌, ◌⊎◌, ℕ, zero, suc, Bool, true, false, cond, nat_eq, nat_lt, Some, Option, List, [], length, set, slice_get, inl, inr, refl, ap, sym, subst, arith}
+use Rattle.std.proofs.Common.{◌≡◌, ◌<◌, ◌≤◌, ◌+◌, ◌∙◌, ℕ, suc, Bool, true, false, cond, nat_eq, nat_lt, Some, Option, List, [], length, set, slice_get, inl, inr, refl, ap, sym, subst, arith}
 use Rattle.std.proofs.lemmas.Bool.{cases_lt, le-ltb, lt-ltb}
 use Rattle.std.proofs.lemmas.Bool.Decides.{nat_tests}
 use Rattle.std.proofs.lemmas.Option.{slice_get_within}
@@ -12,9 +12,9 @@ use Rattle.buffer_ends.specs.declared.run_end.End.{End}
 use Rattle.buffer_ends.specs.declared.run_end.End.TheVariants.{Done, Write, Memory as NoMemory}
 use Rattle.clock_engine.specs.declared.engine.ClockEngine.{ClockEngine}
 use Rattle.clock_engine.specs.Engines.{held_of, outputs_of, setting_of}
-use Rattle.rounds_run.specs.Rounds.{HasRunPart, HaveRunPart, IsWriteEnd}
+use Rattle.rounds_run.specs.Rounds.{HasRunPart, IsWriteEnd}
 use Rattle.rounds_run.specs.Runs.{HasRunTicks, HaveRunTicks}
-use Rattle.rounds_run.proofs.Fronts.{grown_nothing, itself, ticks_front}
+use Rattle.rounds_run.proofs.Fronts.{grown_nothing, itself}
 use Rattle.trace_replay.specs.Replaying.{HasSinkFailed}
 use Rattle.trace_replay.specs.Replays.{AreReplayed, HasReplayedPart, HasReplayedTo, ticks_to}
 

@@ -19,9 +19,9 @@ use Rattle.stream_laws.specs.Outputs.{first_calls}
 use Rattle.engine_instants.proofs.Reading.{op_of_reads}
 use Rattle.run_records.specs.Buffers.{feeder, reader}
 use Rattle.run_records.specs.Owning.{IsOwn}
-use Rattle.run_records.specs.Records.{IsLawful, Run, Window, answers_of, calls_in, setting_in, windows_of}
+use Rattle.run_records.specs.Records.{IsLawful, Run, Window, answers_of, calls_in, setting_in}
 use Rattle.run_records.proofs.Flattening.{takes-append}
-use Rattle.node_states.specs.Ticks.{IsOutput, with_rest}
+use Rattle.node_states.specs.Ticks.{with_rest}
 use Rattle.clock_engine.specs.declared.engine.ClockEngine.{ClockEngine}
 use Rattle.clock_engine.specs.Engines.{held_of, setting_of}
 use Rattle.rounds_run.specs.Rounds.{HasRunPart, HasRunTurns, MayRun, world}
@@ -166,8 +166,11 @@ module _ (base : Setting) (clocks : ClockMap) (is : IsSetting base clocks) (text
 
       remains : (b : ℕ) → (rest : List Answer) × (answers_in b xs ++ rest ≡ answers_of run b)
       remains b = elim (cases_lt b B) [
-        | inr high ↦ ([], append-nil (answers_in b xs) ∙ none_here b (none_past b high)
-            ∙ sym (ap (λ (ws : List Window). flat_map (λ (window : Window). window.1) ws) (past run.buffers b [] (let many = lawful.buffers in omega (arith, high, many)))))
+        | inr high ↦ (
+          [],
+          append-nil (answers_in b xs) ∙ none_here b (none_past b high)
+              ∙ sym (ap (λ (ws : List Window). flat_map (λ (window : Window). window.1) ws) (past run.buffers b [] (let many = lawful.buffers in omega (arith, high, many)))),
+        )
         | inl known ↦ elim (cases_eq (reader base b) m) [
           | inl read ↦ (takes_of b front.rest, ap (λ (l : List Answer). l ++ takes_of b front.rest) (sym (takes_are b xs)) ∙ sym (takes-append b xs front.rest) ∙ ap (takes_of b) (sym front.are) ∙ sym (takes_here b known read))
           | inr other ↦ (answers_of run b, ap (λ (l : List Answer). l ++ answers_of run b) (none_here b (sym (takes_are b calls) ∙ no_takes base b m other calls own)))

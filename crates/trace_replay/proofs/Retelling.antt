@@ -1,5 +1,5 @@
 -- A trace that a record leaves, and its numbers.
-use Rattle.std.proofs.Common.{◌≡◌, ◌<◌, ◌∙◌, ◌++◌, ℕ, zero, suc, Bool, true, false, not, count_by, is_some, is_none, List, [], ◌∷◌, length, map, flat_map, slice_index_or, refl, ap, sym, arith}
+use Rattle.std.proofs.Common.{◌≡◌, ◌<◌, ◌∙◌, ◌++◌, ℕ, suc, Bool, true, false, not, count_by, is_some, is_none, List, [], ◌∷◌, length, map, flat_map, slice_index_or, refl, ap, sym, arith}
 use Rattle.std.proofs.lemmas.List.{map-append}
 use Rattle.clock_infer.specs.declared.clock_map.ClockMap.{ClockMap}
 use Rattle.stream_meaning.specs.Instants.{Setting}
@@ -12,7 +12,7 @@ use Rattle.buffer_sides.specs.Logs.{told as log_of}
 use Rattle.rounds_run.specs.Runs.{counts_of_run, counts_of_windows, logs_of_run}
 use Rattle.rounds_run.proofs.Lawful.{none_counted, some_counted}
 use Rattle.trace_log.specs.Values.{TraceValue}
-use Rattle.trace_replay.specs.Passes.{IsOrderedText, IsTold}
+use Rattle.trace_replay.specs.Passes.{IsTold}
 use Rattle.trace_replay.specs.Replays.{IsRecordOf}
 use Rattle.trace_replay.specs.Traces.{IsAccepted, counts_in, pair_of, side_of, text_of, trace_of}
 use Rattle.trace_replay.proofs.Fronts.{head_same, no_items, tail_same}

@@ -1,5 +1,5 @@
 -- A tick that a fault broke off, of a clock that is run over all the chunks of a record.
-use Rattle.std.proofs.Common.{◌≡◌, ◌<◌, ◌≤◌, ◌∙◌, ◌++◌, ◌⊎◌, ℕ, suc, Bool, true, false, cond, nat_eq, None, List, [], ◌∷◌, length, inl, inr, ap, sym, subst, arith, append_assoc, length-append}
+use Rattle.std.proofs.Common.{◌≡◌, ◌<◌, ◌∙◌, ◌++◌, ℕ, suc, Bool, true, false, cond, nat_eq, None, List, [], ◌∷◌, length, inl, inr, ap, sym, subst, arith, append_assoc, length-append}
 use Rattle.std.specs.Prelude.{All}
 use mathlib.Core.Path.{fun_ext}
 use Rattle.std.proofs.lemmas.Bool.{cases_lt}

@@ -1,6 +1,6 @@
 // The engines of a replay, one after another.
 ghost use Rattle.std.specs.Prelude.{◌≡◌, ◌≤◌, ◌<◌, ℕ, OnOk, OnErr, IfErr, length};
-ghost use Rattle.buffer_ends.specs.declared.run_end.End.TheVariants.{Memory as NoMemory, Write as WriteEnd};
+ghost use Rattle.buffer_ends.specs.declared.run_end.End.TheVariants.{Done, Memory as NoMemory, Write as WriteEnd};
 ghost use Rattle.clock_engine.specs.declared.fault.TickFault.TheVariants.{Memory as OutOfMemory, Write as TickWrite};
 ghost use Rattle.clock_engine.specs.Engines.{setting_of};
 ghost use Rattle.stream_meaning.specs.Settings.{IsSetting};
@@ -50,6 +50,7 @@ pub fn replay_clock<O: Sink>(
 fn end_of(clock: u32, fault: TickFault) -> End
     ensures write { (sink : ℕ) → fault ≡ TickWrite sink → result ≡ WriteEnd clock sink }
     ensures memory { fault ≡ OutOfMemory → result ≡ NoMemory }
+    ensures stopped { result ≡ Done → ⊥ }
 {
     match fault {
         TickFault::Write { sink } => End::Write { clock, sink },
@@ -112,6 +113,7 @@ pub fn replay_engines<O: Sink>(
         → HaveRunTicks O.held O.name O.faults (setting_in (base_at station.now) run) trace.now.ticks engines.old engines.new) }
     ensures part { IfErr result (λ end. (run : Run) → IsRecordOf (base_at station.now) station.now.clocks.now.running trace.now run
         → HasReplayedTo O.held O.name O.faults (setting_in (base_at station.now) run) trace.now.ticks engines.old engines.new end) }
+    ensures stopped { IfErr result (λ end. end ≡ Done → ⊥) }
 {
     for k in 0..engines.len() {
         if let Err(fault) = replay_engine(alloc, station, &mut engines[k], taps, sides, trace) {

@@ -110,8 +110,7 @@ pub fn replay<O: Sink>(
         start,
     };
     let logs = logs_of(trace);
-    let Ok((mut taps, sides)) =
-        all_chunks(alloc, &station, window_of(trace), ticks_of(trace), logs)
+    let Ok((mut taps, sides)) = all_chunks(alloc, &station, window_of(trace), ticks_of(trace), logs)
     else {
         return ended(alloc, End::Memory);
     };

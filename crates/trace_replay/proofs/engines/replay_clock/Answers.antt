@@ -55,4 +55,4 @@ returns-in_err-tick-clause-cause g c =
     let p = err_from_is_err_and c.from_residual.result c.from_residual.ensures.1 in rw (p.1, p.2) (λ sink e.
     sink_failed g.O.Sink.held g.O.Sink.name g.O.Sink.room g.O.Sink.faults c.requires.play.0 c.args.ticks c.args.engine.now.parts.clock c.loop-tick._tick c.loop-tick-test.true c.args.engine.now c.loop-tick.engine c.tick.new.self c.args.taps.now.buffers.items c.requires.play.1
     c.loop-tick.taps c.tick.new.taps (c.loop-tick.invariant.goes c.requires.play.0 c.requires.play.1) c.loop-tick.invariant.course c.tick.ensures.taps c.tick.ensures.setting c.tick.ensures.clock
-    c.in_err-tick.field-0 (c.in_err-tick.ensures.cause sink e) sink e)
+    c.in_err-tick.field-0.0 (c.in_err-tick.ensures.cause sink e) sink e)

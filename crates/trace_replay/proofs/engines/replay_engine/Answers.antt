@@ -11,12 +11,12 @@ use Rattle.trace_replay.proofs.engines.replay_engine.Goals as goal
 pub replay_clock-requires-clause-play : goal.replay_clock-requires-clause-play
 replay_clock-requires-clause-play g c = (
   score_here (base_at c.args.station.now) c.args.station.now.clocks.now c.requires.setting (text_of c.args.trace.now.buffers) c.args.trace.now.window c.args.trace.now.ticks c.args.taps.now.buffers.items c.requires.told c.requires.found
-    c.args.engine.now.parts.clock c.requires.runs,
+      c.args.engine.now.parts.clock c.requires.runs,
   subst (λ n. MayReplay g.O.Sink.room (score_here (base_at c.args.station.now) c.args.station.now.clocks.now c.requires.setting (text_of c.args.trace.now.buffers) c.args.trace.now.window c.args.trace.now.ticks c.args.taps.now.buffers.items c.requires.told c.requires.found
-    c.args.engine.now.parts.clock c.requires.runs) n c.args.engine.now.parts.clock c.args.engine.now c.begin_run.new.buffers.items) (sym c.ticks_of.ensures)
-    (may_replay (base_at c.args.station.now) c.args.station.now.clocks.now c.requires.setting (text_of c.args.trace.now.buffers) c.args.trace.now.window c.args.trace.now.ticks c.args.taps.now.buffers.items c.requires.told c.requires.found
-    c.args.engine.now.parts.clock c.requires.runs g.O.Sink.room c.args.engine.now c.args.sides.now.feeders.items c.args.sides.now.readers.items c.deref.result.now c.deref-2.result.now c.clock.result c.begin_run.new.buffers.items refl
-    c.requires.over c.requires.engine c.deref.ensures.value c.deref-2.ensures.value c.clock.ensures c.requires.sides c.begin_run.ensures.many c.begin_run.ensures.begun),
+      c.args.engine.now.parts.clock c.requires.runs) n c.args.engine.now.parts.clock c.args.engine.now c.begin_run.new.buffers.items) (sym c.ticks_of.ensures)
+      (may_replay (base_at c.args.station.now) c.args.station.now.clocks.now c.requires.setting (text_of c.args.trace.now.buffers) c.args.trace.now.window c.args.trace.now.ticks c.args.taps.now.buffers.items c.requires.told c.requires.found
+      c.args.engine.now.parts.clock c.requires.runs g.O.Sink.room c.args.engine.now c.args.sides.now.feeders.items c.args.sides.now.readers.items c.deref.result.now c.deref-2.result.now c.clock.result c.begin_run.new.buffers.items refl
+      c.requires.over c.requires.engine c.deref.ensures.value c.deref-2.ensures.value c.clock.ensures c.requires.sides c.begin_run.ensures.many c.begin_run.ensures.begun),
 )
 
 pub returns-clause-done : goal.returns-clause-done

@@ -33,8 +33,8 @@ returns-in-Ok-replay_engines-clause-part g c = record {
   part = all_to g.O.Sink.held g.O.Sink.name g.O.Sink.faults (setting_in (base_of c.args.plan.now c.args.library.now c.args.clocks.now c.args.start.second) c.requires.accepted.ordered.run) c.args.trace.now.ticks c.args.engines.now c.replay_engines.new.engines (c.in-Ok-replay_engines.ensures.done c.requires.accepted.ordered.run (record_of (base_of c.args.plan.now c.args.library.now c.args.clocks.now c.args.start.second) c.args.clocks.now.running c.args.trace.now c.requires.accepted)) c.told_or_ended.result.end c.told_or_ended.ensures.ended;
 }
 
-pub returns-in-Err-clause-part : goal.returns-in-Err-clause-part
-returns-in-Err-clause-part g c = record {
+pub returns-clause-part : goal.returns-clause-part
+returns-clause-part g c = record {
   run = c.requires.accepted.ordered.run;
   of = record_of (base_of c.args.plan.now c.args.library.now c.args.clocks.now c.args.start.second) c.args.clocks.now.running c.args.trace.now c.requires.accepted;
   part = ended_so g.O.Sink.held g.O.Sink.name g.O.Sink.faults (setting_in (base_of c.args.plan.now c.args.library.now c.args.clocks.now c.args.start.second) c.requires.accepted.ordered.run) c.args.trace.now.ticks c.args.engines.now c.replay_engines.new.engines c.in-Err.end c.ended-in-Err.result.end c.ended-in-Err.ensures (c.in-Err.ensures.part c.requires.accepted.ordered.run (record_of (base_of c.args.plan.now c.args.library.now c.args.clocks.now c.args.start.second) c.args.clocks.now.running c.args.trace.now c.requires.accepted));
@@ -52,3 +52,6 @@ replay_engines-requires-clause-told g c = subst (λ (l : List (List Answers)). A
 pub replay_engines-requires-clause-found : goal.replay_engines-requires-clause-found
 replay_engines-requires-clause-found g c = subst (λ (t : TraceValue). HaveFound (base_of c.args.plan.now c.args.library.now c.args.clocks.now c.args.start.second) c.args.clocks.now t.window t.ticks (text_of t.buffers) c.in-Ok.taps.buffers.items)
     (sym (trace_is c.args.trace.now c.ticks_of.result c.window_of.result c.logs_of-logs.result.now c.ticks_of.ensures c.window_of.ensures c.logs_of-logs.ensures)) c.in-Ok.ensures.found
+
+pub returns-clause-done : goal.returns-clause-done
+returns-clause-done g c = λ is. absurd (c.in-Err.ensures.stopped (sym c.ended-in-Err.ensures ∙ is))
