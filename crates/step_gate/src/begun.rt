@@ -1,0 +1,147 @@
+// How many ticks each clock has begun, and which clocks a buffer joins.
+ghost use Rattle.std.specs.Prelude.{◌<◌};
+
+use liq_base::limits::MAX_CLOCKS;
+use std::array;
+use std::sync::Wait;
+use std::sync::atomic::{AtomicU64, Ordering};
+use std::time::Duration;
+
+/// So many clocks run at most.
+const CLOCKS: usize = MAX_CLOCKS as usize;
+
+/// What is known of the clocks. Two are near each other where a buffer joins them.
+#[derive(Drop)]
+pub(crate) struct Begun {
+    /// The ticks that each clock has begun.
+    ticks: [AtomicU64; CLOCKS],
+
+    /// The clocks that are near each one: a bit for each.
+    near: [AtomicU64; CLOCKS],
+
+    /// The ticks that each clock had begun when another one waited for it in vain.
+    given_up: [AtomicU64; CLOCKS],
+
+    /// For how many ticks of the clocks near it each clock waits, and 0 where it does not. On this word it sleeps.
+    wanted: [AtomicU64; CLOCKS],
+}
+
+impl Begun {
+    pub(crate) fn new() -> Begun {
+        Begun {
+            ticks: array::from_fn(|_| AtomicU64::new(0)),
+            near: array::from_fn(|_| AtomicU64::new(0)),
+            given_up: array::from_fn(|_| AtomicU64::new(u64::MAX)),
+            wanted: array::from_fn(|_| AtomicU64::new(0)),
+        }
+    }
+
+    // A buffer joins one clock to another.
+    pub(crate) fn join(&self, clock: u32, other: u32)
+        requires { (clock < 64) × (other < 64) }
+    {
+        self.near[clock as usize].fetch_or(1 << other, Ordering::SeqCst);
+        self.near[other as usize].fetch_or(1 << clock, Ordering::SeqCst);
+    }
+
+    // A clock has begun so many ticks; those that waited for this go on.
+    pub(crate) fn set(&self, clock: u32, ticks: u64)
+        requires { clock < 64 }
+    {
+        self.ticks[clock as usize].store(ticks, Ordering::SeqCst);
+        let near = self.near[clock as usize].load(Ordering::SeqCst);
+        for k in 0..CLOCKS {
+            if near >> k == 0 {
+                return;
+            }
+            if near >> k & 1 == 1 {
+                self.wake(k);
+            }
+        }
+    }
+
+    // Whether each clock near this one has begun so many ticks, or was given up and has begun none since.
+    pub(crate) fn are_near(&self, clock: usize, ticks: u64) -> bool
+        requires { clock < 64 }
+    {
+        let near = self.near[clock].load(Ordering::SeqCst);
+        for k in 0..CLOCKS {
+            if near >> k == 0 {
+                return true;
+            }
+            if near >> k & 1 == 1 && self.is_awaited(k, ticks) {
+                return false;
+            }
+        }
+        true
+    }
+
+    // Whether a clock has not begun so many ticks, and was not given up since it began the last one.
+    fn is_awaited(&self, clock: usize, ticks: u64) -> bool
+        requires { clock < 64 }
+    {
+        let begun = self.ticks[clock].load(Ordering::SeqCst);
+        begun < ticks && begun != self.given_up[clock].load(Ordering::SeqCst)
+    }
+
+    // Whether each clock that has one near it has begun so many ticks.
+    pub(crate) fn have_all(&self, ticks: u64) -> bool {
+        for k in 0..CLOCKS {
+            let is_joined = self.near[k].load(Ordering::SeqCst) > 0;
+            if is_joined && self.ticks[k].load(Ordering::SeqCst) < ticks {
+                return false;
+            }
+        }
+        true
+    }
+
+    // The clocks near this one that have not begun so many ticks are given up; those that waited for them go on.
+    pub(crate) fn give_up(&self, clock: usize, ticks: u64)
+        requires { clock < 64 }
+    {
+        let near = self.near[clock].load(Ordering::SeqCst);
+        for k in 0..CLOCKS {
+            let begun = self.ticks[k].load(Ordering::SeqCst);
+            if near >> k & 1 == 1 && begun < ticks {
+                self.given_up[k].store(begun, Ordering::SeqCst);
+            }
+        }
+        for k in 0..CLOCKS {
+            self.wake(k);
+        }
+    }
+
+    // Wakes a clock that has not to wait any longer.
+    fn wake(&self, clock: usize)
+        requires { clock < 64 }
+    {
+        let wanted = self.wanted[clock].load(Ordering::SeqCst);
+        if wanted > 0 && self.are_near(clock, wanted) {
+            self.wanted[clock].store(0, Ordering::SeqCst);
+            self.wanted[clock].wake_all();
+        }
+    }
+
+    // Waits for so many ticks of the clocks near this one; whether they came, within so many sleeps of so many milliseconds.
+    pub(crate) fn wait<R: Wait>(
+        &self,
+        rt: &R,
+        clock: usize,
+        ticks: u64,
+        sleeps: u64,
+        millis: u64,
+    ) -> bool
+        requires { clock < 64 }
+    {
+        let word = (ticks % 0x1_0000_0000) as u32;
+        for _ in 0..sleeps {
+            self.wanted[clock].store(ticks, Ordering::SeqCst);
+            if self.are_near(clock, ticks) {
+                break;
+            }
+            self.wanted[clock].park_timeout(rt, word, Duration::from_millis(millis));
+        }
+        self.wanted[clock].store(0, Ordering::SeqCst);
+        self.are_near(clock, ticks)
+    }
+}

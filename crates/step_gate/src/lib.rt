@@ -1,0 +1,9 @@
+//! A gate at which clocks that a buffer joins keep step.
+#![tactic(auto)]
+
+mod begun;
+mod step;
+#[cfg(test)]
+mod tests;
+
+pub use step::StepGate;

@@ -1,0 +1,95 @@
+// Clocks in threads of their own each go at their own pace. Here those that a buffer joins wait for each other, but not for long.
+ghost use Rattle.std.specs.Prelude.{◌<◌, ◌≤◌};
+
+use crate::begun::Begun;
+use liq_base::Gate;
+use liq_base::limits::MAX_CLOCKS;
+use std::sync::Wait;
+use std::sync::atomic::{AtomicU64, Ordering};
+
+/// The longest sleep between two looks, in milliseconds.
+const SLEEP: u64 = 10;
+
+/// So often a clock sleeps in a wait, where the last wait was not in vain.
+const SLEEPS: u64 = 100;
+
+// So often a clock sleeps in a wait after so many in vain.
+fn sleeps_after(vain: u64) -> u64
+    ensures { result ≤ 100 }
+{
+    if vain < 7 {
+        SLEEPS >> vain
+    } else if vain.is_power_of_two() {
+        1
+    } else {
+        0
+    }
+}
+
+/// A gate at which no clock begins a tick before each one that a buffer joins to it has begun its tick of this number.
+///
+/// A clock that waited in vain gives those up for which it waited, until they begin a tick, and the next wait is half as long.
+/// After seven waits in vain, one behind another, there is a last sleep at the 8th, the 16th and so on. So a clock that stopped
+/// holds the others for a second, and clocks that run one behind another hold each other for two in all. A clock that no buffer
+/// joins to another waits for nobody, and nor does one whose number is [`MAX_CLOCKS`] or more.
+#[derive(Drop)]
+pub struct StepGate<'a, R> {
+    rt: &'a R,
+    begun: Begun,
+
+    /// How many waits were in vain since the last one after which every clock had come.
+    vain: AtomicU64,
+}
+
+impl<'a, R> StepGate<'a, R> {
+    /// A gate of clocks of which none has begun a tick, and none is joined to another.
+    pub fn new(rt: &'a R) -> StepGate<'a, R> {
+        StepGate {
+            rt,
+            begun: Begun::new(),
+            vain: AtomicU64::new(0),
+        }
+    }
+
+    // The count of waits in vain goes on, unless it did since it was read.
+    fn count_from(&self, vain: u64, next: u64) {
+        let _ = self
+            .vain
+            .compare_exchange(vain, next, Ordering::SeqCst, Ordering::SeqCst);
+    }
+}
+
+impl<R: Wait> StepGate<'_, R> {
+    // Waits for so many ticks of the clocks near this one, perhaps in vain.
+    fn wait(&self, clock: usize, ticks: u64)
+        requires { clock < 64 }
+    {
+        let vain = self.vain.load(Ordering::SeqCst);
+        let sleeps = sleeps_after(vain);
+        if !self.begun.wait(self.rt, clock, ticks, sleeps, SLEEP) {
+            self.begun.give_up(clock, ticks);
+            self.count_from(vain, vain.saturating_add(1));
+        } else if vain > 0 && self.begun.have_all(ticks) {
+            self.count_from(vain, 0);
+        }
+    }
+}
+
+impl<R: Wait> Gate for StepGate<'_, R> {
+    fn join(&self, from: u32, to: u32) {
+        if from < MAX_CLOCKS && to < MAX_CLOCKS {
+            self.begun.join(from, to);
+        }
+    }
+
+    fn enter(&self, clock: u32, tick: u64) {
+        if clock >= MAX_CLOCKS {
+            return;
+        }
+        let ticks = tick.saturating_add(1);
+        self.begun.set(clock, ticks);
+        if !self.begun.are_near(clock as usize, ticks) {
+            self.wait(clock as usize, ticks);
+        }
+    }
+}

@@ -1,0 +1,54 @@
+// What a gate does with clocks that come, and with those that never do.
+use crate::StepGate;
+use liq_base::Gate;
+use std::process::Abort;
+use std::sync::Wait;
+use std::sync::atomic::{AtomicU64, Ordering};
+use std::thread;
+use std::thread::Threads;
+
+// So many ticks of a clock.
+fn pass<G: Gate>(gate: &G, clock: u32, ticks: u64) -> u64 {
+    for tick in 0..ticks {
+        gate.enter(clock, tick);
+    }
+    ticks
+}
+
+#[test]
+fn a_clock_alone_goes_on(rt: HostRuntime) {
+    let gate = StepGate::new(&rt);
+    gate.join(0, 1);
+    assert_eq!(rt; pass(&gate, 2, 1000), 1000);
+}
+
+// A buffer joins it to clock 0, which never comes.
+#[test]
+fn a_clock_that_never_comes_holds_none_for_long(rt: HostRuntime) {
+    let gate = StepGate::new(&rt);
+    gate.join(0, 1);
+    assert_eq!(rt; pass(&gate, 1, 1000), 1000);
+}
+
+// The gate keeps no count of such a clock.
+#[test]
+fn a_clock_past_the_last_goes_on(rt: HostRuntime) {
+    let gate = StepGate::new(&rt);
+    gate.join(64, 0);
+    assert_eq!(rt; pass(&gate, 0, 1000), 1000);
+    assert_eq!(rt; pass(&gate, 64, 1000), 1000);
+    assert_eq!(rt; pass(&gate, u32::MAX, 1000), 1000);
+}
+
+fn both<R: Threads + Wait + Sync>(rt: &R) -> (u64, u64) {
+    let gate = StepGate::new(rt);
+    gate.join(0, 1);
+    thread::join(rt, || pass(&gate, 0, 1000), || pass(&gate, 1, 1000))
+}
+
+#[test]
+fn two_clocks_come_to_their_ends(rt: HostRuntime) {
+    let (first, second) = both(&rt);
+    assert_eq!(rt; first, 1000);
+    assert_eq!(rt; second, 1000);
+}
