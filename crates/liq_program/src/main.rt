@@ -1,7 +1,6 @@
 //! The program: the words after its name, real files, standard output and error, and the status of the call.
 #![tactic(auto)]
 
-use liq_base::FreeGate;
 use liq_cli::liq;
 use real_files::{FileShelf, OutSink};
 use std::alloc::Global;
@@ -9,6 +8,7 @@ use std::env;
 use std::io::ErrorKind;
 use std::process::ExitCode;
 use std::rt::Env;
+use step_gate::StepGate;
 
 /// The status of a call whose words could not be held.
 const NO_MEMORY: u8 = 5;
@@ -21,9 +21,8 @@ fn main(rt: HostRuntime) -> ExitCode {
     let mut shelf = FileShelf::new(&rt);
     let mut out = OutSink::new(rt.stdout());
     let mut err = OutSink::new(rt.stderr());
-    let status = liq(
-        &rt, alloc, &words, &mut shelf, &mut out, &mut err, &FreeGate,
-    );
+    let gate = StepGate::new(&rt);
+    let status = liq(&rt, alloc, &words, &mut shelf, &mut out, &mut err, &gate);
     ExitCode::from(status)
 }
 
