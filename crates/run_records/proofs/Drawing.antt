@@ -8,7 +8,7 @@ use Rattle.plan_core.specs.declared.node.Node.{Node}
 use Rattle.clock_infer.specs.declared.clock_map.NodeClock.TheVariants.{Main}
 use Rattle.op_leaf.specs.Readers.{Reader, after_cell, read_by, reader_slot, takes_of}
 use Rattle.stream_meaning.specs.declared.part.Part.{Part}
-use Rattle.stream_meaning.specs.Instants.{Setting, Moment, Reading, clock_of, gives, offer, history, moment_after, part_by, parts_upto, slots_at, sub_of, next_answers, started, reading_at, read_on, reading_after}
+use Rattle.stream_meaning.specs.Instants.{Setting, Moment, Reading, clock_of, gives, offer, history, moment_after, part_by, parts_upto, slots_at, demanded, sub_of, next_answers, started, reading_at, read_on, reading_after}
 use Rattle.stream_meaning.proofs.Unfailing.{own_part}
 use Rattle.run_records.specs.Pace.{IsDrawn, ticked, untaken}
 use Rattle.run_records.proofs.Owing.{ticked_sized}
@@ -21,6 +21,11 @@ idle_fields (cell ∷ cells) true p f e = absurd (true≢false e)
 
 idle_cell : (r : Reader) → is_some (reader_slot r) ≡ false → after_cell r ≡ r
 idle_cell r e = idle_fields r.cells r.playing r.prefill r.frame e
+
+and_drawn : (d s : Bool) → (s ≡ true → d ≡ true) → (d && s) ≡ s
+and_drawn true s h = refl
+and_drawn false true h = h refl
+and_drawn false false h = refl
 
 -- what a reader leaves where it gives what it offers
 given_on : (r : Reading) (gave : Bool) → gave ≡ is_some (reader_slot r.reader) → read_on gave r ≡ record { reader = after_cell r.reader; taken = r.taken }
@@ -49,7 +54,7 @@ module _ (setting : Setting) (b m i : ℕ) (node : Node) (is : IsDrawn setting b
       (slots_at (parts_upto setting (sub_of setting) (clock_of setting i) (history setting (sub_of setting) (clock_of setting i) n) i) node.children)) is.does))
 
   gives_is : (n : ℕ) → gives (Next n) i ≡ is_some (reader_slot (reading_at setting b (length (Gone n)) (Before n)).reader)
-  gives_is n = ap (λ (d : Bool). d && is_some (offer (Next n) i)) (is.drawn n) ∙ ap is_some (offer_is n)
+  gives_is n = and_drawn (demanded (Next n) i) (is_some (offer (Next n) i)) (is.drawn n) ∙ ap is_some (offer_is n)
 
   step : (n : ℕ) → Before (suc n) ≡ record { reader = after_cell (reading_at setting b (length (Gone n)) (Before n)).reader; taken = (reading_at setting b (length (Gone n)) (Before n)).taken }
   step n = given_on (reading_at setting b (length (Gone n)) (Before n)) (gives (Next n) i) (gives_is n)

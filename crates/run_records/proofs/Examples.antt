@@ -4,7 +4,7 @@ use Rattle.std.specs.Prelude.{Option, pos, ⊤}
 use Rattle.frame_core.specs.declared.cell.Cell.{Cell}
 use Rattle.frame_core.specs.Legal.{Legal, IsRun}
 use Rattle.frame_core.specs.Calls.{Took, takes_of, puts_to}
-use Rattle.plan_core.specs.declared.node.Op.TheVariants.{Single, Buffer}
+use Rattle.plan_core.specs.declared.node.Op.TheVariants.{Single, Blank, Fallback, Add, Buffer}
 use Rattle.plan_core.specs.declared.sink.SinkPlan.TheVariants.{Feed}
 use Rattle.clock_infer.specs.declared.clock_map.NodeClock.TheVariants.{Main}
 use Rattle.op_leaf.specs.Readers.{Answer}
@@ -13,6 +13,7 @@ use Rattle.stream_meaning.specs.Instants.{Setting, answered}
 use Rattle.stream_meaning.specs.Calls.{joined_upto, calls_of_tick}
 use Rattle.run_records.proofs.Plans.{new, more, under, file, node, out, setting}
 use Rattle.run_records.specs.Pace.{IsDrawn, KeepPace, has_none}
+use Rattle.run_records.specs.Heard.{HasRoom, IsHeard}
 use Rattle.run_records.proofs.Sunk.{sink_is_drawn}
 use Rattle.run_records.specs.Buffers.{feeder, reader}
 use Rattle.run_records.specs.Records.{AreWindowsBegun, Run, IsLawful, IsRounds, rounds_of, Window, Follows, windows_of, setting_in, capacity_of, on, start, calls_in, windows_in}
@@ -255,6 +256,26 @@ invented_alone_is_refused W N begun = gets_nothing (begun.legal 0 (omega arith))
 -- its reader is the node of an output, so it is drawn; and one chunk is less than two windows of two ticks
 late_is_drawn : IsDrawn (setting_in joined late) 0 1 1 (node (Buffer 0) [])
 late_is_drawn = sink_is_drawn (setting_in joined late) 0 1 1 (node (Buffer 0) []) refl refl refl refl refl
+
+-- a reader below a fallback to silence that is not track-sensitive, the way of `mksafe`, below a mix that an output writes; its buffer holds
+-- two chunks, and the reader gathers at most a tick
+abbrev safe : Setting
+safe = setting (node (Single []) [] ∷ node (Buffer 0) [] ∷ node (Blank 0) [] ∷ node (Fallback false) (1 ∷ 2 ∷ []) ∷ node (Add true) (0 ∷ 3 ∷ []) ∷ []) (Feed 0 0 ∷ out 4 ∷ [])
+    (record { pre = 5; capacity = 2 } ∷ []) [] ([] ∷ [] ∷ [] ∷ [] ∷ [] ∷ []) (Main 0 ∷ Main 0 ∷ Main 0 ∷ Main 0 ∷ Main 0 ∷ [])
+
+-- so it is always heard, and has room for windows of one tick, but not of two
+safe_is_heard : IsHeard safe 0 (3 ∷ 4 ∷ []) 1
+safe_is_heard = (refl, node (Fallback false) (1 ∷ 2 ∷ []), 0, refl, refl, (refl, refl, refl), (refl, node (Add true) (0 ∷ 3 ∷ []), 1, refl, refl, tt, (refl, refl)))
+
+safe_has_room : HasRoom safe 1 0
+safe_has_room = omega arith
+
+safe_has_no_room : HasRoom safe 2 0 → ⊥
+safe_has_no_room fits = omega (arith, fits)
+
+-- the reader of `late_is_lawful` is always heard, and a put of it is refused: its buffer has no room for two windows of two ticks
+late_is_heard : IsHeard joined 1 [] 1
+late_is_heard = (refl, refl)
 
 -- windows of one tick that keep pace, over a buffer of one chunk: one less than two windows, and a put is refused
 abbrev narrow : List Window

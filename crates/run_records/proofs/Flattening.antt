@@ -34,7 +34,7 @@ puts-append b (Given k c a ∷ cs) ds = go (b == k) (puts-append b cs ds)
     go true e = ap (λ (l : List Answer). put_of c a ∷ l) e
     go false e = e
 
-flat_snoc : {A B : Type 0} (f : A → List B) (xs : List A) (y : A) → flat_map f (xs ++ y ∷ []) ≡ flat_map f xs ++ f y
+pub flat_snoc : {A B : Type 0} (f : A → List B) (xs : List A) (y : A) → flat_map f (xs ++ y ∷ []) ≡ flat_map f xs ++ f y
 flat_snoc f [] y = append-nil (f y)
 flat_snoc f (x ∷ xs) y = ap (λ l. f x ++ l) (flat_snoc f xs y) ∙ sym (append_assoc (f x) (flat_map f xs) (f y))
 

@@ -16,5 +16,7 @@ pub mod Paced
 pub mod Short
 pub mod Roomy
 pub mod Sunk
+pub mod Heard
+pub mod Fitting
 mod Plans
 mod Examples

@@ -58,7 +58,7 @@ reads_true buffer (Mixes mixing) e = absurd (false≢true e)
 reads_true buffer (Fades overlap) e = absurd (false≢true e)
 reads_true buffer (Reads other) e = let same : other ≡ buffer = grind (arith, nat_tests) in ap Reads same
 
-read_is : (base : Setting) (buffer i : ℕ) (nodes : List Node) (p : ℕ) (node : Node) → slice_get nodes p ≡ Some node → work_at base (i + p) node ≡ Reads buffer
+pub read_is : (base : Setting) (buffer i : ℕ) (nodes : List Node) (p : ℕ) (node : Node) → slice_get nodes p ≡ Some node → work_at base (i + p) node ≡ Reads buffer
     → ((q : ℕ) (other : Node) → slice_get nodes q ≡ Some other → work_at base (i + q) other ≡ Reads buffer → q ≡ p) → read_from base buffer i nodes ≡ i + p
 read_is base buffer i [] p node there does only = absurd cc
 read_is base buffer i (x ∷ xs) p node there does only = by p there does only (reads_it base buffer i x) refl (λ p' there' does' only'. read_is base buffer (suc i) xs p' node there' does' only')

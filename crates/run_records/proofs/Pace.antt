@@ -1,5 +1,5 @@
 -- A buffer with room for two windows and what its reader may owe refuses no put.
-use Rattle.std.proofs.Common.{◌≡◌, ◌≤◌, ◌⊎◌, ◌+◌, ℕ, Bool, true, false, Option, Some, None, List, [], ◌∷◌, ◌++◌, length, flat_map, inl, inr, refl, sym, arith, length-append, true≢false}
+use Rattle.std.proofs.Common.{◌≡◌, ◌≤◌, ◌⊎◌, ◌+◌, ℕ, Bool, true, false, Option, Some, None, List, [], ◌∷◌, ◌++◌, length, flat_map, inl, inr, refl, ap, sym, arith, length-append, true≢false}
 use Rattle.frame_core.specs.declared.cell.Cell.{Cell}
 use Rattle.frame_core.specs.Legal.{Legal, IsRun}
 use Rattle.frame_core.specs.Legal.Legal.{ended, accepted, full, got, empty}
@@ -34,14 +34,14 @@ emptied n (got rest) = emptied n rest
 emptied n (empty rest) = omega (arith, most rest)
 
 -- no put is refused where there is room for all of them
-room : {C : ℕ} {r q : List (List Cell)} {puts takes : Answers} → length q + length puts ≤ C → Legal C r q puts takes → has_none puts ≡ false
+pub room : {C : ℕ} {r q : List (List Cell)} {puts takes : Answers} → length q + length puts ≤ C → Legal C r q puts takes → has_none puts ≡ false
 room h ended = refl
 room h (accepted {queue = q} {x = x} less rest) = room (omega (arith, h, length-append q (x ∷ []))) rest
 room h (full is rest) = absurd (omega (arith, h, is))
 room h (got rest) = room (omega (arith, h)) rest
 room h (empty rest) = room h rest
 
-has_none-append : (xs ys : Answers) → has_none xs ≡ false → has_none ys ≡ false → has_none (xs ++ ys) ≡ false
+pub has_none-append : (xs ys : Answers) → has_none xs ≡ false → has_none ys ≡ false → has_none (xs ++ ys) ≡ false
 has_none-append [] ys e f = f
 has_none-append (None ∷ xs) ys e f = absurd (true≢false e)
 has_none-append (Some x ∷ xs) ys e f = has_none-append xs ys e f
@@ -68,6 +68,12 @@ module _ (C W D : ℕ) (wide : W + W + D ≤ C) where
       has_none-append window.0 (flat_map (λ (w : Window). w.0) windows)
       (room (omega (arith, h, pace.0, wide)) run.1)
       (none_refused pace.2 run.0 rest windows (next window.0 window.1 owed pace.2 h pace.0 (owed_most pace.2 windows pace.4) pace.3 run.1) pace.4 run.2)
+
+  -- behind windows that keep pace no more than W + D chunks are left
+  pub most_left : (owed : ℕ) (q rest : List (List Cell)) (windows : List Window) → length q + owed ≤ W + D → KeepPace W D owed windows → IsRun C q windows rest → length rest ≤ W + D
+  most_left owed q rest [] h pace run = let same = ap (λ (l : List (List Cell)). length l) run in omega (arith, h, same)
+  most_left owed q rest (window ∷ windows) h pace run =
+      most_left pace.2 run.0 rest windows (next window.0 window.1 owed pace.2 h pace.0 (owed_most pace.2 windows pace.4) pace.3 run.1) pace.4 run.2
 
 -- windows that keep pace, from an empty buffer
 pub paced_windows_refuse_nothing : (capacity W D : ℕ) (windows : List Window) (rest : List (List Cell)) → W + W + D ≤ capacity → KeepPace W D D windows → IsRun capacity [] windows rest

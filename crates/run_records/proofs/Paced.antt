@@ -31,7 +31,7 @@ from_last w j (suc count) =
     let up : suc j + count ≡ j + suc count = omega arith in
     ap (λ (l : List Window). w j ∷ l) (from_last w (suc j) count) ∙ ap (λ (n : ℕ). w j ∷ (from w (suc j) count ++ w n ∷ [])) up
 
-start_next : (W N j : ℕ) → start W N (suc j) ≤ start W N j + W
+pub start_next : (W N j : ℕ) → start W N (suc j) ≤ start W N j + W
 start_next W N j = omega (arith, suc-mul j W)
 
 module _ (setting : Setting) (clocks : ℕ) (accepted : ℕ → ℕ → ℕ → Bool) (b W N m i : ℕ) (node : Node) (is : IsDrawn setting b m i node) (some : 1 ≤ setting.plan.frame)

@@ -30,12 +30,12 @@ module _ (frame : ℕ) where
   short_last [] x all h = (h, tt)
   short_last (c ∷ q) x all h = (all.0, short_last q x all.1 h)
 
-  small_append : (xs ys : List Answer) → AreSmall frame xs → AreSmall frame ys → AreSmall frame (xs ++ ys)
+  pub small_append : (xs ys : List Answer) → AreSmall frame xs → AreSmall frame ys → AreSmall frame (xs ++ ys)
   small_append [] ys a b = b
   small_append (None ∷ xs) ys a b = small_append xs ys a b
   small_append (Some c ∷ xs) ys a b = (a.0, small_append xs ys a.1 b)
 
-  small_left : (xs ys : List Answer) → AreSmall frame (xs ++ ys) → AreSmall frame xs
+  pub small_left : (xs ys : List Answer) → AreSmall frame (xs ++ ys) → AreSmall frame xs
   small_left [] ys a = tt
   small_left (None ∷ xs) ys a = small_left xs ys a
   small_left (Some c ∷ xs) ys a = (a.0, small_left xs ys a.1)
@@ -114,16 +114,18 @@ module _ (setting : Setting) (b : ℕ) where
       subst (AreSmall setting.plan.frame) (sym (puts-append b (takes_of_tick setting m t) (gives_of_tick setting agreed m t)
       ∙ ap (λ (l : List Answer). l ++ puts_to b (gives_of_tick setting agreed m t)) none)) (gives_small agreed m t setting.plan.sinks)
 
-  in_small : (clocks : ℕ) (agreed : ℕ → ℕ → ℕ → Bool) (m t : ℕ) → AreSmall setting.plan.frame (puts_to b (calls_in setting clocks agreed m t))
+  pub in_small : (clocks : ℕ) (agreed : ℕ → ℕ → ℕ → Bool) (m t : ℕ) → AreSmall setting.plan.frame (puts_to b (calls_in setting clocks agreed m t))
   in_small clocks agreed m t = by (nat_lt m clocks)
     where
       by : (runs : Bool) → AreSmall setting.plan.frame (puts_to b (if runs then ticks_of setting agreed m t else []))
       by true = tick_small (agreed m t) m t
       by false = tt
 
-  pub upto_small : (clocks : ℕ) (agreed : ℕ → ℕ → ℕ → Bool) (m n : ℕ) → AreSmall setting.plan.frame (puts_to b (joined_upto (calls_in setting clocks agreed m) n))
-  upto_small clocks agreed m zero = tt
-  upto_small clocks agreed m (suc n) =
-      let calls = calls_in setting clocks agreed m in
+  pub each_small : (calls : ℕ → List Call) (n : ℕ) → ((j : ℕ) → AreSmall setting.plan.frame (puts_to b (calls j))) → AreSmall setting.plan.frame (puts_to b (joined_upto calls n))
+  each_small calls zero each = tt
+  each_small calls (suc n) each =
       subst (AreSmall setting.plan.frame) (sym (puts-append b (joined_upto calls n) (calls n)))
-      (small_append setting.plan.frame (puts_to b (joined_upto calls n)) (puts_to b (calls n)) (upto_small clocks agreed m n) (in_small clocks agreed m n))
+      (small_append setting.plan.frame (puts_to b (joined_upto calls n)) (puts_to b (calls n)) (each_small calls n each) (each n))
+
+  pub upto_small : (clocks : ℕ) (agreed : ℕ → ℕ → ℕ → Bool) (m n : ℕ) → AreSmall setting.plan.frame (puts_to b (joined_upto (calls_in setting clocks agreed m) n))
+  upto_small clocks agreed m n = each_small (calls_in setting clocks agreed m) n (λ j. in_small clocks agreed m j)

@@ -28,6 +28,18 @@ uses_long : (setting : Setting) (parts : List Part) (i : ℕ) (nodes : List Node
 uses_long setting parts i [] = refl
 uses_long setting parts i (node ∷ nodes) = ap suc (uses_long setting parts (suc i) nodes)
 
+-- the node of a sink of a main clock is demanded at each instant
+pub root_is_demanded : (setting : Setting) (m i : ℕ) → i < length setting.plan.nodes → clock_of setting i ≡ Main m → is_root setting (Main m) i ≡ true
+    → (n : ℕ) → demanded (moment_after setting (sub_of setting) (Main m) (history setting (sub_of setting) (Main m) n)) i ≡ true
+root_is_demanded setting m i low lies root n =
+    let same : nat_eq m m ≡ true = grind (arith, nat_tests) in
+    let inside : lies_in setting (Main m) i ≡ true = ap (λ clock. same_clock clock (Main m)) lies ∙ same in
+    let parts = parts_upto setting (sub_of setting) (Main m) (history setting (sub_of setting) (Main m) n) (length setting.plan.nodes) in
+    let long = uses_long setting parts 0 setting.plan.nodes in
+    let none : 0 + i ≡ i = omega arith in
+    root_demanded (λ k. lies_in setting (Main m) k && is_root setting (Main m) k) 0 (uses_from setting parts 0 setting.plan.nodes) i (omega (arith, low, long))
+    (ap (λ (k : ℕ). lies_in setting (Main m) k && is_root setting (Main m) k) none ∙ ap (λ (t : Bool). t && is_root setting (Main m) i) inside ∙ root)
+
 pub sink_is_drawn : (setting : Setting) (b m i : ℕ) (node : Node) → slice_get setting.plan.nodes i ≡ Some node → work_at setting i node ≡ Reads b → clock_of setting i ≡ Main m
     → reader setting b ≡ m → is_root setting (Main m) i ≡ true → IsDrawn setting b m i node
 sink_is_drawn setting b m i node found does lies reads root = record {
@@ -35,17 +47,5 @@ sink_is_drawn setting b m i node found does lies reads root = record {
   does = does;
   lies = lies;
   reads = reads;
-  drawn = each;
+  drawn = λ n some. root_is_demanded setting m i (slice_get_within setting.plan.nodes i node found) lies root n;
 }
-  where
-    inside : lies_in setting (Main m) i ≡ true
-    inside = (let same : nat_eq m m ≡ true = grind (arith, nat_tests) in ap (λ clock. same_clock clock (Main m)) lies ∙ same)
-
-    each : (n : ℕ) → demanded (moment_after setting (sub_of setting) (Main m) (history setting (sub_of setting) (Main m) n)) i ≡ true
-    each n =
-        let parts = parts_upto setting (sub_of setting) (Main m) (history setting (sub_of setting) (Main m) n) (length setting.plan.nodes) in
-        let within = slice_get_within setting.plan.nodes i node found in
-        let long = uses_long setting parts 0 setting.plan.nodes in
-        let none : 0 + i ≡ i = omega arith in
-        root_demanded (λ k. lies_in setting (Main m) k && is_root setting (Main m) k) 0 (uses_from setting parts 0 setting.plan.nodes) i (omega (arith, within, long))
-        (ap (λ (k : ℕ). lies_in setting (Main m) k && is_root setting (Main m) k) none ∙ ap (λ (t : Bool). t && is_root setting (Main m) i) inside ∙ root)

@@ -1,11 +1,11 @@
 -- When a buffer between two clocks has room for every put, whatever the order within a window.
-use Rattle.std.specs.Prelude.{◌≡◌, ◌⊎◌, ◌<◌, ◌≤◌, ◌+◌, ◌*◌, ◌++◌, ℕ, zero, suc, Bool, true, false, Option, Some, None, List, [], ◌∷◌, length, drop, slice_get}
+use Rattle.std.specs.Prelude.{◌≡◌, ◌⊎◌, ◌<◌, ◌≤◌, ◌+◌, ◌*◌, ◌++◌, ℕ, zero, suc, Bool, true, false, Option, Some, None, is_some, List, [], ◌∷◌, length, drop, slice_get}
 use Rattle.frame_core.specs.declared.cell.Cell.{Cell}
 use Rattle.op_leaf.specs.Readers.{Answer, Reader, at_start, read_by, takes_of}
 use Rattle.plan_core.specs.declared.node.Node.{Node}
 use Rattle.clock_infer.specs.declared.clock_map.NodeClock.TheVariants.{Main}
 use Rattle.stream_meaning.specs.Operators.{Reads}
-use Rattle.stream_meaning.specs.Instants.{Setting, clock_of, demanded, history, moment_after, sub_of, work_at}
+use Rattle.stream_meaning.specs.Instants.{Setting, clock_of, demanded, history, moment_after, offer, sub_of, work_at}
 use Rattle.run_records.specs.Buffers.{reader}
 use Rattle.run_records.specs.Records.{Window}
 
@@ -69,10 +69,12 @@ pub record KeepsPace (D n : ℕ) (reader after : Reader) (takes : List Answer) (
   pub prefill : after.prefill ≡ reader.prefill
   pub frame : after.frame ≡ reader.frame
 
--- the reader of a buffer lies in main clock m and is drawn: it is demanded at each instant, so it gives each cell that it offers
+-- the reader of a buffer lies in main clock m and is drawn: it is demanded at each instant at which it offers a cell, so it gives each
+-- cell that it offers
 pub record IsDrawn (setting : Setting) (buffer m i : ℕ) (node : Node) : Type 0 where
   pub found : slice_get setting.plan.nodes i ≡ Some node
   pub does : work_at setting i node ≡ Reads buffer
   pub lies : clock_of setting i ≡ Main m
   pub reads : reader setting buffer ≡ m
-  pub drawn : (n : ℕ) → demanded (moment_after setting (sub_of setting) (Main m) (history setting (sub_of setting) (Main m) n)) i ≡ true
+  pub drawn : (n : ℕ) → is_some (offer (moment_after setting (sub_of setting) (Main m) (history setting (sub_of setting) (Main m) n)) i) ≡ true
+      → demanded (moment_after setting (sub_of setting) (Main m) (history setting (sub_of setting) (Main m) n)) i ≡ true

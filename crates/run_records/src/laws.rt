@@ -4,12 +4,14 @@ ghost use Rattle.std.specs.List.{flat_map};
 ghost use Rattle.frame_core.specs.declared.cell.Cell.{Cell as Sample};
 ghost use Rattle.frame_core.specs.Legal.{IsRun};
 ghost use Rattle.plan_core.specs.declared.node.Node.{Node as PlanNode};
+ghost use Rattle.plan_core.specs.Plans.{ReadsBuffer};
 ghost use Rattle.clock_infer.specs.declared.clock_map.ClockMap.{ClockMap as Map};
 ghost use Rattle.op_leaf.specs.Readers.{Answer};
 ghost use Rattle.stream_meaning.specs.Calls.{calls_of_tick};
 ghost use Rattle.stream_meaning.specs.Instants.{Setting, answered, prefill};
 ghost use Rattle.stream_meaning.specs.Settings.{IsSetting};
 ghost use Rattle.run_records.specs.Buffers.{feeder};
+ghost use Rattle.run_records.specs.Heard.{HasRoom, IsHeard};
 ghost use Rattle.run_records.specs.Ordered.{HasSameText, IsOrdered};
 ghost use Rattle.run_records.specs.Owning.{IsOwn};
 ghost use Rattle.run_records.specs.Pace.{IsDrawn, KeepPace, has_none};
@@ -80,4 +82,18 @@ pub fn roomy_buffers_refuse_nothing()
         → IsLawful setting clocks.running W N run → buffer < length setting.plan.buffers → IsDrawn (setting_in setting run) buffer m i node
         → m < clocks.running → max 1 (prefill setting buffer) ≤ suc D * setting.plan.frame → W + W + D ≤ capacity_of setting buffer
         → has_none (puts_of run buffer) ≡ false }
+{}
+
+/// A lawful record refuses no put to a buffer whose reader is always heard, and which has room for two windows and its prefill.
+pub fn heard_buffers_refuse_nothing()
+    ensures { (setting : Setting) (clocks : Map) → IsSetting setting clocks → (W N buffer m : ℕ) (above : List ℕ) (i : ℕ) (run : Run)
+        → ReadsBuffer setting.plan buffer i → IsHeard setting m above i → HasRoom setting W buffer
+        → IsLawful setting clocks.running W N run → has_none (puts_of run buffer) ≡ false }
+{}
+
+/// And neither does the record of a run in windows that was broken off.
+pub fn broken_windows_refuse_nothing()
+    ensures { (setting : Setting) (clocks : Map) → IsSetting setting clocks → (W N buffer m : ℕ) (above : List ℕ) (i : ℕ) (run : Run)
+        → ReadsBuffer setting.plan buffer i → IsHeard setting m above i → HasRoom setting W buffer
+        → AreWindowsBegun setting clocks.running W N run → has_none (puts_of run buffer) ≡ false }
 {}
