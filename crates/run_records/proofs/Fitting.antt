@@ -1,7 +1,8 @@
 -- A buffer that has room for two windows and its prefill, and whose reader is always heard, refuses no put: in a lawful record, and in that
 -- of a run that was broken off.
-use Rattle.std.proofs.Common.{◌≡◌, ◌<◌, ◌≤◌, ◌+◌, ◌-◌, ◌*◌, ℕ, zero, suc, max, false, List, [], ◌∷◌, ◌++◌, length, Some, slice_get, flat_map, inr, refl, ap, sym, subst, ◌∙◌, arith, append-nil, length-append}
+use Rattle.std.proofs.Common.{◌≡◌, ◌<◌, ◌≤◌, ◌+◌, ◌-◌, ◌*◌, ℕ, zero, suc, max, false, List, [], ◌∷◌, ◌++◌, length, Some, slice_get, flat_map, inr, refl, ap, sym, subst, ◌∙◌, arith, append-nil, length-append, None, is_none, true≢false}
 use Rattle.std.specs.Int.{div_ceil}
+use Rattle.std.specs.List.{count_by}
 use Rattle.std.proofs.lemmas.Grind.{div_ceil_times}
 use Rattle.std.proofs.Math.Nat.{suc-mul}
 use Rattle.frame_core.specs.declared.cell.Cell.{Cell}
@@ -30,6 +31,11 @@ use Rattle.run_records.proofs.Putting.{window_puts}
 use Rattle.run_records.proofs.Resting.{run_split}
 use Rattle.run_records.proofs.Roomy.{roomy_buffers_refuse_nothing}
 use Rattle.run_records.proofs.Short.{each_small, from_empty, in_small, small_append, small_left, upto_small}
+
+none_counted : (puts : List Answer) → has_none puts ≡ false → count_by is_none puts ≡ 0
+none_counted [] e = refl
+none_counted (None ∷ puts) e = absurd (true≢false e)
+none_counted (Some chunk ∷ puts) e = none_counted puts e
 
 -- the prefill in whole ticks
 held_by : (ticks pre frame : ℕ) → 1 ≤ frame → pre ≤ ticks * frame → max 1 pre ≤ suc (max 1 ticks - 1) * frame
@@ -151,9 +157,9 @@ module _ (setting : Setting) (clocks : ClockMap) (is : IsSetting setting clocks)
         (then_none (capacity_of setting b) W D wide closed last legal.0 pace few (subst (λ (l : List Window). IsRun (capacity_of setting b) [] l legal.0) windows legal.1)))
 
 pub heard_buffers_refuse_nothing : (setting : Setting) (clocks : ClockMap) → IsSetting setting clocks → (W N buffer m : ℕ) (above : List ℕ) (i : ℕ) (run : Run) → ReadsBuffer setting.plan buffer i
-    → IsHeard setting m above i → HasRoom setting W buffer → IsLawful setting clocks.running W N run → has_none (puts_of run buffer) ≡ false
-heard_buffers_refuse_nothing setting clocks is W N buffer m above i run reads heard fits lawful = lawful_none setting clocks is W N buffer m above i run reads heard fits lawful
+    → IsHeard setting m above i → HasRoom setting W buffer → IsLawful setting clocks.running W N run → count_by is_none (puts_of run buffer) ≡ 0
+heard_buffers_refuse_nothing setting clocks is W N buffer m above i run reads heard fits lawful = none_counted (puts_of run buffer) (lawful_none setting clocks is W N buffer m above i run reads heard fits lawful)
 
 pub broken_windows_refuse_nothing : (setting : Setting) (clocks : ClockMap) → IsSetting setting clocks → (W N buffer m : ℕ) (above : List ℕ) (i : ℕ) (run : Run) → ReadsBuffer setting.plan buffer i
-    → IsHeard setting m above i → HasRoom setting W buffer → AreWindowsBegun setting clocks.running W N run → has_none (puts_of run buffer) ≡ false
-broken_windows_refuse_nothing setting clocks is W N buffer m above i run reads heard fits begun = begun_none setting clocks is W N buffer m above i run reads heard fits begun
+    → IsHeard setting m above i → HasRoom setting W buffer → AreWindowsBegun setting clocks.running W N run → count_by is_none (puts_of run buffer) ≡ 0
+broken_windows_refuse_nothing setting clocks is W N buffer m above i run reads heard fits begun = none_counted (puts_of run buffer) (begun_none setting clocks is W N buffer m above i run reads heard fits begun)

@@ -1,6 +1,6 @@
 // Laws of records. Each is a contract of a function that does nothing.
-ghost use Rattle.std.specs.Prelude.{◌*◌, ◌+◌, ◌<◌, ◌≡◌, ◌≤◌, [], ℕ, All, Bool, List, false, length, max, suc};
-ghost use Rattle.std.specs.List.{flat_map};
+ghost use Rattle.std.specs.Prelude.{◌*◌, ◌+◌, ◌<◌, ◌≡◌, ◌≤◌, [], ℕ, All, Bool, List, false, length, max, suc, is_none};
+ghost use Rattle.std.specs.List.{count_by, flat_map};
 ghost use Rattle.frame_core.specs.declared.cell.Cell.{Cell as Sample};
 ghost use Rattle.frame_core.specs.Legal.{IsRun};
 ghost use Rattle.plan_core.specs.declared.node.Node.{Node as PlanNode};
@@ -84,16 +84,17 @@ pub fn roomy_buffers_refuse_nothing()
         → has_none (puts_of run buffer) ≡ false }
 {}
 
-/// A lawful record refuses no put to a buffer whose reader is always heard, and which has room for two windows and its prefill.
+/// A lawful record refuses no put to a buffer whose reader is always heard, and which has room for two windows and its prefill:
+/// so a report tells of none that found it full.
 pub fn heard_buffers_refuse_nothing()
     ensures { (setting : Setting) (clocks : Map) → IsSetting setting clocks → (W N buffer m : ℕ) (above : List ℕ) (i : ℕ) (run : Run)
         → ReadsBuffer setting.plan buffer i → IsHeard setting m above i → HasRoom setting W buffer
-        → IsLawful setting clocks.running W N run → has_none (puts_of run buffer) ≡ false }
+        → IsLawful setting clocks.running W N run → count_by is_none (puts_of run buffer) ≡ 0 }
 {}
 
 /// And neither does the record of a run in windows that was broken off.
 pub fn broken_windows_refuse_nothing()
     ensures { (setting : Setting) (clocks : Map) → IsSetting setting clocks → (W N buffer m : ℕ) (above : List ℕ) (i : ℕ) (run : Run)
         → ReadsBuffer setting.plan buffer i → IsHeard setting m above i → HasRoom setting W buffer
-        → AreWindowsBegun setting clocks.running W N run → has_none (puts_of run buffer) ≡ false }
+        → AreWindowsBegun setting clocks.running W N run → count_by is_none (puts_of run buffer) ≡ 0 }
 {}
