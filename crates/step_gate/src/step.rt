@@ -13,6 +13,9 @@ const SLEEP: u64 = 10;
 /// So often a clock sleeps in a wait, where the last wait was not in vain.
 const SLEEPS: u64 = 100;
 
+/// The least number of ticks that have to go well before a wait is long again.
+const CALM: u64 = 1024;
+
 // So often a clock sleeps in a wait after so many in vain.
 fn sleeps_after(vain: u64) -> u64
     ensures { result ≤ 100 }
@@ -29,16 +32,18 @@ fn sleeps_after(vain: u64) -> u64
 /// A gate at which no clock begins a tick before each one that a buffer joins to it has begun its tick of this number.
 ///
 /// A clock that waited in vain gives those up for which it waited, until they begin a tick, and the next wait is half as long.
-/// After seven waits in vain, one behind another, there is a last sleep at the 8th, the 16th and so on. So a clock that stopped
-/// holds the others for a second, and clocks that run one behind another hold each other for two in all. A clock that no buffer
-/// joins to another waits for nobody, and nor does one whose number is [`MAX_CLOCKS`] or more.
+/// After seven waits in vain there is a last sleep at the 8th, the 16th and so on. Waits are long again once all clocks have begun
+/// twice as many ticks as when the last wait was in vain, and 2048 at least. So a clock that stopped holds the others for a second,
+/// and clocks that run one behind another hold each other for two, once or twice in all. A clock that no buffer joins to another
+/// waits for nobody, and nor does one whose number is [`MAX_CLOCKS`] or more.
 #[derive(Drop)]
 pub struct StepGate<'a, R> {
     rt: &'a R,
     begun: Begun,
 
-    /// How many waits were in vain since the last one after which every clock had come.
+    /// How many waits were in vain since they were long, and for how many ticks the last of these waited.
     vain: AtomicU64,
+    vain_ticks: AtomicU64,
 }
 
 impl<'a, R> StepGate<'a, R> {
@@ -48,7 +53,20 @@ impl<'a, R> StepGate<'a, R> {
             rt,
             begun: Begun::new(),
             vain: AtomicU64::new(0),
+            vain_ticks: AtomicU64::new(0),
         }
+    }
+
+    // A wait for so many ticks was in vain.
+    fn tell_vain(&self, vain: u64, ticks: u64) {
+        self.vain_ticks.fetch_max(ticks, Ordering::SeqCst);
+        self.count_from(vain, vain.saturating_add(1));
+    }
+
+    // Whether all has gone well for long, where a wait for so many ticks was not in vain. That it was not says little: where some
+    // clocks run behind others, the last of each window find that all have come.
+    fn is_calm(&self, ticks: u64) -> bool {
+        ticks / 2 >= self.vain_ticks.load(Ordering::SeqCst).max(CALM) && self.begun.have_all(ticks)
     }
 
     // The count of waits in vain goes on, unless it did since it was read.
@@ -68,8 +86,8 @@ impl<R: Wait> StepGate<'_, R> {
         let sleeps = sleeps_after(vain);
         if !self.begun.wait(self.rt, clock, ticks, sleeps, SLEEP) {
             self.begun.give_up(clock, ticks);
-            self.count_from(vain, vain.saturating_add(1));
-        } else if vain > 0 && self.begun.have_all(ticks) {
+            self.tell_vain(vain, ticks);
+        } else if vain > 0 && self.is_calm(ticks) {
             self.count_from(vain, 0);
         }
     }
