@@ -1,10 +1,10 @@
 -- A buffer that has room for two windows and its prefill, and whose reader is always heard, refuses no put: in a lawful record, and in that
 -- of a run that was broken off.
-use Rattle.std.proofs.Common.{◌≡◌, ◌<◌, ◌≤◌, ◌+◌, ◌-◌, ◌*◌, ℕ, zero, suc, max, false, List, [], ◌∷◌, ◌++◌, length, Some, slice_get, flat_map, inr, refl, ap, sym, subst, ◌∙◌, arith, append-nil, length-append, None, is_none, true≢false}
+use Rattle.std.proofs.Common.{◌≡◌, ◌<◌, ◌≤◌, ◌+◌, ◌-◌, ◌*◌, ℕ, zero, suc, max, min, false, List, [], ◌∷◌, ◌++◌, length, Some, slice_get, flat_map, inr, refl, ap, sym, subst, ◌∙◌, arith, append-nil, length-append, None, is_none, true≢false}
 use Rattle.std.specs.Int.{div_ceil}
 use Rattle.std.specs.List.{count_by}
 use Rattle.std.proofs.lemmas.Grind.{div_ceil_times}
-use Rattle.std.proofs.Math.Nat.{suc-mul}
+use Rattle.std.proofs.Math.Nat.{mul-div_cancel, mul-mod_left, suc-mul}
 use Rattle.frame_core.specs.declared.cell.Cell.{Cell}
 use Rattle.frame_core.specs.Legal.{IsRun}
 use Rattle.frame_core.specs.Calls.{Call, puts_to, takes_of}
@@ -49,6 +49,19 @@ pub prefill_held : (setting : Setting) (buffer : ℕ) → 1 ≤ setting.plan.fra
 prefill_held setting buffer some =
     held_by (div_ceil (prefill setting buffer) setting.plan.frame) (prefill setting buffer) setting.plan.frame some
     (div_ceil_times (prefill setting buffer) setting.plan.frame (omega (arith, some))).0
+
+-- of whole ticks
+whole_ticks : (ticks frame : ℕ) → 1 ≤ frame → div_ceil (ticks * frame) frame ≡ ticks
+whole_ticks ticks frame some =
+    let whole = mul-div_cancel ticks {n = frame} (omega (arith, some)) in
+    let none = mul-mod_left ticks frame in
+    (λ i. whole i + min 1 (none i)) ∙ omega arith
+
+pub whole_ticks_have_room : (setting : Setting) (W buffer gathers holds : ℕ) → 1 ≤ setting.plan.frame → 1 ≤ gathers → prefill setting buffer ≡ gathers * setting.plan.frame
+    → capacity_of setting buffer ≡ holds → W + W + gathers ≤ suc holds → HasRoom setting W buffer
+whole_ticks_have_room setting W buffer gathers holds frame some pre capacity fits =
+    let ticks : prefill_ticks setting buffer ≡ max 1 gathers = ap (λ (n : ℕ). max 1 (div_ceil n setting.plan.frame)) pre ∙ ap (max 1) (whole_ticks gathers setting.plan.frame frame) in
+    omega (arith, ticks, capacity, some, fits)
 
 -- windows that keep pace refuse nothing, and neither does one more of at most W puts
 then_none : (C W D : ℕ) → W + W + D ≤ C → (windows : List Window) (last : Window) (rest : List (List Cell)) → KeepPace W D D windows → length last.0 ≤ W

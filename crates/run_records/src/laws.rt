@@ -98,3 +98,10 @@ pub fn broken_windows_refuse_nothing()
         → ReadsBuffer setting.plan buffer i → IsHeard setting m above i → HasRoom setting W buffer
         → AreWindowsBegun setting clocks.running W N run → count_by is_none (puts_of run buffer) ≡ 0 }
 {}
+
+/// A buffer that gathers whole ticks before it plays has room for windows of W ticks where it holds at least 2W - 1 ticks more.
+pub fn whole_ticks_have_room()
+    ensures { (setting : Setting) (W buffer gathers holds : ℕ) → 1 ≤ setting.plan.frame → 1 ≤ gathers
+        → prefill setting buffer ≡ gathers * setting.plan.frame → capacity_of setting buffer ≡ holds → W + W + gathers ≤ suc holds
+        → HasRoom setting W buffer }
+{}

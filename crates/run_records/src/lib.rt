@@ -8,5 +8,5 @@ pub use laws::{
     as_on_one_thread, broken_rounds_begin_rounds, broken_windows_begin_rounds,
     broken_windows_refuse_nothing, feeders_run, heard_buffers_refuse_nothing,
     lawful_records_are_rounds, paced_windows_refuse_nothing, roomy_buffers_refuse_nothing,
-    rounds_are_one, text_is_whole, ticks_call_their_own,
+    rounds_are_one, text_is_whole, ticks_call_their_own, whole_ticks_have_room,
 };
