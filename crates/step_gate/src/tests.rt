@@ -52,3 +52,31 @@ fn two_clocks_come_to_their_ends(rt: HostRuntime) {
     assert_eq!(rt; first, 1000);
     assert_eq!(rt; second, 1000);
 }
+
+// Of four clocks in a chain the first thread runs 0 and then 1, the other one 3 and then 2. So 0 and 3 wait in vain, and 1 and 2 do not.
+fn behind_others<R: Threads + Wait + Sync>(rt: &R) -> u64 {
+    let gate = StepGate::new(rt);
+    gate.join(0, 1);
+    gate.join(1, 2);
+    gate.join(2, 3);
+    for tick in 0..100 {
+        thread::join(
+            rt,
+            || pass_both(&gate, 0, 1, tick),
+            || pass_both(&gate, 3, 2, tick),
+        );
+    }
+    100
+}
+
+fn pass_both<G: Gate>(gate: &G, first: u32, second: u32, tick: u64) -> u64 {
+    gate.enter(first, tick);
+    gate.enter(second, tick);
+    tick
+}
+
+// A second a tick would be more than a test may take.
+#[test]
+fn clocks_behind_others_hold_none_for_long(rt: HostRuntime) {
+    assert_eq!(rt; behind_others(&rt), 100);
+}
