@@ -4,7 +4,9 @@ ghost use Rattle.std.specs.Prelude.{◌≡◌, OnOk, IfOk};
 use crate::names::{split_path, temporary_path};
 use crate::outputs::{FileSink, Place};
 use crate::streams::OutSink;
-use crate::system::{FileId, copy_access, is_writable, may_replace, remove, takes_report};
+use crate::system::{
+    FileId, copy_access, is_writable, may_replace, remove, shared_access, takes_report,
+};
 use liq_base::{Failed, ShelfFault};
 use std::alloc::{AllocError, Global};
 use std::fs::{File, Metadata, OpenOptions};
@@ -15,9 +17,6 @@ use std::{fs, io};
 
 /// The mode of a file where none was, before the system takes away what the user wants not to be given.
 const NEW_MODE: u32 = 0o666;
-
-/// The bits of a mode that say who may do what.
-const ACCESS: u32 = 0o777;
 
 /// The outputs of a run.
 #[derive(Drop)]
@@ -219,8 +218,7 @@ impl Places {
             let (temporary, file) = self.make_temporary(rt, id, path.as_str(), NEW_MODE)?;
             return self.keep(rt, id, path, temporary, file, room);
         };
-        let mode = old.mode() & ACCESS;
-        match self.make_temporary(rt, id, path.as_str(), mode) {
+        match self.make_temporary(rt, id, path.as_str(), shared_access(old.mode())) {
             Ok((temporary, file)) => {
                 if self.may_take_place(rt, &folder, path.as_str(), &old, &file) {
                     copy_access(&old, &file);
