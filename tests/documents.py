@@ -2,17 +2,16 @@
 import os
 import re
 import shutil
-import struct
 import subprocess
 import sys
 import tempfile
-import wave
 
-TOP = os.path.dirname(os.path.dirname(os.path.abspath(__file__)))
+from common import TOP, left_samples, sound
+
 SECONDS = 60
 
 # Tops of paths: a text in backticks that begins with one of them and `/` is a path of the repository.
-TOPS = ("crates", "docs", "tests", "bench", "examples")
+TOPS = ("crates", "docs", "tests", "tools", "bench", "examples")
 
 
 def text_of(path):
@@ -114,18 +113,9 @@ def section(text, title):
     return text.split(f"## {title}\n", 1)[1].split("\n## ", 1)[0].splitlines()
 
 
-def written_wave(path, channels, samples):
-    with wave.open(path, "wb") as file:
-        file.setnchannels(channels)
-        file.setsampwidth(2)
-        file.setframerate(44100)
-        file.writeframes(struct.pack(f"<{len(samples)}h", *samples))
-
-
-def left_side(path, count):
-    with wave.open(path, "rb") as file:
-        frames, channels = file.readframes(file.getnframes()), file.getnchannels()
-    return list(struct.unpack(f"<{len(frames) // 2}h", frames))[::channels][:count]
+def write(data, *path):
+    with open(os.path.join(*path), "wb") as file:
+        file.write(data)
 
 
 def example_differs(program, call, script, report, samples):
@@ -133,12 +123,10 @@ def example_differs(program, call, script, report, samples):
     if call + "(" not in script:
         return f"does not call {call}"
     with tempfile.TemporaryDirectory(prefix="liq-page-") as place:
-        written_wave(os.path.join(place, "tone.wav"), 1, [1, 2, 3])
-        written_wave(os.path.join(place, "wide.wav"), 2, [5, 7, 10, 20])
-        with open(os.path.join(place, "list.m3u"), "w", encoding="utf-8") as file:
-            file.write("tone.wav\n")
-        with open(os.path.join(place, "f"), "w", encoding="utf-8") as file:
-            file.write(script)
+        write(sound([1, 2, 3]), place, "tone.wav")
+        write(sound([5, 7, 10, 20], channels=2), place, "wide.wav")
+        write(b"tone.wav\n", place, "list.m3u")
+        write(script.encode(), place, "f")
         run = {"cwd": place, "stdin": subprocess.DEVNULL, "capture_output": True, "timeout": SECONDS}
         done = subprocess.run([program, "check", "f"], check=False, **run)
         told = (done.stdout + done.stderr).decode()
@@ -147,7 +135,7 @@ def example_differs(program, call, script, report, samples):
         if not samples:
             return ""
         subprocess.run([program, "render", "f", "1"], check=True, **run)
-        played = left_side(os.path.join(place, "A"), len(samples))
+        played = left_samples(place, "A")[:len(samples)]
         return "" if played == samples else f"plays {played}"
 
 
@@ -248,8 +236,7 @@ def spoken(form):
 def known_forms(program):
     """The forms of the usage line that the program takes, as far as it takes them."""
     with tempfile.TemporaryDirectory(prefix="liq-page-") as place:
-        with open(os.path.join(place, "f"), "w", encoding="utf-8") as file:
-            file.write('output.file(%wav, "A", blank())')
+        write(b'output.file(%wav, "A", blank())', place, "f")
 
         def status(words):
             return subprocess.run([program] + words, cwd=place, stdin=subprocess.DEVNULL, capture_output=True, check=False, timeout=SECONDS)
