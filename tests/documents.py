@@ -259,12 +259,31 @@ def forms_of_the_readme():
     return dict(parts_of(" | ".join(row[0].strip("`") for row in rows if row and row[0].startswith("`"))))
 
 
-def completed(words):
+def completed(words, call="_liq"):
     """What bash offers for the last of these words."""
     line = " ".join(f"'{word}'" for word in words)
-    script = f'. completion/liq.bash; COMP_WORDS=({line}); COMP_CWORD={len(words) - 1}; _liq; printf "%s\\n" "${{COMPREPLY[@]}}"'
+    script = f'. completion/liq.bash; COMP_WORDS=({line}); COMP_CWORD={len(words) - 1}; {call}; printf "%s\\n" "${{COMPREPLY[@]}}"'
     done = subprocess.run(["bash", "-c", script], cwd=TOP, capture_output=True, check=True, timeout=SECONDS)
     return done.stdout.decode().split()
+
+
+def completions_that_differ():
+    """Options are offered from their fronts, with or without the dashes, and names of files where a file is to be named."""
+    render, readme = ["liq", "render", "f", "1"], ["README.md"]
+    rows = [(render + ["w"], "_liq", ["--window="]), (render + ["--wi"], "_liq", ["--window="]), (render + ["--trace", "="], "_liq", None),
+            (render + ["--trace", "=", "READ"], "_liq", readme), (render + ["--trace=READ"], "_liq", readme), (render + ["--window", "=", "1"], "_liq", []),
+            (["liq", "check", "READ"], "_liq", readme), (["liq-where", "READ"], "_liq_file", readme), (["liq-doctor", "READ"], "_liq_file", readme)]
+    offered = [(words, completed(words, call), wanted) for words, call, wanted in rows]
+    return [f"bash offers {got} behind {words}" for words, got, wanted in offered if got != wanted and (wanted is not None or "README.md" not in got)]
+
+
+def trusted_crates_that_differ(_program):
+    """The README names as trusted the crates of the kit on which crates.txt rests, all of them and no other."""
+    rows = [line.partition("#")[0].partition(":") for line in text_of("crates.txt").splitlines() if ":" in line.partition("#")[0]]
+    own = {row[0].split()[0] for row in rows}
+    used = sorted({name for row in rows for name in row[2].split()} - own)
+    told = re.findall(r"`(\w+)`", "\n".join(section(text_of("README.md"), "What is trusted")).split("kit's crates", 1)[1].split(".", 1)[0])
+    return [] if told == used else [f"the README trusts {told}, crates.txt uses {used}"]
 
 
 def forms_that_differ(program):
@@ -273,32 +292,45 @@ def forms_that_differ(program):
     found = [f"{name} has {forms}, the program {known}"
              for name, forms in (("liq.1", forms_of_the_man_page()), ("README.md", forms_of_the_readme())) if forms != known]
     if shutil.which("bash"):
+        found += completions_that_differ()
         if completed(["liq", ""]) != [form.split()[0] for form in known]:
             found.append(f"bash offers {completed(['liq', ''])}")
         for form, options in known.items():
             offered, wanted = completed(["liq"] + spoken(form) + [""]), [re.sub("=.*", "=", option) for option in options]
             found += [f"bash offers {offered} behind {form}"] if offered != wanted else []
-    if shutil.which("man"):
-        done = subprocess.run(["man", "--warnings", "-l", "liq.1"], cwd=TOP, capture_output=True, check=False, timeout=SECONDS)
-        found += [done.stderr.decode()] if done.stderr or done.returncode else []
+    for page in ("liq.1", "liq-where.1", "liq-doctor.1") if shutil.which("man") else ():
+        done = subprocess.run(["man", "--warnings", "-l", page], cwd=TOP, capture_output=True, check=False, timeout=SECONDS)
+        found += [f"{page}: {done.stderr.decode()}"] if done.stderr or done.returncode else []
     return found
 
 
+def copy_examples(folder):
+    """Copies the scripts of examples/, and nothing that whoever followed its page made there."""
+    os.mkdir(folder)
+    for name in os.listdir(os.path.join(TOP, "examples")):
+        if name.endswith((".liq", ".py")):
+            shutil.copy(os.path.join(TOP, "examples", name), folder)
+
+
 def recipes_that_fail(program):
-    """Each recipe whose program is installed runs, in a folder of the examples with `liq` on PATH."""
+    """Each recipe whose program is installed runs twice, in a folder of the examples with `liq` on PATH, and leaves no pipe and no
+    empty file there."""
     found = []
     for needs, script in re.findall(r"```sh\n# needs (\w+)\n(.*?)```", text_of("examples/README.md"), flags=re.S):
         if not shutil.which(needs):
             continue
         with tempfile.TemporaryDirectory(prefix="liq-page-") as place:
-            shutil.copytree(os.path.join(TOP, "examples"), os.path.join(place, "examples"))
+            copy_examples(os.path.join(place, "examples"))
             os.symlink(program, os.path.join(place, "liq"))
             run = {"cwd": os.path.join(place, "examples"), "capture_output": True, "timeout": SECONDS}
             subprocess.run([sys.executable, "sounds.py"], check=True, **run)
-            done = subprocess.run(["sh", "-c", script.replace("540000", "50")], check=False, stdin=subprocess.DEVNULL,
-                                  env={**os.environ, "PATH": f"{place}:{os.environ['PATH']}"}, **run)
-            if done.returncode or done.stderr:
-                found.append(f"the recipe with {needs} ends with {done.returncode}: {done.stderr.decode()[-300:]}")
+            for turn in ("first", "second"):
+                done = subprocess.run(["sh", "-c", script.replace("540000", "50")], check=False, stdin=subprocess.DEVNULL,
+                                      env={**os.environ, "PATH": f"{place}:{os.environ['PATH']}"}, **run)
+                if done.returncode or done.stderr:
+                    found.append(f"the {turn} run of the recipe with {needs} ends with {done.returncode}: {done.stderr.decode()[-300:]}")
+                left = [entry.name for entry in os.scandir(run["cwd"]) if not entry.is_file() or not entry.stat().st_size]
+                found += [f"the {turn} run of the recipe with {needs} leaves {left}"] if left else []
     return found
 
 
@@ -308,5 +340,6 @@ checks = {
     "documents/tests": tests_that_are_missing,
     "documents/builtins": builtins_that_differ,
     "documents/forms": forms_that_differ,
+    "documents/trusted": trusted_crates_that_differ,
     "documents/recipes": recipes_that_fail,
 }
