@@ -4,6 +4,7 @@ import os
 import struct
 import subprocess
 import sys
+import tempfile
 import wave
 from array import array
 
@@ -32,6 +33,24 @@ def call_of(page, add=takes_text):
     call = words.parse_args()
     call.program = call.program or built()
     return call
+
+
+def usage_of(program):
+    """The usage line of a program."""
+    return subprocess.run([program], stdin=subprocess.DEVNULL, capture_output=True, check=False).stderr
+
+
+def knows_cues(program):
+    """Whether a program writes cue files."""
+    return b"--cues" in usage_of(program)
+
+
+def knows_wide(program):
+    """Whether a program writes samples of 24 bits."""
+    with tempfile.TemporaryDirectory(prefix="liq-wide-") as place:
+        with open(os.path.join(place, "f"), "w", encoding="utf-8") as file:
+            file.write('output.file(%wav(samplesize=24), "A", blank())')
+        return subprocess.run([program, "check", "f"], cwd=place, stdin=subprocess.DEVNULL, capture_output=True, check=False).returncode == 0
 
 
 class Tally:
