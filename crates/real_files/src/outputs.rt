@@ -15,10 +15,11 @@ use std::io::{BufWriter, Write};
 /// Bytes that are kept before they are handed on to a regular file.
 pub(crate) const KEPT: usize = 65_536;
 
-/// A file that is written: beside its name until it is closed, where that can be, and else in place. It keeps a front of
-/// its bytes and hands it on when there is no more room; what takes bytes as they come, as a pipe, has room for none. It
-/// counts its bytes: a closing puts it in its place only if it got exactly those that its creation was told. A test may
-/// write to another writer than a real file.
+/// A file that is written: beside its name until it is closed, where that can be, and else in place. It keeps bytes and
+/// hands them on when there is no more room for them, and when it has all that it is to get, so that a failure is told
+/// before the first closing; for what takes bytes as they come, as a pipe, it keeps none. It counts its bytes: a closing
+/// puts it in its place only if it got exactly those that its creation was told. A test may write to another writer than
+/// a real file.
 #[derive(Drop)]
 pub struct FileSink<W: Write + Drop> {
     to: OutSink<BufWriter<W>>,
@@ -111,13 +112,18 @@ impl<W: Write + Drop> Sink for FileSink<W> {
         ensures counted { OnOk result (self.new.taken ≡ min (self.old.taken + length piece.now) (2 ^ 64 - 1)) }
         ensures uncounted { OnErr result (self.new.taken ≡ self.old.taken) }
         ensures length { self.new.room ≡ self.old.room }
+        ensures handed_on { OnOk result (self.new.taken ≡ self.new.room → writer_buffer self.new.to.to ≡ []) }
         ensures took { OnOk result (Took (λ s. None) (λ s. None) piece.now self.old self.new) }
         ensures part { OnErr result (TookPart (λ s. None) (λ s. None) piece.now self.old self.new) }
         ensures faults { self.old.to.faults ≤ self.new.to.faults }
         ensures cause { OnErr result (Rose self.old.to.faults self.new.to.faults) }
     {
+        let taken = self.taken.saturating_add(piece.len() as u64);
         self.to.append(piece)?;
-        self.taken = self.taken.saturating_add(piece.len() as u64);
+        if taken == self.room {
+            self.to.hand_on()?;
+        }
+        self.taken = taken;
         Ok(())
     }
 }
