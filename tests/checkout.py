@@ -10,7 +10,10 @@ COMMANDS = ("liq", "where", "doctor", "install", "package", "liq.1", "liq-where.
 RT = """#!/bin/sh
 name=$(basename "$PWD")
 echo "$name $*" >> "$NOTES"
-[ "$1" != run ] || { mkdir -p out && cp "$PROGRAMS/$name" "out/$name"; }
+case $1 in
+    run) mkdir -p out && cp "$PROGRAMS/$name" "out/$name"; echo "logic=proved of $name" ;;
+    version) echo "a kit" ;;
+esac
 """
 
 
@@ -18,11 +21,12 @@ class Checkout:
     """A copy of the commands, in a folder whose name has a blank and an umlaut, with the sources of programs that are not built."""
 
     def __init__(self, programs, place):
-        self.place, self.top = place, os.path.join(place, "a chäckout")
+        self.programs, self.place, self.top = programs, place, os.path.join(place, "a chäckout")
         self.notes, self.built = os.path.join(place, "notes"), os.path.join(place, "built")
         os.makedirs(self.top)
         for name in COMMANDS:
             (shutil.copytree if os.path.isdir(os.path.join(TOP, name)) else shutil.copy)(os.path.join(TOP, name), os.path.join(self.top, name))
+        self.write("a chäckout/.gitignore", b"out/\n")
         self.write("a chäckout/crates.txt", b"script_grammar:\nliq_program: script_grammar\nwhere_program: script_grammar\n")
         for name in ("script_grammar", "liq_program", "where_program"):
             self.write(f"a chäckout/crates/{name}/src/main.rt", b"")
@@ -42,9 +46,9 @@ class Checkout:
         with open(path, "wb") as file:
             file.write(data)
 
-    def call(self, *words, kit=True, **options):
+    def call(self, *words, kit=True, path=None, **options):
         """A command's status, and what it printed."""
-        path = os.pathsep.join([os.path.join(self.place, "kit")] * kit + ["/usr/bin", "/bin"])
+        path = path or os.pathsep.join([os.path.join(self.place, "kit")] * kit + ["/usr/bin", "/bin"])
         options = {"stdout": subprocess.PIPE, "stderr": subprocess.PIPE, **options}
         done = subprocess.run(words, cwd=self.work, stdin=subprocess.DEVNULL, check=False, timeout=SECONDS,
                               env={**os.environ, "PATH": path, "NOTES": self.notes, "PROGRAMS": self.built}, **options)
