@@ -10,7 +10,7 @@ _liq_options() {
         --trace=*) _liq_files "${word#--trace=}" ;;
         --window=* | --start=*) ;;
         *)
-            for option in --one-thread --window= --start= --trace=; do
+            for option in --one-thread --window= --start= --trace= --cues; do
                 [[ $option == "$word"* || $option == "--$word"* ]] && COMPREPLY+=("$option")
             done
             compopt -o nospace 2>/dev/null
