@@ -27,8 +27,8 @@ class Checkout:
         for name in COMMANDS:
             (shutil.copytree if os.path.isdir(os.path.join(TOP, name)) else shutil.copy)(os.path.join(TOP, name), os.path.join(self.top, name))
         self.write("a chäckout/.gitignore", b"out/\n")
-        self.write("a chäckout/crates.txt", b"script_grammar:\nliq_program: script_grammar\nwhere_program: script_grammar\n")
-        for name in ("script_grammar", "liq_program", "where_program"):
+        self.write("a chäckout/crates.txt", "\n".join(["script_grammar:"] + [f"{name}: script_grammar" for name in programs]).encode() + b"\n")
+        for name in ("script_grammar", *programs):
             self.write(f"a chäckout/crates/{name}/src/main.rt", b"")
         for name, path in programs.items():
             self.write(f"built/{name}", b"")
@@ -72,6 +72,14 @@ def takes_filter(words):
     takes_text(words)
 
 
+def installed():
+    """The lines of tools/installed: how, the source, and the place."""
+    with open(os.path.join(TOP, "tools", "installed"), encoding="utf-8") as file:
+        return [line.split() for line in file if not line.startswith("#")]
+
+
 def programs_of(call):
-    """The built programs, by the names of their crates."""
-    return {"liq_program": call.program, "where_program": call.filter or built("where_program")}
+    """The built programs, by the names of their crates. Where some are named, `true` stands for those that are not."""
+    given = {"liq_program": call.program, "where_program": call.filter}
+    names = [source for how, source, _ in installed() if how == "program"]
+    return {name: given.get(name) or (shutil.which("true") if call.filter else built(name)) for name in names}
