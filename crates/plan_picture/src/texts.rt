@@ -3,7 +3,7 @@ ghost use Rattle.std.specs.Prelude.{◌≡◌, ◌++◌, OnOk, decimal};
 ghost use Rattle.plan_picture.specs.Texts.{escaped, escaped_byte};
 
 use fixed_text::write_u64;
-use liq_base::{Memory, Text};
+use liq_base::Memory;
 
 /// Appends a text and a number.
 pub fn push_number(into: &mut Vec<u8>, text: &[u8], number: u64) -> Result<(), Memory>
@@ -32,13 +32,13 @@ pub fn push_between(
 pub fn push_quoted(
     into: &mut Vec<u8>,
     text: &[u8],
-    name: &Text,
+    name: &str,
     behind: &[u8],
 ) -> Result<(), Memory>
     ensures { OnOk result (into.new.items ≡ into.old.items ++ (text.now ++ escaped name.now ++ behind.now)) }
 {
     into.extend_from_slice(text)?;
-    push_escaped(into, name.as_str().as_bytes())?;
+    push_escaped(into, name.as_bytes())?;
     into.extend_from_slice(behind)?;
     Ok(())
 }
@@ -67,4 +67,20 @@ fn push_byte(into: &mut Vec<u8>, byte: u8) -> Result<(), Memory>
         into.push(byte)?;
     }
     Ok(())
+}
+
+/// Appends a text.
+pub fn push_plain(into: &mut Vec<u8>, text: &[u8]) -> Result<(), Memory>
+    ensures { OnOk result (into.new.items ≡ into.old.items ++ text.now) }
+{
+    into.extend_from_slice(text)?;
+    Ok(())
+}
+
+/// Appends a text, and a name that is escaped.
+pub fn push_named(into: &mut Vec<u8>, text: &[u8], name: &str) -> Result<(), Memory>
+    ensures { OnOk result (into.new.items ≡ into.old.items ++ text.now ++ escaped name.now) }
+{
+    into.extend_from_slice(text)?;
+    push_escaped(into, name.as_bytes())
 }
