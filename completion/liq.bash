@@ -1,18 +1,47 @@
-# Completion of the words of liq for bash: `. completion/liq.bash`, or as ./install puts it in place.
-_liq() {
-    local word=${COMP_WORDS[COMP_CWORD]}
-    COMPREPLY=()
-    if [ "$COMP_CWORD" -eq 1 ]; then
-        mapfile -t COMPREPLY < <(compgen -W "check render make" -- "$word")
-        return
-    fi
-    case ${COMP_WORDS[1]}:$COMP_CWORD in
-        check:2 | render:2) mapfile -t COMPREPLY < <(compgen -f -- "$word") ;;
-        check:* | render:3 | make:*) ;;
-        render:*)
+# Completion of the words of liq, liq-where and liq-doctor for bash: `. completion/liq.bash`, or as ./install puts it in place.
+_liq_files() {
+    mapfile -t COMPREPLY < <(compgen -f -- "$1")
+}
+
+# Completes an option of `render` from its front, `--wi` or `w` alone; behind `--trace=` a name of a file.
+_liq_options() {
+    local word=$1 before=$2 option
+    case $before$word in
+        --trace=*) _liq_files "${word#--trace=}" ;;
+        --window=* | --start=*) ;;
+        *)
+            for option in --one-thread --window= --start= --trace=; do
+                [[ $option == "$word"* || $option == "--$word"* ]] && COMPREPLY+=("$option")
+            done
             compopt -o nospace 2>/dev/null
-            mapfile -t COMPREPLY < <(compgen -W "--one-thread --window= --start= --trace=" -- "$word")
             ;;
     esac
 }
+
+_liq() {
+    local word=${COMP_WORDS[COMP_CWORD]} before='' at=$COMP_CWORD
+    COMPREPLY=()
+    # bash takes `=` for a word of its own
+    if [[ $word == = ]]; then
+        word='' before=${COMP_WORDS[at - 1]}=
+    elif [[ ${COMP_WORDS[at - 1]} == = ]]; then
+        before=${COMP_WORDS[at - 2]}=
+    fi
+    if [ "$at" -eq 1 ]; then
+        mapfile -t COMPREPLY < <(compgen -W "check render make" -- "$word")
+        return
+    fi
+    case ${COMP_WORDS[1]}:$at in
+        check:2 | render:2) _liq_files "$word" ;;
+        check:* | render:3 | make:*) ;;
+        render:*) _liq_options "$word" "$before" ;;
+    esac
+}
+
+_liq_file() {
+    COMPREPLY=()
+    [ "$COMP_CWORD" -ne 1 ] || _liq_files "${COMP_WORDS[1]}"
+}
 complete -o filenames -F _liq liq ./liq
+complete -o filenames -F _liq_file liq-where ./where
+complete -o filenames -F _liq_file liq-doctor ./doctor

@@ -2,17 +2,16 @@
 import os
 import re
 import shutil
-import struct
 import subprocess
 import sys
 import tempfile
-import wave
 
-TOP = os.path.dirname(os.path.dirname(os.path.abspath(__file__)))
+from common import TOP, left_samples, sound
+
 SECONDS = 60
 
 # Tops of paths: a text in backticks that begins with one of them and `/` is a path of the repository.
-TOPS = ("crates", "docs", "tests", "bench", "examples")
+TOPS = ("crates", "docs", "tests", "tools", "bench", "examples")
 
 
 def text_of(path):
@@ -114,18 +113,9 @@ def section(text, title):
     return text.split(f"## {title}\n", 1)[1].split("\n## ", 1)[0].splitlines()
 
 
-def written_wave(path, channels, samples):
-    with wave.open(path, "wb") as file:
-        file.setnchannels(channels)
-        file.setsampwidth(2)
-        file.setframerate(44100)
-        file.writeframes(struct.pack(f"<{len(samples)}h", *samples))
-
-
-def left_side(path, count):
-    with wave.open(path, "rb") as file:
-        frames, channels = file.readframes(file.getnframes()), file.getnchannels()
-    return list(struct.unpack(f"<{len(frames) // 2}h", frames))[::channels][:count]
+def write(data, *path):
+    with open(os.path.join(*path), "wb") as file:
+        file.write(data)
 
 
 def example_differs(program, call, script, report, samples):
@@ -133,12 +123,10 @@ def example_differs(program, call, script, report, samples):
     if call + "(" not in script:
         return f"does not call {call}"
     with tempfile.TemporaryDirectory(prefix="liq-page-") as place:
-        written_wave(os.path.join(place, "tone.wav"), 1, [1, 2, 3])
-        written_wave(os.path.join(place, "wide.wav"), 2, [5, 7, 10, 20])
-        with open(os.path.join(place, "list.m3u"), "w", encoding="utf-8") as file:
-            file.write("tone.wav\n")
-        with open(os.path.join(place, "f"), "w", encoding="utf-8") as file:
-            file.write(script)
+        write(sound([1, 2, 3]), place, "tone.wav")
+        write(sound([5, 7, 10, 20], channels=2), place, "wide.wav")
+        write(b"tone.wav\n", place, "list.m3u")
+        write(script.encode(), place, "f")
         run = {"cwd": place, "stdin": subprocess.DEVNULL, "capture_output": True, "timeout": SECONDS}
         done = subprocess.run([program, "check", "f"], check=False, **run)
         told = (done.stdout + done.stderr).decode()
@@ -147,7 +135,7 @@ def example_differs(program, call, script, report, samples):
         if not samples:
             return ""
         subprocess.run([program, "render", "f", "1"], check=True, **run)
-        played = left_side(os.path.join(place, "A"), len(samples))
+        played = left_samples(place, "A")[:len(samples)]
         return "" if played == samples else f"plays {played}"
 
 
@@ -248,8 +236,7 @@ def spoken(form):
 def known_forms(program):
     """The forms of the usage line that the program takes, as far as it takes them."""
     with tempfile.TemporaryDirectory(prefix="liq-page-") as place:
-        with open(os.path.join(place, "f"), "w", encoding="utf-8") as file:
-            file.write('output.file(%wav, "A", blank())')
+        write(b'output.file(%wav, "A", blank())', place, "f")
 
         def status(words):
             return subprocess.run([program] + words, cwd=place, stdin=subprocess.DEVNULL, capture_output=True, check=False, timeout=SECONDS)
@@ -272,12 +259,31 @@ def forms_of_the_readme():
     return dict(parts_of(" | ".join(row[0].strip("`") for row in rows if row and row[0].startswith("`"))))
 
 
-def completed(words):
+def completed(words, call="_liq"):
     """What bash offers for the last of these words."""
     line = " ".join(f"'{word}'" for word in words)
-    script = f'. completion/liq.bash; COMP_WORDS=({line}); COMP_CWORD={len(words) - 1}; _liq; printf "%s\\n" "${{COMPREPLY[@]}}"'
+    script = f'. completion/liq.bash; COMP_WORDS=({line}); COMP_CWORD={len(words) - 1}; {call}; printf "%s\\n" "${{COMPREPLY[@]}}"'
     done = subprocess.run(["bash", "-c", script], cwd=TOP, capture_output=True, check=True, timeout=SECONDS)
     return done.stdout.decode().split()
+
+
+def completions_that_differ():
+    """Options are offered from their fronts, with or without the dashes, and names of files where a file is to be named."""
+    render, readme = ["liq", "render", "f", "1"], ["README.md"]
+    rows = [(render + ["w"], "_liq", ["--window="]), (render + ["--wi"], "_liq", ["--window="]), (render + ["--trace", "="], "_liq", None),
+            (render + ["--trace", "=", "READ"], "_liq", readme), (render + ["--trace=READ"], "_liq", readme), (render + ["--window", "=", "1"], "_liq", []),
+            (["liq", "check", "READ"], "_liq", readme), (["liq-where", "READ"], "_liq_file", readme), (["liq-doctor", "READ"], "_liq_file", readme)]
+    offered = [(words, completed(words, call), wanted) for words, call, wanted in rows]
+    return [f"bash offers {got} behind {words}" for words, got, wanted in offered if got != wanted and (wanted is not None or "README.md" not in got)]
+
+
+def trusted_crates_that_differ(_program):
+    """The README names as trusted the crates of the kit on which crates.txt rests, all of them and no other."""
+    rows = [line.partition("#")[0].partition(":") for line in text_of("crates.txt").splitlines() if ":" in line.partition("#")[0]]
+    own = {row[0].split()[0] for row in rows}
+    used = sorted({name for row in rows for name in row[2].split()} - own)
+    told = re.findall(r"`(\w+)`", "\n".join(section(text_of("README.md"), "What is trusted")).split("kit's crates", 1)[1].split(".", 1)[0])
+    return [] if told == used else [f"the README trusts {told}, crates.txt uses {used}"]
 
 
 def forms_that_differ(program):
@@ -286,32 +292,45 @@ def forms_that_differ(program):
     found = [f"{name} has {forms}, the program {known}"
              for name, forms in (("liq.1", forms_of_the_man_page()), ("README.md", forms_of_the_readme())) if forms != known]
     if shutil.which("bash"):
+        found += completions_that_differ()
         if completed(["liq", ""]) != [form.split()[0] for form in known]:
             found.append(f"bash offers {completed(['liq', ''])}")
         for form, options in known.items():
             offered, wanted = completed(["liq"] + spoken(form) + [""]), [re.sub("=.*", "=", option) for option in options]
             found += [f"bash offers {offered} behind {form}"] if offered != wanted else []
-    if shutil.which("man"):
-        done = subprocess.run(["man", "--warnings", "-l", "liq.1"], cwd=TOP, capture_output=True, check=False, timeout=SECONDS)
-        found += [done.stderr.decode()] if done.stderr or done.returncode else []
+    for page in ("liq.1", "liq-where.1", "liq-doctor.1") if shutil.which("man") else ():
+        done = subprocess.run(["man", "--warnings", "-l", page], cwd=TOP, capture_output=True, check=False, timeout=SECONDS)
+        found += [f"{page}: {done.stderr.decode()}"] if done.stderr or done.returncode else []
     return found
 
 
+def copy_examples(folder):
+    """Copies the scripts of examples/, and nothing that whoever followed its page made there."""
+    os.mkdir(folder)
+    for name in os.listdir(os.path.join(TOP, "examples")):
+        if name.endswith((".liq", ".py")):
+            shutil.copy(os.path.join(TOP, "examples", name), folder)
+
+
 def recipes_that_fail(program):
-    """Each recipe whose program is installed runs, in a folder of the examples with `liq` on PATH."""
+    """Each recipe whose program is installed runs twice, in a folder of the examples with `liq` on PATH, and leaves no pipe and no
+    empty file there."""
     found = []
     for needs, script in re.findall(r"```sh\n# needs (\w+)\n(.*?)```", text_of("examples/README.md"), flags=re.S):
         if not shutil.which(needs):
             continue
         with tempfile.TemporaryDirectory(prefix="liq-page-") as place:
-            shutil.copytree(os.path.join(TOP, "examples"), os.path.join(place, "examples"))
+            copy_examples(os.path.join(place, "examples"))
             os.symlink(program, os.path.join(place, "liq"))
             run = {"cwd": os.path.join(place, "examples"), "capture_output": True, "timeout": SECONDS}
             subprocess.run([sys.executable, "sounds.py"], check=True, **run)
-            done = subprocess.run(["sh", "-c", script.replace("540000", "50")], check=False, stdin=subprocess.DEVNULL,
-                                  env={**os.environ, "PATH": f"{place}:{os.environ['PATH']}"}, **run)
-            if done.returncode or done.stderr:
-                found.append(f"the recipe with {needs} ends with {done.returncode}: {done.stderr.decode()[-300:]}")
+            for turn in ("first", "second"):
+                done = subprocess.run(["sh", "-c", script.replace("540000", "50")], check=False, stdin=subprocess.DEVNULL,
+                                      env={**os.environ, "PATH": f"{place}:{os.environ['PATH']}"}, **run)
+                if done.returncode or done.stderr:
+                    found.append(f"the {turn} run of the recipe with {needs} ends with {done.returncode}: {done.stderr.decode()[-300:]}")
+                left = [entry.name for entry in os.scandir(run["cwd"]) if not entry.is_file() or not entry.stat().st_size]
+                found += [f"the {turn} run of the recipe with {needs} leaves {left}"] if left else []
     return found
 
 
@@ -321,5 +340,6 @@ checks = {
     "documents/tests": tests_that_are_missing,
     "documents/builtins": builtins_that_differ,
     "documents/forms": forms_that_differ,
+    "documents/trusted": trusted_crates_that_differ,
     "documents/recipes": recipes_that_fail,
 }

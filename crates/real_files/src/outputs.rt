@@ -1,20 +1,27 @@
 // The sink of a real file.
-ghost use Rattle.std.specs.Prelude.{◌≡◌, ◌≤◌, ◌+◌, ◌-◌, ◌^◌, ◌↔◌, min, length, IsTrue, OnOk, OnErr, None};
-ghost use Rattle.std.specs.Io.KnownBytes.{Appends};
+ghost use Rattle.std.specs.Prelude.{◌≡◌, ◌≤◌, ◌+◌, ◌-◌, ◌^◌, ◌↔◌, min, length, [], IsTrue, OnOk, OnErr, IfOk, None};
+ghost use Rattle.std.specs.Io.Buffered.{writer_buffer, writer_contents};
+ghost use Rattle.std.specs.Io.KnownBytes.{Appends, Keeps};
 ghost use Rattle.liq_base.specs.Counts.{Rose};
 ghost use Rattle.liq_base.specs.Pieces.{Took, TookPart};
 ghost use Rattle.real_files.specs.Writing.{AppendsPart};
 
 use crate::streams::OutSink;
 use liq_base::{Failed, Sink};
-use std::io::Write;
+use std::alloc::Global;
+use std::io;
+use std::io::{BufWriter, Write};
 
-/// A file that is written: beside its name until it is closed, where that can be, and else in place. It counts its bytes:
-/// a closing puts it in its place only if it got exactly those that its creation was told. A test may write to another
-/// writer than a real file.
+/// Bytes that are kept before they are handed on to a regular file.
+pub(crate) const KEPT: usize = 65_536;
+
+/// A file that is written: beside its name until it is closed, where that can be, and else in place. It keeps a front of
+/// its bytes and hands it on when there is no more room; what takes bytes as they come, as a pipe, has room for none. It
+/// counts its bytes: a closing puts it in its place only if it got exactly those that its creation was told. A test may
+/// write to another writer than a real file.
 #[derive(Drop)]
 pub struct FileSink<W: Write + Drop> {
-    to: OutSink<W>,
+    to: OutSink<BufWriter<W>>,
     room: u64,
     taken: u64,
     place: Place,
@@ -30,18 +37,25 @@ pub(crate) enum Place {
 }
 
 impl<W: Write + Drop> FileSink<W> {
-    /// A sink that is to get so many bytes.
-    pub(crate) fn new(to: W, place: Place, room: u64) -> FileSink<W>
-        ensures faults { result.to.faults ≡ 0 }
-        ensures empty { result.taken ≡ 0 }
-        ensures room { result.room ≡ room }
+    /// A sink that is to get `room` bytes, and keeps at most `kept` of them. An error is want of memory.
+    pub(crate) fn new(
+        alloc: Global,
+        to: W,
+        place: Place,
+        room: u64,
+        kept: usize,
+    ) -> io::Result<FileSink<W>>
+        ensures faults { IfOk result (λ sink. sink.to.faults ≡ 0) }
+        ensures empty { IfOk result (λ sink. sink.taken ≡ 0) }
+        ensures none_kept { IfOk result (λ sink. writer_buffer sink.to.to ≡ []) }
+        ensures room { IfOk result (λ sink. sink.room ≡ room) }
     {
-        FileSink {
-            to: OutSink::new(to),
+        Ok(FileSink {
+            to: OutSink::new(BufWriter::with_capacity(alloc, kept, to)?),
             room,
             taken: 0,
             place,
-        }
+        })
     }
 
     /// How often it failed.
@@ -51,15 +65,27 @@ impl<W: Write + Drop> FileSink<W> {
         self.to.faults()
     }
 
-    /// Whether no piece failed, and it got exactly the bytes that it is to get.
+    /// Whether no piece failed, it got exactly the bytes that it is to get, and all of them were handed on.
     pub(crate) fn is_whole(&self) -> bool
-        ensures { IsTrue result ↔ (self.now.to.faults ≡ 0) × (self.now.taken ≡ self.now.room) }
+        ensures { IsTrue result ↔ (self.now.to.faults ≡ 0) × (self.now.taken ≡ self.now.room) × (writer_buffer self.now.to.to ≡ []) }
     {
-        self.to.faults() == 0 && self.taken == self.room
+        self.to.faults() == 0 && self.taken == self.room && self.to.keeps_nothing()
+    }
+
+    /// Hands on what is kept. After `Failed` the writer got a front of it.
+    pub(crate) fn hand_on(&mut self) -> Result<(), Failed>
+        ensures bytes { Keeps (writer_contents W.contents self.old.to.to) (writer_contents W.contents self.new.to.to) }
+        ensures none_kept { OnOk result (writer_buffer self.new.to.to ≡ []) }
+        ensures counted { self.new.taken ≡ self.old.taken }
+        ensures length { self.new.room ≡ self.old.room }
+        ensures faults { self.old.to.faults ≤ self.new.to.faults }
+        ensures cause { OnErr result (Rose self.old.to.faults self.new.to.faults) }
+    {
+        self.to.hand_on()
     }
 
     /// The writer, and where its bytes stand.
-    pub(crate) fn into_parts(self) -> (OutSink<W>, Place) {
+    pub(crate) fn into_parts(self) -> (OutSink<BufWriter<W>>, Place) {
         let FileSink { to, place, .. } = self;
         (to, place)
     }
@@ -78,10 +104,10 @@ impl<W: Write + Drop> Sink for FileSink<W> {
 
     ghost faults = { λ s. s.to.faults };
 
-    /// Writes the piece. After `Failed` the writer got a prefix of it.
+    /// Keeps or writes the piece: what was written and then what is kept grow by it, and after `Failed` by a prefix of it.
     fn append(&mut self, piece: &[u8]) -> Result<(), Failed>
-        ensures whole { OnOk result (Appends (W.contents self.old.to.to) (W.contents self.new.to.to) piece.now) }
-        ensures front { OnErr result (AppendsPart (W.contents self.old.to.to) (W.contents self.new.to.to) piece.now) }
+        ensures whole { OnOk result (Appends (writer_contents W.contents self.old.to.to) (writer_contents W.contents self.new.to.to) piece.now) }
+        ensures front { OnErr result (AppendsPart (writer_contents W.contents self.old.to.to) (writer_contents W.contents self.new.to.to) piece.now) }
         ensures counted { OnOk result (self.new.taken ≡ min (self.old.taken + length piece.now) (2 ^ 64 - 1)) }
         ensures uncounted { OnErr result (self.new.taken ≡ self.old.taken) }
         ensures length { self.new.room ≡ self.old.room }

@@ -2,9 +2,11 @@
 ghost use Rattle.std.specs.Prelude.{◌≡◌, OnOk, IfOk};
 
 use crate::names::{split_path, temporary_path};
-use crate::outputs::{FileSink, Place};
+use crate::outputs::{FileSink, KEPT, Place};
 use crate::streams::OutSink;
-use crate::system::{FileId, copy_access, is_writable, may_replace, remove, takes_report};
+use crate::system::{
+    FileId, copy_access, is_writable, may_replace, remove, shared_access, takes_report,
+};
 use liq_base::{Failed, ShelfFault};
 use std::alloc::{AllocError, Global};
 use std::fs::{File, Metadata, OpenOptions};
@@ -15,9 +17,6 @@ use std::{fs, io};
 
 /// The mode of a file where none was, before the system takes away what the user wants not to be given.
 const NEW_MODE: u32 = 0o666;
-
-/// The bits of a mode that say who may do what.
-const ACCESS: u32 = 0o777;
 
 /// The outputs of a run.
 #[derive(Drop)]
@@ -100,7 +99,9 @@ impl Places {
         ensures faults { OnOk result (out.to.faults ≡ 0) }
         ensures length { OnOk result (out.taken ≡ out.room) }
     {
-        let is_whole = out.is_whole();
+        let mut out = out;
+        let is_handed = out.hand_on().is_ok();
+        let is_whole = is_handed && out.is_whole();
         let (to, place) = out.into_parts();
         let is_placed = match place {
             Place::Own => true,
@@ -219,8 +220,7 @@ impl Places {
             let (temporary, file) = self.make_temporary(rt, id, path.as_str(), NEW_MODE)?;
             return self.keep(rt, id, path, temporary, file, room);
         };
-        let mode = old.mode() & ACCESS;
-        match self.make_temporary(rt, id, path.as_str(), mode) {
+        match self.make_temporary(rt, id, path.as_str(), shared_access(old.mode())) {
             Ok((temporary, file)) => {
                 if self.may_take_place(rt, &folder, path.as_str(), &old, &file) {
                     copy_access(&old, &file);
@@ -273,7 +273,7 @@ impl Places {
     }
 
     // Keeps an output that is written beside its name.
-    fn keep<R: Files<File = File>>(
+    fn keep<R: Files<File = File> + Alloc<A = Global>>(
         &mut self,
         rt: &R,
         folder: FileId,
@@ -291,6 +291,10 @@ impl Places {
             remove(rt, temporary.as_str());
             return Err(ShelfFault::Failed);
         };
+        let Ok(sink) = FileSink::new(rt.alloc(), file, Place::Beside(at), room, KEPT) else {
+            remove(rt, temporary.as_str());
+            return Err(ShelfFault::Memory);
+        };
         let output = Beside {
             folder,
             path,
@@ -298,7 +302,7 @@ impl Places {
             file: FileId::of(&made),
         };
         match self.beside.push(output) {
-            Ok(()) => Ok(FileSink::new(file, Place::Beside(at), room)),
+            Ok(()) => Ok(sink),
             Err(refused) => {
                 remove(rt, refused.value.temporary.as_str());
                 Err(ShelfFault::Memory)
@@ -307,7 +311,7 @@ impl Places {
     }
 
     // Opens what stands at the name of an output, to be written in place.
-    fn open_in_place<R: Files<File = File>>(
+    fn open_in_place<R: Files<File = File> + Alloc<A = Global>>(
         &mut self,
         rt: &R,
         path: &str,
@@ -325,11 +329,15 @@ impl Places {
         if self.in_place.push(file).is_err() {
             return Err(ShelfFault::Memory);
         }
+        let kept = if found.is_file() { KEPT } else { 0 };
         let mut options = OpenOptions::new();
         options.write(true).truncate(found.is_file());
-        match options.open(rt, path) {
-            Ok(file) => Ok(FileSink::new(file, Place::Own, room)),
-            Err(_) => Err(ShelfFault::Failed),
+        let Ok(file) = options.open(rt, path) else {
+            return Err(ShelfFault::Failed);
+        };
+        match FileSink::new(rt.alloc(), file, Place::Own, room, kept) {
+            Ok(sink) => Ok(sink),
+            Err(_) => Err(ShelfFault::Memory),
         }
     }
 

@@ -1,12 +1,13 @@
 // A writer as a byte sink. It tells no bytes and no room left.
-ghost use Rattle.std.specs.Prelude.{◌≡◌, ◌≤◌, ℕ, IsTrue, OnOk, OnErr, None};
-ghost use Rattle.std.specs.Io.KnownBytes.{Appends};
+ghost use Rattle.std.specs.Prelude.{◌≡◌, ◌≤◌, ◌↔◌, ℕ, [], IsTrue, OnOk, OnErr, None};
+ghost use Rattle.std.specs.Io.Buffered.{writer_buffer, writer_contents};
+ghost use Rattle.std.specs.Io.KnownBytes.{Appends, Keeps};
 ghost use Rattle.liq_base.specs.Counts.{Rose};
 ghost use Rattle.liq_base.specs.Pieces.{Took, TookPart};
 ghost use Rattle.real_files.specs.Writing.{AppendsPart};
 
 use liq_base::{Failed, Sink};
-use std::io::{ErrorKind, Write};
+use std::io::{BufWriter, ErrorKind, Write};
 
 /// A writer as a byte sink, which counts its failures. Of a writer whose bytes are known, they grow by each piece.
 #[derive(Drop)]
@@ -36,6 +37,29 @@ impl<W: Write + Drop> OutSink<W> {
         ensures { result ≡ self.to }
     {
         self.to
+    }
+}
+
+impl<W: Write + Drop> OutSink<BufWriter<W>> {
+    /// Whether the writer keeps nothing that it has not handed on.
+    pub(crate) fn keeps_nothing(&self) -> bool
+        ensures { IsTrue result ↔ writer_buffer self.now.to ≡ [] }
+    {
+        self.to.buffer().is_empty()
+    }
+
+    /// Hands on what the writer keeps. After `Failed` a front of it was handed on.
+    pub(crate) fn hand_on(&mut self) -> Result<(), Failed>
+        ensures bytes { Keeps (writer_contents W.contents self.old.to) (writer_contents W.contents self.new.to) }
+        ensures none_kept { OnOk result (writer_buffer self.new.to ≡ []) }
+        ensures faults { self.old.faults ≤ self.new.faults }
+        ensures cause { OnErr result (Rose self.old.faults self.new.faults) }
+    {
+        if self.to.flush().is_ok() {
+            return Ok(());
+        }
+        self.faults = self.faults.saturating_add(1);
+        Err(Failed)
     }
 }
 

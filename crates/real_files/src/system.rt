@@ -1,8 +1,11 @@
 // What the system says of a file.
+ghost use Rattle.std.specs.Prelude.{◌≡◌, ◌/◌, ◌%◌};
+ghost use Rattle.std.specs.Int.Bits.{bit_and};
+
 use std::fs;
-use std::fs::{File, Metadata, OpenOptions};
+use std::fs::{File, Metadata, OpenOptions, Permissions};
 use std::os::fd::AsFd;
-use std::os::unix::fs::{MetadataExt, fchown};
+use std::os::unix::fs::{MetadataExt, PermissionsExt, fchown};
 use std::rt::Files;
 
 /// The bit of a folder in which a file may be replaced by its owner and the folder's alone.
@@ -54,11 +57,35 @@ pub(crate) fn may_replace(folder: &Metadata, old: &Metadata, ours: &Metadata) ->
     folder.mode() & STICKY == 0 || us == 0 || us == old.uid() || us == folder.uid()
 }
 
-/// Gives a new file the group, the owner and the mode of an old one, as far as the system lets us.
+/// What a mode says of who may do what, without the bits of other owners' programs and of sticky folders.
+pub(crate) fn access(mode: u32) -> u32
+    ensures { result ≡ mode % 512 }
+{
+    mode % 0o1000
+}
+
+/// The same for a file of another group than the old one's: the group and all others may do what both might before, so
+/// that nobody gains.
+pub(crate) fn shared_access(mode: u32) -> u32
+    ensures owner { result / 64 ≡ mode / 64 % 8 }
+    ensures group { result / 8 % 8 ≡ bit_and (mode / 8 % 8) (mode % 8) }
+    ensures others { result % 8 ≡ bit_and (mode / 8 % 8) (mode % 8) }
+{
+    let both = (mode / 8 % 8) & (mode % 8);
+    mode / 64 % 8 * 64 + both * 8 + both
+}
+
+/// Gives a new file the group, the owner and the access of an old one, as far as the system lets us: where it refuses the
+/// group, `shared_access`.
 pub(crate) fn copy_access(old: &Metadata, new: &File) {
-    let _ = fchown(new.as_fd(), None, Some(old.gid()));
+    let has_group = fchown(new.as_fd(), None, Some(old.gid())).is_ok();
     let _ = fchown(new.as_fd(), Some(old.uid()), None);
-    let _ = new.set_permissions(old.permissions());
+    let mode = if has_group {
+        access(old.mode())
+    } else {
+        shared_access(old.mode())
+    };
+    let _ = new.set_permissions(Permissions::from_mode(mode));
 }
 
 /// Removes a file, if it is there and may be removed.

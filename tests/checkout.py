@@ -1,0 +1,73 @@
+"""A copy of the commands of the checkout, as tests/install and tests/package call them."""
+import os
+import shutil
+import subprocess
+
+from common import TOP, built, sound, takes_text
+
+SECONDS = 60
+COMMANDS = ("liq", "where", "doctor", "install", "package", "liq.1", "liq-where.1", "liq-doctor.1", "tools", "completion", "docs", "examples")
+RT = """#!/bin/sh
+name=$(basename "$PWD")
+echo "$name $*" >> "$NOTES"
+[ "$1" != run ] || { mkdir -p out && cp "$PROGRAMS/$name" "out/$name"; }
+"""
+
+
+class Checkout:
+    """A copy of the commands, in a folder whose name has a blank and an umlaut, with the sources of programs that are not built."""
+
+    def __init__(self, programs, place):
+        self.place, self.top = place, os.path.join(place, "a chäckout")
+        self.notes, self.built = os.path.join(place, "notes"), os.path.join(place, "built")
+        os.makedirs(self.top)
+        for name in COMMANDS:
+            (shutil.copytree if os.path.isdir(os.path.join(TOP, name)) else shutil.copy)(os.path.join(TOP, name), os.path.join(self.top, name))
+        self.write("a chäckout/crates.txt", b"script_grammar:\nliq_program: script_grammar\nwhere_program: script_grammar\n")
+        for name in ("script_grammar", "liq_program", "where_program"):
+            self.write(f"a chäckout/crates/{name}/src/main.rt", b"")
+        for name, path in programs.items():
+            self.write(f"built/{name}", b"")
+            shutil.copy(path, os.path.join(self.built, name))
+        self.write("kit/rt", RT.encode())
+        os.chmod(os.path.join(place, "kit", "rt"), 0o755)
+        self.write("work/f", b'output.file(%wav, "A", single("B"))\n')
+        self.write("work/bad", b"x = y\n")
+        self.write("work/B", sound([1, 2, 3]))
+        self.work = os.path.join(place, "work")
+
+    def write(self, name, data):
+        path = os.path.join(self.place, name)
+        os.makedirs(os.path.dirname(path), exist_ok=True)
+        with open(path, "wb") as file:
+            file.write(data)
+
+    def call(self, *words, kit=True, **options):
+        """A command's status, and what it printed."""
+        path = os.pathsep.join([os.path.join(self.place, "kit")] * kit + ["/usr/bin", "/bin"])
+        options = {"stdout": subprocess.PIPE, "stderr": subprocess.PIPE, **options}
+        done = subprocess.run(words, cwd=self.work, stdin=subprocess.DEVNULL, check=False, timeout=SECONDS,
+                              env={**os.environ, "PATH": path, "NOTES": self.notes, "PROGRAMS": self.built}, **options)
+        return done.returncode, (done.stdout or b"").decode(), (done.stderr or b"").decode()
+
+    def command(self, name):
+        return os.path.join(self.top, name)
+
+    def noted(self):
+        """The words with which the kit was called since the last look."""
+        if not os.path.exists(self.notes):
+            return []
+        with open(self.notes, encoding="utf-8") as file:
+            lines = file.read().splitlines()
+        os.remove(self.notes)
+        return lines
+
+
+def takes_filter(words):
+    words.add_argument("--filter", metavar="PATH", type=os.path.abspath)
+    takes_text(words)
+
+
+def programs_of(call):
+    """The built programs, by the names of their crates."""
+    return {"liq_program": call.program, "where_program": call.filter or built("where_program")}
