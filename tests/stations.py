@@ -85,10 +85,10 @@ def write_station(folder, station, samples_of):
         write_file(folder, name, "".join(f"f{entry}.wav\n" for entry in entries))
 
 
-def render(program, folder, script, seconds):
+def render(program, folder, script, seconds, *options):
     """Renders a script with cue files, and gives what the program said."""
     write_file(folder, "s.liq", script)
-    words = [program, "render", "s.liq", str(25 * seconds), "--one-thread", "--cues"]
+    words = [program, "render", "s.liq", str(25 * seconds), "--one-thread", "--cues", *options]
     return subprocess.run(words, cwd=folder, stdout=subprocess.PIPE, stderr=subprocess.PIPE, check=False)
 
 
