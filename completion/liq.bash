@@ -1,4 +1,4 @@
-# Completion of the words of liq, liq-where and liq-doctor for bash: `. completion/liq.bash`, or as ./install puts it in place.
+# Completion of the words of liq and of the commands beside it for bash: `. completion/liq.bash`, or as ./install puts it in place.
 _liq_files() {
     mapfile -t COMPREPLY < <(compgen -f -- "$1")
 }
@@ -43,5 +43,29 @@ _liq_file() {
     [ "$COMP_CWORD" -ne 1 ] || _liq_files "${COMP_WORDS[1]}"
 }
 complete -o filenames -F _liq liq ./liq
+
+_liq_page() {
+    local word=${COMP_WORDS[COMP_CWORD]} before='' option
+    COMPREPLY=()
+    # bash takes `=` for a word of its own
+    if [[ $word == = ]]; then
+        word='' before=${COMP_WORDS[COMP_CWORD - 1]}
+    elif [[ ${COMP_WORDS[COMP_CWORD - 1]} == = ]]; then
+        before=${COMP_WORDS[COMP_CWORD - 2]}
+    fi
+    case $before:$word in
+        --as:*) mapfile -t COMPREPLY < <(compgen -W "html labels sheet chapters vtt tsv" -- "$word") ;;
+        --start:* | --title:* | --silence:*) ;;
+        :-*)
+            for option in --start= --title= --silence= --as= --then=; do
+                [[ $option == "$word"* ]] && COMPREPLY+=("$option")
+            done
+            compopt -o nospace 2>/dev/null
+            ;;
+        *) _liq_files "$word" ;;
+    esac
+}
+complete -o filenames -F _liq_page liq-page ./page
+complete -o filenames -F _liq_file liq-picture ./picture
 complete -o filenames -F _liq_file liq-where ./where
 complete -o filenames -F _liq_file liq-doctor ./doctor

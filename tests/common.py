@@ -25,13 +25,14 @@ def takes_text(words):
     words.add_argument("text", metavar="TEXT", nargs="?", default="")
 
 
-def call_of(page, add=takes_text):
-    """The words of a runner's call: `--program PATH`, where an already built program is to be taken, and what the runner adds."""
+def call_of(page, add=takes_text, name="liq_program"):
+    """The words of a runner's call: `--program PATH`, where an already built program of this name is to be taken, and what the runner
+    adds."""
     words = argparse.ArgumentParser(description=page, formatter_class=argparse.RawDescriptionHelpFormatter, allow_abbrev=False)
     words.add_argument("--program", metavar="PATH", type=os.path.abspath)
     add(words)
     call = words.parse_args()
-    call.program = call.program or built()
+    call.program = call.program or built(name)
     return call
 
 

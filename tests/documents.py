@@ -298,7 +298,7 @@ def forms_that_differ(program):
         for form, options in known.items():
             offered, wanted = completed(["liq"] + spoken(form) + [""]), [re.sub("=.*", "=", option) for option in options]
             found += [f"bash offers {offered} behind {form}"] if offered != wanted else []
-    for page in ("liq.1", "liq-where.1", "liq-doctor.1") if shutil.which("man") else ():
+    for page in ("liq.1", "liq-where.1", "liq-doctor.1", "liq-page.1", "liq-picture.1") if shutil.which("man") else ():
         done = subprocess.run(["man", "--warnings", "-l", page], cwd=TOP, capture_output=True, check=False, timeout=SECONDS)
         found += [f"{page}: {done.stderr.decode()}"] if done.stderr or done.returncode else []
     return found
@@ -313,8 +313,8 @@ def copy_examples(folder):
 
 
 def recipes_that_fail(program):
-    """Each recipe whose program is installed runs twice, in a folder of the examples with `liq` on PATH, and leaves no pipe and no
-    empty file there."""
+    """Each recipe whose program is installed runs twice, in a folder of the examples with `liq` and `liq-page` on PATH, and leaves no
+    pipe and no empty file there."""
     found = []
     for needs, script in re.findall(r"```sh\n# needs (\w+)\n(.*?)```", text_of("examples/README.md"), flags=re.S):
         if not shutil.which(needs):
@@ -322,6 +322,7 @@ def recipes_that_fail(program):
         with tempfile.TemporaryDirectory(prefix="liq-page-") as place:
             copy_examples(os.path.join(place, "examples"))
             os.symlink(program, os.path.join(place, "liq"))
+            os.symlink(os.path.join(TOP, "page"), os.path.join(place, "liq-page"))
             run = {"cwd": os.path.join(place, "examples"), "capture_output": True, "timeout": SECONDS}
             subprocess.run([sys.executable, "sounds.py"], check=True, **run)
             for turn in ("first", "second"):

@@ -1,0 +1,1 @@
+"""The page of a rendering: what ./page makes, one module a noun."""
