@@ -117,9 +117,6 @@ module _ (sinks : List SinkPlan) (k : ℕ) (before between : Option (List (List 
   cues_still buffer node at =
       so_far ∙ ap (λ names. after_making names before) (cue_names_are (take k sinks) ∙ ap (map cue_name) (sym (names_still sinks k buffer node at)) ∙ sym (cue_names_are (take (k + 1) sinks)))
 
-  pub cues_whole : length sinks ≤ k → between ≡ after_making (cue_names_in sinks) before
-  cues_whole all = so_far ∙ ap (λ xs. after_making (cue_names_in xs) before) (take_whole sinks k all)
-
   module _ (name said : List ℕ) (node : ℕ) (fallible wide : Bool) (at : slice_get sinks k ≡ Some (Output name node fallible wide)) (said_is : said ≡ name) (after : Option (List (List ℕ))) where
     cue_next : cue_names_in (take (k + 1) sinks) ≡ cue_names_in (take k sinks) ++ cue_name said ∷ []
     cue_next =

@@ -14,14 +14,12 @@ use Rattle.clock_engine.specs.declared.cues.CueMark.{CueMark}
 use Rattle.buffer_ends.specs.Local.{Answers}
 use Rattle.trace_log.specs.Texts.{trace_text}
 use Rattle.trace_log.specs.Values.{TraceValue}
-use Rattle.stations.specs.Creations.{MadeFront, after_making}
 use Rattle.stations.specs.Cues.{cue_files, cue_names_if, cue_names_in, cues_if, cues_in, marks_if, marks_in}
 use Rattle.stations.specs.Outputs.{HoldsUpto, OutputFile, with_outputs}
 use Rattle.stations.specs.Renderings.{WrotePart}
 use Rattle.stations.specs.Stations.{Station, setting_of_run}
 use Rattle.stations.specs.Streams.{output_files}
 use Rattle.stations.specs.Traces.{later_files, traced, traces_in, traces_of}
-use Rattle.stations.proofs.Making.{none_more}
 use Rattle.stations.proofs.Parts.{both_outputs, upto_front, upto_none, upto_then}
 use Rattle.station_render.specs.Marks.{cue_file, cue_files_if, cue_files_with, cues_of}
 use Rattle.station_render.specs.Renders.{written}
@@ -58,9 +56,6 @@ module _ (before mid after : Option Files) (cues traces : List OutputFile) where
 -- none of them was written
 pub part_none : (before : Option Files) (outputs : List OutputFile) → ForSome before (λ files. IsSomeAnd before (HoldsUpto files outputs))
 part_none before outputs files at = subst (λ told. IsSomeAnd told (HoldsUpto files outputs)) (sym at) (upto_none files outputs)
-
-pub part_kept : (before after : Option Files) (outputs : List OutputFile) → after ≡ before → ForSome before (λ files. IsSomeAnd after (HoldsUpto files outputs))
-part_kept before after outputs same files at = subst (λ told. IsSomeAnd told (HoldsUpto files outputs)) (sym (same ∙ at)) (upto_none files outputs)
 
 -- one file, wholly or in part
 pub one_part : (before after : Option Files) (name bytes : List ℕ) → ForSome before (λ files. IsSomeAnd after (HoldsPart files name bytes))
@@ -163,25 +158,3 @@ module _ (name : Option (List ℕ)) (trace : TraceValue) (n : List ℕ) (is : na
 
 pub none_so : (name : Option (List ℕ)) (trace : TraceValue) (before : Option Files) → name ≡ None → ForSome before (λ files. before ≡ Some (with_outputs files (traced name trace)))
 none_so name trace before is = λ files at. at ∙ ap (λ o. Some (with_outputs files (traced o trace))) (sym is)
-
--- where no cue files are wanted, and where they are
-module _ (wanted : Bool) (library : Sounds) (sinks : List SinkPlan) (marks : List (List Cue)) where
-  pub none_wanted : wanted ≡ false → (before : Option Files) → ForSome before (λ files. before ≡ Some (with_outputs files (cue_files_if wanted library sinks marks)))
-  none_wanted is before files at = at ∙ ap (λ b. Some (with_outputs files (cue_files_if b library sinks marks))) (sym is)
-
-  pub none_named : wanted ≡ false → (told : Option (List (List ℕ))) → told ≡ after_making (cue_names_if wanted sinks) told
-  none_named is told = none_more told ∙ ap (λ b. after_making (cue_names_if b sinks) told) (sym is)
-
-  pub all_wanted : wanted ≡ true → {E : Type 0} (r : Result (Unit {0}) E) (before after : Option Files) → OnOk r (ForSome before (λ files. after ≡ Some (with_outputs files (cue_files_with library sinks marks))))
-      → OnOk r (ForSome before (λ files. after ≡ Some (with_outputs files (cue_files_if wanted library sinks marks))))
-  all_wanted is r before after = subst (λ b. OnOk r (ForSome before (λ files. after ≡ Some (with_outputs files (cue_files_if b library sinks marks))))) (sym is)
-
-  pub part_wanted : wanted ≡ true → (before after : Option Files) → ForSome before (λ files. IsSomeAnd after (HoldsUpto files (cue_files_with library sinks marks)))
-      → ForSome before (λ files. IsSomeAnd after (HoldsUpto files (cue_files_if wanted library sinks marks)))
-  part_wanted is before after = subst (λ b. ForSome before (λ files. IsSomeAnd after (HoldsUpto files (cue_files_if b library sinks marks)))) (sym is)
-
-  pub made_wanted : wanted ≡ true → {E : Type 0} (r : Result (Unit {0}) E) (before after : Option (List (List ℕ))) → OnOk r (after ≡ after_making (cue_names_in sinks) before) → OnOk r (after ≡ after_making (cue_names_if wanted sinks) before)
-  made_wanted is r before after = subst (λ b. OnOk r (after ≡ after_making (cue_names_if b sinks) before)) (sym is)
-
-  pub front_wanted : wanted ≡ true → (before after : Option (List (List ℕ))) → MadeFront (cue_names_in sinks) before after → MadeFront (cue_names_if wanted sinks) before after
-  front_wanted is before after = subst (λ b. MadeFront (cue_names_if b sinks) before after) (sym is)
