@@ -1,5 +1,5 @@
 -- The statement that makes a source.
-use Rattle.std.specs.Prelude.{ℕ, ◌+◌, nat_lt, List, [], Bool, true, false, length, Option, Some, None, Result, Ok, Err}
+use Rattle.std.specs.Prelude.{ℕ, ◌+◌, nat_lt, List, [], Bool, true, false, length, Option, Some, None, Result, Ok}
 use Rattle.script_grammar.specs.Tree.{Tree, Many, none, more, AStmt, Stmt, Script}
 use Rattle.typing_rules.specs.declared.uses.Use.{Use}
 use Rattle.script_values.specs.declared.machine.Machine.{Machine}

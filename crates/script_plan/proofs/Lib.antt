@@ -1,2 +1,3 @@
+mod MadeBy
 pub mod Lexical
 pub mod OneAnswer

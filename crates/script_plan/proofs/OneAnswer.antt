@@ -32,7 +32,7 @@ OnePlan = (script : Script) (uses others : List Use) → IsPlaced 0 script → I
 
 -- ---- the tree
 
-spelled_one : (text : List ℕ) (s r : Script) → Spells text s → Spells text r → s ≡ r
+pub spelled_one : (text : List ℕ) (s r : Script) → Spells text s → Spells text r → s ≡ r
 spelled_one text s r a b = one_placed_script s r a.placed b.placed (a.spelled ∙ ap kinds (tokens_one text a.tokens b.tokens a.lexed b.lexed) ∙ sym b.spelled)
 
 no_fault : (w : List TokenKind) (s : Script) (e : ParseFault) → spelling s ≡ w → IsShallow w → IsFault w e → ⊥

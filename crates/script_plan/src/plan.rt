@@ -34,7 +34,7 @@ pub fn plan_of(alloc: Global, text: &[u8]) -> Result<Plan, ScriptFault>
 }
 
 // The script that the text spells. Its tokens are freed here.
-fn script_of(alloc: Global, text: &[u8]) -> Result<Script, ScriptFault>
+pub(crate) fn script_of(alloc: Global, text: &[u8]) -> Result<Script, ScriptFault>
     ensures spelled { IfOk result (λ s. Spells text.now (view_script s)) }
     ensures fault { IfErr result (λ e. e ≢ fault.Memory → IsPlanFault text.now e) }
 {
@@ -55,7 +55,7 @@ fn plan_of_script(alloc: Global, script: &Script) -> Result<Plan, ScriptFault>
 }
 
 // What the names of a script stand for. What else inference made is freed here.
-fn uses_of(alloc: Global, script: &Script) -> Result<Vec<Use>, ScriptFault>
+pub(crate) fn uses_of(alloc: Global, script: &Script) -> Result<Vec<Use>, ScriptFault>
     requires { IsPlaced 0 (view_script script.now) }
     ensures typed { IfOk result (λ uses. IsTyped (view_script script.now) uses.items) }
     ensures fault { IfErr result (IsOfTyping (view_script script.now)) }

@@ -1,15 +1,21 @@
 -- The byte at which what a line names begins.
-use Rattle.std.specs.Prelude.{◌≡◌, ℕ, List, Some, length}
+use Rattle.std.specs.Prelude.{◌≡◌, ◌≤◌, ℕ, List, Some, length, ⊤}
+use Rattle.plan_core.specs.declared.plan.Plan.{Plan}
 use Rattle.script_lex.specs.Tokens.{AreTokens}
 use Rattle.script_lex.specs.declared.token.Token.{Token}
 use Rattle.script_grammar.specs.Tree.{Script}
 use Rattle.script_grammar.specs.Spelling.{spelling}
 use Rattle.script_grammar.specs.Placed.{IsPlaced}
+use Rattle.script_plan.specs.Plans.{IsPlan}
 use Rattle.parse_base.specs.Gives.{kinds}
 use Rattle.script_places.specs.Starts.{start, first_token}
 use Rattle.script_places.specs.declared.named.Named.{Named}
-use Rattle.script_places.specs.declared.named.Named.TheVariants.{Byte, Token as NamedToken, Statement, Source}
-use Rattle.where_program.specs.Sources.{IsSourceAt}
+use Rattle.script_places.specs.declared.named.Named.TheVariants.{Byte, Token as NamedToken, Statement, Source, Clash, Text, Fallible}
+use Rattle.where_program.specs.Calls.{part}
+use Rattle.where_program.specs.Causes.{IsCauseAt}
+use Rattle.where_program.specs.Clashes.{Clashes}
+use Rattle.where_program.specs.Sources.{IsInStatement, IsSourceAt}
+use Rattle.where_program.specs.Texts.{IsTextAt}
 
 -- the text has these tokens, and token k begins at this byte
 pub record IsTokenAt (text : List ℕ) (k at : ℕ) : Type 0 where
@@ -28,8 +34,22 @@ pub record IsStatementAt (text : List ℕ) (number at : ℕ) : Type 0 where
   pub first_is : first_token script number ≡ Some first
   pub begins : at ≡ start (length text) tokens first
 
-abbrev pub Begins : List ℕ → Named → ℕ → Type 0
-Begins text (Byte n) at = at ≡ n
-Begins text (NamedToken k) at = IsTokenAt text k at
-Begins text (Statement number) at = IsStatementAt text number at
-Begins text (Source k) at = IsSourceAt text k at
+-- of a line and of a text
+abbrev pub Begins : List ℕ → List ℕ → Named → ℕ → Type 0
+Begins line text (Byte n) at = at ≡ n
+Begins line text (NamedToken k) at = IsTokenAt text k at
+Begins line text (Statement number) at = IsStatementAt text number at
+Begins line text (Source k) at = IsSourceAt text k at
+Begins line text (Clash number) at = IsInStatement Clashes text number at
+Begins line text (Text from to) at = IsTextAt text (part line from to) at
+Begins line text (Fallible from to) at = IsCauseAt text (part line from to) at
+
+-- what is known where nothing is answered: a script with a plan has no such source
+abbrev pub IsNowhere : List ℕ → Named → Type 0
+IsNowhere text (Source k) = (plan : Plan) → IsPlan text plan → length plan.nodes ≤ k
+IsNowhere text (Byte n) = ⊤
+IsNowhere text (NamedToken k) = ⊤
+IsNowhere text (Statement number) = ⊤
+IsNowhere text (Clash number) = ⊤
+IsNowhere text (Text from to) = ⊤
+IsNowhere text (Fallible from to) = ⊤

@@ -1,86 +1,132 @@
-// The call of a statement that makes a source.
-ghost use Rattle.std.specs.Prelude.{IfSome, ◌++◌};
-ghost use Rattle.where_program.specs.Sources.{IsCaller, Makes};
+// The call of a statement that tells what is wanted.
+ghost use Rattle.std.specs.Prelude.{◌≡◌, ◌++◌, IfOk, IfSome, OnOk, Some, take};
+ghost use Rattle.where_program.specs.declared.calls.Bracket.TheVariants as bracket;
+ghost use Rattle.where_program.specs.Calls.{Closed, IsCaller, calls_from, newest, brackets_behind, role_of, symbol_role, texts_behind, with_closed};
+ghost use Rattle.where_program.specs.Candidates.{AreCalls, IsCalled, IsCandidate};
+ghost use Rattle.where_program.specs.Wanted.{Tells};
 
-use crate::fronts::{front, joined, makes, part};
+use crate::fronts::{front, joined, part};
+use crate::wanted::{Wanted, tells};
 use liq_base::Memory;
 use script_lex::{Keyword, Symbol, Token, TokenKind};
 use std::alloc::Global;
 
-// The texts of the calls that are closed among some tokens, each whole and none within another, a line for each; and what
-// stands open behind them.
-#[derive(Drop)]
-struct Calls {
-    texts: Vec<u8>,
-    brackets: Vec<Bracket>,
-}
-
-// What stands open.
+/// What stands open.
 #[derive(Clone, Copy)]
-enum Bracket {
-    // A call from this byte on, before which the texts had so many bytes.
+pub enum Bracket {
+    /// A call from this byte on, before which the texts had so many bytes.
     Call { start: usize, others: usize },
 
-    // Another bracket.
+    /// Another bracket.
     Other,
 }
 
-// A call with the texts of those before it, of which the first bytes, so many, are no arguments of it.
-#[derive(Drop)]
-struct Found {
-    texts: Vec<u8>,
-    others: usize,
-    start: usize,
-    end: usize,
+/// What a token does to what stands open.
+#[derive(Clone, Copy)]
+pub enum Role {
+    /// It opens a call.
+    OpensCall,
+
+    /// It opens another bracket.
+    Opens,
+
+    /// It closes one.
+    Closes,
+
+    /// Neither.
+    Neither,
 }
 
-/// The byte at which the call begins, among the tokens of a statement, that makes the source of this number behind a front
-/// of the script. Calls are made in the order in which they are closed; in a statement with an `if` not all of them are
-/// made, and there is no answer.
+/// The texts of the calls that are closed among some tokens, each whole and none within another, a line for each; and what
+/// stands open behind them.
+#[derive(Drop)]
+pub struct Calls {
+    pub texts: Vec<u8>,
+    pub brackets: Vec<Bracket>,
+}
+
+/// A call with the texts of those before it, of which the first bytes, so many, are no arguments of it.
+#[derive(Drop)]
+pub struct Found {
+    pub texts: Vec<u8>,
+    pub others: usize,
+    pub start: usize,
+    pub end: usize,
+}
+
+/// The byte at which the call begins, among the tokens of a statement, that tells what is wanted behind a front of the
+/// script. Calls are made in the order in which they are closed.
 pub fn caller(
     alloc: Global,
     text: &[u8],
     done: &[u8],
     tokens: &[Token],
-    source: u64,
+    wanted: Wanted,
 ) -> Option<usize>
-    ensures { IfSome result (λ at. IsCaller text.now done.now source at) }
+    ensures { IfSome result (IsCaller (Tells wanted) text.now done.now tokens.now) }
 {
-    let found = candidate(alloc, text, done, tokens, source)?;
-    if makes_with(alloc, done, &found.texts, source)? {
+    let found = candidate(alloc, text, done, tokens, wanted)?;
+    confirmed(alloc, text, done, &found, wanted)
+}
+
+// Where a call begins, if it tells what is wanted and those before it do not.
+fn confirmed(
+    alloc: Global,
+    text: &[u8],
+    done: &[u8],
+    found: &Found,
+    wanted: Wanted,
+) -> Option<usize>
+    ensures { IfSome result (IsCalled (Tells wanted) text.now done.now found.now) }
+{
+    if tells_with(alloc, done, &found.texts, wanted)? {
         return None;
     }
     let call = part(text, found.start, found.end);
     let Ok(texts) = joined(alloc, front(&found.texts, found.others), call) else {
         return None;
     };
-    if makes_with(alloc, done, &texts, source)? {
+    if tells_with(alloc, done, &texts, wanted)? {
         Some(found.start)
     } else {
         None
     }
 }
 
-// Whether a source is made by a front of the script with the texts of calls behind it.
-fn makes_with(alloc: Global, done: &[u8], texts: &[u8], source: u64) -> Option<bool>
-    ensures { IfSome result (λ made. Makes (done.now ++ texts.now) source made) }
+// Whether a front of the script with the texts of calls behind it tells what is wanted.
+fn tells_with(alloc: Global, done: &[u8], texts: &[u8], wanted: Wanted) -> Option<bool>
+    ensures { IfSome result (λ told. Tells wanted (done.now ++ texts.now) told) }
 {
     let Ok(whole) = joined(alloc, done, texts) else {
         return None;
     };
-    makes(alloc, &whole, source)
+    tells(alloc, &whole, wanted)
 }
 
-// The call that may make a source. With the calls that are closed before token `low` it is not made, with those before token
+// The call that may tell it. With the calls that are closed before token `low` it is not told, with those before token
 // `high` it is: the token in the middle takes the place of one of them, until they are neighbours.
 fn candidate(
     alloc: Global,
     text: &[u8],
     done: &[u8],
     tokens: &[Token],
-    source: u64,
-) -> Option<Found> {
-    if tokens.iter().any(|token| is_if(&token.kind)) {
+    wanted: Wanted,
+) -> Option<Found>
+    ensures { IfSome result (IsCandidate text.now tokens.now) }
+{
+    let low = last_token(alloc, text, done, tokens, wanted)?;
+    found_at(alloc, text, tokens, low)
+}
+
+// The number of the token that closes it.
+fn last_token(
+    alloc: Global,
+    text: &[u8],
+    done: &[u8],
+    tokens: &[Token],
+    wanted: Wanted,
+) -> Option<usize> {
+    if is_source(wanted) && tokens.iter().any(|token| is_if(&token.kind)) {
         return None;
     }
     let mut low: usize = 0;
@@ -91,45 +137,75 @@ fn candidate(
             break;
         }
         let calls = closed_calls(alloc, text, first_tokens(tokens, middle)).ok()?;
-        if makes_with(alloc, done, &calls.texts, source)? {
+        if tells_with(alloc, done, &calls.texts, wanted)? {
             high = middle;
         } else {
             low = middle;
         }
     }
-    let last = tokens.get(low)?;
-    let calls = closed_calls(alloc, text, first_tokens(tokens, low)).ok()?;
-    closed_by(calls, last)
+    Some(low)
 }
 
 // The call that a token closes.
-fn closed_by(calls: Calls, last: &Token) -> Option<Found> {
-    let mut brackets = calls.brackets;
-    match brackets.pop() {
+fn found_at(alloc: Global, text: &[u8], tokens: &[Token], number: usize) -> Option<Found>
+    ensures { IfSome result (IsCandidate text.now tokens.now) }
+{
+    let last = tokens.get(number)?;
+    let Ok(calls) = closed_calls(alloc, text, first_tokens(tokens, number)) else {
+        return None;
+    };
+    closed_by(calls, last.end as usize)
+}
+
+// The call that ends here.
+fn closed_by(calls: Calls, end: usize) -> Option<Found>
+    ensures { IfSome result (λ found. (newest calls.brackets.items ≡ Some (bracket.Call found.start found.others)) × (found.texts.items ≡ calls.texts.items) × (found.end ≡ end)) }
+{
+    match newest(&calls.brackets) {
         Some(Bracket::Call { start, others }) => Some(Found {
             texts: calls.texts,
             others,
             start,
-            end: last.end as usize,
+            end,
         }),
         _ => None,
     }
 }
 
-fn first_tokens(tokens: &[Token], count: usize) -> &[Token] {
+fn newest(brackets: &[Bracket]) -> Option<Bracket>
+    ensures { result ≡ newest brackets.now }
+{
+    brackets.last().copied()
+}
+
+fn first_tokens(tokens: &[Token], count: usize) -> &[Token]
+    ensures { result.now ≡ take count tokens.now }
+{
     let (first, _) = tokens.split_at(count.min(tokens.len()));
     first
 }
 
-fn closed_calls(alloc: Global, text: &[u8], tokens: &[Token]) -> Result<Calls, Memory> {
-    let mut calls = Calls {
-        texts: Vec::new(alloc),
-        brackets: Vec::new(alloc),
-    };
+fn closed_calls(alloc: Global, text: &[u8], tokens: &[Token]) -> Result<Calls, Memory>
+    ensures { IfOk result (λ calls. AreCalls text.now tokens.now calls.texts.items calls.brackets.items) }
+{
+    let mut texts = Vec::new(alloc);
+    let mut brackets = Vec::new(alloc);
+    read_all(&mut texts, &mut brackets, text, tokens)?;
+    Ok(Calls { texts, brackets })
+}
+
+fn read_all(
+    texts: &mut Vec<u8>,
+    brackets: &mut Vec<Bracket>,
+    text: &[u8],
+    tokens: &[Token],
+) -> Result<(), Memory>
+    ensures { OnOk result (calls_from text.now (record { texts = texts.old.items; brackets = brackets.old.items }) tokens.now ≡ record { texts = texts.new.items; brackets = brackets.new.items }) }
+{
     for token in tokens {
-        read(&mut calls.texts, &mut calls.brackets, text, token)?;
+        read(texts, brackets, text, token)?;
     }
-    Ok(calls)
+    Ok(())
 }
 
 // Takes one token more.
@@ -138,41 +214,67 @@ fn read(
     brackets: &mut Vec<Bracket>,
     text: &[u8],
     token: &Token,
-) -> Result<(), Memory> {
-    if let Some(one) = opened(token, texts.len()) {
-        brackets.push(one)?;
-        return Ok(());
+) -> Result<(), Memory>
+    ensures texts { OnOk result (texts.new.items ≡ texts_behind text.now token.now (role_of token.now.kind) texts.old.items brackets.old.items) }
+    ensures brackets { OnOk result (brackets.new.items ≡ brackets_behind token.now (role_of token.now.kind) texts.old.items brackets.old.items) }
+{
+    match role_of(&token.kind) {
+        Role::OpensCall => brackets.push(Bracket::Call {
+            start: token.start as usize,
+            others: texts.len(),
+        })?,
+        Role::Opens => brackets.push(Bracket::Other)?,
+        Role::Closes => {
+            close(texts, newest(brackets), text, token.end as usize)?;
+            brackets.truncate(brackets.len().saturating_sub(1));
+        }
+        Role::Neither => {}
     }
-    if !closes(&token.kind) {
-        return Ok(());
-    }
-    if let Some(Bracket::Call { start, others }) = brackets.pop() {
+    Ok(())
+}
+
+// Adds the call that ends here, if it is one, in the place of its arguments.
+fn close(
+    texts: &mut Vec<u8>,
+    innermost: Option<Bracket>,
+    text: &[u8],
+    end: usize,
+) -> Result<(), Memory>
+    ensures { OnOk result (texts.new.items ≡ with_closed text.now end texts.old.items innermost) }
+{
+    if let Some(Bracket::Call { start, others }) = innermost {
         texts.truncate(others);
-        texts.extend_from_slice(part(text, start, token.end as usize))?;
+        texts.extend_from_slice(part(text, start, end))?;
         texts.push(b'\n')?;
     }
     Ok(())
 }
 
-// What a token opens.
-fn opened(token: &Token, others: usize) -> Option<Bracket> {
-    match &token.kind {
-        TokenKind::NameOpen(_) => Some(Bracket::Call {
-            start: token.start as usize,
-            others,
-        }),
-        TokenKind::Symbol(Symbol::OpenRound | Symbol::OpenSquare | Symbol::OpenCurly) => {
-            Some(Bracket::Other)
-        }
-        _ => None,
+fn role_of(kind: &TokenKind) -> Role
+    ensures { result ≡ role_of kind.now }
+{
+    match kind {
+        TokenKind::NameOpen(_) => Role::OpensCall,
+        TokenKind::Symbol(symbol) => symbol_role(*symbol),
+        _ => Role::Neither,
     }
 }
 
-fn closes(kind: &TokenKind) -> bool {
-    matches!(
-        kind,
-        TokenKind::Symbol(Symbol::CloseRound | Symbol::CloseSquare | Symbol::CloseCurly)
-    )
+fn symbol_role(symbol: Symbol) -> Role
+    ensures { result ≡ symbol_role symbol }
+{
+    match symbol {
+        Symbol::OpenRound | Symbol::OpenSquare | Symbol::OpenCurly => Role::Opens,
+        Symbol::CloseRound | Symbol::CloseSquare | Symbol::CloseCurly => Role::Closes,
+        _ => Role::Neither,
+    }
+}
+
+fn is_source(wanted: Wanted) -> bool {
+    match wanted {
+        Wanted::Source(_) => true,
+        Wanted::Clash => false,
+    }
 }
 
 fn is_if(kind: &TokenKind) -> bool {

@@ -1,55 +1,15 @@
-// Texts that begin as a script does, and what they make.
-ghost use Rattle.std.specs.Prelude.{◌≡◌, ◌-◌, ◌++◌, IfOk, IfSome, OnOk, length, nat_lt, take, drop};
+// Parts of a script.
+ghost use Rattle.std.specs.Prelude.{◌≡◌, ◌<◌, ◌++◌, IfOk, take, drop};
 ghost use Rattle.script_grammar.specs.Placed.{IsPlaced};
 ghost use Rattle.script_grammar.specs.View.{view_script};
-ghost use Rattle.where_program.specs.Sources.{Makes, before, begins_at, beginning, closing, part};
+ghost use Rattle.where_program.specs.Calls.{part};
+ghost use Rattle.where_program.specs.Sources.{before, begins_at, beginning, first_of, or_all, tokens_of};
 
 use liq_base::Memory;
-use plan_core::Node;
 use script_grammar::tree::Script;
 use script_lex::Token;
 use script_places::{first_token, start};
-use script_plan::plan_of;
 use std::alloc::Global;
-
-/// Whether a source is made by a text with an output behind it that plays nothing, whose own source does not count. Nothing
-/// where that has no plan, or where memory was refused.
-pub fn makes(alloc: Global, text: &[u8], source: u64) -> Option<bool>
-    ensures { IfSome result (λ made. Makes text.now source made) }
-{
-    let Ok(whole) = closed(alloc, text) else {
-        return None;
-    };
-    match plan_of(alloc, &whole) {
-        Ok(plan) => Some(is_before_last(source, plan.nodes.as_slice())),
-        Err(_) => None,
-    }
-}
-
-// Whether there is a node of this number and another one behind it.
-fn is_before_last(source: u64, nodes: &[Node]) -> bool
-    ensures { result ≡ nat_lt source (length nodes.now - 1) }
-{
-    source < (nodes.len() as u64).saturating_sub(1)
-}
-
-// A text with that output behind it.
-fn closed(alloc: Global, text: &[u8]) -> Result<Vec<u8>, Memory>
-    ensures { IfOk result (λ whole. whole.items ≡ text.now ++ closing) }
-{
-    let mut whole = Vec::new(alloc);
-    whole.extend_from_slice(text)?;
-    close(&mut whole)?;
-    Ok(whole)
-}
-
-#[tactic(auto, unfolding(crate::specs::Sources::closing))]
-fn close(text: &mut Vec<u8>) -> Result<(), Memory>
-    ensures { OnOk result (text.new.items ≡ text.old.items ++ closing) }
-{
-    text.extend_from_slice(b"\noutput.file(%wav, 'a front of the script', fail())\n")?;
-    Ok(())
-}
 
 /// What stands before a statement; behind the last one, the whole text.
 pub fn before<'a>(text: &'a [u8], tokens: &[Token], script: &Script, statement: u64) -> &'a [u8]
@@ -107,4 +67,35 @@ pub fn joined(alloc: Global, first: &[u8], second: &[u8]) -> Result<Vec<u8>, Mem
     both.extend_from_slice(first)?;
     both.extend_from_slice(second)?;
     Ok(both)
+}
+
+/// The tokens of a statement.
+pub fn tokens_of<'a>(tokens: &'a [Token], script: &Script, statement: u64) -> &'a [Token]
+    requires placed { IsPlaced 0 (view_script script.now) }
+    requires next { statement < u64.MAX }
+    ensures { result.now ≡ tokens_of tokens.now (view_script script.now) statement }
+{
+    let end = first_of(tokens, script, statement + 1);
+    let (upto, _) = tokens.split_at(end.min(tokens.len()));
+    let first = first_of(tokens, script, statement);
+    let (_, own) = upto.split_at(first.min(upto.len()));
+    own
+}
+
+// The number of the first token of a statement; behind the last one, that of all tokens.
+fn first_of(tokens: &[Token], script: &Script, statement: u64) -> usize
+    requires { IsPlaced 0 (view_script script.now) }
+    ensures { result ≡ first_of tokens.now (view_script script.now) statement }
+{
+    or_all(tokens, first_token(script, statement))
+}
+
+// The number of a first token; where there is none, that of all tokens.
+fn or_all(tokens: &[Token], first: Option<u64>) -> usize
+    ensures { result ≡ or_all tokens.now first }
+{
+    match first {
+        Some(token) => token as usize,
+        None => tokens.len(),
+    }
 }

@@ -2,12 +2,15 @@
 #![tactic(auto)]
 
 mod calls;
+mod causes;
 mod fronts;
 mod places;
 mod sources;
+mod texts;
+mod wanted;
 
 use liq_base::limits::MAX_SCRIPT_BYTES;
-use liq_base::{Fetched, Shelf, Sink};
+use liq_base::{Fetched, Memory, Shelf, Sink};
 use places::place_of;
 use real_files::{FileShelf, OutSink};
 use script_places::{named_in, pointer};
@@ -105,8 +108,10 @@ fn show<W: Write + Drop>(
     let Some(text) = script.text else {
         return DONE;
     };
-    let Some(at) = named_place(alloc, line, text) else {
-        return DONE;
+    let at = match named_place(alloc, line, text) {
+        Ok(Some(at)) => at,
+        Ok(None) => return DONE,
+        Err(_) => return NO_MEMORY,
     };
     let Ok(lines) = pointer(alloc, script.file, text, at) else {
         return NO_MEMORY;
@@ -120,8 +125,12 @@ fn show<W: Write + Drop>(
 }
 
 // The byte that a line names.
-fn named_place(alloc: Global, line: &[u8], text: &[u8]) -> Option<usize> {
-    let line = str::from_utf8(line).ok()?;
-    let named = named_in(line.strip_suffix("\n").unwrap_or(line))?;
-    place_of(alloc, text, named)
+fn named_place(alloc: Global, line: &[u8], text: &[u8]) -> Result<Option<usize>, Memory> {
+    let Ok(told) = str::from_utf8(line) else {
+        return Ok(None);
+    };
+    match named_in(told.strip_suffix("\n").unwrap_or(told)) {
+        Some(named) => place_of(alloc, line, text, named),
+        None => Ok(None),
+    }
 }

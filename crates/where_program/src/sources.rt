@@ -1,22 +1,72 @@
-// The statement that makes a source, and the call in it.
-ghost use Rattle.std.specs.Prelude.{IfSome};
+// The statement that makes a source or whose types clash, and the call in it.
+ghost use Rattle.std.specs.Prelude.{◌≡◌, ◌≢◌, ◌<◌, ◌≤◌, None, IfOk, IfSome, length};
+ghost use Rattle.plan_core.specs.declared.plan.Plan.{Plan};
 ghost use Rattle.script_grammar.specs.Placed.{IsPlaced};
 ghost use Rattle.script_grammar.specs.View.{view_script};
-ghost use Rattle.where_program.specs.Sources.{IsMaker, IsSourceAt};
+ghost use Rattle.script_plan.specs.declared.fault.ScriptFault.TheVariants as fault;
+ghost use Rattle.script_plan.specs.Plans.{IsPlan};
+ghost use Rattle.where_program.specs.Clashes.{Clashes};
+ghost use Rattle.where_program.specs.Sources.{IsInStatement, IsShown, IsSourceAt};
+ghost use Rattle.where_program.specs.Wanted.{Tells};
 
 use crate::calls::caller;
-use crate::fronts::{before, beginning, makes};
+use crate::fronts::{before, beginning, tokens_of};
+use crate::wanted::Wanted;
+use liq_base::Memory;
 use script_grammar::tree::Script;
 use script_lex::{Token, lex};
 use script_parse::parse;
 use script_places::first_token;
+use script_plan::laws::one_answer;
+use script_plan::{ScriptFault, maker_of};
 use std::alloc::Global;
 
 /// The byte at which the call begins that makes the source of this number: where a call of a def makes it, that call; where
-/// no one call of the statement is found, the statement. Nothing where the script makes no such source, or where a front of
-/// it has no plan even with an output behind it; or where memory was refused.
-pub fn source_place(alloc: Global, text: &[u8], source: u64) -> Option<usize>
-    ensures { IfSome result (λ at. IsSourceAt text.now source at) }
+/// no one call of the statement is found, the statement. Nothing where the script has no such source.
+pub fn source_place(alloc: Global, text: &[u8], source: u64) -> Result<Option<usize>, Memory>
+    ensures place { IfOk result (λ at. IfSome at (IsSourceAt text.now source)) }
+    ensures none { IfOk result (λ at. at ≡ None → (plan : Plan) → IsPlan text.now plan → length plan.nodes ≤ source) }
+{
+    // a law of plans, which the proof rests on: this call does nothing
+    one_answer();
+    match maker_of(alloc, text, source) {
+        Ok(Some(number)) => {
+            // the statement is there, so nothing is want of memory
+            match place_in(alloc, text, u64::from(number), Wanted::Source(source)) {
+                Some(at) => Ok(Some(at)),
+                None => Err(Memory),
+            }
+        }
+        Ok(None) => Ok(None),
+        Err(fault) => nowhere(&fault),
+    }
+}
+
+// Nothing, where a script has a fault that is no want of memory.
+fn nowhere(told: &ScriptFault) -> Result<Option<usize>, Memory>
+    ensures nothing { IfOk result (λ at. at ≡ None) }
+    ensures fault { IfOk result (λ at. told.now ≢ fault.Memory) }
+{
+    match told {
+        ScriptFault::Memory => Err(Memory),
+        ScriptFault::Lex(_) => Ok(None),
+        ScriptFault::Parse(_) => Ok(None),
+        ScriptFault::Type(_) => Ok(None),
+        ScriptFault::Eval(_) => Ok(None),
+    }
+}
+
+/// The byte at which the call begins with which the types of a statement clash; where no one call of it is found, the
+/// statement. Nothing where the script has no such statement.
+pub fn clash_place(alloc: Global, text: &[u8], statement: u64) -> Option<usize>
+    ensures { IfSome result (IsInStatement Clashes text.now statement) }
+{
+    place_in(alloc, text, statement, Wanted::Clash)
+}
+
+// The byte of a statement that is shown: where the call begins that tells what is wanted, or where the statement begins.
+fn place_in(alloc: Global, text: &[u8], statement: u64, wanted: Wanted) -> Option<usize>
+    ensures { IfSome result (IsInStatement (Tells wanted) text.now statement) }
 {
     let Ok(tokens) = lex(alloc, text) else {
         return None;
@@ -24,76 +74,29 @@ pub fn source_place(alloc: Global, text: &[u8], source: u64) -> Option<usize>
     let Ok(script) = parse(alloc, text, &tokens) else {
         return None;
     };
-    let number = maker(alloc, text, &tokens, &script, source)?;
-    let done = before(text, &tokens, &script, number);
-    match caller(
-        alloc,
-        text,
-        done,
-        tokens_of(&tokens, &script, number),
-        source,
-    ) {
-        Some(at) => Some(at),
-        None => Some(beginning(text, &tokens, &script, number)),
-    }
-}
-
-// The tokens of a statement.
-fn tokens_of<'a>(tokens: &'a [Token], script: &Script, statement: u64) -> &'a [Token]
-    requires { IsPlaced 0 (view_script script.now) }
-{
-    let first = first_token(script, statement).unwrap_or(0) as usize;
-    let end = match first_token(script, statement.saturating_add(1)) {
-        Some(next) => next as usize,
-        None => tokens.len(),
-    };
-    let (upto, _) = tokens.split_at(end.min(tokens.len()));
-    let (_, own) = upto.split_at(first.min(upto.len()));
-    own
-}
-
-// The number of the statement that makes a source.
-fn maker(alloc: Global, text: &[u8], tokens: &[Token], script: &Script, source: u64) -> Option<u64>
-    requires { IsPlaced 0 (view_script script.now) }
-    ensures { IfSome result (λ number. IsMaker text.now tokens.now (view_script script.now) source number) }
-{
-    let number = candidate(alloc, text, tokens, script, source)?;
-    if number == u64::MAX {
+    if statement == u64::MAX || first_token(&script, statement).is_none() {
         return None;
     }
-    if makes(alloc, before(text, tokens, script, number), source)? {
-        return None;
-    }
-    if makes(alloc, before(text, tokens, script, number + 1), source)? {
-        Some(number)
-    } else {
-        None
-    }
+    Some(shown_in(alloc, text, &tokens, &script, statement, wanted))
 }
 
-// The statement that may make a source. Before statement `low` it is not made, and before statement `high` it is: the one in
-// the middle takes the place of one of them, until they are neighbours.
-fn candidate(
+// The same in a script, which has the statement.
+fn shown_in(
     alloc: Global,
     text: &[u8],
     tokens: &[Token],
     script: &Script,
-    source: u64,
-) -> Option<u64>
-    requires { IsPlaced 0 (view_script script.now) }
+    statement: u64,
+    wanted: Wanted,
+) -> usize
+    requires placed { IsPlaced 0 (view_script script.now) }
+    requires next { statement < u64.MAX }
+    ensures { IsShown (Tells wanted) text.now tokens.now (view_script script.now) statement result }
 {
-    let mut low: u64 = 1;
-    let mut high = (script.statements.len() as u64).saturating_add(1);
-    for _ in 0..64 {
-        let middle = low.saturating_add(high.saturating_sub(low) / 2);
-        if middle == low {
-            break;
-        }
-        if makes(alloc, before(text, tokens, script, middle), source)? {
-            high = middle;
-        } else {
-            low = middle;
-        }
+    let done = before(text, tokens, script, statement);
+    let own = tokens_of(tokens, script, statement);
+    match caller(alloc, text, done, own, wanted) {
+        Some(at) => at,
+        None => beginning(text, tokens, script, statement),
     }
-    Some(low)
 }

@@ -1,0 +1,36 @@
+// Texts of a script.
+ghost use Rattle.std.specs.Prelude.{◌≡◌, IfSome};
+ghost use Rattle.where_program.specs.Texts.{IsTextAt, is_text, text_among};
+
+use script_lex::{Token, TokenKind, lex};
+use std::alloc::Global;
+
+/// The byte at which the first token begins that is this text. Nothing where the script has no tokens or no such one.
+pub fn text_place(alloc: Global, text: &[u8], name: &[u8]) -> Option<usize>
+    ensures { IfSome result (IsTextAt text.now name.now) }
+{
+    match lex(alloc, text) {
+        Ok(tokens) => text_among(name, &tokens),
+        Err(_) => None,
+    }
+}
+
+fn text_among(name: &[u8], tokens: &[Token]) -> Option<usize>
+    ensures { result ≡ text_among name.now tokens.now }
+{
+    for token in tokens {
+        if is_text(name, &token.kind) {
+            return Some(token.start as usize);
+        }
+    }
+    None
+}
+
+fn is_text(name: &[u8], kind: &TokenKind) -> bool
+    ensures { result ≡ is_text name.now kind.now }
+{
+    match kind {
+        TokenKind::Str(text) => text.as_str().as_bytes() == name,
+        _ => false,
+    }
+}
