@@ -49,11 +49,13 @@ fn is_clock_red(
 {
     match clocks {
         Ok(_) => Ok(false),
-        Err(ClockFault::TwoClocks {
-            node,
-            first,
-            second,
-        }) => Ok(either_asks(alloc, first, second, k, op)? || *node as u64 == k),
+        Err(
+            ClockFault::TwoClocks {
+                node,
+                first,
+                second,
+            },
+        ) => Ok(either_asks(alloc, first, second, k, op)? || *node as u64 == k),
         Err(ClockFault::Nested { node }) => Ok(*node as u64 == k),
         Err(ClockFault::TooManyClocks) => Ok(false),
         Err(ClockFault::Memory) => Ok(false),
@@ -200,11 +202,13 @@ fn push_clock_words(
 {
     match clocks {
         Ok(_) => Ok(()),
-        Err(ClockFault::TwoClocks {
-            node,
-            first,
-            second,
-        }) => push_two_clocks(alloc, into, *node as u64 == k, first, second, k, op),
+        Err(
+            ClockFault::TwoClocks {
+                node,
+                first,
+                second,
+            },
+        ) => push_two_clocks(alloc, into, *node as u64 == k, first, second, k, op),
         Err(ClockFault::Nested { node }) => push_nested(into, *node as u64 == k),
         Err(ClockFault::TooManyClocks) => Ok(()),
         Err(ClockFault::Memory) => Ok(()),
@@ -279,7 +283,11 @@ fn push_asking_words(
 ) -> Result<(), Memory>
     ensures { OnOk result (into.new.items ≡ into.old.items ++ asking_words asks k op.now) }
 {
-    if asks { push_asking(alloc, into, k, op) } else { Ok(()) }
+    if asks {
+        push_asking(alloc, into, k, op)
+    } else {
+        Ok(())
+    }
 }
 
 fn push_asking(alloc: Global, into: &mut Vec<u8>, k: u64, op: &Op) -> Result<(), Memory>
