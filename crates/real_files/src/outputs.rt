@@ -16,10 +16,10 @@ use std::io::{BufWriter, Write};
 pub(crate) const KEPT: usize = 65_536;
 
 /// A file that is written: beside its name until it is closed, where that can be, and else in place. It keeps bytes and
-/// hands them on when there is no more room for them, and when it has all that it is to get, so that a failure is told
-/// before the first closing; for what takes bytes as they come, as a pipe, it keeps none. It counts its bytes: a closing
-/// puts it in its place only if it got exactly those that its creation was told. A test may write to another writer than
-/// a real file.
+/// hands them on when there is no more room for them; for what takes bytes as they come, as a pipe, it keeps none, and
+/// none once no more than `KEPT` are to come, so that a failure is told while other outputs are not whole yet. It counts
+/// its bytes: a closing puts it in its place only if it got exactly those that its creation was told. A test may write to
+/// another writer than a real file.
 #[derive(Drop)]
 pub struct FileSink<W: Write + Drop> {
     to: OutSink<BufWriter<W>>,
@@ -112,7 +112,7 @@ impl<W: Write + Drop> Sink for FileSink<W> {
         ensures counted { OnOk result (self.new.taken ≡ min (self.old.taken + length piece.now) (2 ^ 64 - 1)) }
         ensures uncounted { OnErr result (self.new.taken ≡ self.old.taken) }
         ensures length { self.new.room ≡ self.old.room }
-        ensures handed_on { OnOk result (self.new.taken ≡ self.new.room → writer_buffer self.new.to.to ≡ []) }
+        ensures handed_on { OnOk result (self.new.room - self.new.taken ≤ 65536 → writer_buffer self.new.to.to ≡ []) }
         ensures took { OnOk result (Took (λ s. None) (λ s. None) piece.now self.old self.new) }
         ensures part { OnErr result (TookPart (λ s. None) (λ s. None) piece.now self.old self.new) }
         ensures faults { self.old.to.faults ≤ self.new.to.faults }
@@ -120,7 +120,7 @@ impl<W: Write + Drop> Sink for FileSink<W> {
     {
         let taken = self.taken.saturating_add(piece.len() as u64);
         self.to.append(piece)?;
-        if taken == self.room {
+        if self.room.saturating_sub(taken) <= KEPT as u64 {
             self.to.hand_on()?;
         }
         self.taken = taken;
