@@ -18,10 +18,10 @@ use Rattle.clock_infer.specs.declared.clock_map.ClockFault.TheVariants.{TwoClock
 use Rattle.clock_infer.specs.Forcings.{id_or}
 use Rattle.plan_picture.specs.Texts.{escaped}
 
--- whether a source needs this child to be infallible: a switch needs those whose predicate is always true, a sequence its last one, and
--- any other each of its children
+-- whether a source that may offer nothing does so for this child: a sequence for its last one, a switch for none where no predicate is
+-- always true, and any other for each of its children
 abbrev pub needs : Op → (children : List ℕ) → (child : ℕ) → Bool
-needs (Switch sensitive preds) children child = list_any (λ pair. is_always pair.0 && nat_eq pair.1 child) (zip preds children)
+needs (Switch sensitive preds) children child = list_any is_always preds && list_any (λ other. nat_eq other child) children
 needs Sequence children child = option_map_or (λ last. nat_eq last child) (last_of children) false
 needs _ children child = list_any (λ other. nat_eq other child) children
 

@@ -47,9 +47,12 @@ idle_words false = codes " (no output: never runs)"
 abbrev pub main_style : (clock : ℕ) → List ℕ
 main_style clock = codes "\"; style=\"filled,rounded\"; color=\"#8a949e\"; fontsize=11; fillcolor=\"" ++ (tint clock ++ codes "\"; }\n")
 
+abbrev pub main_rest : (running clock : ℕ) → (name : List ℕ) → List ℕ
+main_rest running clock name = escaped name ++ (idle_words (nat_lt clock running) ++ main_style clock)
+
 -- the region of a main clock
 abbrev pub main_region : (running clock : ℕ) → (name : List ℕ) → List ℕ
-main_region running clock name = (codes "subgraph cluster_main" ++ decimal clock ++ codes " { label=\"clock ") ++ (escaped name ++ (idle_words (nat_lt clock running) ++ main_style clock))
+main_region running clock name = (codes "subgraph cluster_main" ++ decimal clock ++ codes " { label=\"clock ") ++ main_rest running clock name
 
 abbrev pub named_regions : (running : ℕ) → (names : List (List ℕ)) → List ℕ
 named_regions running names = numbered (main_region running) 0 names
@@ -86,10 +89,13 @@ heading (Nested node) = codes "E27 a crossfade lies in its own clock"
 heading TooManyClocks = codes "E28 more than 64 clocks would run"
 heading Memory = []
 
+abbrev pub told_text : ClockFault → List ℕ
+told_text fault = codes "labelloc=t; fontcolor=\"#b3261e\"; label=\"" ++ (heading fault ++ codes "\";\n")
+
 -- a fault of clocks is told where no silence is
 abbrev pub fault_text : (silent : Bool) → ClockFault → List ℕ
 fault_text true fault = []
-fault_text false fault = codes "labelloc=t; fontcolor=\"#b3261e\"; label=\"" ++ (heading fault ++ codes "\";\n")
+fault_text false fault = told_text fault
 
 -- the regions of a plan; where there are none, why
 abbrev pub regions_of : Plan → (silent : Bool) → Result ClockMap ClockFault → List ℕ

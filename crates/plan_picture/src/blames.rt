@@ -169,8 +169,8 @@ fn push_switch_reason(into: &mut Vec<u8>, preds: &[Pred]) -> Result<(), Memory>
     }
 }
 
-// Whether some predicate is always true by its form.
-fn some_always(preds: &[Pred]) -> bool
+/// Whether some predicate is always true by its form.
+pub fn some_always(preds: &[Pred]) -> bool
     ensures { result ≡ list_any is_always (map view_pred preds.now) }
 {
     for pred in preds {

@@ -1,20 +1,17 @@
 // The sources that are to blame for a silence.
-ghost use Rattle.std.specs.Prelude.{◌≡◌, ◌<◌, ◌≤◌, ◌+◌, ◌&&◌, IfOk, drop, false, length, map, nat_eq};
+ghost use Rattle.std.specs.Prelude.{◌≡◌, ◌<◌, ◌≤◌, ◌+◌, ◌&&◌, IfOk, drop, false, length, nat_eq};
 ghost use Rattle.std.specs.List.{list_any, zip};
 ghost use Rattle.std.specs.Option.{option_map_or};
 ghost use Rattle.fallible_infer.specs.Infallible.{last_of, mark_at};
-ghost use Rattle.time_pred.specs.Predicates.{is_always};
-ghost use Rattle.time_pred.specs.View.{view_pred};
 ghost use Rattle.plan_picture.specs.Blames.{is_to_blame, needs, reds_from};
 
-use crate::blames::mark;
+use crate::blames::{mark, some_always};
 use liq_base::Memory;
 use plan_core::{Node, Op};
 use std::alloc::Global;
-use time_pred::Pred;
 
-/// Of each source whether it is to blame for the silence of the source that was refused: that one, and what a source to
-/// blame needs that may offer nothing.
+/// Of each source whether it is to blame for the silence of the source that was refused: that one is, and each source that may
+/// offer nothing and for which one to blame does.
 pub fn reds(
     alloc: Global,
     nodes: &[Node],
@@ -56,27 +53,15 @@ fn is_needed(nodes: &[Node], reds: &[bool], child: u64) -> bool
     false
 }
 
-// Whether a source of this operator over these children needs this one to be infallible.
+// Whether a source of this operator over these children may offer nothing for this one.
 fn needs(op: &Op, children: &[u32], child: u64) -> bool
     ensures { result ≡ needs op.now children.now child }
 {
     match op {
-        Op::Switch { preds, .. } => always_plays(preds.as_slice(), children, child),
+        Op::Switch { preds, .. } => some_always(preds.as_slice()) && contains(children, child),
         Op::Sequence => is_last(children, child),
         _ => contains(children, child),
     }
-}
-
-// Whether a child has a predicate that is always true by its form.
-fn always_plays(preds: &[Pred], children: &[u32], child: u64) -> bool
-    ensures { result ≡ list_any (λ pair. is_always pair.0 && nat_eq pair.1 child) (zip (map view_pred preds.now) children.now) }
-{
-    for (pred, other) in preds.iter().zip(children.iter()) {
-        if pred.always() && *other as u64 == child {
-            return true;
-        }
-    }
-    false
 }
 
 fn is_last(children: &[u32], child: u64) -> bool
