@@ -1,0 +1,197 @@
+-- The engines of a replay, one after another.
+use Rattle.std.proofs.Common.{◌≡◌, ◌<◌, ◌≤◌, ◌+◌, ◌∙◌, ℕ, suc, Bool, true, false, cond, nat_eq, nat_lt, Some, Option, List, [], length, set, slice_get, inl, inr, refl, ap, sym, subst, arith}
+use Rattle.std.proofs.lemmas.Bool.{cases_lt, le-ltb, lt-ltb}
+use Rattle.std.proofs.lemmas.Bool.Decides.{nat_tests}
+use Rattle.std.proofs.lemmas.Option.{slice_get_within}
+use Rattle.std.proofs.Math.ListN.{length-set}
+use Rattle.clock_outputs.proofs.Places.{same_or_other, slice_get-set_other, slice_get-set_same}
+use Rattle.clock_outputs.proofs.Taken.{fell_none, kept_none}
+use Rattle.stream_meaning.specs.Instants.{Setting}
+use Rattle.stream_meaning.specs.Sinks.{ticks_bytes}
+use Rattle.buffer_ends.specs.declared.run_end.End.{End}
+use Rattle.buffer_ends.specs.declared.run_end.End.TheVariants.{Done, Write, Memory as NoMemory}
+use Rattle.clock_engine.specs.declared.engine.ClockEngine.{ClockEngine}
+use Rattle.clock_engine.specs.Engines.{held_of, outputs_of, setting_of}
+use Rattle.rounds_run.specs.Rounds.{HasRunPart, IsWriteEnd}
+use Rattle.rounds_run.specs.Runs.{HasRunTicks, HaveRunTicks}
+use Rattle.rounds_run.proofs.Fronts.{grown_nothing, itself}
+use Rattle.trace_replay.specs.Replaying.{HasSinkFailed}
+use Rattle.trace_replay.specs.Replays.{AreReplayed, HasReplayedPart, HasReplayedTo, ticks_to}
+
+-- of the clocks below one, of this one, and of those above it
+to_below : (N clock n m : ℕ) → m < clock → ticks_to N clock n m ≡ N
+to_below N clock n m low = ap (λ (b : Bool). cond b N (cond (nat_eq m clock) n 0)) (lt-ltb m clock low)
+
+to_here : (N clock n m : ℕ) → m ≡ clock → ticks_to N clock n m ≡ n
+to_here N clock n m e = (let none : nat_lt m clock ≡ false = le-ltb m clock (omega (arith, e)) in let on : nat_eq m clock ≡ true = grind (arith, nat_tests, e) in
+    ap (λ (b : Bool). cond b N (cond (nat_eq m clock) n 0)) none ∙ ap (λ (b : Bool). cond b n 0) on)
+
+to_above : (N clock n m : ℕ) → clock < m → ticks_to N clock n m ≡ 0
+to_above N clock n m high = (let none : nat_lt m clock ≡ false = le-ltb m clock (omega (arith, high)) in let off : nat_eq m clock ≡ false = grind (arith, nat_tests, high) in
+    ap (λ (b : Bool). cond b N (cond (nat_eq m clock) n 0)) none ∙ ap (λ (b : Bool). cond b n 0) off)
+
+module _ {S : Type 0} (held name : S → Option (List ℕ)) (faults : S → ℕ) (setting : Setting) (N : ℕ) where
+  abbrev Part : (least most : ℕ) → ClockEngine S → ClockEngine S → Type 0
+  Part least most before after = HasRunPart held name faults (λ rest. setting) least most before after
+
+  -- no tick
+  part_none : (engine : ClockEngine S) → Part 0 0 engine engine
+  part_none engine = record {
+    setting = refl;
+    clock = refl;
+    part = λ rest sink node output. ([], itself [], itself [], grown_nothing (held_of held engine sink));
+    none_fell = fell_none faults engine.outs;
+    outs = refl;
+    kept = kept_none name faults engine.outs;
+  }
+
+  -- all ticks
+  part_all : (before after : ClockEngine S) → HasRunTicks held name faults setting N before after → Part N N before after
+  part_all before after run = record {
+    setting = run.over;
+    clock = run.clock;
+    part = λ rest sink node output. (
+      ticks_bytes setting output.wide node N,
+      itself (ticks_bytes setting output.wide node N),
+      itself (ticks_bytes setting output.wide node N),
+      run.grew sink node output,
+    );
+    none_fell = run.none_fell;
+    outs = run.outs;
+    kept = run.kept;
+  }
+
+  pub begin_engines : (first : List (ClockEngine S)) → AreReplayed held name faults setting N 0 first first
+  begin_engines first = record { size = refl; done = λ j before after low. absurd (omega (arith, low)); same = λ j high. refl }
+
+  module _ (k : ℕ) (first now : List (ClockEngine S)) (going : AreReplayed held name faults setting N k first now) (old new : ClockEngine S) (was : slice_get now k ≡ Some old) where
+    was_first : slice_get first k ≡ Some old
+    was_first = sym (going.same k (omega arith)) ∙ was
+
+    abbrev after : List (ClockEngine S)
+    after = set now k new
+
+    size_after : length after ≡ length first
+    size_after = length-set now k new ∙ going.size
+
+    this_at : (j : ℕ) (engine : ClockEngine S) → k ≡ j → slice_get after j ≡ Some engine → new ≡ engine
+    this_at j engine e is =
+        let both : Some new ≡ Some engine = sym (slice_get-set_same now k new (slice_get_within now k old was)) ∙ ap (slice_get after) e ∙ is in
+        cc
+
+    first_at : (j : ℕ) (engine : ClockEngine S) → k ≡ j → slice_get first j ≡ Some engine → old ≡ engine
+    first_at j engine e is =
+        let both : Some old ≡ Some engine = sym was_first ∙ ap (slice_get first) e ∙ is in
+        cc
+
+    other_at : (j : ℕ) → (k ≡ j → ⊥) → slice_get after j ≡ slice_get now j
+    other_at j other = slice_get-set_other now k j new other
+
+    -- one engine more
+    pub next_engine : HasRunTicks held name faults setting N old new → AreReplayed held name faults setting N (k + 1) first after
+    next_engine run = record {
+      size = size_after;
+      done = λ j before engine low at is. elim (same_or_other k j) [
+        | inl e ↦ subst (λ x. HasRunTicks held name faults setting N x engine) (first_at j before e at) (subst (λ x. HasRunTicks held name faults setting N old x) (this_at j engine e is) run)
+        | inr other ↦ going.done j before engine (omega (arith, low, other)) at (sym (other_at j other) ∙ is)
+      ];
+      same = λ j high. other_at j (λ e. omega (arith, high, e)) ∙ going.same j (omega (arith, high));
+    }
+
+    -- the fault is that of an output of the clock
+    pub engine_write : (clock sink : ℕ) (end : End) → old.parts.clock ≡ k → HasSinkFailed faults sink old new → end ≡ Write clock sink → clock ≡ k → IsWriteEnd faults k first after end
+    engine_write clock sink end number failed e clock_is = record {
+      before = old;
+      after = new;
+      was = was_first;
+      is = slice_get-set_same now k new (slice_get_within now k old was);
+      place = failed.place;
+      sink = sink;
+      node = failed.node;
+      there = subst (λ (m : ℕ). slice_get (outputs_of (setting_of old.parts) m) failed.place ≡ Some (sink, failed.node)) number failed.there;
+      end_is = e ∙ ap (λ (m : ℕ). Write m sink) clock_is;
+      rose = failed.rose;
+    }
+
+    -- up to a fault
+    pub engines_stopped : HasReplayedPart held name faults setting N old new → (end : End) → ((failed sink : ℕ) → end ≡ Write failed sink → IsWriteEnd faults k first after end)
+        → HasReplayedTo held name faults setting N first after end
+    engines_stopped part end write = record {
+      clock = k;
+      made = part.n;
+      tried = suc part.n;
+      no_fewer = omega arith;
+      one_more = omega arith;
+      most = (let low = part.low in omega (arith, low));
+      part = record {
+        size = size_after;
+        each = λ j before engine at is. elim (same_or_other k j) [
+          | inl e ↦ subst (λ n. Part n (ticks_to N k (suc part.n) j) before engine) (sym (to_here N k part.n j (sym e)))
+              (subst (λ n. Part part.n n before engine) (sym (to_here N k (suc part.n) j (sym e)))
+              (subst (λ x. Part part.n (suc part.n) x engine) (first_at j before e at) (subst (λ x. Part part.n (suc part.n) old x) (this_at j engine e is) part.part)))
+          | inr other ↦ elim (cases_lt j k) [
+            | inl low ↦ subst (λ n. Part n (ticks_to N k (suc part.n) j) before engine) (sym (to_below N k part.n j low))
+                (subst (λ n. Part N n before engine) (sym (to_below N k (suc part.n) j low)) (part_all before engine (going.done j before engine low at (sym (other_at j other) ∙ is))))
+            | inr high ↦ (let above : k < j = omega (arith, high, other) in
+                let both : Some before ≡ Some engine = sym at ∙ sym (going.same j high) ∙ sym (other_at j other) ∙ is in
+                let same : before ≡ engine = cc in
+                subst (λ n. Part n (ticks_to N k (suc part.n) j) before engine) (sym (to_above N k part.n j above))
+                (subst (λ n. Part 0 n before engine) (sym (to_above N k (suc part.n) j above)) (subst (λ x. Part 0 0 before x) same (part_none before))))
+          ]
+        ];
+      };
+      write = write;
+    }
+
+  -- all engines
+  pub all_engines : (k : ℕ) (first now : List (ClockEngine S)) → AreReplayed held name faults setting N k first now → length now ≤ k → HaveRunTicks held name faults setting N first now
+  all_engines k first now going full = record {
+    size = going.size;
+    each = λ j before after was is. going.done j before after (let low = slice_get_within now j after is in omega (arith, low, full)) was is;
+  }
+
+  no_write_here : (end : End) → ((end ≡ Done → ⊥) → end ≡ NoMemory) → (failed sink : ℕ) → end ≡ Write failed sink → ⊥
+  no_write_here Done is failed sink e = cc
+  no_write_here NoMemory is failed sink e = cc
+  no_write_here (Write clock out) is failed sink e = (let refused : Write clock out ≡ NoMemory = is (λ done. cc) in cc)
+
+  pub all_to : (first now : List (ClockEngine S)) → HaveRunTicks held name faults setting N first now → (end : End) → ((end ≡ Done → ⊥) → end ≡ NoMemory) → HasReplayedTo held name faults setting N first now end
+  all_to first now run end is = record {
+    clock = length first;
+    made = 0;
+    tried = 0;
+    no_fewer = omega arith;
+    one_more = omega arith;
+    most = omega arith;
+    part = record {
+      size = run.size;
+      each = λ j before after was at.
+          let same = to_below N (length first) 0 j (slice_get_within first j before was) in
+          subst (λ n. Part n (ticks_to N (length first) 0 j) before after) (sym same) (subst (λ n. Part N n before after) (sym same) (part_all before after (run.each j before after was at)));
+    };
+    write = λ failed sink e. absurd (no_write_here end is failed sink e);
+  }
+
+  -- none of them
+  pub none_to : (first : List (ClockEngine S)) (end : End) → end ≡ NoMemory → HasReplayedTo held name faults setting N first first end
+  none_to first end is = record {
+    clock = 0;
+    made = 0;
+    tried = 0;
+    no_fewer = omega arith;
+    one_more = omega arith;
+    most = omega arith;
+    part = record {
+      size = refl;
+      each = λ j before after was at.
+          let both : Some before ≡ Some after = sym was ∙ at in
+          let same : before ≡ after = cc in
+          let none : ticks_to N 0 0 j ≡ 0 = elim (same_or_other j 0) [ inl e ↦ to_here N 0 0 j e | inr other ↦ to_above N 0 0 j (omega (arith, other)) ] in
+          subst (λ n. Part n (ticks_to N 0 0 j) before after) (sym none) (subst (λ n. Part 0 n before after) (sym none) (subst (λ x. Part 0 0 before x) same (part_none before)));
+    };
+    write = λ failed sink e. absurd (no_write_here end (λ done. is) failed sink e);
+  }
+
+  -- the same end, told again
+  pub ended_so : (first now : List (ClockEngine S)) (end told : End) → told ≡ end → HasReplayedTo held name faults setting N first now end → HasReplayedTo held name faults setting N first now told
+  ended_so first now end told is to = subst (HasReplayedTo held name faults setting N first now) (sym is) to

@@ -1,0 +1,103 @@
+-- A trace that a record leaves, and its numbers.
+use Rattle.std.proofs.Common.{◌≡◌, ◌<◌, ◌∙◌, ◌++◌, ℕ, suc, Bool, true, false, not, count_by, is_some, is_none, List, [], ◌∷◌, length, map, flat_map, slice_index_or, refl, ap, sym, arith}
+use Rattle.std.proofs.lemmas.List.{map-append}
+use Rattle.clock_infer.specs.declared.clock_map.ClockMap.{ClockMap}
+use Rattle.stream_meaning.specs.Instants.{Setting}
+use Rattle.stream_meaning.specs.Settings.{IsSetting}
+use Rattle.run_records.specs.Ordered.{told}
+use Rattle.run_records.specs.Records.{IsLawful, Run, Window, windows_of}
+use Rattle.run_records.proofs.Replaying.{text_is_whole}
+use Rattle.buffer_ends.specs.Local.{Answers, yes}
+use Rattle.buffer_sides.specs.Logs.{told as log_of}
+use Rattle.rounds_run.specs.Runs.{counts_of_run, counts_of_windows, logs_of_run}
+use Rattle.rounds_run.proofs.Lawful.{none_counted, some_counted}
+use Rattle.trace_log.specs.Values.{TraceValue}
+use Rattle.trace_replay.specs.Passes.{IsTold}
+use Rattle.trace_replay.specs.Replays.{IsRecordOf}
+use Rattle.trace_replay.specs.Traces.{IsAccepted, counts_in, pair_of, side_of, text_of, trace_of}
+use Rattle.trace_replay.proofs.Fronts.{head_same, no_items, tail_same}
+use Rattle.trace_replay.proofs.Tracing.{log_at, same_text}
+
+-- windows that are told as those of a record are theirs
+log_one : (log : Answers) (window : Window) → pair_of log ≡ told window → log ≡ log_of window
+log_one log window e = let puts : log.puts ≡ map is_some window.0 = ap (λ (p : List Bool × List Bool). p.0) e in
+    let takes : log.takes ≡ map is_some window.1 = ap (λ (p : List Bool × List Bool). p.1) e in
+    λ i. record { puts = puts i; takes = takes i }
+
+logs_same : (logs : List Answers) (windows : List Window) → map told windows ≡ map pair_of logs → logs ≡ map log_of windows
+logs_same [] [] e = refl
+logs_same [] (w ∷ windows) e = absurd (no_items (told w) (map told windows) (sym e))
+logs_same (l ∷ logs) [] e = absurd (no_items (pair_of l) (map pair_of logs) e)
+logs_same (l ∷ logs) (w ∷ windows) e =
+    let here = log_one l w (sym (head_same (told w) (pair_of l) (map told windows) (map pair_of logs) e)) in
+    let more = logs_same logs windows (tail_same (told w) (pair_of l) (map told windows) (map pair_of logs) e) in
+    λ i. here i ∷ more i
+
+all_same : (logs : List (List Answers)) (buffers : List (List Window)) → length logs ≡ length buffers → ((b : ℕ) → b < length buffers → map told (slice_index_or buffers b []) ≡ map pair_of (slice_index_or logs b []))
+    → logs ≡ map (map log_of) buffers
+all_same [] [] long each = refl
+all_same [] (w ∷ buffers) long each = absurd (omega (arith, long))
+all_same (l ∷ logs) [] long each = absurd (omega (arith, long))
+all_same (l ∷ logs) (w ∷ buffers) long each =
+    let here = logs_same l w (each 0 (omega arith)) in
+    let more = all_same logs buffers (omega (arith, long)) (λ b low. each (suc b) (omega (arith, low))) in
+    λ i. here i ∷ more i
+
+-- the record of an accepted trace leaves it
+pub record_of : (base : Setting) (clocks : ℕ) (trace : TraceValue) → (accepted : IsAccepted base clocks trace.ticks trace) → IsRecordOf base clocks trace accepted.ordered.run
+record_of base clocks trace accepted =
+    let run = accepted.ordered.run in
+    let buffers : trace.buffers ≡ map (map log_of) run.buffers =
+    all_same trace.buffers run.buffers (accepted.buffers ∙ sym accepted.ordered.lawful.buffers)
+    (λ b low. accepted.ordered.told b (let many = accepted.ordered.lawful.buffers in omega (arith, low, many))) in
+    record {
+      lawful = accepted.ordered.lawful;
+      ordered = accepted.ordered.ordered;
+      leaves = λ i. record { ticks = trace.ticks; window = trace.window; buffers = buffers i };
+    }
+
+-- and what the trace tells is told of it
+pub told_by : (base : Setting) (clocks : ℕ) (trace : TraceValue) (run : Run) → IsRecordOf base clocks trace run → IsTold base (text_of trace.buffers) run
+told_by base clocks trace run of b low = sym (ap (λ (t : TraceValue). text_of t.buffers b) of.leaves ∙ ap (map pair_of) (log_at run.buffers b) ∙ same_text (windows_of run b))
+
+-- the numbers of its answers
+puts_told : (windows : List Window) → flat_map (side_of true) (map log_of windows) ≡ map is_some (flat_map (λ (window : Window). window.0) windows)
+puts_told [] = refl
+puts_told (window ∷ windows) = ap (λ (bs : List Bool). map is_some window.0 ++ bs) (puts_told windows) ∙ sym (map-append is_some window.0 (flat_map (λ (w : Window). w.0) windows))
+
+takes_told : (windows : List Window) → flat_map (side_of false) (map log_of windows) ≡ map is_some (flat_map (λ (window : Window). window.1) windows)
+takes_told [] = refl
+takes_told (window ∷ windows) = ap (λ (bs : List Bool). map is_some window.1 ++ bs) (takes_told windows) ∙ sym (map-append is_some window.1 (flat_map (λ (w : Window). w.1) windows))
+
+count_told : (windows : List Window) → counts_in (map log_of windows) ≡ counts_of_windows windows
+count_told windows =
+    let puts = puts_told windows in
+    let takes = takes_told windows in
+    let put = flat_map (λ (window : Window). window.0) windows in
+    let take = flat_map (λ (window : Window). window.1) windows in
+    let accepted : count_by yes (flat_map (side_of true) (map log_of windows)) ≡ count_by is_some put = ap (count_by yes) puts ∙ some_counted put in
+    let full : count_by not (flat_map (side_of true) (map log_of windows)) ≡ count_by is_none put = ap (count_by not) puts ∙ none_counted put in
+    let got : count_by yes (flat_map (side_of false) (map log_of windows)) ≡ count_by is_some take = ap (count_by yes) takes ∙ some_counted take in
+    let empty : count_by not (flat_map (side_of false) (map log_of windows)) ≡ count_by is_none take = ap (count_by not) takes ∙ none_counted take in
+    λ i. record { accepted = accepted i; full = full i; got = got i; empty = empty i }
+
+counted_all : (buffers : List (List Window)) → map counts_in (map (map log_of) buffers) ≡ map counts_of_windows buffers
+counted_all [] = refl
+counted_all (windows ∷ buffers) = λ i. count_told windows i ∷ counted_all buffers i
+
+pub counts_told : (base : Setting) (clocks : ℕ) (trace : TraceValue) (run : Run) → IsRecordOf base clocks trace run → map counts_in trace.buffers ≡ counts_of_run run
+counts_told base clocks trace run of = ap (λ (t : TraceValue). map counts_in t.buffers) of.leaves ∙ counted_all run.buffers
+
+pub logs_told : (base : Setting) (clocks : ℕ) (trace : TraceValue) (run : Run) → IsRecordOf base clocks trace run → trace.buffers ≡ logs_of_run run
+logs_told base clocks trace run of = ap (λ (t : TraceValue). t.buffers) of.leaves
+
+-- a record whose ticks can be ordered is the one of a run that left the trace
+pub run_told : (base : Setting) (clocks : ClockMap) → IsSetting base clocks → (trace : TraceValue) (run other : Run) → IsRecordOf base clocks.running trace run
+    → IsLawful base clocks.running trace.window trace.ticks other → trace ≡ trace_of trace.window trace.ticks other → run ≡ other
+run_told base clocks is trace run other of lawful e =
+    text_is_whole base clocks is trace.window trace.ticks run other of.lawful lawful
+    (λ b low. told_by base clocks.running trace run of b low ∙ ap (λ (t : TraceValue). text_of t.buffers b) e ∙ ap (map pair_of) (log_at other.buffers b) ∙ same_text (windows_of other b)) of.ordered
+
+-- a trace by what stands in it
+pub trace_is : (trace : TraceValue) (ticks window : ℕ) (logs : List (List Answers)) → ticks ≡ trace.ticks → window ≡ trace.window → logs ≡ trace.buffers → trace ≡ record { ticks = ticks; window = window; buffers = logs }
+trace_is trace ticks window logs ticks_are window_is logs_are = λ i. record { ticks = sym ticks_are i; window = sym window_is i; buffers = sym logs_are i }

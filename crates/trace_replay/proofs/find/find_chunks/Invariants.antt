@@ -1,0 +1,18 @@
+use Rattle.std.proofs.Common.{◌≤◌}
+use Rattle.trace_replay.specs.Finds.{ArePassing, AreStuck, base_at}
+use Rattle.trace_replay.proofs.find.find_chunks.Given as goal
+
+abbrev pub invariant-loop-left : goal.invariant-loop-left
+invariant-loop-left l = record {
+  passing : ArePassing (base_at l.station) l.station.clocks.now l.window l.ticks l.ends l.fn.taps.buffers.items l.made.items l.left l.taps.buffers.items;
+}
+
+abbrev pub decreases-loop-left : goal.decreases-loop-left
+decreases-loop-left l = l.left
+
+abbrev pub invariant-loop-clock : goal.invariant-loop-clock
+invariant-loop-clock l = record {
+  passing : ArePassing (base_at l.station) l.station.clocks.now l.window l.ticks l.ends l.fn.taps.buffers.items l.made.items l.left l.taps.buffers.items;
+  within : l.left ≤ l.before;
+  stuck : AreStuck (base_at l.station) l.window l.ticks l.ends l.fn.taps.buffers.items l.made.items l.taps.buffers.items l.before l.left l.clock;
+}

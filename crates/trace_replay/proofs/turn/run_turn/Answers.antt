@@ -1,0 +1,33 @@
+use Rattle.trace_replay.specs.Turns.{base_of, chunks_of}
+use Rattle.trace_replay.proofs.Readying.{made, may, refused, still_fit}
+use Rattle.trace_replay.proofs.turn.run_turn.Goals as goal
+
+pub run_clock-turn-requires-clause-turn : goal.run_clock-turn-requires-clause-turn
+run_clock-turn-requires-clause-turn c =
+    let base = base_of c.args.station.now.plan.now c.args.station.now.library.now c.args.station.now.clocks.now c.args.station.now.start.second in (
+      record { base = base; clocks = c.args.station.now.clocks.now; text = c.requires.text.0; chunks = chunks_of c.args.taps.now.buffers.items },
+      may base c.args.station.now.clocks.now c.requires.setting c.args.window c.args.ticks c.args.clock c.args.sides.now.feeders.items c.args.sides.now.readers.items c.deref.result.now c.deref-2.result.now
+          c.deref.ensures.value c.deref-2.ensures.value c.requires.sides c.args.ends.now c.args.taps.now.buffers.items c.begin_run.new.buffers.items c.begin_run.ensures.many c.begin_run.ensures.begun c.requires.long
+          c.in-Ok.engine.parts c.in-Ok.ensures.clock c.in-Ok.ensures.setting c.in-Ok.ensures.stands c.requires.text.0 c.requires.text.1,
+    )
+
+pub returns-clause-made : goal.returns-clause-made
+returns-clause-made c =
+    made (base_of c.args.station.now.plan.now c.args.station.now.library.now c.args.station.now.clocks.now c.args.station.now.start.second) c.args.station.now.clocks.now c.requires.setting c.args.window c.args.ticks c.args.clock
+    c.args.sides.now.feeders.items c.args.sides.now.readers.items c.deref.result.now c.deref-2.result.now
+    c.deref.ensures.value c.deref-2.ensures.value c.requires.sides c.args.ends.now c.args.taps.now.buffers.items c.begin_run.new.buffers.items c.begin_run.ensures.many c.begin_run.ensures.begun c.requires.long
+    c.in-Ok.engine.parts c.in-Ok.ensures.clock c.in-Ok.ensures.setting c.in-Ok.ensures.stands c.run_clock-turn.result c.run_clock-turn.new.taps.buffers.items c.run_clock-turn.ensures.made
+
+pub returns-clause-fit : goal.returns-clause-fit
+returns-clause-fit c =
+    still_fit (base_of c.args.station.now.plan.now c.args.station.now.library.now c.args.station.now.clocks.now c.args.station.now.start.second) c.args.station.now.clocks.now c.requires.setting c.args.window c.args.ticks c.args.clock
+    c.args.sides.now.feeders.items c.args.sides.now.readers.items c.deref.result.now c.deref-2.result.now
+    c.deref.ensures.value c.deref-2.ensures.value c.requires.sides c.args.ends.now c.args.taps.now.buffers.items c.begin_run.new.buffers.items c.begin_run.ensures.many c.begin_run.ensures.begun c.requires.long
+    c.in-Ok.engine.parts c.in-Ok.ensures.clock c.in-Ok.ensures.setting c.in-Ok.ensures.stands c.run_clock-turn.result c.run_clock-turn.new.taps.buffers.items c.run_clock-turn.ensures.same
+
+pub returns-clause-refused : goal.returns-clause-refused
+returns-clause-refused c =
+    refused (base_of c.args.station.now.plan.now c.args.station.now.library.now c.args.station.now.clocks.now c.args.station.now.start.second) c.args.station.now.clocks.now c.requires.setting c.args.window c.args.ticks c.args.clock
+    c.args.sides.now.feeders.items c.args.sides.now.readers.items c.deref.result.now c.deref-2.result.now
+    c.deref.ensures.value c.deref-2.ensures.value c.requires.sides c.args.ends.now c.args.taps.now.buffers.items c.begin_run.new.buffers.items c.begin_run.ensures.many c.begin_run.ensures.begun c.requires.long
+    c.in-Ok.engine.parts c.in-Ok.ensures.clock c.in-Ok.ensures.setting c.in-Ok.ensures.stands c.run_clock-turn.result c.run_clock-turn.new.taps.buffers.items c.run_clock-turn.ensures.refused

@@ -1,0 +1,96 @@
+-- A clock whose buffers answer what a text tells.
+use Rattle.std.specs.Prelude.{◌≡◌, ◌<◌, ◌≤◌, ◌+◌, ◌⊎◌, ℕ, Bool, true, false, Some, None, List, [], ◌∷◌, ◌++◌, length, map, take, is_some, slice_get}
+use Rattle.std.specs.List.{flat_map}
+use Rattle.frame_core.specs.declared.cell.Cell.{Cell}
+use Rattle.frame_core.specs.Frames.{somes}
+use Rattle.frame_core.specs.Calls.{Call, Took, Given, takes_of, puts_to}
+use Rattle.op_leaf.specs.Readers.{Answer}
+use Rattle.stream_meaning.specs.Instants.{Setting, answered}
+use Rattle.stream_laws.specs.Parting.{IsSameCall}
+use Rattle.stream_laws.specs.Outputs.{first_calls}
+use Rattle.run_records.specs.Buffers.{feeder, reader}
+use Rattle.run_records.specs.Records.{capacity_of, start}
+
+-- what a text tells of a buffer: of each window which puts were accepted, and which takes got a chunk
+abbrev pub Log : Type 0
+Log = List (List Bool × List Bool)
+
+abbrev pub puts_in : Log → List Bool
+puts_in log = flat_map (λ (window : List Bool × List Bool). window.0) log
+
+abbrev pub takes_in : Log → List Bool
+takes_in log = flat_map (λ (window : List Bool × List Bool). window.1) log
+
+-- a list begins another one
+pub record IsFront {A : Type 0} (front whole : List A) : Type 0 where
+  pub rest : List A
+  pub are : whole ≡ front ++ rest
+
+-- one of two lists begins the other
+abbrev pub Agree : {A : Type 0} → List A → List A → Type 0
+Agree one other = IsFront one other ⊎ IsFront other one
+
+-- a buffer joins two clocks
+abbrev pub Joins : Setting → ℕ → Type 0
+Joins base b = feeder base b ≡ reader base b → ⊥
+
+-- These calls are answered as the text tells, from its first answers on; what was got of the buffers that join two clocks are the
+-- first of these chunks.
+pub record AreAnswered (base : Setting) (text : ℕ → Log) (chunks : ℕ → List (List Cell)) (calls : List Call) : Type 0 where
+  pub puts : (b : ℕ) → b < length base.plan.buffers → IsFront (map is_some (puts_to b calls)) (puts_in (text b))
+  pub takes : (b : ℕ) → b < length base.plan.buffers → IsFront (map is_some (takes_of b calls)) (takes_in (text b))
+  pub got : (b : ℕ) → b < length base.plan.buffers → Joins base b → IsFront (somes (takes_of b calls)) (chunks b)
+
+-- how many chunks of a buffer these calls put, and how many they got
+abbrev pub put_by : ℕ → List Call → ℕ
+put_by b calls = length (somes (puts_to b calls))
+
+abbrev pub got_in : ℕ → List Call → ℕ
+got_in b calls = length (somes (takes_of b calls))
+
+-- what a list of at most so many chunks answers, to which these chunks were put and of which so many were got
+abbrev pub Suits : (capacity : ℕ) → (put : List (List Cell)) → (got : ℕ) → Call → Type 0
+Suits capacity put got (Took b None) = length put ≡ got
+Suits capacity put got (Took b (Some chunk)) = slice_get put got ≡ Some chunk
+Suits capacity put got (Given b chunk true) = length put < capacity + got
+Suits capacity put got (Given b chunk false) = length put ≡ capacity + got
+
+abbrev pub buffer_of : Call → ℕ
+buffer_of (Took b answer) = b
+buffer_of (Given b chunk accepted) = b
+
+-- the calls on the buffers with both ends in one clock stand in an order in which their lists answer so
+pub record AreInOrder (base : Setting) (calls : List Call) : Type 0 where
+  pub each : (front behind : List Call) (call : Call) → calls ≡ front ++ call ∷ behind → buffer_of call < length base.plan.buffers → feeder base (buffer_of call) ≡ reader base (buffer_of call)
+      → Suits (capacity_of base (buffer_of call)) (somes (puts_to (buffer_of call) front)) (got_in (buffer_of call) front) call
+
+-- by the end of each whole window of so many ticks the text's answers are used up, as far as the clock has this end of the buffer
+pub record AreWhole (base : Setting) (text : ℕ → Log) (W N m n : ℕ) (calls : ℕ → List Call) : Type 0 where
+  pub puts : (j b : ℕ) → start W N j ≤ n → j ≤ length (text b) → b < length base.plan.buffers → feeder base b ≡ m → length (puts_to b (calls (start W N j))) ≡ length (puts_in (take j (text b)))
+  pub takes : (j b : ℕ) → start W N j ≤ n → j ≤ length (text b) → b < length base.plan.buffers → reader base b ≡ m → length (takes_of b (calls (start W N j))) ≡ length (takes_in (take j (text b)))
+
+-- Clock m has made its first n ticks, with some answers, which are those of the text
+pub record HasReplayed (base : Setting) (text : ℕ → Log) (W N m n : ℕ) (chunks : ℕ → List (List Cell)) (given : ℕ → List Answer) (accepted : ℕ → ℕ → Bool) : Type 0 where
+  pub answered_so : AreAnswered base text chunks (first_calls (answered base given) accepted m n)
+  pub in_order : AreInOrder base (first_calls (answered base given) accepted m n)
+  pub whole : AreWhole base text W N m n (λ t. first_calls (answered base given) accepted m t)
+
+-- this call, with its answer, can come behind these
+pub record CanCome (base : Setting) (text : ℕ → Log) (front : List Call) (call : Call) : Type 0 where
+  pub puts : (b : ℕ) → b < length base.plan.buffers → IsFront (map is_some (puts_to b (front ++ call ∷ []))) (puts_in (text b))
+  pub takes : (b : ℕ) → b < length base.plan.buffers → IsFront (map is_some (takes_of b (front ++ call ∷ []))) (takes_in (text b))
+  pub suits : buffer_of call < length base.plan.buffers → feeder base (buffer_of call) ≡ reader base (buffer_of call)
+      → Suits (capacity_of base (buffer_of call)) (somes (puts_to (buffer_of call) front)) (got_in (buffer_of call) front) call
+
+-- whatever its answer, it cannot
+abbrev pub NeverComes : (base : Setting) (text : ℕ → Log) (front : List Call) → Call → Type 0
+NeverComes base text front call = (other : Call) → IsSameCall call other → CanCome base text front other → ⊥
+
+-- it is a take that is to get a chunk of another clock, which is not there yet
+pub record Waits (base : Setting) (text : ℕ → Log) (chunks : ℕ → List (List Cell)) (front : List Call) (call : Call) : Type 0 where
+  pub buffer : ℕ
+  pub known : buffer < length base.plan.buffers
+  pub take : call ≡ Took buffer None
+  pub joins : Joins base buffer
+  pub gets : (answer : Answer) → CanCome base text front (Took buffer answer) → is_some answer ≡ true
+  pub missing : length (chunks buffer) ≤ got_in buffer front

@@ -1,0 +1,10 @@
+pub mod Told
+pub mod Clocks
+pub mod Passes
+pub mod Answering
+pub mod Turns
+pub mod Finds
+pub mod Traces
+pub mod Listings
+pub mod Replaying
+pub mod Replays

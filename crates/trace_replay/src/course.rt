@@ -1,0 +1,12 @@
+// How far the calls of a run could be answered.
+
+/// Whether the calls of a run were answered so far.
+#[derive(Clone, Copy, Debug, PartialEq, Eq)]
+pub enum Course {
+    /// Each of them was.
+    Goes,
+    /// A take is to get a chunk that is not there yet.
+    Waits,
+    /// A call has no answer that can be right.
+    Fails,
+}

@@ -1,0 +1,194 @@
+// A buffer that answers as a trace tells.
+ghost use Rattle.std.specs.Prelude.{◌≡◌, ◌<◌, ◌≤◌, ◌+◌, ◌&&◌, Some, slice_get, true, IfOk, IfErr, OnErr, length};
+ghost use Rattle.trace_replay.specs.Answering.{BufferState, PutsOn, TakesOn, SameBuffer, begun, is_list};
+
+use frame_core::{Chunk, Frame};
+use liq_base::Memory;
+use std::alloc::Global;
+use std::marker::Model;
+
+/// What a take meets.
+#[derive(Drop)]
+pub enum Taken {
+    Chunk(Chunk),
+    Empty,
+    /// It is to get a chunk that is not there yet.
+    Waits,
+    /// No answer can be right.
+    Never,
+}
+
+/// What a put meets.
+#[derive(Drop)]
+pub enum Put {
+    Accepted,
+    Full(Chunk),
+    /// No answer can be right.
+    Never,
+}
+
+/// A buffer in the run of one clock, which answers as a trace tells. The chunks that were put to it stay.
+#[derive(Drop)]
+pub struct ToldBuffer {
+    pub capacity: u32,
+    /// The answers of its puts and of its takes, window after window.
+    pub puts: Vec<bool>,
+    pub takes: Vec<bool>,
+    /// Whether the clock feeds it, and whether it reads it.
+    pub fed: bool,
+    pub read: bool,
+    /// How many puts and takes came in this run, and how many of these got a chunk.
+    pub put_at: usize,
+    pub take_at: usize,
+    pub got: usize,
+    /// How many chunks were there when the run began.
+    pub opened: usize,
+    pub chunks: Vec<Chunk>,
+}
+
+impl Model for ToldBuffer {
+    ghost use Rattle.std.specs.Prelude.{◌≡◌, ◌≤◌, length};
+    ghost use Rattle.trace_replay.specs.Answering.{BufferState, state_coded};
+
+    ghost Value = { BufferState };
+
+    ghost coded = { state_coded };
+
+    ghost view = { λ b. record {
+      capacity = b.capacity;
+      puts = b.puts.items;
+      takes = b.takes.items;
+      fed = b.fed;
+      read = b.read;
+      put_at = b.put_at;
+      take_at = b.take_at;
+      got = b.got;
+      opened = b.opened;
+      chunks = b.chunks.items;
+    } };
+
+    ghost invariant = { λ b. (b.put_at ≤ length b.puts.items) × (b.take_at ≤ length b.takes.items) × (b.got ≤ length b.chunks.items) × (b.opened ≤ length b.chunks.items) };
+}
+
+// The same chunk again.
+fn copy_of(alloc: Global, chunk: &Chunk) -> Result<Chunk, Memory>
+    ensures { IfOk result (λ copy. copy ≡ chunk.now) }
+{
+    let mut frame = Frame::new(alloc, chunk.len())?;
+    for at in 0..chunk.len() {
+        frame.set(at, Some(chunk.cell(at)));
+    }
+    match Chunk::from_frame(alloc, &frame)? {
+        Some(copy) => Ok(copy),
+        None => Err(Memory),
+    }
+}
+
+impl ToldBuffer {
+    /// Begins a run of a clock, which feeds it or not, and reads it or not.
+    pub fn begin(&mut self, fed: bool, read: bool)
+        ensures { self.new ≡ begun self.old fed read }
+    {
+        self.fed = fed;
+        self.read = read;
+        self.put_at = 0;
+        self.take_at = 0;
+        self.got = 0;
+        self.opened = 0;
+        if fed {
+            self.chunks.clear();
+            return;
+        }
+        self.opened = self.chunks.len();
+    }
+
+    // Both its ends are the clock's.
+    fn is_list(&self) -> bool
+        ensures { result ≡ is_list self.now }
+    {
+        self.fed && self.read
+    }
+
+    // How many chunks were put and not got.
+    fn held(&self) -> usize
+        ensures { result + self.now.got ≡ length self.now.chunks }
+    {
+        self.chunks.len() - self.got
+    }
+
+    /// Takes as the trace tells.
+    pub fn take(&mut self, alloc: Global) -> Result<Taken, Memory>
+        ensures taken { IfOk result (λ taken. TakesOn self.old taken self.new) }
+        ensures same { SameBuffer self.old self.new }
+        ensures memory { OnErr result (self.new ≡ self.old) }
+    {
+        if self.take_at >= self.takes.len() {
+            return Ok(Taken::Never);
+        }
+        if self.takes[self.take_at] {
+            return self.take_chunk(alloc);
+        }
+        if self.is_list() && self.held() != 0 {
+            return Ok(Taken::Never);
+        }
+        self.take_at += 1;
+        Ok(Taken::Empty)
+    }
+
+    // Takes the next chunk, which the trace tells.
+    fn take_chunk(&mut self, alloc: Global) -> Result<Taken, Memory>
+        requires gets { slice_get self.old.takes self.old.take_at ≡ Some true }
+        ensures taken { IfOk result (λ taken. TakesOn self.old taken self.new) }
+        ensures same { SameBuffer self.old self.new }
+        ensures memory { OnErr result (self.new ≡ self.old) }
+    {
+        if self.held() == 0 {
+            if self.is_list() {
+                return Ok(Taken::Never);
+            }
+            return Ok(Taken::Waits);
+        }
+        let chunk = copy_of(alloc, &self.chunks[self.got])?;
+        self.take_at += 1;
+        self.got += 1;
+        Ok(Taken::Chunk(chunk))
+    }
+
+    /// Puts as the trace tells. A full buffer gives the chunk back.
+    pub fn put(&mut self, chunk: Chunk) -> Result<Put, (Chunk, Memory)>
+        ensures put { IfOk result (λ put. PutsOn self.old chunk put self.new) }
+        ensures same { SameBuffer self.old self.new }
+        ensures memory { IfErr result (λ e. (e.0 ≡ chunk) × (self.new ≡ self.old)) }
+    {
+        if self.put_at >= self.puts.len() {
+            return Ok(Put::Never);
+        }
+        if self.puts[self.put_at] {
+            return self.accept(chunk);
+        }
+        if self.is_list() && self.held() != self.capacity as usize {
+            return Ok(Put::Never);
+        }
+        self.put_at += 1;
+        Ok(Put::Full(chunk))
+    }
+
+    // Puts a chunk that is accepted, which the trace tells.
+    fn accept(&mut self, chunk: Chunk) -> Result<Put, (Chunk, Memory)>
+        requires accepts { slice_get self.old.puts self.old.put_at ≡ Some true }
+        ensures put { IfOk result (λ put. PutsOn self.old chunk put self.new) }
+        ensures same { SameBuffer self.old self.new }
+        ensures memory { IfErr result (λ e. (e.0 ≡ chunk) × (self.new ≡ self.old)) }
+    {
+        if self.is_list() && self.held() >= self.capacity as usize {
+            return Ok(Put::Never);
+        }
+        match self.chunks.push(chunk) {
+            Ok(()) => {
+                self.put_at += 1;
+                Ok(Put::Accepted)
+            }
+            Err(failed) => Err((failed.value, Memory)),
+        }
+    }
+}
