@@ -40,7 +40,9 @@ fn node_named(name: &[u8], sink: &SinkPlan) -> Option<u32>
 {
     match sink {
         SinkPlan::Output {
-            name: other, node, ..
+            name: other,
+            node,
+            ..
         } => {
             if other.as_str().as_bytes() == name {
                 Some(*node)
