@@ -1,5 +1,5 @@
 -- The first token of a script that is a text.
-use Rattle.std.specs.Prelude.{◌≡◌, ℕ, Bool, true, false, List, [], ◌∷◌, Option, Some, None, if◌then◌else◌}
+use Rattle.std.specs.Prelude.{◌≡◌, ℕ, Bool, false, List, [], ◌∷◌, Option, Some, None, if◌then◌else◌}
 use Rattle.std.specs.Str.{bytes_eq}
 use Rattle.script_lex.specs.Tokens.{AreTokens}
 use Rattle.script_lex.specs.declared.token.Token.{Token}

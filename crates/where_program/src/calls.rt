@@ -1,7 +1,7 @@
 // The call of a statement that tells what is wanted.
 ghost use Rattle.std.specs.Prelude.{◌≡◌, ◌++◌, IfOk, IfSome, OnOk, Some, take};
 ghost use Rattle.where_program.specs.declared.calls.Bracket.TheVariants as bracket;
-ghost use Rattle.where_program.specs.Calls.{Closed, IsCaller, calls_from, newest, brackets_behind, role_of, symbol_role, texts_behind, with_closed};
+ghost use Rattle.where_program.specs.Calls.{IsCaller, calls_from, newest, brackets_behind, role_of, symbol_role, texts_behind, with_closed};
 ghost use Rattle.where_program.specs.Candidates.{AreCalls, IsCalled, IsCandidate};
 ghost use Rattle.where_program.specs.Wanted.{Tells};
 
