@@ -6,8 +6,8 @@ import subprocess
 from common import TOP, built, sound, takes_text
 
 SECONDS = 60
-COMMANDS = ("liq", "where", "doctor", "page", "pages", "picture", "install", "package", "liq.1", "liq-where.1", "liq-doctor.1",
-            "liq-page.1", "liq-picture.1", "tools", "completion", "docs", "examples")
+COMMANDS = ("liq", "where", "doctor", "page", "pages", "install", "package", "liq.1", "liq-where.1", "liq-doctor.1",
+            "liq-page.1", "tools", "completion", "docs", "examples")
 RT = """#!/bin/sh
 name=$(basename "$PWD")
 echo "$name $*" >> "$NOTES"
@@ -24,8 +24,8 @@ class Checkout:
         os.makedirs(self.top)
         for name in COMMANDS:
             (shutil.copytree if os.path.isdir(os.path.join(TOP, name)) else shutil.copy)(os.path.join(TOP, name), os.path.join(self.top, name))
-        self.write("a chäckout/crates.txt", b"script_grammar:\nliq_program: script_grammar\nwhere_program: script_grammar\npicture_program: script_grammar\n")
-        for name in ("script_grammar", "liq_program", "where_program", "picture_program"):
+        self.write("a chäckout/crates.txt", b"script_grammar:\nliq_program: script_grammar\nwhere_program: script_grammar\n")
+        for name in ("script_grammar", "liq_program", "where_program"):
             self.write(f"a chäckout/crates/{name}/src/main.rt", b"")
         for name, path in programs.items():
             self.write(f"built/{name}", b"")
@@ -71,6 +71,4 @@ def takes_filter(words):
 
 def programs_of(call):
     """The built programs, by the names of their crates."""
-    found = call.filter or built("where_program")
-    # of the picture's program only the place is looked at, so the filter stands for it
-    return {"liq_program": call.program, "where_program": found, "picture_program": found}
+    return {"liq_program": call.program, "where_program": call.filter or built("where_program")}
