@@ -21,7 +21,7 @@ struct lanes {
     int16_t left[FRAME], right[FRAME];
 };
 
-static struct file long_file, short_file, tracks[FILES];
+static struct file long_file, short_file, wide_file, tracks[FILES];
 static struct lanes tick, other, leaves[LEAVES], sums[SUMS], picks[PICKS];
 static int32_t sum_left[FRAME], sum_right[FRAME];
 
@@ -36,6 +36,18 @@ static struct file opened(const char *name) {
     close(from);
     struct file file = {(int16_t *)(bytes + 44), ((size_t)found.st_size - 44) / 2, 0};
     return file;
+}
+
+// A file of 24 bits, of whose samples the upper two bytes are kept.
+static struct file opened_wide(const char *name) {
+    struct file file = opened(name);
+    const uint8_t *bytes = (const uint8_t *)file.samples;
+    size_t count = 2 * file.count / 3;
+    int16_t *samples = malloc(2 * count);
+    if (!samples) exit(2);
+    for (size_t i = 0; i < count; i++) samples[i] = (int16_t)(bytes[3 * i + 1] | bytes[3 * i + 2] << 8);
+    free(file.samples - 22);
+    return (struct file){samples, count, 0};
 }
 
 // So many samples of a file, which is played again and again, on both sides.
@@ -70,6 +82,8 @@ static void end_sum(struct lanes *lanes) {
 }
 
 static void one_file(long now) { (void)now, play(&long_file, tick.left, tick.right, FRAME); }
+
+static void one_wide_file(long now) { (void)now, play(&wide_file, tick.left, tick.right, FRAME); }
 
 static void looped(long now) { (void)now, play(&short_file, tick.left, tick.right, FRAME); }
 
@@ -141,36 +155,56 @@ static void graph(long now) {
     end_sum(&tick);
 }
 
-static void put(uint8_t *bytes, uint32_t number) {
-    for (int i = 0; i < 4; i++) bytes[i] = (uint8_t)(number >> 8 * i);
-}
-
-int main(int count, char **words) {
-    static void (*const made[])(long) = {one_file, looped, sum_of_20, crossfaded, switched, graph};
-    static uint8_t head[44], bytes[4 * FRAME];
-    if (count != 3) return 2;
-    int number = atoi(words[1]);
-    long ticks = atol(words[2]) * 25;
-    long_file = opened("long.wav"), short_file = opened("short.wav");
-    for (int k = 0; k < FILES; k++) {
-        char name[20];
-        snprintf(name, sizeof name, "t%d.wav", k);
-        tracks[k] = opened(name);
-    }
-    int to = open("c.wav", O_WRONLY | O_CREAT | O_TRUNC, 0644);
-    uint32_t long_ = (uint32_t)ticks * sizeof bytes;
-    memcpy(head, "RIFF....WAVEfmt \x10\0\0\0\1\0\2\0........\4\0\x10\0data....", 44);
-    put(head + 4, long_ + 36), put(head + 24, 44100), put(head + 28, 4 * 44100), put(head + 40, long_);
-    if (write(to, head, 44) != 44) return 2;
-    for (long now = 0; now < ticks; now++) {
-        made[number](now);
+// The tick in bytes, of three a sample in a wide output; how many they are.
+static size_t encoded(int wide, uint8_t *bytes) {
+    if (!wide) {
         for (int i = 0; i < FRAME; i++) {
             bytes[4 * i] = (uint8_t)tick.left[i];
             bytes[4 * i + 1] = (uint8_t)((uint16_t)tick.left[i] >> 8);
             bytes[4 * i + 2] = (uint8_t)tick.right[i];
             bytes[4 * i + 3] = (uint8_t)((uint16_t)tick.right[i] >> 8);
         }
-        if (write(to, bytes, sizeof bytes) != sizeof bytes) return 2;
+        return 4 * FRAME;
+    }
+    for (int i = 0; i < FRAME; i++) {
+        bytes[6 * i] = 0;
+        bytes[6 * i + 1] = (uint8_t)tick.left[i];
+        bytes[6 * i + 2] = (uint8_t)((uint16_t)tick.left[i] >> 8);
+        bytes[6 * i + 3] = 0;
+        bytes[6 * i + 4] = (uint8_t)tick.right[i];
+        bytes[6 * i + 5] = (uint8_t)((uint16_t)tick.right[i] >> 8);
+    }
+    return 6 * FRAME;
+}
+
+static void put(uint8_t *bytes, uint32_t number) {
+    for (int i = 0; i < 4; i++) bytes[i] = (uint8_t)(number >> 8 * i);
+}
+
+int main(int count, char **words) {
+    static void (*const made[])(long) = {one_file, looped, sum_of_20, crossfaded, switched, graph, one_wide_file};
+    static uint8_t head[44], bytes[6 * FRAME];
+    if (count != 3) return 2;
+    int number = atoi(words[1]);
+    int wide = number == 6, block = wide ? 6 : 4;
+    long ticks = atol(words[2]) * 25;
+    if (wide) wide_file = opened_wide("wide.wav");
+    else long_file = opened("long.wav"), short_file = opened("short.wav");
+    for (int k = 0; k < FILES; k++) {
+        char name[20];
+        snprintf(name, sizeof name, "t%d.wav", k);
+        tracks[k] = opened(name);
+    }
+    int to = open("c.wav", O_WRONLY | O_CREAT | O_TRUNC, 0644);
+    uint32_t long_ = (uint32_t)(ticks * FRAME * block);
+    memcpy(head, "RIFF....WAVEfmt \x10\0\0\0\1\0\2\0........\4\0\x10\0data....", 44);
+    head[32] = (uint8_t)block, head[34] = wide ? 24 : 16;
+    put(head + 4, long_ + 36), put(head + 24, 44100), put(head + 28, (uint32_t)block * 44100), put(head + 40, long_);
+    if (write(to, head, 44) != 44) return 2;
+    for (long now = 0; now < ticks; now++) {
+        made[number](now);
+        size_t size = encoded(wide, bytes);
+        if (write(to, bytes, size) != (ssize_t)size) return 2;
     }
     return close(to) != 0;
 }

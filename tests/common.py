@@ -98,7 +98,9 @@ def sound(samples, channels=1, rate=44100, width=2):
 
 
 def left_samples(*path):
-    """The left side of a file of 16 bits."""
+    """The left side of a file of 16 bits, or the upper 16 bits of one of 24."""
     with wave.open(os.path.join(*path), "rb") as file:
-        channels, frames = file.getnchannels(), file.readframes(file.getnframes())
+        channels, width, frames = file.getnchannels(), file.getsampwidth(), file.readframes(file.getnframes())
+    if width == 3:
+        frames = b"".join(frames[at + 1:at + 3] for at in range(0, len(frames), 3))
     return list(struct.unpack(f"<{len(frames) // 2}h", frames))[::channels]
