@@ -66,5 +66,6 @@ _liq_page() {
     esac
 }
 complete -o filenames -F _liq_page liq-page ./page
+complete -o filenames -F _liq_file liq-picture ./picture
 complete -o filenames -F _liq_file liq-where ./where
 complete -o filenames -F _liq_file liq-doctor ./doctor

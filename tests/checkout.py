@@ -6,8 +6,8 @@ import subprocess
 from common import TOP, built, sound, takes_text
 
 SECONDS = 60
-COMMANDS = ("liq", "where", "doctor", "page", "pages", "install", "package", "liq.1", "liq-where.1", "liq-doctor.1",
-            "liq-page.1", "tools", "completion", "docs", "examples")
+COMMANDS = ("liq", "where", "doctor", "page", "pages", "picture", "install", "package", "liq.1", "liq-where.1", "liq-doctor.1",
+            "liq-page.1", "liq-picture.1", "tools", "completion", "docs", "examples")
 RT = """#!/bin/sh
 name=$(basename "$PWD")
 echo "$name $*" >> "$NOTES"

@@ -298,7 +298,7 @@ def forms_that_differ(program):
         for form, options in known.items():
             offered, wanted = completed(["liq"] + spoken(form) + [""]), [re.sub("=.*", "=", option) for option in options]
             found += [f"bash offers {offered} behind {form}"] if offered != wanted else []
-    for page in ("liq.1", "liq-where.1", "liq-doctor.1", "liq-page.1") if shutil.which("man") else ():
+    for page in ("liq.1", "liq-where.1", "liq-doctor.1", "liq-page.1", "liq-picture.1") if shutil.which("man") else ():
         done = subprocess.run(["man", "--warnings", "-l", page], cwd=TOP, capture_output=True, check=False, timeout=SECONDS)
         found += [f"{page}: {done.stderr.decode()}"] if done.stderr or done.returncode else []
     return found

@@ -1,0 +1,74 @@
+-- What is to blame for a silence.
+use Rattle.std.proofs.Common.{◌≡◌, ℕ, ◌+◌, ◌<◌, ◌≤◌, suc, Bool, true, false, ◌&&◌, ◌||◌, List, [], ◌∷◌, length, get_or, take, drop, set, refl, sym, ap, ◌∙◌, inl, inr, arith}
+use Rattle.std.specs.Prelude.{◌⊎◌}
+use Rattle.std.specs.List.{list_any, zip}
+use Rattle.std.proofs.Math.Seq.{drop-cons, drop-length}
+use Rattle.std.proofs.lemmas.List.{drop-set, take_all}
+use Rattle.std.proofs.lemmas.List.Folds.{list_any_at, list_any_more}
+use Rattle.std.proofs.lemmas.Slice.Zip.{get_or-zip}
+use Rattle.plan_core.specs.declared.node.Node.{Node}
+use Rattle.plan_picture.specs.Blames.{is_to_blame, needs, reds_from}
+
+pub none_red : (mark : ℕ → Bool) (refused : ℕ) (nodes : List Node) (reds : List Bool) (k : ℕ) → k ≡ length nodes → length reds ≡ length nodes
+    → drop k reds ≡ reds_from mark refused k (drop k nodes)
+none_red mark refused nodes reds k end size =
+    ap (λ (n : ℕ). drop n reds) (end ∙ sym size) ∙ drop-length reds
+    ∙ sym (ap (λ (n : ℕ). reds_from mark refused k (drop n nodes)) end ∙ ap (reds_from mark refused k) (drop-length nodes))
+
+-- one source more, from the last one down
+pub more_red : (mark : ℕ → Bool) (refused : ℕ) (nodes : List Node) (reds : List Bool) (k : ℕ) (d : Node) (red : Bool) → k < length nodes → length reds ≡ length nodes
+    → drop (k + 1) reds ≡ reds_from mark refused (k + 1) (drop (k + 1) nodes)
+    → red ≡ is_to_blame mark refused k (drop (k + 1) nodes) (drop (k + 1) reds)
+    → drop k (set reds k red) ≡ reds_from mark refused k (drop k nodes)
+more_red mark refused nodes reds k d red here size so_far is =
+    let next : k + 1 ≡ suc k = omega arith in
+    drop-set reds k red (omega arith)
+    ∙ ap (λ (r : Bool). r ∷ drop (k + 1) reds) is
+    ∙ ap (λ (rs : List Bool). is_to_blame mark refused k (drop (k + 1) nodes) rs ∷ rs) so_far
+    ∙ ap (λ (n : ℕ). is_to_blame mark refused k (drop n nodes) (reds_from mark refused n (drop n nodes)) ∷ reds_from mark refused n (drop n nodes)) next
+    ∙ sym (ap (reds_from mark refused k) (drop-cons nodes k d here))
+
+-- whether a red source needs a child
+abbrev pub asks_for : (child : ℕ) → Node × Bool → Bool
+asks_for child pair = pair.1 && needs (pair.0).op (pair.0).children child
+
+pairs_size : (nodes : List Node) (reds : List Bool) → length reds ≡ length nodes → length (zip nodes reds) ≡ length nodes
+pairs_size [] reds size = refl
+pairs_size (n ∷ ns) [] size = absurd (omega arith)
+pairs_size (n ∷ ns) (r ∷ rs) size = ap suc (pairs_size ns rs (omega arith))
+
+and_false : (b : Bool) → b && false ≡ false
+and_false true = refl
+and_false false = refl
+
+pair_at : (child : ℕ) (nodes : List Node) (reds : List Bool) (k : ℕ) (node : Node) → k < length nodes → length reds ≡ length nodes → node ≡ get_or nodes k node
+    → asks_for child (get_or (zip nodes reds) k (node, false)) ≡ (get_or reds k false && needs node.op node.children child)
+pair_at child nodes reds k node h size is =
+    ap (asks_for child) (get_or-zip nodes reds k (node, false) h (omega arith))
+    ∙ ap (λ (n : Node). get_or reds k false && needs n.op n.children child) (sym is)
+
+pub is_found : (child : ℕ) (nodes : List Node) (reds : List Bool) (k : ℕ) (node : Node) → k < length nodes → length reds ≡ length nodes → node ≡ get_or nodes k node
+    → get_or reds k false ≡ true → needs node.op node.children child ≡ true → true ≡ list_any (asks_for child) (zip nodes reds)
+is_found child nodes reds k node h size is red needed =
+    let long : length (zip nodes reds) ≡ length nodes = pairs_size nodes reds size in
+    sym (list_any_at (asks_for child) (zip nodes reds) k (node, false) (omega arith)
+    (pair_at child nodes reds k node h size is ∙ ap (λ (b : Bool). b && needs node.op node.children child) red ∙ needed))
+
+pub not_yet : (child : ℕ) (nodes : List Node) (reds : List Bool) (k : ℕ) (node : Node) → k < length nodes → length reds ≡ length nodes → node ≡ get_or nodes k node
+    → list_any (asks_for child) (take k (zip nodes reds)) ≡ false → (get_or reds k false ≡ false) ⊎ (needs node.op node.children child ≡ false)
+    → list_any (asks_for child) (take (k + 1) (zip nodes reds)) ≡ false
+not_yet child nodes reds k node h size is none which =
+    let long : length (zip nodes reds) ≡ length nodes = pairs_size nodes reds size in
+    let fails : (get_or reds k false && needs node.op node.children child) ≡ false = elim which [
+      | inl white ↦ ap (λ (b : Bool). b && needs node.op node.children child) white
+      | inr free ↦ ap (λ (b : Bool). get_or reds k false && b) free ∙ and_false (get_or reds k false)
+    ] in
+    list_any_more (asks_for child) (zip nodes reds) k (node, false) (omega arith)
+    ∙ ap (λ (b : Bool). b || asks_for child (get_or (zip nodes reds) k (node, false))) none
+    ∙ pair_at child nodes reds k node h size is ∙ fails
+
+pub not_found : (child : ℕ) (nodes : List Node) (reds : List Bool) (k : ℕ) → length nodes ≤ k → length reds ≡ length nodes
+    → list_any (asks_for child) (take k (zip nodes reds)) ≡ false → false ≡ list_any (asks_for child) (zip nodes reds)
+not_found child nodes reds k h size none =
+    let long : length (zip nodes reds) ≡ length nodes = pairs_size nodes reds size in
+    sym (ap (list_any (asks_for child)) (sym (take_all k (zip nodes reds) (omega arith))) ∙ none)

@@ -1,0 +1,63 @@
+-- The boxes: sources and outputs.
+use Rattle.std.specs.Prelude.{ℕ, Bool, true, false, Option, Some, None, List, [], ◌++◌, codes, decimal, nat_eq, Result}
+use Rattle.std.specs.Option.{option_map_or}
+use Rattle.plan_core.specs.declared.node.Node.{Node}
+use Rattle.plan_core.specs.declared.plan.Plan.{Plan}
+use Rattle.clock_infer.specs.declared.clock_map.ClockMap.{ClockMap}
+use Rattle.clock_infer.specs.declared.clock_map.ClockFault.{ClockFault}
+use Rattle.plan_picture.specs.Texts.{escaped, numbered}
+use Rattle.plan_picture.specs.Sources.{words}
+use Rattle.plan_picture.specs.Blames.{node_red, red_words}
+
+-- a source that may offer nothing has a dashed border
+abbrev pub border : (infallible : Bool) → List ℕ
+border true = []
+border false = codes ", style=\"filled,rounded,dashed\""
+
+abbrev pub red_style : (red : Bool) → List ℕ
+red_style true = codes ", color=\"#b3261e\", penwidth=2.2, fontcolor=\"#b3261e\""
+red_style false = []
+
+abbrev pub box_end : (infallible red : Bool) → List ℕ
+box_end infallible red = codes "\"" ++ (border infallible ++ (red_style red ++ codes "];\n"))
+
+abbrev pub box_front : (k : ℕ) → List ℕ
+box_front k = (codes "n" ++ decimal k) ++ (codes " [label=\"" ++ decimal k ++ codes "  ")
+
+abbrev pub box_label : Plan → (silent : Bool) → Result ClockMap ClockFault → (k : ℕ) → Node → (red : Bool) → List ℕ
+box_label plan silent clocks k node red = words plan k node.op ++ red_words silent red clocks k node
+
+-- the box of source k
+abbrev pub node_box : Plan → (silent : Bool) → Result ClockMap ClockFault → (k : ℕ) → Node → (infallible red : Bool) → List ℕ
+node_box plan silent clocks k node infallible red = box_front k ++ (box_label plan silent clocks k node red ++ box_end infallible red)
+
+-- the boxes of the sources, each once
+abbrev pub node_boxes : Plan → List Node → (mark : ℕ → Bool) → (silent : Bool) → (reds : List Bool) → Result ClockMap ClockFault → List ℕ
+node_boxes plan nodes mark silent reds clocks = numbered (λ k node. node_box plan silent clocks k node (mark k) (node_red silent reds clocks k node.op)) 0 nodes
+
+-- an output that may offer nothing has a dashed border too
+abbrev pub sheet : (infallible : Bool) → List ℕ
+sheet true = codes " [shape=note, margin=\"0.16,0.08\", style=\"filled\""
+sheet false = codes " [shape=note, margin=\"0.16,0.08\", style=\"filled,dashed\""
+
+abbrev pub fallible_words : (fallible : Bool) → List ℕ
+fallible_words true = codes "\\nfallible"
+fallible_words false = []
+
+abbrev pub silence_words : (red : Bool) → List ℕ
+silence_words true = codes "\\nE25 may fall silent"
+silence_words false = []
+
+abbrev pub output_label : (name : List ℕ) → (fallible red : Bool) → List ℕ
+output_label name fallible red = escaped name ++ (fallible_words fallible ++ silence_words red)
+
+abbrev pub output_front : (k : ℕ) → (infallible red : Bool) → List ℕ
+output_front k infallible red = (codes "s" ++ decimal k) ++ (sheet infallible ++ red_style red)
+
+-- the sheet of output k
+abbrev pub output_box : (k : ℕ) → (name : List ℕ) → (fallible infallible red : Bool) → List ℕ
+output_box k name fallible infallible red = output_front k infallible red ++ (codes ", label=\"" ++ (output_label name fallible red ++ codes "\"];\n"))
+
+-- whether a sink is the one that was refused
+abbrev pub is_refused : Option ℕ → (k : ℕ) → Bool
+is_refused refused k = option_map_or (λ sink. nat_eq sink k) refused false

@@ -1,0 +1,78 @@
+-- The edges: from a source to the one that plays it, to an output, and through a buffer.
+use Rattle.std.specs.Prelude.{ℕ, ◌+◌, ◌*◌, Bool, true, false, Option, Some, None, List, [], ◌++◌, codes, decimal, length, nat_eq, nat_lt, slice_get, if◌then◌else◌, Result}
+use Rattle.std.specs.Option.{option_map_or}
+use Rattle.time_pred.specs.Predicates.{Predicate}
+use Rattle.plan_core.specs.declared.node.Node.{Node}
+use Rattle.plan_core.specs.declared.node.Op.{Op}
+use Rattle.plan_core.specs.declared.node.Op.TheVariants.{Single, Playlist, Blank, Square, Fail, Fallback, Switch, Sequence, Rotate, Random, Add, Amplify, Mean, Stereo, Crossfade, Buffer, Clock}
+use Rattle.plan_core.specs.declared.plan.Plan.{Plan}
+use Rattle.plan_core.specs.declared.sink.BufferPlan.{BufferPlan}
+use Rattle.plan_core.specs.declared.sink.SinkPlan.{SinkPlan}
+use Rattle.plan_core.specs.declared.sink.SinkPlan.TheVariants.{Output, Feed}
+use Rattle.plan_core.specs.Plans.{buffer_read}
+use Rattle.clock_infer.specs.declared.clock_map.ClockMap.{ClockMap}
+use Rattle.clock_infer.specs.declared.clock_map.ClockFault.{ClockFault}
+use Rattle.plan_picture.specs.Texts.{numbered}
+use Rattle.plan_picture.specs.Numbers.{seconds}
+use Rattle.plan_picture.specs.Predicates.{pred_text}
+use Rattle.plan_picture.specs.Blames.{edge_red}
+use Rattle.plan_picture.specs.Boxes.{is_refused, output_box}
+
+abbrev pub pred_at : List Predicate → (place : ℕ) → List ℕ
+pred_at preds place = option_map_or (pred_text false) (slice_get preds place) []
+
+abbrev pub place_label : (many : Bool) → (place : ℕ) → List ℕ
+place_label true place = codes "label=\" " ++ decimal (place + 1) ++ codes " \""
+place_label false place = []
+
+-- an edge into a switch has its predicate, and any other its place where there are several; the order of a sum says nothing
+abbrev pub edge_label : Op → (count place : ℕ) → List ℕ
+edge_label (Switch sensitive preds) count place = codes "label=\" " ++ (pred_at preds place ++ codes " \"")
+edge_label (Add normalize) count place = []
+edge_label _ count place = place_label (nat_lt 1 count) place
+
+abbrev pub edge_style : (red : Bool) → List ℕ
+edge_style true = codes " color=\"#b3261e\" penwidth=2"
+edge_style false = []
+
+abbrev pub edge_ends : (from to : ℕ) → List ℕ
+edge_ends from to = (codes "n" ++ decimal from) ++ (codes " -> n" ++ decimal to)
+
+-- the edge from the child at this place of source k
+abbrev pub child_edge : Op → (count k child place : ℕ) → (red : Bool) → List ℕ
+child_edge op count k child place red = edge_ends child k ++ (codes " [" ++ (edge_label op count place ++ (edge_style red ++ codes "];\n")))
+
+abbrev pub child_edges : (silent : Bool) → (reds : List Bool) → Result ClockMap ClockFault → (k : ℕ) → Op → (children : List ℕ) → List ℕ
+child_edges silent reds clocks k op children = numbered (λ place child. child_edge op (length children) k child place (edge_red silent reds clocks k child)) 0 children
+
+-- the edges between sources, each once
+abbrev pub node_edges : List Node → (silent : Bool) → (reds : List Bool) → Result ClockMap ClockFault → List ℕ
+node_edges nodes silent reds clocks = numbered (λ k node. child_edges silent reds clocks k node.op node.children) 0 nodes
+
+abbrev pub output_edge : (k node : ℕ) → (red : Bool) → List ℕ
+output_edge k node red = (codes "n" ++ decimal node) ++ ((codes " -> s" ++ decimal k) ++ (codes " [" ++ (edge_style red ++ codes "];\n")))
+
+abbrev pub reads : Op → (buffer : ℕ) → Bool
+reads op buffer = option_map_or (λ read. nat_eq read buffer) (buffer_read op) false
+
+abbrev pub capacity : Plan → BufferPlan → List ℕ
+capacity plan size = (codes "  at most " ++ decimal size.capacity) ++ (codes " chunks, " ++ (seconds (size.capacity * plan.frame) plan.rate ++ codes "  "))
+
+abbrev pub buffer_label : Plan → (buffer : ℕ) → List ℕ
+buffer_label plan buffer = option_map_or (capacity plan) (slice_get plan.buffers buffer) []
+
+-- a thick edge through a buffer to its reader k
+abbrev pub through : (is_reader : Bool) → Plan → (buffer node k : ℕ) → List ℕ
+through true plan buffer node k = edge_ends node k ++ (codes " [style=bold, color=\"#7a4a00\", fontcolor=\"#7a4a00\", penwidth=2.5, label=\"" ++ (buffer_label plan buffer ++ codes "\"];\n"))
+through false plan buffer node k = []
+
+abbrev pub feed_edges : Plan → List Node → (buffer node : ℕ) → List ℕ
+feed_edges plan nodes buffer node = numbered (λ k reader. through (reads reader.op buffer) plan buffer node k) 0 nodes
+
+-- an output with the edge to it; of a feed the edge through its buffer
+abbrev pub sink_text : Plan → (mark : ℕ → Bool) → (refused : Option ℕ) → (k : ℕ) → SinkPlan → List ℕ
+sink_text plan mark refused k (Output name node fallible wide) = output_box k name fallible (mark node) (is_refused refused k) ++ output_edge k node (is_refused refused k)
+sink_text plan mark refused k (Feed buffer node) = feed_edges plan plan.nodes buffer node
+
+abbrev pub sink_texts : Plan → List SinkPlan → (mark : ℕ → Bool) → (refused : Option ℕ) → List ℕ
+sink_texts plan sinks mark refused = numbered (sink_text plan mark refused) 0 sinks

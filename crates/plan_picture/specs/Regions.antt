@@ -1,0 +1,103 @@
+-- The clocks: each a region with its sources and outputs.
+use Rattle.std.specs.Prelude.{ℕ, zero, suc, ◌%◌, Bool, true, false, List, [], ◌∷◌, ◌++◌, codes, decimal, nat_eq, nat_lt, slice_index_or, if◌then◌else◌, Result, Ok, Err}
+use Rattle.plan_core.specs.declared.node.Node.{Node}
+use Rattle.plan_core.specs.declared.plan.Plan.{Plan}
+use Rattle.plan_core.specs.declared.sink.SinkPlan.{SinkPlan}
+use Rattle.plan_core.specs.declared.sink.SinkPlan.TheVariants.{Output, Feed}
+use Rattle.clock_infer.specs.declared.clock_map.ClockMap.{ClockMap}
+use Rattle.clock_infer.specs.declared.clock_map.ClockName.{ClockName}
+use Rattle.clock_infer.specs.declared.clock_map.ClockFault.{ClockFault}
+use Rattle.clock_infer.specs.declared.clock_map.ClockFault.TheVariants.{TwoClocks, Nested, TooManyClocks, Memory}
+use Rattle.clock_infer.specs.declared.clock_map.NodeClock.{NodeClock}
+use Rattle.clock_infer.specs.declared.clock_map.NodeClock.TheVariants.{Main, Sub}
+use Rattle.clock_infer.specs.Ties.{fades}
+use Rattle.plan_picture.specs.Texts.{escaped, numbered}
+
+abbrev pub clock_of : List NodeClock → (node : ℕ) → NodeClock
+clock_of of node = slice_index_or of node (Main 0)
+
+-- the beginning of what stands in the region of a clock: the regions of the clocks above it are opened first, at most so many. A region
+-- that is opened again is the same one
+abbrev pub opening : List NodeClock → (levels : ℕ) → NodeClock → List ℕ
+opening of levels (Main m) = codes "subgraph cluster_main" ++ decimal m ++ codes " { "
+opening of zero (Sub k) = []
+opening of (suc levels) (Sub k) = opening of levels (clock_of of k) ++ (codes "subgraph cluster_sub" ++ decimal k ++ codes " { ")
+
+abbrev pub closing : List NodeClock → (levels : ℕ) → NodeClock → List ℕ
+closing of levels (Main m) = codes " }"
+closing of zero (Sub k) = []
+closing of (suc levels) (Sub k) = closing of levels (clock_of of k) ++ codes " }"
+
+-- a statement in the region of a clock
+abbrev pub within : List NodeClock → NodeClock → (statement : List ℕ) → List ℕ
+within of clock statement = opening of 16 clock ++ (statement ++ (closing of 16 clock ++ codes "\n"))
+
+-- each main clock has a tint, in turn
+abbrev pub tint_of : ℕ → List ℕ
+tint_of n = if nat_eq n 0 then codes "#e3eef9" else if nat_eq n 1 then codes "#fdf0d8" else if nat_eq n 2 then codes "#e4f3ea"
+    else if nat_eq n 3 then codes "#f6e6f1" else codes "#ececec"
+
+abbrev pub tint : (clock : ℕ) → List ℕ
+tint clock = tint_of (clock % 5)
+
+abbrev pub idle_words : (runs : Bool) → List ℕ
+idle_words true = []
+idle_words false = codes " (no output: never runs)"
+
+abbrev pub main_style : (clock : ℕ) → List ℕ
+main_style clock = codes "\"; style=\"filled,rounded\"; color=\"#8a949e\"; fontsize=11; fillcolor=\"" ++ (tint clock ++ codes "\"; }\n")
+
+abbrev pub main_rest : (running clock : ℕ) → (name : List ℕ) → List ℕ
+main_rest running clock name = escaped name ++ (idle_words (nat_lt clock running) ++ main_style clock)
+
+-- the region of a main clock
+abbrev pub main_region : (running clock : ℕ) → (name : List ℕ) → List ℕ
+main_region running clock name = (codes "subgraph cluster_main" ++ decimal clock ++ codes " { label=\"clock ") ++ main_rest running clock name
+
+abbrev pub named_regions : (running : ℕ) → (names : List (List ℕ)) → List ℕ
+named_regions running names = numbered (main_region running) 0 names
+
+abbrev pub sub_label : (k : ℕ) → List ℕ
+sub_label k = codes "label=\"own clock of crossfade " ++ decimal k ++ codes "\"; style=\"filled,rounded\"; color=\"#8a949e\"; fontsize=11; fillcolor=\"#ffffff80\";"
+
+-- the region of a crossfade's own clock
+abbrev pub sub_region : List NodeClock → (is_crossfade : Bool) → (k : ℕ) → List ℕ
+sub_region of true k = within of (Sub k) (sub_label k)
+sub_region of false k = []
+
+abbrev pub sub_regions : List NodeClock → List Node → List ℕ
+sub_regions of nodes = numbered (λ k node. sub_region of (fades node.op) k) 0 nodes
+
+-- each source in the region of its clock
+abbrev pub members : List NodeClock → List ℕ
+members of = numbered (λ k clock. within of clock (codes "n" ++ decimal k ++ codes ";")) 0 of
+
+-- each output in the region of its source
+abbrev pub output_member : List NodeClock → (k : ℕ) → SinkPlan → List ℕ
+output_member of k (Output name node fallible wide) = within of (clock_of of node) (codes "s" ++ decimal k ++ codes ";")
+output_member of k (Feed buffer node) = []
+
+abbrev pub output_members : List NodeClock → List SinkPlan → List ℕ
+output_members of sinks = numbered (output_member of) 0 sinks
+
+abbrev pub regions_by : Plan → ClockMap → List ℕ
+regions_by plan clocks = named_regions clocks.running clocks.names ++ (sub_regions clocks.of plan.nodes ++ (members clocks.of ++ output_members clocks.of plan.sinks))
+
+abbrev pub heading : ClockFault → List ℕ
+heading (TwoClocks node first second) = codes "E26 a source would be driven by two clocks"
+heading (Nested node) = codes "E27 a crossfade lies in its own clock"
+heading TooManyClocks = codes "E28 more than 64 clocks would run"
+heading Memory = []
+
+abbrev pub told_text : ClockFault → List ℕ
+told_text fault = codes "labelloc=t; fontcolor=\"#b3261e\"; label=\"" ++ (heading fault ++ codes "\";\n")
+
+-- a fault of clocks is told where no silence is
+abbrev pub fault_text : (silent : Bool) → ClockFault → List ℕ
+fault_text true fault = []
+fault_text false fault = told_text fault
+
+-- the regions of a plan; where there are none, why
+abbrev pub regions_of : Plan → (silent : Bool) → Result ClockMap ClockFault → List ℕ
+regions_of plan silent (Ok clocks) = regions_by plan clocks
+regions_of plan silent (Err fault) = fault_text silent fault

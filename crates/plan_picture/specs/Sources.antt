@@ -1,0 +1,56 @@
+-- What stands in the box of a source.
+use Rattle.std.specs.Prelude.{ℕ, max, Bool, nat_eq, if◌then◌else◌, true, false, Option, Some, None, List, [], ◌∷◌, ◌++◌, codes, decimal, slice_get}
+use Rattle.std.specs.Option.{option_map_or}
+use Rattle.plan_core.specs.declared.node.Op.{Op}
+use Rattle.plan_core.specs.declared.node.Op.TheVariants.{Single, Playlist, Blank, Square, Fail, Fallback, Switch, Sequence, Rotate, Random, Add, Amplify, Mean, Stereo, Crossfade, Buffer, Clock}
+use Rattle.plan_core.specs.declared.plan.Plan.{Plan}
+use Rattle.plan_core.specs.declared.sink.BufferPlan.{BufferPlan}
+use Rattle.clock_infer.specs.Forcings.{id_or}
+use Rattle.plan_picture.specs.Texts.{escaped}
+use Rattle.plan_picture.specs.Numbers.{seconds, signed}
+
+-- a choice that changes within a track says so
+abbrev pub choice_words : (sensitive : Bool) → List ℕ
+choice_words true = []
+choice_words false = codes "\\nbreaks into tracks"
+
+abbrev pub playlist_words : (again : Bool) → List ℕ
+playlist_words true = codes "playlist\\n"
+playlist_words false = codes "playlist (once)\\n"
+
+-- silence in one endless track has no length
+abbrev pub blank_words : (track rate : ℕ) → List ℕ
+blank_words track rate = if nat_eq track 0 then codes "blank" else codes "blank\\ntracks of " ++ seconds track rate
+
+abbrev pub add_words : (normalize : Bool) → List ℕ
+add_words true = codes "add"
+add_words false = codes "add\\nsum"
+
+abbrev pub prefill : BufferPlan → (rate : ℕ) → List ℕ
+prefill buffer rate = codes "\\nstarts at " ++ seconds (max 1 buffer.pre) rate
+
+abbrev pub size_words : Plan → (buffer : ℕ) → List ℕ
+size_words plan buffer = option_map_or (λ size. prefill size plan.rate) (slice_get plan.buffers buffer) []
+
+abbrev pub reader_words : Plan → (buffer : ℕ) → List ℕ
+reader_words plan buffer = (codes "buffer " ++ decimal buffer) ++ size_words plan buffer
+
+-- source k of this operator
+abbrev pub words : Plan → (k : ℕ) → Op → List ℕ
+words plan k (Single file) = codes "single\\n" ++ escaped file
+words plan k (Playlist file again) = playlist_words again ++ escaped file
+words plan k (Blank track) = blank_words track plan.rate
+words plan k (Square pitch) = codes "square\\n" ++ (signed pitch.millionths ++ codes " Hz")
+words plan k Fail = codes "fail"
+words plan k (Fallback sensitive) = codes "fallback" ++ choice_words sensitive
+words plan k (Switch sensitive preds) = codes "switch" ++ choice_words sensitive
+words plan k Sequence = codes "sequence"
+words plan k Rotate = codes "rotate"
+words plan k (Random seed) = codes "random\\nseed " ++ decimal seed
+words plan k (Add normalize) = add_words normalize
+words plan k (Amplify factor) = codes "amplify\\nby " ++ signed factor.millionths
+words plan k Mean = codes "mean"
+words plan k Stereo = codes "stereo"
+words plan k (Crossfade overlap) = codes "crossfade\\n" ++ seconds overlap plan.rate
+words plan k (Buffer buffer) = reader_words plan buffer
+words plan k (Clock id) = codes "clock\\n" ++ escaped (id_or k id)

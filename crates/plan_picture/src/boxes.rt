@@ -1,0 +1,219 @@
+// The boxes: sources and outputs.
+ghost use Rattle.std.specs.Prelude.{◌≡◌, ◌<◌, ◌++◌, OnOk, codes};
+ghost use Rattle.fallible_infer.specs.Infallible.{mark_at};
+ghost use Rattle.plan_picture.specs.Boxes.{border, box_end, box_front, box_label, fallible_words, is_refused, node_box, node_boxes, output_box, output_front, output_label, red_style, sheet, silence_words};
+
+use crate::blames::{is_red, mark, push_red_words};
+use crate::texts::{push_between, push_escaped, push_number, push_plain};
+use crate::words::push_words;
+use clock_infer::{ClockFault, ClockMap};
+use liq_base::{Memory, Text};
+use plan_core::{Node, Plan};
+use std::alloc::Global;
+
+/// Appends a box for each source, dashed where it may offer nothing, and red where it is to blame for a fault.
+pub fn push_nodes(
+    alloc: Global,
+    into: &mut Vec<u8>,
+    plan: &Plan,
+    nodes: &[Node],
+    marks: &[bool],
+    silent: bool,
+    reds: &[bool],
+    clocks: &Result<ClockMap, ClockFault>,
+) -> Result<(), Memory>
+    requires { 0 < plan.now.rate }
+    ensures { OnOk result (into.new.items ≡ into.old.items ++ node_boxes plan.now nodes.now (mark_at marks.now) silent reds.now clocks.now) }
+{
+    for (k, node) in nodes.iter().enumerate() {
+        let red = is_red(alloc, silent, reds, clocks, k, &node.op)?;
+        push_node(
+            alloc,
+            into,
+            plan,
+            silent,
+            clocks,
+            k as u64,
+            node,
+            mark(marks, k),
+            red,
+        )?;
+    }
+    Ok(())
+}
+
+fn push_node(
+    alloc: Global,
+    into: &mut Vec<u8>,
+    plan: &Plan,
+    silent: bool,
+    clocks: &Result<ClockMap, ClockFault>,
+    k: u64,
+    node: &Node,
+    infallible: bool,
+    red: bool,
+) -> Result<(), Memory>
+    requires { 0 < plan.now.rate }
+    ensures { OnOk result (into.new.items ≡ into.old.items ++ node_box plan.now silent clocks.now k node.now infallible red) }
+{
+    push_front(into, k)?;
+    push_label(alloc, into, plan, silent, clocks, k, node, red)?;
+    push_end(into, infallible, red)
+}
+
+fn push_front(into: &mut Vec<u8>, k: u64) -> Result<(), Memory>
+    ensures { OnOk result (into.new.items ≡ into.old.items ++ box_front k) }
+{
+    push_number(into, b"n", k)?;
+    push_between(into, b" [label=\"", k, b"  ")
+}
+
+fn push_label(
+    alloc: Global,
+    into: &mut Vec<u8>,
+    plan: &Plan,
+    silent: bool,
+    clocks: &Result<ClockMap, ClockFault>,
+    k: u64,
+    node: &Node,
+    red: bool,
+) -> Result<(), Memory>
+    requires { 0 < plan.now.rate }
+    ensures { OnOk result (into.new.items ≡ into.old.items ++ box_label plan.now silent clocks.now k node.now red) }
+{
+    push_words(alloc, into, plan, k, &node.op)?;
+    push_red_words(alloc, into, silent, red, clocks, k, node)
+}
+
+fn push_end(into: &mut Vec<u8>, infallible: bool, red: bool) -> Result<(), Memory>
+    ensures { OnOk result (into.new.items ≡ into.old.items ++ box_end infallible red) }
+{
+    push_plain(into, b"\"")?;
+    push_border(into, infallible)?;
+    push_style(into, red)
+}
+
+fn push_border(into: &mut Vec<u8>, infallible: bool) -> Result<(), Memory>
+    ensures { OnOk result (into.new.items ≡ into.old.items ++ border infallible) }
+{
+    if infallible {
+        Ok(())
+    } else {
+        push_plain(into, b", style=\"filled,rounded,dashed\"")
+    }
+}
+
+fn push_style(into: &mut Vec<u8>, red: bool) -> Result<(), Memory>
+    ensures { OnOk result (into.new.items ≡ into.old.items ++ (red_style red ++ codes "];\n")) }
+{
+    push_red(into, red)?;
+    push_plain(into, b"];\n")
+}
+
+fn push_red(into: &mut Vec<u8>, red: bool) -> Result<(), Memory>
+    ensures { OnOk result (into.new.items ≡ into.old.items ++ red_style red) }
+{
+    if red {
+        push_plain(
+            into,
+            b", color=\"#b3261e\", penwidth=2.2, fontcolor=\"#b3261e\"",
+        )
+    } else {
+        Ok(())
+    }
+}
+
+/// Appends the sheet of an output.
+pub fn push_output(
+    into: &mut Vec<u8>,
+    k: u64,
+    name: &Text,
+    fallible: bool,
+    infallible: bool,
+    red: bool,
+) -> Result<(), Memory>
+    ensures { OnOk result (into.new.items ≡ into.old.items ++ output_box k name.now fallible infallible red) }
+{
+    push_sheet(into, k, infallible, red)?;
+    push_output_label(into, name, fallible, red)
+}
+
+fn push_sheet(into: &mut Vec<u8>, k: u64, infallible: bool, red: bool) -> Result<(), Memory>
+    ensures { OnOk result (into.new.items ≡ into.old.items ++ output_front k infallible red) }
+{
+    push_number(into, b"s", k)?;
+    push_sheet_style(into, infallible)?;
+    push_red(into, red)
+}
+
+fn push_sheet_style(into: &mut Vec<u8>, infallible: bool) -> Result<(), Memory>
+    ensures { OnOk result (into.new.items ≡ into.old.items ++ sheet infallible) }
+{
+    if infallible {
+        push_plain(
+            into,
+            b" [shape=note, margin=\"0.16,0.08\", style=\"filled\"",
+        )
+    } else {
+        push_plain(
+            into,
+            b" [shape=note, margin=\"0.16,0.08\", style=\"filled,dashed\"",
+        )
+    }
+}
+
+fn push_output_label(
+    into: &mut Vec<u8>,
+    name: &Text,
+    fallible: bool,
+    red: bool,
+) -> Result<(), Memory>
+    ensures { OnOk result (into.new.items ≡ into.old.items ++ (codes ", label=\"" ++ (output_label name.now fallible red ++ codes "\"];\n"))) }
+{
+    push_plain(into, b", label=\"")?;
+    push_output_words(into, name, fallible, red)?;
+    push_plain(into, b"\"];\n")
+}
+
+fn push_output_words(
+    into: &mut Vec<u8>,
+    name: &Text,
+    fallible: bool,
+    red: bool,
+) -> Result<(), Memory>
+    ensures { OnOk result (into.new.items ≡ into.old.items ++ output_label name.now fallible red) }
+{
+    push_escaped(into, name.as_str().as_bytes())?;
+    push_fallible(into, fallible)?;
+    push_silence(into, red)
+}
+
+fn push_fallible(into: &mut Vec<u8>, fallible: bool) -> Result<(), Memory>
+    ensures { OnOk result (into.new.items ≡ into.old.items ++ fallible_words fallible) }
+{
+    if fallible {
+        push_plain(into, b"\\nfallible")
+    } else {
+        Ok(())
+    }
+}
+
+fn push_silence(into: &mut Vec<u8>, red: bool) -> Result<(), Memory>
+    ensures { OnOk result (into.new.items ≡ into.old.items ++ silence_words red) }
+{
+    if red {
+        push_plain(into, b"\\nE25 may fall silent")
+    } else {
+        Ok(())
+    }
+}
+
+/// Whether a sink is the one that was refused.
+pub fn is_refused(refused: Option<u32>, k: u64) -> bool
+    ensures { result ≡ is_refused refused k }
+{
+    match refused {
+        Some(sink) => sink as u64 == k,
+        None => false,
+    }
+}

@@ -1,0 +1,117 @@
+// Predicates as a script writes them.
+ghost use Rattle.std.specs.Prelude.{◌≡◌, ◌++◌, OnOk, map};
+ghost use Rattle.time_pred.specs.Predicates.{parts_of};
+ghost use Rattle.time_pred.specs.View.{view_pred};
+ghost use Rattle.plan_picture.specs.Predicates.{before_part, closing, interval_text, joined, mark_text, opening, part_text, pred_text};
+
+use crate::texts::push_plain;
+use fixed_text::{TimeMark, write_u64};
+use liq_base::Memory;
+use time_pred::Pred;
+
+/// Appends a predicate, in brackets where it has parts and stands within another.
+#[cycle(pred)]
+pub fn push_pred(into: &mut Vec<u8>, pred: &Pred, within: bool) -> Result<(), Memory>
+    ensures { OnOk result (into.new.items ≡ into.old.items ++ pred_text within (view_pred pred.now)) }
+{
+    match pred {
+        Pred::Always => push_plain(into, b"true"),
+        Pred::Never => push_plain(into, b"false"),
+        Pred::At(mark) => push_mark(into, *mark),
+        Pred::Between(from, to) => push_interval(into, *from, *to),
+        Pred::Not(inner) => {
+            into.extend_from_slice(b"not ")?;
+            push_pred(into, inner, true)
+        }
+        Pred::All(parts) => push_group(into, b" and ", parts, within),
+        Pred::Any(parts) => push_group(into, b" or ", parts, within),
+    }
+}
+
+#[cycle(pred)]
+fn push_group(into: &mut Vec<u8>, word: &[u8], parts: &[Pred], within: bool) -> Result<(), Memory>
+    ensures { OnOk result (into.new.items ≡ into.old.items ++ (opening within ++ (joined word.now 0 (parts_of (map view_pred parts.now)) ++ closing within))) }
+{
+    push_opening(into, within)?;
+    push_parts(into, word, parts)?;
+    push_closing(into, within)
+}
+
+#[cycle(pred)]
+fn push_parts(into: &mut Vec<u8>, word: &[u8], parts: &[Pred]) -> Result<(), Memory>
+    ensures { OnOk result (into.new.items ≡ into.old.items ++ joined word.now 0 (parts_of (map view_pred parts.now))) }
+{
+    for (n, part) in parts.iter().enumerate() {
+        push_before(into, word, n)?;
+        push_pred(into, part, true)?;
+    }
+    Ok(())
+}
+
+fn push_before(into: &mut Vec<u8>, word: &[u8], number: usize) -> Result<(), Memory>
+    ensures { OnOk result (into.new.items ≡ into.old.items ++ before_part word.now number) }
+{
+    if number == 0 {
+        Ok(())
+    } else {
+        push_plain(into, word)
+    }
+}
+
+fn push_opening(into: &mut Vec<u8>, within: bool) -> Result<(), Memory>
+    ensures { OnOk result (into.new.items ≡ into.old.items ++ opening within) }
+{
+    if within {
+        push_plain(into, b"(")
+    } else {
+        Ok(())
+    }
+}
+
+fn push_closing(into: &mut Vec<u8>, within: bool) -> Result<(), Memory>
+    ensures { OnOk result (into.new.items ≡ into.old.items ++ closing within) }
+{
+    if within {
+        push_plain(into, b")")
+    } else {
+        Ok(())
+    }
+}
+
+fn push_interval(into: &mut Vec<u8>, from: TimeMark, to: TimeMark) -> Result<(), Memory>
+    ensures { OnOk result (into.new.items ≡ into.old.items ++ interval_text from to) }
+{
+    push_mark(into, from)?;
+    into.extend_from_slice(b"-")?;
+    push_mark(into, to)
+}
+
+fn push_mark(into: &mut Vec<u8>, mark: TimeMark) -> Result<(), Memory>
+    ensures { OnOk result (into.new.items ≡ into.old.items ++ mark_text mark) }
+{
+    push_two(into, mark.day, b"w", mark.hour, b"h")?;
+    push_two(into, mark.minute, b"m", mark.second, b"s")
+}
+
+fn push_two(
+    into: &mut Vec<u8>,
+    one: Option<u8>,
+    unit: &[u8],
+    other: Option<u8>,
+    other_unit: &[u8],
+) -> Result<(), Memory>
+    ensures { OnOk result (into.new.items ≡ into.old.items ++ (part_text one unit.now ++ part_text other other_unit.now)) }
+{
+    push_part(into, one, unit)?;
+    push_part(into, other, other_unit)
+}
+
+fn push_part(into: &mut Vec<u8>, part: Option<u8>, unit: &[u8]) -> Result<(), Memory>
+    ensures { OnOk result (into.new.items ≡ into.old.items ++ part_text part unit.now) }
+{
+    let Some(number) = part else {
+        return Ok(());
+    };
+    write_u64(into, u64::from(number))?;
+    push_plain(into, unit)
+}
