@@ -49,11 +49,13 @@ fn is_clock_red(
 {
     match clocks {
         Ok(_) => Ok(false),
-        Err(ClockFault::TwoClocks {
-            node,
-            first,
-            second,
-        }) => Ok(either_asks(alloc, first, second, k, op)? || *node as u64 == k),
+        Err(
+            ClockFault::TwoClocks {
+                node,
+                first,
+                second,
+            },
+        ) => Ok(either_asks(alloc, first, second, k, op)? || *node as u64 == k),
         Err(ClockFault::Nested { node }) => Ok(*node as u64 == k),
         Err(ClockFault::TooManyClocks) => Ok(false),
         Err(ClockFault::Memory) => Ok(false),
@@ -200,11 +202,13 @@ fn push_clock_words(
 {
     match clocks {
         Ok(_) => Ok(()),
-        Err(ClockFault::TwoClocks {
-            node,
-            first,
-            second,
-        }) => push_two_clocks(alloc, into, *node as u64 == k, first, second, k, op),
+        Err(
+            ClockFault::TwoClocks {
+                node,
+                first,
+                second,
+            },
+        ) => push_two_clocks(alloc, into, *node as u64 == k, first, second, k, op),
         Err(ClockFault::Nested { node }) => push_nested(into, *node as u64 == k),
         Err(ClockFault::TooManyClocks) => Ok(()),
         Err(ClockFault::Memory) => Ok(()),
@@ -245,10 +249,17 @@ fn push_shared(
 ) -> Result<(), Memory>
     ensures { OnOk result (into.new.items ≡ into.old.items ++ shared_words is_it first.now second.now) }
 {
-    if !is_it {
-        return Ok(());
+    if is_it {
+        push_both(into, first, second)
+    } else {
+        Ok(())
     }
-    into.extend_from_slice(b"\\nE26 under clocks ")?;
+}
+
+fn push_both(into: &mut Vec<u8>, first: &ClockName, second: &ClockName) -> Result<(), Memory>
+    ensures { OnOk result (into.new.items ≡ into.old.items ++ (codes "\\nE26 under clocks " ++ (name_text first.now ++ (codes " and " ++ name_text second.now)))) }
+{
+    push_plain(into, b"\\nE26 under clocks ")?;
     push_names(into, first, second)
 }
 
@@ -279,7 +290,11 @@ fn push_asking_words(
 ) -> Result<(), Memory>
     ensures { OnOk result (into.new.items ≡ into.old.items ++ asking_words asks k op.now) }
 {
-    if asks { push_asking(alloc, into, k, op) } else { Ok(()) }
+    if asks {
+        push_asking(alloc, into, k, op)
+    } else {
+        Ok(())
+    }
 }
 
 fn push_asking(alloc: Global, into: &mut Vec<u8>, k: u64, op: &Op) -> Result<(), Memory>

@@ -27,7 +27,17 @@ pub fn push_nodes(
 {
     for (k, node) in nodes.iter().enumerate() {
         let red = is_red(alloc, silent, reds, clocks, k, &node.op)?;
-        push_node(alloc, into, plan, silent, clocks, k as u64, node, mark(marks, k), red)?;
+        push_node(
+            alloc,
+            into,
+            plan,
+            silent,
+            clocks,
+            k as u64,
+            node,
+            mark(marks, k),
+            red,
+        )?;
     }
     Ok(())
 }
@@ -104,7 +114,10 @@ fn push_red(into: &mut Vec<u8>, red: bool) -> Result<(), Memory>
     ensures { OnOk result (into.new.items ≡ into.old.items ++ red_style red) }
 {
     if red {
-        push_plain(into, b", color=\"#b3261e\", penwidth=2.2, fontcolor=\"#b3261e\"")
+        push_plain(
+            into,
+            b", color=\"#b3261e\", penwidth=2.2, fontcolor=\"#b3261e\"",
+        )
     } else {
         Ok(())
     }
@@ -137,9 +150,15 @@ fn push_sheet_style(into: &mut Vec<u8>, infallible: bool) -> Result<(), Memory>
     ensures { OnOk result (into.new.items ≡ into.old.items ++ sheet infallible) }
 {
     if infallible {
-        push_plain(into, b" [shape=note, margin=\"0.16,0.08\", style=\"filled\"")
+        push_plain(
+            into,
+            b" [shape=note, margin=\"0.16,0.08\", style=\"filled\"",
+        )
     } else {
-        push_plain(into, b" [shape=note, margin=\"0.16,0.08\", style=\"filled,dashed\"")
+        push_plain(
+            into,
+            b" [shape=note, margin=\"0.16,0.08\", style=\"filled,dashed\"",
+        )
     }
 }
 

@@ -69,7 +69,16 @@ fn push_picture(
 {
     let silent = refused.is_some();
     push_beginning(into)?;
-    push_nodes(alloc, into, plan, plan.nodes.as_slice(), marks, silent, red, clocks)?;
+    push_nodes(
+        alloc,
+        into,
+        plan,
+        plan.nodes.as_slice(),
+        marks,
+        silent,
+        red,
+        clocks,
+    )?;
     push_edges(into, plan.nodes.as_slice(), silent, red, clocks)?;
     push_rest(into, plan, marks, refused, silent, clocks)
 }
@@ -93,6 +102,8 @@ fn push_rest(
 fn push_beginning(into: &mut Vec<u8>) -> Result<(), Memory>
     ensures { OnOk result (into.new.items ≡ into.old.items ++ beginning) }
 {
-    into.extend_from_slice(b"digraph station {\nrankdir=LR; bgcolor=\"#ffffff\"; fontname=\"DejaVu Sans,Helvetica,sans-serif\"; fontsize=12; labeljust=l; nodesep=0.25; ranksep=0.5;\nnode [shape=box, style=\"filled,rounded\", fillcolor=\"#ffffff\", color=\"#3a4450\", fontname=\"DejaVu Sans,Helvetica,sans-serif\", fontsize=11, margin=\"0.12,0.06\", height=0.4];\nedge [color=\"#3a4450\", fontname=\"DejaVu Sans,Helvetica,sans-serif\", fontsize=9, arrowsize=0.7];\n")?;
+    into.extend_from_slice(
+        b"digraph station {\nrankdir=LR; bgcolor=\"#ffffff\"; fontname=\"DejaVu Sans,Helvetica,sans-serif\"; fontsize=12; labeljust=l; nodesep=0.25; ranksep=0.5;\nnode [shape=box, style=\"filled,rounded\", fillcolor=\"#ffffff\", color=\"#3a4450\", fontname=\"DejaVu Sans,Helvetica,sans-serif\", fontsize=11, margin=\"0.12,0.06\", height=0.4];\nedge [color=\"#3a4450\", fontname=\"DejaVu Sans,Helvetica,sans-serif\", fontsize=9, arrowsize=0.7];\n",
+    )?;
     Ok(())
 }

@@ -51,19 +51,31 @@ fn push_parts(into: &mut Vec<u8>, word: &[u8], parts: &[Pred]) -> Result<(), Mem
 fn push_before(into: &mut Vec<u8>, word: &[u8], number: usize) -> Result<(), Memory>
     ensures { OnOk result (into.new.items ≡ into.old.items ++ before_part word.now number) }
 {
-    if number == 0 { Ok(()) } else { push_plain(into, word) }
+    if number == 0 {
+        Ok(())
+    } else {
+        push_plain(into, word)
+    }
 }
 
 fn push_opening(into: &mut Vec<u8>, within: bool) -> Result<(), Memory>
     ensures { OnOk result (into.new.items ≡ into.old.items ++ opening within) }
 {
-    if within { push_plain(into, b"(") } else { Ok(()) }
+    if within {
+        push_plain(into, b"(")
+    } else {
+        Ok(())
+    }
 }
 
 fn push_closing(into: &mut Vec<u8>, within: bool) -> Result<(), Memory>
     ensures { OnOk result (into.new.items ≡ into.old.items ++ closing within) }
 {
-    if within { push_plain(into, b")") } else { Ok(()) }
+    if within {
+        push_plain(into, b")")
+    } else {
+        Ok(())
+    }
 }
 
 fn push_interval(into: &mut Vec<u8>, from: TimeMark, to: TimeMark) -> Result<(), Memory>

@@ -36,7 +36,8 @@ fn is_to_blame(nodes: &[Node], reds: &[bool], marks: &[bool], refused: u32, k: u
     requires size { length reds.now ≡ length nodes.now }
     ensures { result ≡ is_to_blame (mark_at marks.now) refused k (drop (k + 1) nodes.now) (drop (k + 1) reds.now) }
 {
-    k as u64 == refused as u64 || !mark(marks, k) && is_needed(&nodes[k + 1..], &reds[k + 1..], k as u64)
+    k as u64 == refused as u64
+        || !mark(marks, k) && is_needed(&nodes[k + 1..], &reds[k + 1..], k as u64)
 }
 
 // Whether some red source needs this child.

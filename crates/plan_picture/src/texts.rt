@@ -29,12 +29,7 @@ pub fn push_between(
 }
 
 /// Appends a name, escaped, between two texts.
-pub fn push_quoted(
-    into: &mut Vec<u8>,
-    text: &[u8],
-    name: &str,
-    behind: &[u8],
-) -> Result<(), Memory>
+pub fn push_quoted(into: &mut Vec<u8>, text: &[u8], name: &str, behind: &[u8]) -> Result<(), Memory>
     ensures { OnOk result (into.new.items ≡ into.old.items ++ (text.now ++ escaped name.now ++ behind.now)) }
 {
     into.extend_from_slice(text)?;
