@@ -28,6 +28,16 @@ more_red mark refused nodes reds k d red here size so_far is =
     ∙ ap (λ (n : ℕ). is_to_blame mark refused k (drop n nodes) (reds_from mark refused n (drop n nodes)) ∷ reds_from mark refused n (drop n nodes)) next
     ∙ sym (ap (reds_from mark refused k) (drop-cons nodes k d here))
 
+-- the same, where the number of the source before is given
+pub one_more_red : (mark : ℕ → Bool) (refused : ℕ) (nodes : List Node) (reds : List Bool) (n k : ℕ) (red : Bool) → n ≡ k + 1 → k < length nodes → length reds ≡ length nodes
+    → drop n reds ≡ reds_from mark refused n (drop n nodes)
+    → red ≡ is_to_blame mark refused k (drop (k + 1) nodes) (drop (k + 1) reds)
+    → drop k (set reds k red) ≡ reds_from mark refused k (drop k nodes)
+one_more_red mark refused [] reds n k red next here size so_far is = absurd (omega arith)
+one_more_red mark refused (node ∷ nodes) reds n k red next here size so_far is =
+    more_red mark refused (node ∷ nodes) reds k node red here size
+    (ap (λ (m : ℕ). drop m reds) (sym next) ∙ so_far ∙ ap (λ (m : ℕ). reds_from mark refused m (drop m (node ∷ nodes))) next) is
+
 -- whether a red source needs a child
 abbrev pub asks_for : (child : ℕ) → Node × Bool → Bool
 asks_for child pair = pair.1 && needs (pair.0).op (pair.0).children child

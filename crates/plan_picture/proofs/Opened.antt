@@ -1,7 +1,7 @@
 -- A region within the one above it.
 use Rattle.std.proofs.Common.{◌≡◌, ℕ, suc, List, ◌++◌, codes, decimal, ap}
 use Rattle.clock_infer.specs.declared.clock_map.NodeClock.{NodeClock}
-use Rattle.clock_infer.specs.declared.clock_map.NodeClock.TheVariants.{Main, Sub}
+use Rattle.clock_infer.specs.declared.clock_map.NodeClock.TheVariants.{Sub}
 use Rattle.plan_picture.specs.Regions.{clock_of, closing, opening}
 
 pub open_more : (of : List NodeClock) (levels n k : ℕ) → levels ≡ suc n

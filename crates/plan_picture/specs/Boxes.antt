@@ -1,5 +1,5 @@
 -- The boxes: sources and outputs.
-use Rattle.std.specs.Prelude.{ℕ, Bool, true, false, Option, Some, None, List, [], ◌++◌, codes, decimal, nat_eq, Result}
+use Rattle.std.specs.Prelude.{ℕ, Bool, true, false, Option, List, [], ◌++◌, codes, decimal, nat_eq, Result}
 use Rattle.std.specs.Option.{option_map_or}
 use Rattle.plan_core.specs.declared.node.Node.{Node}
 use Rattle.plan_core.specs.declared.plan.Plan.{Plan}

@@ -1,10 +1,10 @@
 -- The edges: from a source to the one that plays it, to an output, and through a buffer.
-use Rattle.std.specs.Prelude.{ℕ, ◌+◌, ◌*◌, Bool, true, false, Option, Some, None, List, [], ◌++◌, codes, decimal, length, nat_eq, nat_lt, slice_get, if◌then◌else◌, Result}
+use Rattle.std.specs.Prelude.{ℕ, ◌+◌, ◌*◌, Bool, true, false, Option, List, [], ◌++◌, codes, decimal, length, nat_eq, nat_lt, slice_get, Result}
 use Rattle.std.specs.Option.{option_map_or}
 use Rattle.time_pred.specs.Predicates.{Predicate}
 use Rattle.plan_core.specs.declared.node.Node.{Node}
 use Rattle.plan_core.specs.declared.node.Op.{Op}
-use Rattle.plan_core.specs.declared.node.Op.TheVariants.{Single, Playlist, Blank, Square, Fail, Fallback, Switch, Sequence, Rotate, Random, Add, Amplify, Mean, Stereo, Crossfade, Buffer, Clock}
+use Rattle.plan_core.specs.declared.node.Op.TheVariants.{Switch, Add}
 use Rattle.plan_core.specs.declared.plan.Plan.{Plan}
 use Rattle.plan_core.specs.declared.sink.BufferPlan.{BufferPlan}
 use Rattle.plan_core.specs.declared.sink.SinkPlan.{SinkPlan}

@@ -1,5 +1,5 @@
 -- Numbers with a point, and lengths in seconds.
-use Rattle.std.specs.Prelude.{ℕ, zero, suc, ◌*◌, ◌/◌, ◌%◌, ◌&&◌, max, ℤ, pos, negsuc, List, [], ◌++◌, codes, decimal, nat_eq, if◌then◌else◌}
+use Rattle.std.specs.Prelude.{ℕ, zero, suc, ◌*◌, ◌/◌, ◌%◌, ◌&&◌, ℤ, pos, negsuc, List, [], ◌++◌, codes, decimal, nat_eq, if◌then◌else◌}
 
 -- at most so many further digits of a part of one in millionths, without zeros at the end
 abbrev pub further : (places millionths : ℕ) → List ℕ

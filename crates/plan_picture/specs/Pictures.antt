@@ -1,5 +1,5 @@
 -- The picture of a plan.
-use Rattle.std.specs.Prelude.{ℕ, Bool, true, false, Option, Some, None, List, [], ◌++◌, codes, Result}
+use Rattle.std.specs.Prelude.{ℕ, Bool, Option, Some, None, List, [], ◌++◌, codes, Result}
 use Rattle.std.specs.Option.{is_some}
 use Rattle.plan_core.specs.declared.plan.Plan.{Plan}
 use Rattle.clock_infer.specs.declared.clock_map.ClockMap.{ClockMap}

@@ -1,11 +1,10 @@
 -- The clocks: each a region with its sources and outputs.
-use Rattle.std.specs.Prelude.{ℕ, zero, suc, ◌%◌, Bool, true, false, List, [], ◌∷◌, ◌++◌, codes, decimal, nat_eq, nat_lt, slice_index_or, if◌then◌else◌, Result, Ok, Err}
+use Rattle.std.specs.Prelude.{ℕ, zero, suc, ◌%◌, Bool, true, false, List, [], ◌++◌, codes, decimal, nat_eq, nat_lt, slice_index_or, if◌then◌else◌, Result, Ok, Err}
 use Rattle.plan_core.specs.declared.node.Node.{Node}
 use Rattle.plan_core.specs.declared.plan.Plan.{Plan}
 use Rattle.plan_core.specs.declared.sink.SinkPlan.{SinkPlan}
 use Rattle.plan_core.specs.declared.sink.SinkPlan.TheVariants.{Output, Feed}
 use Rattle.clock_infer.specs.declared.clock_map.ClockMap.{ClockMap}
-use Rattle.clock_infer.specs.declared.clock_map.ClockName.{ClockName}
 use Rattle.clock_infer.specs.declared.clock_map.ClockFault.{ClockFault}
 use Rattle.clock_infer.specs.declared.clock_map.ClockFault.TheVariants.{TwoClocks, Nested, TooManyClocks, Memory}
 use Rattle.clock_infer.specs.declared.clock_map.NodeClock.{NodeClock}
@@ -50,14 +49,18 @@ main_style clock = codes "\"; style=\"filled,rounded\"; color=\"#8a949e\"; fonts
 abbrev pub main_rest : (running clock : ℕ) → (name : List ℕ) → List ℕ
 main_rest running clock name = escaped name ++ (idle_words (nat_lt clock running) ++ main_style clock)
 
+-- how the region of a main clock begins
+unfoldable pub main_front : (clock : ℕ) → List ℕ
+main_front clock = codes "subgraph cluster_main" ++ decimal clock ++ codes " { label=\"clock "
+
 -- the region of a main clock
 abbrev pub main_region : (running clock : ℕ) → (name : List ℕ) → List ℕ
-main_region running clock name = (codes "subgraph cluster_main" ++ decimal clock ++ codes " { label=\"clock ") ++ main_rest running clock name
+main_region running clock name = main_front clock ++ main_rest running clock name
 
 abbrev pub named_regions : (running : ℕ) → (names : List (List ℕ)) → List ℕ
 named_regions running names = numbered (main_region running) 0 names
 
-abbrev pub sub_label : (k : ℕ) → List ℕ
+unfoldable pub sub_label : (k : ℕ) → List ℕ
 sub_label k = codes "label=\"own clock of crossfade " ++ decimal k ++ codes "\"; style=\"filled,rounded\"; color=\"#8a949e\"; fontsize=11; fillcolor=\"#ffffff80\";"
 
 -- the region of a crossfade's own clock

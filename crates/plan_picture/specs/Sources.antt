@@ -1,5 +1,5 @@
 -- What stands in the box of a source.
-use Rattle.std.specs.Prelude.{ℕ, max, Bool, nat_eq, if◌then◌else◌, true, false, Option, Some, None, List, [], ◌∷◌, ◌++◌, codes, decimal, slice_get}
+use Rattle.std.specs.Prelude.{ℕ, max, Bool, nat_eq, if◌then◌else◌, true, false, List, [], ◌++◌, codes, decimal, slice_get}
 use Rattle.std.specs.Option.{option_map_or}
 use Rattle.plan_core.specs.declared.node.Op.{Op}
 use Rattle.plan_core.specs.declared.node.Op.TheVariants.{Single, Playlist, Blank, Square, Fail, Fallback, Switch, Sequence, Rotate, Random, Add, Amplify, Mean, Stereo, Crossfade, Buffer, Clock}

@@ -249,10 +249,17 @@ fn push_shared(
 ) -> Result<(), Memory>
     ensures { OnOk result (into.new.items ≡ into.old.items ++ shared_words is_it first.now second.now) }
 {
-    if !is_it {
-        return Ok(());
+    if is_it {
+        push_both(into, first, second)
+    } else {
+        Ok(())
     }
-    into.extend_from_slice(b"\\nE26 under clocks ")?;
+}
+
+fn push_both(into: &mut Vec<u8>, first: &ClockName, second: &ClockName) -> Result<(), Memory>
+    ensures { OnOk result (into.new.items ≡ into.old.items ++ (codes "\\nE26 under clocks " ++ (name_text first.now ++ (codes " and " ++ name_text second.now)))) }
+{
+    push_plain(into, b"\\nE26 under clocks ")?;
     push_names(into, first, second)
 }
 

@@ -1,10 +1,10 @@
-use Rattle.std.proofs.Common.{ℕ, List, Bool, ◌++◌, codes, decimal, length, get_or, take, sym, ap, ◌∙◌, append_assoc}
+use Rattle.std.proofs.Common.{ℕ, List, Bool, ◌++◌, take, sym, ap, ◌∙◌, append_assoc}
 use Rattle.plan_core.specs.declared.node.Node.{Node}
 use Rattle.fallible_infer.specs.Infallible.{mark_at}
 use Rattle.plan_picture.specs.Blames.{node_red}
 use Rattle.plan_picture.specs.Boxes.{node_box}
 use Rattle.plan_picture.specs.Texts.{numbered}
-use Rattle.plan_picture.proofs.Numbering.{more, more_or}
+use Rattle.plan_picture.proofs.Numbering.{more}
 use Rattle.plan_picture.proofs.boxes.push_nodes.Goals as goal
 
 pub loop-k-preserved : goal.loop-k-preserved
@@ -13,8 +13,8 @@ loop-k-preserved c =
     let xs : List Node = c.args.nodes.now in
     let i : ℕ = c.loop-k.k in
     c.in_ok-push_node.ensures
-    ∙ ap (λ (b : Bool). c.loop-k.into.items ++ node_box c.args.plan.now c.args.silent c.args.clocks.now i c.index-nodes-k.result b c.in_ok-is_red.field-0) c.mark.ensures
-    ∙ ap (λ (b : Bool). c.loop-k.into.items ++ node_box c.args.plan.now c.args.silent c.args.clocks.now i c.index-nodes-k.result (mark_at c.args.marks.now i) b) c.in_ok-is_red.ensures
+    ∙ ap (λ (b : Bool). c.loop-k.into.items ++ node_box c.args.plan.now c.args.silent c.args.clocks.now i c.index-nodes-k.result b c.in_ok-red.red) c.mark.ensures
+    ∙ ap (λ (b : Bool). c.loop-k.into.items ++ node_box c.args.plan.now c.args.silent c.args.clocks.now i c.index-nodes-k.result (mark_at c.args.marks.now i) b) c.in_ok-red.ensures
     ∙ ap (λ (t : List ℕ). t ++ text i c.index-nodes-k.result) c.loop-k.invariant
     ∙ append_assoc c.args.into.now.items (numbered text 0 (take i xs)) (text i c.index-nodes-k.result)
     ∙ ap (λ (t : List ℕ). c.args.into.now.items ++ t) (sym (more text xs i c.index-nodes-k.result c.loop-k-test.true c.index-nodes-k.is))

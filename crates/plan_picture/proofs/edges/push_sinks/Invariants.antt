@@ -1,4 +1,4 @@
-use Rattle.std.proofs.Common.{◌≡◌, ◌++◌, take, length}
+use Rattle.std.proofs.Common.{◌≡◌, ◌++◌, take}
 use Rattle.plan_picture.specs.Texts.{numbered}
 use Rattle.fallible_infer.specs.Infallible.{mark_at}
 use Rattle.plan_picture.specs.Edges.{sink_text}

@@ -1,4 +1,4 @@
-use Rattle.std.proofs.Common.{rules, arith, ℕ, List, ◌∷◌, [], ◌++◌, take, map, sym, ap, ◌∙◌, append_assoc, Bool, true}
+use Rattle.std.proofs.Common.{rules, arith, ℕ, List, ◌++◌, take, sym, ap, ◌∙◌, append_assoc, true}
 use Rattle.time_pred.specs.declared.pred.Pred.{Pred}
 use Rattle.time_pred.specs.View.{view_pred}
 use Rattle.plan_picture.specs.Texts.{numbered}

@@ -1,4 +1,4 @@
-use Rattle.std.proofs.Common.{◌≡◌, ◌++◌, take, length}
+use Rattle.std.proofs.Common.{◌≡◌, ◌++◌, take}
 use Rattle.plan_picture.specs.Texts.{numbered}
 use Rattle.std.proofs.Common.{codes, decimal}
 use Rattle.plan_picture.specs.Regions.{within}
