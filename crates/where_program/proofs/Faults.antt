@@ -1,5 +1,5 @@
 -- A text with a fault has no plan.
-use Rattle.std.proofs.Common.{◌≡◌, ◌≢◌, ◌≤◌, ℕ, List, length, Option, None, Result, Ok, Err, absurd}
+use Rattle.std.proofs.Common.{◌≡◌, ◌≢◌, ◌≤◌, ℕ, List, length, Option, None, Result, Ok, Err}
 use Rattle.std.specs.Prelude.{IfOk}
 use Rattle.plan_core.specs.declared.plan.Plan.{Plan}
 use Rattle.script_plan.specs.declared.fault.ScriptFault.{ScriptFault}
