@@ -22,9 +22,9 @@ cause_at text name plan marks output source (Some at) is_plan are_marks named le
   output_is = named;
   source = source;
   leads = led.0;
-  node = led.1;
-  node_is = led.2;
-  alone = led.3;
+  node = led.1.0;
+  node_is = led.1.1;
+  alone = led.1.2;
   place = place;
 }
 cause_at text name plan marks output source None is_plan are_marks named led place = tt
