@@ -5,20 +5,20 @@ use Rattle.std.specs.Cmp.Lexicographic.{slice_cmp, nat_list_cmp_total, texts_tie
 use Rattle.std.specs.FinMap.{from_entries, get-from_entries, find}
 use Rattle.std.specs.declared.alloc.Global.{Global}
 use Rattle.std.proofs.Common.{sym, ap, ◌∙◌}
-use Rattle.liq_base.specs.Files.{Files, file_at}
+use Rattle.liq_base.specs.Files.{Closing, Files, file_at}
 use Rattle.std.specs.Str.{bytes_eq}
 use Rattle.liq_base.specs.declared.closed.Closed.{Closed, End, File', Lost'}
 
 abbrev pub entries : Closed → List (List ℕ × List ℕ)
 entries End = []
-entries (File' p name bytes next) = (string_bytes name, bytes.items) ∷ entries next
-entries (Lost' p name bytes next) = entries next
+entries (File' p name bytes pieces next) = (string_bytes name, bytes.items) ∷ entries next
+entries (Lost' p name bytes pieces next) = entries next
 
--- the names of the sinks that were closed, the newest last
-abbrev pub closed_names : Closed → List (List ℕ)
-closed_names End = []
-closed_names (File' p name bytes next) = closed_names next ++ string_bytes name ∷ []
-closed_names (Lost' p name bytes next) = closed_names next ++ string_bytes name ∷ []
+-- the name and the pieces of each sink that was closed, the newest last
+abbrev pub closings : Closed → List Closing
+closings End = []
+closings (File' p name bytes pieces next) = closings next ++ record { name = string_bytes name; pieces = pieces } ∷ []
+closings (Lost' p name bytes pieces next) = closings next ++ record { name = string_bytes name; pieces = pieces } ∷ []
 
 abbrev pub stored : List ℕ → List (List ℕ × List ℕ) → Option (List ℕ)
 stored name [] = None

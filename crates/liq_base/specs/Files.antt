@@ -37,7 +37,12 @@ abbrev pub ClosedPart : Option Files → Option (List ℕ) → Option (List ℕ)
 ClosedPart before name held after =
     ForSome before (λ files. ForSome name (λ n. ForSome held (λ bytes. IsSomeAnd after (HoldsPart files n bytes))))
 
--- what a shelf tells of the names of the sinks that it made, after one more
-abbrev pub noted : List ℕ → Option (List (List ℕ)) → Option (List (List ℕ))
-noted name None = None
-noted name (Some names) = Some (names ++ name ∷ [])
+-- what a shelf tells of a sink that was closed: its name, and how many pieces it had got
+pub record Closing : Type 0 where
+  pub name : List ℕ
+  pub pieces : ℕ
+
+-- what a shelf tells of the names of the sinks that it made, or of those that were closed, after one more
+abbrev pub noted : {A : Type 0} → A → Option (List A) → Option (List A)
+noted item None = None
+noted item (Some items) = Some (items ++ item ∷ [])

@@ -3,7 +3,7 @@ use Rattle.std.specs.Prelude.{ℕ, refl, Bool, ◌||◌, ◌==◌, List, [], ◌
 use Rattle.std.specs.List.{list_any}
 use Rattle.std.specs.Coded.{Coded, code_by, coded×, coded_ℕ, coded_list}
 use Rattle.std.specs.FinMap as map
-use Rattle.liq_base.specs.Files.{Files, file_at, with_file}
+use Rattle.liq_base.specs.Files.{Closing, Files, file_at, with_file}
 use Rattle.liq_base.specs.SinkStates.{one_more, empty_sink, NamedState}
 use Rattle.liq_base.specs.declared.shelf.Fetched.{Fetched}
 use Rattle.liq_base.specs.declared.shelf.Fetched.TheVariants.{Found, Missing, TooLarge}
@@ -19,11 +19,11 @@ is_listed calls call = list_any (λ listed. listed == call) calls
 abbrev pub raised : ℕ → Bool → ℕ
 raised count failed = if failed then one_more count else count
 
--- the files, and the names of the sinks that were made and of those that were closed, in their order; the reads, creations and closings so far; those that are listed to fail, and the appends; the two counts of faults
+-- the files, the names of the sinks that were made, and what is told of those that were closed, in their order; the reads, creations and closings so far; those that are listed to fail, and the appends; the two counts of faults
 pub record ShelfState : Type 0 where
   pub files : Files
   pub created : List (List ℕ)
-  pub closed : List (List ℕ)
+  pub closed : List Closing
   pub reads : ℕ
   pub creates : ℕ
   pub closes : ℕ
@@ -37,14 +37,17 @@ pub record ShelfState : Type 0 where
 abbrev pub files_code : Coded Files
 files_code = map.code (coded_list coded_ℕ) (coded_list coded_ℕ)
 
+abbrev closing_code : Coded Closing
+closing_code = code_by (List ℕ × ℕ) (coded× (coded_list coded_ℕ) coded_ℕ) (λ c. (c.name, c.pieces)) (λ p. record { name = p.0; pieces = p.1 }) (λ _. refl)
+
 abbrev append_code : Coded FailingAppend
 append_code = code_by (ℕ × (ℕ × ℕ)) (coded× coded_ℕ (coded× coded_ℕ coded_ℕ)) (λ f. (f.sink, (f.call, f.taken))) (λ p. record { sink = p.0; call = p.1.0; taken = p.1.1 }) (λ _. refl)
 
 -- a shelf is stored as its files, the calls made, those listed, and the counts of faults
 abbrev pub shelf_code : Coded ShelfState
 shelf_code =
-    code_by ((Files × (List (List ℕ) × List (List ℕ))) × ((ℕ × (ℕ × ℕ)) × ((List ℕ × (List ℕ × (List ℕ × List FailingAppend))) × (ℕ × ℕ))))
-    (coded× (coded× files_code (coded× (coded_list (coded_list coded_ℕ)) (coded_list (coded_list coded_ℕ)))) (coded× (coded× coded_ℕ (coded× coded_ℕ coded_ℕ))
+    code_by ((Files × (List (List ℕ) × List Closing)) × ((ℕ × (ℕ × ℕ)) × ((List ℕ × (List ℕ × (List ℕ × List FailingAppend))) × (ℕ × ℕ))))
+    (coded× (coded× files_code (coded× (coded_list (coded_list coded_ℕ)) (coded_list closing_code))) (coded× (coded× coded_ℕ (coded× coded_ℕ coded_ℕ))
     (coded× (coded× (coded_list coded_ℕ) (coded× (coded_list coded_ℕ) (coded× (coded_list coded_ℕ) (coded_list append_code)))) (coded× coded_ℕ coded_ℕ))))
     (λ s. (
       (s.files, (s.created, s.closed)),
@@ -132,7 +135,7 @@ files_after failed files out = if failed then files else with_file files out.nam
 abbrev pub after_close : ShelfState → NamedState → ShelfState
 after_close shelf out = record shelf {
   files = files_after (close_fails shelf) shelf.files out;
-  closed = shelf.closed ++ out.name ∷ [];
+  closed = shelf.closed ++ record { name = out.name; pieces = out.sink.calls } ∷ [];
   closes = one_more shelf.closes;
   write_faults = raised shelf.write_faults (close_fails shelf || nat_lt 0 out.sink.faults);
 }

@@ -15,8 +15,8 @@ use std::alloc::Global;
 use std::marker::Model;
 use std::mem;
 
-/// A shelf in memory. It tells its files and the names of the sinks that it made and closed, and its sinks tell their bytes, name, room left
-/// and number of appends.
+/// A shelf in memory. It tells its files, the names of the sinks that it made, and which it closed; its sinks tell their
+/// bytes, name, room left and number of appends.
 ///
 /// Reads, creations and closings are each counted from 0 since the shelf was made, the appends of
 /// a sink from 0 since its creation. A call fails exactly where it is listed. The read count rises
@@ -50,7 +50,7 @@ struct FailingAppend {
 
 impl Model for MemShelf {
     ghost use Rattle.std.specs.Prelude.{map, string_bytes};
-    ghost use Rattle.liq_base.specs.Entries.{files_of, closed_names};
+    ghost use Rattle.liq_base.specs.Entries.{files_of, closings};
     ghost use Rattle.liq_base.specs.ShelfStates.{ShelfState, shelf_code};
 
     ghost Value = { ShelfState };
@@ -60,7 +60,7 @@ impl Model for MemShelf {
     ghost view = { λ s. record {
       files = files_of s.closed s.given.items;
       created = map string_bytes s.created.items;
-      closed = closed_names s.closed;
+      closed = closings s.closed;
       reads = s.reads;
       creates = s.creates;
       closes = s.closes;
@@ -230,7 +230,7 @@ impl Shelf for MemShelf {
         ensures answer { is_ok result ≡ not (close_fails self.old) }
         ensures closed { OnOk result (ClosedAs (Some self.old.files) (Some out.name) (named_held out) (Some self.new.files)) }
         ensures part { OnErr result (ClosedPart (Some self.old.files) (Some out.name) (named_held out) (Some self.new.files)) }
-        ensures listed { Some self.new.closed ≡ noted out.name (Some self.old.closed) }
+        ensures listed { Some self.new.closed ≡ noted (record { name = out.name; pieces = out.sink.calls }) (Some self.old.closed) }
         ensures cause { OnErr result (Rose self.old.write_faults self.new.write_faults) }
         ensures failed_sink { 0 < out.sink.faults → Rose self.old.write_faults self.new.write_faults }
         ensures reads { self.old.read_faults ≤ self.new.read_faults }

@@ -62,6 +62,13 @@ impl MemSink {
         self.faults
     }
 
+    /// How many pieces were handed to it, at most as many as a `u64` counts.
+    pub(crate) fn calls(&self) -> u64
+        ensures { result ≡ self.now.calls }
+    {
+        self.calls
+    }
+
     /// The bytes that were taken, with their memory.
     pub(crate) fn into_bytes(self) -> Vec<u8>
         ensures { result.items ≡ self.held }

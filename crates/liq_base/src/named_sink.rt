@@ -55,10 +55,12 @@ impl NamedSink {
     pub(crate) fn into_entry(self) -> Box<Entry>
         ensures name { string_bytes result.value.name ≡ self.name }
         ensures bytes { result.value.bytes.items ≡ self.sink.held }
+        ensures pieces { result.value.pieces ≡ self.sink.calls }
     {
         let NamedSink { name, sink, entry } = self;
         let mut entry = entry;
         entry.name = name;
+        entry.pieces = sink.calls();
         entry.bytes = sink.into_bytes();
         entry
     }

@@ -2,7 +2,7 @@
 ghost use Rattle.std.specs.Prelude.{◌≡◌, ◌≢◌, ◌≤◌, ◌<◌, ℕ, [], List, length, Option, IsSome, is_some, IsSomeAnd, IfOk, OnOk, OnErr, IsErrOf, Ok, Some, None};
 ghost use Rattle.std.specs.Option.{ForSome};
 ghost use Rattle.liq_base.specs.Counts.{Rose};
-ghost use Rattle.liq_base.specs.Files.{Files, Found, Closed, ClosedPart, file_at, noted};
+ghost use Rattle.liq_base.specs.Files.{Files, Found, Closed, ClosedPart, Closing, file_at, noted};
 
 use crate::{Failed, Memory, Sink};
 use std::fmt;
@@ -60,8 +60,9 @@ pub trait Shelf {
     /// The names of the sinks that it made, in their order, where it tells them.
     ghost created: { Self → Option (List (List ℕ)) };
 
-    /// The names of the sinks that were closed, in their order, where it tells them: also of those whose closing failed.
-    ghost closed: { Self → Option (List (List ℕ)) };
+    /// The names of the sinks that were closed and how many pieces each had got, in their order, where it tells them: also of those
+    /// whose closing failed.
+    ghost closed: { Self → Option (List Closing) };
 
     /// How often a read failed, as the value of a `u64`. It never falls.
     ghost read_count: { Self → ℕ };
@@ -97,7 +98,7 @@ pub trait Shelf {
         ensures noted { OnOk result (created self.new ≡ noted name.now (created self.old)) }
         ensures unnoted { OnErr result (created self.new ≡ created self.old) }
         ensures closed { closed self.new ≡ closed self.old }
-        ensures named { IfOk result (λ out. IsSome (closed self.old) → IsSome (Self.Out.name out)) }
+        ensures named { IfOk result (λ out. IsSome (closed self.old) → IsSome (Self.Out.name out) × IsSome (Self.Out.appends out)) }
         ensures files { files self.new ≡ files self.old }
         ensures reads { read_count self.old ≤ read_count self.new }
         ensures writes { write_count self.old ≤ write_count self.new };
@@ -109,7 +110,8 @@ pub trait Shelf {
         ensures part { OnErr result (ClosedPart (files self.old) (Self.Out.name out) (Self.Out.held out) (files self.new)) }
         ensures tells { is_some (files self.new) ≡ is_some (files self.old) }
         ensures created { created self.new ≡ created self.old }
-        ensures listed { ForSome (Self.Out.name out) (λ name. closed self.new ≡ noted name (closed self.old)) }
+        ensures listed { ForSome (Self.Out.name out) (λ name. ForSome (Self.Out.appends out) (λ pieces.
+            closed self.new ≡ noted (record { name = name; pieces = pieces }) (closed self.old))) }
         ensures cause { OnErr result (Rose (write_count self.old) (write_count self.new)) }
         ensures failed_sink { 0 < Self.Out.faults out → Rose (write_count self.old) (write_count self.new) }
         ensures reads { read_count self.old ≤ read_count self.new }
