@@ -11,7 +11,7 @@ use Rattle.track_library.proofs.Ending.{ends_through}
 use Rattle.track_library.proofs.Leaves.{LeavesSoFar, one_leaf_more}
 use Rattle.track_library.proofs.OneFile.{SinglesSoFar, all_singles, one_single_more}
 use Rattle.track_library.proofs.Steps.{next_node_of, nodes_end, items_pushed, next_node_reads, later_node_reads}
-use Rattle.track_library.proofs.walk.load.Goals as goal
+use Rattle.track_library.proofs.walk.find_files.Goals as goal
 
 pub returns-in_err-leaf-clause-fault : goal.returns-in_err-leaf-clause-fault
 returns-in_err-leaf-clause-fault g c =
@@ -74,5 +74,5 @@ loop-node-preserved g c =
 pub returns-clause-singles : goal.returns-clause-singles
 returns-clause-singles g c =
     let leaves = map (λ (v : Vec ℕ Global). v.items) c.loop-node.leaves.items in
-    subst (λ (ls : List (List ℕ)). HaveSingles c.args.plan.now.nodes ls) (sym (ap (λ (s : Sounds). s.leaves) c.into_library.ensures.same))
+    subst (λ (ls : List (List ℕ)). HaveSingles c.args.plan.now.nodes ls) (sym (ap (λ (s : Sounds). s.leaves) c.into_files.ensures.same))
     (all_singles c.as_slice-node-items.result.now c.args.plan.now.nodes c.loop-node.node-index leaves c.as_slice-node-items.ensures (λ low. omega (arith, low, c.loop-node-test.false)) c.loop-node.invariant.7)
