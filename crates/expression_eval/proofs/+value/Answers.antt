@@ -34,215 +34,215 @@ use Rattle.expression_eval.proofs.Loops.{turn, stops, ends, fails_on}
 use Rattle.expression_eval.proofs.Productions.{expr_means, conj_means, sum_means, product_means, call_means, ors_steps, ands_steps, addeds_steps, multiplieds_steps, fulls_steps, arguments_steps, inners_steps, parameters_steps, with_last, with_slot, from_both, went, slot_went, ors_none, ands_none, addeds_none, multiplieds_none, fulls_none, arguments_none, inners_none, parameters_none, first_fails, pair_means, as_list, as_tuple, not_means, plain_means, alone_means, compared_means, argued_means, call_counted, choice_counted, paren_counted, tuple_counted, list_counted, calls_end, calls_turn}
 use Rattle.expression_eval.proofs.Putting.{behind_gives, choice_fails, choice_goes, compare_stops, failed_gives, failed_means, failed_same, failed_stops, full_same, gives_same, goes_means, goes_same, joins_goes, kept_off, kept_on, left_ends, left_starts, left_stops, left_turns, made_gives, plain_last}
 use Rattle.expression_eval.proofs.Singles.{full_lone}
-use Rattle.expression_eval.proofs.descent.+value.Goals as goal
+use Rattle.expression_eval.proofs.+value.Goals as goal
 
-pub ors-turns-init : goal.ors-turns-init
-ors-turns-init t c = left_starts (λ v. meaning.ors (scope_of c.args.scope.now) (listed (map view_and c.args.parts.now)) v c.args.machine.now) (meaning.ors (scope_of c.args.scope.now) (listed (map view_and c.args.parts.now))) c.args.out.now c.args.machine.now (λ v. refl)
+pub logic::ors-turns-init : goal.logic::ors-turns-init
+logic::ors-turns-init t c = left_starts (λ v. meaning.ors (scope_of c.args.scope.now) (listed (map view_and c.args.parts.now)) v c.args.machine.now) (meaning.ors (scope_of c.args.scope.now) (listed (map view_and c.args.parts.now))) c.args.out.now c.args.machine.now (λ v. refl)
 
-pub ors-turns-preserved : goal.ors-turns-preserved
-ors-turns-preserved t c = left_turns view_and (ors_steps (scope_of c.args.scope.now)) c.args.parts.now c.turns.part-index c.part-item.result c.args.out.now c.turns.out c.or_one.new.out c.turns.machine c.or_one.new.machine (λ v. meaning.ors (scope_of c.args.scope.now) (listed (map view_and c.args.parts.now)) v c.args.machine.now) c.turns.invariant c.turns-test.true c.part-item.is c.or_one.ensures
+pub logic::ors-turns-preserved : goal.logic::ors-turns-preserved
+logic::ors-turns-preserved t c = left_turns view_and (ors_steps (scope_of c.args.scope.now)) c.args.parts.now c.turns.part-index c.part-item.result c.args.out.now c.turns.out c.or_one.new.out c.turns.machine c.or_one.new.machine (λ v. meaning.ors (scope_of c.args.scope.now) (listed (map view_and c.args.parts.now)) v c.args.machine.now) c.turns.invariant c.turns-test.true c.part-item.is c.or_one.ensures
 
-pub ors-returns-then-is_err : goal.ors-returns-then-is_err
-ors-returns-then-is_err t c = left_stops (λ v. meaning.ors (scope_of c.args.scope.now) (listed (map view_and c.args.parts.now)) v c.args.machine.now) (meaning.ors (scope_of c.args.scope.now) (listed (map view_and (drop c.turns.part-index c.args.parts.now)))) c.args.out.now c.turns.out c.turns.machine c.turns.invariant (sym c.if-is_err.ensures.value)
+pub logic::ors-returns-then-is_err : goal.logic::ors-returns-then-is_err
+logic::ors-returns-then-is_err t c = left_stops (λ v. meaning.ors (scope_of c.args.scope.now) (listed (map view_and c.args.parts.now)) v c.args.machine.now) (meaning.ors (scope_of c.args.scope.now) (listed (map view_and (drop c.turns.part-index c.args.parts.now)))) c.args.out.now c.turns.out c.turns.machine c.turns.invariant (sym c.if-is_err.ensures.value)
 
-pub ors-returns : goal.ors-returns
-ors-returns t c = left_ends view_and (meaning.ors (scope_of c.args.scope.now)) c.args.parts.now c.turns.part-index c.args.out.now c.turns.out c.turns.machine (λ v. meaning.ors (scope_of c.args.scope.now) (listed (map view_and c.args.parts.now)) v c.args.machine.now) c.turns.invariant c.turns-test.false (λ v. ors_none (scope_of c.args.scope.now) v c.turns.machine)
+pub logic::ors-returns : goal.logic::ors-returns
+logic::ors-returns t c = left_ends view_and (meaning.ors (scope_of c.args.scope.now)) c.args.parts.now c.turns.part-index c.args.out.now c.turns.out c.turns.machine (λ v. meaning.ors (scope_of c.args.scope.now) (listed (map view_and c.args.parts.now)) v c.args.machine.now) c.turns.invariant c.turns-test.false (λ v. ors_none (scope_of c.args.scope.now) v c.turns.machine)
 
-pub ands-turns-init : goal.ands-turns-init
-ands-turns-init t c = left_starts (λ v. meaning.ands (scope_of c.args.scope.now) (listed (map view_not c.args.parts.now)) v c.args.machine.now) (meaning.ands (scope_of c.args.scope.now) (listed (map view_not c.args.parts.now))) c.args.out.now c.args.machine.now (λ v. refl)
+pub logic::ands-turns-init : goal.logic::ands-turns-init
+logic::ands-turns-init t c = left_starts (λ v. meaning.ands (scope_of c.args.scope.now) (listed (map view_not c.args.parts.now)) v c.args.machine.now) (meaning.ands (scope_of c.args.scope.now) (listed (map view_not c.args.parts.now))) c.args.out.now c.args.machine.now (λ v. refl)
 
-pub ands-turns-preserved : goal.ands-turns-preserved
-ands-turns-preserved t c = left_turns view_not (ands_steps (scope_of c.args.scope.now)) c.args.parts.now c.turns.part-index c.part-item.result c.args.out.now c.turns.out c.and_one.new.out c.turns.machine c.and_one.new.machine (λ v. meaning.ands (scope_of c.args.scope.now) (listed (map view_not c.args.parts.now)) v c.args.machine.now) c.turns.invariant c.turns-test.true c.part-item.is c.and_one.ensures
+pub logic::ands-turns-preserved : goal.logic::ands-turns-preserved
+logic::ands-turns-preserved t c = left_turns view_not (ands_steps (scope_of c.args.scope.now)) c.args.parts.now c.turns.part-index c.part-item.result c.args.out.now c.turns.out c.and_one.new.out c.turns.machine c.and_one.new.machine (λ v. meaning.ands (scope_of c.args.scope.now) (listed (map view_not c.args.parts.now)) v c.args.machine.now) c.turns.invariant c.turns-test.true c.part-item.is c.and_one.ensures
 
-pub ands-returns-then-is_err : goal.ands-returns-then-is_err
-ands-returns-then-is_err t c = left_stops (λ v. meaning.ands (scope_of c.args.scope.now) (listed (map view_not c.args.parts.now)) v c.args.machine.now) (meaning.ands (scope_of c.args.scope.now) (listed (map view_not (drop c.turns.part-index c.args.parts.now)))) c.args.out.now c.turns.out c.turns.machine c.turns.invariant (sym c.if-is_err.ensures.value)
+pub logic::ands-returns-then-is_err : goal.logic::ands-returns-then-is_err
+logic::ands-returns-then-is_err t c = left_stops (λ v. meaning.ands (scope_of c.args.scope.now) (listed (map view_not c.args.parts.now)) v c.args.machine.now) (meaning.ands (scope_of c.args.scope.now) (listed (map view_not (drop c.turns.part-index c.args.parts.now)))) c.args.out.now c.turns.out c.turns.machine c.turns.invariant (sym c.if-is_err.ensures.value)
 
-pub ands-returns : goal.ands-returns
-ands-returns t c = left_ends view_not (meaning.ands (scope_of c.args.scope.now)) c.args.parts.now c.turns.part-index c.args.out.now c.turns.out c.turns.machine (λ v. meaning.ands (scope_of c.args.scope.now) (listed (map view_not c.args.parts.now)) v c.args.machine.now) c.turns.invariant c.turns-test.false (λ v. ands_none (scope_of c.args.scope.now) v c.turns.machine)
+pub logic::ands-returns : goal.logic::ands-returns
+logic::ands-returns t c = left_ends view_not (meaning.ands (scope_of c.args.scope.now)) c.args.parts.now c.turns.part-index c.args.out.now c.turns.out c.turns.machine (λ v. meaning.ands (scope_of c.args.scope.now) (listed (map view_not c.args.parts.now)) v c.args.machine.now) c.turns.invariant c.turns-test.false (λ v. ands_none (scope_of c.args.scope.now) v c.turns.machine)
 
-pub addeds-turns-init : goal.addeds-turns-init
-addeds-turns-init t c = left_starts (λ v. meaning.addeds (scope_of c.args.scope.now) (listed (map view_added c.args.parts.now)) v c.args.machine.now) (meaning.addeds (scope_of c.args.scope.now) (listed (map view_added c.args.parts.now))) c.args.out.now c.args.machine.now (λ v. refl)
+pub arithmetic::addeds-turns-init : goal.arithmetic::addeds-turns-init
+arithmetic::addeds-turns-init t c = left_starts (λ v. meaning.addeds (scope_of c.args.scope.now) (listed (map view_added c.args.parts.now)) v c.args.machine.now) (meaning.addeds (scope_of c.args.scope.now) (listed (map view_added c.args.parts.now))) c.args.out.now c.args.machine.now (λ v. refl)
 
-pub addeds-turns-preserved : goal.addeds-turns-preserved
-addeds-turns-preserved t c = left_turns view_added (addeds_steps (scope_of c.args.scope.now)) c.args.parts.now c.turns.part-index c.part-item.result c.args.out.now c.turns.out c.plus.new.out c.turns.machine c.plus.new.machine (λ v. meaning.addeds (scope_of c.args.scope.now) (listed (map view_added c.args.parts.now)) v c.args.machine.now) c.turns.invariant c.turns-test.true c.part-item.is c.plus.ensures
+pub arithmetic::addeds-turns-preserved : goal.arithmetic::addeds-turns-preserved
+arithmetic::addeds-turns-preserved t c = left_turns view_added (addeds_steps (scope_of c.args.scope.now)) c.args.parts.now c.turns.part-index c.part-item.result c.args.out.now c.turns.out c.added.new.out c.turns.machine c.added.new.machine (λ v. meaning.addeds (scope_of c.args.scope.now) (listed (map view_added c.args.parts.now)) v c.args.machine.now) c.turns.invariant c.turns-test.true c.part-item.is c.added.ensures
 
-pub addeds-returns-then-is_err : goal.addeds-returns-then-is_err
-addeds-returns-then-is_err t c = left_stops (λ v. meaning.addeds (scope_of c.args.scope.now) (listed (map view_added c.args.parts.now)) v c.args.machine.now) (meaning.addeds (scope_of c.args.scope.now) (listed (map view_added (drop c.turns.part-index c.args.parts.now)))) c.args.out.now c.turns.out c.turns.machine c.turns.invariant (sym c.if-is_err.ensures.value)
+pub arithmetic::addeds-returns-then-is_err : goal.arithmetic::addeds-returns-then-is_err
+arithmetic::addeds-returns-then-is_err t c = left_stops (λ v. meaning.addeds (scope_of c.args.scope.now) (listed (map view_added c.args.parts.now)) v c.args.machine.now) (meaning.addeds (scope_of c.args.scope.now) (listed (map view_added (drop c.turns.part-index c.args.parts.now)))) c.args.out.now c.turns.out c.turns.machine c.turns.invariant (sym c.if-is_err.ensures.value)
 
-pub addeds-returns : goal.addeds-returns
-addeds-returns t c = left_ends view_added (meaning.addeds (scope_of c.args.scope.now)) c.args.parts.now c.turns.part-index c.args.out.now c.turns.out c.turns.machine (λ v. meaning.addeds (scope_of c.args.scope.now) (listed (map view_added c.args.parts.now)) v c.args.machine.now) c.turns.invariant c.turns-test.false (λ v. addeds_none (scope_of c.args.scope.now) v c.turns.machine)
+pub arithmetic::addeds-returns : goal.arithmetic::addeds-returns
+arithmetic::addeds-returns t c = left_ends view_added (meaning.addeds (scope_of c.args.scope.now)) c.args.parts.now c.turns.part-index c.args.out.now c.turns.out c.turns.machine (λ v. meaning.addeds (scope_of c.args.scope.now) (listed (map view_added c.args.parts.now)) v c.args.machine.now) c.turns.invariant c.turns-test.false (λ v. addeds_none (scope_of c.args.scope.now) v c.turns.machine)
 
-pub multiplieds-turns-init : goal.multiplieds-turns-init
-multiplieds-turns-init t c = left_starts (λ v. meaning.multiplieds (scope_of c.args.scope.now) (listed (map view_multiplied c.args.parts.now)) v c.args.machine.now) (meaning.multiplieds (scope_of c.args.scope.now) (listed (map view_multiplied c.args.parts.now))) c.args.out.now c.args.machine.now (λ v. refl)
+pub arithmetic::multiplieds-turns-init : goal.arithmetic::multiplieds-turns-init
+arithmetic::multiplieds-turns-init t c = left_starts (λ v. meaning.multiplieds (scope_of c.args.scope.now) (listed (map view_multiplied c.args.parts.now)) v c.args.machine.now) (meaning.multiplieds (scope_of c.args.scope.now) (listed (map view_multiplied c.args.parts.now))) c.args.out.now c.args.machine.now (λ v. refl)
 
-pub multiplieds-turns-preserved : goal.multiplieds-turns-preserved
-multiplieds-turns-preserved t c = left_turns view_multiplied (multiplieds_steps (scope_of c.args.scope.now)) c.args.parts.now c.turns.part-index c.part-item.result c.args.out.now c.turns.out c.times.new.out c.turns.machine c.times.new.machine (λ v. meaning.multiplieds (scope_of c.args.scope.now) (listed (map view_multiplied c.args.parts.now)) v c.args.machine.now) c.turns.invariant c.turns-test.true c.part-item.is c.times.ensures
+pub arithmetic::multiplieds-turns-preserved : goal.arithmetic::multiplieds-turns-preserved
+arithmetic::multiplieds-turns-preserved t c = left_turns view_multiplied (multiplieds_steps (scope_of c.args.scope.now)) c.args.parts.now c.turns.part-index c.part-item.result c.args.out.now c.turns.out c.multiplied.new.out c.turns.machine c.multiplied.new.machine (λ v. meaning.multiplieds (scope_of c.args.scope.now) (listed (map view_multiplied c.args.parts.now)) v c.args.machine.now) c.turns.invariant c.turns-test.true c.part-item.is c.multiplied.ensures
 
-pub multiplieds-returns-then-is_err : goal.multiplieds-returns-then-is_err
-multiplieds-returns-then-is_err t c = left_stops (λ v. meaning.multiplieds (scope_of c.args.scope.now) (listed (map view_multiplied c.args.parts.now)) v c.args.machine.now) (meaning.multiplieds (scope_of c.args.scope.now) (listed (map view_multiplied (drop c.turns.part-index c.args.parts.now)))) c.args.out.now c.turns.out c.turns.machine c.turns.invariant (sym c.if-is_err.ensures.value)
+pub arithmetic::multiplieds-returns-then-is_err : goal.arithmetic::multiplieds-returns-then-is_err
+arithmetic::multiplieds-returns-then-is_err t c = left_stops (λ v. meaning.multiplieds (scope_of c.args.scope.now) (listed (map view_multiplied c.args.parts.now)) v c.args.machine.now) (meaning.multiplieds (scope_of c.args.scope.now) (listed (map view_multiplied (drop c.turns.part-index c.args.parts.now)))) c.args.out.now c.turns.out c.turns.machine c.turns.invariant (sym c.if-is_err.ensures.value)
 
-pub multiplieds-returns : goal.multiplieds-returns
-multiplieds-returns t c = left_ends view_multiplied (meaning.multiplieds (scope_of c.args.scope.now)) c.args.parts.now c.turns.part-index c.args.out.now c.turns.out c.turns.machine (λ v. meaning.multiplieds (scope_of c.args.scope.now) (listed (map view_multiplied c.args.parts.now)) v c.args.machine.now) c.turns.invariant c.turns-test.false (λ v. multiplieds_none (scope_of c.args.scope.now) v c.turns.machine)
+pub arithmetic::multiplieds-returns : goal.arithmetic::multiplieds-returns
+arithmetic::multiplieds-returns t c = left_ends view_multiplied (meaning.multiplieds (scope_of c.args.scope.now)) c.args.parts.now c.turns.part-index c.args.out.now c.turns.out c.turns.machine (λ v. meaning.multiplieds (scope_of c.args.scope.now) (listed (map view_multiplied c.args.parts.now)) v c.args.machine.now) c.turns.invariant c.turns-test.false (λ v. multiplieds_none (scope_of c.args.scope.now) v c.turns.machine)
 
-pub expr-returns : goal.expr-returns
-expr-returns t c = goes_means c.conj.new.out c.ors.new.out c.conj.new.machine c.ors.new.machine _ (meaning.conj (scope_of c.args.scope.now) (view_and (expr.out-Expr c.args.node.now).first) c.args.machine.now) (λ x. meaning.ors (scope_of c.args.scope.now) (listed (map view_and c.deref.result.now)) x.0 x.1) (expr_means (scope_of c.args.scope.now) c.args.node.now c.deref.result.now c.args.machine.now c.deref.ensures.value) c.conj.ensures c.ors.ensures
+pub logic::expr-returns : goal.logic::expr-returns
+logic::expr-returns t c = goes_means c.conj.new.out c.ors.new.out c.conj.new.machine c.ors.new.machine _ (meaning.conj (scope_of c.args.scope.now) (view_and (expr.out-Expr c.args.node.now).first) c.args.machine.now) (λ x. meaning.ors (scope_of c.args.scope.now) (listed (map view_and c.deref.result.now)) x.0 x.1) (expr_means (scope_of c.args.scope.now) c.args.node.now c.deref.result.now c.args.machine.now c.deref.ensures.value) c.conj.ensures c.ors.ensures
 
-pub conj-returns : goal.conj-returns
-conj-returns t c = goes_means c.nega.new.out c.ands.new.out c.nega.new.machine c.ands.new.machine _ (meaning.nega (scope_of c.args.scope.now) (view_not (and_.out-And c.args.node.now).first) c.args.machine.now) (λ x. meaning.ands (scope_of c.args.scope.now) (listed (map view_not c.deref.result.now)) x.0 x.1) (conj_means (scope_of c.args.scope.now) c.args.node.now c.deref.result.now c.args.machine.now c.deref.ensures.value) c.nega.ensures c.ands.ensures
+pub logic::conj-returns : goal.logic::conj-returns
+logic::conj-returns t c = goes_means c.nega.new.out c.ands.new.out c.nega.new.machine c.ands.new.machine _ (meaning.nega (scope_of c.args.scope.now) (view_not (and_.out-And c.args.node.now).first) c.args.machine.now) (λ x. meaning.ands (scope_of c.args.scope.now) (listed (map view_not c.deref.result.now)) x.0 x.1) (conj_means (scope_of c.args.scope.now) c.args.node.now c.deref.result.now c.args.machine.now c.deref.ensures.value) c.nega.ensures c.ands.ensures
 
-pub sum-returns : goal.sum-returns
-sum-returns t c = goes_means c.product.new.out c.addeds.new.out c.product.new.machine c.addeds.new.machine _ (meaning.product (scope_of c.args.scope.now) (view_product (sum.out-Sum c.args.node.now).first) c.args.machine.now) (λ x. meaning.addeds (scope_of c.args.scope.now) (listed (map view_added c.deref.result.now)) x.0 x.1) (sum_means (scope_of c.args.scope.now) c.args.node.now c.deref.result.now c.args.machine.now c.deref.ensures.value) c.product.ensures c.addeds.ensures
+pub arithmetic::sum-returns : goal.arithmetic::sum-returns
+arithmetic::sum-returns t c = goes_means c.product.new.out c.addeds.new.out c.product.new.machine c.addeds.new.machine _ (meaning.product (scope_of c.args.scope.now) (view_product (sum.out-Sum c.args.node.now).first) c.args.machine.now) (λ x. meaning.addeds (scope_of c.args.scope.now) (listed (map view_added c.deref.result.now)) x.0 x.1) (sum_means (scope_of c.args.scope.now) c.args.node.now c.deref.result.now c.args.machine.now c.deref.ensures.value) c.product.ensures c.addeds.ensures
 
-pub product-returns : goal.product-returns
-product-returns t c = goes_means c.prim.new.out c.multiplieds.new.out c.prim.new.machine c.multiplieds.new.machine _ (meaning.prim (scope_of c.args.scope.now) (view_prim (product.out-Product c.args.node.now).first) c.args.machine.now) (λ x. meaning.multiplieds (scope_of c.args.scope.now) (listed (map view_multiplied c.deref.result.now)) x.0 x.1) (product_means (scope_of c.args.scope.now) c.args.node.now c.deref.result.now c.args.machine.now c.deref.ensures.value) c.prim.ensures c.multiplieds.ensures
+pub arithmetic::product-returns : goal.arithmetic::product-returns
+arithmetic::product-returns t c = goes_means c.operand.new.out c.multiplieds.new.out c.operand.new.machine c.multiplieds.new.machine _ (meaning.prim (scope_of c.args.scope.now) (view_prim (product.out-Product c.args.node.now).first) c.args.machine.now) (λ x. meaning.multiplieds (scope_of c.args.scope.now) (listed (map view_multiplied c.deref.result.now)) x.0 x.1) (product_means (scope_of c.args.scope.now) c.args.node.now c.deref.result.now c.args.machine.now c.deref.ensures.value) c.operand.ensures c.multiplieds.ensures
 
-pub or_one-returns : goal.or_one-returns
-or_one-returns t c = joins_goes operator.Or c.args.out.now c.operate.new.out c.conj.new.out c.conj.new.machine c.operate.new.machine (meaning.conj (scope_of c.args.scope.now) (view_and c.args.part.now) c.args.machine.now) c.conj.ensures c.operate.ensures
+pub logic::or_one-returns : goal.logic::or_one-returns
+logic::or_one-returns t c = joins_goes operator.Or c.args.out.now c.operate.new.out c.conj.new.out c.conj.new.machine c.operate.new.machine (meaning.conj (scope_of c.args.scope.now) (view_and c.args.part.now) c.args.machine.now) c.conj.ensures c.operate.ensures
 
-pub and_one-returns : goal.and_one-returns
-and_one-returns t c = joins_goes operator.And c.args.out.now c.operate.new.out c.nega.new.out c.nega.new.machine c.operate.new.machine (meaning.nega (scope_of c.args.scope.now) (view_not c.args.part.now) c.args.machine.now) c.nega.ensures c.operate.ensures
+pub logic::and_one-returns : goal.logic::and_one-returns
+logic::and_one-returns t c = joins_goes operator.And c.args.out.now c.operate.new.out c.nega.new.out c.nega.new.machine c.operate.new.machine (meaning.nega (scope_of c.args.scope.now) (view_not c.args.part.now) c.args.machine.now) c.nega.ensures c.operate.ensures
 
-pub compare_with-returns : goal.compare_with-returns
-compare_with-returns t c = joins_goes (operator.Comparison c.args.op) c.args.out.now c.operate.new.out c.sum.new.out c.sum.new.machine c.operate.new.machine (meaning.sum (scope_of c.args.scope.now) (view_sum c.args.right.now) c.args.machine.now) c.sum.ensures c.operate.ensures
+pub arithmetic::compare_with-returns : goal.arithmetic::compare_with-returns
+arithmetic::compare_with-returns t c = joins_goes (operator.Comparison c.args.op) c.args.out.now c.operate.new.out c.sum.new.out c.sum.new.machine c.operate.new.machine (meaning.sum (scope_of c.args.scope.now) (view_sum c.args.right.now) c.args.machine.now) c.sum.ensures c.operate.ensures
 
-pub plus-returns : goal.plus-returns
-plus-returns t c =
+pub arithmetic::added-returns : goal.arithmetic::added-returns
+arithmetic::added-returns t c =
     goes_same c.args.out.now c.operate.new.out c.operate.new.machine _ _ (λ v. plus_means (scope_of c.args.scope.now) c.args.part.now v c.args.machine.now) (joins_goes (operator.Sum (added.out-Added c.args.part.now).minus (added.out-Added c.args.part.now).at) c.args.out.now c.operate.new.out c.product.new.out c.product.new.machine c.operate.new.machine (meaning.product (scope_of c.args.scope.now) (view_product (added.out-Added c.args.part.now).product) c.args.machine.now) c.product.ensures c.operate.ensures)
 
-pub times-returns : goal.times-returns
-times-returns t c =
-    goes_same c.args.out.now c.operate.new.out c.operate.new.machine _ _ (λ v. times_means (scope_of c.args.scope.now) c.args.part.now v c.args.machine.now) (joins_goes (operator.Product c.args.part.now.divide c.args.part.now.at) c.args.out.now c.operate.new.out c.prim.new.out c.prim.new.machine c.operate.new.machine (meaning.prim (scope_of c.args.scope.now) (view_prim c.args.part.now.prim) c.args.machine.now) c.prim.ensures c.operate.ensures)
+pub arithmetic::multiplied-returns : goal.arithmetic::multiplied-returns
+arithmetic::multiplied-returns t c =
+    goes_same c.args.out.now c.operate.new.out c.operate.new.machine _ _ (λ v. times_means (scope_of c.args.scope.now) c.args.part.now v c.args.machine.now) (joins_goes (operator.Product c.args.part.now.divide c.args.part.now.at) c.args.out.now c.operate.new.out c.operand.new.out c.operand.new.machine c.operate.new.machine (meaning.prim (scope_of c.args.scope.now) (view_prim c.args.part.now.prim) c.args.machine.now) c.operand.ensures c.operate.ensures)
 
-pub nega-returns-then-node : goal.nega-returns-then-node
-nega-returns-then-node t c = goes_means c.compare.new.out c.negate.new.out c.compare.new.machine c.negate.new.machine _ (meaning.compare (scope_of c.args.scope.now) (view_compare (not_.out-Not c.args.node.now).inner) c.args.machine.now) (λ x. after_count (opposite x.0) x.1) (not_means (scope_of c.args.scope.now) c.args.node.now c.args.machine.now c.if-node.true) c.compare.ensures c.negate.ensures
+pub logic::nega-returns-then-node : goal.logic::nega-returns-then-node
+logic::nega-returns-then-node t c = goes_means c.compare.new.out c.negate.new.out c.compare.new.machine c.negate.new.machine _ (meaning.compare (scope_of c.args.scope.now) (view_compare (not_.out-Not c.args.node.now).inner) c.args.machine.now) (λ x. after_count (opposite x.0) x.1) (not_means (scope_of c.args.scope.now) c.args.node.now c.args.machine.now c.if-node.true) c.compare.ensures c.negate.ensures
 
-pub nega-returns-else-node : goal.nega-returns-else-node
-nega-returns-else-node t c = gives_same c.compare.new.out c.compare.new.machine _ _ (plain_means (scope_of c.args.scope.now) c.args.node.now c.args.machine.now c.if-node.false) c.compare.ensures
+pub logic::nega-returns-else-node : goal.logic::nega-returns-else-node
+logic::nega-returns-else-node t c = gives_same c.compare.new.out c.compare.new.machine _ _ (plain_means (scope_of c.args.scope.now) c.args.node.now c.args.machine.now c.if-node.false) c.compare.ensures
 
-pub compare-returns-in-None : goal.compare-returns-in-None
-compare-returns-in-None t c = gives_same c.sum.new.out c.sum.new.machine _ _ (alone_means (scope_of c.args.scope.now) c.args.node.now c.args.machine.now c.in-None.is) c.sum.ensures
+pub arithmetic::compare-returns-in-None : goal.arithmetic::compare-returns-in-None
+arithmetic::compare-returns-in-None t c = gives_same c.sum.new.out c.sum.new.machine _ _ (alone_means (scope_of c.args.scope.now) c.args.node.now c.args.machine.now c.in-None.is) c.sum.ensures
 
-pub compare-returns-in-Some : goal.compare-returns-in-Some
-compare-returns-in-Some t c = goes_means c.sum.new.out c.compare_with.new.out c.sum.new.machine c.compare_with.new.machine _ (meaning.sum (scope_of c.args.scope.now) (view_sum (compare.out-Compare c.args.node.now).left) c.args.machine.now) (λ x. joined (compared (compared_.out-Compared c.in-Some.right).op) x.0 (meaning.sum (scope_of c.args.scope.now) (view_sum (compared_.out-Compared c.in-Some.right).sum) x.1)) (compared_means (scope_of c.args.scope.now) c.args.node.now c.in-Some.right c.args.machine.now c.in-Some.is) c.sum.ensures c.compare_with.ensures
+pub arithmetic::compare-returns-in-Some : goal.arithmetic::compare-returns-in-Some
+arithmetic::compare-returns-in-Some t c = goes_means c.sum.new.out c.compare_with.new.out c.sum.new.machine c.compare_with.new.machine _ (meaning.sum (scope_of c.args.scope.now) (view_sum (compare.out-Compare c.args.node.now).left) c.args.machine.now) (λ x. joined (compared (compared_.out-Compared c.in-Some.right).op) x.0 (meaning.sum (scope_of c.args.scope.now) (view_sum (compared_.out-Compared c.in-Some.right).sum) x.1)) (compared_means (scope_of c.args.scope.now) c.args.node.now c.in-Some.right c.args.machine.now c.in-Some.is) c.sum.ensures c.compare_with.ensures
 
-pub compare-returns-then-is_err : goal.compare-returns-then-is_err
-compare-returns-then-is_err t c = compare_stops (scope_of c.args.scope.now) c.args.node.now c.args.machine.now c.sum.new.out c.sum.new.machine c.sum.ensures (sym c.if-is_err.ensures.value)
+pub arithmetic::compare-returns-then-is_err : goal.arithmetic::compare-returns-then-is_err
+arithmetic::compare-returns-then-is_err t c = compare_stops (scope_of c.args.scope.now) c.args.node.now c.args.machine.now c.sum.new.out c.sum.new.machine c.sum.ensures (sym c.if-is_err.ensures.value)
 
-pub prim-returns-then-step : goal.prim-returns-then-step
-prim-returns-then-step t c = behind_gives c.put_call.new.out c.put_call.new.machine _ (count 1 c.args.machine.now) (meaning.call (scope_of c.args.scope.now) (view_call c.in-Call.inside)) c.step.new.machine (call_counted (scope_of c.args.scope.now) c.args.node.now c.in-Call.inside c.args.machine.now c.in-Call.is) c.if-step.ensures c.put_call.ensures
+pub operands::operand-returns-then-step : goal.operands::operand-returns-then-step
+operands::operand-returns-then-step t c = behind_gives c.put_call.new.out c.put_call.new.machine _ (count 1 c.args.machine.now) (meaning.call (scope_of c.args.scope.now) (view_call c.in-Call.inside)) c.step.new.machine (call_counted (scope_of c.args.scope.now) c.args.node.now c.in-Call.inside c.args.machine.now c.in-Call.is) c.if-step.ensures c.put_call.ensures
 
-pub prim-returns-else-step : goal.prim-returns-else-step
-prim-returns-else-step t c = failed_means c.step.new.out c.step.new.machine _ (count 1 c.args.machine.now) (meaning.call (scope_of c.args.scope.now) (view_call c.in-Call.inside)) (call_counted (scope_of c.args.scope.now) c.args.node.now c.in-Call.inside c.args.machine.now c.in-Call.is) c.if-step.ensures
+pub operands::operand-returns-else-step : goal.operands::operand-returns-else-step
+operands::operand-returns-else-step t c = failed_means c.step.new.out c.step.new.machine _ (count 1 c.args.machine.now) (meaning.call (scope_of c.args.scope.now) (view_call c.in-Call.inside)) (call_counted (scope_of c.args.scope.now) c.args.node.now c.in-Call.inside c.args.machine.now c.in-Call.is) c.if-step.ensures
 
-pub prim-returns-then-step-2 : goal.prim-returns-then-step-2
-prim-returns-then-step-2 t c = behind_gives c.put_choice.new.out c.put_choice.new.machine _ (count 1 c.args.machine.now) (meaning.choice (scope_of c.args.scope.now) (view_if c.in-If.inside)) c.step-in-If.new.machine (choice_counted (scope_of c.args.scope.now) c.args.node.now c.in-If.inside c.args.machine.now c.in-If.is) c.if-step-2.ensures c.put_choice.ensures
+pub operands::operand-returns-then-step-2 : goal.operands::operand-returns-then-step-2
+operands::operand-returns-then-step-2 t c = behind_gives c.put_choice.new.out c.put_choice.new.machine _ (count 1 c.args.machine.now) (meaning.choice (scope_of c.args.scope.now) (view_if c.in-If.inside)) c.step-in-If.new.machine (choice_counted (scope_of c.args.scope.now) c.args.node.now c.in-If.inside c.args.machine.now c.in-If.is) c.if-step-2.ensures c.put_choice.ensures
 
-pub prim-returns-else-step-2 : goal.prim-returns-else-step-2
-prim-returns-else-step-2 t c = failed_means c.step-in-If.new.out c.step-in-If.new.machine _ (count 1 c.args.machine.now) (meaning.choice (scope_of c.args.scope.now) (view_if c.in-If.inside)) (choice_counted (scope_of c.args.scope.now) c.args.node.now c.in-If.inside c.args.machine.now c.in-If.is) c.if-step-2.ensures
+pub operands::operand-returns-else-step-2 : goal.operands::operand-returns-else-step-2
+operands::operand-returns-else-step-2 t c = failed_means c.step-in-If.new.out c.step-in-If.new.machine _ (count 1 c.args.machine.now) (meaning.choice (scope_of c.args.scope.now) (view_if c.in-If.inside)) (choice_counted (scope_of c.args.scope.now) c.args.node.now c.in-If.inside c.args.machine.now c.in-If.is) c.if-step-2.ensures
 
-pub prim-returns-then-step-3 : goal.prim-returns-then-step-3
-prim-returns-then-step-3 t c = behind_gives c.put_full.new.out c.put_full.new.machine _ (count 1 c.args.machine.now) (meaning.full (scope_of c.args.scope.now) (view_full c.in-Paren.inside.value)) c.step-in-Paren.new.machine (paren_counted (scope_of c.args.scope.now) c.args.node.now c.in-Paren.inside c.args.machine.now c.in-Paren.is) c.if-step-3.ensures (full_same (scope_of c.args.scope.now) c.deref.result.now c.in-Paren.inside.value c.put_full.new.out c.step-in-Paren.new.machine c.put_full.new.machine c.deref.ensures c.put_full.ensures)
+pub operands::operand-returns-then-step-3 : goal.operands::operand-returns-then-step-3
+operands::operand-returns-then-step-3 t c = behind_gives c.put_full.new.out c.put_full.new.machine _ (count 1 c.args.machine.now) (meaning.full (scope_of c.args.scope.now) (view_full c.in-Paren.inside.value)) c.step-in-Paren.new.machine (paren_counted (scope_of c.args.scope.now) c.args.node.now c.in-Paren.inside c.args.machine.now c.in-Paren.is) c.if-step-3.ensures (full_same (scope_of c.args.scope.now) c.deref.result.now c.in-Paren.inside.value c.put_full.new.out c.step-in-Paren.new.machine c.put_full.new.machine c.deref.ensures c.put_full.ensures)
 
-pub prim-returns-else-step-3 : goal.prim-returns-else-step-3
-prim-returns-else-step-3 t c = failed_means c.step-in-Paren.new.out c.step-in-Paren.new.machine _ (count 1 c.args.machine.now) (meaning.full (scope_of c.args.scope.now) (view_full c.in-Paren.inside.value)) (paren_counted (scope_of c.args.scope.now) c.args.node.now c.in-Paren.inside c.args.machine.now c.in-Paren.is) c.if-step-3.ensures
+pub operands::operand-returns-else-step-3 : goal.operands::operand-returns-else-step-3
+operands::operand-returns-else-step-3 t c = failed_means c.step-in-Paren.new.out c.step-in-Paren.new.machine _ (count 1 c.args.machine.now) (meaning.full (scope_of c.args.scope.now) (view_full c.in-Paren.inside.value)) (paren_counted (scope_of c.args.scope.now) c.args.node.now c.in-Paren.inside c.args.machine.now c.in-Paren.is) c.if-step-3.ensures
 
-pub prim-returns-then-step-4 : goal.prim-returns-then-step-4
-prim-returns-then-step-4 t c = behind_gives c.grouped.new.out c.grouped.new.machine _ (count 1 c.args.machine.now) (meaning.grouped (scope_of c.args.scope.now) (listed (map view_full c.deref-then-step-4.result.now))) c.step-in-Tuple.new.machine (tuple_counted (scope_of c.args.scope.now) c.args.node.now c.in-Tuple.at c.in-Tuple.parts c.deref-then-step-4.result.now c.args.machine.now c.in-Tuple.is c.deref-then-step-4.ensures.value) c.if-step-4.ensures c.grouped.ensures
+pub operands::operand-returns-then-step-4 : goal.operands::operand-returns-then-step-4
+operands::operand-returns-then-step-4 t c = behind_gives c.grouped.new.out c.grouped.new.machine _ (count 1 c.args.machine.now) (meaning.grouped (scope_of c.args.scope.now) (listed (map view_full c.deref-then-step-4.result.now))) c.step-in-Tuple.new.machine (tuple_counted (scope_of c.args.scope.now) c.args.node.now c.in-Tuple.at c.in-Tuple.parts c.deref-then-step-4.result.now c.args.machine.now c.in-Tuple.is c.deref-then-step-4.ensures.value) c.if-step-4.ensures c.grouped.ensures
 
-pub prim-returns-else-step-4 : goal.prim-returns-else-step-4
-prim-returns-else-step-4 t c = failed_means c.step-in-Tuple.new.out c.step-in-Tuple.new.machine _ (count 1 c.args.machine.now) (meaning.grouped (scope_of c.args.scope.now) (listed (map view_full c.in-Tuple.parts.items))) (tuple_counted (scope_of c.args.scope.now) c.args.node.now c.in-Tuple.at c.in-Tuple.parts c.in-Tuple.parts.items c.args.machine.now c.in-Tuple.is refl) c.if-step-4.ensures
+pub operands::operand-returns-else-step-4 : goal.operands::operand-returns-else-step-4
+operands::operand-returns-else-step-4 t c = failed_means c.step-in-Tuple.new.out c.step-in-Tuple.new.machine _ (count 1 c.args.machine.now) (meaning.grouped (scope_of c.args.scope.now) (listed (map view_full c.in-Tuple.parts.items))) (tuple_counted (scope_of c.args.scope.now) c.args.node.now c.in-Tuple.at c.in-Tuple.parts c.in-Tuple.parts.items c.args.machine.now c.in-Tuple.is refl) c.if-step-4.ensures
 
-pub prim-returns-then-step-5 : goal.prim-returns-then-step-5
-prim-returns-then-step-5 t c = behind_gives c.list.new.out c.list.new.machine _ (count 1 c.args.machine.now) (meaning.all_of (scope_of c.args.scope.now) (listed (map view_full c.deref-then-step-5.result.now))) c.step-in-List.new.machine (list_counted (scope_of c.args.scope.now) c.args.node.now c.in-List.at c.in-List.parts c.deref-then-step-5.result.now c.args.machine.now c.in-List.is c.deref-then-step-5.ensures.value) c.if-step-5.ensures c.list.ensures
+pub operands::operand-returns-then-step-5 : goal.operands::operand-returns-then-step-5
+operands::operand-returns-then-step-5 t c = behind_gives c.list.new.out c.list.new.machine _ (count 1 c.args.machine.now) (meaning.all_of (scope_of c.args.scope.now) (listed (map view_full c.deref-then-step-5.result.now))) c.step-in-List.new.machine (list_counted (scope_of c.args.scope.now) c.args.node.now c.in-List.at c.in-List.parts c.deref-then-step-5.result.now c.args.machine.now c.in-List.is c.deref-then-step-5.ensures.value) c.if-step-5.ensures c.list.ensures
 
-pub prim-returns-else-step-5 : goal.prim-returns-else-step-5
-prim-returns-else-step-5 t c = failed_means c.step-in-List.new.out c.step-in-List.new.machine _ (count 1 c.args.machine.now) (meaning.all_of (scope_of c.args.scope.now) (listed (map view_full c.in-List.parts.items))) (list_counted (scope_of c.args.scope.now) c.args.node.now c.in-List.at c.in-List.parts c.in-List.parts.items c.args.machine.now c.in-List.is refl) c.if-step-5.ensures
+pub operands::operand-returns-else-step-5 : goal.operands::operand-returns-else-step-5
+operands::operand-returns-else-step-5 t c = failed_means c.step-in-List.new.out c.step-in-List.new.machine _ (count 1 c.args.machine.now) (meaning.all_of (scope_of c.args.scope.now) (listed (map view_full c.in-List.parts.items))) (list_counted (scope_of c.args.scope.now) c.args.node.now c.in-List.at c.in-List.parts c.in-List.parts.items c.args.machine.now c.in-List.is refl) c.if-step-5.ensures
 
-pub put_choice-returns-in-None : goal.put_choice-returns-in-None
-put_choice-returns-in-None t c = choice_fails (scope_of c.args.scope.now) c.args.node.now c.deref.result.now c.put_full.new.out c.truth.new.out c.args.machine.now c.put_full.new.machine c.deref.ensures c.put_full.ensures c.in-None.ensures
+pub conditionals::put_choice-returns-in-None : goal.conditionals::put_choice-returns-in-None
+conditionals::put_choice-returns-in-None t c = choice_fails (scope_of c.args.scope.now) c.args.node.now c.deref.result.now c.put_full.new.out c.truth.new.out c.args.machine.now c.put_full.new.machine c.deref.ensures c.put_full.ensures c.in-None.ensures
 
-pub put_choice-returns-in-Some-true : goal.put_choice-returns-in-Some-true
-put_choice-returns-in-Some-true t c =
+pub conditionals::put_choice-returns-in-Some-true : goal.conditionals::put_choice-returns-in-Some-true
+conditionals::put_choice-returns-in-Some-true t c =
     choice_goes (scope_of c.args.scope.now) c.args.node.now true c.deref.result.now c.put_full.new.out c.truth.new.out c.put_full-in-Some-true.new.out c.args.machine.now c.put_full.new.machine c.put_full-in-Some-true.new.machine c.deref.ensures c.put_full.ensures (rw c.in-Some-true.field-0-test at c.in-Some-true.ensures)
     (full_same (scope_of c.args.scope.now) c.deref-in-Some-true.result.now c.args.node.now.then_part.value c.put_full-in-Some-true.new.out c.put_full.new.machine c.put_full-in-Some-true.new.machine c.deref-in-Some-true.ensures c.put_full-in-Some-true.ensures)
 
-pub put_choice-returns-in-Some-false : goal.put_choice-returns-in-Some-false
-put_choice-returns-in-Some-false t c =
+pub conditionals::put_choice-returns-in-Some-false : goal.conditionals::put_choice-returns-in-Some-false
+conditionals::put_choice-returns-in-Some-false t c =
     choice_goes (scope_of c.args.scope.now) c.args.node.now false c.deref.result.now c.put_full.new.out c.truth.new.out c.put_full-in-Some-false.new.out c.args.machine.now c.put_full.new.machine c.put_full-in-Some-false.new.machine c.deref.ensures c.put_full.ensures (rw c.in-Some-false.field-0-test at c.in-Some-false.ensures)
     (full_same (scope_of c.args.scope.now) c.deref-in-Some-false.result.now c.args.node.now.else_part.value c.put_full-in-Some-false.new.out c.put_full.new.machine c.put_full-in-Some-false.new.machine c.deref-in-Some-false.ensures c.put_full-in-Some-false.ensures)
 
-pub put_call-returns-in-None : goal.put_call-returns-in-None
-put_call-returns-in-None t c = failed_means c.arguments.new.out c.arguments.new.machine _ (meaning.arguments (scope_of c.args.scope.now) (listed (map view_arg c.deref.result.now)) [] c.args.machine.now) (λ x. meaning.applied (scope_of c.args.scope.now) (use_at (call.out-Call c.args.node.now).at (scope_of c.args.scope.now).uses) (call.out-Call c.args.node.now).at x.0 x.1) (call_means (scope_of c.args.scope.now) c.args.node.now c.deref.result.now c.args.machine.now c.deref.ensures.value) c.in-None.ensures
+pub calls::put_call-returns-in-None : goal.calls::put_call-returns-in-None
+calls::put_call-returns-in-None t c = failed_means c.arguments.new.out c.arguments.new.machine _ (meaning.arguments (scope_of c.args.scope.now) (listed (map view_arg c.deref.result.now)) [] c.args.machine.now) (λ x. meaning.applied (scope_of c.args.scope.now) (use_at (call.out-Call c.args.node.now).at (scope_of c.args.scope.now).uses) (call.out-Call c.args.node.now).at x.0 x.1) (call_means (scope_of c.args.scope.now) c.args.node.now c.deref.result.now c.args.machine.now c.deref.ensures.value) c.in-None.ensures
 
-pub put_call-returns-in-Some : goal.put_call-returns-in-Some
-put_call-returns-in-Some t c = behind_gives c.applied.new.out c.applied.new.machine _ (meaning.arguments (scope_of c.args.scope.now) (listed (map view_arg c.deref.result.now)) [] c.args.machine.now) (λ x. meaning.applied (scope_of c.args.scope.now) (use_at (call.out-Call c.args.node.now).at (scope_of c.args.scope.now).uses) (call.out-Call c.args.node.now).at x.0 x.1) (map view_given c.in-Some.given.items, c.arguments.new.machine) (call_means (scope_of c.args.scope.now) c.args.node.now c.deref.result.now c.args.machine.now c.deref.ensures.value) c.in-Some.ensures c.applied.ensures
+pub calls::put_call-returns-in-Some : goal.calls::put_call-returns-in-Some
+calls::put_call-returns-in-Some t c = behind_gives c.applied.new.out c.applied.new.machine _ (meaning.arguments (scope_of c.args.scope.now) (listed (map view_arg c.deref.result.now)) [] c.args.machine.now) (λ x. meaning.applied (scope_of c.args.scope.now) (use_at (call.out-Call c.args.node.now).at (scope_of c.args.scope.now).uses) (call.out-Call c.args.node.now).at x.0 x.1) (map view_given c.in-Some.given.items, c.arguments.new.machine) (call_means (scope_of c.args.scope.now) c.args.node.now c.deref.result.now c.args.machine.now c.deref.ensures.value) c.in-Some.ensures c.applied.ensures
 
-pub pair-returns-in-None : goal.pair-returns-in-None
-pair-returns-in-None t c = failed_means c.fulls.new.out c.fulls.new.machine _ (meaning.fulls (scope_of c.args.scope.now) (listed (map view_full c.args.parts.now)) [] c.args.machine.now) as_tuple (pair_means (scope_of c.args.scope.now) c.args.parts.now c.args.machine.now (omega arith)) c.in-None.ensures
+pub operands::pair-returns-in-None : goal.operands::pair-returns-in-None
+operands::pair-returns-in-None t c = failed_means c.fulls.new.out c.fulls.new.machine _ (meaning.fulls (scope_of c.args.scope.now) (listed (map view_full c.args.parts.now)) [] c.args.machine.now) as_tuple (pair_means (scope_of c.args.scope.now) c.args.parts.now c.args.machine.now (omega arith)) c.in-None.ensures
 
-pub pair-returns-in-Some : goal.pair-returns-in-Some
-pair-returns-in-Some t c = made_gives c.put.new.out c.fulls.new.machine _ (meaning.fulls (scope_of c.args.scope.now) (listed (map view_full c.args.parts.now)) [] c.args.machine.now) as_tuple (map view_value c.in-Some.values.items, c.fulls.new.machine) c.tuple.result (pair_means (scope_of c.args.scope.now) c.args.parts.now c.args.machine.now (omega arith)) c.in-Some.ensures (ap (λ (v : Value). Ok (v, c.fulls.new.machine)) (sym c.tuple.ensures)) c.put.ensures
+pub operands::pair-returns-in-Some : goal.operands::pair-returns-in-Some
+operands::pair-returns-in-Some t c = made_gives c.put.new.out c.fulls.new.machine _ (meaning.fulls (scope_of c.args.scope.now) (listed (map view_full c.args.parts.now)) [] c.args.machine.now) as_tuple (map view_value c.in-Some.values.items, c.fulls.new.machine) c.tuple.result (pair_means (scope_of c.args.scope.now) c.args.parts.now c.args.machine.now (omega arith)) c.in-Some.ensures (ap (λ (v : Value). Ok (v, c.fulls.new.machine)) (sym c.tuple.ensures)) c.put.ensures
 
-pub list-returns-in-Some : goal.list-returns-in-Some
-list-returns-in-Some t c = made_gives c.put.new.out c.fulls.new.machine _ (meaning.fulls (scope_of c.args.scope.now) (listed (map view_full c.args.parts.now)) [] c.args.machine.now) as_list (map view_value c.in-Some.values.items, c.fulls.new.machine) c.listed.result refl c.in-Some.ensures (ap (λ (v : Value). Ok (v, c.fulls.new.machine)) (sym c.listed.ensures)) c.put.ensures
+pub operands::list-returns-in-Some : goal.operands::list-returns-in-Some
+operands::list-returns-in-Some t c = made_gives c.put.new.out c.fulls.new.machine _ (meaning.fulls (scope_of c.args.scope.now) (listed (map view_full c.args.parts.now)) [] c.args.machine.now) as_list (map view_value c.in-Some.values.items, c.fulls.new.machine) c.listed.result refl c.in-Some.ensures (ap (λ (v : Value). Ok (v, c.fulls.new.machine)) (sym c.listed.ensures)) c.put.ensures
 
-pub list-returns-in-None : goal.list-returns-in-None
-list-returns-in-None t c = failed_gives (λ v. (view_value v, c.fulls.new.machine)) c.fulls.new.out (meaning.fulls (scope_of c.args.scope.now) (listed (map view_full c.args.parts.now)) [] c.args.machine.now) as_list c.in-None.ensures
+pub operands::list-returns-in-None : goal.operands::list-returns-in-None
+operands::list-returns-in-None t c = failed_gives (λ v. (view_value v, c.fulls.new.machine)) c.fulls.new.out (meaning.fulls (scope_of c.args.scope.now) (listed (map view_full c.args.parts.now)) [] c.args.machine.now) as_list c.in-None.ensures
 
-pub fulls-turns-preserved : goal.fulls-turns-preserved
-fulls-turns-preserved t c = turn view_full (fulls_steps (scope_of c.args.scope.now)) c.args.parts.now c.turns.part-index c.part-item.result (map view_value c.turns.values.items) (map view_value c.kept_value.new.values.items) c.turns.machine c.put_full.new.machine (meaning.fulls (scope_of c.args.scope.now) (listed (map view_full c.args.parts.now)) [] c.args.machine.now) c.turns.invariant c.turns-test.true c.part-item.is (plain_last (meaning.full (scope_of c.args.scope.now) (view_full c.part-item.result) c.turns.machine) (map view_value c.turns.values.items) ∙ kept_on (λ v. v) c.put_full.new.out c.kept_value.new.out (map view_value c.turns.values.items) (map view_value c.kept_value.new.values.items) c.put_full.new.machine (meaning.full (scope_of c.args.scope.now) (view_full c.part-item.result) c.turns.machine) c.put_full.ensures (rw c.if-not-kept_value.false at c.kept_value.ensures))
+pub values::fulls-turns-preserved : goal.values::fulls-turns-preserved
+values::fulls-turns-preserved t c = turn view_full (fulls_steps (scope_of c.args.scope.now)) c.args.parts.now c.turns.part-index c.part-item.result (map view_value c.turns.values.items) (map view_value c.kept_value.new.values.items) c.turns.machine c.put_full.new.machine (meaning.fulls (scope_of c.args.scope.now) (listed (map view_full c.args.parts.now)) [] c.args.machine.now) c.turns.invariant c.turns-test.true c.part-item.is (plain_last (meaning.full (scope_of c.args.scope.now) (view_full c.part-item.result) c.turns.machine) (map view_value c.turns.values.items) ∙ kept_on (λ v. v) c.put_full.new.out c.kept_value.new.out (map view_value c.turns.values.items) (map view_value c.kept_value.new.values.items) c.put_full.new.machine (meaning.full (scope_of c.args.scope.now) (view_full c.part-item.result) c.turns.machine) c.put_full.ensures (rw c.if-not-kept_value.false at c.kept_value.ensures))
 
-pub fulls-returns-then-not-kept_value : goal.fulls-returns-then-not-kept_value
-fulls-returns-then-not-kept_value t c = failed_stops view_full (fulls_steps (scope_of c.args.scope.now)) c.args.parts.now c.turns.part-index c.part-item.result (map view_value c.turns.values.items) c.turns.machine (meaning.fulls (scope_of c.args.scope.now) (listed (map view_full c.args.parts.now)) [] c.args.machine.now) c.kept_value.new.out c.turns.invariant c.turns-test.true c.part-item.is (failed_same c.kept_value.new.out _ _ (sym (plain_last (meaning.full (scope_of c.args.scope.now) (view_full c.part-item.result) c.turns.machine) (map view_value c.turns.values.items))) (kept_off (λ v. v) c.put_full.new.out c.kept_value.new.out (map view_value c.turns.values.items) (map view_value c.kept_value.new.values.items) c.put_full.new.machine (meaning.full (scope_of c.args.scope.now) (view_full c.part-item.result) c.turns.machine) c.put_full.ensures (rw c.if-not-kept_value.true at c.kept_value.ensures)))
+pub values::fulls-returns-then-not-kept_value : goal.values::fulls-returns-then-not-kept_value
+values::fulls-returns-then-not-kept_value t c = failed_stops view_full (fulls_steps (scope_of c.args.scope.now)) c.args.parts.now c.turns.part-index c.part-item.result (map view_value c.turns.values.items) c.turns.machine (meaning.fulls (scope_of c.args.scope.now) (listed (map view_full c.args.parts.now)) [] c.args.machine.now) c.kept_value.new.out c.turns.invariant c.turns-test.true c.part-item.is (failed_same c.kept_value.new.out _ _ (sym (plain_last (meaning.full (scope_of c.args.scope.now) (view_full c.part-item.result) c.turns.machine) (map view_value c.turns.values.items))) (kept_off (λ v. v) c.put_full.new.out c.kept_value.new.out (map view_value c.turns.values.items) (map view_value c.kept_value.new.values.items) c.put_full.new.machine (meaning.full (scope_of c.args.scope.now) (view_full c.part-item.result) c.turns.machine) c.put_full.ensures (rw c.if-not-kept_value.true at c.kept_value.ensures)))
 
-pub fulls-returns : goal.fulls-returns
-fulls-returns t c = ends view_full (meaning.fulls (scope_of c.args.scope.now)) c.args.parts.now c.turns.part-index (map view_value c.turns.values.items) c.turns.machine (meaning.fulls (scope_of c.args.scope.now) (listed (map view_full c.args.parts.now)) [] c.args.machine.now) c.turns.invariant c.turns-test.false ∙ fulls_none (scope_of c.args.scope.now) (map view_value c.turns.values.items) c.turns.machine
+pub values::fulls-returns : goal.values::fulls-returns
+values::fulls-returns t c = ends view_full (meaning.fulls (scope_of c.args.scope.now)) c.args.parts.now c.turns.part-index (map view_value c.turns.values.items) c.turns.machine (meaning.fulls (scope_of c.args.scope.now) (listed (map view_full c.args.parts.now)) [] c.args.machine.now) c.turns.invariant c.turns-test.false ∙ fulls_none (scope_of c.args.scope.now) (map view_value c.turns.values.items) c.turns.machine
 
-pub arguments-turns-preserved : goal.arguments-turns-preserved
-arguments-turns-preserved t c = turn view_arg (arguments_steps (scope_of c.args.scope.now)) c.args.args.now c.turns.arg-index c.arg-item.result (map view_given c.turns.given.items) (map view_given c.kept_argument.new.given.items) c.turns.machine c.put_full.new.machine (meaning.arguments (scope_of c.args.scope.now) (listed (map view_arg c.args.args.now)) [] c.args.machine.now) c.turns.invariant c.turns-test.true c.arg-item.is (ap (λ (o : Result (Given × Machine) Fault). o >>= with_last (map view_given c.turns.given.items)) (argued_means (scope_of c.args.scope.now) c.arg-item.result c.turns.machine) ∙ kept_on (λ v. (c.arg-item.result.label, v)) c.put_full.new.out c.kept_argument.new.out (map view_given c.turns.given.items) (map view_given c.kept_argument.new.given.items) c.put_full.new.machine (meaning.full (scope_of c.args.scope.now) (view_full c.arg-item.result.value) c.turns.machine) c.put_full.ensures (rw c.if-not-kept_argument.false at c.kept_argument.ensures))
+pub calls::arguments-turns-preserved : goal.calls::arguments-turns-preserved
+calls::arguments-turns-preserved t c = turn view_arg (arguments_steps (scope_of c.args.scope.now)) c.args.args.now c.turns.arg-index c.arg-item.result (map view_given c.turns.given.items) (map view_given c.kept_argument.new.given.items) c.turns.machine c.put_full.new.machine (meaning.arguments (scope_of c.args.scope.now) (listed (map view_arg c.args.args.now)) [] c.args.machine.now) c.turns.invariant c.turns-test.true c.arg-item.is (ap (λ (o : Result (Given × Machine) Fault). o >>= with_last (map view_given c.turns.given.items)) (argued_means (scope_of c.args.scope.now) c.arg-item.result c.turns.machine) ∙ kept_on (λ v. (c.arg-item.result.label, v)) c.put_full.new.out c.kept_argument.new.out (map view_given c.turns.given.items) (map view_given c.kept_argument.new.given.items) c.put_full.new.machine (meaning.full (scope_of c.args.scope.now) (view_full c.arg-item.result.value) c.turns.machine) c.put_full.ensures (rw c.if-not-kept_argument.false at c.kept_argument.ensures))
 
-pub arguments-returns-then-not-kept_argument : goal.arguments-returns-then-not-kept_argument
-arguments-returns-then-not-kept_argument t c = failed_stops view_arg (arguments_steps (scope_of c.args.scope.now)) c.args.args.now c.turns.arg-index c.arg-item.result (map view_given c.turns.given.items) c.turns.machine (meaning.arguments (scope_of c.args.scope.now) (listed (map view_arg c.args.args.now)) [] c.args.machine.now) c.kept_argument.new.out c.turns.invariant c.turns-test.true c.arg-item.is (failed_same c.kept_argument.new.out _ _ (sym (ap (λ (o : Result (Given × Machine) Fault). o >>= with_last (map view_given c.turns.given.items)) (argued_means (scope_of c.args.scope.now) c.arg-item.result c.turns.machine))) (kept_off (λ v. (c.arg-item.result.label, v)) c.put_full.new.out c.kept_argument.new.out (map view_given c.turns.given.items) (map view_given c.kept_argument.new.given.items) c.put_full.new.machine (meaning.full (scope_of c.args.scope.now) (view_full c.arg-item.result.value) c.turns.machine) c.put_full.ensures (rw c.if-not-kept_argument.true at c.kept_argument.ensures)))
+pub calls::arguments-returns-then-not-kept_argument : goal.calls::arguments-returns-then-not-kept_argument
+calls::arguments-returns-then-not-kept_argument t c = failed_stops view_arg (arguments_steps (scope_of c.args.scope.now)) c.args.args.now c.turns.arg-index c.arg-item.result (map view_given c.turns.given.items) c.turns.machine (meaning.arguments (scope_of c.args.scope.now) (listed (map view_arg c.args.args.now)) [] c.args.machine.now) c.kept_argument.new.out c.turns.invariant c.turns-test.true c.arg-item.is (failed_same c.kept_argument.new.out _ _ (sym (ap (λ (o : Result (Given × Machine) Fault). o >>= with_last (map view_given c.turns.given.items)) (argued_means (scope_of c.args.scope.now) c.arg-item.result c.turns.machine))) (kept_off (λ v. (c.arg-item.result.label, v)) c.put_full.new.out c.kept_argument.new.out (map view_given c.turns.given.items) (map view_given c.kept_argument.new.given.items) c.put_full.new.machine (meaning.full (scope_of c.args.scope.now) (view_full c.arg-item.result.value) c.turns.machine) c.put_full.ensures (rw c.if-not-kept_argument.true at c.kept_argument.ensures)))
 
-pub arguments-returns : goal.arguments-returns
-arguments-returns t c = ends view_arg (meaning.arguments (scope_of c.args.scope.now)) c.args.args.now c.turns.arg-index (map view_given c.turns.given.items) c.turns.machine (meaning.arguments (scope_of c.args.scope.now) (listed (map view_arg c.args.args.now)) [] c.args.machine.now) c.turns.invariant c.turns-test.false ∙ arguments_none (scope_of c.args.scope.now) (map view_given c.turns.given.items) c.turns.machine
+pub calls::arguments-returns : goal.calls::arguments-returns
+calls::arguments-returns t c = ends view_arg (meaning.arguments (scope_of c.args.scope.now)) c.args.args.now c.turns.arg-index (map view_given c.turns.given.items) c.turns.machine (meaning.arguments (scope_of c.args.scope.now) (listed (map view_arg c.args.args.now)) [] c.args.machine.now) c.turns.invariant c.turns-test.false ∙ arguments_none (scope_of c.args.scope.now) (map view_given c.turns.given.items) c.turns.machine
 
-pub put_full-returns-in-Some : goal.put_full-returns-in-Some
-put_full-returns-in-Some t c =
-    gives_same c.prim.new.out c.prim.new.machine _ _ (full_lone (scope_of c.args.scope.now) c.args.node.now c.in-Plain.inside (view_prim c.in-Some.operand.now) c.args.machine.now c.in-Plain.is c.in-Some.ensures.seen) c.prim.ensures
+pub values::put_full-returns-in-Some : goal.values::put_full-returns-in-Some
+values::put_full-returns-in-Some t c =
+    gives_same c.operand.new.out c.operand.new.machine _ _ (full_lone (scope_of c.args.scope.now) c.args.node.now c.in-Plain.inside (view_prim c.in-Some.lone.now) c.args.machine.now c.in-Plain.is c.in-Some.ensures.seen) c.operand.ensures
 
-pub inners-returns-in_err-slot : goal.inners-returns-in_err-slot
-inners-returns-in_err-slot t c =
+pub bodies::inners-returns-in_err-slot : goal.bodies::inners-returns-in_err-slot
+bodies::inners-returns-in_err-slot t c =
     let p = err_from_is_err_and c.from_residual.result c.from_residual.ensures.1 in
     rw (p.1, p.2) (stops view_inner (inners_steps (base_of c.args.scope.now)) c.args.bindings.now c.turns.binding-index c.binding-item.result (map view_slot c.turns.slots.items) c.turns.machine (meaning.inners (base_of c.args.scope.now) (listed (map view_inner c.args.bindings.now)) (map view_slot c.args.slots.now.items) c.args.machine.now) c.in_err-slot.field-0.0 c.turns.invariant c.turns-test.true c.binding-item.is (first_fails c.in_err-slot.field-0.0 (meaning.inner (base_of c.args.scope.now) (view_inner c.binding-item.result) (map view_slot c.deref.result.now) c.turns.machine) ((meaning.inner (base_of c.args.scope.now) (view_inner c.binding-item.result) (map view_slot c.turns.slots.items) c.turns.machine) >>= with_last (map view_slot c.turns.slots.items)) (with_last (map view_slot c.turns.slots.items)) (ap (λ (q : Result _ Fault). q >>= with_last (map view_slot c.turns.slots.items)) (ap (λ (l : List Slot). meaning.inner (base_of c.args.scope.now) (view_inner c.binding-item.result) (map view_slot l) c.turns.machine) (sym c.deref.ensures.value))) c.in_err-slot.ensures))
 
-pub inners-turns-preserved : goal.inners-turns-preserved
-inners-turns-preserved t c = turn view_inner (inners_steps (base_of c.args.scope.now)) c.args.bindings.now c.turns.binding-index c.binding-item.result (map view_slot c.turns.slots.items) (map view_slot c.push.new.self.items) c.turns.machine c.inner.new.machine (meaning.inners (base_of c.args.scope.now) (listed (map view_inner c.args.bindings.now)) (map view_slot c.args.slots.now.items) c.args.machine.now) c.turns.invariant c.turns-test.true c.binding-item.is (went view_slot (meaning.inner (base_of c.args.scope.now) (view_inner c.binding-item.result) (map view_slot c.turns.slots.items) c.turns.machine) c.turns.slots.items c.push.new.self.items c.in_ok-slot.slot c.inner.new.machine (ap (λ (l : List Slot). meaning.inner (base_of c.args.scope.now) (view_inner c.binding-item.result) (map view_slot l) c.turns.machine) (sym c.deref.ensures.value) ∙ c.in_ok-slot.ensures) c.in_ok-push.ensures.items)
+pub bodies::inners-turns-preserved : goal.bodies::inners-turns-preserved
+bodies::inners-turns-preserved t c = turn view_inner (inners_steps (base_of c.args.scope.now)) c.args.bindings.now c.turns.binding-index c.binding-item.result (map view_slot c.turns.slots.items) (map view_slot c.push.new.self.items) c.turns.machine c.inner.new.machine (meaning.inners (base_of c.args.scope.now) (listed (map view_inner c.args.bindings.now)) (map view_slot c.args.slots.now.items) c.args.machine.now) c.turns.invariant c.turns-test.true c.binding-item.is (went view_slot (meaning.inner (base_of c.args.scope.now) (view_inner c.binding-item.result) (map view_slot c.turns.slots.items) c.turns.machine) c.turns.slots.items c.push.new.self.items c.in_ok-slot.slot c.inner.new.machine (ap (λ (l : List Slot). meaning.inner (base_of c.args.scope.now) (view_inner c.binding-item.result) (map view_slot l) c.turns.machine) (sym c.deref.ensures.value) ∙ c.in_ok-slot.ensures) c.in_ok-push.ensures.items)
 
-pub inners-returns : goal.inners-returns
-inners-returns t c = ends view_inner (meaning.inners (base_of c.args.scope.now)) c.args.bindings.now c.turns.binding-index (map view_slot c.turns.slots.items) c.turns.machine (meaning.inners (base_of c.args.scope.now) (listed (map view_inner c.args.bindings.now)) (map view_slot c.args.slots.now.items) c.args.machine.now) c.turns.invariant c.turns-test.false ∙ inners_none (base_of c.args.scope.now) (map view_slot c.turns.slots.items) c.turns.machine
+pub bodies::inners-returns : goal.bodies::inners-returns
+bodies::inners-returns t c = ends view_inner (meaning.inners (base_of c.args.scope.now)) c.args.bindings.now c.turns.binding-index (map view_slot c.turns.slots.items) c.turns.machine (meaning.inners (base_of c.args.scope.now) (listed (map view_inner c.args.bindings.now)) (map view_slot c.args.slots.now.items) c.args.machine.now) c.turns.invariant c.turns-test.false ∙ inners_none (base_of c.args.scope.now) (map view_slot c.turns.slots.items) c.turns.machine
 
-pub parameters-returns-in_err-slot : goal.parameters-returns-in_err-slot
-parameters-returns-in_err-slot t c =
+pub bodies::parameters-returns-in_err-slot : goal.bodies::parameters-returns-in_err-slot
+bodies::parameters-returns-in_err-slot t c =
     let p = err_from_is_err_and c.from_residual.result c.from_residual.ensures.1 in
     rw (p.1, p.2) (stops view_param (parameters_steps (base_of c.args.scope.now)) c.args.params.now c.turns.param-index c.param-item.result (map view_given c.turns.rest.items, map view_slot c.turns.slots.items) c.turns.machine (meaning.parameters (base_of c.args.scope.now) (listed (map view_param c.args.params.now)) (map view_given c.args.given.items) [] c.args.machine.now) c.in_err-slot.field-0.0 c.turns.invariant c.turns-test.true c.param-item.is (fails_on c.in_err-slot.field-0.0 (meaning.parameter (base_of c.args.scope.now) (view_param c.param-item.result) (map view_given c.turns.rest.items) c.turns.machine) (with_slot (map view_slot c.turns.slots.items)) c.in_err-slot.ensures))
 
-pub parameters-turns-preserved : goal.parameters-turns-preserved
-parameters-turns-preserved t c = turn view_param (parameters_steps (base_of c.args.scope.now)) c.args.params.now c.turns.param-index c.param-item.result (map view_given c.turns.rest.items, map view_slot c.turns.slots.items) (map view_given c.parameter.new.given.items, map view_slot c.push.new.self.items) c.turns.machine c.parameter.new.machine (meaning.parameters (base_of c.args.scope.now) (listed (map view_param c.args.params.now)) (map view_given c.args.given.items) [] c.args.machine.now) c.turns.invariant c.turns-test.true c.param-item.is (slot_went (meaning.parameter (base_of c.args.scope.now) (view_param c.param-item.result) (map view_given c.turns.rest.items) c.turns.machine) c.turns.slots.items c.push.new.self.items c.in_ok-slot.slot (map view_given c.parameter.new.given.items) c.parameter.new.machine c.in_ok-slot.ensures c.in_ok-push.ensures.items)
+pub bodies::parameters-turns-preserved : goal.bodies::parameters-turns-preserved
+bodies::parameters-turns-preserved t c = turn view_param (parameters_steps (base_of c.args.scope.now)) c.args.params.now c.turns.param-index c.param-item.result (map view_given c.turns.rest.items, map view_slot c.turns.slots.items) (map view_given c.parameter.new.given.items, map view_slot c.push.new.self.items) c.turns.machine c.parameter.new.machine (meaning.parameters (base_of c.args.scope.now) (listed (map view_param c.args.params.now)) (map view_given c.args.given.items) [] c.args.machine.now) c.turns.invariant c.turns-test.true c.param-item.is (slot_went (meaning.parameter (base_of c.args.scope.now) (view_param c.param-item.result) (map view_given c.turns.rest.items) c.turns.machine) c.turns.slots.items c.push.new.self.items c.in_ok-slot.slot (map view_given c.parameter.new.given.items) c.parameter.new.machine c.in_ok-slot.ensures c.in_ok-push.ensures.items)
 
-pub parameters-returns : goal.parameters-returns
-parameters-returns t c = ends view_param (from_both (base_of c.args.scope.now)) c.args.params.now c.turns.param-index (map view_given c.turns.rest.items, map view_slot c.turns.slots.items) c.turns.machine (meaning.parameters (base_of c.args.scope.now) (listed (map view_param c.args.params.now)) (map view_given c.args.given.items) [] c.args.machine.now) c.turns.invariant c.turns-test.false ∙ parameters_none (base_of c.args.scope.now) (map view_given c.turns.rest.items) (map view_slot c.turns.slots.items) c.turns.machine
+pub bodies::parameters-returns : goal.bodies::parameters-returns
+bodies::parameters-returns t c = ends view_param (from_both (base_of c.args.scope.now)) c.args.params.now c.turns.param-index (map view_given c.turns.rest.items, map view_slot c.turns.slots.items) c.turns.machine (meaning.parameters (base_of c.args.scope.now) (listed (map view_param c.args.params.now)) (map view_given c.args.given.items) [] c.args.machine.now) c.turns.invariant c.turns-test.false ∙ parameters_none (base_of c.args.scope.now) (map view_given c.turns.rest.items) (map view_slot c.turns.slots.items) c.turns.machine
 
-pub call_def-returns-then-scope-eq0 : goal.call_def-returns-then-scope-eq0
-call_def-returns-then-scope-eq0 t c = calls_end (world_of c.args.scope.now) c.args.scope.now.calls c.args.at c.args.kinds.now (map view_given c.args.given.items) c.args.machine.now (omega arith)
+pub calls::call_def-returns-then-scope-eq0 : goal.calls::call_def-returns-then-scope-eq0
+calls::call_def-returns-then-scope-eq0 t c = calls_end (world_of c.args.scope.now) c.args.scope.now.calls c.args.at c.args.kinds.now (map view_given c.args.given.items) c.args.machine.now (omega arith)
 
-pub call_def-returns-in-None : goal.call_def-returns-in-None
-call_def-returns-in-None t c =
+pub calls::call_def-returns-in-None : goal.calls::call_def-returns-in-None
+calls::call_def-returns-in-None t c =
     calls_turn (world_of c.args.scope.now) c.args.scope.now.calls (c.args.scope.now.calls - 1) c.args.at c.args.kinds.now (map view_given c.args.given.items) c.args.machine.now (omega arith)
     ∙ ap (λ (o : Option (Tree ADef)). meaning.run (record { uses = c.args.scope.now.uses.now.all.now; slots = map view_slot c.args.scope.now.globals.now.all.items; kinds = c.args.kinds.now; call = meaning.call_by (world_of c.args.scope.now) (c.args.scope.now.calls - 1) }) o (map view_given c.args.given.items) c.args.machine.now) (sym c.in-None.ensures)
 
-pub call_def-returns-in-Some : goal.call_def-returns-in-Some
-call_def-returns-in-Some t c =
+pub calls::call_def-returns-in-Some : goal.calls::call_def-returns-in-Some
+calls::call_def-returns-in-Some t c =
     let turned =
     calls_turn (world_of c.args.scope.now) c.args.scope.now.calls (c.args.scope.now.calls - 1) c.args.at c.args.kinds.now (map view_given c.args.given.items) c.args.machine.now (omega arith)
     ∙ ap (λ (o : Option (Tree ADef)). meaning.run (record { uses = c.args.scope.now.uses.now.all.now; slots = map view_slot c.args.scope.now.globals.now.all.items; kinds = c.args.kinds.now; call = meaning.call_by (world_of c.args.scope.now) (c.args.scope.now.calls - 1) }) o (map view_given c.args.given.items) c.args.machine.now) (sym c.in-Some.ensures) in
