@@ -1,5 +1,5 @@
 // A ring of cells.
-ghost use Rattle.std.specs.Prelude.{◌≡◌, ◌+◌, ◌<◌, ◌≤◌, ◌^◌, [], ◌∷◌, ◌++◌, ℕ, true, false, length, map, max, take, drop, slice_get, IfOk, OnErr, OnOk};
+ghost use Rattle.std.specs.Prelude.{◌≡◌, ◌+◌, ◌<◌, ◌≤◌, ◌^◌, [], ◌∷◌, ◌++◌, ℕ, true, false, length, map, max, take, drop, slice_get, IfOk, IsOk, OnErr, OnOk};
 ghost use Rattle.cell_ring.specs.Rings.{Ring, Runs, goes_on, has_title, inner_cells};
 
 use circular_buffer::HeapCircularBuffer;
@@ -96,6 +96,7 @@ impl CellRing {
     pub fn make_room(&mut self, more: u32) -> Result<(), Memory>
         ensures made { OnOk result (self.new ≡ record { cells = self.old.cells; room = max self.old.room (length self.old.cells + more) }) }
         ensures kept { OnErr result (self.new ≡ self.old) }
+        ensures enough { length self.old.cells + more ≤ self.old.room → IsOk result }
     {
         let wanted = self.len().checked_add(more).ok_or(Memory)? as usize;
         if wanted > self.cells.capacity() {
