@@ -1,5 +1,5 @@
 // A ring of cells.
-ghost use Rattle.std.specs.Prelude.{◌≡◌, ◌+◌, ◌<◌, ◌≤◌, ◌^◌, [], ◌∷◌, ◌++◌, ℕ, true, false, length, map, max, take, drop, slice_get, IfOk, IsOk, OnErr, OnOk};
+ghost use Rattle.std.specs.Prelude.{◌≡◌, ◌+◌, ◌<◌, ◌≤◌, ◌^◌, [], ◌∷◌, ◌++◌, ℕ, true, false, length, map, take, drop, slice_get, IfOk};
 ghost use Rattle.cell_ring.specs.Rings.{Ring, Runs, goes_on, has_title, inner_cells};
 
 use circular_buffer::HeapCircularBuffer;
@@ -11,7 +11,7 @@ use std::marker::Model;
 // How many cells are appended at once.
 const BLOCK: usize = 64;
 
-/// A queue of cells in one block, which is reserved when it is made. No call but `make_room` takes memory after that.
+/// A queue of cells in one block, which is reserved when it is made. No other call takes memory.
 #[derive(Drop)]
 pub struct CellRing {
     cells: HeapCircularBuffer<Cell>,
@@ -43,6 +43,13 @@ impl CellRing {
         ensures within { result ≤ self.now.room }
     {
         self.cells.len() as u32
+    }
+
+    /// How many cells it has room for.
+    pub fn room(&self) -> u32
+        ensures { result ≡ self.now.room }
+    {
+        self.cells.capacity() as u32
     }
 
     /// The first cell.
@@ -90,19 +97,6 @@ impl CellRing {
         let first = from.min(front.len());
         let skip = (from - first).min(back.len());
         (&front[first..], &back[skip..])
-    }
-
-    /// Makes room for so many cells behind those that it holds, if there is less.
-    pub fn make_room(&mut self, more: u32) -> Result<(), Memory>
-        ensures made { OnOk result (self.new ≡ record { cells = self.old.cells; room = max self.old.room (length self.old.cells + more) }) }
-        ensures kept { OnErr result (self.new ≡ self.old) }
-        ensures enough { length self.old.cells + more ≤ self.old.room → IsOk result }
-    {
-        let wanted = self.len().checked_add(more).ok_or(Memory)? as usize;
-        if wanted > self.cells.capacity() {
-            self.cells.resize(wanted)?;
-        }
-        Ok(())
     }
 
     /// Appends a cell.
@@ -170,7 +164,7 @@ impl CellRing {
 }
 
 // Lays the samples of the cells side by side.
-fn lay(cells: &[Cell], left: &mut [i16], right: &mut [i16])
+pub(crate) fn lay(cells: &[Cell], left: &mut [i16], right: &mut [i16])
     requires same { (length left.old ≡ length cells.now) × (length right.old ≡ length cells.now) }
     ensures left { left.new ≡ map (λ cell. cell.left) cells.now }
     ensures right { right.new ≡ map (λ cell. cell.right) cells.now }
@@ -197,7 +191,7 @@ fn gather(title: u32, left: &[i16], right: &[i16], cells: &mut [Cell])
 }
 
 // How many cells, from the first one on and at most so many, have this title and begin no track.
-fn inner_of(title: u32, cells: &[Cell], most: usize) -> usize
+pub(crate) fn inner_of(title: u32, cells: &[Cell], most: usize) -> usize
     ensures { Runs (goes_on title) cells.now most result }
 {
     let mut count = 0;
