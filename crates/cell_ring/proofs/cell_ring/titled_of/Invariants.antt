@@ -1,11 +1,11 @@
-use Rattle.std.proofs.Common.{◌≡◌, ◌<◌, ◌≤◌, ◌+◌, ◌-◌, ℕ, true, slice_get}
+use Rattle.std.proofs.Common.{◌≡◌, ◌<◌, ◌≤◌, ◌-◌, ℕ, true, slice_get}
 use Rattle.cell_ring.specs.Rings.{has_title}
-use Rattle.cell_ring.proofs.cell_ring.CellRing.titled.Given as goal
+use Rattle.cell_ring.proofs.cell_ring.titled_of.Given as goal
 
 abbrev pub invariant-loop-count : goal.invariant-loop-count
 invariant-loop-count l = record {
   within : l.count ≤ l.most;
-  titled : (j : ℕ) → j < l.count → has_title l.title (slice_get l.self.cells (l.from + j)) ≡ true;
+  pass : (j : ℕ) → j < l.count → has_title l.title (slice_get l.cells j) ≡ true;
 }
 
 abbrev pub decreases-loop-count : goal.decreases-loop-count
