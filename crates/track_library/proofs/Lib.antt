@@ -9,3 +9,4 @@ pub mod Leaves
 pub mod OneFile
 pub mod Changed
 pub mod Taken
+pub mod Chosen

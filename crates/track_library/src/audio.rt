@@ -122,8 +122,8 @@ impl AudioFiles {
     }
 }
 
-/// The number of a sound behind so many, if one more still has one.
-fn new_number(count: usize) -> Result<u32, Memory>
+/// The number of a sound or a list behind so many, if one more still has one.
+pub fn new_number(count: usize) -> Result<u32, Memory>
     ensures number { IfOk result (λ number. number ≡ count) }
     ensures few { IfOk result (λ number. number + 1 < 2 ^ 32) }
 {

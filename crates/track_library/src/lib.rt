@@ -4,6 +4,7 @@
 mod audio;
 mod fault;
 mod laws;
+mod leaf_lists;
 mod list;
 mod plan_files;
 mod read_lists;

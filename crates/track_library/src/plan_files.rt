@@ -1,7 +1,8 @@
 // The audio files of a plan, before they are decoded.
-ghost use Rattle.std.specs.Prelude.{◌≡◌, map, IfOk};
+ghost use Rattle.std.specs.Prelude.{◌≡◌, IfOk};
 ghost use Rattle.frame_core.specs.Library.{IsLibrary};
 
+use crate::leaf_lists::LeafLists;
 use crate::undecoded::Undecoded;
 use frame_core::{Library, Track};
 use liq_base::{Memory, Text};
@@ -14,25 +15,24 @@ use std::marker::Model;
 pub struct PlanFiles {
     files: Vec<Undecoded>,
     names: Vec<Text>,
-    leaves: Vec<Vec<u32>>,
+    leaves: LeafLists,
 }
 
 impl Model for PlanFiles {
-    ghost use Rattle.std.specs.Prelude.{map};
     ghost use Rattle.frame_core.specs.Library.{IsLibrary, Sounds};
 
     ghost Value = { Sounds };
 
-    ghost view = { λ p. record { files = p.files.items; names = p.names.items; leaves = map (λ v. v.items) p.leaves.items } };
+    ghost view = { λ p. record { files = p.files.items; names = p.names.items; leaves = p.leaves } };
 
-    ghost invariant = { λ p. IsLibrary (record { files = p.files.items; names = p.names.items; leaves = map (λ v. v.items) p.leaves.items }) };
+    ghost invariant = { λ p. IsLibrary (record { files = p.files.items; names = p.names.items; leaves = p.leaves }) };
 }
 
 impl PlanFiles {
     /// The files of a plan, their names, and these lists.
-    pub fn new(files: Vec<Undecoded>, names: Vec<Text>, leaves: Vec<Vec<u32>>) -> PlanFiles
-        requires { IsLibrary (record { files = files.items; names = names.items; leaves = map (λ v. v.items) leaves.items }) }
-        ensures { result ≡ record { files = files.items; names = names.items; leaves = map (λ v. v.items) leaves.items } }
+    pub fn new(files: Vec<Undecoded>, names: Vec<Text>, leaves: LeafLists) -> PlanFiles
+        requires { IsLibrary (record { files = files.items; names = names.items; leaves = leaves }) }
+        ensures { result ≡ record { files = files.items; names = names.items; leaves = leaves } }
     {
         PlanFiles {
             files,
@@ -51,7 +51,8 @@ impl PlanFiles {
             leaves,
         } = self;
         let tracks = decode_each(alloc, files)?;
-        Ok(Library::new(tracks, names, leaves))
+        let (lists, numbers) = leaves.into_lists();
+        Ok(Library::of_lists(tracks, names, lists, numbers))
     }
 }
 

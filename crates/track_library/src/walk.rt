@@ -1,5 +1,5 @@
 // The walk over the nodes of a plan.
-ghost use Rattle.std.specs.Prelude.{◌≡◌, ◌≤◌, ◌<◌, ◌^◌, [], length, map, Ok, IfOk, IfErr, OnOk};
+ghost use Rattle.std.specs.Prelude.{◌≡◌, ◌≤◌, ◌<◌, ◌^◌, [], length, Ok, IfOk, IfErr, OnOk};
 ghost use Rattle.std.specs.List.{All};
 ghost use Rattle.std.specs.Option.{ForSome};
 ghost use Rattle.frame_core.specs.Library.{IsLibrary};
@@ -10,6 +10,7 @@ ghost use Rattle.track_library.specs.States.{heard_of, AreRules, IsHeard, Plays,
 
 use crate::audio::AudioFiles;
 use crate::fault::{LoadFault, Unusable, fault_of};
+use crate::leaf_lists::LeafLists;
 use crate::plan_files::PlanFiles;
 use crate::read_lists::ReadLists;
 use crate::rules::{Rules, Sizes};
@@ -74,11 +75,11 @@ impl Walk {
     }
 
     /// The files that were used.
-    fn into_files(self, leaves: Vec<Vec<u32>>) -> PlanFiles
+    fn into_files(self, leaves: LeafLists) -> PlanFiles
         requires heard { IsHeard (heard_of self.audio) }
-        requires below { All (All (λ number. number < length self.audio.files.items)) (map (λ leaf. leaf.items) leaves.items) }
-        requires few { All (λ leaf. length leaf < 2 ^ 32) (map (λ leaf. leaf.items) leaves.items) }
-        ensures same { result ≡ record { files = self.audio.files.items; names = self.audio.titles.items; leaves = map (λ leaf. leaf.items) leaves.items } }
+        requires below { All (All (λ number. number < length self.audio.files.items)) leaves }
+        requires few { All (λ leaf. length leaf < 2 ^ 32) leaves }
+        ensures same { result ≡ record { files = self.audio.files.items; names = self.audio.titles.items; leaves = leaves } }
         ensures library { IsLibrary result }
     {
         let Walk { lists: _, audio } = self;
@@ -147,10 +148,10 @@ pub fn find_files<S: Shelf>(
         all: sizes.all,
     };
     let mut walk = Walk::new(alloc);
-    let mut leaves = Vec::new(alloc);
+    let mut leaves = LeafLists::new(alloc);
     for node in plan.nodes.as_slice() {
         let leaf = walk.find_leaf(alloc, shelf, &node.op, rules)?;
-        leaves.push(leaf)?;
+        leaves.push(alloc, &node.op, leaf)?;
     }
     Ok(walk.into_files(leaves))
 }

@@ -1,6 +1,5 @@
-use Rattle.std.proofs.Common.{rules, arith, length, length-append, ◌≡◌, ◌∙◌, ◌+◌, ◌∷◌, ◌++◌, [], List, ℕ, ap, sym, subst, drop, map}
-use Rattle.std.specs.Prelude.{Ok, Vec}
-use Rattle.std.specs.declared.alloc.Global.{Global}
+use Rattle.std.proofs.Common.{rules, arith, length, length-append, ◌≡◌, ◌∙◌, ◌+◌, ◌∷◌, ◌++◌, [], List, ℕ, ap, sym, subst, drop}
+use Rattle.std.specs.Prelude.{Ok}
 use Rattle.track_library.specs.Walk.{Ends, load_of, leaf_of, leaf_added, nodes_walked, sounds_of}
 use Rattle.frame_core.specs.Library.{Sounds}
 use Rattle.track_library.specs.Reads.{LeafReads, LoadReads}
@@ -10,13 +9,13 @@ use Rattle.track_library.specs.declared.rules.Rules.{Rules}
 use Rattle.track_library.proofs.Ending.{ends_through}
 use Rattle.track_library.proofs.Leaves.{LeavesSoFar, one_leaf_more}
 use Rattle.track_library.proofs.OneFile.{SinglesSoFar, all_singles, one_single_more}
-use Rattle.track_library.proofs.Steps.{next_node_of, nodes_end, items_pushed, next_node_reads, later_node_reads}
+use Rattle.track_library.proofs.Steps.{next_node_of, nodes_end, next_node_reads, later_node_reads}
 use Rattle.track_library.proofs.walk.find_files.Goals as goal
 
 pub returns-in_err-leaf-clause-fault : goal.returns-in_err-leaf-clause-fault
 returns-in_err-leaf-clause-fault g c =
     let by : Rules = record { rate = c.args.plan.now.rate; file = c.args.sizes.file; all = c.args.sizes.all } in
-    let leaves = map (λ (v : Vec ℕ Global). v.items) c.loop-node.leaves.items in
+    let leaves = c.loop-node.leaves in
     let ends : Ends (g.S.Shelf.files c.args.shelf.now) (g.S.Shelf.read_count c.args.shelf.now) (g.S.Shelf.read_count c.find_leaf.new.shelf)
     (λ files. LoadReads by files c.args.plan.now.nodes)
     (λ files. load_of by files c.args.plan.now.nodes) c.in_err-leaf.field-0.0 =
@@ -43,10 +42,9 @@ returns-in_err-leaf-clause-fault g c =
 pub loop-node-preserved : goal.loop-node-preserved
 loop-node-preserved g c =
     let by : Rules = record { rate = c.args.plan.now.rate; file = c.args.sizes.file; all = c.args.sizes.all } in
-    let leaves = map (λ (v : Vec ℕ Global). v.items) c.loop-node.leaves.items in
-    let pushed : map (λ (v : Vec ℕ Global). v.items) c.push.new.self.items ≡ leaves ++ c.in_ok-leaf.leaf.items ∷ [] =
-    items_pushed c.loop-node.leaves.items c.push.new.self.items c.in_ok-leaf.leaf c.in_ok-push.ensures.items in
-    let many : length (map (λ (v : Vec ℕ Global). v.items) c.push.new.self.items) ≡ length leaves + 1 = ap length pushed ∙ length-append leaves (c.in_ok-leaf.leaf.items ∷ []) in (
+    let leaves = c.loop-node.leaves in
+    let pushed : c.push.new.self ≡ leaves ++ c.in_ok-leaf.leaf.items ∷ [] = c.in_ok-push.ensures in
+    let many : length c.push.new.self ≡ length leaves + 1 = ap length pushed ∙ length-append leaves (c.in_ok-leaf.leaf.items ∷ []) in (
       c.in_ok-leaf.ensures.files ∙ c.loop-node.invariant.0,
       omega arith,
       omega arith,
@@ -61,7 +59,7 @@ loop-node-preserved g c =
       λ files t read h.
           c.loop-node.invariant.5 files t read
           (later_node_reads by files c.as_slice-node-items.result.now c.args.plan.now.nodes c.loop-node.node-index (walked_of c.loop-node.walk) leaves c.node-item.result read
-          (Ok (walked_of c.find_leaf.new.self, map (λ (v : Vec ℕ Global). v.items) c.push.new.self.items))
+          (Ok (walked_of c.find_leaf.new.self, c.push.new.self))
           c.as_slice-node-items.ensures c.loop-node-test.true c.node-item.is
           (ap (leaf_added leaves) (c.in_ok-leaf.ensures.leaf files (c.loop-node.invariant.0 ∙ t)) ∙ ap (λ (ls : List (List ℕ)). Ok (walked_of c.find_leaf.new.self, ls)) (sym pushed)) h),
       omega (arith, many),
@@ -73,6 +71,6 @@ loop-node-preserved g c =
 
 pub returns-clause-singles : goal.returns-clause-singles
 returns-clause-singles g c =
-    let leaves = map (λ (v : Vec ℕ Global). v.items) c.loop-node.leaves.items in
+    let leaves = c.loop-node.leaves in
     subst (λ (ls : List (List ℕ)). HaveSingles c.args.plan.now.nodes ls) (sym (ap (λ (s : Sounds). s.leaves) c.into_files.ensures.same))
     (all_singles c.as_slice-node-items.result.now c.args.plan.now.nodes c.loop-node.node-index leaves c.as_slice-node-items.ensures (λ low. omega (arith, low, c.loop-node-test.false)) c.loop-node.invariant.7)
