@@ -1,18 +1,19 @@
 // The bodies of defs: their parameters, their inner bindings and their results.
-ghost use Rattle.std.specs.Prelude.{[], map};
+ghost use Rattle.std.specs.Prelude.{[], None, map};
 ghost use Rattle.script_grammar.specs.View.{listed, view_def, view_param, view_inner};
 ghost use Rattle.script_values.specs.Gives.{Gives};
-ghost use Rattle.eval_meaning.specs.Meaning.{parameters, parameter, inners, inner, body};
+ghost use Rattle.eval_meaning.specs.Meaning.{parameters, inners, inner, body};
+ghost use Rattle.expression_eval.specs.Parameters.{all_filled, filled, view_taken};
 ghost use Rattle.eval_scope.specs.Scopes.{base_of};
 ghost use Rattle.script_values.specs.Views.{view_given, view_slot};
 ghost use Rattle.script_values.specs.View.{view_value};
 
+use crate::arguments::taken_arguments;
 use crate::logic::expr;
-use crate::steps::taken_slot;
 use crate::values::full;
 use eval_scope::Scope;
 use script_grammar::tree::{Def, Inner, Param, ParamForm};
-use script_values::{Fault, Given, Machine, Slot, Value, argument};
+use script_values::{Fault, Given, Machine, Slot, Value};
 use std::alloc::Global;
 
 /// def: `def` NameOpen (param (`,` param)*)? `)` `=`? inner* expression `end`
@@ -62,10 +63,31 @@ fn parameters(
 ) -> Result<Vec<Slot>, Fault>
     ensures { Gives (λ v. (map view_slot v.items, machine.new)) result (parameters (base_of scope.now) (listed (map view_param params.now)) (map view_given given.items) [] machine.old) }
 {
-    let mut rest = given;
+    let taken = taken_arguments(alloc, params, given)?;
+    filled_parameters(alloc, scope, left, machine, params, taken)
+}
+
+/// param (`,` param)*
+///
+/// The same of parameters that take these, in order.
+#[cycle(value)]
+fn filled_parameters(
+    alloc: Global,
+    scope: &Scope<'_>,
+    left: usize,
+    machine: &mut Machine,
+    params: &[Param],
+    taken: Vec<Option<Value>>,
+) -> Result<Vec<Slot>, Fault>
+    ensures { Gives (λ v. (map view_slot v.items, machine.new)) result (all_filled (base_of scope.now) (listed (map view_param params.now)) (map view_taken taken.items) [] machine.old) }
+{
+    let mut rest = taken.into_iter();
     let mut slots = Vec::new(alloc);
     'turns: for param in params {
-        let slot = parameter(alloc, scope, left, machine, param, &mut rest)?;
+        let Some(one) = rest.next() else {
+            return Err(Fault::Stuck);
+        };
+        let slot = parameter(alloc, scope, left, machine, param, one)?;
         slots.push(slot)?;
     }
     Ok(slots)
@@ -73,43 +95,60 @@ fn parameters(
 
 /// param: Name | `~` Name | `~` Name `=` value
 ///
-/// Its binding, by the argument that it takes, or else by its default, which is evaluated in the scope outside of the def.
+/// Its binding, by the argument that it takes, if it takes one, or else by its default.
 #[cycle(value)]
-#[tactic(auto, unfolding(eval_meaning::specs::Meaning::parameter))]
+#[tactic(auto, unfolding(crate::specs::Parameters::filled))]
 fn parameter(
     alloc: Global,
     scope: &Scope<'_>,
     left: usize,
     machine: &mut Machine,
     param: &Param,
-    given: &mut Vec<Given>,
+    taken: Option<Value>,
 ) -> Result<Slot, Fault>
-    ensures { Gives (λ v. ((view_slot v, map view_given given.new.items), machine.new)) result (parameter (base_of scope.now) (view_param param.now) (map view_given given.old.items) machine.old) }
+    ensures { Gives (λ v. (view_slot v, machine.new)) result (filled (base_of scope.now) (view_param param.now) (view_taken taken) machine.old) }
+{
+    match taken {
+        None => missing_parameter(alloc, scope, left, machine, param),
+        Some(value) => Ok(Slot {
+            at: param.at,
+            value,
+        }),
+    }
+}
+
+/// `~` Name `=` value
+///
+/// The binding of a parameter that takes no argument, by its default, which is evaluated in the scope outside of the def.
+#[cycle(value)]
+#[tactic(auto, unfolding(crate::specs::Parameters::filled))]
+fn missing_parameter(
+    alloc: Global,
+    scope: &Scope<'_>,
+    left: usize,
+    machine: &mut Machine,
+    param: &Param,
+) -> Result<Slot, Fault>
+    ensures { Gives (λ v. (view_slot v, machine.new)) result (filled (base_of scope.now) (view_param param.now) None machine.old) }
 {
     match &param.form {
-        ParamForm::Plain => taken_slot(given, param.at, None),
-        ParamForm::Labelled => taken_slot(given, param.at, Some(param.name.as_str())),
-        ParamForm::Optional(default) => match argument(given, Some(param.name.as_str())) {
-            None => {
-                let outer = Scope {
-                    defs: scope.defs,
-                    uses: scope.uses,
-                    globals: scope.globals,
-                    locals: &[],
-                    kinds: scope.kinds,
-                    calls: scope.calls,
-                };
-                let value = full(alloc, &outer, left, machine, default)?;
-                Ok(Slot {
-                    at: param.at,
-                    value,
-                })
-            }
-            Some(value) => Ok(Slot {
+        ParamForm::Plain => Err(Fault::Stuck),
+        ParamForm::Labelled => Err(Fault::Stuck),
+        ParamForm::Optional(default) => {
+            let outer = Scope {
+                defs: scope.defs,
+                uses: scope.uses,
+                globals: scope.globals,
+                locals: &[],
+                kinds: scope.kinds,
+                calls: scope.calls,
+            };
+            let value = full(alloc, &outer, left, machine, default)?;
+            Ok(Slot {
                 at: param.at,
                 value,
-            }),
-        },
+            })
+        }
     }
 }
 

@@ -1,6 +1,7 @@
 //! Evaluation of expressions: the value of each, or its first fault; and whether one holds a call.
 #![tactic(auto)]
 
+mod arguments;
 mod arithmetic;
 mod atoms;
 mod bodies;

@@ -1,6 +1,8 @@
-use Rattle.std.proofs.Common.{◌-◌, List, [], Option, Result, Ok, true, false, refl, sym, ap, subst, ◌∙◌, arith, drop}
+use Rattle.std.proofs.Common.{◌-◌, ◌≡◌, ℕ, List, [], Option, length, Result, Ok, true, false, refl, sym, ap, subst, ◌∙◌, arith, drop}
 use Rattle.std.proofs.lemmas.Result.{err_from_is_err_and}
 use Rattle.std.specs.Prelude.{map}
+use Rattle.std.specs.Global.{Vec}
+use Rattle.std.specs.Vec.Iter.{into_iter_items, into_iter_len}
 use Rattle.script_grammar.specs.Tree.{Tree, ADef}
 use Rattle.script_grammar.specs.View.{listed, view_full, view_and, view_not, view_call, view_compare, view_if, view_sum, view_added, view_product, view_multiplied, view_prim, view_arg, view_param, view_inner}
 use Rattle.script_grammar.specs.declared.tree.Added as added
@@ -15,6 +17,8 @@ use Rattle.script_grammar.specs.declared.tree.Sum as sum
 use Rattle.script_values.specs.Outcomes.{◌>>=◌, Outcome}
 use Rattle.script_values.specs.declared.slots.Slot.{Slot}
 use Rattle.script_values.specs.declared.fault.Fault.{Fault}
+use Rattle.script_values.specs.declared.fault.Fault.TheVariants.{Stuck}
+use Rattle.script_values.specs.declared.value.Value.{Value as AValue}
 use Rattle.script_values.specs.declared.machine.Machine.{Machine}
 use Rattle.script_values.specs.Gives.{Gives}
 use Rattle.script_values.specs.Machines.{count}
@@ -30,10 +34,12 @@ use Rattle.script_values.specs.View.{view_value}
 use Rattle.script_values.specs.Views.{view_given, view_slot}
 use Rattle.expression_eval.specs.declared.steps.Operator.TheVariants as operator
 use Rattle.expression_eval.proofs.Joins.{plus_means, times_means}
-use Rattle.expression_eval.proofs.Loops.{turn, stops, ends, fails_on}
-use Rattle.expression_eval.proofs.Productions.{expr_means, conj_means, sum_means, product_means, call_means, ors_steps, ands_steps, addeds_steps, multiplieds_steps, fulls_steps, arguments_steps, inners_steps, parameters_steps, with_last, with_slot, from_both, went, slot_went, ors_none, ands_none, addeds_none, multiplieds_none, fulls_none, arguments_none, inners_none, parameters_none, first_fails, pair_means, as_list, as_tuple, not_means, plain_means, alone_means, compared_means, argued_means, call_counted, choice_counted, paren_counted, tuple_counted, list_counted, calls_end, calls_turn}
+use Rattle.expression_eval.proofs.Loops.{turn, stops, ends}
+use Rattle.expression_eval.proofs.Productions.{expr_means, conj_means, sum_means, product_means, call_means, ors_steps, ands_steps, addeds_steps, multiplieds_steps, fulls_steps, arguments_steps, inners_steps, with_last, went, ors_none, ands_none, addeds_none, multiplieds_none, fulls_none, arguments_none, inners_none, first_fails, pair_means, as_list, as_tuple, not_means, plain_means, alone_means, compared_means, argued_means, call_counted, choice_counted, paren_counted, tuple_counted, list_counted, calls_end, calls_turn}
 use Rattle.expression_eval.proofs.Putting.{behind_gives, choice_fails, choice_goes, compare_stops, failed_gives, failed_means, failed_same, failed_stops, full_same, gives_same, goes_means, goes_same, joins_goes, kept_off, kept_on, left_ends, left_starts, left_stops, left_turns, made_gives, plain_last}
 use Rattle.expression_eval.proofs.Singles.{full_lone}
+use Rattle.expression_eval.proofs.Slots.{filled_by, filled_none, filled_steps, from_taken, next_taken, none_fails, none_left, one_less, parameters_filled, slot_fails, slot_went}
+use Rattle.expression_eval.specs.Parameters.{all_filled, filled, view_taken}
 use Rattle.expression_eval.proofs.+value.Goals as goal
 
 pub logic::ors-turns-init : goal.logic::ors-turns-init
@@ -222,16 +228,37 @@ bodies::inners-turns-preserved t c = turn view_inner (inners_steps (base_of c.ar
 pub bodies::inners-returns : goal.bodies::inners-returns
 bodies::inners-returns t c = ends view_inner (meaning.inners (base_of c.args.scope.now)) c.args.bindings.now c.turns.binding-index (map view_slot c.turns.slots.items) c.turns.machine (meaning.inners (base_of c.args.scope.now) (listed (map view_inner c.args.bindings.now)) (map view_slot c.args.slots.now.items) c.args.machine.now) c.turns.invariant c.turns-test.false ∙ inners_none (base_of c.args.scope.now) (map view_slot c.turns.slots.items) c.turns.machine
 
-pub bodies::parameters-returns-in_err-slot : goal.bodies::parameters-returns-in_err-slot
-bodies::parameters-returns-in_err-slot t c =
-    let p = err_from_is_err_and c.from_residual.result c.from_residual.ensures.1 in
-    rw (p.1, p.2) (stops view_param (parameters_steps (base_of c.args.scope.now)) c.args.params.now c.turns.param-index c.param-item.result (map view_given c.turns.rest.items, map view_slot c.turns.slots.items) c.turns.machine (meaning.parameters (base_of c.args.scope.now) (listed (map view_param c.args.params.now)) (map view_given c.args.given.items) [] c.args.machine.now) c.in_err-slot.field-0.0 c.turns.invariant c.turns-test.true c.param-item.is (fails_on c.in_err-slot.field-0.0 (meaning.parameter (base_of c.args.scope.now) (view_param c.param-item.result) (map view_given c.turns.rest.items) c.turns.machine) (with_slot (map view_slot c.turns.slots.items)) c.in_err-slot.ensures))
+pub bodies::filled_parameters-turns-preserved : goal.bodies::filled_parameters-turns-preserved
+bodies::filled_parameters-turns-preserved t c =
+    let long : into_iter_len c.next.new.self ≡ length (into_iter_items c.next.new.self) = one_less (into_iter_items c.turns.rest) (into_iter_items c.next.new.self) c.in-Some.one (into_iter_len c.turns.rest) (into_iter_len c.next.new.self) c.in-Some.ensures.cases.0 c.in-Some.ensures.cases.1 c.turns.invariant.0 in
+    let front = next_taken (into_iter_items c.turns.rest) (into_iter_items c.next.new.self) c.in-Some.one c.in-Some.ensures.cases.0 in (
+      long,
+      turn view_param (filled_steps (base_of c.args.scope.now)) c.args.params.now c.turns.param-index c.param-item.result (map view_taken (into_iter_items c.turns.rest), map view_slot c.turns.slots.items) (map view_taken (into_iter_items c.next.new.self), map view_slot c.push.new.self.items) c.turns.machine c.parameter.new.machine (all_filled (base_of c.args.scope.now) (listed (map view_param c.args.params.now)) (map view_taken c.args.taken.items) [] c.args.machine.now) c.turns.invariant.1 c.turns-test.true c.param-item.is (slot_went (base_of c.args.scope.now) (view_param c.param-item.result) (view_taken c.in-Some.one) (map view_taken (into_iter_items c.turns.rest)) (map view_taken (into_iter_items c.next.new.self)) c.turns.slots.items c.push.new.self.items c.in_ok-slot.slot c.turns.machine c.parameter.new.machine front c.in_ok-slot.ensures c.in_ok-push.ensures.items),
+    )
 
-pub bodies::parameters-turns-preserved : goal.bodies::parameters-turns-preserved
-bodies::parameters-turns-preserved t c = turn view_param (parameters_steps (base_of c.args.scope.now)) c.args.params.now c.turns.param-index c.param-item.result (map view_given c.turns.rest.items, map view_slot c.turns.slots.items) (map view_given c.parameter.new.given.items, map view_slot c.push.new.self.items) c.turns.machine c.parameter.new.machine (meaning.parameters (base_of c.args.scope.now) (listed (map view_param c.args.params.now)) (map view_given c.args.given.items) [] c.args.machine.now) c.turns.invariant c.turns-test.true c.param-item.is (slot_went (meaning.parameter (base_of c.args.scope.now) (view_param c.param-item.result) (map view_given c.turns.rest.items) c.turns.machine) c.turns.slots.items c.push.new.self.items c.in_ok-slot.slot (map view_given c.parameter.new.given.items) c.parameter.new.machine c.in_ok-slot.ensures c.in_ok-push.ensures.items)
+pub bodies::filled_parameters-returns-in_default : goal.bodies::filled_parameters-returns-in_default
+bodies::filled_parameters-returns-in_default t c =
+    stops view_param (filled_steps (base_of c.args.scope.now)) c.args.params.now c.turns.param-index c.param-item.result (map view_taken (into_iter_items c.turns.rest), map view_slot c.turns.slots.items) c.turns.machine (all_filled (base_of c.args.scope.now) (listed (map view_param c.args.params.now)) (map view_taken c.args.taken.items) [] c.args.machine.now) Stuck c.turns.invariant.1 c.turns-test.true c.param-item.is (none_fails (base_of c.args.scope.now) (view_param c.param-item.result) (map view_taken (into_iter_items c.turns.rest)) (map view_slot c.turns.slots.items) c.turns.machine (none_left (into_iter_items c.turns.rest) (into_iter_len c.turns.rest) c.turns.invariant.0 c.in_default.ensures.cases.0))
+
+pub bodies::filled_parameters-returns-in_err-slot : goal.bodies::filled_parameters-returns-in_err-slot
+bodies::filled_parameters-returns-in_err-slot t c =
+    let p = err_from_is_err_and c.from_residual.result c.from_residual.ensures.1 in
+    let front = next_taken (into_iter_items c.turns.rest) (into_iter_items c.next.new.self) c.in-Some.one c.in-Some.ensures.cases.0 in
+    rw (p.1, p.2) (stops view_param (filled_steps (base_of c.args.scope.now)) c.args.params.now c.turns.param-index c.param-item.result (map view_taken (into_iter_items c.turns.rest), map view_slot c.turns.slots.items) c.turns.machine (all_filled (base_of c.args.scope.now) (listed (map view_param c.args.params.now)) (map view_taken c.args.taken.items) [] c.args.machine.now) c.in_err-slot.field-0.0 c.turns.invariant.1 c.turns-test.true c.param-item.is (slot_fails (base_of c.args.scope.now) (view_param c.param-item.result) (view_taken c.in-Some.one) (map view_taken (into_iter_items c.turns.rest)) (map view_taken (into_iter_items c.next.new.self)) (map view_slot c.turns.slots.items) c.turns.machine c.in_err-slot.field-0.0 front c.in_err-slot.ensures))
+
+pub bodies::filled_parameters-returns : goal.bodies::filled_parameters-returns
+bodies::filled_parameters-returns t c = ends view_param (from_taken (base_of c.args.scope.now)) c.args.params.now c.turns.param-index (map view_taken (into_iter_items c.turns.rest), map view_slot c.turns.slots.items) c.turns.machine (all_filled (base_of c.args.scope.now) (listed (map view_param c.args.params.now)) (map view_taken c.args.taken.items) [] c.args.machine.now) c.turns.invariant.1 c.turns-test.false ∙ filled_none (base_of c.args.scope.now) (map view_taken (into_iter_items c.turns.rest)) (map view_slot c.turns.slots.items) c.turns.machine
+
+pub bodies::parameter-returns-in-Some : goal.bodies::parameter-returns-in-Some
+bodies::parameter-returns-in-Some t c =
+    ap (λ (o : Option AValue). filled (base_of c.args.scope.now) (view_param c.args.param.now) (view_taken o) c.args.machine.now) c.in-Some.is ∙ filled_by (base_of c.args.scope.now) c.args.param.now (view_value c.in-Some.value) c.args.machine.now
 
 pub bodies::parameters-returns : goal.bodies::parameters-returns
-bodies::parameters-returns t c = ends view_param (from_both (base_of c.args.scope.now)) c.args.params.now c.turns.param-index (map view_given c.turns.rest.items, map view_slot c.turns.slots.items) c.turns.machine (meaning.parameters (base_of c.args.scope.now) (listed (map view_param c.args.params.now)) (map view_given c.args.given.items) [] c.args.machine.now) c.turns.invariant c.turns-test.false ∙ parameters_none (base_of c.args.scope.now) (map view_given c.turns.rest.items) (map view_slot c.turns.slots.items) c.turns.machine
+bodies::parameters-returns t c =
+    let same =
+    parameters_filled (base_of c.args.scope.now) (listed (map view_param c.args.params.now)) (map view_given c.args.given.items) [] c.args.machine.now
+    ∙ ap (λ (os : List (Option Value)). all_filled (base_of c.args.scope.now) (listed (map view_param c.args.params.now)) os [] c.args.machine.now) (sym c.in_ok-taken.ensures) in
+    subst (λ (r : Result (List (ℕ × Value) × Machine) Fault). Gives (λ (v : Vec Slot). (map view_slot v.items, c.filled_parameters.new.machine)) c.filled_parameters.result r) (sym same) c.filled_parameters.ensures
 
 pub calls::call_def-returns-then-scope-eq0 : goal.calls::call_def-returns-then-scope-eq0
 calls::call_def-returns-then-scope-eq0 t c = calls_end (world_of c.args.scope.now) c.args.scope.now.calls c.args.at c.args.kinds.now (map view_given c.args.given.items) c.args.machine.now (omega arith)
