@@ -6,7 +6,7 @@ use Rattle.plan_core.specs.declared.plan.Plan.{Plan}
 use Rattle.script_plan.specs.declared.fault.ScriptFault.{ScriptFault}
 use Rattle.script_plan.specs.Plans.{IsPlan, IsPlanFault}
 use Rattle.stations.specs.Findings.{Fails, Finding, Fits, IsAccepted, IsFinding, IsFound, IsStationFault}
-use Rattle.refusal_lines.specs.declared.fault.Fault.TheVariants.{NoScript, Script, SameFile, Station as Unfit}
+use Rattle.refusal_lines.specs.declared.fault.Fault.TheVariants.{NoScript, Script, SameFile, Station as Unfit, Replay as Untold}
 use Rattle.liq_cli.specs.Answer.{HasPlan, clash_of}
 use Rattle.liq_cli.specs.Prepared.{Found, IsOneOutcome, IsOutcome, Lost, Outcome}
 
@@ -36,6 +36,7 @@ no_script files file trace cues ticks none = record { holds = none; only = only 
   only (Lost (Script fault)) is = absurd (not_there (file_at files file) is.script none is.there)
   only (Lost (SameFile name)) is = absurd (not_there (file_at files file) is.has_plan.script none is.has_plan.there)
   only (Lost (Unfit fault)) is = absurd (not_there (file_at files file) is.has_plan.script none is.has_plan.there)
+  only (Lost (Untold fault)) is = absurd is
 
 -- the script has a fault
 module _ (laws : ScriptLaws) (files : Files) (file : List ℕ) (trace : Option (List ℕ)) (cues : Bool) (ticks : ℕ) (text : List ℕ) (there : file_at files file ≡ Some text) where
@@ -49,6 +50,7 @@ module _ (laws : ScriptLaws) (files : Files) (file : List ℕ) (trace : Option (
       ap (λ f. Lost (Script f)) (laws.fault text other fault (subst (λ t. IsPlanFault t other) (same_file (file_at files file) text is.script there is.there) is.is_fault) told)
   script_only fault told (Lost (SameFile name)) is = absurd (laws.apart text is.plan fault (plan_there is.plan is.has_plan) told)
   script_only fault told (Lost (Unfit other)) is = absurd (laws.apart text is.plan fault (plan_there is.plan is.has_plan) told)
+  script_only fault told (Lost (Untold other)) is = absurd is
 
   pub script_has : (fault : ScriptFault) → IsPlanFault text fault → IsOneOutcome files file trace cues ticks (Lost (Script fault))
   script_has fault told = record { holds = record { script = text; there = there; is_fault = told }; only = script_only fault told }
@@ -73,6 +75,7 @@ module _ (laws : ScriptLaws) (files : Files) (file : List ℕ) (trace : Option (
     clash_only name clash (Lost (SameFile other)) is =
         ap (λ n. Lost (SameFile n)) (same_file (clash_of plan trace cues) name other clash (ap (λ (p : Plan). clash_of p trace cues) (sym (same_plan is.plan is.has_plan)) ∙ is.clash))
     clash_only name clash (Lost (Unfit fault)) is = absurd (both_ways plan is.plan trace cues name (same_plan is.plan is.has_plan) clash is.apart)
+    clash_only name clash (Lost (Untold fault)) is = absurd is
 
     pub clash_has : (name : List ℕ) → clash_of plan trace cues ≡ Some name → IsOneOutcome files file trace cues ticks (Lost (SameFile name))
     clash_has name clash = record { holds = record { plan = plan; has_plan = has_this; clash = clash }; only = clash_only name clash }
@@ -98,6 +101,7 @@ module _ (laws : ScriptLaws) (files : Files) (file : List ℕ) (trace : Option (
       by (Lost (SameFile name)) is = absurd (both_ways is.plan plan trace cues name (sym (same_plan is.plan is.has_plan)) is.clash apart)
       by (Lost (Unfit fault)) is =
           record { finding = Fails fault; is = subst (λ p. IsStationFault files p ticks fault) (same_plan is.plan is.has_plan) is.is_fault; same = refl }
+      by (Lost (Untold fault)) is = absurd is
 
       holds : (finding : Finding) → IsFinding files plan ticks finding → IsOutcome files file trace cues ticks (outcome_by finding)
       holds (Fits library clocks) is = record { has_plan = has_this; apart = apart; accepted = is }

@@ -2,11 +2,12 @@ mod Clashing
 mod Reading
 mod Asking
 mod Threading
+mod Judging
+mod Untold
 mod Outcomes
 mod Found
 mod Endings
 mod Parts
-mod Uncalled
 mod Leavings
 mod AsOne
 mod Workloads
@@ -16,3 +17,4 @@ mod Finished
 mod Ordered
 mod Complete
 mod Counted
+mod Retelling

@@ -1,5 +1,5 @@
 -- What a call creates, by the way that its job ended.
-use Rattle.std.proofs.Common.{◌≡◌, ◌∙◌, ℕ, Bool, List, [], refl, sym, ap, subst, ⊎_elim, arith}
+use Rattle.std.proofs.Common.{◌≡◌, ◌∙◌, ℕ, List, [], refl, sym, ap, subst, ⊎_elim, arith}
 use Rattle.std.specs.Prelude.{Option, Some, None, Result, Ok, Err, IfOk, IfErr, String, string_bytes}
 use Rattle.std.specs.Option.{ForSome}
 use Rattle.std.specs.declared.alloc.Global.{Global}
@@ -8,15 +8,16 @@ use Rattle.frame_core.specs.Library.{Sounds}
 use Rattle.plan_core.specs.declared.plan.Plan.{Plan}
 use Rattle.clock_infer.specs.declared.clock_map.ClockMap.{ClockMap}
 use Rattle.stations.specs.Creations.{MadeFront, after_making, names_of}
-use Rattle.stations.specs.Stations.{Station}
+use Rattle.stations.specs.Stations.{Station, Way}
+use Rattle.stream_meaning.specs.Instants.{Setting}
 use Rattle.stations.proofs.Making.{all_made, none_made, none_more}
 use Rattle.station_render.specs.declared.fault.RenderFault.{RenderFault}
 use Rattle.station_render.specs.declared.fault.RenderFault.TheVariants.{Write as render_write, Memory as render_memory}
-use Rattle.liq_cli.specs.Words.{Asked, Check, Make, Render, HasNoForm, IsAsked, cues_of, file_of, ticks_of, trace_of}
+use Rattle.liq_cli.specs.Words.{Asked, Check, Make, HasNoForm, IsAsked, cues_of, file_of, ticks_of, trace_of}
 use Rattle.liq_cli.specs.Answer.{Answer, Usage, Refused, Checked, Accepted, Made, ForAnswer, ForEachAnswer, IsAnswerTo}
 use Rattle.liq_cli.specs.Call.{Rendered}
 use Rattle.liq_cli.specs.Creating.{CreatesInOrder, creations}
-use Rattle.liq_cli.specs.Prepared.{CreatedFor, EndsFor, ForEach, ForOne, Found, IsOneOutcome, Stops, halt_of_render, station_for}
+use Rattle.liq_cli.specs.Prepared.{CreatedFor, EndsFor, ForEach, ForOne, Granted, IsOneRuling, Stops, TraceEnds, answer_of, halt_of_render, station_for}
 use Rattle.liq_cli.specs.Telling.{Finishes, Tells}
 use Rattle.liq_cli.specs.declared.halt.Halt.{Halt}
 use Rattle.liq_cli.specs.declared.halt.Halt.TheVariants.{Read, Write, Memory, Refused as refused_for}
@@ -31,24 +32,39 @@ created_early asked told reads_before reads_after before after Read ends same = 
 created_early asked told reads_before reads_after before after Write ends same = absurd (ends.no_write (cc))
 created_early asked told reads_before reads_after before after Memory ends same = λ files t answer is. none_made (creations answer) before after same
 
-module _ (file : List ℕ) (start ticks : ℕ) (window : Option ℕ) (trace : Option (List ℕ)) (cues : Bool) (told : Option Files) (plan : Plan) (library : Sounds) (clocks : ClockMap)
-    (one : ForSome told (λ files. IsOneOutcome files file trace cues ticks (Found plan library clocks))) (before between after : Option (List (List ℕ))) (same : between ≡ before) where
+-- the reading of its trace did
+pub created_untold : {T : Type 0} (asked : Asked) (told told_then : Option Files) (name : List ℕ) (base : Setting) (clocks N reads_before reads_after : ℕ) (before after : Option (List (List ℕ))) (e : Halt)
+    → TraceEnds {T = T} told_then name base clocks N reads_before reads_after (Err e) → after ≡ before → CreatedFor asked told before after (Err e)
+created_untold asked told told_then name base clocks N reads_before reads_after before after (refused_for fault) ends same = same
+created_untold asked told told_then name base clocks N reads_before reads_after before after Read ends same = same
+created_untold asked told told_then name base clocks N reads_before reads_after before after Write ends same = absurd (ends.no_write (cc))
+created_untold asked told told_then name base clocks N reads_before reads_after before after Memory ends same = λ files t answer is. none_made (creations answer) before after same
+
+module _ (asked : Asked) (told : Option Files) (plan : Plan) (library : Sounds) (clocks : ClockMap) (way : Way)
+    (is_accepted : answer_of asked (Granted plan library clocks way) ≡ Accepted (station_for asked plan library clocks way))
+    (one : ForSome told (λ files. IsOneRuling asked files (Granted plan library clocks way))) (before between after : Option (List (List ℕ))) (same : between ≡ before) where
   abbrev station : Station
-  station = station_for (Render file start ticks window trace cues) plan library clocks
+  station = station_for asked plan library clocks way
+
+  -- what is created for the station is what is created for the answer
+  names_for : (P : List (List ℕ) → Type 0) → P (names_of station) → P (creations (answer_of asked (Granted plan library clocks way)))
+  names_for P p = subst (λ a. P (creations a)) (sym is_accepted) p
+
+  front_before : MadeFront (names_of station) between after → MadeFront (creations (answer_of asked (Granted plan library clocks way))) before after
+  front_before front = names_for (λ names. MadeFront names before after) (subst (λ b. MadeFront (names_of station) b after) same front)
 
   -- a rendering broke off
-  pub created_broken : (e : RenderFault) → MadeFront (names_of station) between after → CreatedFor (Render file start ticks window trace cues) told before after (Err (halt_of_render e))
-  created_broken render_write front = λ files t.
-      for_one (Render file start ticks window trace cues) files (Found plan library clocks) (λ a. MadeFront (creations a) before after) (one files t) (subst (λ b. MadeFront (names_of station) b after) same front)
-  created_broken render_memory front = λ files t.
-      for_each (Render file start ticks window trace cues) files (Found plan library clocks) (λ a. MadeFront (creations a) before after) (one files t) (subst (λ b. MadeFront (names_of station) b after) same front)
+  pub created_broken : (e : RenderFault) → MadeFront (names_of station) between after → CreatedFor asked told before after (Err (halt_of_render e))
+  created_broken render_write front = λ files t. for_one asked files (Granted plan library clocks way) (λ a. MadeFront (creations a) before after) (one files t) (front_before front)
+  created_broken render_memory front = λ files t. for_each asked files (Granted plan library clocks way) (λ a. MadeFront (creations a) before after) (one files t) (front_before front)
 
   -- a rendering whose last step is its report: memory may be refused for that
-  pub created_all : (r : Result (String Global) Halt) → IfErr r (λ e. e ≡ Memory) → after ≡ after_making (names_of station) between → CreatedFor (Render file start ticks window trace cues) told before after r
+  pub created_all : (r : Result (String Global) Halt) → IfErr r (λ e. e ≡ Memory) → after ≡ after_making (names_of station) between → CreatedFor asked told before after r
   created_all (Ok v) starved made = λ files t.
-      for_one (Render file start ticks window trace cues) files (Found plan library clocks) (λ a. after ≡ after_making (creations a) before) (one files t) (made ∙ ap (after_making (names_of station)) same)
+      for_one asked files (Granted plan library clocks way) (λ a. after ≡ after_making (creations a) before) (one files t)
+      (names_for (λ names. after ≡ after_making names before) (made ∙ ap (after_making (names_of station)) same))
   created_all (Err e) starved made =
-      subst (λ x. CreatedFor (Render file start ticks window trace cues) told before after (Err x)) (sym starved) (created_broken render_memory (all_made (names_of station) between after made))
+      subst (λ x. CreatedFor asked told before after (Err x)) (sym starved) (created_broken render_memory (all_made (names_of station) between after made))
 
 -- where nothing was read of the words, they have no form
 pub unread : (words : List (List ℕ)) → ((asked : Asked) → IsAsked words asked → ◌≡◌ {A = Option Asked} None (Some asked)) → HasNoForm words

@@ -1,88 +1,182 @@
--- The answers to what is asked for are those of outcomes.
-use Rattle.std.proofs.Common.{◌≡◌, ℕ, List, refl, sym, ap, ◌∙◌, subst}
-use Rattle.std.specs.Prelude.{Bool, Option}
+-- The answers to what is asked for are those of rulings.
+use Rattle.std.proofs.Common.{◌≡◌, ℕ, List, refl, sym, ap, ◌∙◌, subst, inl, inr}
+use Rattle.std.specs.Prelude.{Bool, Option, false, None}
 use Rattle.liq_base.specs.Files.{Files}
 use Rattle.frame_core.specs.Library.{Sounds}
 use Rattle.plan_core.specs.declared.plan.Plan.{Plan}
 use Rattle.clock_infer.specs.declared.clock_map.ClockMap.{ClockMap}
-use Rattle.stations.specs.Stations.{Station}
-use Rattle.liq_cli.specs.Words.{Asked, Check, Make, Render, cues_of, file_of, start_of, ticks_of, trace_of, window_of}
-use Rattle.liq_cli.specs.Answer.{Answer, Usage, Refused, Checked, Accepted, Made, IsAnswerTo, IsStation, files_for, files_made}
-use Rattle.liq_cli.specs.Prepared.{ForEach, ForOne, Found, IsOneFor, IsOutcome, IsPrepared, Lost, Outcome, answer_of, station_for}
+use Rattle.stations.specs.Stations.{Again, InRounds, InWindows, Station, Way}
+use Rattle.trace_replay.specs.Turns.{base_of}
+use Rattle.refusal_lines.specs.declared.fault.Fault.{Fault}
+use Rattle.refusal_lines.specs.declared.fault.Fault.TheVariants.{Replay as Untold}
+use Rattle.liq_cli.specs.Words.{Asked, Check, Make, Render, Replay, cues_of, file_of, start_of, ticks_of, trace_of}
+use Rattle.liq_cli.specs.Answer.{Answer, Usage, Refused, Checked, Accepted, Made, IsAnswerTo, IsPrepared, IsStation, IsTraceFault, IsWay, files_for, files_made, way_in}
+use Rattle.liq_cli.specs.Prepared.{Denied, ForEach, ForOne, Found, Granted, IsGranted, IsOneOutcome, IsOneRuling, IsRuling, Lost, Outcome, Ruling, answer_of, station_for}
+use Rattle.liq_cli.proofs.Judging.{IsOneTold, IsTold, Tells, Told, Untells}
 
--- an outcome of what is asked for
-abbrev IsOutcomeFor : Asked → Files → Outcome → Type 0
-IsOutcomeFor asked files outcome = IsOutcome (files_for asked files) (file_of asked) (trace_of asked) (cues_of asked) (ticks_of asked) outcome
+-- what is granted is a station, and a station was granted
+stationed : (asked : Asked) (files : Files) (plan : Plan) (library : Sounds) (clocks : ClockMap) (way : Way) → IsGranted asked files plan library clocks way
+    → IsStation asked files (station_for asked plan library clocks way)
+stationed asked files plan library clocks way is =
+    record { prepared = is.prepared; is_way = is.is_way; start_is = refl; ticks_are = refl; trace_is = refl; cues_are = refl }
 
--- what is found is a station, and a station was found
-stationed : (asked : Asked) (files : Files) (plan : Plan) (library : Sounds) (clocks : ClockMap) → IsPrepared files (file_of asked) (trace_of asked) (cues_of asked) (ticks_of asked) plan library clocks
-    → IsStation asked files (station_for asked plan library clocks)
-stationed asked files plan library clocks is =
-    record { has_plan = is.has_plan; apart = is.apart; accepted = is.accepted; start_is = refl; ticks_are = refl; window_is = refl; trace_is = refl; cues_are = refl }
+granted : (asked : Asked) (files : Files) (station : Station) → IsStation asked files station → IsGranted asked files station.plan station.library station.clocks station.way
+granted asked files station is = record { prepared = is.prepared; is_way = is.is_way }
 
-prepared : (asked : Asked) (files : Files) (station : Station) → IsStation asked files station
-    → IsPrepared files (file_of asked) (trace_of asked) (cues_of asked) (ticks_of asked) station.plan station.library station.clocks
-prepared asked files station is = record { has_plan = is.has_plan; apart = is.apart; accepted = is.accepted }
+same_station : (station : Station) (start ticks : ℕ) (trace : Option (List ℕ)) (cues : Bool) → station.start ≡ start → station.ticks ≡ ticks → station.trace ≡ trace → station.cues ≡ cues
+    → station ≡ record { plan = station.plan; library = station.library; clocks = station.clocks; start = start; ticks = ticks; way = station.way; trace = trace; cues = cues }
+same_station station start ticks trace cues s t r u = rw (sym s, sym t, sym r, sym u) refl
 
-same_station : (station : Station) (start ticks : ℕ) (window : Option ℕ) (trace : Option (List ℕ)) (cues : Bool) → station.start ≡ start → station.ticks ≡ ticks → station.window ≡ window → station.trace ≡ trace → station.cues ≡ cues
-    → station ≡ record { plan = station.plan; library = station.library; clocks = station.clocks; start = start; ticks = ticks; window = window; trace = trace; cues = cues }
-same_station station start ticks window trace cues s t w r u = rw (sym s, sym t, sym w, sym r, sym u) refl
+-- a ruling's answer is one
+pub answered : (asked : Asked) (files : Files) (ruling : Ruling) → IsRuling asked files ruling → IsAnswerTo asked files (answer_of asked ruling)
+answered asked files (Denied fault) is = is
+answered (Check file) files (Granted plan library clocks way) is = stationed (Check file) files plan library clocks way is
+answered (Render file start ticks window trace cues) files (Granted plan library clocks way) is = stationed (Render file start ticks window trace cues) files plan library clocks way is
+answered (Make seed size) files (Granted plan library clocks way) is = (refl, stationed (Make seed size) (files_made seed size) plan library clocks way is)
+answered (Replay file start ticks trace) files (Granted plan library clocks way) is = stationed (Replay file start ticks trace) files plan library clocks way is
 
--- an outcome's answer is one
-pub answered : (asked : Asked) (files : Files) (outcome : Outcome) → IsOutcomeFor asked files outcome → IsAnswerTo asked files (answer_of asked outcome)
-answered asked files (Lost fault) is = is
-answered (Check file) files (Found plan library clocks) is = stationed (Check file) files plan library clocks is
-answered (Render file start ticks window trace cues) files (Found plan library clocks) is = stationed (Render file start ticks window trace cues) files plan library clocks is
-answered (Make seed size) files (Found plan library clocks) is = (refl, stationed (Make seed size) (files_made seed size) plan library clocks is)
-
--- an answer is that of an outcome
+-- an answer is that of a ruling
 record Comes (asked : Asked) (files : Files) (answer : Answer) : Type 0 where
-  outcome : Outcome
-  is : IsOutcomeFor asked files outcome
-  same : answer ≡ answer_of asked outcome
+  ruling : Ruling
+  is : IsRuling asked files ruling
+  same : answer ≡ answer_of asked ruling
 
--- a station is that of what was found
-its_own : (asked : Asked) (files : Files) (station : Station) → IsStation asked files station → station ≡ station_for asked station.plan station.library station.clocks
-its_own asked files station is =
-    same_station station (start_of asked) (ticks_of asked) (window_of asked) (trace_of asked) (cues_of asked) is.start_is is.ticks_are is.window_is is.trace_is is.cues_are
+-- a station is that of what was granted
+its_own : (asked : Asked) (files : Files) (station : Station) → IsStation asked files station → station ≡ station_for asked station.plan station.library station.clocks station.way
+its_own asked files station is = same_station station (start_of asked) (ticks_of asked) (trace_of asked) (cues_of asked) is.start_is is.ticks_are is.trace_is is.cues_are
 
 comes : (asked : Asked) (files : Files) (answer : Answer) → IsAnswerTo asked files answer → Comes asked files answer
 comes asked files Usage is = absurd is
-comes asked files (Refused fault) is = record { outcome = Lost fault; is = is; same = refl }
+comes asked files (Refused fault) is = record { ruling = Denied fault; is = is; same = refl }
 comes (Check file) files (Checked station) is = record {
-  outcome = Found station.plan station.library station.clocks;
-  is = prepared (Check file) files station is;
+  ruling = Granted station.plan station.library station.clocks station.way;
+  is = granted (Check file) files station is;
   same = ap Checked (its_own (Check file) files station is);
 }
 comes (Check file) files (Accepted station) is = absurd is
 comes (Check file) files (Made made station) is = absurd is
 comes (Render file start ticks window trace cues) files (Checked station) is = absurd is
 comes (Render file start ticks window trace cues) files (Accepted station) is = record {
-  outcome = Found station.plan station.library station.clocks;
-  is = prepared (Render file start ticks window trace cues) files station is;
+  ruling = Granted station.plan station.library station.clocks station.way;
+  is = granted (Render file start ticks window trace cues) files station is;
   same = ap Accepted (its_own (Render file start ticks window trace cues) files station is);
 }
 comes (Render file start ticks window trace cues) files (Made made station) is = absurd is
 comes (Make seed size) files (Checked station) is = absurd is
 comes (Make seed size) files (Accepted station) is = absurd is
 comes (Make seed size) files (Made made station) is = record {
-  outcome = Found station.plan station.library station.clocks;
-  is = prepared (Make seed size) (files_made seed size) station (subst (λ fs. IsStation (Make seed size) fs station) is.0 is.1);
+  ruling = Granted station.plan station.library station.clocks station.way;
+  is = granted (Make seed size) (files_made seed size) station (subst (λ fs. IsStation (Make seed size) fs station) is.0 is.1);
   same = ap (λ fs. Made fs station) is.0 ∙ ap (Made (files_made seed size)) (its_own (Make seed size) made station is.1);
 }
+comes (Replay file start ticks trace) files (Checked station) is = absurd is
+comes (Replay file start ticks trace) files (Accepted station) is = record {
+  ruling = Granted station.plan station.library station.clocks station.way;
+  is = granted (Replay file start ticks trace) files station is;
+  same = ap Accepted (its_own (Replay file start ticks trace) files station is);
+}
+comes (Replay file start ticks trace) files (Made made station) is = absurd is
 
--- so one outcome is one answer
-pub for_one : (asked : Asked) (files : Files) (outcome : Outcome) (P : Answer → Type 0) → IsOneFor asked files outcome
-    → P (answer_of asked outcome) → ForOne asked files P
-for_one asked files outcome P one p = record {
-  answer = answer_of asked outcome;
-  is_answer = answered asked files outcome one.holds;
-  only = λ other is. let c = comes asked files other is in c.same ∙ ap (answer_of asked) (one.only c.outcome c.is);
+-- so one ruling is one answer
+pub for_one : (asked : Asked) (files : Files) (ruling : Ruling) (P : Answer → Type 0) → IsOneRuling asked files ruling
+    → P (answer_of asked ruling) → ForOne asked files P
+for_one asked files ruling P one p = record {
+  answer = answer_of asked ruling;
+  is_answer = answered asked files ruling one.holds;
+  only = λ other is. let c = comes asked files other is in c.same ∙ ap (answer_of asked) (one.only c.ruling c.is);
   holds = p;
 }
 
 -- what holds of the one answer holds of each
-pub for_each : (asked : Asked) (files : Files) (outcome : Outcome) (P : Answer → Type 0) → IsOneFor asked files outcome
-    → P (answer_of asked outcome) → ForEach asked files P
-for_each asked files outcome P one p answer is =
-    let c = comes asked files answer is in subst P (sym (c.same ∙ ap (answer_of asked) (one.only c.outcome c.is))) p
+pub for_each : (asked : Asked) (files : Files) (ruling : Ruling) (P : Answer → Type 0) → IsOneRuling asked files ruling
+    → P (answer_of asked ruling) → ForEach asked files P
+for_each asked files ruling P one p answer is =
+    let c = comes asked files answer is in subst P (sym (c.same ∙ ap (answer_of asked) (one.only c.ruling c.is))) p
+
+-- An outcome of the script is the ruling where the way rests on the words alone.
+pub record IsPlain (asked : Asked) (way : Way) : Type 0 where
+  is : (files : Files) (plan : Plan) (library : Sounds) (clocks : ClockMap) → IsWay asked files plan library clocks way
+  only : (files : Files) (plan : Plan) (library : Sounds) (clocks : ClockMap) (other : Way) → IsWay asked files plan library clocks other → other ≡ way
+  told : (files : Files) (fault : Fault) → IsTraceFault asked files fault → ⊥
+
+pub check_plain : (file : List ℕ) → IsPlain (Check file) InRounds
+check_plain file = record { is = λ files plan library clocks. refl; only = λ files plan library clocks other is. is; told = λ files fault is. is }
+
+pub render_plain : (file : List ℕ) (start ticks : ℕ) (window : Option ℕ) (trace : Option (List ℕ)) (cues : Bool) → IsPlain (Render file start ticks window trace cues) (way_in window)
+render_plain file start ticks window trace cues =
+    record { is = λ files plan library clocks. refl; only = λ files plan library clocks other is. is; told = λ files fault is. is }
+
+pub make_plain : (seed size : ℕ) → IsPlain (Make seed size) (InWindows 16)
+make_plain seed size = record { is = λ files plan library clocks. refl; only = λ files plan library clocks other is. is; told = λ files fault is. is }
+
+-- the outcome of the script of what is asked for
+abbrev pub IsOneFor : Asked → Files → Outcome → Type 0
+IsOneFor asked files outcome = IsOneOutcome (files_for asked files) (file_of asked) (trace_of asked) (cues_of asked) (ticks_of asked) outcome
+
+abbrev ruling_by : Way → Outcome → Ruling
+ruling_by way (Found plan library clocks) = Granted plan library clocks way
+ruling_by way (Lost fault) = Denied fault
+
+-- the trace of a script that has a fault is not looked at
+record IsLookedAt (asked : Asked) (files : Files) : Type 0 where
+  plan : Plan
+  library : Sounds
+  clocks : ClockMap
+  prepared : IsPrepared (files_for asked files) (file_of asked) (trace_of asked) (cues_of asked) (ticks_of asked) plan library clocks
+
+looked_at : (asked : Asked) (files : Files) (fault : Fault) → IsTraceFault asked files fault → IsLookedAt asked files
+looked_at (Check file) files fault is = absurd is
+looked_at (Render file start ticks window trace cues) files fault is = absurd is
+looked_at (Make seed size) files fault is = absurd is
+looked_at (Replay file start ticks trace) files fault is = record { plan = is.plan; library = is.library; clocks = is.clocks; prepared = is.prepared }
+
+not_lost : {P : Type 0} (plan : Plan) (library : Sounds) (clocks : ClockMap) (fault : Fault) → Found plan library clocks ≡ Lost fault → P
+not_lost plan library clocks fault same = absurd (cc)
+
+pub lost_ruled : (asked : Asked) (files : Files) (fault : Fault) → IsOneFor asked files (Lost fault) → IsOneRuling asked files (Denied fault)
+lost_ruled asked files fault one = record { holds = inl one.holds; only = only } where
+  only : (other : Ruling) → IsRuling asked files other → other ≡ Denied fault
+  only (Granted plan library clocks way) is = not_lost plan library clocks fault (one.only (Found plan library clocks) is.prepared)
+  only (Denied other) (inl is) = ap (ruling_by InRounds) (one.only (Lost other) is)
+  only (Denied other) (inr is) =
+      let at = looked_at asked files other is in not_lost at.plan at.library at.clocks fault (one.only (Found at.plan at.library at.clocks) at.prepared)
+
+pub plain_ruled : (asked : Asked) (way : Way) → IsPlain asked way → (files : Files) (plan : Plan) (library : Sounds) (clocks : ClockMap) → IsOneFor asked files (Found plan library clocks)
+    → IsOneRuling asked files (Granted plan library clocks way)
+plain_ruled asked way plain files plan library clocks one =
+    record { holds = record { prepared = one.holds; is_way = plain.is (files_for asked files) plan library clocks }; only = only } where
+      only : (other : Ruling) → IsRuling asked files other → other ≡ Granted plan library clocks way
+      only (Granted p l c w) is =
+          ap (ruling_by w) (one.only (Found p l c) is.prepared) ∙ ap (Granted plan library clocks) (plain.only (files_for asked files) p l c w is.is_way)
+      only (Denied other) (inl is) = not_lost plan library clocks other (sym (one.only (Lost other) is))
+      only (Denied other) (inr is) = absurd (plain.told files other is)
+
+-- what is found of the trace of a replay is its ruling
+abbrev pub ruling_told : Plan → Sounds → ClockMap → Told → Ruling
+ruling_told plan library clocks (Tells trace) = Granted plan library clocks (Again trace)
+ruling_told plan library clocks (Untells fault) = Denied (Untold fault)
+
+module _ (file : List ℕ) (start ticks : ℕ) (trace : List ℕ) (files : Files) where
+  -- of the trace of an outcome this is found
+  abbrev IsToldOf : Outcome → Told → Type 0
+  IsToldOf (Found plan library clocks) told = IsTold files trace (base_of plan library clocks start) clocks.running ticks told
+  IsToldOf (Lost fault) told = ⊥
+
+  module _ (plan : Plan) (library : Sounds) (clocks : ClockMap) (one : IsOneOutcome files file None false ticks (Found plan library clocks)) where
+    rules : (told : Told) → IsTold files trace (base_of plan library clocks start) clocks.running ticks told → IsRuling (Replay file start ticks trace) files (ruling_told plan library clocks told)
+    rules (Tells value) is = record { prepared = one.holds; is_way = record { trace = value; fitting = is; way_is = refl } }
+    rules (Untells fault) is = inr (record { plan = plan; library = library; clocks = clocks; prepared = one.holds; untold = fault; fault_is = refl; is_fault = is })
+
+    module _ (told : Told) (is_told : IsOneTold files trace (base_of plan library clocks start) clocks.running ticks told) where
+      only : (other : Ruling) → IsRuling (Replay file start ticks trace) files other → other ≡ ruling_told plan library clocks told
+      only (Granted p l c w) is =
+          let same = one.only (Found p l c) is.prepared in
+          ap (ruling_by w) same ∙ ap (Granted plan library clocks) is.is_way.way_is
+          ∙ ap (ruling_told plan library clocks) (is_told.only (Tells is.is_way.trace) (subst (λ o. IsToldOf o (Tells is.is_way.trace)) same is.is_way.fitting))
+      only (Denied other) (inl is) = not_lost plan library clocks other (sym (one.only (Lost other) is))
+      only (Denied other) (inr is) =
+          let same = one.only (Found is.plan is.library is.clocks) is.prepared in
+          ap Denied is.fault_is ∙ ap (ruling_told plan library clocks) (is_told.only (Untells is.untold) (subst (λ o. IsToldOf o (Untells is.untold)) same is.is_fault))
+
+      pub replay_ruled : IsOneRuling (Replay file start ticks trace) files (ruling_told plan library clocks told)
+      replay_ruled = record { holds = rules told is_told.holds; only = only }

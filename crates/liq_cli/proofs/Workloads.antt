@@ -12,7 +12,7 @@ use Rattle.clock_infer.specs.declared.clock_map.ClockMap.{ClockMap}
 use Rattle.run_records.specs.Records.{Run}
 use Rattle.run_records.specs.Rounds.{HasNoJoin}
 use Rattle.stations.specs.Outputs.{with_outputs}
-use Rattle.stations.specs.Stations.{IsLawful, Station, bare}
+use Rattle.stations.specs.Stations.{InWindows, IsLawful, Station, bare}
 use Rattle.stations.specs.Streams.{HasNoGaps, output_files}
 use Rattle.station_render.specs.declared.fault.RenderFault.{RenderFault}
 use Rattle.station_render.specs.declared.fault.RenderFault.TheVariants.{Write as render_write, Memory as render_memory}
@@ -22,10 +22,10 @@ use Rattle.liq_cli.specs.declared.halt.Halt.{Halt}
 use Rattle.liq_cli.specs.Words.{Asked, Make, made_script}
 use Rattle.liq_cli.specs.Answer.{Refused, files_made}
 use Rattle.liq_cli.specs.Call.{Rendered}
-use Rattle.liq_cli.specs.Prepared.{EndsFor, ForOne, Found, IsOneOutcome, Lost, Outcome, Stops, halt_of_render, station_for}
+use Rattle.liq_cli.specs.Prepared.{Denied, EndsFor, ForOne, Found, Granted, IsOneOutcome, Lost, Outcome, Stops, halt_of_render, station_for}
 use Rattle.liq_cli.specs.Summary.{SumsAsOneThread, summary_of, summed_lines}
 use Rattle.liq_cli.proofs.Leavings.{kept_starved, stopped_for_memory}
-use Rattle.liq_cli.proofs.Outcomes.{for_one}
+use Rattle.liq_cli.proofs.Outcomes.{for_one, lost_ruled, make_plain, plain_ruled}
 
 -- a shelf of these files, which are others
 pub made_of : (entries others : List (List ℕ × List ℕ)) (shelf : Files) → shelf ≡ from_entries entries → entries ≡ others → shelf ≡ from_entries others
@@ -45,20 +45,21 @@ one_made seed size shelf file outcome shelf_is file_is found =
 pub stopped_made : {T U : Type 0} (seed size : ℕ) (shelf : Files) (file : List ℕ) (told : Option Files) (reads writes : ℕ) (e : Halt) → shelf ≡ files_made seed size → file ≡ made_script
     → EndsFor {T = T} (Some shelf) file None false 500 0 0 (Err e) → Stops {T = U} (Make seed size) told told reads reads writes writes (Err e)
 stopped_made seed size shelf file told reads writes e shelf_is file_is ends = record {
-  fault = λ fault at files t. for_one (Make seed size) files (Lost fault) (λ a. a ≡ Refused fault) (one_made seed size shelf file (Lost fault) shelf_is file_is (ends.fault fault (cc))) refl;
+  fault = λ fault at files t. for_one (Make seed size) files (Denied fault) (λ a. a ≡ Refused fault)
+      (lost_ruled (Make seed size) files fault (one_made seed size shelf file (Lost fault) shelf_is file_is (ends.fault fault (cc)))) refl;
   fault_kept = λ fault at. refl;
   read = λ at. absurd (never_rose (ends.read (cc)));
   read_kept = λ at. refl;
   write = λ at. absurd (ends.no_write (cc));
   broken = λ at. absurd (ends.no_write (cc));
-  memory = λ at files t answer is. kept_starved (Make seed size) files answer writes writes (omega arith) told told is t refl;
+  memory = λ at files t answer is. kept_starved (Make seed size) files answer writes writes told told is t refl;
 }
 
 -- the rendering ended: no write failed, so memory was refused
 pub broke_made : {U : Type 0} (seed size : ℕ) (told : Option Files) (reads writes : ℕ) (e : RenderFault) → (e ≡ render_write → Rose 0 0)
     → Stops {T = U} (Make seed size) told told reads reads writes writes (Err (halt_of_render e))
 broke_made seed size told reads writes render_write cause = absurd (never_rose (cause refl))
-broke_made seed size told reads writes render_memory cause = stopped_for_memory (Make seed size) told told reads reads writes writes refl (omega arith)
+broke_made seed size told reads writes render_memory cause = stopped_for_memory (Make seed size) told told reads reads writes writes refl
 
 -- where there is no buffer, none joins two clocks
 none_joins : (station : Station) → station.plan.buffers ≡ [] → HasNoJoin (bare station) station.clocks.running
@@ -67,21 +68,22 @@ none_joins station none buffer below = absurd (let empty = ap length none in ome
 -- the summary
 pub summed : (seed size : ℕ) (plan : Plan) (library : Sounds) (clocks : ClockMap) → plan.buffers ≡ [] → IsOneOutcome (files_made seed size) made_script None false 500 (Found plan library clocks)
     → (shelf after : Files) (report : List ℕ) (value : Shown) → shelf ≡ files_made seed size
-    → IsRendered (station_for (Make seed size) plan library clocks) (Some shelf) (Some after) value
-    → ((run : Run) → IsTold (station_for (Make seed size) plan library clocks) run value
-    → report ≡ summed_lines (station_for (Make seed size) plan library clocks) run after plan.sinks)
-    → ((run : Run) → HasNoGaps (station_for (Make seed size) plan library clocks) run)
-    → ((run : Run) → IsLawful (station_for (Make seed size) plan library clocks) run → HasNoJoin (bare (station_for (Make seed size) plan library clocks)) clocks.running
-    → SumsAsOneThread (files_made seed size) (station_for (Make seed size) plan library clocks) (summary_of (files_made seed size) (station_for (Make seed size) plan library clocks) run))
+    → IsRendered (station_for (Make seed size) plan library clocks (InWindows 16)) (Some shelf) (Some after) value
+    → ((run : Run) → IsTold (station_for (Make seed size) plan library clocks (InWindows 16)) run value
+    → report ≡ summed_lines (station_for (Make seed size) plan library clocks (InWindows 16)) run after plan.sinks)
+    → ((run : Run) → HasNoGaps (station_for (Make seed size) plan library clocks (InWindows 16)) run)
+    → ((run : Run) → IsLawful (station_for (Make seed size) plan library clocks (InWindows 16)) run → HasNoJoin (bare (station_for (Make seed size) plan library clocks (InWindows 16))) clocks.running
+    → SumsAsOneThread (files_made seed size) (station_for (Make seed size) plan library clocks (InWindows 16)) (summary_of (files_made seed size) (station_for (Make seed size) plan library clocks (InWindows 16)) run))
     → (files : Files) → ForOne (Make seed size) files (λ a. Rendered a files (Some files) report)
 summed seed size plan library clocks none one shelf after report value shelf_is is report_is gapless alike files =
-    let station = station_for (Make seed size) plan library clocks in
+    let station = station_for (Make seed size) plan library clocks (InWindows 16) in
     let made = files_made seed size in
     let all : Some after ≡ Some (with_outputs made (output_files station is.run ++ [])) = is.all_written made (ap Some shelf_is) in
     let files_are : after ≡ with_outputs made (output_files station is.run ++ []) = cc in
     let written : after ≡ with_outputs made (output_files station is.run) = files_are ∙ ap (with_outputs made) (append-nil (output_files station is.run)) in
     let same : report ≡ summary_of made station is.run = report_is is.run is.told ∙ ap (λ fs. summed_lines station is.run fs plan.sinks) written in
-    for_one (Make seed size) files (Found plan library clocks) (λ a. Rendered a files (Some files) report) one (record {
+    for_one (Make seed size) files (Granted plan library clocks (InWindows 16)) (λ a. Rendered a files (Some files) report)
+    (plain_ruled (Make seed size) (InWindows 16) (make_plain seed size) files plan library clocks one) (record {
       kept = refl;
       run = is.run;
       lawful = is.lawful;

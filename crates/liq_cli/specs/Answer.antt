@@ -1,23 +1,28 @@
 -- What a call answers, by its words and the files.
-use Rattle.std.specs.Prelude.{◌≡◌, ◌||◌, ◌&&◌, ℕ, ◌-◌, Bool, true, false, List, [], ◌∷◌, Option, None, Some, codes, if◌then◌else◌}
+use Rattle.std.specs.Prelude.{◌≡◌, ◌⊎◌, ◌||◌, ◌&&◌, ℕ, ◌-◌, Bool, true, false, List, [], ◌∷◌, Option, None, Some, codes, if◌then◌else◌}
 use Rattle.std.specs.FinMap.{from_entries}
 use Rattle.std.specs.List.{list_any}
 use Rattle.std.specs.Option.{option_or}
 use Rattle.std.specs.Str.{bytes_eq}
 use Rattle.liq_base.specs.Files.{Files, file_at}
+use Rattle.frame_core.specs.Library.{Sounds}
 use Rattle.plan_core.specs.declared.plan.Plan.{Plan}
 use Rattle.plan_core.specs.declared.sink.SinkPlan.{SinkPlan}
 use Rattle.plan_core.specs.declared.sink.SinkPlan.TheVariants.{Output, Feed}
+use Rattle.clock_infer.specs.declared.clock_map.ClockMap.{ClockMap}
 use Rattle.script_plan.specs.declared.fault.ScriptFault.{ScriptFault}
 use Rattle.script_plan.specs.Plans.{IsPlan, IsPlanFault}
 use Rattle.stations.specs.declared.fault.StationFault.{StationFault}
 use Rattle.stations.specs.Cues.{cue_name}
-use Rattle.stations.specs.Stations.{Station}
+use Rattle.stations.specs.Stations.{Station, Way, InRounds, InWindows}
 use Rattle.stations.specs.Findings.{IsAccepted, IsStationFault}
+use Rattle.trace_replay.specs.Turns.{base_of}
 use Rattle.refusal_lines.specs.declared.fault.Fault.{Fault}
-use Rattle.refusal_lines.specs.declared.fault.Fault.TheVariants.{NoScript, Script, SameFile, Station as Unfit}
+use Rattle.refusal_lines.specs.declared.fault.Fault.TheVariants.{NoScript, Script, SameFile, Station as Unfit, Replay as Untold}
+use Rattle.refusal_lines.specs.declared.replay_lines.ReplayFault.{ReplayFault}
 use Rattle.workload_gen.specs.Files.{workload}
-use Rattle.liq_cli.specs.Words.{Asked, Check, Make, Render, IsAsked, HasNoForm, cues_of, file_of, start_of, ticks_of, trace_of, window_of}
+use Rattle.liq_cli.specs.Replays.{IsReplayFault, IsWayOf}
+use Rattle.liq_cli.specs.Words.{Asked, Check, Make, Render, Replay, IsAsked, HasNoForm, cues_of, file_of, start_of, ticks_of, trace_of}
 
 -- the usage line, the first fault of the script, a station that is checked, one that is rendered, or that of a workload, with its files
 pub data Answer : Type 0 where
@@ -28,7 +33,7 @@ pub data Answer : Type 0 where
   Made : Files → Station → Answer
 
 abbrev pub usage_line : List ℕ
-usage_line = codes "usage: check FILE | render FILE N [--one-thread] [--window=W] [--start=D:HH:MM:SS] [--trace=NAME] [--cues] | make SEED SIZE\n"
+usage_line = codes "usage: check FILE | render FILE N [--one-thread] [--window=W] [--start=D:HH:MM:SS] [--trace=NAME] [--cues] | make SEED SIZE | replay FILE N TRACE [--start=D:HH:MM:SS]\n"
 
 -- the script is there, and this is its plan
 pub record HasPlan (files : Files) (file : List ℕ) (plan : Plan) : Type 0 where
@@ -90,21 +95,56 @@ pub record HasUnfitPlan (files : Files) (file : List ℕ) (trace : Option (List 
   pub apart : clash_of plan trace cues ≡ None
   pub is_fault : IsStationFault files plan ticks fault
 
--- the first fault of a script, for so many ticks, a trace of this name, and cue files where they are wanted
+-- the first fault of a script, for so many ticks, a trace of this name that is to be written, and cue files where they are wanted
 abbrev pub IsFault : Files → (file : List ℕ) (trace : Option (List ℕ)) (cues : Bool) (ticks : ℕ) → Fault → Type 0
 IsFault files file trace cues ticks NoScript = file_at files file ≡ None
 IsFault files file trace cues ticks (Script fault) = HasFault files file fault
 IsFault files file trace cues ticks (SameFile name) = HasClash files file trace cues name
 IsFault files file trace cues ticks (Unfit fault) = HasUnfitPlan files file trace cues ticks fault
+IsFault files file trace cues ticks (Untold fault) = ⊥
 
--- the script is accepted, and this is its station: its plan, with its audio files and clocks, and what else is asked for
+-- the script is accepted, and these are its plan, with its audio files and clocks
+pub record IsPrepared (files : Files) (file : List ℕ) (trace : Option (List ℕ)) (cues : Bool) (ticks : ℕ) (plan : Plan) (library : Sounds) (clocks : ClockMap) : Type 0 where
+  pub has_plan : HasPlan files file plan
+  pub apart : clash_of plan trace cues ≡ None
+  pub accepted : IsAccepted files plan ticks library clocks
+
+-- the script is accepted, and the trace in the file of this name is not rendered again, for this fault
+pub record HasUntold (files : Files) (file : List ℕ) (start ticks : ℕ) (trace : List ℕ) (fault : Fault) : Type 0 where
+  pub plan : Plan
+  pub library : Sounds
+  pub clocks : ClockMap
+  pub prepared : IsPrepared files file None false ticks plan library clocks
+  pub untold : ReplayFault
+  pub fault_is : fault ≡ Untold untold
+  pub is_fault : IsReplayFault files trace (base_of plan library clocks start) clocks.running ticks untold
+
+-- a fault of the trace of a replay
+abbrev pub IsTraceFault : Asked → Files → Fault → Type 0
+IsTraceFault (Check file) files fault = ⊥
+IsTraceFault (Render file start ticks window trace cues) files fault = ⊥
+IsTraceFault (Make seed size) files fault = ⊥
+IsTraceFault (Replay file start ticks trace) files fault = HasUntold files file start ticks trace fault
+
+-- by threads in windows of so many ticks, or, where no window is there, in rounds on one thread
+abbrev pub way_in : (window : Option ℕ) → Way
+way_in None = InRounds
+way_in (Some window) = InWindows window
+
+-- an accepted script is rendered in this way: a check, of no tick, in rounds; a workload by threads in windows of 16 ticks; a replay as
+-- its trace tells
+abbrev pub IsWay : Asked → Files → Plan → Sounds → ClockMap → Way → Type 0
+IsWay (Check file) files plan library clocks way = way ≡ InRounds
+IsWay (Render file start ticks window trace cues) files plan library clocks way = way ≡ way_in window
+IsWay (Make seed size) files plan library clocks way = way ≡ InWindows 16
+IsWay (Replay file start ticks trace) files plan library clocks way = IsWayOf files trace (base_of plan library clocks start) clocks.running ticks way
+
+-- the script is accepted, and this is its station: its plan, with its audio files and clocks, its way, and what else is asked for
 pub record IsStation (asked : Asked) (files : Files) (station : Station) : Type 0 where
-  pub has_plan : HasPlan files (file_of asked) station.plan
-  pub apart : clash_of station.plan (trace_of asked) (cues_of asked) ≡ None
-  pub accepted : IsAccepted files station.plan (ticks_of asked) station.library station.clocks
+  pub prepared : IsPrepared files (file_of asked) (trace_of asked) (cues_of asked) (ticks_of asked) station.plan station.library station.clocks
+  pub is_way : IsWay asked files station.plan station.library station.clocks station.way
   pub start_is : station.start ≡ start_of asked
   pub ticks_are : station.ticks ≡ ticks_of asked
-  pub window_is : station.window ≡ window_of asked
   pub trace_is : station.trace ≡ trace_of asked
   pub cues_are : station.cues ≡ cues_of asked
 
@@ -117,29 +157,38 @@ abbrev pub files_for : Asked → Files → Files
 files_for (Check file) files = files
 files_for (Render file start ticks window trace cues) files = files
 files_for (Make seed size) files = files_made seed size
+files_for (Replay file start ticks trace) files = files
 
 -- a station is the answer to a check
 abbrev pub IsChecked : Asked → Files → Station → Type 0
 IsChecked (Check file) files station = IsStation (Check file) files station
 IsChecked (Render file start ticks window trace cues) files station = ⊥
 IsChecked (Make seed size) files station = ⊥
+IsChecked (Replay file start ticks trace) files station = ⊥
 
--- or to a rendering
+-- or to a rendering, or to its replay
 abbrev pub IsRendered : Asked → Files → Station → Type 0
 IsRendered (Check file) files station = ⊥
 IsRendered (Render file start ticks window trace cues) files station = IsStation (Render file start ticks window trace cues) files station
 IsRendered (Make seed size) files station = ⊥
+IsRendered (Replay file start ticks trace) files station = IsStation (Replay file start ticks trace) files station
 
 -- or, with the files of the workload, to `make`
 abbrev pub IsMade : Asked → (made : Files) → Station → Type 0
 IsMade (Check file) made station = ⊥
 IsMade (Render file start ticks window trace cues) made station = ⊥
 IsMade (Make seed size) made station = (made ≡ files_made seed size) × IsStation (Make seed size) made station
+IsMade (Replay file start ticks trace) made station = ⊥
+
+-- this is its first fault: of its script, or else, of a replay, of its trace
+abbrev pub IsRefusal : Asked → Files → Fault → Type 0
+IsRefusal asked files fault =
+    IsFault (files_for asked files) (file_of asked) (trace_of asked) (cues_of asked) (ticks_of asked) fault ⊎ IsTraceFault asked files fault
 
 -- this is the answer to what is asked for
 abbrev pub IsAnswerTo : Asked → Files → Answer → Type 0
 IsAnswerTo asked files Usage = ⊥
-IsAnswerTo asked files (Refused fault) = IsFault (files_for asked files) (file_of asked) (trace_of asked) (cues_of asked) (ticks_of asked) fault
+IsAnswerTo asked files (Refused fault) = IsRefusal asked files fault
 IsAnswerTo asked files (Checked station) = IsChecked asked files station
 IsAnswerTo asked files (Accepted station) = IsRendered asked files station
 IsAnswerTo asked files (Made made station) = IsMade asked made station

@@ -5,11 +5,13 @@ use Rattle.liq_base.specs.Counts.{Rose}
 use Rattle.liq_base.specs.Pieces.{IsPrefix, grown}
 use Rattle.liq_base.specs.Files.{Files}
 use Rattle.fallible_infer.specs.Infallible.{IsMarking}
-use Rattle.run_records.specs.Records.{Run}
+use Rattle.run_records.specs.Ordered.{IsOrdered}
+use Rattle.run_records.specs.Records.{IsLawful as AreWindows, Run}
 use Rattle.run_records.specs.Rounds.{HasNoJoin}
+use Rattle.trace_replay.specs.Listings.{LeadOnward}
 use Rattle.stations.specs.Outputs.{with_outputs}
 use Rattle.stations.specs.Renderings.{BeginsAsOneThread, HasOneRecord, IsDetermined, RendersAsOneThread, WroteLastPart, WroteOutputsPart}
-use Rattle.stations.specs.Stations.{Station, IsLawful, bare}
+use Rattle.stations.specs.Stations.{Station, IsLawful, bare, setting_of_run}
 use Rattle.stations.specs.Streams.{HasNoGaps}
 use Rattle.stations.specs.Traces.{files_of}
 use Rattle.stations.specs.Reports.{report_of, check_report_of}
@@ -43,9 +45,15 @@ pub record GrewPart (line : List ℕ) (old new : Option (List ℕ)) : Type 0 whe
   pub is_front : IsPrefix part line
   pub grew : new ≡ grown part old
 
--- A run wrote all outputs, then their cue files, where these are wanted, and then its trace, if one is wanted; and this is its report. On
--- one thread there is no other run, so it always writes and tells the same. Where no buffer joins two clocks, one thread writes the same
--- outputs and cue files and tells the same.
+-- where the main clocks can be listed so that each buffer that joins two of them leads to a later one, the ticks of a run by threads can
+-- be put in one order in which each chunk is accepted in an earlier tick than the one that gets it
+abbrev pub IsOrderedOnward : Station → Run → Type 0
+IsOrderedOnward station run = (window : ℕ) (lawful : AreWindows (bare station) station.clocks.running window station.ticks run) (listing : List ℕ)
+    → LeadOnward (bare station) station.clocks.running listing → IsOrdered (setting_of_run station run) station.clocks.running lawful.accepted station.ticks
+
+-- A run wrote all outputs, then their cue files, where these are wanted, and then its trace, if one is wanted; and this is its report. A
+-- replay's is the record of its trace. On one thread and in a replay there is no other run, so it always writes and tells the same. Where no
+-- buffer joins two clocks, one thread writes the same outputs and cue files and tells the same.
 pub record Wrote (station : Station) (files : Files) (after : Option Files) (report : List ℕ) : Type 0 where
   pub run : Run
   pub lawful : IsLawful station run
@@ -53,6 +61,7 @@ pub record Wrote (station : Station) (files : Files) (after : Option Files) (rep
   pub report_is : report ≡ report_of station run
   pub no_gaps : HasNoGaps station run
   pub one : HasOneRecord station run
+  pub ordered : IsOrderedOnward station run
   pub as_one_thread : HasNoJoin (bare station) station.clocks.running → RendersAsOneThread station run
 
 -- no file changed, and the report tells the clock of each output, and whether its node is infallible
@@ -103,10 +112,10 @@ Broken (Checked station) count last files after = ⊥
 Broken (Refused fault) count last files after = ⊥
 Broken Usage count last files after = ⊥
 
--- memory was refused, maybe before anything was created
+-- memory was refused, before anything was created, or while a rendering went on
 abbrev pub Starved : Answer → (count last : ℕ) → Files → Option Files → Type 0
 Starved (Made made station) count last files after = after ≡ Some files
-Starved (Accepted station) count last files after = Left station count last files after
+Starved (Accepted station) count last files after = (after ≡ Some files) ⊎ Left station count last files after
 Starved (Checked station) count last files after = after ≡ Some files
 Starved (Refused fault) count last files after = after ≡ Some files
 Starved Usage count last files after = ⊥

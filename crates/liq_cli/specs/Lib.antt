@@ -1,6 +1,8 @@
 pub mod Read
 pub mod Words
+pub mod Replays
 pub mod Answer
+pub mod Again
 pub mod Summary
 pub mod Call
 pub mod Creating

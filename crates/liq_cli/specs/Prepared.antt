@@ -1,5 +1,5 @@
 -- What is found of a script before anything is rendered. Only what is private cites this.
-use Rattle.std.specs.Prelude.{◌≡◌, ◌≤◌, ℕ, Bool, List, Result, Ok, Err, Option, Some, None, String, IsErrOf}
+use Rattle.std.specs.Prelude.{◌≡◌, ◌≤◌, ◌⊎◌, ℕ, Bool, List, Result, Ok, Err, Option, Some, String, IsErrOf}
 use Rattle.std.specs.Option.{ForSome}
 use Rattle.std.specs.declared.alloc.Global.{Global}
 use Rattle.liq_base.specs.Counts.{Rose}
@@ -10,16 +10,18 @@ use Rattle.clock_infer.specs.declared.clock_map.ClockMap.{ClockMap}
 use Rattle.script_plan.specs.declared.fault.ScriptFault.{ScriptFault}
 use Rattle.script_plan.specs.declared.fault.ScriptFault.TheVariants as script_fault
 use Rattle.stations.specs.Creations.{MadeFront, after_making}
-use Rattle.stations.specs.Findings.{IsAccepted}
-use Rattle.stations.specs.Stations.{Station}
+use Rattle.stations.specs.Stations.{Station, Way}
+use Rattle.stream_meaning.specs.Instants.{Setting}
 use Rattle.station_check.specs.declared.halt.Halt.{Halt as CheckHalt}
 use Rattle.station_check.specs.declared.halt.Halt.TheVariants.{Refused as check_refused, Read as check_read, Memory as check_memory}
 use Rattle.station_render.specs.declared.fault.RenderFault.{RenderFault}
 use Rattle.station_render.specs.declared.fault.RenderFault.TheVariants.{Write as render_write, Memory as render_memory}
 use Rattle.refusal_lines.specs.declared.fault.Fault.{Fault}
-use Rattle.refusal_lines.specs.declared.fault.Fault.TheVariants.{SameFile, Script, Station as Unfit}
-use Rattle.liq_cli.specs.Words.{Asked, Check, Make, Render, cues_of, file_of, start_of, ticks_of, trace_of, window_of}
-use Rattle.liq_cli.specs.Answer.{Answer, Refused, Checked, Accepted, Made, HasPlan, IsFault, IsAnswerTo, clash_of, files_for, files_made}
+use Rattle.refusal_lines.specs.declared.fault.Fault.TheVariants.{SameFile, Script, Station as Unfit, Replay as Untold}
+use Rattle.refusal_lines.specs.declared.replay_lines.ReplayFault.{ReplayFault}
+use Rattle.liq_cli.specs.Words.{Asked, Check, Make, Render, Replay, cues_of, file_of, start_of, ticks_of, trace_of}
+use Rattle.liq_cli.specs.Answer.{Answer, Refused, Checked, Accepted, Made, IsFault, IsAnswerTo, IsPrepared, IsRefusal, IsWay, files_for, files_made}
+use Rattle.liq_cli.specs.Replays.{IsReplayFault}
 use Rattle.liq_cli.specs.Call.{Broken, Starved}
 use Rattle.liq_cli.specs.Creating.{creations}
 use Rattle.liq_cli.specs.declared.halt.Halt.{Halt}
@@ -31,42 +33,53 @@ pub data Outcome : Type 0 where
   Found : Plan → Sounds → ClockMap → Outcome
   Lost : Fault → Outcome
 
-pub record IsPrepared (files : Files) (file : List ℕ) (trace : Option (List ℕ)) (cues : Bool) (ticks : ℕ) (plan : Plan) (library : Sounds) (clocks : ClockMap) : Type 0 where
-  pub has_plan : HasPlan files file plan
-  pub apart : clash_of plan trace cues ≡ None
-  pub accepted : IsAccepted files plan ticks library clocks
-
 abbrev pub IsOutcome : Files → (file : List ℕ) (trace : Option (List ℕ)) (cues : Bool) (ticks : ℕ) → Outcome → Type 0
 IsOutcome files file trace cues ticks (Found plan library clocks) = IsPrepared files file trace cues ticks plan library clocks
 IsOutcome files file trace cues ticks (Lost fault) = IsFault files file trace cues ticks fault
 
--- the station of an outcome, and the answer
-abbrev pub station_for : Asked → Plan → Sounds → ClockMap → Station
-station_for asked plan library clocks = record {
+-- the station of a plan with its audio files and clocks, which is rendered in this way
+abbrev pub station_for : Asked → Plan → Sounds → ClockMap → Way → Station
+station_for asked plan library clocks way = record {
   plan = plan;
   library = library;
   clocks = clocks;
   start = start_of asked;
   ticks = ticks_of asked;
-  window = window_of asked;
+  way = way;
   trace = trace_of asked;
   cues = cues_of asked;
 }
 
-abbrev pub answer_of : Asked → Outcome → Answer
-answer_of asked (Lost fault) = Refused fault
-answer_of (Check file) (Found plan library clocks) = Checked (station_for (Check file) plan library clocks)
-answer_of (Render file start ticks window trace cues) (Found plan library clocks) = Accepted (station_for (Render file start ticks window trace cues) plan library clocks)
-answer_of (Make seed size) (Found plan library clocks) = Made (files_made seed size) (station_for (Make seed size) plan library clocks)
+-- what is asked for is granted, with a plan, its audio files and clocks, and the way in which it is rendered; or it is denied for a fault
+pub data Ruling : Type 0 where
+  Granted : Plan → Sounds → ClockMap → Way → Ruling
+  Denied : Fault → Ruling
+
+pub record IsGranted (asked : Asked) (files : Files) (plan : Plan) (library : Sounds) (clocks : ClockMap) (way : Way) : Type 0 where
+  pub prepared : IsPrepared files (file_of asked) (trace_of asked) (cues_of asked) (ticks_of asked) plan library clocks
+  pub is_way : IsWay asked files plan library clocks way
+
+abbrev pub IsRuling : Asked → Files → Ruling → Type 0
+IsRuling asked files (Granted plan library clocks way) = IsGranted asked (files_for asked files) plan library clocks way
+IsRuling asked files (Denied fault) = IsRefusal asked files fault
+
+-- this is the ruling, and there is no other
+pub record IsOneRuling (asked : Asked) (files : Files) (ruling : Ruling) : Type 0 where
+  pub holds : IsRuling asked files ruling
+  pub only : (other : Ruling) → IsRuling asked files other → other ≡ ruling
+
+-- the answer of a ruling
+abbrev pub answer_of : Asked → Ruling → Answer
+answer_of asked (Denied fault) = Refused fault
+answer_of (Check file) (Granted plan library clocks way) = Checked (station_for (Check file) plan library clocks way)
+answer_of (Render file start ticks window trace cues) (Granted plan library clocks way) = Accepted (station_for (Render file start ticks window trace cues) plan library clocks way)
+answer_of (Make seed size) (Granted plan library clocks way) = Made (files_made seed size) (station_for (Make seed size) plan library clocks way)
+answer_of (Replay file start ticks trace) (Granted plan library clocks way) = Accepted (station_for (Replay file start ticks trace) plan library clocks way)
 
 -- this is the outcome, and there is no other
 pub record IsOneOutcome (files : Files) (file : List ℕ) (trace : Option (List ℕ)) (cues : Bool) (ticks : ℕ) (outcome : Outcome) : Type 0 where
   pub holds : IsOutcome files file trace cues ticks outcome
   pub only : (other : Outcome) → IsOutcome files file trace cues ticks other → other ≡ outcome
-
--- it is that of what is asked for, over the files that are its
-abbrev pub IsOneFor : Asked → Files → Outcome → Type 0
-IsOneFor asked files outcome = IsOneOutcome (files_for asked files) (file_of asked) (trace_of asked) (cues_of asked) (ticks_of asked) outcome
 
 abbrev pub outcome_of : Work → Outcome
 outcome_of work = Found work.plan work.ready.library work.ready.clocks
@@ -82,6 +95,22 @@ pub record EndsFor {T : Type 0} (told : Option Files) (file : List ℕ) (trace :
   pub fault : (fault : Fault) → result ≡ Err (refused_for fault) → ForSome told (λ files. IsOneOutcome files file trace cues ticks (Lost fault))
   pub read : IsErrOf result Read → Rose reads_before reads_after
   pub no_write : IsErrOf result Write → ⊥
+
+-- a fault is one of the trace in the file of this name
+pub record HasFaultOf (files : Files) (name : List ℕ) (base : Setting) (clocks N : ℕ) (fault : Fault) : Type 0 where
+  pub untold : ReplayFault
+  pub fault_is : fault ≡ Untold untold
+  pub is_fault : IsReplayFault files name base clocks N untold
+
+-- why the reading of a trace ended: a fault only where it is the trace's, and a read fault only where a read failed
+pub record TraceEnds {T : Type 0} (told : Option Files) (name : List ℕ) (base : Setting) (clocks N reads_before reads_after : ℕ) (result : Result T Halt) : Type 0 where
+  pub fault : (fault : Fault) → result ≡ Err (refused_for fault) → ForSome told (λ files. HasFaultOf files name base clocks N fault)
+  pub read : IsErrOf result Read → Rose reads_before reads_after
+  pub no_write : IsErrOf result Write → ⊥
+
+-- a replay ended for this fault of its trace, or memory was refused for it
+abbrev pub IsUntold : ReplayFault → Halt → Type 0
+IsUntold fault halt = (halt ≡ refused_for (Untold fault)) ⊎ (halt ≡ Memory)
 
 -- why a test of the names of files ended: this is the name of two
 pub record ClashEnds {T : Type 0} (clash : Option (List ℕ)) (result : Result T Halt) : Type 0 where

@@ -1,9 +1,9 @@
 -- What was read of the words. Only private functions cite this.
 use Rattle.std.specs.Prelude.{List, ℕ, Option, Some, None, option_map}
 use Rattle.std.specs.Borrow.{Bor}
-use Rattle.liq_cli.specs.Words.{Asked, Check, Make, Options, Render}
+use Rattle.liq_cli.specs.Words.{Asked, Check, Make, Options, Render, Replay}
 use Rattle.liq_cli.specs.declared.form.Form.{Form}
-use Rattle.liq_cli.specs.declared.form.Form.TheVariants.{Check as checks, Alone as alone, Threaded as threaded}
+use Rattle.liq_cli.specs.declared.form.Form.TheVariants.{Check as checks, Alone as alone, Replay as replays, Threaded as threaded}
 use Rattle.liq_cli.specs.declared.form.Rendering.{Rendering}
 use Rattle.liq_cli.specs.declared.form.Threaded.{Threaded}
 use Rattle.liq_cli.specs.declared.form.Threaded.TheVariants.{Render as renders, Make as makes}
@@ -34,4 +34,5 @@ asked_by_threads (makes seed size) = Make seed size.files
 abbrev pub asked_of : Form → Asked
 asked_of (checks file) = Check file.now
 asked_of (alone file start ticks cues) = Render file.now start.second ticks.count None None cues
+asked_of (replays file start ticks trace) = Replay file.now start.second ticks.count trace.now
 asked_of (threaded what) = asked_by_threads what

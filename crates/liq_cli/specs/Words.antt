@@ -5,12 +5,14 @@ use Rattle.fixed_text.specs.Texts.{IsStartText}
 
 -- What the words of a form ask for: that the script in a file is checked; that it is rendered, from a second of the week on and for so
 -- many ticks: by threads in windows of so many, or, where no window is there, on one thread; the trace of its buffers goes to the file
--- of this name, if one is there; and cue files are written, or not; or that the workload of a seed and of so many audio files is rendered
--- and told.
+-- of this name, if one is there; and cue files are written, or not; that the workload of a seed and of so many audio files is rendered
+-- and told; or that the script in a file is rendered again, on one thread, from a second of the week on and for so many ticks, as the trace
+-- in the file of this name tells.
 pub data Asked : Type 0 where
   Check : (file : List ℕ) → Asked
   Render : (file : List ℕ) (start ticks : ℕ) (window : Option ℕ) (trace : Option (List ℕ)) (cues : Bool) → Asked
   Make : (seed size : ℕ) → Asked
+  Replay : (file : List ℕ) (start ticks : ℕ) (trace : List ℕ) → Asked
 
 -- the name of a workload's script
 unfoldable pub made_script : List ℕ
@@ -21,33 +23,33 @@ abbrev pub file_of : Asked → List ℕ
 file_of (Check file) = file
 file_of (Render file start ticks window trace cues) = file
 file_of (Make seed size) = made_script
+file_of (Replay file start ticks trace) = file
 
--- the first second, the ticks, the window, the trace and whether cue files are wanted: a check renders no tick, on one thread; a workload
--- is rendered for 500 ticks, by threads in windows of 16; neither has cue files
+-- the first second, the ticks, the name of the trace that is to be written, and whether cue files are wanted: a check renders no tick; a
+-- workload is rendered for 500 ticks; neither of them and no replay writes a trace or cue files
 abbrev pub start_of : Asked → ℕ
 start_of (Check file) = 0
 start_of (Render file start ticks window trace cues) = start
 start_of (Make seed size) = 0
+start_of (Replay file start ticks trace) = start
 
 abbrev pub ticks_of : Asked → ℕ
 ticks_of (Check file) = 0
 ticks_of (Render file start ticks window trace cues) = ticks
 ticks_of (Make seed size) = 500
-
-abbrev pub window_of : Asked → Option ℕ
-window_of (Check file) = None
-window_of (Render file start ticks window trace cues) = window
-window_of (Make seed size) = Some 16
+ticks_of (Replay file start ticks trace) = ticks
 
 abbrev pub trace_of : Asked → Option (List ℕ)
 trace_of (Check file) = None
 trace_of (Render file start ticks window trace cues) = trace
 trace_of (Make seed size) = None
+trace_of (Replay file start ticks trace) = None
 
 abbrev pub cues_of : Asked → Bool
 cues_of (Check file) = false
 cues_of (Render file start ticks window trace cues) = cues
 cues_of (Make seed size) = false
+cues_of (Replay file start ticks trace) = false
 
 abbrev pub texts : List (String Global) → List (List ℕ)
 texts words = map string_bytes words
@@ -177,22 +179,46 @@ IsMake (seed ∷ []) asked = ⊥
 IsMake (seed ∷ size ∷ []) asked = IsWorkload seed size asked
 IsMake (seed ∷ size ∷ more ∷ words) asked = ⊥
 
+-- no option, or a start alone
+abbrev pub IsOnlyStart : List (List ℕ) → (start : ℕ) → Type 0
+IsOnlyStart [] start = start ≡ 0
+IsOnlyStart (word ∷ []) start = IsStart word start
+IsOnlyStart (word ∷ more ∷ words) start = ⊥
+
+-- `FILE N TRACE`, and maybe a start
+pub record IsReplaying (file number trace : List ℕ) (words : List (List ℕ)) (asked : Asked) : Type 0 where
+  pub start : ℕ
+  pub ticks : ℕ
+  pub asked_is : asked ≡ Replay file start ticks trace
+  pub number_is : number ≡ decimal ticks
+  pub few : ticks ≤ 10 ^ 9
+  pub start_is : IsOnlyStart words start
+
+-- what may stand behind `replay`
+abbrev pub IsReplay : List (List ℕ) → Asked → Type 0
+IsReplay [] asked = ⊥
+IsReplay (file ∷ []) asked = ⊥
+IsReplay (file ∷ number ∷ []) asked = ⊥
+IsReplay (file ∷ number ∷ trace ∷ words) asked = IsReplaying file number trace words asked
+
 -- the words have a form, and ask for this
 abbrev pub IsAsked : List (List ℕ) → Asked → Type 0
 IsAsked [] asked = ⊥
 IsAsked (verb ∷ words) asked =
     (verb ≡ codes "check") × IsCheck words asked ⊎ (verb ≡ codes "render") × IsRender words asked ⊎ (verb ≡ codes "make") × IsMake words asked
+    ⊎ (verb ≡ codes "replay") × IsReplay words asked
 
 -- the words have no form
 abbrev pub HasNoForm : List (List ℕ) → Type 0
 HasNoForm words = (asked : Asked) → IsAsked words asked → ⊥
 
--- this takes threads: a rendering in windows, and a workload
+-- this takes threads: a rendering in windows, and a workload; a replay takes none
 abbrev pub TakesThreads : Asked → Type 0
 TakesThreads (Check file) = ⊥
 TakesThreads (Render file start ticks None trace cues) = ⊥
 TakesThreads (Render file start ticks (Some window) trace cues) = ⊤
 TakesThreads (Make seed size) = ⊤
+TakesThreads (Replay file start ticks trace) = ⊥
 
 -- the words ask for what takes threads
 pub record NeedsThreads (words : List (List ℕ)) : Type 0 where

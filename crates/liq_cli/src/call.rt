@@ -10,6 +10,7 @@ use crate::form::{Form, Threaded};
 use crate::halt::Halt;
 use crate::jobs::{alone_job, check_job, threads_job};
 use crate::making::make_job;
+use crate::replaying::replay_job;
 use crate::words::{read_threaded, read_words};
 use liq_base::{Failed, Gate, Memory, Shelf, Sink};
 use refusal_lines::Fault;
@@ -18,7 +19,7 @@ use std::sync::Wait;
 use std::thread::Threads;
 
 const USAGE: &str =
-    "usage: check FILE | render FILE N [--one-thread] [--window=W] [--start=D:HH:MM:SS] [--trace=NAME] [--cues] | make SEED SIZE\n";
+    "usage: check FILE | render FILE N [--one-thread] [--window=W] [--start=D:HH:MM:SS] [--trace=NAME] [--cues] | make SEED SIZE | replay FILE N TRACE [--start=D:HH:MM:SS]\n";
 
 /// All was written.
 const DONE: u8 = 0;
@@ -107,6 +108,12 @@ pub fn liq_alone<S: Shelf, O: Sink, E: Sink>(
             ticks,
             cues,
         } => alone_job(alloc, file, start, ticks, cues, shelf),
+        Form::Replay {
+            file,
+            start,
+            ticks,
+            trace,
+        } => replay_job(alloc, file, start, ticks, trace, shelf),
         Form::Threaded(_) => return None,
     };
     Some(finish(alloc, job, out, err))

@@ -28,6 +28,21 @@ pub enum Form<'a> {
         cues: bool,
     },
 
+    /// `replay FILE N TRACE` and a start
+    Replay {
+        /// The name of the script.
+        file: &'a str,
+
+        /// The second of the week of the first sample.
+        start: WeekSecond,
+
+        /// How many ticks are rendered.
+        ticks: Ticks,
+
+        /// The name of the trace by which it is rendered again.
+        trace: &'a str,
+    },
+
     /// What takes threads.
     Threaded(Threaded<'a>),
 }

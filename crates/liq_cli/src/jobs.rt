@@ -22,6 +22,7 @@ use stations::{
 use std::alloc::Global;
 use std::sync::Wait;
 use std::thread::Threads;
+use trace_replay::onward_records_are_ordered;
 
 /// The report of a check. No file changes.
 pub fn check_job<S: Shelf>(alloc: Global, file: &str, shelf: &mut S) -> Result<String, Halt>
@@ -54,6 +55,7 @@ pub fn alone_job<S: Shelf>(
     infallible_outputs_have_no_gaps();
     threads_render_as_one_thread();
     one_thread_has_one_record();
+    onward_records_are_ordered();
     broken_renderings_begin_those_of_one_thread();
     let job = Job {
         plan: &work.plan,
@@ -85,6 +87,7 @@ pub fn threads_job<S: Shelf, G: Gate + Sync, R: Threads + Wait + Sync>(
     infallible_outputs_have_no_gaps();
     threads_render_as_one_thread();
     one_thread_has_one_record();
+    onward_records_are_ordered();
     broken_renderings_begin_those_of_one_thread();
     let job = Job {
         plan: &work.plan,

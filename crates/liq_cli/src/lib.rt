@@ -10,10 +10,12 @@ mod laws;
 mod making;
 mod options;
 mod prepare;
+mod replaying;
 mod samples;
 mod size;
 mod summary;
 mod ticks;
+mod traces;
 mod window;
 mod words;
 

@@ -141,8 +141,8 @@ pub fn start_of(options: Options<'_>) -> WeekSecond
     }
 }
 
-// The start that a word `--start=D:HH:MM:SS` gives.
-fn read_start_option(word: &str) -> Option<WeekSecond>
+/// The start that a word `--start=D:HH:MM:SS` gives.
+pub fn read_start_option(word: &str) -> Option<WeekSecond>
     ensures found { IfSome result (λ start. IsStart word.now start.second) }
     ensures only { (start : ℕ) → IsStart word.now start → IsSomeAnd result (λ found. found.second ≡ start) }
 {

@@ -1,13 +1,13 @@
 // The words of a call.
-ghost use Rattle.std.specs.Prelude.{◌≡◌, Some, option_map, IfSome, IsSome, OnSome};
+ghost use Rattle.std.specs.Prelude.{◌≡◌, ℕ, Some, option_map, IfSome, IsSome, IsSomeAnd, OnSome};
 ghost use Rattle.liq_cli.specs.Read.{asked_by_threads, asked_of, options_of};
-ghost use Rattle.liq_cli.specs.Words.{Asked, AreApart, IsAsked, IsCheck, IsMake, IsRender, NeedsThreads, Render as AsksToRender, start_in, texts, window_in};
+ghost use Rattle.liq_cli.specs.Words.{Asked, AreApart, IsAsked, IsCheck, IsMake, IsOnlyStart, IsRender, IsReplay, NeedsThreads, Render as AsksToRender, start_in, texts, window_in};
 
 use crate::form::{Form, Rendering, Threaded};
-use crate::options::{Options, read_options, start_of, window_of};
+use crate::options::{Options, read_options, read_start_option, start_of, window_of};
 use crate::size::read_size;
 use crate::ticks::{Ticks, read_ticks};
-use fixed_text::read_u64;
+use fixed_text::{WeekSecond, read_u64};
 
 /// The form of the words, or nothing where they have none.
 pub fn read_words(words: &[String]) -> Option<Form<'_>>
@@ -21,6 +21,7 @@ pub fn read_words(words: &[String]) -> Option<Form<'_>>
         "check" => read_check(rest),
         "render" => read_render(rest),
         "make" => read_make(rest),
+        "replay" => read_replay(rest),
         _ => None,
     }
 }
@@ -77,6 +78,36 @@ fn read_make(words: &[String]) -> Option<Form<'_>>
     let seed = read_u64(seed.as_bytes())?;
     let size = read_size(size.as_bytes())?;
     Some(Form::Threaded(Threaded::Make { seed, size }))
+}
+
+// `FILE N TRACE`, and maybe a start
+fn read_replay(words: &[String]) -> Option<Form<'_>>
+    ensures found { IfSome result (λ form. IsReplay (texts words.now) (asked_of form)) }
+    ensures only { (asked : Asked) → IsReplay (texts words.now) asked → option_map asked_of result ≡ Some asked }
+{
+    let [file, number, trace, options @ ..] = words else {
+        return None;
+    };
+    let ticks = read_ticks(number.as_bytes())?;
+    let start = read_only_start(options)?;
+    Some(Form::Replay {
+        file: file.as_str(),
+        start,
+        ticks,
+        trace: trace.as_str(),
+    })
+}
+
+// The start that options give which have nothing else.
+fn read_only_start(options: &[String]) -> Option<WeekSecond>
+    ensures found { IfSome result (λ start. IsOnlyStart (texts options.now) start.second) }
+    ensures only { (start : ℕ) → IsOnlyStart (texts options.now) start → IsSomeAnd result (λ found. found.second ≡ start) }
+{
+    match options {
+        [] => Some(WeekSecond { second: 0 }),
+        [word] => read_start_option(word.as_str()),
+        _ => None,
+    }
 }
 
 // The rendering of so many ticks that options ask for; nothing where a window or a trace stands beside `--one-thread`.

@@ -23,7 +23,9 @@ use Rattle.script_plan.specs.declared.fault.ScriptFault.TheVariants.{Lex, Parse,
 use Rattle.stations.specs.declared.fault.StationFault.{StationFault}
 use Rattle.stations.specs.declared.fault.StationFault.TheVariants.{Files, FallibleOutput, Clocks, OutputTooLong}
 use Rattle.refusal_lines.specs.declared.fault.Fault.{Fault}
-use Rattle.refusal_lines.specs.declared.fault.Fault.TheVariants.{NoScript, Script, SameFile, Station}
+use Rattle.refusal_lines.specs.declared.fault.Fault.TheVariants.{NoScript, Script, SameFile, Station, Replay}
+use Rattle.refusal_lines.specs.declared.replay_lines.ReplayFault.{ReplayFault}
+use Rattle.refusal_lines.specs.declared.replay_lines.ReplayFault.TheVariants.{NoTrace, TraceTooLarge, NotATrace, DoesNotFit}
 use Rattle.refusal_lines.specs.Forms.{at_place, at_statement, at_token, of_audio, of_clocks, of_name}
 
 -- the bytes that are no tokens; want of memory is no refusal, and has no line
@@ -116,9 +118,17 @@ station_line (FallibleOutput name) = of_name (codes "E25 fallible output") name
 station_line (Clocks fault) = clock_line fault
 station_line (OutputTooLong name) = of_name (codes "E29 output too long") name
 
+-- a trace that is not rendered again
+abbrev pub replay_line : ReplayFault → List ℕ
+replay_line (NoTrace name) = of_name (codes "E30 no trace") name
+replay_line (TraceTooLarge name) = of_name (codes "E31 trace too large") name
+replay_line (NotATrace line) = at_place (codes "E32 not a trace: line") line
+replay_line DoesNotFit = codes "E33 trace does not fit\n"
+
 -- the line of a refusal
 abbrev pub line_of : Fault → List ℕ
 line_of NoScript = codes "E01 no script\n"
 line_of (Script fault) = script_line fault
 line_of (SameFile name) = of_name (codes "E18 two outputs") name
 line_of (Station fault) = station_line fault
+line_of (Replay fault) = replay_line fault

@@ -6,6 +6,7 @@ use crate::clock_lines::clock_line;
 use crate::file_lines::file_line;
 use crate::forms::{of_name, plain};
 use crate::plan_lines::plan_line;
+use crate::replay_lines::{ReplayFault, replay_line};
 use crate::text_lines::{syntax_line, token_line};
 use crate::type_lines::type_line;
 use liq_base::{Memory, Text};
@@ -27,6 +28,9 @@ pub enum Fault {
 
     /// Its plan is not rendered.
     Station(StationFault),
+
+    /// The trace of a replay is not rendered again.
+    Replay(ReplayFault),
 }
 
 impl Fault {
@@ -40,6 +44,7 @@ impl Fault {
             Fault::Script(fault) => script_line(alloc, fault),
             Fault::SameFile(name) => of_name(alloc, "E18 two outputs", name.as_str()),
             Fault::Station(fault) => station_line(alloc, fault),
+            Fault::Replay(fault) => replay_line(alloc, fault),
         }
     }
 }

@@ -19,6 +19,13 @@ pub fn at_place(alloc: Global, text: &str, place: u32) -> Result<String, Memory>
     Ok(format!(in alloc; "{text} {place}\n")?)
 }
 
+/// A line that ends with the number of a line of a file.
+pub fn at_line(alloc: Global, text: &str, number: u64) -> Result<String, Memory>
+    ensures { IfOk result (λ line. string_bytes line ≡ at_place text.now number) }
+{
+    Ok(format!(in alloc; "{text} {number}\n")?)
+}
+
 /// A line that ends with a name.
 pub fn of_name(alloc: Global, text: &str, name: &str) -> Result<String, Memory>
     ensures { IfOk result (λ line. string_bytes line ≡ of_name text.now name.now) }

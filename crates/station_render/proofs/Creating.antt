@@ -15,7 +15,6 @@ use Rattle.clock_infer.specs.declared.clock_map.NodeClock.TheVariants.{Main}
 use Rattle.op_leaf.specs.Readers.{Answer}
 use Rattle.stream_meaning.specs.Instants.{Setting, answered, clock_of}
 use Rattle.stream_meaning.specs.Sinks.{ticks_bytes}
-use Rattle.run_records.specs.Records.{Run, answers_of, setting_then}
 use Rattle.run_records.specs.Buffers.{main_of as main_clock}
 use Rattle.stations.specs.Streams.{body_size, ends_in, file_bytes, front_bytes, header_for, outputs_in, parts_in}
 use Rattle.station_render.specs.OutputSinks.{but_one, but_one_if, owed, owed_by, spared, told}
@@ -212,25 +211,25 @@ module _ {S : Type 0} (name held : S → Option (List ℕ)) (left : S → Option
         (created_as (IsReady name held left debt files setting ticks) (IsPart name held faults files world ticks made tried) (part_of_ready made tried none answers) ys order old are) part was.added)
 
     -- what is begun, where the first sinks were gone through
-    module _ (run : Run) (made tried : ℕ → ℕ) (none : (k : ℕ) → made k ≡ 0) where
+    module _ (answers : (ℕ → List Answer) → ℕ → List Answer) (made tried : ℕ → ℕ) (none : (k : ℕ) → made k ≡ 0) where
       pub begun_here : (k : ℕ) (order : List ℕ) (groups : List (List S)) → AreCreated (IsReady name held left debt files setting ticks) (written (take k setting.plan.sinks)) order groups
-          → AreBegun name held faults files setting run ticks made tried order groups
+          → AreBegun name held faults files setting answers ticks made tried order groups
       begun_here k order groups are = record {
         created = written (take k setting.plan.sinks);
         others = written (drop k setting.plan.sinks);
         all = ap written (taken_and_left setting.plan.sinks k) ∙ written_both (take k setting.plan.sinks) (drop k setting.plan.sinks);
-        parts = λ rest. created_as (IsReady name held left debt files setting ticks) (IsPart name held faults files (setting_then setting run rest) ticks made tried) (part_of_ready made tried none (λ buffer. answers_of run buffer ++ rest buffer))
+        parts = λ rest. created_as (IsReady name held left debt files setting ticks) (IsPart name held faults files (answered setting (answers rest)) ticks made tried) (part_of_ready made tried none (answers rest))
             (written (take k setting.plan.sinks)) order groups are;
       }
 
       pub begun_next : (k : ℕ) (title : List ℕ) (node : ℕ) (fallible wide : Bool) (order : List ℕ) (groups : List (List S)) → slice_get setting.plan.sinks k ≡ Some (Output title node fallible wide)
-          → ((rest : ℕ → List Answer) → AreCreated (IsPart name held faults files (setting_then setting run rest) ticks made tried) (written (take k setting.plan.sinks) ++ (record { name = title; node = node; wide = wide }) ∷ []) order groups)
-          → AreBegun name held faults files setting run ticks made tried order groups
+          → ((rest : ℕ → List Answer) → AreCreated (IsPart name held faults files (answered setting (answers rest)) ticks made tried) (written (take k setting.plan.sinks) ++ (record { name = title; node = node; wide = wide }) ∷ []) order groups)
+          → AreBegun name held faults files setting answers ticks made tried order groups
       begun_next k title node fallible wide order groups at are = record {
         created = written (take (suc k) setting.plan.sinks);
         others = written (drop (suc k) setting.plan.sinks);
         all = ap written (taken_and_left setting.plan.sinks (suc k)) ∙ written_both (take (suc k) setting.plan.sinks) (drop (suc k) setting.plan.sinks);
-        parts = λ rest. subst (λ ys. AreCreated (IsPart name held faults files (setting_then setting run rest) ticks made tried) ys order groups) (sym (written_more setting.plan.sinks k title node fallible wide at)) (are rest);
+        parts = λ rest. subst (λ ys. AreCreated (IsPart name held faults files (answered setting (answers rest)) ticks made tried) ys order groups) (sym (written_more setting.plan.sinks k title node fallible wide at)) (are rest);
       }
 
       -- after a creation that broke off
@@ -238,12 +237,12 @@ module _ {S : Type 0} (name held : S → Option (List ℕ)) (left : S → Option
           → slice_get setting.plan.sinks k ≡ Some (Output title node fallible wide) → header ≡ header_for setting wide ticks node
           → AreCreated (IsReady name held left debt files setting ticks) (written (take k setting.plan.sinks)) order old
           → NoneCreated order order_new old new ⊎ WasBroken name held faults files clock title header order order_new old new
-          → AreBegun name held faults files setting run ticks made tried order_new new
+          → AreBegun name held faults files setting answers ticks made tried order_new new
       begun_broken k title node fallible wide clock header order order_new old new low at header_is are (inl same) =
-          subst (λ o. AreBegun name held faults files setting run ticks made tried o new) (sym same.order_is) (subst (λ gs. AreBegun name held faults files setting run ticks made tried order gs) (sym same.same) (begun_here k order old are))
+          subst (λ o. AreBegun name held faults files setting answers ticks made tried o new) (sym same.order_is) (subst (λ gs. AreBegun name held faults files setting answers ticks made tried order gs) (sym same.same) (begun_here k order old are))
       begun_broken k title node fallible wide clock header order order_new old new low at header_is are (inr broken) =
           begun_next k title node fallible wide order_new new at
-          (λ rest. part_more made tried none (λ buffer. answers_of run buffer ++ rest buffer) (written (take k setting.plan.sinks)) (record { name = title; node = node; wide = wide }) clock header order order_new old new low header_is are broken)
+          (λ rest. part_more made tried none (answers rest) (written (take k setting.plan.sinks)) (record { name = title; node = node; wide = wide }) clock header order order_new old new low header_is are broken)
 
 pub written_next : (sinks : List SinkPlan) (k : ℕ) (name : List ℕ) (node : ℕ) (fallible wide : Bool) → slice_get sinks k ≡ Some (Output name node fallible wide)
     → written (take (k + 1) sinks) ≡ written (take k sinks) ++ (record { name = name; node = node; wide = wide }) ∷ []
@@ -268,10 +267,10 @@ module _ {S : Type 0} (name held : S → Option (List ℕ)) (left : S → Option
       (subst (λ f. WasCreated name held left debt f clock title header body order order_new old new) same (subst (λ t. WasCreated name held left debt before clock t header body order order_new old new) said_is was)))
 
   -- after one that broke off
-  pub broken_off : (run : Run) (made tried : ℕ → ℕ) → ((k : ℕ) → made k ≡ 0) → NoneCreated order order_new old new ⊎ WasBroken name held faults before clock said header order order_new old new
-      → AreBegun name held faults files setting run ticks made tried order_new new
-  broken_off run made tried none was =
-      begun_broken name held left debt faults files setting ticks run made tried none k title node fallible wide clock header order order_new old new low at header_is are
+  pub broken_off : (answers : (ℕ → List Answer) → ℕ → List Answer) (made tried : ℕ → ℕ) → ((k : ℕ) → made k ≡ 0) → NoneCreated order order_new old new ⊎ WasBroken name held faults before clock said header order order_new old new
+      → AreBegun name held faults files setting answers ticks made tried order_new new
+  broken_off answers made tried none was =
+      begun_broken name held left debt faults files setting ticks answers made tried none k title node fallible wide clock header order order_new old new low at header_is are
       (subst (λ f. NoneCreated order order_new old new ⊎ WasBroken name held faults f clock title header order order_new old new) same
       (subst (λ t. NoneCreated order order_new old new ⊎ WasBroken name held faults before clock t header order order_new old new) said_is was))
 

@@ -9,8 +9,7 @@ use Rattle.liq_base.specs.Counts.{Rose}
 use Rattle.liq_base.specs.Files.{Files}
 use Rattle.liq_base.specs.Kept.{rose_within, some_and}
 use Rattle.op_leaf.specs.Readers.{Answer}
-use Rattle.stream_meaning.specs.Instants.{Setting}
-use Rattle.run_records.specs.Records.{Run, setting_then}
+use Rattle.stream_meaning.specs.Instants.{Setting, answered}
 use Rattle.liq_base.specs.Pieces.{HasRoom}
 use Rattle.stations.specs.Outputs.{HoldsParts, HoldsSome, HoldsUpto, OutputFile, OutputPart, with_outputs}
 use Rattle.stations.proofs.Parts.{parts_within}
@@ -172,9 +171,9 @@ module _ (station : Station) where
         inl (some_written faults w0 w1 w2 low ran (subst (λ b. ForSome mid (λ files. (outputs : List OutputPart) → AreCreated (HoldsFrontIf b name held faults) outputs order groups → IsSomeAnd after (λ now. HoldsParts w1 files outputs now w2))) is closed) files at)
 
 -- all outputs of a plan are begun, where each holds a part of its bytes
-pub begun_all : {S : Type 0} (name held : S → Option (List ℕ)) (faults : S → ℕ) (files : Option Files) (setting : Setting) (run : Run) (ticks : ℕ) (made tried : ℕ → ℕ) (order : List ℕ) (groups : List (List S))
-    → ((rest : ℕ → List Answer) → AreCreated (IsPart name held faults files (setting_then setting run rest) ticks made tried) (written setting.plan.sinks) order groups) → AreBegun name held faults files setting run ticks made tried order groups
-begun_all name held faults files setting run ticks made tried order groups are = record { created = written setting.plan.sinks; others = []; all = sym (append-nil (written setting.plan.sinks)); parts = are }
+pub begun_all : {S : Type 0} (name held : S → Option (List ℕ)) (faults : S → ℕ) (files : Option Files) (setting : Setting) (answers : (ℕ → List Answer) → ℕ → List Answer) (ticks : ℕ) (made tried : ℕ → ℕ) (order : List ℕ) (groups : List (List S))
+    → ((rest : ℕ → List Answer) → AreCreated (IsPart name held faults files (answered setting (answers rest)) ticks made tried) (written setting.plan.sinks) order groups) → AreBegun name held faults files setting answers ticks made tried order groups
+begun_all name held faults files setting answers ticks made tried order groups are = record { created = written setting.plan.sinks; others = []; all = sym (append-nil (written setting.plan.sinks)); parts = are }
 
 -- a fault of a sink that failed is one of the shelf, once the sink is closed
 pub cause_later : (w0 w1 w2 : ℕ) (failed : Type 0) → w0 ≤ w1 → w1 ≤ w2 → Rose w0 w1 ⊎ failed → (failed → Rose w1 w2) → Rose w0 w2

@@ -1,6 +1,6 @@
 -- What rounds and threads leave, as one record of a run.
-use Rattle.std.proofs.Common.{◌≡◌, ◌+◌, ◌∙◌, ◌++◌, true, ℕ, Bool, List, [], ◌∷◌, length, map, flat_map, slice_get, slice_index_or, arith, refl, ap, sym, subst}
-use Rattle.std.specs.Prelude.{Option, Some, None, count_by, is_none, is_some, not}
+use Rattle.std.proofs.Common.{◌≡◌, ◌≤◌, ◌+◌, ◌∙◌, ◌++◌, true, false, ℕ, Bool, List, [], ◌∷◌, length, map, flat_map, slice_get, slice_index_or, nat_eq, arith, refl, ap, sym, subst, if◌then◌else◌}
+use Rattle.std.specs.Prelude.{Option, Some, count_by, is_none, is_some, not}
 use Rattle.std.proofs.lemmas.List.{map-append}
 use native.Mathlib.Nat.{min-le_right}
 use Rattle.liq_base.specs.Counts.{Rose}
@@ -9,7 +9,7 @@ use Rattle.stream_meaning.specs.Instants.{Setting}
 use Rattle.stream_meaning.proofs.Answering.{begin_none}
 use Rattle.node_states.specs.Ticks.{IsOutput, with_rest}
 use Rattle.clock_outputs.specs.Appends.{RoseAt}
-use Rattle.run_records.specs.Records.{AreRoundsBegun, Follows, IsRounds, Run, Window, calls_in, capacity_of, made_by, on, setting_then, ticks_by}
+use Rattle.run_records.specs.Records.{AreRoundsBegun, Follows, IsRounds, Run, Window, calls_in, capacity_of, made_by, on, setting_in, setting_then, ticks_by}
 use Rattle.clock_engine.specs.declared.engine.ClockEngine.{ClockEngine}
 use Rattle.clock_engine.specs.Engines.{setting_of}
 use Rattle.buffer_queue.specs.Window.{is_chunk}
@@ -22,28 +22,53 @@ use Rattle.run_records.proofs.Flattening.{start_zero}
 use Rattle.frame_core.specs.Legal.{Legal, IsRun}
 use Rattle.stream_meaning.specs.Calls.{IsBegin, joined_between, joined_upto}
 use Rattle.std.proofs.lemmas.Bool.{le-ltb}
-use Rattle.rounds_run.specs.Runs.{counts_of_windows}
+use Rattle.rounds_run.specs.Runs.{HaveRunTicks, counts_of_windows}
 use Rattle.rounds_run.specs.Runs as rounds
 use Rattle.rounds_run.proofs.Lawful.{none_counted, some_counted}
 use Rattle.rounds_run.proofs.Records.{run_of, window_at, windows_many}
 use Rattle.buffer_sides.specs.Logs.{told}
 use Rattle.clock_threads.specs.Logs.{counts_in}
 use Rattle.clock_threads.specs.Runs as threads
-use Rattle.stations.specs.Stations.{IsBegunIn, IsLawfulIn, made_in}
+use Rattle.trace_log.specs.Values.{TraceValue}
+use Rattle.trace_replay.specs.Replays.{HasReplayedAll, HasReplayedSome, ticks_to}
+use Rattle.trace_replay.specs.Traces.{IsAccepted}
+use Rattle.trace_replay.proofs.Retelling.{record_of}
+use Rattle.stations.specs.Stations.{Way, InRounds, InWindows, Again, IsBegunIn, IsLawfulIn, IsReplay, made_in}
 use Rattle.station_render.specs.Sinks.{HasFailed}
 use Rattle.station_render.specs.Engines.{AreAt, IsAt, outs_of}
 use Rattle.station_render.specs.EngineRuns.{RanAll, RanSome}
+use Rattle.station_render.specs.Runs.{HasRecord}
 use Rattle.station_render.proofs.Lists.{got_is, mapped, within}
 
 -- no tick before the first turn
 none_by : (ticks k : ℕ) → ticks_by ticks 0 0 k ≡ 0
 none_by ticks k = let low = min-le_right ticks (made_by 0 0 k) in let none : made_by 0 0 k ≡ 0 = rw (le-ltb k 0 (omega arith)) refl in omega (arith, low, none)
 
--- a run that made no call, in which no clock made a tick
-pub not_begun : (setting : Setting) (clocks ticks : ℕ) (window : Option ℕ) → (begun : IsBegunIn setting clocks ticks window (run_of (length setting.plan.buffers) []))
-    × ((k : ℕ) → made_in setting clocks ticks window (run_of (length setting.plan.buffers) []) begun k ≡ 0)
-not_begun setting clocks ticks None = (
-  record {
+-- no clock of a replay before the first one
+either_same : (b : Bool) (n : ℕ) → ◌≡◌ {A = ℕ} (if b then n else n) n
+either_same true n = refl
+either_same false n = refl
+
+none_to : (ticks k : ℕ) → ticks_to ticks 0 0 k ≡ 0
+none_to ticks k = rw (le-ltb k 0 (omega arith)) (either_same (nat_eq k 0) 0)
+
+-- an accepted trace tells a record
+record_there : (setting : Setting) (clocks ticks : ℕ) (trace : TraceValue) → IsAccepted setting clocks ticks trace → (run : Run) × IsReplay setting clocks ticks trace run
+record_there setting clocks ticks trace accepted =
+    let at : IsAccepted setting clocks trace.ticks trace = subst (λ n. IsAccepted setting clocks n trace) (sym accepted.ticks) accepted in
+    (at.ordered.run, record { ticks_are = accepted.ticks; of = record_of setting clocks trace at })
+
+-- a record of which no clock has made a tick
+pub record NoneMade (setting : Setting) (clocks ticks : ℕ) (way : Way) : Type 0 where
+  pub run : Run
+  pub begun : IsBegunIn setting clocks ticks way run
+  pub none : (k : ℕ) → made_in setting clocks ticks way run begun k ≡ 0
+
+-- that of a run that made no call, or of a trace
+pub not_begun : (setting : Setting) (clocks ticks : ℕ) (way : Way) → HasRecord setting clocks ticks way → NoneMade setting clocks ticks way
+not_begun setting clocks ticks InRounds may = record {
+  run = run_of (length setting.plan.buffers) [];
+  begun = record {
     buffers = windows_many [] 0 (length setting.plan.buffers);
     calls = [];
     round = 0;
@@ -52,11 +77,12 @@ not_begun setting clocks ticks None = (
     turn = λ rest. ((λ m t buffer. true), begin_none [], begin_none _);
     are = window_at (length setting.plan.buffers) [];
     in_order = λ buffer low. ([], refl);
-  },
-  none_by ticks,
-)
-not_begun setting clocks ticks (Some window) = (
-  record {
+  };
+  none = none_by ticks;
+}
+not_begun setting clocks ticks (InWindows window) may = record {
+  run = run_of (length setting.plan.buffers) [];
+  begun = record {
     buffers = windows_many [] 0 (length setting.plan.buffers);
     accepted = λ m t buffer. true;
     closed = 0;
@@ -75,14 +101,22 @@ not_begun setting clocks ticks (Some window) = (
       subst (λ n. Follows (capacity_of setting buffer) [] (on buffer (joined_upto (calls_in (setting_then setting (run_of (length setting.plan.buffers) []) rest) clocks (λ m t buffer. true) (feeder setting buffer)) n ++ [])) [])
           (sym (start_zero window ticks)) refl,
     );
-  },
-  λ k. refl,
-)
+  };
+  none = λ k. refl;
+}
+not_begun setting clocks ticks (Again trace) may =
+    let there = record_there setting clocks ticks trace may in
+    record {
+      run = there.0;
+      begun = record { whole = there.1; clock = 0; made = 0; tried = 0; no_fewer = omega arith; one_more = omega arith; most = omega arith };
+      none = none_to ticks;
+    }
 
 -- the record of a run has the windows of each buffer
-pub lawful_many : (setting : Setting) (clocks ticks : ℕ) (window : Option ℕ) (run : Run) → IsLawfulIn setting clocks ticks window run → length run.buffers ≡ length setting.plan.buffers
-lawful_many setting clocks ticks None run lawful = lawful.buffers
-lawful_many setting clocks ticks (Some window) run lawful = lawful.buffers
+pub lawful_many : (setting : Setting) (clocks ticks : ℕ) (way : Way) (run : Run) → IsLawfulIn setting clocks ticks way run → length run.buffers ≡ length setting.plan.buffers
+lawful_many setting clocks ticks InRounds run lawful = lawful.buffers
+lawful_many setting clocks ticks (InWindows window) run lawful = lawful.buffers
+lawful_many setting clocks ticks (Again trace) run lawful = lawful.of.lawful.buffers
 
 -- a sink whose count of faults rose has failed
 pub failed_at : {S : Type 0} (faults : S → ℕ) (clock place : ℕ) (new : List (ClockEngine S)) (before after : ClockEngine S) → slice_get new clock ≡ Some after
@@ -124,7 +158,7 @@ counts_told (windows ∷ buffers) = λ i. count_told windows i ∷ counts_told b
 
 -- the records of rounds
 module _ {S : Type 0} {held name : S → Option (List ℕ)} {faults : S → ℕ} {setting : Setting} {clocks ticks : ℕ} {old new : List (ClockEngine S)} (all : length old ≡ clocks) where
-  pub rounds_all : {counts : List Counts} {logs : List (List Answers)} → rounds.HasRunAll held name faults setting ticks old new counts logs → RanAll held name faults setting clocks ticks None old new counts logs
+  pub rounds_all : {counts : List Counts} {logs : List (List Answers)} → rounds.HasRunAll held name faults setting ticks old new counts logs → RanAll held name faults setting clocks ticks InRounds old new counts logs
   rounds_all ran = record {
     run = ran.run;
     lawful = subst (λ n. IsRounds setting n ticks ran.run) all ran.rounds;
@@ -133,7 +167,7 @@ module _ {S : Type 0} {held name : S → Option (List ℕ)} {faults : S → ℕ}
     logs_are = ran.logs_are;
   }
 
-  pub rounds_some : {end : End} → rounds.HasRunSome held name faults setting ticks old new end → RanSome held name faults setting clocks ticks None old new end
+  pub rounds_some : {end : End} → rounds.HasRunSome held name faults setting ticks old new end → RanSome held name faults setting clocks ticks InRounds old new end
   rounds_some ran =
       let moved = subst (λ n. (begun : AreRoundsBegun setting n ticks ran.run)
       × HaveRunPart held name faults (setting_then setting ran.run) (ticks_by ticks begun.round begun.clock) (ticks_by ticks begun.round (begun.clock + 1)) old new) all (ran.begun, ran.part) in
@@ -142,6 +176,35 @@ module _ {S : Type 0} {held name : S → Option (List ℕ)} {faults : S → ℕ}
         begun = moved.0;
         part = moved.1;
         failed = λ failed sink is. let write = ran.write failed sink is in failed_at faults ran.begun.clock write.place new write.before write.after write.is write.rose;
+      }
+
+-- the record of a replay
+module _ {S : Type 0} {held name : S → Option (List ℕ)} {faults : S → ℕ} {setting : Setting} {clocks ticks : ℕ} {old new : List (ClockEngine S)} (trace : TraceValue) (ticks_are : trace.ticks ≡ ticks) where
+  pub replay_all : {counts : List Counts} {logs : List (List Answers)} → HasReplayedAll held name faults setting clocks trace old new counts logs → RanAll held name faults setting clocks ticks (Again trace) old new counts logs
+  replay_all ran = record {
+    run = ran.run;
+    lawful = record { ticks_are = ticks_are; of = ran.of };
+    engines = subst (λ n. HaveRunTicks held name faults (setting_in setting ran.run) n old new) ticks_are ran.engines;
+    counts_are = ran.counts_are;
+    logs_are = ran.logs_are;
+  }
+
+  pub replay_some : {end : End} → HasReplayedSome held name faults setting clocks trace old new end → RanSome held name faults setting clocks ticks (Again trace) old new end
+  replay_some ran =
+      let came = ran.part in
+      record {
+        run = ran.run;
+        begun = record {
+          whole = record { ticks_are = ticks_are; of = ran.of };
+          clock = came.clock;
+          made = came.made;
+          tried = came.tried;
+          no_fewer = came.no_fewer;
+          one_more = came.one_more;
+          most = subst (λ n. came.tried ≤ n) ticks_are came.most;
+        };
+        part = subst (λ n. HaveRunPart held name faults (λ rest. setting_in setting ran.run) (ticks_to n came.clock came.made) (ticks_to n came.clock came.tried) old new) ticks_are came.part;
+        failed = λ failed sink is. let write = came.write failed sink is in failed_at faults came.clock write.place new write.before write.after write.is write.rose;
       }
 
 output_in : {S : Type 0} (setting : Setting) (k : ℕ) (engine : ClockEngine S) → IsAt setting k engine → (sink node : ℕ) → IsOutput (setting_of engine.parts) engine.parts.clock sink node → IsOutput setting k sink node
@@ -154,7 +217,7 @@ both_are old new k before after was is = λ i. (got_is old k before before was i
 -- the records of threads
 module _ {S : Type 0} {held name : S → Option (List ℕ)} {faults : S → ℕ} {setting : Setting} {clocks : ClockMap} {window ticks : ℕ} {old new : List (ClockEngine S)} (at : AreAt setting old) where
   pub threads_all : {counts : List Counts} {logs : List (List Answers)} → threads.HasRunAll held name faults setting clocks window ticks old new counts logs
-      → RanAll held name faults setting clocks.running ticks (Some window) old new counts logs
+      → RanAll held name faults setting clocks.running ticks (InWindows window) old new counts logs
   unfolding output_in
   threads_all ran = record {
     run = ran.run;
@@ -182,7 +245,7 @@ module _ {S : Type 0} {held name : S → Option (List ℕ)} {faults : S → ℕ}
     logs_are = ran.tells.logs_are;
   }
 
-  pub threads_some : {end : End} → threads.HasRunSome held name faults setting clocks window ticks old new end → RanSome held name faults setting clocks.running ticks (Some window) old new end
+  pub threads_some : {end : End} → threads.HasRunSome held name faults setting clocks window ticks old new end → RanSome held name faults setting clocks.running ticks (InWindows window) old new end
   unfolding output_in
   threads_some ran = record {
     run = ran.run;

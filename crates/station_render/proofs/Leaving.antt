@@ -5,19 +5,18 @@ use Rattle.std.specs.declared.alloc.Global.{Global}
 use Rattle.std.specs.Option.{ForSome}
 use Rattle.liq_base.specs.Files.{Files, HoldsPart, with_file}
 use Rattle.liq_base.specs.Kept.{some_and}
-use Rattle.frame_core.specs.Library.{Sounds}
 use Rattle.plan_core.specs.declared.sink.SinkPlan.{SinkPlan}
 use Rattle.plan_core.specs.declared.sink.SinkPlan.TheVariants.{Output, Feed}
 use Rattle.stream_meaning.specs.Instants.{Setting}
-use Rattle.stream_meaning.specs.Sinks.{Cue, cues}
+use Rattle.stream_meaning.specs.Sinks.{cues}
 use Rattle.clock_engine.specs.declared.cues.CueMark.{CueMark}
 use Rattle.buffer_ends.specs.Local.{Answers}
 use Rattle.trace_log.specs.Texts.{trace_text}
 use Rattle.trace_log.specs.Values.{TraceValue}
-use Rattle.stations.specs.Cues.{cue_files, cue_names_if, cue_names_in, cues_if, cues_in, marks_if, marks_in}
+use Rattle.stations.specs.Cues.{cue_files, cues_if, cues_in, marks_if, marks_in}
 use Rattle.stations.specs.Outputs.{HoldsUpto, OutputFile, with_outputs}
 use Rattle.stations.specs.Renderings.{WrotePart}
-use Rattle.stations.specs.Stations.{Station, setting_of_run}
+use Rattle.stations.specs.Stations.{Station, InRounds, InWindows, Again, setting_of_run}
 use Rattle.stations.specs.Streams.{output_files}
 use Rattle.stations.specs.Traces.{later_files, traced, traces_in, traces_of}
 use Rattle.stations.proofs.Parts.{both_outputs, upto_front, upto_none, upto_then}
@@ -110,7 +109,7 @@ module _ (station : Station) (before mid : Option Files) (rendered : Rendered) (
       many_lists [] = refl
       many_lists (one ∷ others) = ap suc (many_lists others)
 
-  module _ (window : ℕ) (in_windows : station.window ≡ Some window) where
+  module _ (window : ℕ) (in_windows : station.way ≡ InWindows window) where
     pub trace_is : traces_of station wrote.run ≡ traced station.trace (record { ticks = station.ticks; window = window; buffers = rendered.logs.items })
     trace_is =
         ap (λ w. traces_in w station wrote.run) in_windows
@@ -123,12 +122,16 @@ module _ (station : Station) (before mid : Option Files) (rendered : Rendered) (
   trace_part window = traced station.trace (record { ticks = station.ticks; window = window; buffers = rendered.logs.items })
 
   -- by threads
-  pub later_by : (window : ℕ) → station.window ≡ Some window → later_files station wrote.run ≡ cue_part ++ trace_part window
+  pub later_by : (window : ℕ) → station.way ≡ InWindows window → later_files station wrote.run ≡ cue_part ++ trace_part window
   later_by window in_windows = λ i. cues_are i ++ trace_is window in_windows i
 
   -- on one thread
-  pub later_alone : station.window ≡ None → later_files station wrote.run ≡ cue_part
+  pub later_alone : station.way ≡ InRounds → later_files station wrote.run ≡ cue_part
   later_alone alone = ap (λ w. cue_files station wrote.run ++ traces_in w station wrote.run) alone ∙ append-nil (cue_files station wrote.run) ∙ cues_are
+
+  -- and again, as a trace tells
+  pub later_again : (trace : TraceValue) → station.way ≡ Again trace → later_files station wrote.run ≡ cue_part
+  later_again trace again = ap (λ w. cue_files station wrote.run ++ traces_in w station wrote.run) again ∙ append-nil (cue_files station wrote.run) ∙ cues_are
 
   -- what is told stays, where the run's record is handed on
   pub told_again : (said : Rendered) → said.gaps.items ≡ rendered.gaps.items → said.counts.items ≡ rendered.counts.items → said.logs.items ≡ rendered.logs.items → said.cues.items ≡ rendered.cues.items
@@ -140,7 +143,7 @@ module _ (station : Station) (before mid : Option Files) (rendered : Rendered) (
     cues_are = ap cues_of cues ∙ wrote.told.cues_are;
   }
 
-  pub rendered_by : {E : Type 0} (r : Result Rendered E) (window : ℕ) → station.window ≡ Some window → (between after : Option Files)
+  pub rendered_by : {E : Type 0} (r : Result Rendered E) (window : ℕ) → station.way ≡ InWindows window → (between after : Option Files)
       → ForSome mid (λ files. between ≡ Some (with_outputs files cue_part)) → IfOk r (λ said. said.gaps.items ≡ rendered.gaps.items) → IfOk r (λ said. said.counts.items ≡ rendered.counts.items)
       → IfOk r (λ said. said.logs.items ≡ rendered.logs.items) → IfOk r (λ said. said.cues.items ≡ rendered.cues.items)
       → OnOk r (ForSome between (λ files. after ≡ Some (with_outputs files (trace_part window)))) → IfOk r (IsRendered station before after)

@@ -1,5 +1,5 @@
 -- What a run of all engines leaves in the sinks, once they are given back.
-use Rattle.std.proofs.Common.{◌≡◌, ◌<◌, ◌+◌, ◌∙◌, ◌++◌, ℕ, suc, List, [], ◌∷◌, length, map, get_or, slice_index_or, arith, refl, ap, sym, subst, Bool}
+use Rattle.std.proofs.Common.{◌≡◌, ◌<◌, ◌+◌, ◌∙◌, ℕ, suc, List, [], ◌∷◌, length, map, get_or, slice_index_or, arith, refl, ap, sym, subst, Bool}
 use Rattle.std.specs.Prelude.{Option, Result, Ok, Err, OnOk, IfOk}
 use Rattle.liq_base.specs.Files.{Files}
 use Rattle.liq_base.specs.Pieces.{HasRoom}
@@ -8,18 +8,18 @@ use Rattle.plan_core.specs.declared.sink.BufferPlan.{BufferPlan}
 use Rattle.clock_infer.specs.declared.clock_map.ClockMap.{ClockMap}
 use Rattle.clock_infer.specs.declared.clock_map.NodeClock.TheVariants.{Main}
 use Rattle.frame_core.specs.Library.{Sounds}
-use Rattle.stream_meaning.specs.Instants.{Setting}
-use Rattle.run_records.specs.Records.{Run, Window, answers_of, setting_in, setting_then}
+use Rattle.stream_meaning.specs.Instants.{Setting, answered}
+use Rattle.stream_meaning.specs.Settings.{IsSetting}
+use Rattle.run_records.specs.Records.{Run, Window, answers_of, setting_in}
 use Rattle.clock_engine.specs.declared.engine.ClockEngine.{ClockEngine}
 use Rattle.buffer_ends.specs.Local.{Answers}
 use Rattle.buffer_ends.specs.declared.counts.Counts.{Counts}
 use Rattle.buffer_ends.specs.declared.run_end.End.{End}
 use Rattle.buffer_ends.specs.declared.run_end.End.TheVariants.{Write}
 use Rattle.rounds_run.specs.Runs.{AreOver, counts_of_windows}
-use Rattle.rounds_run.proofs.Records.{run_of}
 use Rattle.clock_threads.specs.Runs as threads
 use Rattle.stations.specs.Findings.{IsFit}
-use Rattle.stations.specs.Stations.{Station, made_in, tried_in}
+use Rattle.stations.specs.Stations.{Station, Way, answers_with, made_in, tried_in}
 use Rattle.stations.specs.Cues.{marks_if}
 use Rattle.stations.specs.Streams.{body_size, counts_in}
 use Rattle.station_render.specs.Sinks.{AreCreated, HasFailed}
@@ -27,7 +27,7 @@ use Rattle.station_render.specs.Engines.{AreEmptyBelow, AreKeeping, ArePast, out
 use Rattle.station_render.specs.Marks.{cues_of}
 use Rattle.station_render.specs.Renders.{AreMain, IsPart, IsReady, IsWhole, order_of, setting_for, written}
 use Rattle.station_render.specs.EngineRuns.{AreOpened, RanAll, RanSome}
-use Rattle.station_render.specs.Runs.{RanPart, RanWhole, counts_from}
+use Rattle.station_render.specs.Runs.{HasRecord, RanPart, RanWhole, counts_from}
 use Rattle.station_render.specs.declared.rendered.Rendered.{Rendered}
 use Rattle.station_render.proofs.Lists.{got, got_is}
 use Rattle.station_render.proofs.Creating.{created_as, part_of_ready}
@@ -52,27 +52,39 @@ module _ (plan : Plan) (library : Sounds) (clocks : ClockMap) (start ticks : ℕ
   abbrev setting : Setting
   setting = setting_for plan library clocks start
 
-  abbrev station : (window : Option ℕ) → (trace : Option (List ℕ)) → (cues : Bool) → Station
-  station window trace cues = record { plan = plan; library = library; clocks = clocks; start = start; ticks = ticks; window = window; trace = trace; cues = cues }
+  abbrev station : (way : Way) → (trace : Option (List ℕ)) → (cues : Bool) → Station
+  station way trace cues = record { plan = plan; library = library; clocks = clocks; start = start; ticks = ticks; way = way; trace = trace; cues = cues }
 
   pub in_main : AreMain plan clocks → LieInMain setting plan.sinks
   in_main main k name node fallible wide at = let found = main k name node fallible wide at in (found.0, got_is clocks.of node (Main found.0) (Main 0) found.2)
 
   -- no engine was made, and the sinks are as they were
-  pub starved : {S : Type 0} (name held : S → Option (List ℕ)) (left : S → Option ℕ) (debt faults : S → ℕ) (groups : List (List S)) (files : Option Files) (window : Option ℕ) (trace : Option (List ℕ)) (cues : Bool)
-      → AreCreated (IsReady name held left debt files setting ticks) (written plan.sinks) (order_of setting (written plan.sinks)) groups
-      → RanPart name held faults files (station window trace cues) (order_of setting (written plan.sinks)) groups
-  starved name held left debt faults groups files window trace cues ready =
-      let begun = not_begun setting clocks.running ticks window in let none = run_of (length plan.buffers) [] in
-      let made = made_in setting clocks.running ticks window none begun.0 in let tried = tried_in setting clocks.running ticks window none begun.0 in
+  pub starved : {S : Type 0} (name held : S → Option (List ℕ)) (left : S → Option ℕ) (debt faults : S → ℕ) (groups : List (List S)) (files : Option Files) (way : Way) (trace : Option (List ℕ)) (cues : Bool)
+      → HasRecord setting clocks.running ticks way → AreCreated (IsReady name held left debt files setting ticks) (written plan.sinks) (order_of setting (written plan.sinks)) groups
+      → RanPart name held faults files (station way trace cues) (order_of setting (written plan.sinks)) groups
+  starved name held left debt faults groups files way trace cues may ready =
+      let none = not_begun setting clocks.running ticks way may in
+      let made = made_in setting clocks.running ticks way none.run none.begun in let tried = tried_in setting clocks.running ticks way none.run none.begun in
       record {
-        run = none;
-        begun = begun.0;
-        parts = begun_all name held faults files setting none ticks made tried (order_of setting (written plan.sinks)) groups
-            (λ rest. created_as (IsReady name held left debt files setting ticks) (IsPart name held faults files (setting_then setting none rest) ticks made tried)
-            (part_of_ready name held left debt faults files setting ticks made tried begun.1 (λ buffer. answers_of none buffer ++ rest buffer))
+        run = none.run;
+        begun = none.begun;
+        parts = begun_all name held faults files setting (answers_with way none.run) ticks made tried (order_of setting (written plan.sinks)) groups
+            (λ rest. created_as (IsReady name held left debt files setting ticks) (IsPart name held faults files (answered setting (answers_with way none.run rest)) ticks made tried)
+            (part_of_ready name held left debt faults files setting ticks made tried none.none (answers_with way none.run rest))
             (written plan.sinks) (order_of setting (written plan.sinks)) groups ready);
       }
+
+-- what a job fits has a meaning
+pub is_setting : {plan : Plan} {library : Sounds} {clocks : ClockMap} {start ticks : ℕ} → IsFit plan library clocks ticks → start < 604800 → IsSetting (setting_for plan library clocks start) clocks
+is_setting fit low = record {
+  plan = fit.plan_is;
+  map = fit.map;
+  each = refl;
+  library = fit.sounds;
+  leaves = fit.leaves;
+  singles = fit.singles;
+  start = low;
+}
 
 -- the same engines in another place
 pub opened_at : {S : Type 0} {name held : S → Option (List ℕ)} {left : S → Option ℕ} {debt : S → ℕ} {files : Option Files} {setting : Setting} {clocks : ClockMap} {ticks : ℕ} {order : List ℕ} {engines old : List (ClockEngine S)} {groups : List (List S)}
@@ -98,15 +110,7 @@ module _ {plan : Plan} {library : Sounds} {clocks : ClockMap} {start ticks : ℕ
 
   pub engines_are : start < 604800 → threads.AreEngines left plan clocks ticks world old
   engines_are low = record {
-    is = record {
-      plan = fit.plan_is;
-      map = fit.map;
-      each = refl;
-      library = fit.sounds;
-      leaves = fit.leaves;
-      singles = fit.singles;
-      start = low;
-    };
+    is = is_setting fit low;
     plan_is = refl;
     all = opened.all;
     each = λ k d below.
@@ -135,45 +139,45 @@ module _ {plan : Plan} {library : Sounds} {clocks : ClockMap} {start ticks : ℕ
     groups_are : (groups_new : List (List S)) → groups_new ≡ outs_of last → groups_new ≡ outs_of new
     groups_are groups_new back = back ∙ ap outs_of last_is
 
-    module _ {faults : S → ℕ} {window : Option ℕ} where
+    module _ {faults : S → ℕ} {way : Way} where
       -- they stand for all ticks
-      stand : {counts : List Counts} {logs : List (List Answers)} (ran : RanAll held name faults world clocks.running ticks window old new counts logs) → ArePast world (setting_in world ran.run) ticks last
+      stand : {counts : List Counts} {logs : List (List Answers)} (ran : RanAll held name faults world clocks.running ticks way old new counts logs) → ArePast world (setting_in world ran.run) ticks last
       stand ran =
           subst (λ es. ArePast world (setting_in world ran.run) ticks es) (sym last_is) (stand_after held name faults world (setting_in world ran.run) ticks old new opened.at ran.engines)
 
-      pub stand_so : {counts : List Counts} {logs : List (List Answers)} → RanAll held name faults world clocks.running ticks window old new counts logs
+      pub stand_so : {counts : List Counts} {logs : List (List Answers)} → RanAll held name faults world clocks.running ticks way old new counts logs
           → (other : Setting) × (meant : Setting) × (t : ℕ) × (other.plan ≡ plan) × (other.clocks ≡ clocks.of) × ArePast other meant t last
       stand_so ran = (world, setting_in world ran.run, ticks, refl, refl, stand ran)
 
       -- and keep their marks, where these are wanted
-      pub keep_so : {counts : List Counts} {logs : List (List Answers)} (wanted : Bool) → AreKeeping wanted old → RanAll held name faults world clocks.running ticks window old new counts logs → AreKeeping wanted last
+      pub keep_so : {counts : List Counts} {logs : List (List Answers)} (wanted : Bool) → AreKeeping wanted old → RanAll held name faults world clocks.running ticks way old new counts logs → AreKeeping wanted last
       keep_so wanted keep ran = subst (AreKeeping wanted) (sym last_is) (keep_after held name faults (setting_in world ran.run) ticks wanted old new keep ran.engines)
 
       module _ {groups_new : List (List S)} (back : groups_new ≡ outs_of last) where
-        pub part_back : {trace : Option (List ℕ)} {cues : Bool} {end : End} → RanSome held name faults world clocks.running ticks window old new end → RanPart title held faults files (record { plan = plan; library = library; clocks = clocks; start = start; ticks = ticks; window = window; trace = trace; cues = cues }) order groups_new
+        pub part_back : {trace : Option (List ℕ)} {cues : Bool} {end : End} → RanSome held name faults world clocks.running ticks way old new end → RanPart title held faults files (record { plan = plan; library = library; clocks = clocks; start = start; ticks = ticks; way = way; trace = trace; cues = cues }) order groups_new
         part_back some = record {
           run = some.run;
           begun = some.begun;
-          parts = begun_all title held faults files world some.run ticks (made_in world clocks.running ticks window some.run some.begun) (tried_in world clocks.running ticks window some.run some.begun) order groups_new
-              (λ rest. subst (λ (z : List ℕ × List (List S)). AreCreated (IsPart title held faults files (setting_then world some.run rest) ticks (made_in world clocks.running ticks window some.run some.begun) (tried_in world clocks.running ticks window some.run some.begun)) (written plan.sinks) z.0 z.1)
+          parts = begun_all title held faults files world (answers_with way some.run) ticks (made_in world clocks.running ticks way some.run some.begun) (tried_in world clocks.running ticks way some.run some.begun) order groups_new
+              (λ rest. subst (λ (z : List ℕ × List (List S)). AreCreated (IsPart title held faults files (answered world (answers_with way some.run rest)) ticks (made_in world clocks.running ticks way some.run some.begun) (tried_in world clocks.running ticks way some.run some.begun)) (written plan.sinks) z.0 z.1)
               (λ i. (sym opened.order_is i, sym (groups_are groups_new back) i))
-              (all_part world ticks mains name title held left debt faults alike files old new opened.at opened.ready some.run (made_in world clocks.running ticks window some.run some.begun) (tried_in world clocks.running ticks window some.run some.begun) some.part rest));
+              (all_part world ticks mains name title held left debt faults alike files old new opened.at opened.ready (answers_with way some.run) (made_in world clocks.running ticks way some.run some.begun) (tried_in world clocks.running ticks way some.run some.begun) some.part rest));
         }
 
-        pub failed_back : {end : End} → RanSome held name faults world clocks.running ticks window old new end → (clock sink : ℕ) → end ≡ Write clock sink → HasFailed faults groups_new
+        pub failed_back : {end : End} → RanSome held name faults world clocks.running ticks way old new end → (clock sink : ℕ) → end ≡ Write clock sink → HasFailed faults groups_new
         failed_back some clock sink is = subst (λ gs. HasFailed faults gs) (sym (groups_are groups_new back)) (some.failed clock sink is)
 
         -- where all ticks were made, this is told of them
-        whole_back : {trace : Option (List ℕ)} {cues : Bool} {counts : List Counts} {logs : List (List Answers)} (ran : RanAll held name faults world clocks.running ticks window old new counts logs) (rendered : Rendered)
+        whole_back : {trace : Option (List ℕ)} {cues : Bool} {counts : List Counts} {logs : List (List Answers)} (ran : RanAll held name faults world clocks.running ticks way old new counts logs) (rendered : Rendered)
             → rendered.counts.items ≡ counts → rendered.logs.items ≡ logs → rendered.gaps.items ≡ counts_in (setting_in world ran.run) ticks plan.sinks
-            → cues_of rendered.cues.items ≡ marks_if cues (setting_in world ran.run) ticks plan.sinks → RanWhole title held debt files (record { plan = plan; library = library; clocks = clocks; start = start; ticks = ticks; window = window; trace = trace; cues = cues }) order groups_new rendered
+            → cues_of rendered.cues.items ≡ marks_if cues (setting_in world ran.run) ticks plan.sinks → RanWhole title held debt files (record { plan = plan; library = library; clocks = clocks; start = start; ticks = ticks; way = way; trace = trace; cues = cues }) order groups_new rendered
         whole_back ran rendered counts_are logs_are gaps_are cues_are = record {
           run = ran.run;
           lawful = ran.lawful;
           told = record {
             gaps_are = gaps_are;
             counts_are = counts_are ∙ ran.counts_are
-                ∙ counts_at ran.run 0 ran.run.buffers plan.buffers (lawful_many world clocks.running ticks window ran.run ran.lawful) (λ k. let same : 0 + k ≡ k = omega arith in ap (λ n. slice_index_or ran.run.buffers n []) same);
+                ∙ counts_at ran.run 0 ran.run.buffers plan.buffers (lawful_many world clocks.running ticks way ran.run ran.lawful) (λ k. let same : 0 + k ≡ k = omega arith in ap (λ n. slice_index_or ran.run.buffers n []) same);
             logs_are = logs_are ∙ ran.logs_are;
             cues_are = cues_are;
           };
@@ -182,10 +186,10 @@ module _ {plan : Plan} {library : Sounds} {clocks : ClockMap} {start ticks : ℕ
         }
 
         pub whole_told : (trace : Option (List ℕ)) (cues : Bool) {counts : List Counts} {logs : List (List Answers)} {E Done : Type 0} (result : Result Rendered E)
-            → (Done → RanAll held name faults world clocks.running ticks window old new counts logs) → OnOk result Done
+            → (Done → RanAll held name faults world clocks.running ticks way old new counts logs) → OnOk result Done
             → IfOk result (λ rendered. (other meant : Setting) (t : ℕ) → other.plan ≡ plan → other.clocks ≡ clocks.of → ArePast other meant t last → rendered.gaps.items ≡ counts_in meant t plan.sinks)
             → IfOk result (λ rendered. (other meant : Setting) (t : ℕ) → other.plan ≡ plan → other.clocks ≡ clocks.of → ArePast other meant t last → cues_of rendered.cues.items ≡ marks_if cues meant t plan.sinks)
-            → IfOk result (λ rendered. rendered.counts.items ≡ counts) → IfOk result (λ rendered. rendered.logs.items ≡ logs) → IfOk result (RanWhole title held debt files (record { plan = plan; library = library; clocks = clocks; start = start; ticks = ticks; window = window; trace = trace; cues = cues }) order groups_new)
+            → IfOk result (λ rendered. rendered.counts.items ≡ counts) → IfOk result (λ rendered. rendered.logs.items ≡ logs) → IfOk result (RanWhole title held debt files (record { plan = plan; library = library; clocks = clocks; start = start; ticks = ticks; way = way; trace = trace; cues = cues }) order groups_new)
         whole_told trace cues (Ok rendered) all done gaps marks counts_are logs_are =
             let ran = all done in
             whole_back ran rendered counts_are logs_are (gaps world (setting_in world ran.run) ticks refl refl (stand ran)) (marks world (setting_in world ran.run) ticks refl refl (stand ran))

@@ -24,7 +24,6 @@ use Rattle.clock_engine.specs.declared.cues.CueMark.{CueMark}
 use Rattle.clock_engine.proofs.Numbered.{are_there}
 use Rattle.rounds_run.specs.Rounds.{AreEngines, HasRunPart, HaveRunPart}
 use Rattle.rounds_run.specs.Runs.{HasRunTicks, HaveRunTicks}
-use Rattle.run_records.specs.Records.{Run, setting_then}
 use Rattle.stations.specs.Streams.{body_size, header_for}
 use Rattle.station_render.specs.Sinks.{AreCreated, of_clock}
 use Rattle.station_render.specs.Engines.{AreAt, AreKeeping, ArePast, IsAt, IsPast, outs_of}
@@ -303,13 +302,13 @@ module _ {S : Type 0} (setting : Setting) (ticks : ℕ) (main : LieInMain settin
           }));
     }
 
-    pub all_part : (run : Run) (least most : ℕ → ℕ) → HaveRunPart held name faults (setting_then setting run) least most old new → (rest : ℕ → List Answer)
-        → AreCreated (IsPart title held faults files (setting_then setting run rest) ticks least most) (written setting.plan.sinks) (order_of setting (written setting.plan.sinks)) (outs_of new)
-    all_part record_of least most run rest = record {
+    pub all_part : (answers : (ℕ → List Answer) → ℕ → List Answer) (least most : ℕ → ℕ) → HaveRunPart held name faults (λ rest. answered setting (answers rest)) least most old new → (rest : ℕ → List Answer)
+        → AreCreated (IsPart title held faults files (answered setting (answers rest)) ticks least most) (written setting.plan.sinks) (order_of setting (written setting.plan.sinks)) (outs_of new)
+    all_part answers least most run rest = record {
       size = ready.size;
       below = λ k clock there. subst (λ n. clock < n) (sym (same_many run.size)) (ready.below k clock there);
       each = λ m group there.
-          let world : Setting = setting_then setting record_of rest in
+          let world : Setting = answered setting (answers rest) in
           let found = before_at old new run.size m group there in
           let is = at.each m found.0 found.2 in
           let ran = run.each m found.0 found.1 found.2 found.3 in
@@ -323,7 +322,7 @@ module _ {S : Type 0} (setting : Setting) (ticks : ℕ) (main : LieInMain settin
           let before = in_list found.0.outs j (omega (arith, low, size)) in
           let told = zip_at (IsReady title held left debt files setting ticks) (of_clock m (order_of setting (written setting.plan.sinks)) (written setting.plan.sinks)) found.0.outs j output before.0 zip mine_at before.1 in
           let mine_here = ap (λ ws. slice_get ws j) (mine_is found.0 m is) ∙ mine_at in
-          let did = part_at held name faults ticks found.0 found.1 (main_here found.0 is.over) (setting_then setting record_of) (least m) (most m) ran rest j output before.0 after mine_here before.1 after_at in
+          let did = part_at held name faults ticks found.0 found.1 (main_here found.0 is.over) (λ more. answered setting (answers more)) (least m) (most m) ran rest j output before.0 after mine_here before.1 after_at in
           let lies : clock_of setting output.node ≡ Main m =
           (λ i. clock_of (sym is.over i) output.node) ∙ lies_here held name faults ticks found.0 found.1 (main_here found.0 is.over) j output mine_here ∙ ap Main is.clock_is in
           let clock : main_clock world output.node ≡ m = ap (main_within world (length world.plan.nodes)) lies in

@@ -11,8 +11,7 @@ use Rattle.clock_infer.specs.declared.clock_map.NodeClock.{NodeClock}
 use Rattle.clock_infer.specs.declared.clock_map.NodeClock.TheVariants.{Main, Sub}
 use Rattle.frame_core.specs.Library.{Sounds}
 use Rattle.op_leaf.specs.Readers.{Answer}
-use Rattle.stream_meaning.specs.Instants.{Setting, clock_of}
-use Rattle.run_records.specs.Records.{Run, setting_then}
+use Rattle.stream_meaning.specs.Instants.{Setting, answered, clock_of}
 use Rattle.run_records.specs.Buffers.{main_of as main_clock}
 use Rattle.stations.specs.Outputs.{OutputFile, OutputPart}
 use Rattle.stations.specs.Streams.{body_size, file_bytes, front_bytes, header_for, output_bytes}
@@ -86,12 +85,12 @@ abbrev pub IsPart : {S : Type 0} → (name held : S → Option (List ℕ)) → (
 IsPart name held faults files setting ticks made tried output sink = ForSome files (λ all. HoldsFront name held faults (front_file setting ticks made tried output) sink)
 
 -- the first outputs of a plan were created, and each sink holds its bytes of the ticks that its clock made in a run, and a front of those of
--- the ones that it tried, whatever answers follow; or it failed
-pub record AreBegun {S : Type 0} (name held : S → Option (List ℕ)) (faults : S → ℕ) (files : Option Files) (setting : Setting) (run : Run) (ticks : ℕ) (made tried : ℕ → ℕ) (order : List ℕ) (groups : List (List S)) : Type 0 where
+-- the ones that it tried, whatever answers follow: `answers` are then all those of the run; or it failed
+pub record AreBegun {S : Type 0} (name held : S → Option (List ℕ)) (faults : S → ℕ) (files : Option Files) (setting : Setting) (answers : (ℕ → List Answer) → ℕ → List Answer) (ticks : ℕ) (made tried : ℕ → ℕ) (order : List ℕ) (groups : List (List S)) : Type 0 where
   pub created : List Written
   pub others : List Written
   pub all : written setting.plan.sinks ≡ created ++ others
-  pub parts : (rest : ℕ → List Answer) → AreCreated (IsPart name held faults files (setting_then setting run rest) ticks made tried) created order groups
+  pub parts : (rest : ℕ → List Answer) → AreCreated (IsPart name held faults files (answered setting (answers rest)) ticks made tried) created order groups
 
 -- a sink of this clock was created, and holds these bytes; it has room for so many more, and for the byte that it owes then
 pub record WasCreated {S : Type 0} (name held : S → Option (List ℕ)) (left : S → Option ℕ) (debt : S → ℕ) (files : Option Files) (clock : ℕ) (title bytes : List ℕ) (body : ℕ)

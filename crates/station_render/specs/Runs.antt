@@ -1,6 +1,6 @@
 -- What a run of a station leaves in its sinks, and what is told of it.
 use Rattle.std.specs.Borrow.{Bor}
-use Rattle.std.specs.Prelude.{◌≡◌, ℕ, suc, List, [], ◌∷◌, ◌++◌, Option, Some, None, map, option_map}
+use Rattle.std.specs.Prelude.{◌≡◌, ℕ, suc, List, [], ◌∷◌, ◌++◌, Option, Some, None, map, option_map, ⊤}
 use Rattle.std.specs.Option.{ForSome}
 use Rattle.liq_base.specs.Files.{Files}
 use Rattle.plan_core.specs.declared.sink.BufferPlan.{BufferPlan}
@@ -10,12 +10,14 @@ use Rattle.stations.specs.Cues.{marks_of}
 use Rattle.stations.specs.Findings.{IsFit}
 use Rattle.stations.specs.Outputs.{with_outputs}
 use Rattle.stations.specs.Reports.{answers_line}
-use Rattle.stations.specs.Stations.{IsBegun, IsLawful, Station, bare, made_of, setting_of_run, station_of, tried_of}
+use Rattle.stations.specs.Stations.{Station, Way, InRounds, InWindows, Again, IsBegun, IsLawful, answers_with, bare, made_of, setting_of_run, station_of, tried_of}
 use Rattle.stations.specs.Streams.{gaps_in_order, output_files}
 use Rattle.stations.specs.Traces.{files_of}
 use Rattle.buffer_ends.specs.declared.counts.Counts.{Counts}
 use Rattle.buffer_sides.specs.Logs.{told}
 use Rattle.rounds_run.specs.Runs.{counts_of_windows}
+use Rattle.trace_log.specs.Values.{TraceValue}
+use Rattle.trace_replay.specs.Traces.{IsAccepted}
 use Rattle.station_render.specs.Sinks.{AreCreated}
 use Rattle.station_render.specs.Marks.{cues_of}
 use Rattle.station_render.specs.Renders.{AreBegun, IsWhole, setting_for, written}
@@ -44,15 +46,24 @@ IsFitting job = IsFit job.plan.now job.ready.now.library job.ready.now.clocks jo
 abbrev pub setting_by : Job → Setting
 setting_by job = setting_for job.plan.now job.ready.now.library job.ready.now.clocks job.start.second
 
--- the station of a job that is rendered by threads in such windows, or on one thread; with a trace of this name, if one is wanted
-abbrev pub station_in : Job → (window : Option ℕ) → (trace : Option (List ℕ)) → Station
-station_in job window trace = station_of job.plan.now job.ready.now job.start.second job.ticks window trace job.cues
+-- the station of a job that is rendered in such a way; with a trace of this name, if one is wanted
+abbrev pub station_in : Job → Way → (trace : Option (List ℕ)) → Station
+station_in job way trace = station_of job.plan.now job.ready.now job.start.second job.ticks way trace job.cues
 
 abbrev pub station_by : Job → Threading → Station
-station_by job threading = station_in job (Some threading.window) (name_in threading)
+station_by job threading = station_in job (InWindows threading.window) (name_in threading)
 
 abbrev pub station_alone : Job → Station
-station_alone job = station_in job None None
+station_alone job = station_in job InRounds None
+
+abbrev pub station_again : Job → TraceValue → Station
+station_again job trace = station_in job (Again trace) None
+
+-- there is a record of a rendering in this way: a trace is one that is accepted
+abbrev pub HasRecord : Setting → (clocks ticks : ℕ) → Way → Type 0
+HasRecord setting clocks ticks InRounds = ⊤
+HasRecord setting clocks ticks (InWindows window) = ⊤
+HasRecord setting clocks ticks (Again trace) = IsAccepted setting clocks ticks trace
 
 -- this is told of a run: the gaps of each output, in sink order; of each buffer its counts and which answers each window had; and the
 -- marks of each output, where cue files are wanted
@@ -87,7 +98,7 @@ pub record RanWhole {S : Type 0} (name held : S → Option (List ℕ)) (debt : S
 pub record RanPart {S : Type 0} (name held : S → Option (List ℕ)) (faults : S → ℕ) (files : Option Files) (station : Station) (order : List ℕ) (groups : List (List S)) : Type 0 where
   pub run : Run
   pub begun : IsBegun station run
-  pub parts : AreBegun name held faults files (bare station) run station.ticks (made_of station run begun) (tried_of station run begun) order groups
+  pub parts : AreBegun name held faults files (bare station) (answers_with station.way run) station.ticks (made_of station run begun) (tried_of station run begun) order groups
 
 -- the lines of these counts, of which the first is that of this buffer
 abbrev pub counted_lines : (buffer : ℕ) → List Counts → List ℕ

@@ -1,8 +1,8 @@
 // The outputs of a plan are created.
-ghost use Rattle.std.specs.Prelude.{◌≡◌, ◌<◌, ◌≤◌, ◌+◌, ◌⊎◌, [], ◌∷◌, ◌++◌, ℕ, length, map, slice_get, Some, IfOk, OnOk, OnErr, IsErrOf};
+ghost use Rattle.std.specs.Prelude.{◌≡◌, ◌<◌, ◌≤◌, ◌+◌, ◌⊎◌, [], ◌∷◌, ◌++◌, ℕ, List, length, map, slice_get, Some, IfOk, OnOk, OnErr, IsErrOf};
 ghost use Rattle.liq_base.specs.Counts.{Rose};
 ghost use Rattle.frame_core.specs.Library.{Sounds};
-ghost use Rattle.run_records.specs.Records.{Run};
+ghost use Rattle.op_leaf.specs.Readers.{Answer};
 ghost use Rattle.stations.specs.Creations.{MadeFront, after_making, names_in};
 ghost use Rattle.stations.specs.Findings.{IsFit};
 ghost use Rattle.station_render.specs.OutputSinks.{owed, spared, told};
@@ -35,8 +35,8 @@ pub(crate) fn create_each<S: Shelf>(
     ensures ready { OnOk result ((library : Sounds) → (start : ℕ) → AreCreated (IsReady (told S.Out.name) (told S.Out.held) (spared S.Out.room) (owed S.Out.room) (S.files shelf.old) (setting_for plan.now library clocks.now start) ticks)
         (written plan.now.sinks) order.new.items (lists_of groups.new.items)) }
     ensures order { OnOk result ((library : Sounds) → (start : ℕ) → order.new.items ≡ order_of (setting_for plan.now library clocks.now start) (written plan.now.sinks)) }
-    ensures begun { (library : Sounds) → (start : ℕ) → (run : Run) → (made tried : ℕ → ℕ) → ((k : ℕ) → made k ≡ 0)
-        → AreBegun (told S.Out.name) (told S.Out.held) (told S.Out.faults) (S.files shelf.old) (setting_for plan.now library clocks.now start) run ticks made tried order.new.items (lists_of groups.new.items) }
+    ensures begun { (library : Sounds) → (start : ℕ) → (answers : (ℕ → List Answer) → ℕ → List Answer) → (made tried : ℕ → ℕ) → ((k : ℕ) → made k ≡ 0)
+        → AreBegun (told S.Out.name) (told S.Out.held) (told S.Out.faults) (S.files shelf.old) (setting_for plan.now library clocks.now start) answers ticks made tried order.new.items (lists_of groups.new.items) }
     ensures size { length (lists_of groups.new.items) ≡ clocks.now.running }
     ensures cause { IsErrOf result RenderFault.Write → Rose (S.write_count shelf.old) (S.write_count shelf.new) ⊎ HasFailed (told S.Out.faults) (lists_of groups.new.items) }
     ensures files { S.files shelf.new ≡ S.files shelf.old }

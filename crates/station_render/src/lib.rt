@@ -1,6 +1,6 @@
 //! A station is rendered into its files: outputs are created in sink order, the clocks' ticks are made by threads in
-//! windows, or in rounds on one thread, and all outputs are closed, also after a fault; then cue files and a trace are left, where
-//! they are wanted.
+//! windows, or on one thread, in rounds or again as a trace tells, and all outputs are closed, also after a fault; then cue files and
+//! a trace are left, where they are wanted.
 #![tactic(auto)]
 
 mod close;
@@ -23,6 +23,6 @@ mod traces;
 pub use fault::RenderFault;
 pub use job::Job;
 pub use rendered::Rendered;
-pub use rendering::{render, render_alone};
+pub use rendering::{render, render_again, render_alone};
 pub use reports::report;
 pub use threading::Threading;

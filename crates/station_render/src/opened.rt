@@ -2,10 +2,11 @@
 ghost use Rattle.std.specs.Prelude.{◌≡◌, ◌≤◌, ◌⊎◌, [], List, Option, ℕ, IfOk, IsErrOf, OnErr, OnOk};
 ghost use Rattle.liq_base.specs.Counts.{Rose};
 ghost use Rattle.stations.specs.Creations.{MadeFront, after_making, names_in};
+ghost use Rattle.stations.specs.Stations.{Way};
 ghost use Rattle.station_render.specs.Engines.{AreKeeping};
 ghost use Rattle.station_render.specs.OutputSinks.{owed, spared, told};
 ghost use Rattle.station_render.specs.EngineRuns.{AreOpened};
-ghost use Rattle.station_render.specs.Runs.{IsFitting, RanPart, setting_by, station_in};
+ghost use Rattle.station_render.specs.Runs.{HasRecord, IsFitting, RanPart, setting_by, station_in};
 ghost use Rattle.station_render.specs.Sinks.{AreEmpty, HasFailed, lists_of};
 
 use crate::create::create_each;
@@ -31,7 +32,8 @@ pub(crate) fn open_all<'a, S: Shelf>(
     ensures opened { IfOk result (λ engines. AreOpened (told S.Out.name) (told S.Out.held) (spared S.Out.room) (owed S.Out.room) (S.files shelf.old) (setting_by job.now) job.now.ready.now.clocks job.now.ticks
         order.new.items engines.items (lists_of groups.new.items)) }
     ensures keeping { IfOk result (λ engines. AreKeeping job.now.cues engines.items) }
-    ensures part { OnErr result ((window : Option ℕ) (trace : Option (List ℕ)) → RanPart (told S.Out.name) (told S.Out.held) (told S.Out.faults) (S.files shelf.old) (station_in job.now window trace) order.new.items (lists_of groups.new.items)) }
+    ensures part { OnErr result ((way : Way) (trace : Option (List ℕ)) → HasRecord (setting_by job.now) job.now.ready.now.clocks.running job.now.ticks way
+        → RanPart (told S.Out.name) (told S.Out.held) (told S.Out.faults) (S.files shelf.old) (station_in job.now way trace) order.new.items (lists_of groups.new.items)) }
     ensures cause { IsErrOf result RenderFault.Write → Rose (S.write_count shelf.old) (S.write_count shelf.new) ⊎ HasFailed (told S.Out.faults) (lists_of groups.new.items) }
     ensures files { S.files shelf.new ≡ S.files shelf.old }
     ensures made { OnOk result (S.created shelf.new ≡ after_making (names_in job.now.plan.now.sinks) (S.created shelf.old)) }

@@ -6,7 +6,9 @@ ghost use Rattle.stations.specs.Creations.{MadeFront, after_making, names_in, na
 ghost use Rattle.stations.specs.Renderings.{WrotePart};
 ghost use Rattle.station_render.specs.OutputSinks.{owed, told};
 ghost use Rattle.station_render.specs.Sinks.{AreEmpty, HasFailed, lists_of};
-ghost use Rattle.station_render.specs.Runs.{IsFitting, IsRendered, RanPart, RanWhole, WroteOutputs, station_alone, station_by};
+ghost use Rattle.station_render.specs.Runs.{IsFitting, IsRendered, RanPart, RanWhole, WroteOutputs, setting_by, station_again, station_alone, station_by};
+ghost use Rattle.trace_log.specs.Texts.{IsTrace};
+ghost use Rattle.trace_replay.specs.Traces.{IsAccepted};
 
 use crate::close::close_all;
 use crate::cues::leave_wanted;
@@ -22,6 +24,8 @@ use rounds_run::run_rounds;
 use std::alloc::Global;
 use std::sync::Wait;
 use std::thread::Threads;
+use trace_log::Trace;
+use trace_replay::replay;
 
 /// Renders a job into the files of its outputs, and answers what is told of it. The outputs are created in sink order, each
 /// with room for exactly its bytes and with its header as one piece; then each clock makes its ticks on a thread of its own,
@@ -70,6 +74,32 @@ pub fn render_alone<S: Shelf>(
     ensures writes { S.write_count shelf.old ≤ S.write_count shelf.new }
 {
     let rendered = render_outputs_alone(alloc, job, shelf)?;
+    leave_wanted(alloc, job, &rendered.cues, shelf)?;
+    Ok(rendered)
+}
+
+/// The same again, as an accepted trace of this job tells, on one thread: between the creations and the closings one clock after another
+/// makes all its ticks, and its buffers answer as they did in the run that left the trace. It leaves no trace. The rules stand in
+/// `docs/buffers.md`.
+pub fn render_again<S: Shelf>(
+    alloc: Global,
+    job: &Job<'_>,
+    trace: &Trace,
+    shelf: &mut S,
+) -> Result<Rendered, RenderFault>
+    requires fit { IsFitting job.now }
+    requires trace { IsTrace trace.now }
+    requires accepted { IsAccepted (setting_by job.now) job.now.ready.now.clocks.running job.now.ticks trace.now }
+    ensures done { IfOk result (IsRendered (station_again job.now trace.now) (S.files shelf.old) (S.files shelf.new)) }
+    ensures part { ForSome (S.files shelf.old) (λ files. WrotePart (station_again job.now trace.now)
+        (S.write_count shelf.old) (S.write_count shelf.new) files (S.files shelf.new)) }
+    ensures cause { IsErrOf result RenderFault.Write → Rose (S.write_count shelf.old) (S.write_count shelf.new) }
+    ensures made { OnOk result (S.created shelf.new ≡ after_making (names_of (station_again job.now trace.now)) (S.created shelf.old)) }
+    ensures front { MadeFront (names_of (station_again job.now trace.now)) (S.created shelf.old) (S.created shelf.new) }
+    ensures reads { S.read_count shelf.old ≤ S.read_count shelf.new }
+    ensures writes { S.write_count shelf.old ≤ S.write_count shelf.new }
+{
+    let rendered = render_outputs_again(alloc, job, trace, shelf)?;
     leave_wanted(alloc, job, &rendered.cues, shelf)?;
     Ok(rendered)
 }
@@ -127,6 +157,31 @@ fn render_outputs_alone<S: Shelf>(
     let mut order = Vec::new(alloc);
     let mut groups = no_sinks(alloc, job.ready.clocks.running)?;
     let wrote = write_alone(alloc, job, shelf, &mut order, &mut groups);
+    close_all(shelf, &order, groups, wrote)
+}
+
+// The same again, as a trace tells.
+fn render_outputs_again<S: Shelf>(
+    alloc: Global,
+    job: &Job<'_>,
+    trace: &Trace,
+    shelf: &mut S,
+) -> Result<Rendered, RenderFault>
+    requires fit { IsFitting job.now }
+    requires trace { IsTrace trace.now }
+    requires accepted { IsAccepted (setting_by job.now) job.now.ready.now.clocks.running job.now.ticks trace.now }
+    ensures done { IfOk result (WroteOutputs (station_again job.now trace.now) (S.files shelf.old) (S.files shelf.new)) }
+    ensures part { ForSome (S.files shelf.old) (λ files. WrotePart (station_again job.now trace.now)
+        (S.write_count shelf.old) (S.write_count shelf.new) files (S.files shelf.new)) }
+    ensures cause { IsErrOf result RenderFault.Write → Rose (S.write_count shelf.old) (S.write_count shelf.new) }
+    ensures made { OnOk result (S.created shelf.new ≡ after_making (names_in job.now.plan.now.sinks) (S.created shelf.old)) }
+    ensures front { MadeFront (names_in job.now.plan.now.sinks) (S.created shelf.old) (S.created shelf.new) }
+    ensures reads { S.read_count shelf.old ≤ S.read_count shelf.new }
+    ensures writes { S.write_count shelf.old ≤ S.write_count shelf.new }
+{
+    let mut order = Vec::new(alloc);
+    let mut groups = no_sinks(alloc, job.ready.clocks.running)?;
+    let wrote = write_again(alloc, job, trace, shelf, &mut order, &mut groups);
     close_all(shelf, &order, groups, wrote)
 }
 
@@ -190,5 +245,41 @@ fn write_alone<S: Shelf>(
 {
     let mut engines = open_all(alloc, job, shelf, order, groups)?;
     let run = run_rounds(alloc, job.plan, &mut engines, job.ticks);
+    take_back(alloc, job, engines, run, groups)
+}
+
+// The same again, as a trace tells.
+fn write_again<S: Shelf>(
+    alloc: Global,
+    job: &Job<'_>,
+    trace: &Trace,
+    shelf: &mut S,
+    order: &mut Vec<u32>,
+    groups: &mut Vec<Vec<OutputSink<S::Out>>>,
+) -> Result<Rendered, RenderFault>
+    requires fit { IsFitting job.now }
+    requires trace { IsTrace trace.now }
+    requires accepted { IsAccepted (setting_by job.now) job.now.ready.now.clocks.running job.now.ticks trace.now }
+    requires none { order.old.items ≡ [] }
+    requires empty { AreEmpty job.now.ready.now.clocks.running (lists_of groups.old.items) }
+    ensures done { IfOk result (RanWhole (told S.Out.name) (told S.Out.held) (owed S.Out.room) (S.files shelf.old) (station_again job.now trace.now) order.new.items (lists_of groups.new.items)) }
+    ensures part { RanPart (told S.Out.name) (told S.Out.held) (told S.Out.faults) (S.files shelf.old) (station_again job.now trace.now) order.new.items (lists_of groups.new.items) }
+    ensures cause { IsErrOf result RenderFault.Write → Rose (S.write_count shelf.old) (S.write_count shelf.new) ⊎ HasFailed (told S.Out.faults) (lists_of groups.new.items) }
+    ensures files { S.files shelf.new ≡ S.files shelf.old }
+    ensures made { OnOk result (S.created shelf.new ≡ after_making (names_in job.now.plan.now.sinks) (S.created shelf.old)) }
+    ensures front { MadeFront (names_in job.now.plan.now.sinks) (S.created shelf.old) (S.created shelf.new) }
+    ensures reads { S.read_count shelf.old ≤ S.read_count shelf.new }
+    ensures writes { S.write_count shelf.old ≤ S.write_count shelf.new }
+{
+    let mut engines = open_all(alloc, job, shelf, order, groups)?;
+    let run = replay(
+        alloc,
+        job.plan,
+        &job.ready.clocks,
+        &job.ready.library,
+        job.start,
+        &mut engines,
+        trace,
+    );
     take_back(alloc, job, engines, run, groups)
 }

@@ -11,7 +11,7 @@ use Rattle.trace_log.specs.Values.{TraceValue}
 use Rattle.stations.specs.Cues.{cue_name, cue_names_if, cue_names_in, cues_if, cues_in}
 use Rattle.stations.specs.Creations.{AreNamesOfFiles, MadeFront, after_making, names_in, trace_name, trace_name_in}
 use Rattle.stations.specs.Outputs.{OutputFile}
-use Rattle.stations.specs.Stations.{Station, setting_of_run}
+use Rattle.stations.specs.Stations.{Station, Way, InRounds, InWindows, Again, setting_of_run}
 use Rattle.stations.specs.Streams.{outputs_in}
 use Rattle.stations.specs.Traces.{traced, traces_in}
 
@@ -74,9 +74,10 @@ trace_named : (name : Option (List ℕ)) (trace : TraceValue) → map (λ (file 
 trace_named None trace = refl
 trace_named (Some name) trace = refl
 
-traces_named : (window : Option ℕ) (station : Station) (run : Run) → map (λ (file : OutputFile). file.name) (traces_in window station run) ≡ trace_name_in window station.trace
-traces_named None station run = refl
-traces_named (Some window) station run = trace_named station.trace _
+traces_named : (way : Way) (station : Station) (run : Run) → map (λ (file : OutputFile). file.name) (traces_in way station run) ≡ trace_name_in way station.trace
+traces_named InRounds station run = refl
+traces_named (InWindows window) station run = trace_named station.trace _
+traces_named (Again trace) station run = refl
 
 cues_named : (setting : Setting) (ticks : ℕ) (sinks : List SinkPlan) → map (λ (file : OutputFile). file.name) (cues_in setting ticks sinks) ≡ cue_names_in sinks
 cues_named setting ticks [] = refl
@@ -93,9 +94,9 @@ files_named station run =
     let S = setting_of_run station run in
     let sinks = station.plan.sinks in
     let cues = cues_if station.cues S station.ticks sinks in
-    let traces = traces_in station.window station run in
+    let traces = traces_in station.way station run in
     map-append name (outputs_in S station.ticks sinks) (cues ++ traces)
     ∙ ap (λ names. names ++ map name (cues ++ traces)) (outputs_named S station.ticks sinks)
     ∙ ap (λ names. names_in sinks ++ names) (map-append name cues traces
     ∙ ap (λ names. names ++ map name traces) (wanted_named station.cues S station.ticks sinks)
-    ∙ ap (λ names. cue_names_if station.cues sinks ++ names) (traces_named station.window station run))
+    ∙ ap (λ names. cue_names_if station.cues sinks ++ names) (traces_named station.way station run))

@@ -3,7 +3,7 @@ use Rattle.std.specs.Prelude.{◌≡◌, ℕ, List, [], ◌∷◌, ◌++◌, Opt
 use Rattle.plan_core.specs.declared.sink.SinkPlan.{SinkPlan}
 use Rattle.plan_core.specs.declared.sink.SinkPlan.TheVariants.{Output, Feed}
 use Rattle.run_records.specs.Records.{Run}
-use Rattle.stations.specs.Stations.{Station}
+use Rattle.stations.specs.Stations.{Station, Way, InRounds, InWindows, Again}
 use Rattle.stations.specs.Cues.{cue_names_if}
 use Rattle.stations.specs.Traces.{files_of}
 
@@ -19,13 +19,14 @@ trace_name None = []
 trace_name (Some name) = name ∷ []
 
 -- the name of the trace, where a run by threads is to leave one
-abbrev pub trace_name_in : (window : Option ℕ) → (trace : Option (List ℕ)) → List (List ℕ)
-trace_name_in None trace = []
-trace_name_in (Some window) trace = trace_name trace
+abbrev pub trace_name_in : Way → (name : Option (List ℕ)) → List (List ℕ)
+trace_name_in InRounds name = []
+trace_name_in (InWindows window) name = trace_name name
+trace_name_in (Again trace) name = []
 
 -- the names of all files of a rendering: of the outputs in sink order, then of their cue files, and then of the trace
 abbrev pub names_of : Station → List (List ℕ)
-names_of station = names_in station.plan.sinks ++ (cue_names_if station.cues station.plan.sinks ++ trace_name_in station.window station.trace)
+names_of station = names_in station.plan.sinks ++ (cue_names_if station.cues station.plan.sinks ++ trace_name_in station.way station.trace)
 
 -- they are the names of the files that each run writes, in their order
 abbrev pub AreNamesOfFiles : Station → Run → Type 0

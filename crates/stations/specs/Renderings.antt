@@ -1,13 +1,14 @@
 -- What a rendering leaves that was broken off, and what threads render beside one thread.
-use Rattle.std.specs.Prelude.{◌≡◌, ◌⊎◌, ℕ, List, None, Option, IsSomeAnd}
+use Rattle.std.specs.Prelude.{◌≡◌, ◌⊎◌, ℕ, List, Option, IsSomeAnd, ⊤}
 use Rattle.liq_base.specs.Files.{Files}
 use Rattle.op_leaf.specs.Readers.{Answer}
-use Rattle.run_records.specs.Records.{IsRounds, Run}
+use Rattle.run_records.specs.Records.{IsRounds, Run, setting_in}
+use Rattle.stream_meaning.specs.Instants.{Setting}
 use Rattle.run_records.specs.Rounds.{BeginsRounds, HasNoJoin}
 use Rattle.stations.specs.Cues.{cue_files}
 use Rattle.stations.specs.Outputs.{HoldsParts, HoldsSome, HoldsUpto, with_outputs}
 use Rattle.stations.specs.Reports.{report_of}
-use Rattle.stations.specs.Stations.{Station, IsBegun, IsLawful, bare}
+use Rattle.stations.specs.Stations.{Station, Way, InRounds, InWindows, Again, IsBegun, IsLawful, bare}
 use Rattle.stations.specs.Streams.{ends_of, output_files, parts_with}
 use Rattle.stations.specs.Traces.{later_files}
 
@@ -41,15 +42,28 @@ pub record RendersAsOneThread (station : Station) (run : Run) : Type 0 where
   pub cues_are : cue_files station run ≡ cue_files station alone
   pub report_is : report_of station run ≡ report_of station alone
 
--- A run of the station that was broken off begins what one thread renders, if that has a record: with some answers behind its own, its
--- outputs and calls are those of it.
-abbrev pub BeginsAsOneThread : (station : Station) (run : Run) → Type 0
-BeginsAsOneThread station run = (alone : Run) → IsRounds (bare station) station.clocks.running station.ticks alone → BeginsRounds (bare station) run alone
+-- A run that was broken off begins these rounds: with some answers behind its own it has theirs. A replay has the answers of its whole
+-- record, and these are theirs.
+abbrev pub BeginsRoundsIn : Way → Setting → (run rounds : Run) → Type 0
+BeginsRoundsIn InRounds setting run rounds = BeginsRounds setting run rounds
+BeginsRoundsIn (InWindows window) setting run rounds = BeginsRounds setting run rounds
+BeginsRoundsIn (Again trace) setting run rounds = setting_in setting run ≡ setting_in setting rounds
 
--- on one thread, or where no buffer joins two clocks
+-- A run of the station that was broken off begins what one thread renders, if that has a record: its outputs and calls are then those of
+-- it.
+abbrev pub BeginsAsOneThread : (station : Station) (run : Run) → Type 0
+BeginsAsOneThread station run = (alone : Run) → IsRounds (bare station) station.clocks.running station.ticks alone → BeginsRoundsIn station.way (bare station) run alone
+
+-- in rounds, or where no buffer joins two clocks
 abbrev pub IsDetermined : Station → Type 0
-IsDetermined station = (station.window ≡ None) ⊎ HasNoJoin (bare station) station.clocks.running
+IsDetermined station = (station.way ≡ InRounds) ⊎ HasNoJoin (bare station) station.clocks.running
+
+-- rounds have one record, and so has the replay of a trace; threads may have several
+abbrev pub IsOfOne : Way → Type 0
+IsOfOne InRounds = ⊤
+IsOfOne (InWindows window) = ⊥
+IsOfOne (Again trace) = ⊤
 
 -- a station on one thread has one record
 abbrev pub HasOneRecord : (station : Station) (run : Run) → Type 0
-HasOneRecord station run = station.window ≡ None → (other : Run) → IsLawful station other → other ≡ run
+HasOneRecord station run = IsOfOne station.way → (other : Run) → IsLawful station other → other ≡ run

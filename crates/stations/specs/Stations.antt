@@ -1,23 +1,31 @@
 -- What an accepted script renders.
-use Rattle.std.specs.Prelude.{ℕ, ◌+◌, List, [], Option, Some, None, Bool}
+use Rattle.std.specs.Prelude.{◌≡◌, ◌≤◌, ℕ, ◌+◌, ◌++◌, suc, List, [], Option, Bool}
 use Rattle.frame_core.specs.Library.{Sounds}
 use Rattle.plan_core.specs.declared.plan.Plan.{Plan}
 use Rattle.clock_infer.specs.declared.clock_map.ClockMap.{ClockMap}
-use Rattle.stream_meaning.specs.Instants.{Setting}
+use Rattle.stream_meaning.specs.Instants.{Setting, answered}
 use Rattle.op_leaf.specs.Readers.{Answer}
-use Rattle.run_records.specs.Records.{AreRoundsBegun, AreWindowsBegun, IsLawful as AreWindows, IsRounds, Run, setting_in, setting_then, ticks_by}
+use Rattle.run_records.specs.Records.{AreRoundsBegun, AreWindowsBegun, IsLawful as AreWindows, IsRounds, Run, answers_of, setting_in, ticks_by}
+use Rattle.trace_log.specs.Values.{TraceValue}
+use Rattle.trace_replay.specs.Replays.{IsRecordOf, ticks_to}
 use Rattle.stations.specs.declared.ready.Ready.{Ready}
 
--- a plan with its audio files and its clocks, the second of the week at which it begins, how many ticks are rendered, how many of them
--- a window of threads has: nothing where all clocks run on one thread, in rounds; and the name of the file that gets the trace, if one
--- is wanted, which one thread writes never; and whether cue files are wanted. A `check` is that of no tick from second 0 on, on one thread, without a trace
+-- how a station is rendered: on one thread, in rounds; by threads, in windows of so many ticks; or again, on one thread, as a trace tells
+pub data Way : Type 0 where
+  InRounds : Way
+  InWindows : (window : ℕ) → Way
+  Again : (trace : TraceValue) → Way
+
+-- a plan with its audio files and its clocks, the second of the week at which it begins, how many ticks are rendered, and in which way;
+-- the name of the file that gets the trace, if one is wanted, which threads alone leave; and whether cue files are wanted. A `check` is
+-- that of no tick from second 0 on, in rounds, without a trace
 pub record Station : Type 0 where
   pub plan : Plan
   pub library : Sounds
   pub clocks : ClockMap
   pub start : ℕ
   pub ticks : ℕ
-  pub window : Option ℕ
+  pub way : Way
   pub trace : Option (List ℕ)
   pub cues : Bool
 
@@ -31,55 +39,85 @@ bare station = record {
   answers = λ buffer. [];
 }
 
--- what they rest on in a run; and in a run that was broken off, if these answers had followed
+-- what they rest on in a run
 abbrev pub setting_of_run : Station → Run → Setting
 setting_of_run station run = setting_in (bare station) run
 
-abbrev pub setting_with : Station → Run → (rest : ℕ → List Answer) → Setting
-setting_with station run rest = setting_then (bare station) run rest
+-- the answers of a run that was broken off, and then others; those of a replay are the whole record's, and none follow
+abbrev pub answers_with : Way → Run → (rest : ℕ → List Answer) → ℕ → List Answer
+answers_with InRounds run rest = λ buffer. answers_of run buffer ++ rest buffer
+answers_with (InWindows window) run rest = λ buffer. answers_of run buffer ++ rest buffer
+answers_with (Again trace) run rest = answers_of run
 
--- so many clocks made all their ticks: in rounds on one thread, or by threads in windows of so many ticks
-abbrev pub IsLawfulIn : Setting → (clocks ticks : ℕ) → (window : Option ℕ) → Run → Type 0
-IsLawfulIn setting clocks ticks None run = IsRounds setting clocks ticks run
-IsLawfulIn setting clocks ticks (Some window) run = AreWindows setting clocks window ticks run
+-- what the streams rest on in a run that was broken off, if these answers had followed
+abbrev pub setting_after : Way → Setting → Run → (rest : ℕ → List Answer) → Setting
+setting_after way setting run rest = answered setting (answers_with way run rest)
+
+abbrev pub setting_with : Station → Run → (rest : ℕ → List Answer) → Setting
+setting_with station run rest = setting_after station.way (bare station) run rest
+
+-- this is the record that a trace of so many ticks tells
+pub record IsReplay (setting : Setting) (clocks ticks : ℕ) (trace : TraceValue) (run : Run) : Type 0 where
+  pub ticks_are : trace.ticks ≡ ticks
+  pub of : IsRecordOf setting clocks trace run
+
+-- A replay of that record came so far, one clock after another: the clocks below one made all ticks, those above it none, and it made
+-- so many and tried at most one more.
+pub record IsReplayBegun (setting : Setting) (clocks ticks : ℕ) (trace : TraceValue) (run : Run) : Type 0 where
+  pub whole : IsReplay setting clocks ticks trace run
+  pub clock : ℕ
+  pub made : ℕ
+  pub tried : ℕ
+  pub no_fewer : made ≤ tried
+  pub one_more : tried ≤ suc made
+  pub most : tried ≤ ticks
+
+-- so many clocks made all their ticks: in rounds on one thread, by threads in windows of so many ticks, or as a trace tells
+abbrev pub IsLawfulIn : Setting → (clocks ticks : ℕ) → Way → Run → Type 0
+IsLawfulIn setting clocks ticks InRounds run = IsRounds setting clocks ticks run
+IsLawfulIn setting clocks ticks (InWindows window) run = AreWindows setting clocks window ticks run
+IsLawfulIn setting clocks ticks (Again trace) run = IsReplay setting clocks ticks trace run
 
 -- or as many as they came to
-abbrev pub IsBegunIn : Setting → (clocks ticks : ℕ) → (window : Option ℕ) → Run → Type 0
-IsBegunIn setting clocks ticks None run = AreRoundsBegun setting clocks ticks run
-IsBegunIn setting clocks ticks (Some window) run = AreWindowsBegun setting clocks window ticks run
+abbrev pub IsBegunIn : Setting → (clocks ticks : ℕ) → Way → Run → Type 0
+IsBegunIn setting clocks ticks InRounds run = AreRoundsBegun setting clocks ticks run
+IsBegunIn setting clocks ticks (InWindows window) run = AreWindowsBegun setting clocks window ticks run
+IsBegunIn setting clocks ticks (Again trace) run = IsReplayBegun setting clocks ticks trace run
 
 -- the run is one of this station: to its end, or as far as it came
 abbrev pub IsLawful : Station → Run → Type 0
-IsLawful station run = IsLawfulIn (bare station) station.clocks.running station.ticks station.window run
+IsLawful station run = IsLawfulIn (bare station) station.clocks.running station.ticks station.way run
 
 abbrev pub IsBegun : Station → Run → Type 0
-IsBegun station run = IsBegunIn (bare station) station.clocks.running station.ticks station.window run
+IsBegun station run = IsBegunIn (bare station) station.clocks.running station.ticks station.way run
 
 -- how many ticks each clock has made in a run that came so far
-abbrev pub made_in : (setting : Setting) (clocks ticks : ℕ) (window : Option ℕ) (run : Run) → IsBegunIn setting clocks ticks window run → ℕ → ℕ
-made_in setting clocks ticks None run begun m = ticks_by ticks begun.round begun.clock m
-made_in setting clocks ticks (Some window) run begun m = begun.made m
+abbrev pub made_in : (setting : Setting) (clocks ticks : ℕ) (way : Way) (run : Run) → IsBegunIn setting clocks ticks way run → ℕ → ℕ
+made_in setting clocks ticks InRounds run begun m = ticks_by ticks begun.round begun.clock m
+made_in setting clocks ticks (InWindows window) run begun m = begun.made m
+made_in setting clocks ticks (Again trace) run begun m = ticks_to ticks begun.clock begun.made m
 
 -- and how many it has tried: no more, or the one in which it stopped
-abbrev pub tried_in : (setting : Setting) (clocks ticks : ℕ) (window : Option ℕ) (run : Run) → IsBegunIn setting clocks ticks window run → ℕ → ℕ
-tried_in setting clocks ticks None run begun m = ticks_by ticks begun.round (begun.clock + 1) m
-tried_in setting clocks ticks (Some window) run begun m = begun.tried m
+abbrev pub tried_in : (setting : Setting) (clocks ticks : ℕ) (way : Way) (run : Run) → IsBegunIn setting clocks ticks way run → ℕ → ℕ
+tried_in setting clocks ticks InRounds run begun m = ticks_by ticks begun.round (begun.clock + 1) m
+tried_in setting clocks ticks (InWindows window) run begun m = begun.tried m
+tried_in setting clocks ticks (Again trace) run begun m = ticks_to ticks begun.clock begun.tried m
 
 abbrev pub made_of : (station : Station) (run : Run) → IsBegun station run → ℕ → ℕ
-made_of station run begun = made_in (bare station) station.clocks.running station.ticks station.window run begun
+made_of station run begun = made_in (bare station) station.clocks.running station.ticks station.way run begun
 
 abbrev pub tried_of : (station : Station) (run : Run) → IsBegun station run → ℕ → ℕ
-tried_of station run begun = tried_in (bare station) station.clocks.running station.ticks station.window run begun
+tried_of station run begun = tried_in (bare station) station.clocks.running station.ticks station.way run begun
 
 -- the station of a plan with these files and clocks
-abbrev pub station_of : Plan → Ready → (start ticks : ℕ) → (window : Option ℕ) → (trace : Option (List ℕ)) → (cues : Bool) → Station
-station_of plan ready start ticks window trace cues = record {
+abbrev pub station_of : Plan → Ready → (start ticks : ℕ) → Way → (trace : Option (List ℕ)) → (cues : Bool) → Station
+station_of plan ready start ticks way trace cues = record {
   plan = plan;
   library = ready.library;
   clocks = ready.clocks;
   start = start;
   ticks = ticks;
-  window = window;
+  way = way;
   trace = trace;
   cues = cues;
 }

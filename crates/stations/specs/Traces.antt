@@ -6,7 +6,7 @@ use Rattle.trace_log.specs.Texts.{trace_text}
 use Rattle.trace_log.specs.Values.{TraceValue}
 use Rattle.stations.specs.Cues.{cue_files}
 use Rattle.stations.specs.Outputs.{OutputFile}
-use Rattle.stations.specs.Stations.{Station}
+use Rattle.stations.specs.Stations.{Station, Way, InRounds, InWindows, Again}
 use Rattle.stations.specs.Streams.{output_files}
 
 -- the trace of a run, in windows of so many ticks: for each buffer and window, which puts were accepted and which takes got a chunk
@@ -19,12 +19,13 @@ traced None trace = []
 traced (Some name) trace = record { name = name; bytes = trace_text trace } ∷ []
 
 -- the file of the trace, where a run by threads is to leave one
-abbrev pub traces_in : (window : Option ℕ) → Station → Run → List OutputFile
-traces_in None station run = []
-traces_in (Some window) station run = traced station.trace (trace_of station window run)
+abbrev pub traces_in : Way → Station → Run → List OutputFile
+traces_in InRounds station run = []
+traces_in (InWindows window) station run = traced station.trace (trace_of station window run)
+traces_in (Again trace) station run = []
 
 abbrev pub traces_of : Station → Run → List OutputFile
-traces_of station run = traces_in station.window station run
+traces_of station run = traces_in station.way station run
 
 -- the files that a run writes behind its outputs: their cue files, and then the trace
 abbrev pub later_files : Station → Run → List OutputFile

@@ -20,6 +20,7 @@ use run_records::{
     rounds_are_one,
 };
 use stream_meaning::infallible_nodes_offer;
+use trace_replay::replays_are_of_the_run;
 
 /// Whatever buffers answer, an output of an infallible node has no gap.
 pub fn infallible_outputs_have_no_gaps()
@@ -30,7 +31,7 @@ pub fn infallible_outputs_have_no_gaps()
     infallible_nodes_offer();
 }
 
-/// Where no buffer joins two clocks, a lawful run renders what one thread renders, whatever the length of its windows.
+/// Where no buffer joins two clocks, a lawful run renders what one thread renders, whatever the length of its windows: also a replay.
 pub fn threads_render_as_one_thread()
     ensures { (files : Files) (station : Station) (run : Run) → IsWellFormed station.plan
         → IsAccepted files station.plan station.ticks station.library station.clocks → station.start < 604800
@@ -40,17 +41,18 @@ pub fn threads_render_as_one_thread()
     rounds_are_one();
 }
 
-/// A rendering on one thread has one record, so it always writes and tells the same.
+/// A rendering on one thread has one record, so it always writes and tells the same: rounds, and the replay of a trace.
 pub fn one_thread_has_one_record()
     ensures { (files : Files) (station : Station) (run : Run) → IsWellFormed station.plan
         → IsAccepted files station.plan station.ticks station.library station.clocks → station.start < 604800
         → IsLawful station run → HasOneRecord station run }
 {
     rounds_are_one();
+    replays_are_of_the_run();
 }
 
-/// A rendering that was broken off begins what one thread renders, where that is determined: on one thread, or where no buffer joins two
-/// clocks.
+/// A rendering that was broken off begins what one thread renders in rounds, where that is determined: in rounds, or where no buffer joins
+/// two clocks.
 pub fn broken_renderings_begin_those_of_one_thread()
     ensures { (files : Files) (station : Station) (run : Run) → IsWellFormed station.plan
         → IsAccepted files station.plan station.ticks station.library station.clocks → station.start < 604800
@@ -58,6 +60,8 @@ pub fn broken_renderings_begin_those_of_one_thread()
 {
     broken_windows_begin_rounds();
     broken_rounds_begin_rounds();
+    lawful_records_are_rounds();
+    rounds_are_one();
 }
 
 /// The bytes of an output are its header, then those of all ticks, as many as its samples take, and then one zero byte, where these are odd.

@@ -1,14 +1,14 @@
 use Rattle.std.proofs.Common.{refl, sym, subst}
 use Rattle.std.specs.Prelude.{None}
 use Rattle.liq_cli.specs.Read.{asked_of}
-use Rattle.liq_cli.specs.Words.{Check, Render, TakesThreads, texts}
+use Rattle.liq_cli.specs.Words.{Check, Render, Replay, TakesThreads, texts}
 use Rattle.liq_cli.proofs.Asking.{asks_one}
 use Rattle.liq_cli.proofs.Complete.{completes}
 use Rattle.liq_cli.proofs.Finished.{finished}
 use Rattle.liq_cli.proofs.Threading.{read_takes, takes_threads}
 use Rattle.liq_cli.proofs.Ordered.{check_creates_none, created_none, ordered, ordered_usage, unread}
 use Rattle.liq_cli.proofs.call.liq_alone.Goals as goal
-use Rattle.liq_cli.proofs.call.liq_alone.Goals.{in-Check, in-Alone}
+use Rattle.liq_cli.proofs.call.liq_alone.Goals.{in-Check, in-Alone, in-Replay}
 
 pub returns-in-Threaded-clause-none : goal.returns-in-Threaded-clause-none
 returns-in-Threaded-clause-none g c = (
@@ -28,6 +28,7 @@ returns-clause-none g c = (
       absurd (elim c.match-form.branch [
         | in-Check w ↦ (rw w.in-Check.is at takes)
         | in-Alone w ↦ (rw w.in-Alone.is at takes)
+        | in-Replay w ↦ (rw w.in-Replay.is at takes)
       ]),
 )
 
@@ -41,6 +42,9 @@ returns-clause-ends g c =
       | in-Alone w ↦ rw w.shelf-is (finished g.S.Shelf.files g.S.Shelf.read_count g.S.Shelf.write_count g.O.Sink.held g.O.Sink.faults g.E.Sink.held g.E.Sink.faults (texts c.args.words.now) (Render w.in-Alone.file.now w.in-Alone.start.second w.in-Alone.ticks.count None None w.in-Alone.cues) (rw w.in-Alone.is at asks)
           c.args.shelf.now w.alone_job-job.new.shelf c.args.out.now c.finish.new.out c.args.err.now c.finish.new.err w.alone_job-job.result c.finish.result
           w.alone_job-job.ensures.done w.alone_job-job.ensures.stops (rw w.job-is at c.finish.ensures))
+      | in-Replay w ↦ rw w.shelf-is (finished g.S.Shelf.files g.S.Shelf.read_count g.S.Shelf.write_count g.O.Sink.held g.O.Sink.faults g.E.Sink.held g.E.Sink.faults (texts c.args.words.now) (Replay w.in-Replay.file.now w.in-Replay.start.second w.in-Replay.ticks.count w.in-Replay.trace.now) (rw w.in-Replay.is at asks)
+          c.args.shelf.now w.replay_job-job.new.shelf c.args.out.now c.finish.new.out c.args.err.now c.finish.new.err w.replay_job-job.result c.finish.result
+          w.replay_job-job.ensures.done w.replay_job-job.ensures.stops (rw w.job-is at c.finish.ensures))
     ]
 
 pub returns-clause-complete : goal.returns-clause-complete
@@ -61,4 +65,7 @@ returns-clause-order g c =
       | in-Alone w ↦ rw w.shelf-is (ordered (texts c.args.words.now) (g.S.Shelf.files c.args.shelf.now) (g.S.Shelf.created c.args.shelf.now) (g.S.Shelf.created w.alone_job-job.new.shelf) (Render w.in-Alone.file.now w.in-Alone.start.second w.in-Alone.ticks.count None None w.in-Alone.cues) (rw w.in-Alone.is at asks)
           g.O.Sink.held g.O.Sink.faults g.E.Sink.held g.E.Sink.faults c.args.out.now c.finish.new.out c.args.err.now c.finish.new.err _ _ _ _ _ w.alone_job-job.result c.finish.result
           w.alone_job-job.ensures.order w.alone_job-job.ensures.stops (rw w.job-is at c.finish.ensures))
+      | in-Replay w ↦ rw w.shelf-is (ordered (texts c.args.words.now) (g.S.Shelf.files c.args.shelf.now) (g.S.Shelf.created c.args.shelf.now) (g.S.Shelf.created w.replay_job-job.new.shelf) (Replay w.in-Replay.file.now w.in-Replay.start.second w.in-Replay.ticks.count w.in-Replay.trace.now) (rw w.in-Replay.is at asks)
+          g.O.Sink.held g.O.Sink.faults g.E.Sink.held g.E.Sink.faults c.args.out.now c.finish.new.out c.args.err.now c.finish.new.err _ _ _ _ _ w.replay_job-job.result c.finish.result
+          w.replay_job-job.ensures.order w.replay_job-job.ensures.stops (rw w.job-is at c.finish.ensures))
     ]

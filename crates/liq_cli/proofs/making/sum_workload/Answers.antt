@@ -1,7 +1,7 @@
-use Rattle.std.proofs.Common.{arith, ◌≡◌, ◌∙◌, ap, refl, Err, lit<, false}
+use Rattle.std.proofs.Common.{◌≡◌, ◌∙◌, ap, refl, Err, lit<, false}
 use Rattle.std.specs.Prelude.{None, Some, string_bytes}
 use Rattle.std.proofs.lemmas.Result.{err_from_is_err_and}
-use Rattle.stations.specs.Stations.{Station}
+use Rattle.stations.specs.Stations.{InWindows, Station}
 use Rattle.liq_cli.specs.Answer.{files_made}
 use Rattle.liq_cli.specs.Prepared.{Found, IsOneOutcome, station_for}
 use Rattle.liq_cli.specs.Words.{Make, made_script}
@@ -17,7 +17,7 @@ returns-in_err-work-clause-stops g c = λ told reads writes.
 
 pub returns-then-not-is_unbuffered-clause-stops : goal.returns-then-not-is_unbuffered-clause-stops
 returns-then-not-is_unbuffered-clause-stops g c = λ told reads writes.
-    stopped_for_memory (Make c.args.seed c.args.size.files) told told reads reads writes writes refl (omega arith)
+    stopped_for_memory (Make c.args.seed c.args.size.files) told told reads reads writes writes refl
 
 pub returns-in_err-rendered-clause-stops : goal.returns-in_err-rendered-clause-stops
 returns-in_err-rendered-clause-stops g c = λ told reads writes.
@@ -26,13 +26,13 @@ returns-in_err-rendered-clause-stops g c = λ told reads writes.
 
 pub returns-clause-stops : goal.returns-clause-stops
 returns-clause-stops g c = λ told reads writes.
-    ended_kept c.report_or_halt.result (Make c.args.seed c.args.size.files) told told reads reads writes writes c.report_or_halt.ensures.starved refl (omega arith)
+    ended_kept c.report_or_halt.result (Make c.args.seed c.args.size.files) told told reads reads writes writes c.report_or_halt.ensures.starved refl
 
 pub returns-clause-done : goal.returns-clause-done
 returns-clause-done g c =
     let work = c.in_ok-work.work in
     let made = files_made c.args.seed c.args.size.files in
-    let station : Station = station_for (Make c.args.seed c.args.size.files) work.plan work.ready.library work.ready.clocks in
+    let station : Station = station_for (Make c.args.seed c.args.size.files) work.plan work.ready.library work.ready.clocks (InWindows 16) in
     let one : IsOneOutcome made made_script None false 500 (Found work.plan work.ready.library work.ready.clocks) =
     one_made c.args.seed c.args.size.files c.args.shelf.now c.script_name.result.now _ c.requires c.script_name.ensures c.in_ok-work.ensures.found in
     let kept : Some c.prepare.new.shelf ≡ Some c.args.shelf.now = c.prepare.ensures.shelf.files_kept in
@@ -48,4 +48,4 @@ pub summary-requires-clause-many : goal.summary-requires-clause-many
 summary-requires-clause-many g c =
     let work = c.in_ok-work.work in
     let is = c.in_ok-rendered.ensures.done in
-    as_many (station_for (Make c.args.seed c.args.size.files) work.plan work.ready.library work.ready.clocks) is.run _ (c.deref.ensures.value ∙ is.told.gaps_are)
+    as_many (station_for (Make c.args.seed c.args.size.files) work.plan work.ready.library work.ready.clocks (InWindows 16)) is.run _ (c.deref.ensures.value ∙ is.told.gaps_are)

@@ -1,6 +1,6 @@
-use Rattle.std.proofs.Common.{◌≡◌, ◌∙◌, ℕ, List, [], length, ap, sym, subst}
+use Rattle.std.proofs.Common.{◌≡◌, ◌∙◌, ℕ, List, length, ap, sym, subst}
 use Rattle.std.proofs.lemmas.Result.{err_from_is_err_and}
-use Rattle.rounds_run.proofs.Records.{run_of}
+use Rattle.stations.specs.Stations.{answers_with}
 use Rattle.station_render.specs.Sinks.{AreCreated, lists_of}
 use Rattle.station_render.specs.Renders.{IsReady, order_of, setting_for, written}
 use Rattle.station_render.specs.OutputSinks.{owed, spared, told}
@@ -17,11 +17,12 @@ use Rattle.station_render.proofs.opened.open_all.Goals as goal
 pub returns-in_err-create_each-clause-part : goal.returns-in_err-create_each-clause-part
 returns-in_err-create_each-clause-part g c =
     let p = err_from_is_err_and c.from_residual.result c.from_residual.ensures.1 in rw p.1
-    (λ window trace. record {
-      run = run_of (length c.args.job.now.plan.now.buffers) [];
-      begun = (not_begun (setting_for c.args.job.now.plan.now c.args.job.now.ready.now.library c.args.job.now.ready.now.clocks c.args.job.now.start.second) c.args.job.now.ready.now.clocks.running c.args.job.now.ticks window).0;
-      parts = c.create_each.ensures.begun c.args.job.now.ready.now.library c.args.job.now.start.second (run_of (length c.args.job.now.plan.now.buffers) []) _ _
-          (not_begun (setting_for c.args.job.now.plan.now c.args.job.now.ready.now.library c.args.job.now.ready.now.clocks c.args.job.now.start.second) c.args.job.now.ready.now.clocks.running c.args.job.now.ticks window).1;
+    (λ way trace may.
+    let none = not_begun (setting_for c.args.job.now.plan.now c.args.job.now.ready.now.library c.args.job.now.ready.now.clocks c.args.job.now.start.second) c.args.job.now.ready.now.clocks.running c.args.job.now.ticks way may in
+    record {
+      run = none.run;
+      begun = none.begun;
+      parts = c.create_each.ensures.begun c.args.job.now.ready.now.library c.args.job.now.start.second (answers_with way none.run) _ _ none.none;
     })
 
 pub make_engines-requires-clause-sinks : goal.make_engines-requires-clause-sinks
@@ -43,11 +44,11 @@ returns-in_err-make_engines-clause-part g c =
     let ready : AreCreated (IsReady (told g.S.Out.Sink.name) (told g.S.Out.Sink.held) (spared g.S.Out.Sink.room) (owed g.S.Out.Sink.room) (g.S.Shelf.files c.args.shelf.now) setting c.args.job.now.ticks) (written c.args.job.now.plan.now.sinks) (order_of setting (written c.args.job.now.plan.now.sinks)) (lists_of c.create_each.new.groups.items) =
     subst (λ o. AreCreated (IsReady (told g.S.Out.Sink.name) (told g.S.Out.Sink.held) (spared g.S.Out.Sink.room) (owed g.S.Out.Sink.room) (g.S.Shelf.files c.args.shelf.now) setting c.args.job.now.ticks) (written c.args.job.now.plan.now.sinks) o (lists_of c.create_each.new.groups.items))
     order_is (c.in_ok-create_each.ensures.ready c.args.job.now.ready.now.library c.args.job.now.start.second) in
-    rw p.1 (λ window trace.
-    subst (λ (z : List ℕ × List (List (OutputSink g.row.S-Out.Denot))). RanPart (told g.S.Out.Sink.name) (told g.S.Out.Sink.held) (told g.S.Out.Sink.faults) (g.S.Shelf.files c.args.shelf.now) (station_in c.args.job.now window trace) z.0 z.1)
+    rw p.1 (λ way trace may.
+    subst (λ (z : List ℕ × List (List (OutputSink g.row.S-Out.Denot))). RanPart (told g.S.Out.Sink.name) (told g.S.Out.Sink.held) (told g.S.Out.Sink.faults) (g.S.Shelf.files c.args.shelf.now) (station_in c.args.job.now way trace) z.0 z.1)
     (λ i. (sym order_is i, sym c.in_err-make_engines.ensures.back i))
     (starved c.args.job.now.plan.now c.args.job.now.ready.now.library c.args.job.now.ready.now.clocks c.args.job.now.start.second c.args.job.now.ticks (told g.S.Out.Sink.name) (told g.S.Out.Sink.held) (spared g.S.Out.Sink.room) (owed g.S.Out.Sink.room) (told g.S.Out.Sink.faults)
-    (lists_of c.create_each.new.groups.items) (g.S.Shelf.files c.args.shelf.now) window trace c.args.job.now.cues ready))
+    (lists_of c.create_each.new.groups.items) (g.S.Shelf.files c.args.shelf.now) way trace c.args.job.now.cues may ready))
 
 pub returns-clause-opened : goal.returns-clause-opened
 returns-clause-opened g c =

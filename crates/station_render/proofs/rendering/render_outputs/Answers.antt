@@ -1,11 +1,10 @@
-use Rattle.std.proofs.Common.{arith, [], inl, length, refl, sym, subst}
-use Rattle.std.specs.Prelude.{Some, IfOk}
-use Rattle.rounds_run.proofs.Records.{run_of}
-use Rattle.stations.specs.Stations.{made_of, setting_with, tried_of}
+use Rattle.std.proofs.Common.{arith, [], inl, refl, sym, subst}
+use Rattle.std.specs.Prelude.{IfOk}
+use Rattle.stations.specs.Stations.{InWindows, made_of, setting_with, tried_of}
 use Rattle.station_render.specs.Sinks.{HaveSizes, lists_of}
 use Rattle.station_render.specs.OutputSinks.{owed, told}
-use Rattle.station_render.specs.Renders.{IsPart, setting_for}
-use Rattle.station_render.specs.Runs.{RanPart, RanWhole, station_by}
+use Rattle.station_render.specs.Renders.{IsPart}
+use Rattle.station_render.specs.Runs.{RanPart, RanWhole, setting_by, station_by}
 use Rattle.station_render.proofs.Dealing.{sizes}
 use Rattle.station_render.proofs.Ending.{cause_of, rooms_of}
 use Rattle.stations.proofs.Parts.{none_written}
@@ -15,8 +14,9 @@ use Rattle.stations.proofs.Making.{none_made}
 use Rattle.station_render.proofs.rendering.render_outputs.Goals as goal
 
 pub returns-in_err-groups-clause-part : goal.returns-in_err-groups-clause-part
-returns-in_err-groups-clause-part g c = λ files at. inl (none_written (station_by c.args.job.now c.args.threading) (run_of (length c.args.job.now.plan.now.buffers) [])
-    (not_begun (setting_for c.args.job.now.plan.now c.args.job.now.ready.now.library c.args.job.now.ready.now.clocks c.args.job.now.start.second) c.args.job.now.ready.now.clocks.running c.args.job.now.ticks (Some c.args.threading.window)).0 _ _ (omega arith) _ _ refl files at)
+returns-in_err-groups-clause-part g c =
+    let none = not_begun (setting_by c.args.job.now) c.args.job.now.ready.now.clocks.running c.args.job.now.ticks (InWindows c.args.threading.window) tt in
+    λ files at. inl (none_written (station_by c.args.job.now c.args.threading) none.run none.begun _ _ (omega arith) _ _ refl files at)
 
 pub close_all-requires-clause-sizes : goal.close_all-requires-clause-sizes
 close_all-requires-clause-sizes g c κs lives =

@@ -1,5 +1,6 @@
 use Rattle.std.proofs.Common.{◌≡◌, ◌∙◌, length, ap, inr, subst, sym, vec_len}
 use Rattle.std.specs.Prelude.{None}
+use Rattle.stations.specs.Stations.{InRounds}
 use Rattle.clock_infer.proofs.Merging.{written_back}
 use Rattle.station_render.specs.Engines.{AreKeeping}
 use Rattle.station_render.proofs.Fits.{are_main}
@@ -11,7 +12,7 @@ use Rattle.station_render.proofs.rendering.write_alone.Goals as goal
 
 pub returns-in_err-engines-clause-part : goal.returns-in_err-engines-clause-part
 returns-in_err-engines-clause-part g c =
-    c.in_err-engines.ensures.part None None
+    c.in_err-engines.ensures.part InRounds None tt
 
 pub run_rounds-run-requires-clause-engines : goal.run_rounds-run-requires-clause-engines
 run_rounds-run-requires-clause-engines g c =

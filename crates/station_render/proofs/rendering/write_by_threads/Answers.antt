@@ -1,5 +1,5 @@
 use Rattle.std.proofs.Common.{inr, refl}
-use Rattle.std.specs.Prelude.{Some}
+use Rattle.stations.specs.Stations.{InWindows}
 use Rattle.station_render.proofs.Fits.{are_main}
 use Rattle.station_render.proofs.Gathering.{threads_all, threads_some}
 use Rattle.station_render.proofs.Returning.{engines_are, failed_back, last_many, part_back, places_empty, places_many, stand_so, keep_so, whole_told}
@@ -9,7 +9,7 @@ use Rattle.station_render.proofs.rendering.write_by_threads.Goals as goal
 
 pub returns-in_err-engines-clause-part : goal.returns-in_err-engines-clause-part
 returns-in_err-engines-clause-part g c =
-    c.in_err-engines.ensures.part (Some c.args.threading.window) _
+    c.in_err-engines.ensures.part (InWindows c.args.threading.window) _ tt
 
 pub run_threads-engines-requires-clause-engines : goal.run_threads-engines-requires-clause-engines
 run_threads-engines-requires-clause-engines g c =

@@ -1,0 +1,116 @@
+// The trace by which a script is rendered again.
+ghost use Rattle.std.specs.Prelude.{◌≡◌, ℕ, IfOk};
+ghost use Rattle.std.specs.Option.{ForSome};
+ghost use Rattle.trace_log.specs.Texts.{IsTrace};
+ghost use Rattle.trace_replay.specs.Traces.{IsAccepted};
+ghost use Rattle.trace_replay.specs.Turns.{base_of};
+ghost use Rattle.stream_meaning.specs.Instants.{Setting};
+ghost use Rattle.stations.specs.Findings.{IsFit};
+ghost use Rattle.liq_cli.specs.Prepared.{IsUntold, OnlyRead, TraceEnds};
+ghost use Rattle.liq_cli.specs.Replays.{HasText, HasTrace};
+ghost use Rattle.refusal_lines.specs.declared.replay_lines.ReplayFault.TheVariants.{NoTrace, TraceTooLarge};
+
+use crate::halt::Halt;
+use fixed_text::WeekSecond;
+use liq_base::{Fetched, Shelf, ShelfFault, Text};
+use plan_core::Plan;
+use refusal_lines::{Fault, ReplayFault};
+use stations::Ready;
+use std::alloc::Global;
+use trace_log::{Trace, TraceFault, read};
+use trace_replay::accepts;
+
+/// Bytes of a trace, at most.
+const MAX_TRACE_BYTES: u64 = 268_435_456;
+
+/// The trace in the file of this name, where it is that of a lawful record of so many ticks of the plan from this second of the week on,
+/// whose ticks can be ordered. `docs/faults.md` has the faults, which are looked for in this order: no file, too many bytes, another
+/// form, no such record.
+pub fn find_trace<S: Shelf>(
+    alloc: Global,
+    plan: &Plan,
+    ready: &Ready,
+    start: WeekSecond,
+    ticks: u64,
+    name: &str,
+    shelf: &mut S,
+) -> Result<Trace, Halt>
+    requires { IsFit plan.now ready.now.library ready.now.clocks ticks }
+    ensures form { IfOk result (λ trace. IsTrace trace) }
+    ensures found { IfOk result (λ trace. ForSome (S.files shelf.old) (λ files. HasTrace files name.now trace)) }
+    ensures fits { IfOk result (λ trace. IsAccepted (base_of plan.now ready.now.library ready.now.clocks start.second) ready.now.clocks.running ticks trace) }
+    ensures ends { TraceEnds (S.files shelf.old) name.now (base_of plan.now ready.now.library ready.now.clocks start.second) ready.now.clocks.running ticks
+        (S.read_count shelf.old) (S.read_count shelf.new) result }
+    ensures shelf { OnlyRead S.files S.read_count S.write_count shelf.old shelf.new }
+    ensures created { S.created shelf.new ≡ S.created shelf.old }
+{
+    let trace = read_trace(alloc, name, shelf)?;
+    let fits = accepts(
+        alloc,
+        plan,
+        &ready.clocks,
+        &ready.library,
+        start,
+        ticks,
+        &trace,
+    )?;
+    if !fits {
+        return Err(Halt::Refused(Fault::Replay(ReplayFault::DoesNotFit)));
+    }
+    Ok(trace)
+}
+
+// The trace in the file of this name.
+fn read_trace<S: Shelf>(alloc: Global, name: &str, shelf: &mut S) -> Result<Trace, Halt>
+    ensures form { IfOk result (λ trace. IsTrace trace) }
+    ensures found { IfOk result (λ trace. ForSome (S.files shelf.old) (λ files. HasTrace files name.now trace)) }
+    ensures ends { (base : Setting) (clocks ticks : ℕ) → TraceEnds (S.files shelf.old) name.now base clocks ticks (S.read_count shelf.old) (S.read_count shelf.new) result }
+    ensures shelf { OnlyRead S.files S.read_count S.write_count shelf.old shelf.new }
+    ensures created { S.created shelf.new ≡ S.created shelf.old }
+{
+    let text = read_text(alloc, name, shelf)?;
+    match read(alloc, &text) {
+        Ok(trace) => Ok(trace),
+        Err(TraceFault::NotTrace(line)) => Err(Halt::Refused(Fault::Replay(ReplayFault::NotATrace(
+            line,
+        )))),
+        Err(TraceFault::Memory) => Err(Halt::Memory),
+    }
+}
+
+// The bytes of the file of this name.
+fn read_text<S: Shelf>(alloc: Global, name: &str, shelf: &mut S) -> Result<Vec<u8>, Halt>
+    ensures found { IfOk result (λ text. ForSome (S.files shelf.old) (λ files. HasText files name.now text.items)) }
+    ensures ends { (base : Setting) (clocks ticks : ℕ) → TraceEnds (S.files shelf.old) name.now base clocks ticks (S.read_count shelf.old) (S.read_count shelf.new) result }
+    ensures shelf { OnlyRead S.files S.read_count S.write_count shelf.old shelf.new }
+    ensures created { S.created shelf.new ≡ S.created shelf.old }
+{
+    let mut text = Vec::new(alloc);
+    match shelf.read(name, &mut text, MAX_TRACE_BYTES) {
+        Ok(Fetched::Found) => Ok(text),
+        Ok(Fetched::Missing) => Err(no_trace(alloc, name)),
+        Ok(Fetched::TooLarge) => Err(too_large(alloc, name)),
+        Err(ShelfFault::Failed) => Err(Halt::Read),
+        Err(ShelfFault::Memory) => Err(Halt::Memory),
+    }
+}
+
+// The end of a replay whose trace is not there; want of memory may come in its place.
+fn no_trace(alloc: Global, name: &str) -> Halt
+    ensures { IsUntold (NoTrace name.now) result }
+{
+    match Text::from_str(alloc, name) {
+        Ok(name) => Halt::Refused(Fault::Replay(ReplayFault::NoTrace(name))),
+        Err(_) => Halt::Memory,
+    }
+}
+
+// The same, of a trace that is too large.
+fn too_large(alloc: Global, name: &str) -> Halt
+    ensures { IsUntold (TraceTooLarge name.now) result }
+{
+    match Text::from_str(alloc, name) {
+        Ok(name) => Halt::Refused(Fault::Replay(ReplayFault::TraceTooLarge(name))),
+        Err(_) => Halt::Memory,
+    }
+}

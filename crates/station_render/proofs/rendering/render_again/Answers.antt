@@ -1,0 +1,65 @@
+use Rattle.std.proofs.Common.{◌≡◌, ◌++◌, [], arith, rules, length, refl, sym, subst}
+use Rattle.std.specs.Prelude.{IsErrOf, IsSomeAnd, Some}
+use Rattle.std.specs.Option.{ForSome}
+use Rattle.liq_base.specs.Counts.{Rose}
+use Rattle.liq_base.specs.Kept.{rose_within}
+use Rattle.stations.specs.Creations.{names_in}
+use Rattle.stations.specs.Cues.{cue_names_if}
+use Rattle.stations.specs.Outputs.{HoldsUpto, with_outputs}
+use Rattle.stations.proofs.Making.{front_made, none_more, then_front, then_made}
+use Rattle.station_render.specs.Marks.{cue_files_by, cues_of}
+use Rattle.station_render.specs.Renders.{written}
+use Rattle.station_render.specs.Runs.{station_again}
+use Rattle.station_render.specs.declared.fault.RenderFault.TheVariants.{Write}
+use Rattle.station_render.proofs.Leaving.{has_marks, later_again, later_part, later_whole}
+use Rattle.station_render.proofs.rendering.render_again.Goals as goal
+
+pub leave_wanted-requires-clause-many : goal.leave_wanted-requires-clause-many
+leave_wanted-requires-clause-many g c κs lives wanted =
+    subst (λ marks. length marks ≡ length (written c.args.job.now.plan.now.sinks)) (sym c.deref.ensures.value)
+    (has_marks (station_again c.args.job.now c.args.trace.now) _ _ c.in_ok-rendered.rendered c.in_ok-rendered.ensures.done wanted)
+
+pub returns-in_err-leave_wanted-clause-part : goal.returns-in_err-leave_wanted-clause-part
+returns-in_err-leave_wanted-clause-part g c =
+    let station = station_again c.args.job.now c.args.trace.now in
+    let wrote = c.in_ok-rendered.ensures.done in
+    later_part station _ _ c.in_ok-rendered.rendered wrote _ _ _ _ (later_again station _ _ c.in_ok-rendered.rendered wrote c.args.trace.now refl)
+    (subst (λ marks. ForSome (g.S.Shelf.files c.render_outputs_again.new.shelf) (λ files. IsSomeAnd (g.S.Shelf.files c.leave_wanted.new.shelf) (HoldsUpto files (cue_files_by c.args.job.now (cues_of marks))))) c.deref.ensures.value c.leave_wanted.ensures.part)
+
+pub returns-clause-part : goal.returns-clause-part
+returns-clause-part g c =
+    let station = station_again c.args.job.now c.args.trace.now in
+    let wrote = c.in_ok-rendered.ensures.done in
+    later_part station _ _ c.in_ok-rendered.rendered wrote _ _ _ _ (later_again station _ _ c.in_ok-rendered.rendered wrote c.args.trace.now refl)
+    (subst (λ marks. ForSome (g.S.Shelf.files c.render_outputs_again.new.shelf) (λ files. IsSomeAnd (g.S.Shelf.files c.leave_wanted.new.shelf) (HoldsUpto files (cue_files_by c.args.job.now (cues_of marks))))) c.deref.ensures.value c.leave_wanted.ensures.part)
+
+pub returns-clause-done : goal.returns-clause-done
+returns-clause-done g c =
+    let station = station_again c.args.job.now c.args.trace.now in
+    let wrote = c.in_ok-rendered.ensures.done in
+    later_whole station _ _ c.in_ok-rendered.rendered wrote _ _ c.in_ok-rendered.rendered (later_again station _ _ c.in_ok-rendered.rendered wrote c.args.trace.now refl) wrote.told
+    (subst (λ marks. ForSome (g.S.Shelf.files c.render_outputs_again.new.shelf) (λ files. g.S.Shelf.files c.leave_wanted.new.shelf ≡ Some (with_outputs files (cue_files_by c.args.job.now (cues_of marks))))) c.deref.ensures.value c.in_ok-leave_wanted.ensures.written)
+
+pub returns-in_err-leave_wanted-clause-cause : goal.returns-in_err-leave_wanted-clause-cause
+returns-in_err-leave_wanted-clause-cause g c =
+    let cause : IsErrOf c.from_residual-in_err-leave_wanted.result Write → Rose (g.S.Shelf.write_count c.render_outputs_again.new.shelf) (g.S.Shelf.write_count c.leave_wanted.new.shelf) = search rules in
+    λ e. rose_within _ _ _ _ c.render_outputs_again.ensures.writes (omega arith) (cause e)
+
+pub returns-in_err-rendered-clause-front : goal.returns-in_err-rendered-clause-front
+returns-in_err-rendered-clause-front g c = front_made (names_in c.args.job.now.plan.now.sinks) (cue_names_if c.args.job.now.cues c.args.job.now.plan.now.sinks ++ []) _ _ c.render_outputs_again.ensures.front
+
+pub returns-in_err-leave_wanted-clause-front : goal.returns-in_err-leave_wanted-clause-front
+returns-in_err-leave_wanted-clause-front g c =
+    let sinks = c.args.job.now.plan.now.sinks in
+    then_front (names_in sinks) (cue_names_if c.args.job.now.cues sinks ++ []) _ _ _ c.in_ok-rendered.ensures.made (front_made (cue_names_if c.args.job.now.cues sinks) [] _ _ c.leave_wanted.ensures.front)
+
+pub returns-clause-made : goal.returns-clause-made
+returns-clause-made g c =
+    let sinks = c.args.job.now.plan.now.sinks in
+    then_made (names_in sinks) (cue_names_if c.args.job.now.cues sinks ++ []) _ _ _ c.in_ok-rendered.ensures.made
+    (then_made (cue_names_if c.args.job.now.cues sinks) [] _ _ _ c.in_ok-leave_wanted.ensures.made (none_more _))
+
+pub returns-clause-front : goal.returns-clause-front
+returns-clause-front g c =
+    let sinks = c.args.job.now.plan.now.sinks in
+    then_front (names_in sinks) (cue_names_if c.args.job.now.cues sinks ++ []) _ _ _ c.in_ok-rendered.ensures.made (front_made (cue_names_if c.args.job.now.cues sinks) [] _ _ c.leave_wanted.ensures.front)

@@ -1,0 +1,58 @@
+use Rattle.std.proofs.Common.{arith, [], inl, refl, sym, subst}
+use Rattle.std.specs.Prelude.{IfOk}
+use Rattle.stations.specs.Stations.{Again, made_of, setting_with, tried_of}
+use Rattle.station_render.specs.Sinks.{HaveSizes, lists_of}
+use Rattle.station_render.specs.OutputSinks.{owed, told}
+use Rattle.station_render.specs.Renders.{IsPart}
+use Rattle.station_render.specs.Runs.{RanPart, RanWhole, setting_by, station_again}
+use Rattle.station_render.proofs.Dealing.{sizes}
+use Rattle.station_render.proofs.Ending.{cause_of, rooms_of}
+use Rattle.stations.proofs.Parts.{none_written}
+use Rattle.station_render.proofs.Gathering.{not_begun}
+use Rattle.station_render.proofs.Naming.{closed_made, front_kept}
+use Rattle.stations.proofs.Making.{none_made}
+use Rattle.station_render.proofs.rendering.render_outputs_again.Goals as goal
+
+pub returns-in_err-groups-clause-part : goal.returns-in_err-groups-clause-part
+returns-in_err-groups-clause-part g c =
+    let none = not_begun (setting_by c.args.job.now) c.args.job.now.ready.now.clocks.running c.args.job.now.ticks (Again c.args.trace.now) c.requires.accepted in
+    λ files at. inl (none_written (station_again c.args.job.now c.args.trace.now) none.run none.begun _ _ (omega arith) _ _ refl files at)
+
+pub close_all-requires-clause-sizes : goal.close_all-requires-clause-sizes
+close_all-requires-clause-sizes g c κs lives =
+    let part = c.write_again-wrote.ensures.part in
+    let station = station_again c.args.job.now c.args.trace.now in
+    subst (λ o. HaveSizes o (lists_of c.write_again-wrote.new.groups.items)) (sym c.deref.ensures.value)
+    (sizes (IsPart (told g.S.Out.Sink.name) (told g.S.Out.Sink.held) (told g.S.Out.Sink.faults) (g.S.Shelf.files c.args.shelf.now) (setting_with station part.run (λ buffer. [])) c.args.job.now.ticks (made_of station part.run part.begun) (tried_of station part.run part.begun))
+    part.parts.created c.write_again-wrote.new.order.items (lists_of c.write_again-wrote.new.groups.items) (part.parts.parts (λ buffer. [])))
+
+pub close_all-requires-clause-rooms : goal.close_all-requires-clause-rooms
+close_all-requires-clause-rooms g c κs lives =
+    let station = station_again c.args.job.now c.args.trace.now in
+    rooms_of station g.S.Out.Sink.name g.S.Out.Sink.held g.S.Out.Sink.room (g.S.Shelf.files c.args.shelf.now) c.write_again-wrote.new.order.items (lists_of c.write_again-wrote.new.groups.items) c.write_again-wrote.result c.write_again-wrote.ensures.done
+
+pub returns-clause-part : goal.returns-clause-part
+returns-clause-part g c =
+    let station = station_again c.args.job.now c.args.trace.now in
+    c.close_all.ensures.part station (g.S.Shelf.files c.args.shelf.now) _ c.write_again-wrote.ensures.files c.write_again-wrote.ensures.writes
+    (subst (λ o. RanPart (told g.S.Out.Sink.name) (told g.S.Out.Sink.held) (told g.S.Out.Sink.faults) (g.S.Shelf.files c.args.shelf.now) station o (lists_of c.write_again-wrote.new.groups.items)) (sym c.deref.ensures.value) c.write_again-wrote.ensures.part)
+    (subst (λ o. IfOk c.write_again-wrote.result (RanWhole (told g.S.Out.Sink.name) (told g.S.Out.Sink.held) (owed g.S.Out.Sink.room) (g.S.Shelf.files c.args.shelf.now) station o (lists_of c.write_again-wrote.new.groups.items))) (sym c.deref.ensures.value) c.write_again-wrote.ensures.done)
+
+pub returns-clause-done : goal.returns-clause-done
+returns-clause-done g c =
+    let station = station_again c.args.job.now c.args.trace.now in
+    c.close_all.ensures.done station (g.S.Shelf.files c.args.shelf.now) c.write_again-wrote.ensures.files
+    (subst (λ o. IfOk c.write_again-wrote.result (RanWhole (told g.S.Out.Sink.name) (told g.S.Out.Sink.held) (owed g.S.Out.Sink.room) (g.S.Shelf.files c.args.shelf.now) station o (lists_of c.write_again-wrote.new.groups.items))) (sym c.deref.ensures.value) c.write_again-wrote.ensures.done)
+
+pub returns-clause-cause : goal.returns-clause-cause
+returns-clause-cause g c = λ e.
+    cause_of (g.S.Shelf.write_count c.args.shelf.now) _ _ _ _ c.write_again-wrote.ensures.writes c.close_all.ensures.writes (c.close_all.ensures.cause e) c.write_again-wrote.ensures.cause c.close_all.ensures.failed
+
+pub returns-in_err-groups-clause-front : goal.returns-in_err-groups-clause-front
+returns-in_err-groups-clause-front g c = none_made _ _ _ refl
+
+pub returns-clause-made : goal.returns-clause-made
+returns-clause-made g c = closed_made c.close_all.result c.write_again-wrote.result _ _ _ _ c.close_all.ensures.well c.write_again-wrote.ensures.made c.close_all.ensures.created
+
+pub returns-clause-front : goal.returns-clause-front
+returns-clause-front g c = front_kept _ _ _ _ c.close_all.ensures.created c.write_again-wrote.ensures.front
