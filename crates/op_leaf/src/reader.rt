@@ -1,6 +1,5 @@
 // The reader of a buffer.
 ghost use Rattle.std.specs.Prelude.{◌≡◌, ◌<◌, ◌≤◌, ◌+◌, ◌++◌, [], ℕ, true, false, length, max, IfOk, IsSome};
-ghost use Rattle.cell_ring.specs.Rings.{Ring};
 ghost use Rattle.frame_core.specs.Slots.{title_of};
 ghost use Rattle.op_leaf.specs.Inner.{is_inner, lefts_of, rights_of, titled_stretch};
 ghost use Rattle.op_leaf.specs.Lanes.{IsLane, IsOneTrack};
