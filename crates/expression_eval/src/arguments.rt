@@ -18,7 +18,8 @@ use std::mem;
 /// So many arguments of a call are looked through for each parameter; more of them by a table.
 const FEW_ARGUMENTS: usize = 16;
 
-/// What each parameter takes of these arguments, if it takes one.
+/// What each parameter takes of these arguments, if it takes one: the first one behind its label, or the first without one,
+/// as `docs/evaluation.md` says under "Order". Memory may be wanting, and nothing else.
 pub fn taken_arguments(
     alloc: Global,
     params: &[Param],
