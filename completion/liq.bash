@@ -18,6 +18,14 @@ _liq_options() {
     esac
 }
 
+# Completes the one option of `replay`.
+_liq_start() {
+    local word=$1 before=$2
+    [[ -z $before ]] || return
+    [[ --start= == "$word"* || --start= == "--$word"* ]] && COMPREPLY+=(--start=)
+    compopt -o nospace 2>/dev/null
+}
+
 _liq() {
     local word=${COMP_WORDS[COMP_CWORD]} before='' at=$COMP_CWORD
     COMPREPLY=()
@@ -28,12 +36,14 @@ _liq() {
         before=${COMP_WORDS[at - 2]}=
     fi
     if [ "$at" -eq 1 ]; then
-        mapfile -t COMPREPLY < <(compgen -W "check render make" -- "$word")
+        mapfile -t COMPREPLY < <(compgen -W "check render make replay" -- "$word")
         return
     fi
     case ${COMP_WORDS[1]}:$at in
-        check:2 | render:2) _liq_files "$word" ;;
-        check:* | render:3 | make:*) ;;
+        check:2 | render:2 | replay:2 | replay:4) _liq_files "$word" ;;
+        check:* | render:3 | make:* | replay:3) ;;
+        replay:5) _liq_start "$word" "$before" ;;
+        replay:*) ;;
         render:*) _liq_options "$word" "$before" ;;
     esac
 }

@@ -219,7 +219,7 @@ def builtins_that_differ(program):
 
 
 # A text for each word of the usage line.
-WORDS = {"FILE": "f", "N": "1", "W": "1", "D:HH:MM:SS": "1:00:00:00", "NAME": "t", "SEED": "1", "SIZE": "1"}
+WORDS = {"FILE": "f", "N": "1", "W": "1", "D:HH:MM:SS": "1:00:00:00", "NAME": "t", "SEED": "1", "SIZE": "1", "TRACE": "t"}
 
 
 def parts_of(usage):
@@ -326,7 +326,7 @@ def recipes_that_fail(program):
             run = {"cwd": os.path.join(place, "examples"), "capture_output": True, "timeout": SECONDS}
             subprocess.run([sys.executable, "sounds.py"], check=True, **run)
             for turn in ("first", "second"):
-                done = subprocess.run(["sh", "-c", script.replace("540000", "50")], check=False, stdin=subprocess.DEVNULL,
+                done = subprocess.run(["sh", "-c", re.sub("540000|90000", "50", script)], check=False, stdin=subprocess.DEVNULL,
                                       env={**os.environ, "PATH": f"{place}:{os.environ['PATH']}"}, **run)
                 if done.returncode or done.stderr:
                     found.append(f"the {turn} run of the recipe with {needs} ends with {done.returncode}: {done.stderr.decode()[-300:]}")
