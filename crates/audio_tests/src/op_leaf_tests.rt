@@ -291,3 +291,56 @@ fn a_stretch_of_a_reader_ends_before_another_title(rt: HostRuntime) -> Result<()
     check_stretches(&rt, &reader, [1, 2, 2, 2]);
     Ok(())
 }
+
+// A reader takes a chunk of these cells, which it wants.
+fn accept_cells(
+    rt: &impl Abort,
+    alloc: Global,
+    reader: &mut ReaderState,
+    cells: &[Option<Cell>],
+) -> Result<(), Fail>
+    requires { length cells.now ≤ 8 }
+{
+    let Some(chunk) = chunk_of(alloc, cells)? else {
+        return Err(Fail::from("no chunk"));
+    };
+    assert!(rt; reader.wants());
+    reader.accept(chunk);
+    Ok(())
+}
+
+// A reader in ticks of two samples that plays: it holds the samples 1 to 6, of which the last five came in one chunk, longer
+// than a tick.
+fn reader_of_a_long_chunk(rt: &impl Abort, alloc: Global) -> Result<ReaderState, Fail> {
+    let mut reader = ReaderState::new(alloc, 2, 2)?;
+    accept_cells(rt, alloc, &mut reader, &[inner(4, 1, -1)])?;
+    let long = [
+        inner(4, 2, -2),
+        inner(4, 3, -3),
+        inner(4, 4, -4),
+        inner(4, 5, -5),
+        inner(4, 6, -6),
+    ];
+    accept_cells(rt, alloc, &mut reader, &long)?;
+    reader.begin();
+    Ok(reader)
+}
+
+#[test]
+fn a_reader_holds_a_chunk_that_is_longer_than_a_tick(rt: HostRuntime) -> Result<(), Fail> {
+    let mut reader = reader_of_a_long_chunk(&rt, rt.alloc())?;
+    let mut single = reader_of_a_long_chunk(&rt, rt.alloc())?;
+    check_stretches(&rt, &reader, [1, 2, 3, 6]);
+    check_run(&rt, &mut reader, &mut single, &[1, 2, 3]);
+    check_stretches(&rt, &reader, [1, 2, 3, 3]);
+    assert!(rt; !reader.wants());
+    check_run(&rt, &mut reader, &mut single, &[4, 5]);
+    let more = [inner(4, 7, -7), first(4, 8, -8)];
+    accept_cells(&rt, rt.alloc(), &mut reader, &more)?;
+    accept_cells(&rt, rt.alloc(), &mut single, &more)?;
+    check_stretches(&rt, &reader, [1, 2, 2, 2]);
+    check_run(&rt, &mut reader, &mut single, &[6, 7]);
+    check_run(&rt, &mut reader, &mut single, &[8]);
+    assert_eq!(rt; reader.offer(), None);
+    Ok(())
+}

@@ -1,12 +1,15 @@
 // A ring of cells.
 ghost use Rattle.std.specs.Prelude.{◌≡◌, ◌+◌, ◌<◌, ◌≤◌, ◌^◌, [], ◌∷◌, ◌++◌, ℕ, true, false, length, map, take, drop, slice_get, IfOk};
-ghost use Rattle.cell_ring.specs.Rings.{Ring, goes_on, has_title, inner_cells};
+ghost use Rattle.cell_ring.specs.Rings.{Ring, Runs, goes_on, has_title, inner_cells};
 
 use circular_buffer::HeapCircularBuffer;
 use frame_core::Cell;
 use liq_base::Memory;
 use std::alloc::Global;
 use std::marker::Model;
+
+// How many cells are appended at once.
+const BLOCK: usize = 64;
 
 /// A queue of cells in one block, which is reserved when it is made. No other call takes memory.
 #[derive(Drop)]
@@ -42,6 +45,13 @@ impl CellRing {
         self.cells.len() as u32
     }
 
+    /// How many cells it has room for.
+    pub fn room(&self) -> u32
+        ensures { result ≡ self.now.room }
+    {
+        self.cells.capacity() as u32
+    }
+
     /// The first cell.
     pub fn front(&self) -> Option<Cell>
         ensures { result ≡ slice_get self.now.cells 0 }
@@ -55,13 +65,13 @@ impl CellRing {
         ensures ends { result < most → goes_on title (slice_get self.now.cells (from + result)) ≡ false }
         ensures within { result ≤ most }
     {
-        let from = from as usize;
         let most = most as usize;
-        let mut count = 0;
-        while count < most && goes_on(title, self.cells.get(from + count).copied()) {
-            count += 1;
+        let (front, back) = self.behind(from as usize);
+        let here = inner_of(title, front, most);
+        if here < front.len() {
+            return here as u32;
         }
-        count as u32
+        (here + inner_of(title, back, most - here)) as u32
     }
 
     /// How many cells, from this one on and at most so many, have this title. The front cell is number 0.
@@ -70,13 +80,23 @@ impl CellRing {
         ensures ends { result < most → has_title title (slice_get self.now.cells (from + result)) ≡ false }
         ensures within { result ≤ most }
     {
-        let from = from as usize;
         let most = most as usize;
-        let mut count = 0;
-        while count < most && has_title(title, self.cells.get(from + count).copied()) {
-            count += 1;
+        let (front, back) = self.behind(from as usize);
+        let here = titled_of(title, front, most);
+        if here < front.len() {
+            return here as u32;
         }
-        count as u32
+        (here + titled_of(title, back, most - here)) as u32
+    }
+
+    // The cells from this one on, in the two parts of the block.
+    fn behind(&self, from: usize) -> (&[Cell], &[Cell])
+        ensures { result.0.now ++ result.1.now ≡ drop from self.now.cells }
+    {
+        let (front, back) = self.cells.as_slices();
+        let first = from.min(front.len());
+        let skip = (from - first).min(back.len());
+        (&front[first..], &back[skip..])
     }
 
     /// Appends a cell.
@@ -87,19 +107,33 @@ impl CellRing {
         self.cells.push_back(cell);
     }
 
+    /// Appends cells.
+    pub fn push_cells(&mut self, cells: &[Cell])
+        requires { length self.old.cells + length cells.now ≤ self.old.room }
+        ensures { self.new ≡ record { cells = self.old.cells ++ cells.now; room = self.old.room } }
+    {
+        self.cells.extend_from_slice(cells);
+    }
+
     /// Appends cells with this title and these samples, none of which begins a track.
     pub fn push_run(&mut self, title: u32, left: &[i16], right: &[i16])
         requires same { length right.now ≡ length left.now }
         requires there { length self.old.cells + length left.now ≤ self.old.room }
         ensures { self.new ≡ record { cells = self.old.cells ++ inner_cells title left.now right.now; room = self.old.room } }
     {
-        for at in 0..left.len() {
-            self.push(Cell {
-                left: left[at],
-                right: right[at],
-                first: false,
-                title,
-            });
+        let mut block = [Cell {
+            left: 0,
+            right: 0,
+            first: false,
+            title,
+        }; BLOCK];
+        let mut done = 0;
+        while done < left.len() {
+            let end = done + (left.len() - done).min(BLOCK);
+            let cells = &mut block[..end - done];
+            gather(title, &left[done..end], &right[done..end], cells);
+            self.push_cells(cells);
+            done = end;
         }
     }
 
@@ -130,7 +164,7 @@ impl CellRing {
 }
 
 // Lays the samples of the cells side by side.
-fn lay(cells: &[Cell], left: &mut [i16], right: &mut [i16])
+pub(crate) fn lay(cells: &[Cell], left: &mut [i16], right: &mut [i16])
     requires same { (length left.old ≡ length cells.now) × (length right.old ≡ length cells.now) }
     ensures left { left.new ≡ map (λ cell. cell.left) cells.now }
     ensures right { right.new ≡ map (λ cell. cell.right) cells.now }
@@ -139,6 +173,43 @@ fn lay(cells: &[Cell], left: &mut [i16], right: &mut [i16])
         left[at] = cells[at].left;
         right[at] = cells[at].right;
     }
+}
+
+// Makes cells with this title of these samples, none of which begins a track.
+fn gather(title: u32, left: &[i16], right: &[i16], cells: &mut [Cell])
+    requires same { (length right.now ≡ length left.now) × (length cells.old ≡ length left.now) }
+    ensures { cells.new ≡ inner_cells title left.now right.now }
+{
+    for at in 0..left.len() {
+        cells[at] = Cell {
+            left: left[at],
+            right: right[at],
+            first: false,
+            title,
+        };
+    }
+}
+
+// How many cells, from the first one on and at most so many, have this title and begin no track.
+pub(crate) fn inner_of(title: u32, cells: &[Cell], most: usize) -> usize
+    ensures { Runs (goes_on title) cells.now most result }
+{
+    let mut count = 0;
+    while count < most && goes_on(title, cells.get(count).copied()) {
+        count += 1;
+    }
+    count
+}
+
+// How many cells, from the first one on and at most so many, have this title.
+fn titled_of(title: u32, cells: &[Cell], most: usize) -> usize
+    ensures { Runs (has_title title) cells.now most result }
+{
+    let mut count = 0;
+    while count < most && has_title(title, cells.get(count).copied()) {
+        count += 1;
+    }
+    count
 }
 
 // A cell of this title that begins no track.

@@ -1,6 +1,8 @@
-//! A ring of cells.
+//! Queues of cells.
 #![tactic(auto)]
 
 mod cell_ring;
+mod chunk_queue;
 
 pub use cell_ring::CellRing;
+pub use chunk_queue::ChunkQueue;

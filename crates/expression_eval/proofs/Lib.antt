@@ -5,3 +5,5 @@ pub mod Predicates
 pub mod Productions
 pub mod Putting
 pub mod Singles
+pub mod Slots
+pub mod Taking

@@ -4,7 +4,7 @@ use Rattle.std.proofs.lemmas.List.{map_push}
 use Rattle.std.specs.Prelude.{map}
 use Rattle.liq_base.specs.declared.memory.Kind.{Kind}
 use Rattle.std.specs.Global.{Box, Vec}
-use Rattle.script_grammar.specs.Tree.{Tree, Many, none, more, AFull, AnExpr, AnAnd, ANot, ACompare, ASum, AProduct, APrim, ACall, AParam, Listed, Not}
+use Rattle.script_grammar.specs.Tree.{Tree, Many, none, more, AFull, AnExpr, AnAnd, ANot, ACompare, ASum, AProduct, APrim, ACall, Listed, Not}
 use Rattle.script_grammar.specs.View.{listed, tuple_of, view_expr, view_and, view_not, view_sum, view_added, view_product, view_multiplied, view_prim, view_full, view_call, view_arg, view_compare, view_if}
 use Rattle.script_grammar.specs.declared.tree.Full.{Full}
 use Rattle.script_grammar.specs.declared.tree.Expr as expr
@@ -29,10 +29,8 @@ use Rattle.script_values.specs.declared.machine.Machine.{Machine}
 use Rattle.script_values.specs.Gives.{Fails}
 use Rattle.script_values.specs.declared.fault.Fault.TheVariants.{TooLarge}
 use Rattle.script_values.specs.declared.fault.Limit.TheVariants.{Calls}
-use Rattle.script_values.specs.declared.slots.Slot as program
 use Rattle.script_values.specs.Values as value
 use Rattle.script_values.specs.Values.{Value, many}
-use Rattle.script_values.specs.Views.{view_slot}
 use Rattle.script_values.specs.Numbers.{either, both, compared as numbers_compared, opposite, truth_of}
 use Rattle.script_values.specs.Machines.{count}
 use Rattle.script_values.specs.Slots.{Given, Slot}
@@ -99,27 +97,9 @@ pub inners_steps : (s : Scope) → Steps (meaning.inners s) (λ t vs m. meaning.
 unfolding meaning.inners
 inners_steps s = record { opens = λ t ts vs m. pushed (meaning.inner s t vs m) vs (λ ys n. meaning.inners s ts ys n) }
 
--- the arguments that are left, and the slots so far
-abbrev pub from_both : Scope → Tree (Many AParam) → List Given × List Slot → Machine → Result (List Slot × Machine) Fault
-from_both s ts a m = meaning.parameters s ts a.0 a.1 m
-
-abbrev pub with_slot : List Slot → (Slot × List Given) × Machine → Result ((List Given × List Slot) × Machine) Fault
-with_slot slots x = Ok ((x.0.1, slots ++ x.0.0 ∷ []), x.1)
-
-bound : (r : Result ((Slot × List Given) × Machine) Fault) (slots : List Slot) (s : Scope) (ts : Tree (Many AParam)) → (r >>= λ x. meaning.parameters s ts x.0.1 (slots ++ x.0.0 ∷ []) x.1) ≡ ((r >>= with_slot slots) >>= λ y. from_both s ts y.0 y.1)
-bound (Ok x) slots s ts = refl
-bound (Err e) slots s ts = refl
-
-pub parameters_steps : (s : Scope) → Steps (from_both s) (λ t a m. meaning.parameter s t a.0 m >>= with_slot a.1)
-unfolding meaning.parameters
-parameters_steps s = record { opens = λ t ts a m. bound (meaning.parameter s t a.0 m) a.1 s ts }
-
 -- one value more, as the program pushes it
 pub went : {X Y : Type 0} (view : X → Y) (r : Result (Y × Machine) Fault) (xs xs' : List X) (x : X) (n : Machine) → r ≡ Ok (view x, n) → xs' ≡ xs ++ x ∷ [] → (r >>= with_last (map view xs)) ≡ Ok (map view xs', n)
 went view r xs xs' x n is grown = ap (λ (q : Result _ Fault). q >>= with_last (map view xs)) is ∙ ap (λ (l : List _). Ok (l, n)) (sym (ap (map view) grown ∙ map_push view xs x))
-
-pub slot_went : (r : Result ((Slot × List Given) × Machine) Fault) (xs xs' : List program.Slot) (x : program.Slot) (gs : List Given) (n : Machine) → r ≡ Ok ((view_slot x, gs), n) → xs' ≡ xs ++ x ∷ [] → (r >>= with_slot (map view_slot xs)) ≡ Ok ((gs, map view_slot xs'), n)
-slot_went r xs xs' x gs n is grown = ap (λ (q : Result ((Slot × List Given) × Machine) Fault). q >>= with_slot (map view_slot xs)) is ∙ ap (λ (l : List Slot). Ok ((gs, l), n)) (sym (ap (map view_slot) grown ∙ map_push view_slot xs x))
 
 -- ---- the ends of the loops
 
@@ -150,10 +130,6 @@ arguments_none s gs m = refl
 pub inners_none : (s : Scope) (vs : List Slot) (m : Machine) → meaning.inners s none vs m ≡ Ok (vs, m)
 unfolding meaning.inners
 inners_none s vs m = refl
-
-pub parameters_none : (s : Scope) (gs : List Given) (vs : List Slot) (m : Machine) → meaning.parameters s none gs vs m ≡ Ok (vs, m)
-unfolding meaning.parameters
-parameters_none s gs vs m = refl
 
 -- ---- a first part, and what comes behind it
 

@@ -1,7 +1,7 @@
-// Steps that evaluate no expression: what is counted, and what a parameter takes of the arguments. Values that are no
-// longer needed end here, and not in the descent.
-ghost use Rattle.std.specs.Prelude.{◌≡◌, [], ◌∷◌, ◌++◌, IfOk, Ok, map, option_map};
-ghost use Rattle.eval_meaning.specs.Meaning.{format, taken_slot};
+// Steps that evaluate no expression: what is counted, and what goes behind others. Values that are no longer needed end
+// here, and not in the descent.
+ghost use Rattle.std.specs.Prelude.{◌≡◌, [], ◌∷◌, ◌++◌, IfOk, Ok, map};
+ghost use Rattle.eval_meaning.specs.Meaning.{format};
 ghost use Rattle.expression_eval.specs.Places.{Goes, GoesOn, Joins, GoesBehind, Tells};
 ghost use Rattle.expression_eval.specs.Steps.{after_count, operation};
 ghost use Rattle.script_values.specs.Gives.{Gives};
@@ -9,16 +9,14 @@ ghost use Rattle.script_values.specs.Machines.{count};
 ghost use Rattle.script_values.specs.Numbers.{negative, opposite};
 ghost use Rattle.script_values.specs.Values.{Text as a_text};
 ghost use Rattle.script_values.specs.View.{view_value};
-ghost use Rattle.script_values.specs.Views.{view_given, view_slot};
-ghost use Rattle.script_values.specs.declared.machine.Machine.{Machine};
-ghost use Rattle.typing_rules.specs.Arguments.{argument};
+ghost use Rattle.script_values.specs.Views.{view_given};
 
 use eval_scope::format;
 use liq_base::{Memory, Text};
 use script_grammar::tree::{CompareOp, Literal};
 use script_values::{
-    Fault, Given, Machine, Slot, Value, added, argument, both, compared, copy_label, count, either,
-    multiplied, negative, opposite, truth_of,
+    Fault, Given, Machine, Value, added, both, compared, copy_label, count, either, multiplied,
+    negative, opposite, truth_of,
 };
 use std::alloc::Global;
 use std::mem;
@@ -202,16 +200,6 @@ pub fn counted_format(machine: &mut Machine, at: u32, size: Option<i64>) -> Resu
     count(machine, 1)?;
     let made = format(at, size)?;
     Ok(made)
-}
-
-/// The slot of a parameter without a default, by the first argument with its label.
-pub fn taken_slot(given: &mut Vec<Given>, at: u32, label: Option<&str>) -> Result<Slot, Fault>
-    ensures { (m : Machine) → Gives (λ v. ((view_slot v, map view_given given.new.items), m)) result (taken_slot at (argument (option_map (λ t. t.now) label.entry) (map view_given given.old.items)) m) }
-{
-    match argument(given, label) {
-        None => Err(Fault::Stuck),
-        Some(value) => Ok(Slot { at, value }),
-    }
 }
 
 fn counted_operation(

@@ -1,5 +1,6 @@
 -- A library of audio files, and the files that each leaf plays.
-use Rattle.std.specs.Prelude.{◌≡◌, ◌<◌, ◌^◌, ℕ, zero, suc, [], List, Option, None, length, slice_get, slice_index_or}
+use Rattle.std.specs.Prelude.{◌≡◌, ◌<◌, ◌^◌, ⊤, ℕ, zero, suc, [], List, Option, None, Some, Vec, length, map, slice_get, slice_index_or}
+use Rattle.std.specs.declared.alloc.Global.{Global}
 use Rattle.std.specs.List.{All}
 use Rattle.liq_base.specs.declared.memory.Kind.TheVariants.{Mono}
 use Rattle.frame_core.specs.Sounds.{Sound, IsSound}
@@ -18,6 +19,25 @@ pub record IsLibrary (library : Sounds) : Type 0 where
   pub sounds : All IsSound library.files
   pub named : length library.names ≡ length library.files
   pub many : length library.files < 2 ^ 32
+
+-- the lists of these numbers
+abbrev pub chosen_lists : (lists : List (List ℕ)) → (numbers : List ℕ) → List (List ℕ)
+chosen_lists lists numbers = map (λ number. slice_index_or lists number []) numbers
+
+-- the list of each node: the one of its number, or the one at its place
+abbrev pub leaves_of : Option (Vec ℕ Global) → (lists : List (List ℕ)) → List (List ℕ)
+leaves_of None lists = lists
+leaves_of (Some numbers) lists = chosen_lists lists numbers.items
+
+-- each number is that of a list
+abbrev pub AreThere : Option (Vec ℕ Global) → (lists : List (List ℕ)) → Type 0
+AreThere None lists = ⊤
+AreThere (Some numbers) lists = All (λ number. number < length lists) numbers.items
+
+-- a library as it is kept
+pub record IsKept (files : List Sound) (names : List (List ℕ)) (lists : List (List ℕ)) (numbers : Option (Vec ℕ Global)) : Type 0 where
+  pub library : IsLibrary (record { files = files; names = names; leaves = leaves_of numbers lists })
+  pub there : AreThere numbers lists
 
 abbrev pub no_sound : Sound
 no_sound = record { kind = Mono; samples = [] }

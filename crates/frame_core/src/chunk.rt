@@ -31,10 +31,10 @@ impl Chunk {
     pub fn from_frame(alloc: Global, frame: &Frame) -> Result<Option<Chunk>, Memory>
         ensures cells { IfOk result (λ chunk. chunk ≡ chunk_of frame.now) }
     {
-        let mut cells = Vec::new(alloc);
+        let mut cells = Vec::with_capacity(alloc, frame.len() as usize)?;
         for at in 0..frame.len() {
             if let Some(cell) = frame.slot(at) {
-                cells.push(cell)?;
+                cells.push_reserved(cell);
             }
         }
         if cells.is_empty() {
@@ -50,6 +50,13 @@ impl Chunk {
         ensures most { result ≤ MAX_FRAME }
     {
         self.cells.len() as u32
+    }
+
+    /// All of its cells.
+    pub fn cells(&self) -> &[Cell]
+        ensures { result.now ≡ self.now }
+    {
+        self.cells.as_slice()
     }
 
     /// The cell at a place, counted from 0.

@@ -1,6 +1,7 @@
 // The audio files of a plan, and the files that each leaf plays.
 ghost use Rattle.std.specs.Prelude.{◌≡◌, ◌<◌, ◌≤◌, ◌+◌, length, map};
-ghost use Rattle.frame_core.specs.Library.{IsLibrary, Sounds, sound_at, title_at, tracks_of};
+ghost use Rattle.std.specs.List.{All};
+ghost use Rattle.frame_core.specs.Library.{IsLibrary, Sounds, chosen_lists, sound_at, title_at, tracks_of};
 ghost use Rattle.frame_core.specs.Sounds.{cell_of, lefts_from, length_of, rights_from};
 
 use crate::{Cell, Track};
@@ -13,18 +14,20 @@ use std::marker::Model;
 pub struct Library {
     files: Vec<Track>,
     names: Vec<Text>,
-    leaves: Vec<Vec<u32>>,
+    // The lists that nodes play, and for each node the number of its own; no numbers: each node has the list at its place.
+    lists: Vec<Vec<u32>>,
+    numbers: Option<Vec<u32>>,
 }
 
 impl Model for Library {
     ghost use Rattle.std.specs.Prelude.{map};
-    ghost use Rattle.frame_core.specs.Library.{IsLibrary, Sounds};
+    ghost use Rattle.frame_core.specs.Library.{IsKept, Sounds, leaves_of};
 
     ghost Value = { Sounds };
 
-    ghost view = { λ l. record { files = l.files.items; names = l.names.items; leaves = map (λ v. v.items) l.leaves.items } };
+    ghost view = { λ l. record { files = l.files.items; names = l.names.items; leaves = leaves_of l.numbers (map (λ v. v.items) l.lists.items) } };
 
-    ghost invariant = { λ l. IsLibrary (record { files = l.files.items; names = l.names.items; leaves = map (λ v. v.items) l.leaves.items }) };
+    ghost invariant = { λ l. IsKept l.files.items l.names.items (map (λ v. v.items) l.lists.items) l.numbers };
 }
 
 impl Library {
@@ -36,7 +39,40 @@ impl Library {
         Library {
             files,
             names,
-            leaves,
+            lists: leaves,
+            numbers: None,
+        }
+    }
+
+    /// The library of these files, their names, and these lists, of which nodes may share one: for each node the number of
+    /// its list, counted from 0.
+    pub fn of_lists(
+        files: Vec<Track>,
+        names: Vec<Text>,
+        lists: Vec<Vec<u32>>,
+        numbers: Vec<u32>,
+    ) -> Library
+        requires library { IsLibrary (record { files = files.items; names = names.items; leaves = chosen_lists (map (λ v. v.items) lists.items) numbers.items }) }
+        requires there { All (λ number. number < length lists.items) numbers.items }
+        ensures { result ≡ record { files = files.items; names = names.items; leaves = chosen_lists (map (λ v. v.items) lists.items) numbers.items } }
+    {
+        Library {
+            files,
+            names,
+            lists,
+            numbers: Some(numbers),
+        }
+    }
+
+    // The files that a leaf plays.
+    fn list(&self, leaf: u32) -> &[u32]
+        requires { leaf < length self.now.leaves }
+        ensures list { result.now ≡ tracks_of self.now leaf }
+        ensures library { IsLibrary self.now }
+    {
+        match &self.numbers {
+            Some(numbers) => self.lists[numbers[leaf as usize] as usize].as_slice(),
+            None => self.lists[leaf as usize].as_slice(),
         }
     }
 
@@ -46,7 +82,7 @@ impl Library {
         ensures count { result ≡ length (tracks_of self.now leaf) }
         ensures library { IsLibrary self.now }
     {
-        self.leaves[leaf as usize].len() as u32
+        self.list(leaf).len() as u32
     }
 
     /// How many samples each channel has in a file, which is a leaf's file number `track`: at least 1.
@@ -56,7 +92,7 @@ impl Library {
         ensures samples { result ≡ length_of (sound_at self.now leaf track) }
         ensures some { 0 < result }
     {
-        let file = self.leaves[leaf as usize][track as usize];
+        let file = self.list(leaf)[track as usize];
         self.files[file as usize].samples()
     }
 
@@ -77,7 +113,7 @@ impl Library {
         ensures left { left.new ≡ lefts_from (sound_at self.now leaf track) kind at (length left.old) }
         ensures right { right.new ≡ rights_from (sound_at self.now leaf track) kind at (length left.old) }
     {
-        let file = self.leaves[leaf as usize][track as usize];
+        let file = self.list(leaf)[track as usize];
         self.files[file as usize].read(at, kind, left, right);
     }
 
@@ -89,7 +125,7 @@ impl Library {
         requires at { at < length_of (sound_at self.now leaf track) }
         ensures { result ≡ cell_of (sound_at self.now leaf track) (title_at self.now leaf track) kind at }
     {
-        let file = self.leaves[leaf as usize][track as usize];
+        let file = self.list(leaf)[track as usize];
         self.files[file as usize].cell(file + 1, at, kind)
     }
 

@@ -6,8 +6,8 @@ pub mod Fed
 pub mod Longer
 pub mod LeastRuns
 pub mod Stretching
-pub mod Copying
 pub mod PlainStretch
+mod MixedStretch
 mod Rows
 pub mod Running
 mod Passing

@@ -314,16 +314,3 @@ in_time s slots p is stands b e long = by b refl
 
 pub none_ready_at : (s : Crossing) → s.ready ≡ 0 → ready_cells s ≡ []
 none_ready_at s none = none_ready s.ready s.whole s.cells s.next none
-
-pub settled_where : (s : Crossing) (slots : List Slot) (p : ℕ) → IsCrossing s → StandsFor s slots p → wants s ≡ false → p < length (cross s.overlap slots)
-settled_where s slots p is stands unwanted = by (nat_lt p (length (cross s.overlap slots))) refl
-  where
-    by : (t : Bool) → nat_lt p (length (cross s.overlap slots)) ≡ t → p < length (cross s.overlap slots)
-    by true e = grind (arith, nat_tests)
-    by false e =
-        let few : length (cross s.overlap slots) ≤ p = test_le p (length (cross s.overlap slots)) e in
-        let yes : wants s ≡ true = (wants_is s slots p is stands (wants s) refl).1 few in
-        absurd (let same : true ≡ false = sym yes ∙ unwanted in cc)
-      where
-        test_le : (a b : ℕ) → nat_lt a b ≡ false → b ≤ a
-        test_le a b e = grind (arith, nat_tests)

@@ -1,8 +1,9 @@
 -- What a crossfade's state holds, and for which slots and which item it stands.
-use Rattle.std.specs.Prelude.{◌≡◌, ◌<◌, ◌≤◌, ◌+◌, ◌-◌, ◌*◌, Bool, true, false, not, ◌&&◌, Some, None, List, [], ◌∷◌, ◌++◌, ℕ, zero, suc, length, take, drop, map, nat_eq, nat_lt, if◌then◌else◌}
+use Rattle.std.specs.Prelude.{◌≡◌, ◌<◌, ◌≤◌, ◌+◌, ◌-◌, ◌*◌, Bool, true, false, not, ◌&&◌, Some, None, List, [], ◌∷◌, ◌++◌, ℕ, ℤ, zero, suc, length, take, drop, map, nat_eq, nat_lt, if◌then◌else◌}
 use Rattle.liq_base.specs.declared.limits.TheConstants.{MAX_OVERLAP}
 use Rattle.frame_core.specs.declared.cell.Cell.{Cell}
 use Rattle.frame_core.specs.Slots.{Slot}
+use Rattle.sample_kernels.specs.Mixing.{mixed}
 use Rattle.op_cross.specs.Crossfade.{mixed_cells, cross}
 
 pub record Crossing : Type 0 where
@@ -58,6 +59,14 @@ gap_of gap = if gap then None ∷ [] else []
 -- the items that are ready
 abbrev pub ready_items : Crossing → List Slot
 ready_items state = ready_cells state ++ gap_of state.gap
+
+-- the state when so many mixed items have gone
+abbrev pub mixed_on : ℕ → Crossing → Crossing
+mixed_on n state = record state { cells = drop n state.cells; next = drop n state.next; ready = state.ready - n }
+
+-- the samples of one side of so many mixed items
+abbrev pub mixed_side : (Cell → ℤ) → ℕ → Crossing → List ℤ
+mixed_side side n state = mixed (map side (take n state.cells)) (map side (take n state.next)) (state.whole - length state.next) state.whole
 
 -- what is not settled yet, with these slots behind it
 abbrev pub unsettled : Crossing → List Slot → List Slot

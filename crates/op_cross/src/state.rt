@@ -3,19 +3,22 @@ ghost use Rattle.std.specs.Prelude.{◌≡◌, ◌+◌, ◌-◌, ◌*◌, ◌<�
 ghost use Rattle.frame_core.specs.Slots.{Slot, slot_at, title_of};
 ghost use Rattle.op_cross.specs.Crossfade.{mixed_cell, cross};
 ghost use Rattle.cell_ring.specs.Rings.{goes_on, has_title, inner_cells};
-ghost use Rattle.op_cross.specs.States.{AllInner, Crossing, IsCrossing, StandsFor, passes, wants, left, position_after, ready_stretch, track_room};
+ghost use Rattle.op_cross.specs.States.{AllInner, Crossing, IsCrossing, StandsFor, mixed_on, mixed_side, passes, wants, left, position_after, ready_stretch, track_room};
 ghost use Rattle.op_cross.specs.Stretches.{is_inner, left_of, right_of, titled_stretch};
 
 use cell_ring::CellRing;
 use frame_core::{Cell, title_of};
 use liq_base::limits::MAX_OVERLAP;
 use liq_base::{Kind, Memory};
-use sample_kernels::mixed_sample;
+use sample_kernels::{mix, mixed_sample};
 use std::alloc::Global;
 use std::marker::Model;
 
 /// The most cells that are passed on at once.
 pub const MAX_RUN: u32 = 1024;
+
+// How many items are mixed at once.
+const BLOCK: usize = 256;
 
 /// A crossfade, one slot at a time. It keeps what is not settled, and the items that are ready: `docs/streams.md`,
 /// "Crossfade". Items are counted from 0, and the state stands at one of them, its item.
@@ -223,7 +226,7 @@ impl CrossState {
         if self.next.len() < self.ready {
             self.copy_plain(left, right);
         } else {
-            self.copy_each(left, right);
+            self.copy_mixed(left, right);
         }
     }
 
@@ -241,22 +244,54 @@ impl CrossState {
         self.ready -= left.len() as u32;
     }
 
-    // The same, item by item.
-    fn copy_each(&mut self, left: &mut [i16], right: &mut [i16])
+    // The same of items that are mixed.
+    fn copy_mixed(&mut self, left: &mut [i16], right: &mut [i16])
         requires same { length right.old ≡ length left.old }
-        requires ready { length left.old ≤ ready_stretch self.old }
+        requires mixed { self.old.ready ≤ length self.old.next }
+        requires ready { length left.old ≤ self.old.ready }
         ensures overlap { self.new.overlap ≡ self.old.overlap }
         ensures stands { (slots : List Slot) (p : ℕ) → StandsFor self.old slots p → StandsFor self.new slots (p + length left.old) }
         ensures left { (slots : List Slot) (p : ℕ) → StandsFor self.old slots p → left.new ≡ map left_of (take (length left.old) (drop p (cross self.old.overlap slots))) }
         ensures right { (slots : List Slot) (p : ℕ) → StandsFor self.old slots p → right.new ≡ map right_of (take (length left.old) (drop p (cross self.old.overlap slots))) }
     {
-        for at in 0..left.len() {
-            self.is_settled();
-            let item = self.offer();
-            left[at] = left_of(item);
-            right[at] = right_of(item);
-            self.advance(true);
+        let _ = &self.ready;
+        let mut done = 0;
+        while done < left.len() {
+            let end = done + (left.len() - done).min(BLOCK);
+            self.mix_block(&mut left[done..end], &mut right[done..end]);
+            done = end;
         }
+    }
+
+    // Gives as many items as the slices are long, which are mixed, and goes on behind them.
+    fn mix_block(&mut self, left: &mut [i16], right: &mut [i16])
+        requires same { length right.old ≡ length left.old }
+        requires few { (0 < length left.old) × (length left.old ≤ 256) }
+        requires mixed { self.old.ready ≤ length self.old.next }
+        requires ready { length left.old ≤ self.old.ready }
+        ensures goes { self.new ≡ mixed_on (length left.old) self.old }
+        ensures left { left.new ≡ mixed_side (λ cell. cell.left) (length left.old) self.old }
+        ensures right { right.new ≡ mixed_side (λ cell. cell.right) (length left.old) self.old }
+    {
+        let count = left.len();
+        let at = self.whole - self.next.len();
+        let mut from_left = [0; BLOCK];
+        let mut from_right = [0; BLOCK];
+        self.cells
+            .take_into(&mut from_left[..count], &mut from_right[..count]);
+        let mut to_left = [0; BLOCK];
+        let mut to_right = [0; BLOCK];
+        self.next
+            .take_into(&mut to_left[..count], &mut to_right[..count]);
+        mix(&from_left[..count], &to_left[..count], at, self.whole, left);
+        mix(
+            &from_right[..count],
+            &to_right[..count],
+            at,
+            self.whole,
+            right,
+        );
+        self.ready -= count as u32;
     }
 
     /// A number of items, from its item on and at most so many, that are cells of this title which begin no track: those that are
@@ -301,14 +336,6 @@ impl CrossState {
         }
     }
 
-    // What wants no slot has its item settled.
-    fn is_settled(&self)
-        requires { wants self.now ≡ false }
-        ensures { (slots : List Slot) (p : ℕ) → StandsFor self.now slots p → p < length (cross self.now.overlap slots) }
-    {
-        let _ = &self.ready;
-    }
-
     /// Goes on to the next item, where this one was given or is empty.
     pub fn advance(&mut self, gave: bool)
         requires { wants self.old ≡ false }
@@ -348,24 +375,6 @@ fn goes_on(title: u32, slot: Option<Cell>) -> bool
     match slot {
         Some(cell) => !cell.first && cell.title == title,
         None => false,
-    }
-}
-
-fn left_of(item: Option<Cell>) -> i16
-    ensures { result ≡ left_of item }
-{
-    match item {
-        Some(cell) => cell.left,
-        None => 0,
-    }
-}
-
-fn right_of(item: Option<Cell>) -> i16
-    ensures { result ≡ right_of item }
-{
-    match item {
-        Some(cell) => cell.right,
-        None => 0,
     }
 }
 

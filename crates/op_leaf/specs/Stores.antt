@@ -4,14 +4,14 @@ use Rattle.frame_core.specs.declared.cell.Cell.{Cell}
 use Rattle.cell_ring.specs.Rings.{Ring}
 use Rattle.op_leaf.specs.Readers.{flag_front}
 
--- the cells of the ring, of which the first begins a track where the reader has just begun
+-- the cells of the queue, of which the first begins a track where the reader has just begun
 abbrev pub shown : Bool → List Cell → List Cell
 shown true cells = flag_front cells
 shown false cells = cells
 
--- the ring has room for a chunk of any length wherever the reader wants one; a reader that has just begun plays and holds a cell
-pub record IsStore (ring : Ring) (prefill frame : ℕ) (playing fresh : Bool) : Type 0 where
-  pub fits : max prefill frame + 65535 ≤ ring.room
+-- the queue has room for a tick's chunk wherever the reader wants one; a reader that has just begun plays and holds a cell
+pub record IsStore (queue : Ring) (prefill frame : ℕ) (playing fresh : Bool) : Type 0 where
+  pub fits : max prefill frame + frame ≤ queue.room + 1
   pub some : 0 < prefill
   pub plays : fresh ≡ true → playing ≡ true
-  pub holds : fresh ≡ true → 0 < length ring.cells
+  pub holds : fresh ≡ true → 0 < length queue.cells

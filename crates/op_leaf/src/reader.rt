@@ -1,15 +1,13 @@
 // The reader of a buffer.
 ghost use Rattle.std.specs.Prelude.{◌≡◌, ◌<◌, ◌≤◌, ◌+◌, ◌++◌, [], ℕ, true, false, length, max, IfOk, IsSome};
-ghost use Rattle.cell_ring.specs.Rings.{Ring};
 ghost use Rattle.frame_core.specs.Slots.{title_of};
 ghost use Rattle.op_leaf.specs.Inner.{is_inner, lefts_of, rights_of, titled_stretch};
 ghost use Rattle.op_leaf.specs.Lanes.{IsLane, IsOneTrack};
 ghost use Rattle.op_leaf.specs.Readers.{after_cell, begun, missing, read_by, Reader, reader_slot, wants};
 
-use cell_ring::CellRing;
+use cell_ring::ChunkQueue;
 use frame_core::{Cell, Chunk, title_of};
 use liq_base::Memory;
-use liq_base::limits::MAX_FRAME;
 use std::alloc::Global;
 use std::marker::Model;
 
@@ -17,7 +15,7 @@ use std::marker::Model;
 /// `docs/streams.md` has the rules.
 #[derive(Drop)]
 pub struct ReaderState {
-    ring: CellRing,
+    queue: ChunkQueue,
     prefill: u32,
     frame: u32,
     playing: bool,
@@ -31,22 +29,23 @@ impl Model for ReaderState {
 
     ghost Value = { Reader };
 
-    ghost view = { λ r. record { cells = shown r.fresh r.ring.cells; playing = r.playing; prefill = r.prefill; frame = r.frame } };
+    ghost view = { λ r. record { cells = shown r.fresh r.queue.cells; playing = r.playing; prefill = r.prefill; frame = r.frame } };
 
-    ghost invariant = { λ r. IsStore r.ring r.prefill r.frame r.playing r.fresh };
+    ghost invariant = { λ r. IsStore r.queue r.prefill r.frame r.playing r.fresh };
 }
 
 impl ReaderState {
-    /// A reader that holds nothing and does not play, with room for what it may hold. It plays once it holds `pre`
-    /// samples, and at least one; `frame` is the samples of a tick.
+    /// A reader that holds nothing and does not play, with room for what it may hold of chunks of a tick. It plays once it
+    /// holds `pre` samples, and at least one; `frame` is the samples of a tick.
     pub fn new(alloc: Global, pre: u64, frame: u32) -> Result<ReaderState, Memory>
         ensures { IfOk result (λ reader. reader ≡ record { cells = []; playing = false; prefill = max 1 pre; frame = frame }) }
     {
         let prefill = u32::try_from(pre.max(1)).map_err(|_| Memory)?;
-        let room = prefill.max(frame).checked_add(MAX_FRAME - 1).ok_or(Memory)?;
-        let ring = CellRing::new(alloc, room)?;
+        let most = prefill.max(frame);
+        let room = most.checked_add(frame.saturating_sub(1)).ok_or(Memory)?;
+        let queue = ChunkQueue::new(alloc, room)?;
         Ok(ReaderState {
-            ring,
+            queue,
             prefill,
             frame,
             playing: false,
@@ -64,26 +63,26 @@ impl ReaderState {
         } else {
             self.prefill
         };
-        self.ring.len() < wanted
+        self.queue.len() < u64::from(wanted)
     }
 
-    /// Holds the cells of a chunk too. It takes no memory.
+    /// Holds the cells of a chunk too. It takes no memory: a chunk that is longer than a tick may be kept as it came.
     pub fn accept(&mut self, chunk: Chunk)
         requires { wants self.old ≡ true }
         ensures accepted { self.new ≡ record self.old { cells = self.old.cells ++ chunk } }
         ensures less { missing self.new < missing self.old }
     {
-        push_all(&mut self.ring, &chunk);
+        self.queue.push(chunk);
     }
 
     /// After the takes of a tick: begins to play where it holds enough, and stops where it holds nothing.
     pub fn begin(&mut self)
         ensures { self.new ≡ begun self.old }
     {
-        let held = self.ring.len();
+        let held = self.queue.len();
         if self.playing {
             self.playing = held > 0;
-        } else if held >= self.prefill {
+        } else if held >= u64::from(self.prefill) {
             self.playing = true;
             self.fresh = true;
         }
@@ -96,7 +95,7 @@ impl ReaderState {
         if !self.playing {
             return None;
         }
-        let cell = self.ring.front()?;
+        let cell = self.queue.front()?;
         let first = cell.first || self.fresh;
         Some(Cell { first, ..cell })
     }
@@ -109,7 +108,7 @@ impl ReaderState {
         ensures some { 0 < result }
         ensures ahead { IsSome (reader_slot self.now) → IsOneTrack (λ j. reader_slot (read_by j self.now)) result }
     {
-        1 + self.ring.inner(title_of(self.ring.front()), 1, most - 1)
+        1 + self.queue.inner(title_of(self.queue.front()), 1, most - 1)
     }
 
     /// A number of cells, from the offered one on and at most so many, that have this title and begin no track.
@@ -121,7 +120,7 @@ impl ReaderState {
         if !self.playing || self.fresh {
             return 0;
         }
-        self.ring.inner(title, 0, most)
+        self.queue.inner(title, 0, most)
     }
 
     /// Gives as many cells as the slices are long, which are of one track, and goes on behind them.
@@ -134,7 +133,7 @@ impl ReaderState {
         ensures right { right.new ≡ rights_of (λ j. reader_slot (read_by j self.old)) 0 (length left.old) }
         ensures lane { is_inner (reader_slot self.old) ≡ true → IsLane (λ j. reader_slot (read_by j self.old)) (length left.old) left.new right.new }
     {
-        self.ring.take_into(left, right);
+        self.queue.take_into(left, right);
         self.fresh = false;
     }
 
@@ -143,18 +142,8 @@ impl ReaderState {
         ensures { self.new ≡ after_cell self.old }
     {
         if self.playing {
-            self.ring.pop();
+            self.queue.pop();
             self.fresh = false;
         }
-    }
-}
-
-// Appends the cells of a chunk.
-fn push_all(ring: &mut CellRing, chunk: &Chunk)
-    requires { length ring.old.cells + length chunk.now ≤ ring.old.room }
-    ensures { ring.new ≡ record { cells = ring.old.cells ++ chunk.now; room = ring.old.room } }
-{
-    for at in 0..chunk.len() {
-        ring.push(chunk.cell(at));
     }
 }

@@ -10,7 +10,7 @@ ghost use Rattle.station_check.specs.Halts.{HaltsFor, RestHalts};
 
 use crate::Halt;
 use crate::clocks::find_clocks;
-use crate::files::load_files;
+use crate::files::read_files;
 use crate::gaps::check_gaps;
 use crate::lengths::check_lengths;
 use clock_infer::ClockMap;
@@ -21,7 +21,7 @@ use std::alloc::Global;
 
 /// The audio files and the clocks of a plan that is to be rendered for so many ticks, at most 1000000000; or the first
 /// fault that stands against it, in the order of `docs/faults.md`. A check alone is that for no tick. Each file is read
-/// once, and files are as they were.
+/// once, and files are as they were. No memory is taken for samples before all faults have been looked for.
 pub fn check_plan<S: Shelf>(
     alloc: Global,
     plan: &Plan,
@@ -41,8 +41,9 @@ pub fn check_plan<S: Shelf>(
     ensures reads { S.read_count shelf.old ≤ S.read_count shelf.new }
     ensures writes { S.write_count shelf.old ≤ S.write_count shelf.new }
 {
-    let library = load_files(alloc, plan, shelf)?;
+    let files = read_files(alloc, plan, shelf)?;
     let clocks = check_rest(alloc, plan, ticks)?;
+    let library = files.decode(alloc)?;
     Ok(Ready { library, clocks })
 }
 

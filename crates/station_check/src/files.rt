@@ -8,16 +8,15 @@ ghost use Rattle.station_check.specs.Halts.{HaltsFor, load_halt};
 ghost use Rattle.track_library.specs.Singles.{HaveSingles};
 
 use crate::Halt;
-use frame_core::Library;
 use liq_base::Shelf;
 use liq_base::limits::{MAX_ALL_BYTES, MAX_FILE_BYTES};
 use plan_core::Plan;
 use stations::StationFault;
 use std::alloc::Global;
-use track_library::{LoadFault, Sizes, load};
+use track_library::{LoadFault, PlanFiles, Sizes, find_files};
 
-/// The audio files of a plan, each read once; or the first fault of their loading.
-pub fn load_files<S: Shelf>(alloc: Global, plan: &Plan, shelf: &mut S) -> Result<Library, Halt>
+/// The audio files of a plan, each read once and none decoded; or the first fault of their loading.
+pub fn read_files<S: Shelf>(alloc: Global, plan: &Plan, shelf: &mut S) -> Result<PlanFiles, Halt>
     requires { IsWellFormed plan.now }
     ensures loaded { IfOk result (λ library. ForSome (S.files shelf.old) (λ files. IsLoaded files plan.now library)) }
     ensures library { IfOk result (λ library. IsLibrary library) }
@@ -34,8 +33,8 @@ pub fn load_files<S: Shelf>(alloc: Global, plan: &Plan, shelf: &mut S) -> Result
         file: MAX_FILE_BYTES,
         all: MAX_ALL_BYTES,
     };
-    match load(alloc, plan, shelf, sizes) {
-        Ok(library) => Ok(library),
+    match find_files(alloc, plan, shelf, sizes) {
+        Ok(files) => Ok(files),
         Err(fault) => Err(halt_of(fault)),
     }
 }

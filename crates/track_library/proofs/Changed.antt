@@ -1,6 +1,6 @@
 -- Audio files at the rate of the script, and what they count for.
 use Rattle.std.proofs.Common.{Bool, true, false, ◌≡◌, ◌≤◌, ◌<◌, ℕ, ℤ, ◌+◌, ◌*◌, List, length, refl, sym, ap, ◌∙◌, arith}
-use Rattle.std.specs.Prelude.{Result, Ok}
+use Rattle.std.specs.Prelude.{Result, Ok, Err}
 use Rattle.liq_base.specs.Kinds.{channels_of}
 use Rattle.liq_base.specs.declared.memory.Kind.{Kind}
 use Rattle.liq_base.specs.declared.memory.Kind.TheVariants.{Mono, Stereo}
@@ -9,8 +9,9 @@ use Rattle.wav_io.specs.Reading.{AreBlocks, Wav, read_of}
 use Rattle.wav_io.proofs.Heads.{is_file}
 use Rattle.resample.specs.Resampled.{IsFile, blocks_of, length_at, resampled}
 use Rattle.resample.proofs.Laws.{resampled_length, resampled_some, resampled_whole, same_rate}
-use Rattle.track_library.specs.Walk.{Audio, counted_bytes, samples_at, sound_of}
-use Rattle.track_library.specs.declared.fault.Unusable.{Unusable}
+use Rattle.wav_io.specs.declared.fault.WavFault.{WavFault}
+use Rattle.track_library.specs.Files.{IsReadable, sound_in}
+use Rattle.track_library.specs.Walk.{counted_bytes, samples_at, sound_of}
 use Rattle.track_library.proofs.Sound.{blocks_sound, samples_long, two_each, wide_long}
 
 -- a file that may be changed to another rate
@@ -36,6 +37,11 @@ file_of true Stereo bytes blocks few =
 pub changed_sound : (from to : ℕ) (kind : Kind) (samples : List ℤ) → IsSound (record { kind = kind; samples = resampled from to kind samples })
 changed_sound from to kind samples = record { whole_blocks = resampled_whole from to kind samples; some = resampled_some from to kind samples }
 
+-- so is a WAV file
+pub readable_sound : (rate : ℕ) (wav : Result Wav WavFault) → IsReadable wav → IsSound (sound_in rate wav)
+readable_sound rate (Err fault) h = absurd h
+readable_sound rate (Ok wav) h = changed_sound wav.rate rate wav.kind (samples_at wav.wide wav.body)
+
 twice : (kind : Kind) (n : ℕ) → 2 * channels_of kind * n ≡ 2 * (n * channels_of kind)
 twice Mono n = omega arith
 twice Stereo n = omega arith
@@ -53,18 +59,14 @@ written_is kind samples from to block count is_block is_count =
 abbrev sound_with : Kind → List ℤ → Sound
 sound_with kind samples = record { kind = kind; samples = samples }
 
-abbrev audio_with : Sound → ℕ → Result Audio Unusable
-audio_with sound bytes = Ok (sound, bytes)
-
 own_samples : (from to : ℕ) (kind : Kind) (samples : List ℤ) → from ≡ to → 0 < to → IsFile kind samples → resampled from to kind samples ≡ samples
 own_samples from to kind samples same some file = ap (λ n. resampled n to kind samples) same ∙ same_rate to kind samples some file
 
-pub own_audio : (own rate : ℕ) (kind : Kind) (samples : List ℤ) (bytes : ℕ) (track : Sound) → own ≡ rate → 8000 ≤ rate → IsFile kind samples
-    → track ≡ sound_with kind samples → audio_with (sound_with kind (resampled own rate kind samples)) bytes ≡ audio_with track bytes
-own_audio own rate kind samples bytes track same least file is =
+pub own_track : (own rate : ℕ) (kind : Kind) (samples : List ℤ) (track : Sound) → own ≡ rate → 8000 ≤ rate → IsFile kind samples
+    → track ≡ sound_with kind samples → track ≡ sound_with kind (resampled own rate kind samples)
+own_track own rate kind samples track same least file is =
     let some : 0 < rate = omega arith in
-    ap (λ (s : List ℤ). audio_with (sound_with kind s) bytes) (own_samples own rate kind samples same some file)
-    ∙ ap (λ (s : Sound). audio_with s bytes) (sym is)
+    is ∙ ap (λ (s : List ℤ). sound_with kind s) (sym (own_samples own rate kind samples same some file))
 
 pub own_sound : (bytes : List ℕ) (wav : Wav) → length bytes ≤ 268435456 → read_of bytes ≡ Ok wav → sound_of wav.rate wav ≡ sound_with wav.kind (samples_at wav.wide wav.body)
 own_sound bytes wav few read =

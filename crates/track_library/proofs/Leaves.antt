@@ -11,7 +11,7 @@ pub record LeavesSoFar (heard : Heard) (leaves : List (List ℕ)) : Type 0 where
   pub below : All (All (λ number. number < length heard.sounds)) leaves
   pub few : All (λ leaf. length leaf < 2 ^ 32) leaves
 
-all_more : (a b : ℕ) (leaf : List ℕ) → a ≤ b → All (λ number. number < a) leaf → All (λ number. number < b) leaf
+pub all_more : (a b : ℕ) (leaf : List ℕ) → a ≤ b → All (λ number. number < a) leaf → All (λ number. number < b) leaf
 all_more a b leaf le h k d within = let below : slice_index_or leaf k d < a = h k d within in omega arith
 
 pub one_leaf_more : (old new : Heard) (leaves : List (List ℕ)) (leaf : List ℕ) → LeavesSoFar old leaves → Plays old new leaf → LeavesSoFar new (leaves ++ leaf ∷ [])

@@ -8,3 +8,5 @@ pub mod Steps
 pub mod Leaves
 pub mod OneFile
 pub mod Changed
+pub mod Taken
+pub mod Chosen

@@ -10,12 +10,12 @@ use Rattle.track_library.specs.Singles.{HasOne}
 abbrev pub SinglesSoFar : (k : ℕ) → List Node → (leaves : List (List ℕ)) → Type 0
 SinglesSoFar k nodes leaves = (i : ℕ) (node : Node) (file : List ℕ) → i < k → slice_get nodes i ≡ Some node → node.op ≡ Single file → length (slice_index_or leaves i []) ≡ 1
 
-at_front : {A : Type 0} (xs : List A) (x d : A) (i : ℕ) → i < length xs → slice_index_or (xs ++ x ∷ []) i d ≡ slice_index_or xs i d
+pub at_front : {A : Type 0} (xs : List A) (x d : A) (i : ℕ) → i < length xs → slice_index_or (xs ++ x ∷ []) i d ≡ slice_index_or xs i d
 at_front [] x d i low = absurd (omega (arith, low))
 at_front (y ∷ xs) x d zero low = refl
 at_front (y ∷ xs) x d (suc i) low = at_front xs x d i (omega (arith, low))
 
-at_end : {A : Type 0} (xs : List A) (x d : A) → slice_index_or (xs ++ x ∷ []) (length xs) d ≡ x
+pub at_end : {A : Type 0} (xs : List A) (x d : A) → slice_index_or (xs ++ x ∷ []) (length xs) d ≡ x
 at_end [] x d = refl
 at_end (y ∷ xs) x d = at_end xs x d
 

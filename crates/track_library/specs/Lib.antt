@@ -3,3 +3,4 @@ pub mod Walk
 pub mod Reads
 pub mod States
 pub mod Singles
+pub mod Files

@@ -3,8 +3,8 @@ use Rattle.std.specs.Prelude.{◌≡◌, ◌≤◌, ◌<◌, ◌^◌, ℕ, [], �
 use Rattle.std.specs.List.{All}
 use Rattle.std.specs.declared.alloc.Global.{Global}
 use Rattle.frame_core.specs.Sounds.{IsSound}
-use Rattle.resample.specs.Resampled.{IsFile, resampled}
-use Rattle.track_library.specs.Walk.{Audio, Heard, Walked}
+use Rattle.resample.specs.Resampled.{IsFile}
+use Rattle.track_library.specs.Walk.{Heard, Walked}
 use Rattle.track_library.specs.declared.rules.Rules.{Rules}
 use Rattle.track_library.specs.declared.recording.Recording.{Recording}
 use Rattle.track_library.specs.declared.walk.Walk.{Walk}
@@ -23,11 +23,6 @@ pub record IsRecording (recording : Recording) : Type 0 where
   pub rate : 0 < recording.rate
   pub file : IsFile recording.kind recording.samples.items
 
--- what was read, at the rate of the script
-abbrev pub at_rate : ℕ → Result Recording Unusable → Result Audio Unusable
-at_rate rate (Err fault) = Err fault
-at_rate rate (Ok recording) = Ok (record { kind = recording.kind; samples = resampled recording.rate rate recording.kind recording.samples.items }, recording.bytes)
-
 -- values under names, in the order of a map
 abbrev pub named : {V : Type 0} → List (String Global × V) → List (List ℕ × V)
 named entries = map (λ e. (string_bytes e.0, e.1)) entries
@@ -37,7 +32,7 @@ abbrev pub listed : List (String Global × Vec (List ℕ) Global) → List (List
 listed entries = map (λ e. (string_bytes e.0, e.1.items)) entries
 
 abbrev pub heard_of : AudioFiles → Heard
-heard_of audio = record { names = named audio.names.entries; sounds = audio.tracks.items; titles = audio.titles.items; bytes = audio.bytes }
+heard_of audio = record { names = named audio.names.entries; sounds = audio.files.items; titles = audio.titles.items; bytes = audio.bytes }
 
 abbrev pub lists_of : ReadLists → List (List ℕ × List (List ℕ))
 lists_of read = listed read.lists.entries

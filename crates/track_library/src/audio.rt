@@ -9,7 +9,7 @@ ghost use Rattle.track_library.specs.States.{heard_of, AreRules, Finds, IsHeard}
 use crate::fault::{LoadFault, Unusable};
 use crate::reading::read_audio;
 use crate::rules::Rules;
-use frame_core::Track;
+use crate::undecoded::Undecoded;
 use indexmap::IndexMap;
 use liq_base::{Memory, Shelf, Text};
 use std::alloc::Global;
@@ -17,16 +17,16 @@ use std::alloc::Global;
 /// The audio files that were met: what each name is, and the sounds of those that are used.
 #[derive(Drop)]
 pub struct AudioFiles {
-    /// Each name's number among the sounds, or why its file cannot be used.
+    /// Each name's number among the files, or why its file cannot be used.
     pub names: IndexMap<String, Result<u32, Unusable>>,
 
-    /// The sounds, in the order in which they were met.
-    pub tracks: Vec<Track>,
+    /// The files that are used, in the order in which they were met. None is decoded.
+    pub files: Vec<Undecoded>,
 
-    /// The names of their files.
+    /// Their names.
     pub titles: Vec<Text>,
 
-    /// How many bytes the files of all sounds count for.
+    /// How many bytes they count for.
     pub bytes: u64,
 }
 
@@ -53,14 +53,14 @@ impl AudioFiles {
     }
 
     /// Keeps a sound and the name of its file, and answers its number.
-    fn keep(&mut self, alloc: Global, name: &str, track: Track) -> Result<u32, Memory>
+    fn keep(&mut self, alloc: Global, name: &str, file: Undecoded) -> Result<u32, Memory>
         ensures number { IfOk result (λ number. number ≡ length (heard_of self.old).sounds) }
         ensures few { IfOk result (λ number. number + 1 < 2 ^ 32) }
-        ensures kept { OnOk result (heard_of self.new ≡ record (heard_of self.old) { sounds = (heard_of self.old).sounds ++ track ∷ []; titles = (heard_of self.old).titles ++ name.now ∷ [] }) }
+        ensures kept { OnOk result (heard_of self.new ≡ record (heard_of self.old) { sounds = (heard_of self.old).sounds ++ file ∷ []; titles = (heard_of self.old).titles ++ name.now ∷ [] }) }
     {
-        let number = new_number(self.tracks.len())?;
+        let number = new_number(self.files.len())?;
         self.titles.push(Text::from_str(alloc, name)?)?;
-        self.tracks.push(track)?;
+        self.files.push(file)?;
         Ok(number)
     }
 
@@ -69,7 +69,7 @@ impl AudioFiles {
         &mut self,
         alloc: Global,
         name: &str,
-        found: Result<(Track, u64), Unusable>,
+        found: Result<(Undecoded, u64), Unusable>,
         all: u64,
     ) -> Result<Result<u32, Unusable>, LoadFault>
         requires heard { IsHeard (heard_of self.old) }
@@ -79,7 +79,7 @@ impl AudioFiles {
         ensures finds { IfOk result (λ number. Finds (heard_of self.old) (heard_of self.new) number) }
         ensures fault { IfErr result (EndsAt (first_use all (heard_of self.old) name.now found)) }
     {
-        let (track, size) = match found {
+        let (file, size) = match found {
             Ok(audio) => audio,
             Err(fault) => {
                 self.note(alloc, name, Err(fault))?;
@@ -90,7 +90,7 @@ impl AudioFiles {
             Some(bytes) if bytes <= all => bytes,
             _ => return Err(LoadFault::AllTooLarge),
         };
-        let number = self.keep(alloc, name, track)?;
+        let number = self.keep(alloc, name, file)?;
         self.bytes = bytes;
         self.note(alloc, name, Ok(number))?;
         Ok(Ok(number))
@@ -122,8 +122,8 @@ impl AudioFiles {
     }
 }
 
-/// The number of a sound behind so many, if one more still has one.
-fn new_number(count: usize) -> Result<u32, Memory>
+/// The number of a sound or a list behind so many, if one more still has one.
+pub fn new_number(count: usize) -> Result<u32, Memory>
     ensures number { IfOk result (λ number. number ≡ count) }
     ensures few { IfOk result (λ number. number + 1 < 2 ^ 32) }
 {

@@ -4,17 +4,21 @@
 mod audio;
 mod fault;
 mod laws;
+mod leaf_lists;
 mod list;
+mod plan_files;
 mod read_lists;
 mod reading;
 mod recording;
 mod rules;
 mod samples;
+mod undecoded;
 mod walk;
 
 pub use fault::LoadFault;
 pub use laws::own_rate_changes_nothing;
 pub use list::read_list;
+pub use plan_files::PlanFiles;
 pub use rules::Sizes;
 pub use samples::read_samples;
-pub use walk::load;
+pub use walk::{find_files, load};

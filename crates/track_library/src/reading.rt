@@ -1,18 +1,17 @@
 // Audio files that are read from a shelf.
-ghost use Rattle.std.specs.Prelude.{◌≡◌, ◌≤◌, ◌<◌, ◌+◌, ◌*◌, length, IfOk, IfErr};
+ghost use Rattle.std.specs.Prelude.{◌≡◌, ◌≤◌, ◌+◌, ◌*◌, length, Ok, Err, IfOk, IfErr, MatchResult};
 ghost use Rattle.std.specs.Option.{ForSome};
 ghost use Rattle.liq_base.specs.Files.{file_at};
 ghost use Rattle.frame_core.specs.Sounds.{IsSound};
 ghost use Rattle.wav_io.specs.Reading.{AreBlocks, read_of};
 ghost use Rattle.resample.specs.Resampled.{AreRates, blocks_of, resampled};
 ghost use Rattle.track_library.specs.Walk.{audio_at, audio_in, bytes_in, items_of, samples_at, IsReading};
-ghost use Rattle.track_library.specs.States.{AreRules, IsRecording, at_rate};
+ghost use Rattle.track_library.specs.Files.{IsReadable, sound_in};
+ghost use Rattle.track_library.specs.States.{AreRules};
 
 use crate::fault::{LoadFault, Unusable};
-use crate::recording::{Recording, track_at};
 use crate::rules::Rules;
-use crate::samples::read_blocks;
-use frame_core::Track;
+use crate::undecoded::Undecoded;
 use liq_base::{Fetched, Kind, Memory, Shelf, ShelfFault, Text};
 use std::alloc::Global;
 use wav_io::read_wav;
@@ -45,30 +44,38 @@ pub fn fetch<S: Shelf>(
     }
 }
 
-/// What the bytes of an audio file hold, if the file counts for no more bytes than one may. Whether it does is known
-/// before memory is taken for its samples.
-fn decode(alloc: Global, bytes: &[u8], rules: Rules) -> Result<Result<Recording, Unusable>, Memory>
+/// How many bytes an audio file of these bytes counts for, if these are at most as many as one may. No memory is taken.
+fn count_bytes(bytes: &[u8], rules: Rules) -> Result<u64, Unusable>
     requires rules { AreRules rules }
     requires few { length bytes.now ≤ rules.file }
-    ensures decoded { IfOk result (λ found. audio_in rules bytes.now (read_of bytes.now) ≡ at_rate rules.rate found) }
-    ensures recording { IfOk result (λ found. IfOk found IsRecording) }
+    ensures counted { MatchResult result
+        (λ count. audio_in rules bytes.now (read_of bytes.now) ≡ Ok (sound_in rules.rate (read_of bytes.now), count))
+        (λ fault. audio_in rules bytes.now (read_of bytes.now) ≡ Err fault) }
+    ensures readable { IfOk result (λ _. IsReadable (read_of bytes.now)) }
 {
     let wav = match read_wav(bytes) {
         Ok(wav) => wav,
-        Err(fault) => return Ok(Err(Unusable::NotWav(fault))),
+        Err(fault) => return Err(Unusable::NotWav(fault)),
     };
     let size = bytes.len() as u64;
     let counted = size.max(written_bytes(wav.wide, wav.kind, wav.body, wav.rate, rules.rate));
     if counted > rules.file {
-        return Ok(Err(Unusable::TooLong));
+        return Err(Unusable::TooLong);
     }
-    let samples = read_blocks(alloc, wav.wide, wav.body)?;
-    Ok(Ok(Recording {
-        kind: wav.kind,
-        rate: wav.rate,
-        samples,
-        bytes: counted,
-    }))
+    Ok(counted)
+}
+
+/// The audio file of these bytes, and how many it counts for, if it can be used.
+fn use_bytes(bytes: Vec<u8>, rules: Rules) -> Result<(Undecoded, u64), Unusable>
+    requires rules { AreRules rules }
+    requires few { length bytes.items ≤ rules.file }
+    ensures audio { audio_in rules bytes.items (read_of bytes.items) ≡ result }
+    ensures sound { IfOk result (λ audio. IsSound audio.0) }
+{
+    match count_bytes(&bytes, rules) {
+        Ok(count) => Ok((Undecoded::new(bytes, rules.rate), count)),
+        Err(fault) => Err(fault),
+    }
 }
 
 /// How many bytes a file with these blocks has at another rate, with samples of 16 bits.
@@ -102,36 +109,14 @@ fn sample_count(wide: bool, blocks: &[u8]) -> u64
     if wide { size / 3 } else { size / 2 }
 }
 
-/// What the audio file of this name holds. Its bytes are given back once they are decoded.
-fn read_recording<S: Shelf>(
-    alloc: Global,
-    shelf: &mut S,
-    name: &str,
-    rules: Rules,
-) -> Result<Result<Recording, Unusable>, LoadFault>
-    requires { AreRules rules }
-    ensures audio { IfOk result (λ found. ForSome (S.files shelf.old) (λ files. audio_at rules files name.now ≡ at_rate rules.rate found)) }
-    ensures recording { IfOk result (λ found. IfOk found IsRecording) }
-    ensures fault { IfErr result (λ fault. IsReading name.now (S.read_count shelf.old) (S.read_count shelf.new) fault) }
-    ensures files { S.files shelf.new ≡ S.files shelf.old }
-    ensures created { S.created shelf.new ≡ S.created shelf.old }
-    ensures reads { S.read_count shelf.old ≤ S.read_count shelf.new }
-    ensures writes { S.write_count shelf.old ≤ S.write_count shelf.new }
-{
-    match fetch(alloc, shelf, name, rules.file)? {
-        Ok(bytes) => Ok(decode(alloc, &bytes, rules)?),
-        Err(fault) => Ok(Err(fault)),
-    }
-}
-
-/// The sound of the audio file of this name at the rate of the script, and how many bytes the file counts for. Of its
-/// bytes, its samples and those at the rate of the script at most two are held at one time.
+/// The audio file of this name, and how many bytes it counts for, if it can be used. Whether it can is known from its
+/// bytes alone: no memory is taken for its samples.
 pub fn read_audio<S: Shelf>(
     alloc: Global,
     shelf: &mut S,
     name: &str,
     rules: Rules,
-) -> Result<Result<(Track, u64), Unusable>, LoadFault>
+) -> Result<Result<(Undecoded, u64), Unusable>, LoadFault>
     requires { AreRules rules }
     ensures audio { IfOk result (λ found. ForSome (S.files shelf.old) (λ files. audio_at rules files name.now ≡ found)) }
     ensures sound { IfOk result (λ found. IfOk found (λ audio. IsSound audio.0)) }
@@ -141,8 +126,8 @@ pub fn read_audio<S: Shelf>(
     ensures reads { S.read_count shelf.old ≤ S.read_count shelf.new }
     ensures writes { S.write_count shelf.old ≤ S.write_count shelf.new }
 {
-    match read_recording(alloc, shelf, name, rules)? {
-        Ok(recording) => Ok(Ok(track_at(alloc, recording, rules.rate)?)),
+    match fetch(alloc, shelf, name, rules.file)? {
+        Ok(bytes) => Ok(use_bytes(bytes, rules)),
         Err(fault) => Ok(Err(fault)),
     }
 }

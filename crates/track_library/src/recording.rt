@@ -1,15 +1,18 @@
-// Audio files that were read, and the change of their rate.
-ghost use Rattle.std.specs.Prelude.{◌≡◌, ◌≤◌, Ok, IfOk};
-ghost use Rattle.frame_core.specs.Sounds.{IsSound};
+// Audio files that were decoded, and the change of their rate.
+ghost use Rattle.std.specs.Prelude.{◌≡◌, ◌≤◌, length, IfOk};
 ghost use Rattle.resample.specs.Resampled.{AreRates, IsFile, resampled};
-ghost use Rattle.track_library.specs.States.{IsRecording, at_rate};
+ghost use Rattle.wav_io.specs.Reading.{read_of};
+ghost use Rattle.track_library.specs.Files.{IsReadable, SoundsAs, at_rate};
+ghost use Rattle.track_library.specs.States.{IsRecording};
 
+use crate::samples::read_blocks;
 use frame_core::Track;
 use liq_base::{Kind, Memory};
 use resample::fill;
 use std::alloc::Global;
+use wav_io::read_wav;
 
-/// An audio file that was read, at a rate of its own.
+/// An audio file that was decoded, at a rate of its own.
 #[derive(Drop)]
 pub struct Recording {
     pub kind: Kind,
@@ -19,31 +22,45 @@ pub struct Recording {
 
     /// Whole blocks of samples, left before right, and at least one.
     pub samples: Vec<i16>,
-
-    /// How many bytes the file counts for.
-    pub bytes: u64,
 }
 
-/// The track of a recording at this rate, from 8000 to 192000 samples a second, and how many bytes its file counts for.
-/// The samples at another rate are given back once they are changed.
-pub fn track_at(alloc: Global, recording: Recording, rate: u32) -> Result<(Track, u64), Memory>
+/// What the bytes of a WAV file hold. The bytes are given back once they are decoded.
+pub fn record(alloc: Global, bytes: Vec<u8>) -> Result<Recording, Memory>
+    requires readable { IsReadable (read_of bytes.items) }
+    requires few { length bytes.items ≤ 268435456 }
+    ensures decoded { IfOk result (λ recording. SoundsAs (read_of bytes.items) recording) }
+    ensures recording { IfOk result IsRecording }
+{
+    let wav = match read_wav(&bytes) {
+        Ok(wav) => wav,
+        Err(_) => unreachable!(),
+    };
+    let samples = read_blocks(alloc, wav.wide, wav.body)?;
+    Ok(Recording {
+        kind: wav.kind,
+        rate: wav.rate,
+        samples,
+    })
+}
+
+/// The track of a recording at this rate, from 8000 to 192000 samples a second. The samples at another rate are given back
+/// once they are changed.
+pub fn track_at(alloc: Global, recording: Recording, rate: u32) -> Result<Track, Memory>
     requires recording { IsRecording recording }
     requires least { 8000 ≤ rate }
     requires most { rate ≤ 192000 }
-    ensures track { IfOk result (λ audio. at_rate rate (Ok recording) ≡ Ok audio) }
-    ensures sound { IfOk result (λ audio. IsSound audio.0) }
+    ensures track { IfOk result (λ track. track ≡ at_rate rate recording) }
 {
     let Recording {
         kind,
         rate: own,
         samples,
-        bytes,
     } = recording;
     if own == rate {
-        return Ok((Track::new(kind, samples), bytes));
+        return Ok(Track::new(kind, samples));
     }
     let changed = change(alloc, own, rate, kind, &samples)?;
-    Ok((Track::new(kind, changed), bytes))
+    Ok(Track::new(kind, changed))
 }
 
 // The samples of a file at another rate.

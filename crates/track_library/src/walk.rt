@@ -1,5 +1,5 @@
 // The walk over the nodes of a plan.
-ghost use Rattle.std.specs.Prelude.{◌≡◌, ◌≤◌, ◌<◌, ◌^◌, [], length, map, Ok, IfOk, IfErr, OnOk};
+ghost use Rattle.std.specs.Prelude.{◌≡◌, ◌≤◌, ◌<◌, ◌^◌, [], length, Ok, IfOk, IfErr, OnOk};
 ghost use Rattle.std.specs.List.{All};
 ghost use Rattle.std.specs.Option.{ForSome};
 ghost use Rattle.frame_core.specs.Library.{IsLibrary};
@@ -10,6 +10,8 @@ ghost use Rattle.track_library.specs.States.{heard_of, AreRules, IsHeard, Plays,
 
 use crate::audio::AudioFiles;
 use crate::fault::{LoadFault, Unusable, fault_of};
+use crate::leaf_lists::LeafLists;
+use crate::plan_files::PlanFiles;
 use crate::read_lists::ReadLists;
 use crate::rules::{Rules, Sizes};
 use frame_core::Library;
@@ -36,7 +38,7 @@ impl Walk {
             },
             audio: AudioFiles {
                 names: IndexMap::new(alloc),
-                tracks: Vec::new(alloc),
+                files: Vec::new(alloc),
                 titles: Vec::new(alloc),
                 bytes: 0,
             },
@@ -72,27 +74,27 @@ impl Walk {
         }
     }
 
-    /// The library of the files that were used.
-    fn into_library(self, leaves: Vec<Vec<u32>>) -> Library
+    /// The files that were used.
+    fn into_files(self, leaves: LeafLists) -> PlanFiles
         requires heard { IsHeard (heard_of self.audio) }
-        requires below { All (All (λ number. number < length self.audio.tracks.items)) (map (λ leaf. leaf.items) leaves.items) }
-        requires few { All (λ leaf. length leaf < 2 ^ 32) (map (λ leaf. leaf.items) leaves.items) }
-        ensures same { result ≡ record { files = self.audio.tracks.items; names = self.audio.titles.items; leaves = map (λ leaf. leaf.items) leaves.items } }
+        requires below { All (All (λ number. number < length self.audio.files.items)) leaves }
+        requires few { All (λ leaf. length leaf < 2 ^ 32) leaves }
+        ensures same { result ≡ record { files = self.audio.files.items; names = self.audio.titles.items; leaves = leaves } }
         ensures library { IsLibrary result }
     {
         let Walk { lists: _, audio } = self;
         let AudioFiles {
             names: _,
-            tracks,
+            files,
             titles,
             bytes: _,
         } = audio;
-        Library::new(tracks, titles, leaves)
+        PlanFiles::new(files, titles, leaves)
     }
 }
 
 /// The audio files of a plan: for each of its nodes those that it plays, each of them once, and each changed to the rate
-/// of the plan.
+/// of the plan. All of them are read, and whether they may be loaded is known, before one is decoded.
 pub fn load<S: Shelf>(
     alloc: Global,
     plan: &Plan,
@@ -114,18 +116,44 @@ pub fn load<S: Shelf>(
     ensures reads { S.read_count shelf.old ≤ S.read_count shelf.new }
     ensures writes { S.write_count shelf.old ≤ S.write_count shelf.new }
 {
+    let files = find_files(alloc, plan, shelf, sizes)?;
+    Ok(files.decode(alloc)?)
+}
+
+/// The audio files of a plan, as `load` answers them, before they are decoded: no memory is taken for samples.
+pub fn find_files<S: Shelf>(
+    alloc: Global,
+    plan: &Plan,
+    shelf: &mut S,
+    sizes: Sizes,
+) -> Result<PlanFiles, LoadFault>
+    requires least { 8000 ≤ plan.now.rate }
+    requires most { plan.now.rate ≤ 192000 }
+    requires file { sizes.file ≤ 268435456 }
+    ensures loaded { IfOk result (λ library. ForSome (S.files shelf.old) (λ files. load_of (record { rate = plan.now.rate; file = sizes.file; all = sizes.all }) files plan.now.nodes ≡ Ok library)) }
+    ensures leaves { IfOk result (λ library. length library.leaves ≡ length plan.now.nodes) }
+    ensures singles { IfOk result (λ library. HaveSingles plan.now.nodes library.leaves) }
+    ensures library { IfOk result IsLibrary }
+    ensures fault { IfErr result (Ends (S.files shelf.old) (S.read_count shelf.old) (S.read_count shelf.new)
+        (λ files. LoadReads (record { rate = plan.now.rate; file = sizes.file; all = sizes.all }) files plan.now.nodes)
+        (λ files. load_of (record { rate = plan.now.rate; file = sizes.file; all = sizes.all }) files plan.now.nodes)) }
+    ensures files { S.files shelf.new ≡ S.files shelf.old }
+    ensures created { S.created shelf.new ≡ S.created shelf.old }
+    ensures reads { S.read_count shelf.old ≤ S.read_count shelf.new }
+    ensures writes { S.write_count shelf.old ≤ S.write_count shelf.new }
+{
     let rules = Rules {
         rate: plan.rate,
         file: sizes.file,
         all: sizes.all,
     };
     let mut walk = Walk::new(alloc);
-    let mut leaves = Vec::new(alloc);
+    let mut leaves = LeafLists::new(alloc);
     for node in plan.nodes.as_slice() {
         let leaf = walk.find_leaf(alloc, shelf, &node.op, rules)?;
-        leaves.push(leaf)?;
+        leaves.push(alloc, &node.op, leaf)?;
     }
-    Ok(walk.into_library(leaves))
+    Ok(walk.into_files(leaves))
 }
 
 /// The files that a `single` plays.

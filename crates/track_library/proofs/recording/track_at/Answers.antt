@@ -1,11 +1,12 @@
 use Rattle.std.proofs.Common.{List, ℤ, sym, subst}
 use Rattle.frame_core.specs.Sounds.{IsSound}
-use Rattle.track_library.proofs.Changed.{changed_sound, own_audio}
+use Rattle.track_library.proofs.Changed.{changed_sound, own_track}
 use Rattle.track_library.proofs.recording.track_at.Goals as goal
 
-pub returns-then-own-rate-clause-track : goal.returns-then-own-rate-clause-track
-returns-then-own-rate-clause-track c =
-    own_audio c.args.recording.rate c.args.rate c.args.recording.kind c.args.recording.samples.items c.args.recording.bytes c.new.result c.if-own-rate.true c.requires.least c.requires.recording.file c.new.ensures
+pub returns-then-own-rate : goal.returns-then-own-rate
+returns-then-own-rate c = record {
+  track = own_track c.args.recording.rate c.args.rate c.args.recording.kind c.args.recording.samples.items c.new.result c.if-own-rate.true c.requires.least c.requires.recording.file c.new.ensures;
+}
 
 pub new-requires-2 : goal.new-requires-2
 new-requires-2 c =

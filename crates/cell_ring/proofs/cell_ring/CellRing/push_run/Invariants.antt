@@ -1,6 +1,13 @@
-use Rattle.std.proofs.Common.{◌≡◌, ◌++◌, take}
+use Rattle.std.proofs.Common.{◌≡◌, ◌≤◌, ◌-◌, ◌++◌, length, take}
 use Rattle.cell_ring.specs.Rings.{inner_cells}
 use Rattle.cell_ring.proofs.cell_ring.CellRing.push_run.Given as goal
 
-abbrev pub invariant-loop-at : goal.invariant-loop-at
-invariant-loop-at l = l.self ≡ record { cells = l.initial.self.cells ++ inner_cells l.title (take l.at l.left) (take l.at l.right); room = l.initial.self.room }
+abbrev pub invariant-loop-done : goal.invariant-loop-done
+invariant-loop-done l = record {
+  within : l.done ≤ length l.left;
+  block : length l.block ≡ 64;
+  ring : l.self ≡ record { cells = l.initial.self.cells ++ inner_cells l.title (take l.done l.left) (take l.done l.right); room = l.initial.self.room };
+}
+
+abbrev pub decreases-loop-done : goal.decreases-loop-done
+decreases-loop-done l = length l.left - l.done

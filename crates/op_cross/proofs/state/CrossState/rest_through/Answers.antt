@@ -1,4 +1,4 @@
-use Rattle.std.proofs.Common.{◌≡◌, ◌<◌, ◌+◌, ◌∙◌, true, length, slice_get, arith, ap, rules, sym, subst}
+use Rattle.std.proofs.Common.{◌≡◌, ◌+◌, ◌∙◌, true, length, slice_get, arith, ap, sym, subst}
 use Rattle.cell_ring.specs.Rings.{goes_on}
 use Rattle.op_cross.specs.States.{Crossing, passes}
 use Rattle.op_cross.proofs.Running.{Passing, passing}

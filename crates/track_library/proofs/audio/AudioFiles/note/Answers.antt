@@ -13,4 +13,4 @@ returns c =
     ap named c.in_ok-insert.ensures.entries
     ∙ added (λ v. v) old c.in_ok-from_str.field-0 c.args.found (ap (λ (name : List ℕ). value_of name (named old)) key ∙ c.requires)
     ∙ ap (λ (name : List ℕ). named old ++ (name, c.args.found) ∷ []) key in
-    λ i. record { names = names i; sounds = c.args.self.now.tracks.items; titles = c.args.self.now.titles.items; bytes = c.args.self.now.bytes }
+    λ i. record { names = names i; sounds = c.args.self.now.files.items; titles = c.args.self.now.titles.items; bytes = c.args.self.now.bytes }

@@ -1,0 +1,10 @@
+use Rattle.std.proofs.Common.{◌∙◌, drop, ap}
+use Rattle.cell_ring.specs.Rings.{Ring}
+use Rattle.cell_ring.proofs.Parts.{behind_parts}
+use Rattle.cell_ring.proofs.cell_ring.CellRing.behind.Goals as goal
+
+pub returns : goal.returns
+returns c =
+    behind_parts c.as_slices.result.0.now c.as_slices.result.1.now c.self.inside.cells.items c.args.from c.min-first.result c.min-skip.result
+    c.as_slices.ensures c.min-first.ensures c.min-skip.ensures
+    ∙ ap (λ (r : Ring). drop c.args.from r.cells) c.self.view_is

@@ -1,0 +1,137 @@
+// Cells that come in chunks.
+ghost use Rattle.std.specs.Prelude.{◌≡◌, ◌+◌, ◌<◌, ◌≤◌, [], ◌++◌, ℕ, true, false, length, map, max, take, drop, slice_get, IfOk};
+ghost use Rattle.cell_ring.specs.Rings.{Ring, goes_on, spare_cells};
+ghost use Rattle.liq_base.specs.declared.limits.TheConstants.{MAX_FRAME};
+
+use crate::cell_ring::{CellRing, inner_of, lay};
+use frame_core::{Cell, Chunk};
+use liq_base::Memory;
+use std::alloc::Global;
+use std::marker::Model;
+
+/// A queue of cells that come in chunks: a ring, and behind it what is left of a chunk for which the ring had no room. Such a
+/// chunk is kept as it came, so no call but `new` takes memory, however long a chunk is.
+#[derive(Drop)]
+pub struct ChunkQueue {
+    ring: CellRing,
+    spare: Option<Chunk>,
+    // How many cells of the spare chunk have gone.
+    gone: usize,
+}
+
+impl Model for ChunkQueue {
+    ghost use Rattle.std.specs.Prelude.{◌++◌, ◌≤◌};
+    ghost use Rattle.cell_ring.specs.Rings.{Ring, spare_cells};
+    ghost use Rattle.liq_base.specs.declared.limits.TheConstants.{MAX_FRAME};
+
+    ghost Value = { Ring };
+
+    ghost view = { λ q. record { cells = q.ring.cells ++ spare_cells q.spare q.gone; room = q.ring.room } };
+
+    ghost invariant = { λ q. q.gone ≤ MAX_FRAME };
+}
+
+impl ChunkQueue {
+    /// An empty queue, whose ring has room for so many cells.
+    pub fn new(alloc: Global, room: u32) -> Result<ChunkQueue, Memory>
+        ensures { IfOk result (λ queue. queue ≡ record { cells = []; room = room }) }
+    {
+        let ring = CellRing::new(alloc, room)?;
+        Ok(ChunkQueue {
+            ring,
+            spare: None,
+            gone: 0,
+        })
+    }
+
+    /// How many cells it holds.
+    pub fn len(&self) -> u64
+        ensures { result ≡ length self.now.cells }
+    {
+        u64::from(self.ring.len()) + spare_of(&self.spare, self.gone).len() as u64
+    }
+
+    /// The first cell.
+    pub fn front(&self) -> Option<Cell>
+        ensures { result ≡ slice_get self.now.cells 0 }
+    {
+        if self.ring.len() > 0 {
+            return self.ring.front();
+        }
+        spare_of(&self.spare, self.gone).first().copied()
+    }
+
+    /// How many cells, from this one on and at most so many, have this title and begin no track. The front cell is number 0.
+    pub fn inner(&self, title: u32, from: u32, most: u32) -> u32
+        ensures inner { (j : ℕ) → j < result → goes_on title (slice_get self.now.cells (from + j)) ≡ true }
+        ensures ends { result < most → goes_on title (slice_get self.now.cells (from + result)) ≡ false }
+        ensures within { result ≤ most }
+    {
+        let held = self.ring.len() as usize;
+        let here = self.ring.inner(title, from, most);
+        let next = from as usize + here as usize;
+        if next < held {
+            return here;
+        }
+        let spare = spare_of(&self.spare, self.gone);
+        let behind = &spare[(next - held).min(spare.len())..];
+        here + inner_of(title, behind, (most - here) as usize) as u32
+    }
+
+    /// Appends the cells of a chunk, where those that it holds are no more than its ring has room for.
+    pub fn push(&mut self, chunk: Chunk)
+        requires { length self.old.cells ≤ self.old.room }
+        ensures { self.new ≡ record { cells = self.old.cells ++ chunk; room = self.old.room } }
+    {
+        self.ring.push_cells(spare_of(&self.spare, self.gone));
+        self.gone = 0;
+        let wanted = u64::from(self.ring.len()) + u64::from(chunk.len());
+        if wanted <= u64::from(self.ring.room()) {
+            self.spare = None;
+            self.ring.push_cells(chunk.cells());
+        } else {
+            self.spare = Some(chunk);
+        }
+    }
+
+    /// Takes the first cell away, if there is one.
+    pub fn pop(&mut self)
+        ensures { self.new ≡ record { cells = drop 1 self.old.cells; room = self.old.room } }
+    {
+        if self.ring.len() > 0 {
+            self.ring.pop();
+        } else if spare_of(&self.spare, self.gone).len() > 0 {
+            self.gone += 1;
+        }
+    }
+
+    /// Moves the samples of the first cells out, as many as the slices are long.
+    pub fn take_into(&mut self, left: &mut [i16], right: &mut [i16])
+        requires same { length right.old ≡ length left.old }
+        requires there { length left.old ≤ length self.old.cells }
+        ensures left { left.new ≡ map (λ cell. cell.left) (take (length left.old) self.old.cells) }
+        ensures right { right.new ≡ map (λ cell. cell.right) (take (length left.old) self.old.cells) }
+        ensures rest { self.new ≡ record { cells = drop (length left.old) self.old.cells; room = self.old.room } }
+    {
+        let first = (self.ring.len() as usize).min(left.len());
+        let (left_front, left_back) = left.split_at_mut(first);
+        let (right_front, right_back) = right.split_at_mut(first);
+        self.ring.take_into(left_front, right_front);
+        let count = left_back.len();
+        let spare = spare_of(&self.spare, self.gone);
+        lay(&spare[..count], left_back, right_back);
+        self.gone += count;
+    }
+}
+
+// What is left of a spare chunk of which so many cells have gone.
+fn spare_of(spare: &Option<Chunk>, gone: usize) -> &[Cell]
+    ensures cells { result.now ≡ spare_cells spare.now gone }
+    ensures fits { gone + length result.now ≤ max gone MAX_FRAME }
+{
+    let Some(chunk) = spare else {
+        return &[];
+    };
+    let first = gone.min(chunk.len() as usize);
+    &chunk.cells()[first..]
+}

@@ -1,0 +1,52 @@
+-- The slots of the parameters of a def, by what each of them takes of the arguments.
+use Rattle.std.specs.Prelude.{◌≡◌, ◌≢◌, ℕ, List, [], ◌∷◌, ◌++◌, map, get_or, Option, Some, None, option_map, Result, Ok, Err, ⊤}
+use Rattle.script_grammar.specs.Tree.{Tree, Many, none, more, AParam, Param, Labelled, Optional}
+use Rattle.typing_rules.specs.Arguments.{token_of}
+use Rattle.script_values.specs.declared.fault.Fault.{Fault}
+use Rattle.script_values.specs.declared.fault.Fault.TheVariants.{Stuck}
+use Rattle.script_values.specs.declared.machine.Machine.{Machine}
+use Rattle.script_values.specs.declared.slots.Given.{Given as AGiven}
+use Rattle.script_values.specs.declared.value.Value.{Value as AValue}
+use Rattle.script_values.specs.Outcomes.{◌>>=◌}
+use Rattle.script_values.specs.Slots.{Slot}
+use Rattle.script_values.specs.Values.{Value, Nothing}
+use Rattle.script_values.specs.View.{view_value}
+use Rattle.eval_meaning.specs.Meaning.{Scope, full}
+
+-- what a parameter of the program takes, if it takes an argument
+abbrev pub view_taken : Option AValue → Option Value
+view_taken o = option_map view_value o
+
+-- the value of the argument at a place
+abbrev pub value_at : List AGiven → ℕ → Value
+value_at gs place = get_or (map (λ g. view_value g.value) gs) place Nothing
+
+-- no place is this one
+abbrev pub Lacks : ℕ → List (Option ℕ) → Type 0
+Lacks i [] = ⊤
+Lacks i (None ∷ os) = Lacks i os
+Lacks i (Some j ∷ os) = (j ≢ i) × Lacks i os
+
+-- no place stands there twice
+abbrev pub AreApart : List (Option ℕ) → Type 0
+AreApart [] = ⊤
+AreApart (None ∷ os) = AreApart os
+AreApart (Some i ∷ os) = Lacks i os × AreApart os
+
+-- what stands at every other place is as it was
+abbrev pub AreKept : Option ℕ → (ℕ → Value) → (ℕ → Value) → Type 0
+AreKept None old new = (j : ℕ) → new j ≡ old j
+AreKept (Some i) old new = (j : ℕ) → j ≢ i → new j ≡ old j
+
+-- the slot of a parameter that takes this
+unfoldable pub filled : Scope → Tree AParam → Option Value → Machine → Result (Slot × Machine) Fault
+filled s p (Some v) m = Ok ((token_of p, v), m)
+filled s (Param at name) None m = Err Stuck
+filled s (Labelled at name) None m = Err Stuck
+filled s (Optional at name d) None m = full s d m >>= λ x. Ok ((at, x.0), x.1)
+
+-- the slots of parameters that take these, behind others
+unfoldable pub all_filled : Scope → Tree (Many AParam) → List (Option Value) → List Slot → Machine → Result (List Slot × Machine) Fault
+all_filled s none os slots m = Ok (slots, m)
+all_filled s (more p ps) [] slots m = Err Stuck
+all_filled s (more p ps) (o ∷ os) slots m = filled s p o m >>= λ x. all_filled s ps os (slots ++ x.0 ∷ []) x.1

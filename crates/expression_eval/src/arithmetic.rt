@@ -1,0 +1,173 @@
+// Comparisons, sums and products.
+ghost use Rattle.std.specs.Prelude.{map};
+ghost use Rattle.script_grammar.specs.View.{listed, view_compare, view_sum, view_added, view_product, view_multiplied};
+ghost use Rattle.script_values.specs.Gives.{Gives};
+ghost use Rattle.eval_meaning.specs.Meaning.{joined, compare, sum, addeds, plus, product, multiplieds, times};
+ghost use Rattle.expression_eval.specs.Places.{Goes};
+ghost use Rattle.script_values.specs.Numbers.{compared};
+ghost use Rattle.eval_scope.specs.Scopes.{scope_of};
+ghost use Rattle.script_values.specs.View.{view_value};
+
+use crate::operands::operand;
+use crate::steps::{Operator, operate};
+use eval_scope::Scope;
+use script_grammar::tree::{Added, Compare, CompareOp, Multiplied, Product, Sum};
+use script_values::{Fault, Machine, Value};
+use std::alloc::Global;
+
+/// comparison: sum ((`==` | `!=` | `<` | `<=` | `>` | `>=`) sum)?
+#[cycle(value)]
+pub fn compare(
+    alloc: Global,
+    scope: &Scope<'_>,
+    left: usize,
+    machine: &mut Machine,
+    node: &Compare,
+    out: &mut Result<Value, Fault>,
+)
+    ensures { Gives (λ v. (view_value v, machine.new)) out.new (compare (scope_of scope.now) (view_compare node.now) machine.old) }
+{
+    sum(alloc, scope, left, machine, &node.left, out);
+    if out.is_err() {
+        return;
+    }
+    match &node.right {
+        None => {}
+        Some(right) => compare_with(alloc, scope, left, machine, right.op, &right.sum, out),
+    }
+}
+
+/// (`==` | `!=` | `<` | `<=` | `>` | `>=`) sum, behind the value in the place
+#[cycle(value)]
+#[inline(never)]
+fn compare_with(
+    alloc: Global,
+    scope: &Scope<'_>,
+    left: usize,
+    machine: &mut Machine,
+    op: CompareOp,
+    right: &Sum,
+    out: &mut Result<Value, Fault>,
+)
+    ensures { Goes (λ v. joined (compared op) v (sum (scope_of scope.now) (view_sum right.now) machine.old)) out.old out.new machine.new }
+{
+    let mut other = Err(Fault::Memory);
+    sum(alloc, scope, left, machine, right, &mut other);
+    operate(machine, Operator::Comparison(op), out, other);
+}
+
+/// sum: product ((`+` | `-`) product)*
+#[cycle(value)]
+fn sum(
+    alloc: Global,
+    scope: &Scope<'_>,
+    left: usize,
+    machine: &mut Machine,
+    node: &Sum,
+    out: &mut Result<Value, Fault>,
+)
+    ensures { Gives (λ v. (view_value v, machine.new)) out.new (sum (scope_of scope.now) (view_sum node.now) machine.old) }
+{
+    product(alloc, scope, left, machine, &node.first, out);
+    addeds(alloc, scope, left, machine, &node.rest, out);
+}
+
+/// ((`+` | `-`) product)*, behind the value in the place
+#[cycle(value)]
+fn addeds(
+    alloc: Global,
+    scope: &Scope<'_>,
+    left: usize,
+    machine: &mut Machine,
+    parts: &[Added],
+    out: &mut Result<Value, Fault>,
+)
+    ensures { Goes (λ v. addeds (scope_of scope.now) (listed (map view_added parts.now)) v machine.old) out.old out.new machine.new }
+{
+    'turns: for part in parts {
+        if out.is_err() {
+            return;
+        }
+        added(alloc, scope, left, machine, part, out);
+    }
+}
+
+/// (`+` | `-`) product, behind the value in the place
+#[cycle(value)]
+#[inline(never)]
+fn added(
+    alloc: Global,
+    scope: &Scope<'_>,
+    left: usize,
+    machine: &mut Machine,
+    part: &Added,
+    out: &mut Result<Value, Fault>,
+)
+    ensures { Goes (λ v. plus (scope_of scope.now) (view_added part.now) v machine.old) out.old out.new machine.new }
+{
+    let mut other = Err(Fault::Memory);
+    product(alloc, scope, left, machine, &part.product, &mut other);
+    let operator = Operator::Sum {
+        minus: part.minus,
+        at: part.at,
+    };
+    operate(machine, operator, out, other);
+}
+
+/// product: operand ((`*` | `/`) operand)*
+#[cycle(value)]
+fn product(
+    alloc: Global,
+    scope: &Scope<'_>,
+    left: usize,
+    machine: &mut Machine,
+    node: &Product,
+    out: &mut Result<Value, Fault>,
+)
+    ensures { Gives (λ v. (view_value v, machine.new)) out.new (product (scope_of scope.now) (view_product node.now) machine.old) }
+{
+    operand(alloc, scope, left, machine, &node.first, out);
+    multiplieds(alloc, scope, left, machine, &node.rest, out);
+}
+
+/// ((`*` | `/`) operand)*, behind the value in the place
+#[cycle(value)]
+fn multiplieds(
+    alloc: Global,
+    scope: &Scope<'_>,
+    left: usize,
+    machine: &mut Machine,
+    parts: &[Multiplied],
+    out: &mut Result<Value, Fault>,
+)
+    ensures { Goes (λ v. multiplieds (scope_of scope.now) (listed (map view_multiplied parts.now)) v machine.old) out.old out.new machine.new }
+{
+    'turns: for part in parts {
+        if out.is_err() {
+            return;
+        }
+        multiplied(alloc, scope, left, machine, part, out);
+    }
+}
+
+/// (`*` | `/`) operand, behind the value in the place
+#[cycle(value)]
+#[inline(never)]
+fn multiplied(
+    alloc: Global,
+    scope: &Scope<'_>,
+    left: usize,
+    machine: &mut Machine,
+    part: &Multiplied,
+    out: &mut Result<Value, Fault>,
+)
+    ensures { Goes (λ v. times (scope_of scope.now) (view_multiplied part.now) v machine.old) out.old out.new machine.new }
+{
+    let mut other = Err(Fault::Memory);
+    operand(alloc, scope, left, machine, &part.prim, &mut other);
+    let operator = Operator::Product {
+        divide: part.divide,
+        at: part.at,
+    };
+    operate(machine, operator, out, other);
+}

@@ -1,0 +1,204 @@
+// The bodies of defs: their parameters, their inner bindings and their results.
+ghost use Rattle.std.specs.Prelude.{[], None, map};
+ghost use Rattle.script_grammar.specs.View.{listed, view_def, view_param, view_inner};
+ghost use Rattle.script_values.specs.Gives.{Gives};
+ghost use Rattle.eval_meaning.specs.Meaning.{parameters, inners, inner, body};
+ghost use Rattle.expression_eval.specs.Parameters.{all_filled, filled, view_taken};
+ghost use Rattle.eval_scope.specs.Scopes.{base_of};
+ghost use Rattle.script_values.specs.Views.{view_given, view_slot};
+ghost use Rattle.script_values.specs.View.{view_value};
+
+use crate::arguments::taken_arguments;
+use crate::logic::expr;
+use crate::values::full;
+use eval_scope::Scope;
+use script_grammar::tree::{Def, Inner, Param, ParamForm};
+use script_values::{Fault, Given, Machine, Slot, Value};
+use std::alloc::Global;
+
+/// def: `def` NameOpen (param (`,` param)*)? `)` `=`? inner* expression `end`
+///
+/// Its result, for a call with these arguments. Where `left` is used up, memory is wanting.
+#[cycle(value)]
+#[tactic(auto, unfolding(eval_meaning::specs::Meaning::body))]
+pub fn body(
+    alloc: Global,
+    scope: &Scope<'_>,
+    left: usize,
+    machine: &mut Machine,
+    def: &Def,
+    given: Vec<Given>,
+) -> Result<Value, Fault>
+    ensures { Gives (λ v. (view_value v, machine.new)) result (body (base_of scope.now) (view_def def.now) (map view_given given.items) machine.old) }
+{
+    if left == 0 {
+        return Err(Fault::Memory);
+    }
+    let mut locals = parameters(alloc, scope, left, machine, &def.params, given)?;
+    inners(alloc, scope, left, machine, &def.inner, &mut locals)?;
+    let inside = Scope {
+        defs: scope.defs,
+        uses: scope.uses,
+        globals: scope.globals,
+        locals: &locals,
+        kinds: scope.kinds,
+        calls: scope.calls,
+    };
+    let mut out = Err(Fault::Memory);
+    expr(alloc, &inside, left - 1, machine, &def.result, &mut out);
+    out
+}
+
+/// param (`,` param)*
+///
+/// The bindings of the parameters, by the arguments that they take.
+#[cycle(value)]
+fn parameters(
+    alloc: Global,
+    scope: &Scope<'_>,
+    left: usize,
+    machine: &mut Machine,
+    params: &[Param],
+    given: Vec<Given>,
+) -> Result<Vec<Slot>, Fault>
+    ensures { Gives (λ v. (map view_slot v.items, machine.new)) result (parameters (base_of scope.now) (listed (map view_param params.now)) (map view_given given.items) [] machine.old) }
+{
+    let taken = taken_arguments(alloc, params, given)?;
+    filled_parameters(alloc, scope, left, machine, params, taken)
+}
+
+/// param (`,` param)*
+///
+/// The same of parameters that take these, in order.
+#[cycle(value)]
+fn filled_parameters(
+    alloc: Global,
+    scope: &Scope<'_>,
+    left: usize,
+    machine: &mut Machine,
+    params: &[Param],
+    taken: Vec<Option<Value>>,
+) -> Result<Vec<Slot>, Fault>
+    ensures { Gives (λ v. (map view_slot v.items, machine.new)) result (all_filled (base_of scope.now) (listed (map view_param params.now)) (map view_taken taken.items) [] machine.old) }
+{
+    let mut rest = taken.into_iter();
+    let mut slots = Vec::new(alloc);
+    'turns: for param in params {
+        let Some(one) = rest.next() else {
+            return Err(Fault::Stuck);
+        };
+        let slot = parameter(alloc, scope, left, machine, param, one)?;
+        slots.push(slot)?;
+    }
+    Ok(slots)
+}
+
+/// param: Name | `~` Name | `~` Name `=` value
+///
+/// Its binding, by the argument that it takes, if it takes one, or else by its default.
+#[cycle(value)]
+#[tactic(auto, unfolding(crate::specs::Parameters::filled))]
+fn parameter(
+    alloc: Global,
+    scope: &Scope<'_>,
+    left: usize,
+    machine: &mut Machine,
+    param: &Param,
+    taken: Option<Value>,
+) -> Result<Slot, Fault>
+    ensures { Gives (λ v. (view_slot v, machine.new)) result (filled (base_of scope.now) (view_param param.now) (view_taken taken) machine.old) }
+{
+    match taken {
+        None => missing_parameter(alloc, scope, left, machine, param),
+        Some(value) => Ok(Slot {
+            at: param.at,
+            value,
+        }),
+    }
+}
+
+/// `~` Name `=` value
+///
+/// The binding of a parameter that takes no argument, by its default, which is evaluated in the scope outside of the def.
+#[cycle(value)]
+#[tactic(auto, unfolding(crate::specs::Parameters::filled))]
+fn missing_parameter(
+    alloc: Global,
+    scope: &Scope<'_>,
+    left: usize,
+    machine: &mut Machine,
+    param: &Param,
+) -> Result<Slot, Fault>
+    ensures { Gives (λ v. (view_slot v, machine.new)) result (filled (base_of scope.now) (view_param param.now) None machine.old) }
+{
+    match &param.form {
+        ParamForm::Plain => Err(Fault::Stuck),
+        ParamForm::Labelled => Err(Fault::Stuck),
+        ParamForm::Optional(default) => {
+            let outer = Scope {
+                defs: scope.defs,
+                uses: scope.uses,
+                globals: scope.globals,
+                locals: &[],
+                kinds: scope.kinds,
+                calls: scope.calls,
+            };
+            let value = full(alloc, &outer, left, machine, default)?;
+            Ok(Slot {
+                at: param.at,
+                value,
+            })
+        }
+    }
+}
+
+/// inner*
+///
+/// The inner bindings of a def, each behind the ones before it.
+#[cycle(value)]
+fn inners(
+    alloc: Global,
+    scope: &Scope<'_>,
+    left: usize,
+    machine: &mut Machine,
+    bindings: &[Inner],
+    slots: &mut Vec<Slot>,
+) -> Result<(), Fault>
+    ensures { Gives (λ _. (map view_slot slots.new.items, machine.new)) result (inners (base_of scope.now) (listed (map view_inner bindings.now)) (map view_slot slots.old.items) machine.old) }
+{
+    'turns: for binding in bindings {
+        let slot = inner(alloc, scope, left, machine, binding, slots)?;
+        slots.push(slot)?;
+    }
+    Ok(())
+}
+
+/// inner: binding `;`?
+///
+/// Its binding, in the scope of the parameters and of the inner bindings before it.
+#[cycle(value)]
+#[tactic(auto, unfolding(eval_meaning::specs::Meaning::inner))]
+fn inner(
+    alloc: Global,
+    scope: &Scope<'_>,
+    left: usize,
+    machine: &mut Machine,
+    binding: &Inner,
+    slots: &[Slot],
+) -> Result<Slot, Fault>
+    ensures { Gives (λ v. (view_slot v, machine.new)) result (inner (base_of scope.now) (view_inner binding.now) (map view_slot slots.now) machine.old) }
+{
+    let inside = Scope {
+        defs: scope.defs,
+        uses: scope.uses,
+        globals: scope.globals,
+        locals: slots,
+        kinds: scope.kinds,
+        calls: scope.calls,
+    };
+    let value = full(alloc, &inside, left, machine, &binding.bind.value)?;
+    Ok(Slot {
+        at: binding.bind.at,
+        value,
+    })
+}

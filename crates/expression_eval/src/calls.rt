@@ -1,0 +1,162 @@
+// Calls, their arguments, and what they call.
+ghost use Rattle.std.specs.Prelude.{[], map};
+ghost use Rattle.typing_rules.specs.Kinds.{kinds_of};
+ghost use Rattle.typing_rules.specs.Uses.{use_at};
+ghost use Rattle.script_grammar.specs.View.{listed, view_call, view_arg};
+ghost use Rattle.script_values.specs.Gives.{Gives};
+ghost use Rattle.eval_meaning.specs.Meaning.{call, arguments, applied, applied_to};
+ghost use Rattle.expression_eval.specs.Places.{Makes};
+ghost use Rattle.eval_scope.specs.Scopes.{scope_of, called};
+ghost use Rattle.script_values.specs.Views.{view_given};
+ghost use Rattle.script_values.specs.View.{view_value};
+
+use crate::bodies::body;
+use crate::steps::{kept_argument, put};
+use crate::values::put_full;
+use builtin_calls::builtin;
+use eval_scope::{Scope, kinds_of};
+use liq_base::Kind;
+use script_grammar::tree::{Arg, Call};
+use script_values::{Fault, Given, Limit, Machine, Value};
+use std::alloc::Global;
+use typing_rules::{Target, Use};
+
+/// call: NameOpen (argument (`,` argument)*)? `)`
+///
+/// Its value, or its first fault.
+pub fn call(
+    alloc: Global,
+    scope: &Scope<'_>,
+    left: usize,
+    machine: &mut Machine,
+    node: &Call,
+) -> Result<Value, Fault>
+    ensures { Gives (λ v. (view_value v, machine.new)) result (call (scope_of scope.now) (view_call node.now) machine.old) }
+{
+    let mut out = Err(Fault::Memory);
+    put_call(alloc, scope, left, machine, node, &mut out);
+    out
+}
+
+/// call: NameOpen (argument (`,` argument)*)? `)`
+///
+/// The arguments are evaluated as they are written, and then what the name stands for is called.
+#[cycle(value)]
+#[inline(never)]
+pub fn put_call(
+    alloc: Global,
+    scope: &Scope<'_>,
+    left: usize,
+    machine: &mut Machine,
+    node: &Call,
+    out: &mut Result<Value, Fault>,
+)
+    ensures { Gives (λ v. (view_value v, machine.new)) out.new (call (scope_of scope.now) (view_call node.now) machine.old) }
+{
+    match arguments(alloc, scope, left, machine, &node.args, out) {
+        None => {}
+        Some(given) => applied(alloc, scope, left, machine, node.at, given, out),
+    }
+}
+
+/// argument (`,` argument)*
+///
+/// The values one after another, each with its label. `None` at the first fault, which is in the place then.
+#[cycle(value)]
+fn arguments(
+    alloc: Global,
+    scope: &Scope<'_>,
+    left: usize,
+    machine: &mut Machine,
+    args: &[Arg],
+    out: &mut Result<Value, Fault>,
+) -> Option<Vec<Given>>
+    ensures { Makes (λ v. (map view_given v.items, machine.new)) result out.new (arguments (scope_of scope.now) (listed (map view_arg args.now)) [] machine.old) }
+{
+    let mut given = Vec::new(alloc);
+    'turns: for arg in args {
+        put_full(alloc, scope, left, machine, &arg.value, out);
+        if !kept_argument(alloc, &arg.label, &mut given, out) {
+            return None;
+        }
+    }
+    Some(given)
+}
+
+/// A call, at this token, of what the name there stands for.
+#[cycle(value)]
+#[inline(never)]
+#[tactic(auto, unfolding(eval_meaning::specs::Meaning::applied))]
+fn applied(
+    alloc: Global,
+    scope: &Scope<'_>,
+    left: usize,
+    machine: &mut Machine,
+    at: u32,
+    given: Vec<Given>,
+    out: &mut Result<Value, Fault>,
+)
+    ensures { Gives (λ v. (view_value v, machine.new)) out.new (applied (scope_of scope.now) (use_at at scope.now.uses.now.all.now) at (map view_given given.items) machine.old) }
+{
+    match scope.uses.find(at) {
+        None => put(out, Err(Fault::Stuck)),
+        Some(found) => put(
+            out,
+            applied_to(alloc, scope, left, machine, found, at, given),
+        ),
+    }
+}
+
+/// The same of what a use says: a def or a builtin.
+#[cycle(value)]
+fn applied_to(
+    alloc: Global,
+    scope: &Scope<'_>,
+    left: usize,
+    machine: &mut Machine,
+    found: &Use,
+    at: u32,
+    given: Vec<Given>,
+) -> Result<Value, Fault>
+    ensures { Gives (λ v. (view_value v, machine.new)) result (applied_to (scope_of scope.now) found.now.target at (kinds_of scope.now.kinds.now found.now.kinds) (map view_given given.items) machine.old) }
+{
+    match kinds_of(alloc, scope.kinds, found.kinds.as_slice())? {
+        None => Err(Fault::Stuck),
+        Some(kinds) => match found.target {
+            Target::Slot(_) => Err(Fault::Stuck),
+            Target::Def(def) => call_def(alloc, scope, left, machine, def, &kinds, given),
+            Target::Builtin(name) => builtin(alloc, name, at, &kinds, given, machine),
+        },
+    }
+}
+
+/// A call of the def at this token, with these kinds and arguments. Where no more calls may run within each other, it is
+/// refused.
+#[cycle(value)]
+fn call_def(
+    alloc: Global,
+    scope: &Scope<'_>,
+    left: usize,
+    machine: &mut Machine,
+    at: u32,
+    kinds: &[Kind],
+    given: Vec<Given>,
+) -> Result<Value, Fault>
+    ensures { Gives (λ v. (view_value v, machine.new)) result (called scope.now at kinds.now (map view_given given.items) machine.old) }
+{
+    if scope.calls == 0 {
+        return Err(Fault::TooLarge(Limit::Calls));
+    }
+    let inside = Scope {
+        defs: scope.defs,
+        uses: scope.uses,
+        globals: scope.globals,
+        locals: &[],
+        kinds,
+        calls: scope.calls - 1,
+    };
+    match scope.defs.find(at) {
+        None => Err(Fault::Stuck),
+        Some(def) => body(alloc, &inside, left, machine, def, given),
+    }
+}

@@ -1,0 +1,53 @@
+// Conditionals: one of two values.
+ghost use Rattle.script_grammar.specs.View.{view_if};
+ghost use Rattle.script_values.specs.Gives.{Gives};
+ghost use Rattle.eval_meaning.specs.Meaning.{choice};
+ghost use Rattle.eval_scope.specs.Scopes.{scope_of};
+ghost use Rattle.script_values.specs.View.{view_value};
+
+use crate::steps::truth;
+use crate::values::put_full;
+use eval_scope::Scope;
+use script_grammar::tree::If;
+use script_values::{Fault, Machine, Value};
+use std::alloc::Global;
+
+/// if: `if` value `then` value `else` value `end`
+///
+/// Its value, or its first fault.
+pub fn choice(
+    alloc: Global,
+    scope: &Scope<'_>,
+    left: usize,
+    machine: &mut Machine,
+    node: &If,
+) -> Result<Value, Fault>
+    ensures { Gives (λ v. (view_value v, machine.new)) result (choice (scope_of scope.now) (view_if node.now) machine.old) }
+{
+    let mut out = Err(Fault::Memory);
+    put_choice(alloc, scope, left, machine, node, &mut out);
+    out
+}
+
+/// if: `if` value `then` value `else` value `end`
+///
+/// Of the two branches only the chosen one is evaluated.
+#[cycle(value)]
+#[inline(never)]
+pub fn put_choice(
+    alloc: Global,
+    scope: &Scope<'_>,
+    left: usize,
+    machine: &mut Machine,
+    node: &If,
+    out: &mut Result<Value, Fault>,
+)
+    ensures { Gives (λ v. (view_value v, machine.new)) out.new (choice (scope_of scope.now) (view_if node.now) machine.old) }
+{
+    put_full(alloc, scope, left, machine, &node.condition, out);
+    match truth(out) {
+        None => {}
+        Some(true) => put_full(alloc, scope, left, machine, &node.then_part, out),
+        Some(false) => put_full(alloc, scope, left, machine, &node.else_part, out),
+    }
+}

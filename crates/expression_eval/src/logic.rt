@@ -1,0 +1,142 @@
+// Expressions: parts joined by `or` and `and`, each perhaps behind `not`.
+ghost use Rattle.std.specs.Prelude.{map};
+ghost use Rattle.script_grammar.specs.View.{listed, view_expr, view_and, view_not};
+ghost use Rattle.script_values.specs.Gives.{Gives};
+ghost use Rattle.eval_meaning.specs.Meaning.{expr, ors, joined, conj, ands, nega};
+ghost use Rattle.expression_eval.specs.Places.{Goes};
+ghost use Rattle.script_values.specs.Numbers.{both, either};
+ghost use Rattle.eval_scope.specs.Scopes.{scope_of};
+ghost use Rattle.script_values.specs.View.{view_value};
+
+use crate::arithmetic::compare;
+use crate::steps::{Operator, negate, operate};
+use eval_scope::Scope;
+use script_grammar::tree::{And, Expr, Not};
+use script_values::{Fault, Machine, Value};
+use std::alloc::Global;
+
+/// expression: and (`or` and)*
+#[cycle(value)]
+pub fn expr(
+    alloc: Global,
+    scope: &Scope<'_>,
+    left: usize,
+    machine: &mut Machine,
+    node: &Expr,
+    out: &mut Result<Value, Fault>,
+)
+    ensures { Gives (λ v. (view_value v, machine.new)) out.new (expr (scope_of scope.now) (view_expr node.now) machine.old) }
+{
+    conj(alloc, scope, left, machine, &node.first, out);
+    ors(alloc, scope, left, machine, &node.rest, out);
+}
+
+/// (`or` and)*, behind the value in the place
+#[cycle(value)]
+fn ors(
+    alloc: Global,
+    scope: &Scope<'_>,
+    left: usize,
+    machine: &mut Machine,
+    parts: &[And],
+    out: &mut Result<Value, Fault>,
+)
+    ensures { Goes (λ v. ors (scope_of scope.now) (listed (map view_and parts.now)) v machine.old) out.old out.new machine.new }
+{
+    'turns: for part in parts {
+        if out.is_err() {
+            return;
+        }
+        or_one(alloc, scope, left, machine, part, out);
+    }
+}
+
+/// `or` and, behind the value in the place
+#[cycle(value)]
+#[inline(never)]
+fn or_one(
+    alloc: Global,
+    scope: &Scope<'_>,
+    left: usize,
+    machine: &mut Machine,
+    part: &And,
+    out: &mut Result<Value, Fault>,
+)
+    ensures { Goes (λ v. joined either v (conj (scope_of scope.now) (view_and part.now) machine.old)) out.old out.new machine.new }
+{
+    let mut other = Err(Fault::Memory);
+    conj(alloc, scope, left, machine, part, &mut other);
+    operate(machine, Operator::Or, out, other);
+}
+
+/// and: not (`and` not)*
+#[cycle(value)]
+fn conj(
+    alloc: Global,
+    scope: &Scope<'_>,
+    left: usize,
+    machine: &mut Machine,
+    node: &And,
+    out: &mut Result<Value, Fault>,
+)
+    ensures { Gives (λ v. (view_value v, machine.new)) out.new (conj (scope_of scope.now) (view_and node.now) machine.old) }
+{
+    nega(alloc, scope, left, machine, &node.first, out);
+    ands(alloc, scope, left, machine, &node.rest, out);
+}
+
+/// (`and` not)*, behind the value in the place
+#[cycle(value)]
+fn ands(
+    alloc: Global,
+    scope: &Scope<'_>,
+    left: usize,
+    machine: &mut Machine,
+    parts: &[Not],
+    out: &mut Result<Value, Fault>,
+)
+    ensures { Goes (λ v. ands (scope_of scope.now) (listed (map view_not parts.now)) v machine.old) out.old out.new machine.new }
+{
+    'turns: for part in parts {
+        if out.is_err() {
+            return;
+        }
+        and_one(alloc, scope, left, machine, part, out);
+    }
+}
+
+/// `and` not, behind the value in the place
+#[cycle(value)]
+#[inline(never)]
+fn and_one(
+    alloc: Global,
+    scope: &Scope<'_>,
+    left: usize,
+    machine: &mut Machine,
+    part: &Not,
+    out: &mut Result<Value, Fault>,
+)
+    ensures { Goes (λ v. joined both v (nega (scope_of scope.now) (view_not part.now) machine.old)) out.old out.new machine.new }
+{
+    let mut other = Err(Fault::Memory);
+    nega(alloc, scope, left, machine, part, &mut other);
+    operate(machine, Operator::And, out, other);
+}
+
+/// not: `not`? comparison
+#[cycle(value)]
+fn nega(
+    alloc: Global,
+    scope: &Scope<'_>,
+    left: usize,
+    machine: &mut Machine,
+    node: &Not,
+    out: &mut Result<Value, Fault>,
+)
+    ensures { Gives (λ v. (view_value v, machine.new)) out.new (nega (scope_of scope.now) (view_not node.now) machine.old) }
+{
+    compare(alloc, scope, left, machine, &node.inner, out);
+    if node.negated {
+        negate(machine, out);
+    }
+}

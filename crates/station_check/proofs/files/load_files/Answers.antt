@@ -1,5 +1,0 @@
-use Rattle.station_check.proofs.Ending.{loading}
-use Rattle.station_check.proofs.files.load_files.Goals as goal
-
-pub returns-in-Err-clause-fault : goal.returns-in-Err-clause-fault
-returns-in-Err-clause-fault g c = rw c.halt_of.ensures (loading _ _ _ _ _ _ c.in-Err.ensures.fault)

@@ -1,0 +1,34 @@
+-- Audio files that are used, before they are decoded and after.
+use Rattle.std.specs.Prelude.{◌≡◌, ◌≤◌, ⊤, ℕ, List, length, Result, Ok, Err}
+use Rattle.frame_core.specs.Library.{no_sound}
+use Rattle.frame_core.specs.Sounds.{Sound}
+use Rattle.resample.specs.Resampled.{resampled}
+use Rattle.wav_io.specs.Reading.{Wav, read_of}
+use Rattle.wav_io.specs.declared.fault.WavFault.{WavFault}
+use Rattle.track_library.specs.Walk.{sound_of}
+use Rattle.track_library.specs.declared.recording.Recording.{Recording}
+
+-- a WAV file, and no fault
+abbrev pub IsReadable : Result Wav WavFault → Type 0
+IsReadable (Err fault) = ⊥
+IsReadable (Ok wav) = ⊤
+
+-- the sound at the rate of the script of some bytes, as they were read
+abbrev pub sound_in : (rate : ℕ) → Result Wav WavFault → Sound
+sound_in rate (Err fault) = no_sound
+sound_in rate (Ok wav) = sound_of rate wav
+
+-- the rate of a script, and the bytes of a WAV file, as many as one may have
+pub record IsUsed (rate : ℕ) (bytes : List ℕ) : Type 0 where
+  pub least : 8000 ≤ rate
+  pub most : rate ≤ 192000
+  pub few : length bytes ≤ 268435456
+  pub readable : IsReadable (read_of bytes)
+
+-- the sound of a recording at the rate of the script
+abbrev pub at_rate : (rate : ℕ) → Recording → Sound
+at_rate rate recording = record { kind = recording.kind; samples = resampled recording.rate rate recording.kind recording.samples.items }
+
+-- a recording is the sound of some bytes at each rate
+abbrev pub SoundsAs : Result Wav WavFault → Recording → Type 0
+SoundsAs wav recording = (rate : ℕ) → sound_in rate wav ≡ at_rate rate recording

@@ -1,0 +1,52 @@
+// Audio files that are used, as they were read.
+ghost use Rattle.std.specs.Prelude.{◌≡◌, IfOk};
+ghost use Rattle.frame_core.specs.Sounds.{IsSound};
+ghost use Rattle.wav_io.specs.Reading.{read_of};
+ghost use Rattle.track_library.specs.Files.{IsUsed, sound_in};
+
+use crate::recording::{record, track_at};
+use frame_core::Track;
+use liq_base::Memory;
+use std::alloc::Global;
+use std::marker::Model;
+
+/// An audio file that is used, as its sound at the rate of the script. Its bytes are kept as they were read, and no memory
+/// is taken for its samples.
+#[derive(Drop)]
+pub struct Undecoded {
+    bytes: Vec<u8>,
+    rate: u32,
+}
+
+impl Model for Undecoded {
+    ghost use Rattle.frame_core.specs.Sounds.{Sound};
+    ghost use Rattle.wav_io.specs.Reading.{read_of};
+    ghost use Rattle.track_library.specs.Files.{IsUsed, sound_in};
+
+    ghost Value = { Sound };
+
+    ghost view = { λ f. sound_in f.rate (read_of f.bytes.items) };
+
+    ghost invariant = { λ f. IsUsed f.rate f.bytes.items };
+}
+
+impl Undecoded {
+    /// The file of these bytes at this rate, from 8000 to 192000 samples a second.
+    pub fn new(bytes: Vec<u8>, rate: u32) -> Undecoded
+        requires { IsUsed rate bytes.items }
+        ensures file { result ≡ sound_in rate (read_of bytes.items) }
+        ensures sound { IsSound result }
+    {
+        Undecoded { bytes, rate }
+    }
+
+    /// The track of the file. Of its bytes, its samples and those at the rate of the script at most two are held at one
+    /// time.
+    pub fn decode(self, alloc: Global) -> Result<Track, Memory>
+        ensures track { IfOk result (λ track. track ≡ self) }
+    {
+        let Undecoded { bytes, rate } = self;
+        let recording = record(alloc, bytes)?;
+        track_at(alloc, recording, rate)
+    }
+}
