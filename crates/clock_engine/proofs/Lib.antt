@@ -18,3 +18,4 @@ pub mod Mapped
 pub mod Hearing
 pub mod Segments
 pub mod Needing
+pub mod Pieces

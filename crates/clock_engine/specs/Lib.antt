@@ -4,3 +4,4 @@ pub mod Beginnings
 pub mod ClockStates
 pub mod Runs
 pub mod Cues
+pub mod Pieces

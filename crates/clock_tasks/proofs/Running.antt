@@ -7,11 +7,13 @@ use Rattle.stream_meaning.specs.Calls.{IsBegin, after_calls, calls_of_tick}
 use Rattle.stream_meaning.specs.Sinks.{ticks_bytes}
 use Rattle.liq_base.specs.Pieces.{IsPrefix, grown}
 use Rattle.node_states.specs.Ticks.{IsOutput, with_rest}
+use Rattle.clock_outputs.specs.Appends.{GotOnePiece}
 use Rattle.clock_outputs.proofs.Since.{fell_then, kept_then}
 use Rattle.clock_outputs.proofs.Taken.{fell_none, kept_none}
 use Rattle.clock_engine.specs.declared.engine.ClockEngine.{ClockEngine}
 use Rattle.clock_engine.specs.Engines.{EngineStands, setting_of, held_of}
-use Rattle.clock_engine.specs.Ticks.{HasMade, HasFailed, HaveTicksRoom, HaveTickRoom, IsWriteFault, piece_size}
+use Rattle.clock_engine.proofs.Pieces.{got_more, got_none, got_part}
+use Rattle.clock_engine.specs.Ticks.{GotSomePieces, HasMade, HasFailed, HaveTicksRoom, HaveTickRoom, IsWriteFault, piece_size}
 use Rattle.clock_engine.specs.declared.fault.TickFault.{TickFault}
 use Rattle.clock_engine.specs.declared.fault.TickFault.TheVariants.{Memory as OutOfMemory, Write}
 use Rattle.clock_engine.specs.declared.engine.EngineParts.{EngineParts}
@@ -33,12 +35,12 @@ same_then name faults a b c x y = record {
 }
 
 -- what is known of a task after so many ticks without a fault
-pub record Running {S T : Type 0} (held name : S → Option (List ℕ)) (room : S → Option ℕ) (faults : S → ℕ) (stands : T → List Call → Type 0) (buffers : T → ℕ) (same : T → T → Type 0)
+pub record Running {S T : Type 0} (held name : S → Option (List ℕ)) (room : S → Option ℕ) (faults : S → ℕ) (appends : S → Option ℕ) (stands : T → List Call → Type 0) (buffers : T → ℕ) (same : T → T → Type 0)
     (count : ℕ) (old new : Task S T) : Type 0 where
   pub clock : IsSameClock name faults old.engine new.engine
   pub taps : same old.taps new.taps
   pub many : buffers new.taps ≡ buffers old.taps
-  pub on : (t : ℕ) (history : History) (first : ℕ → Option (List ℕ)) → EngineGone held t history first old.engine → WentOn held stands count t history first old new
+  pub on : (t : ℕ) (history : History) (first : ℕ → Option (List ℕ)) → EngineGone held t history first old.engine → WentOn held appends stands count t history first old new
   pub rooms : (n : ℕ) → HaveTicksRoom room old.engine.parts old.engine.outs (n + count) → HaveTicksRoom room new.engine.parts new.engine.outs n
   pub engine : (t : ℕ) (answers : ℕ → List Answer) → EngineStands old.engine.parts t answers → (more : ℕ → List Answer) × EngineStands new.engine.parts (t + count) more
   pub runs : new.engine.parts.stopped ≡ None
@@ -67,8 +69,8 @@ some_not_none is none = cc
 some_is : {A : Type 0} {o : Option A} (x y : A) → o ≡ Some x → o ≡ Some y → x ≡ y
 some_is x y one other = cc
 
-module _ {S T : Type 0} (held name : S → Option (List ℕ)) (room : S → Option ℕ) (faults : S → ℕ) (stands : T → List Call → Type 0) (buffers : T → ℕ) (same : T → T → Type 0) where
-  pub running_none : (x : Task S T) → same x.taps x.taps → x.engine.parts.stopped ≡ None → Running held name room faults stands buffers same 0 x x
+module _ {S T : Type 0} (held name : S → Option (List ℕ)) (room : S → Option ℕ) (faults : S → ℕ) (appends : S → Option ℕ) (stands : T → List Call → Type 0) (buffers : T → ℕ) (same : T → T → Type 0) where
+  pub running_none : (x : Task S T) → same x.taps x.taps → x.engine.parts.stopped ≡ None → Running held name room faults appends stands buffers same 0 x x
   running_none x s runs = record {
     clock = record { setting = refl; clock = refl; outs = refl; kept = kept_none name faults x.engine.outs; none_fell = fell_none faults x.engine.outs; keeping = refl };
     taps = s;
@@ -77,6 +79,7 @@ module _ {S T : Type 0} (held name : S → Option (List ℕ)) (room : S → Opti
       after = h;
       agree = agree_none t h;
       gone = subst (λ n. EngineGone held n h first x.engine) (sym (add-zero t)) gone;
+      pieces = got_none appends x.engine.outs;
       taps = λ calls st. subst (λ l. stands x.taps l) (sym (append-nil calls)) st;
     };
     rooms = λ n r. subst (λ k. HaveTicksRoom room x.engine.parts x.engine.outs k) (add-zero n) r;
@@ -84,12 +87,13 @@ module _ {S T : Type 0} (held name : S → Option (List ℕ)) (room : S → Opti
     runs = runs;
   }
 
-  module _ (count : ℕ) (x y : Task S T) (e : ClockEngine S) (s : T) (running : Running held name room faults stands buffers same count x y) (same_clock : IsSameClock name faults y.engine e) where
+  module _ (count : ℕ) (x y : Task S T) (e : ClockEngine S) (s : T) (running : Running held name room faults appends stands buffers same count x y) (same_clock : IsSameClock name faults y.engine e) where
     pub running_more : same x.taps s → buffers s ≡ buffers y.taps
         → HasMade held stands y.engine.parts e.parts y.engine.outs e.outs y.taps s
+        → GotOnePiece appends (length y.engine.outs) y.engine.outs e.outs
         → ((n : ℕ) → HaveTicksRoom room y.engine.parts y.engine.outs (n + 1) → HaveTicksRoom room e.parts e.outs n) → e.parts.stopped ≡ None
-        → Running held name room faults stands buffers same (suc count) x (record { engine = e; taps = s })
-    running_more taps many made rooms runs = record {
+        → Running held name room faults appends stands buffers same (suc count) x (record { engine = e; taps = s })
+    running_more taps many made once rooms runs = record {
       clock = same_then name faults x.engine y.engine e running.clock same_clock;
       taps = taps;
       many = many ∙ running.many;
@@ -104,6 +108,7 @@ module _ {S T : Type 0} (held name : S → Option (List ℕ)) (room : S → Opti
             agree = agree_then t (t + count) h w.after after (omega arith) w.agree below;
             gone = subst (λ (z : Setting × ℕ × ℕ). HasGone z.0 stands_for (held_of held) z.1 z.2 after first e)
                 (λ i. (sym same_clock.setting i, sym same_clock.clock i, sym (add-suc t count) i)) all;
+            pieces = got_more appends count x.engine.outs y.engine.outs e.outs running.clock.outs w.pieces once;
             taps = λ calls st.
                 let old : joined_from after.calls t count ≡ joined_from w.after.calls t count =
                 joined_alike (λ j. after.calls (t + j)) (λ j. w.after.calls (t + j)) count (λ j less. below.calls (t + j) (omega (arith, less))) in
@@ -116,12 +121,12 @@ module _ {S T : Type 0} (held name : S → Option (List ℕ)) (room : S → Opti
       runs = runs;
     }
 
-    pub running_broke : (appends : S → Option ℕ) (whole : ℕ) → count < whole → same x.taps s → buffers s ≡ buffers y.taps
-        → HasFailed held stands y.engine.parts e.parts y.engine.outs e.outs y.taps s
+    pub running_broke : (whole : ℕ) → count < whole → same x.taps s → buffers s ≡ buffers y.taps
+        → HasFailed held stands y.engine.parts e.parts y.engine.outs e.outs y.taps s → GotSomePieces appends y.engine.outs e.outs
         → (fault : TickFault) → e.parts.stopped ≡ Some fault → ((sink : ℕ) → fault ≡ Write sink → IsWriteFault faults appends y.engine.parts y.engine.outs e.outs fault)
         → ((y.engine.parts.cues.keeping ≡ true → ⊥) → fault ≡ OutOfMemory → 0 < length y.engine.parts.shape.plan.now.buffers)
-        → WasRun held name room faults stands buffers same whole x (record { engine = e; taps = s })
-    running_broke appends whole fewer taps many failed fault stopped cause memory = record {
+        → WasRun held name room faults appends stands buffers same whole x (record { engine = e; taps = s })
+    running_broke whole fewer taps many failed some fault stopped cause memory = record {
       clock = same_then name faults x.engine y.engine e running.clock same_clock;
       taps = taps;
       many = many ∙ running.many;
@@ -138,6 +143,7 @@ module _ {S T : Type 0} (held name : S → Option (List ℕ)) (room : S → Opti
               after = w.after;
               agree = w.agree;
               part = moved.0;
+              pieces = got_part appends count count (suc count) x.engine.outs y.engine.outs e.outs (omega arith) (omega arith) running.clock.outs w.pieces some;
               taps = λ calls st. subst (λ l. stands s l) (append_assoc calls (joined_from w.after.calls t count) failed.made ∙ ap (λ l. calls ++ (joined_from w.after.calls t count ++ l)) (sym (moved.1 ∙ part.1)))
                   (failed.taps (calls ++ joined_from w.after.calls t count) (w.taps calls st));
             };
@@ -150,8 +156,8 @@ module _ {S T : Type 0} (held name : S → Option (List ℕ)) (room : S → Opti
           (memory (λ keeps. none (sym running.clock.keeping ∙ keeps)) (some_is fault OutOfMemory stopped is));
     }
 
-  pub running_all : (count whole : ℕ) (x y : Task S T) → count ≡ whole → Running held name room faults stands buffers same count x y → WasRun held name room faults stands buffers same whole x y
-  running_all count whole x y is running = subst (λ n. WasRun held name room faults stands buffers same n x y) is (record {
+  pub running_all : (count whole : ℕ) (x y : Task S T) → count ≡ whole → Running held name room faults appends stands buffers same count x y → WasRun held name room faults appends stands buffers same whole x y
+  running_all count whole x y is running = subst (λ n. WasRun held name room faults appends stands buffers same n x y) is (record {
     clock = running.clock;
     taps = running.taps;
     many = running.many;

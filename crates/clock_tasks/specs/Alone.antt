@@ -23,5 +23,5 @@ abbrev pub CanRunAlone : {S : Type 0} → (S → Option ℕ) → (count : ℕ) �
 CanRunAlone room count engine = CanRun room no_buffers count (with_taps tt engine)
 
 -- what it did
-abbrev pub WasRunAlone : {S : Type 0} → (held name : S → Option (List ℕ)) → (S → Option ℕ) → (S → ℕ) → (count : ℕ) → (old new : ClockEngine S) → Type 0
-WasRunAlone held name room faults count old new = WasRun held name room faults any_calls no_buffers any_taps count (with_taps tt old) (with_taps tt new)
+abbrev pub WasRunAlone : {S : Type 0} → (held name : S → Option (List ℕ)) → (S → Option ℕ) → (S → ℕ) → (S → Option ℕ) → (count : ℕ) → (old new : ClockEngine S) → Type 0
+WasRunAlone held name room faults appends count old new = WasRun held name room faults appends any_calls no_buffers any_taps count (with_taps tt old) (with_taps tt new)

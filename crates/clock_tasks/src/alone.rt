@@ -42,7 +42,7 @@ impl Taps for IdleTaps {
 // So many ticks of one engine, each after the gate. An engine with a fault stops at its tick.
 fn run_alone<O: Sink, G: Gate>(alloc: Global, engine: &mut ClockEngine<'_, O>, gate: &G, count: u64)
     requires { CanRunAlone O.room count engine.old }
-    ensures { WasRunAlone O.held O.name O.room O.faults count engine.old engine.new }
+    ensures { WasRunAlone O.held O.name O.room O.faults O.appends count engine.old engine.new }
 {
     run_ticks(alloc, engine, &mut IdleTaps { buffers: 0 }, gate, count);
 }
@@ -57,7 +57,7 @@ pub fn run_engines<O: Sink + Send, G: Gate + Sync, R: Threads + Sync>(
 )
     requires some { 0 < length engines.old }
     requires can { All (CanRunAlone O.room count) engines.old }
-    ensures ran { (i : ℕ) (d : _) → i < length engines.old → WasRunAlone O.held O.name O.room O.faults count (slice_index_or engines.old i d) (slice_index_or engines.new i d) }
+    ensures ran { (i : ℕ) (d : _) → i < length engines.old → WasRunAlone O.held O.name O.room O.faults O.appends count (slice_index_or engines.old i d) (slice_index_or engines.new i d) }
 {
     thread::for_each_mut(
         rt,

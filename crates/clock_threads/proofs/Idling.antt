@@ -14,6 +14,7 @@ use Rattle.run_records.specs.Records.{AreWindowsBegun, Follows, IsLawful, Run, W
 use Rattle.run_records.proofs.Alone.{feeder_runs}
 use Rattle.clock_engine.specs.declared.engine.ClockEngine.{ClockEngine}
 use Rattle.clock_engine.specs.Engines.{held_of}
+use Rattle.clock_engine.proofs.Pieces.{got_between, got_none}
 use Rattle.clock_windows.specs.Listed.{listed}
 use Rattle.clock_windows.proofs.Meeting.{low_or_high}
 use Rattle.clock_windows.proofs.Starts.{start_most, start_next, start_zero}
@@ -56,9 +57,9 @@ pub done_no_write : (clock sink : ℕ) → ◌≡◌ {A = End} Done (Write clock
 done_no_write clock sink e = cc
 
 -- no tick was made
-pub none_made : {S : Type 0} (held name : S → Option (List ℕ)) (room : S → Option ℕ) (faults : S → ℕ) (plan : Plan) (setting : Setting) (clocks : ClockMap) (W N : ℕ) (engines : List (ClockEngine S)) (end : End)
-    → ((clock sink : ℕ) → end ≡ Write clock sink → ⊥) → AreEngines room plan clocks N setting engines → HasRunSome held name faults setting clocks W N engines engines end
-none_made held name room faults plan setting clocks W N engines end other are = record {
+pub none_made : {S : Type 0} (held name : S → Option (List ℕ)) (room : S → Option ℕ) (faults : S → ℕ) (appends : S → Option ℕ) (plan : Plan) (setting : Setting) (clocks : ClockMap) (W N : ℕ) (engines : List (ClockEngine S)) (end : End)
+    → ((clock sink : ℕ) → end ≡ Write clock sink → ⊥) → AreEngines room plan clocks N setting engines → HasRunSome held name faults appends setting clocks W N engines engines end
+none_made held name room faults appends plan setting clocks W N engines end other are = record {
   run = idle_run setting;
   begun = idle_begun setting clocks.running W N;
   many = refl;
@@ -69,6 +70,7 @@ none_made held name room faults plan setting clocks W N engines end other are = 
         given = λ rest. ((setting_then setting (idle_run setting) rest).answers, refl);
         stands = inl (refl, (are.each k d h).stands);
         part = λ rest sink node out. ([], record { rest = []; whole_is = refl }, record { rest = []; whole_is = refl }, grown_none (held_of held engine sink));
+        pieces = got_between appends 0 0 0 engine.outs engine.outs (omega arith) (omega arith) (got_none appends engine.outs);
       });
   write = λ clock sink e. absurd (other clock sink e);
 }
@@ -109,7 +111,7 @@ has_windows W N some = elim (windows_found W N N some) [
 ]
 
 -- no clock runs, so no buffer is fed, and the record is empty
-module _ {S : Type 0} (held name : S → Option (List ℕ)) (room : S → Option ℕ) (faults : S → ℕ) (plan : Plan) (setting : Setting) (clocks : ClockMap) (W N : ℕ) (engines : List (ClockEngine S))
+module _ {S : Type 0} (held name : S → Option (List ℕ)) (room : S → Option ℕ) (faults : S → ℕ) (appends : S → Option ℕ) (plan : Plan) (setting : Setting) (clocks : ClockMap) (W N : ℕ) (engines : List (ClockEngine S))
     (none : length engines ≡ 0) (some : 0 < W) (are : AreEngines room plan clocks N setting engines) where
   no_buffers : (b : ℕ) → b < length setting.plan.buffers → ⊥
   no_buffers b known = (let runs = feeder_runs setting clocks are.is b known in let all = are.all in omega (arith, runs, all, none))
@@ -128,8 +130,8 @@ module _ {S : Type 0} (held name : S → Option (List ℕ)) (room : S → Option
         in_order = λ b known one. absurd (no_buffers b known);
       }
 
-  pub none_run : (counts : List Counts) (logs : List (List Answers)) → counts ≡ [] → logs ≡ [] → HasRunAll held name faults setting clocks W N engines engines counts logs
-  none_run counts logs no_counts no_logs = subst (λ (z : List Counts × List (List Answers)). HasRunAll held name faults setting clocks W N engines engines z.0 z.1) (λ i. (sym no_counts i, sym no_logs i)) (record {
+  pub none_run : (counts : List Counts) (logs : List (List Answers)) → counts ≡ [] → logs ≡ [] → HasRunAll held name faults appends setting clocks W N engines engines counts logs
+  none_run counts logs no_counts no_logs = subst (λ (z : List Counts × List (List Answers)). HasRunAll held name faults appends setting clocks W N engines engines z.0 z.1) (λ i. (sym no_counts i, sym no_logs i)) (record {
     run = record { buffers = [] };
     has_run = record {
       many = refl;
@@ -140,9 +142,9 @@ module _ {S : Type 0} (held name : S → Option (List ℕ)) (room : S → Option
   })
 
 -- the end of a run may become want of memory
-pub some_told : {S : Type 0} (held name : S → Option (List ℕ)) (faults : S → ℕ) (setting : Setting) (clocks : ClockMap) (W N : ℕ) (old new : List (ClockEngine S)) (end told : End)
-    → ((clock sink : ℕ) → told ≡ Write clock sink → end ≡ Write clock sink) → HasRunSome held name faults setting clocks W N old new end → HasRunSome held name faults setting clocks W N old new told
-some_told held name faults setting clocks W N old new end told write has = record {
+pub some_told : {S : Type 0} (held name : S → Option (List ℕ)) (faults : S → ℕ) (appends : S → Option ℕ) (setting : Setting) (clocks : ClockMap) (W N : ℕ) (old new : List (ClockEngine S)) (end told : End)
+    → ((clock sink : ℕ) → told ≡ Write clock sink → end ≡ Write clock sink) → HasRunSome held name faults appends setting clocks W N old new end → HasRunSome held name faults appends setting clocks W N old new told
+some_told held name faults appends setting clocks W N old new end told write has = record {
   run = has.run;
   begun = has.begun;
   many = has.many;

@@ -33,12 +33,12 @@ written_is n new rest e = ap (λ k. take k (new ++ rest)) (sym e) ∙ go new res
     go [] ys = refl
     go (x ∷ xs) ys = ap (λ l. x ∷ l) (go xs ys)
 
-pub run_told : {S R : Type 0} (held name : S → Option (List ℕ)) (faults : S → ℕ) (wires : List Wire) (setting : Setting) (clocks : ClockMap) (W N : ℕ) (old olds engines : List (ClockEngine S)) (tasks : List (Task S (ThreadTaps R)))
+pub run_told : {S R : Type 0} (held name : S → Option (List ℕ)) (faults : S → ℕ) (appends : S → Option ℕ) (wires : List Wire) (setting : Setting) (clocks : ClockMap) (W N : ℕ) (old olds engines : List (ClockEngine S)) (tasks : List (Task S (ThreadTaps R)))
     (logs after : List (List Answers)) (counts : List Counts)
-    → HasRunTasks held name faults wires setting clocks W N olds tasks logs → olds ≡ old → AreCollected wires tasks logs after → engines ≡ map engine_of tasks → counts ≡ map counts_in after
-    → HasRunAll held name faults setting clocks W N old engines counts after
-run_told {S} {R} held name faults wires setting clocks W N old olds engines tasks logs after counts run same collected is counted =
-    subst (λ (z : List (ClockEngine S) × List (ClockEngine S)). HasRunAll held name faults setting clocks W N z.0 z.1 counts after) (λ i. (same i, sym is i)) (record {
+    → HasRunTasks held name faults appends wires setting clocks W N olds tasks logs → olds ≡ old → AreCollected wires tasks logs after → engines ≡ map engine_of tasks → counts ≡ map counts_in after
+    → HasRunAll held name faults appends setting clocks W N old engines counts after
+run_told {S} {R} held name faults appends wires setting clocks W N old olds engines tasks logs after counts run same collected is counted =
+    subst (λ (z : List (ClockEngine S) × List (ClockEngine S)). HasRunAll held name faults appends setting clocks W N z.0 z.1 counts after) (λ i. (same i, sym is i)) (record {
       run = record { buffers = listed (length wires) run.windows };
       has_run = run.run;
       tells = record {

@@ -34,7 +34,7 @@ engines_back : {S : Type 0} (engines : List (ClockEngine S)) → map (engine_of 
 engines_back [] = refl
 engines_back (engine ∷ engines) = ap (λ rest. engine ∷ rest) (engines_back engines)
 
-module _ {S : Type 0} (held name : S → Option (List ℕ)) (room : S → Option ℕ) (faults : S → ℕ) (plan : Plan) (none : length plan.buffers ≡ 0) (W N : ℕ) (engines : List (ClockEngine S)) (some : 0 < length engines)
+module _ {S : Type 0} (held name : S → Option (List ℕ)) (room : S → Option ℕ) (faults : S → ℕ) (appends : S → Option ℕ) (plan : Plan) (none : length plan.buffers ≡ 0) (W N : ℕ) (engines : List (ClockEngine S)) (some : 0 < length engines)
     (setting : Setting) (clocks : ClockMap) (are : AreEngines room plan clocks N setting engines) where
   abbrev tasks : List (Task S (ThreadTaps ⊤))
   tasks = all_alone engines
@@ -69,19 +69,19 @@ module _ {S : Type 0} (held name : S → Option (List ℕ)) (room : S → Option
   some_tasks : 0 < length tasks
   some_tasks = let n = alone_long engines in omega (arith, some, n)
 
-  pub unwired_ready : IsReady held name room faults [] W N tasks []
-  unwired_ready = ready held name room faults plan [] W N tasks tasks some_tasks are_laid are_tasks setting clocks are_fresh are_joined [] (record { are_many = refl; each = λ b d low. absurd (omega (arith, low)) })
+  pub unwired_ready : IsReady held name room faults appends [] W N tasks []
+  unwired_ready = ready held name room faults appends plan [] W N tasks tasks some_tasks are_laid are_tasks setting clocks are_fresh are_joined [] (record { are_many = refl; each = λ b d low. absurd (omega (arith, low)) })
 
-  pub unwired_all : (now : List (ClockEngine S)) (counts : List Counts) (logs : List (List Answers)) → counts ≡ [] → logs ≡ [] → RunDone held name room faults [] W N tasks (all_alone now) []
-      → HasRunAll held name faults setting clocks W N engines now counts logs
+  pub unwired_all : (now : List (ClockEngine S)) (counts : List Counts) (logs : List (List Answers)) → counts ≡ [] → logs ≡ [] → RunDone held name room faults appends [] W N tasks (all_alone now) []
+      → HasRunAll held name faults appends setting clocks W N engines now counts logs
   unwired_all now counts logs no_counts no_logs done =
-      let run = has_run held name room faults plan [] W N tasks tasks some_tasks are_laid are_tasks setting clocks are_fresh are_joined (all_alone now) [] done in
+      let run = has_run held name room faults appends plan [] W N tasks tasks some_tasks are_laid are_tasks setting clocks are_fresh are_joined (all_alone now) [] done in
       let collected : AreCollected [] (all_alone now) [] [] = record { many = refl; local = λ b d e f low. absurd (omega (arith, low)); joined = λ b d apart. refl } in
-      subst (λ (z : List Counts × List (List Answers)). HasRunAll held name faults setting clocks W N engines now z.0 z.1) (λ i. (sym no_counts i, sym no_logs i))
-      (run_told held name faults [] setting clocks W N engines (map engine_of tasks) now (all_alone now) [] [] [] run (engines_back engines) collected (sym (engines_back now)) refl)
+      subst (λ (z : List Counts × List (List Answers)). HasRunAll held name faults appends setting clocks W N engines now z.0 z.1) (λ i. (sym no_counts i, sym no_logs i))
+      (run_told held name faults appends [] setting clocks W N engines (map engine_of tasks) now (all_alone now) [] [] [] run (engines_back engines) collected (sym (engines_back now)) refl)
 
-  pub unwired_some : (now : List (ClockEngine S)) (end : End) → RunPart held name faults [] W N tasks (all_alone now) → ((clock sink : ℕ) → end ≡ Write clock sink → IsWriteAt faults clock sink tasks (all_alone now))
-      → HasRunSome held name faults setting clocks W N engines now end
+  pub unwired_some : (now : List (ClockEngine S)) (end : End) → RunPart held name faults appends [] W N tasks (all_alone now) → ((clock sink : ℕ) → end ≡ Write clock sink → IsWriteAt faults clock sink tasks (all_alone now))
+      → HasRunSome held name faults appends setting clocks W N engines now end
   unwired_some now end part write =
-      subst (λ (z : List (ClockEngine S) × List (ClockEngine S)). HasRunSome held name faults setting clocks W N z.0 z.1 end) (λ i. (engines_back engines i, engines_back now i))
-      (has_run_some held name room faults plan [] W N tasks tasks some_tasks are_laid are_tasks setting clocks are_fresh are_joined (all_alone now) end part write)
+      subst (λ (z : List (ClockEngine S) × List (ClockEngine S)). HasRunSome held name faults appends setting clocks W N z.0 z.1 end) (λ i. (engines_back engines i, engines_back now i))
+      (has_run_some held name room faults appends plan [] W N tasks tasks some_tasks are_laid are_tasks setting clocks are_fresh are_joined (all_alone now) end part write)

@@ -16,6 +16,7 @@ use Rattle.run_records.specs.Records.{AreWindowsBegun, IsLawful, Run, setting_in
 use Rattle.clock_outputs.specs.Appends.{RoseAt}
 use Rattle.clock_engine.specs.Engines.{EngineStands, outputs_of, setting_of, held_of}
 use Rattle.clock_engine.specs.Ticks.{HaveTicksRoom}
+use Rattle.clock_engine.specs.Pieces.{GotBetween, GotPieces}
 use Rattle.clock_engine.specs.declared.engine.ClockEngine.{ClockEngine}
 use Rattle.clock_engine.specs.declared.fault.TickFault.TheVariants.{Write as Refused}
 use Rattle.clock_tasks.specs.Tasks.{IsSameClock}
@@ -41,21 +42,22 @@ pub record AreAlike {S : Type 0} (room : S → Option ℕ) (plan : Plan) (clocks
   pub setting : Setting
   pub are : AreEngines room plan clocks N setting engines
 
--- An engine has made all its ticks of a run: it stands for them, and for what its takes got in the run; and each output has grown by
--- what its node means then.
-pub record HasMadeAll {S : Type 0} (held name : S → Option (List ℕ)) (faults : S → ℕ) (setting : Setting) (run : Run) (N k : ℕ) (old new : ClockEngine S) : Type 0 where
+-- An engine has made all its ticks of a run: it stands for them, and for what its takes got in the run; each output has grown by what
+-- its node means then, and its sink got a piece for each tick.
+pub record HasMadeAll {S : Type 0} (held name : S → Option (List ℕ)) (faults : S → ℕ) (appends : S → Option ℕ) (setting : Setting) (run : Run) (N k : ℕ) (old new : ClockEngine S) : Type 0 where
   pub same : IsSameClock name faults old new
   pub answers : ℕ → List Answer
   pub rest : ℕ → List Answer
   pub stands : EngineStands new.parts N answers
   pub are : with_rest setting answers rest ≡ setting_in setting run
   pub bytes : (sink node : ℕ) (output : IsOutput setting k sink node) → held_of held new sink ≡ grown (ticks_bytes (setting_in setting run) output.wide node N) (held_of held old sink)
+  pub pieces : GotPieces appends N old.outs new.outs
 
 -- All engines have made their ticks, in windows of W, and this is the record of their calls: it is lawful.
-pub record HasRun {S : Type 0} (held name : S → Option (List ℕ)) (faults : S → ℕ) (setting : Setting) (clocks : ClockMap) (W N : ℕ) (run : Run) (old new : List (ClockEngine S)) : Type 0 where
+pub record HasRun {S : Type 0} (held name : S → Option (List ℕ)) (faults : S → ℕ) (appends : S → Option ℕ) (setting : Setting) (clocks : ClockMap) (W N : ℕ) (run : Run) (old new : List (ClockEngine S)) : Type 0 where
   pub many : length new ≡ length old
   pub lawful : IsLawful setting clocks.running W N run
-  pub engines : (k : ℕ) (d : ClockEngine S) → k < length old → HasMadeAll held name faults setting run N k (slice_index_or old k d) (slice_index_or new k d)
+  pub engines : (k : ℕ) (d : ClockEngine S) → k < length old → HasMadeAll held name faults appends setting run N k (slice_index_or old k d) (slice_index_or new k d)
 
 -- each buffer's log has the answers of its windows, and its counts are the numbers of these
 pub record AreTold (run : Run) (counts : List Counts) (logs : List (List Answers)) : Type 0 where
@@ -63,16 +65,16 @@ pub record AreTold (run : Run) (counts : List Counts) (logs : List (List Answers
   pub counts_are : counts ≡ map counts_in logs
 
 -- a run of all ticks, with its counts and logs
-pub record HasRunAll {S : Type 0} (held name : S → Option (List ℕ)) (faults : S → ℕ) (setting : Setting) (clocks : ClockMap) (W N : ℕ) (old new : List (ClockEngine S))
+pub record HasRunAll {S : Type 0} (held name : S → Option (List ℕ)) (faults : S → ℕ) (appends : S → Option ℕ) (setting : Setting) (clocks : ClockMap) (W N : ℕ) (old new : List (ClockEngine S))
     (counts : List Counts) (logs : List (List Answers)) : Type 0 where
   pub run : Run
-  pub has_run : HasRun held name faults setting clocks W N run old new
+  pub has_run : HasRun held name faults appends setting clocks W N run old new
   pub tells : AreTold run counts logs
 
 -- How far an engine came in a run that was broken off: it stands for the ticks that it made, or stopped in the next one; with the answers
 -- that its takes got in the run. Each output has grown by its bytes of the ticks that were made, and then by a front of those that were
--- tried, whatever answers follow.
-pub record HasMadePart {S : Type 0} (held name : S → Option (List ℕ)) (faults : S → ℕ) (setting : Setting) (run : Run) (made tried k : ℕ) (old new : ClockEngine S) : Type 0 where
+-- tried, whatever answers follow; and its sink got a piece for each tick that was made, and at most one for each that was tried.
+pub record HasMadePart {S : Type 0} (held name : S → Option (List ℕ)) (faults : S → ℕ) (appends : S → Option ℕ) (setting : Setting) (run : Run) (made tried k : ℕ) (old new : ClockEngine S) : Type 0 where
   pub same : IsSameClock name faults old new
   pub answers : ℕ → List Answer
   pub given : (rest : ℕ → List Answer) → (more : ℕ → List Answer) × (with_rest setting answers more ≡ setting_then setting run rest)
@@ -82,6 +84,7 @@ pub record HasMadePart {S : Type 0} (held name : S → Option (List ℕ)) (fault
       × IsPrefix (ticks_bytes (setting_then setting run rest) output.wide node made) bytes
       × IsPrefix bytes (ticks_bytes (setting_then setting run rest) output.wide node tried)
       × (held_of held new sink ≡ grown bytes (held_of held old sink))
+  pub pieces : GotBetween appends made tried old.outs new.outs
 
 -- The end names an output of this clock, the lowest that stopped, and the count of faults of its sink rose.
 pub record IsWriteEnd {S : Type 0} (faults : S → ℕ) (setting : Setting) (clock sink : ℕ) (old new : List (ClockEngine S)) : Type 0 where
@@ -98,9 +101,9 @@ pub record IsWriteEnd {S : Type 0} (faults : S → ℕ) (setting : Setting) (clo
 
 -- A run came so far, and this is its record: each clock made the windows that were closed whole, and none is past the one that follows
 -- them.
-pub record HasRunSome {S : Type 0} (held name : S → Option (List ℕ)) (faults : S → ℕ) (setting : Setting) (clocks : ClockMap) (W N : ℕ) (old new : List (ClockEngine S)) (end : End) : Type 0 where
+pub record HasRunSome {S : Type 0} (held name : S → Option (List ℕ)) (faults : S → ℕ) (appends : S → Option ℕ) (setting : Setting) (clocks : ClockMap) (W N : ℕ) (old new : List (ClockEngine S)) (end : End) : Type 0 where
   pub run : Run
   pub begun : AreWindowsBegun setting clocks.running W N run
   pub many : length new ≡ length old
-  pub engines : (k : ℕ) (d : ClockEngine S) → k < length old → HasMadePart held name faults setting run (begun.made k) (begun.tried k) k (slice_index_or old k d) (slice_index_or new k d)
+  pub engines : (k : ℕ) (d : ClockEngine S) → k < length old → HasMadePart held name faults appends setting run (begun.made k) (begun.tried k) k (slice_index_or old k d) (slice_index_or new k d)
   pub write : (clock sink : ℕ) → end ≡ Write clock sink → IsWriteEnd faults setting clock sink old new

@@ -36,10 +36,10 @@ pub record AreSomeFresh {S : Type 0} (room : S → Option ℕ) (plan : Plan) (wi
   pub are : AreFresh room plan wires N setting clocks engines
 
 -- all ticks were made; here are the tasks and the logs, before the lists' logs are put to the others
-pub record HasRunTasks {S R : Type 0} (held name : S → Option (List ℕ)) (faults : S → ℕ) (wires : List Wire) (setting : Setting) (clocks : ClockMap) (W N : ℕ)
+pub record HasRunTasks {S R : Type 0} (held name : S → Option (List ℕ)) (faults : S → ℕ) (appends : S → Option ℕ) (wires : List Wire) (setting : Setting) (clocks : ClockMap) (W N : ℕ)
     (old : List (ClockEngine S)) (tasks : List (Task S (ThreadTaps R))) (logs : List (List Answers)) : Type 0 where
   pub windows : ℕ → List Window
-  pub run : HasRun held name faults setting clocks W N (record { buffers = listed (length wires) windows }) old (map engine_of tasks)
+  pub run : HasRun held name faults appends setting clocks W N (record { buffers = listed (length wires) windows }) old (map engine_of tasks)
   pub one : Task S (ThreadTaps R)
   pub logged : LogsGoing wires windows tasks logs one
   pub places : (b : ℕ) → b < length wires → (wire_at wires b).from < length tasks

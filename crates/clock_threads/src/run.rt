@@ -36,9 +36,9 @@ pub fn run_threads<'a, O: Sink + Send, G: Gate + Sync, R: Threads + Wait + Sync>
     requires window { 0 < window }
     ensures many { length result.0.items ≡ length engines.entry.items }
     ensures done { result.1.end ≡ Done → (setting : Setting) → AreEngines O.room plan.now clocks.now ticks setting engines.entry.items
-        → HasRunAll O.held O.name O.faults setting clocks.now window ticks engines.entry.items result.0.items result.1.counts.items result.1.logs.items }
+        → HasRunAll O.held O.name O.faults O.appends setting clocks.now window ticks engines.entry.items result.0.items result.1.counts.items result.1.logs.items }
     ensures part { (setting : Setting) → AreEngines O.room plan.now clocks.now ticks setting engines.entry.items
-        → HasRunSome O.held O.name O.faults setting clocks.now window ticks engines.entry.items result.0.items result.1.end }
+        → HasRunSome O.held O.name O.faults O.appends setting clocks.now window ticks engines.entry.items result.0.items result.1.end }
     ensures memory { All (λ engine. engine.parts.cues.keeping ≡ true → ⊥) engines.entry.items → result.1.end ≡ NoMemory → 0 < length plan.now.buffers }
 {
     if engines.is_empty() {

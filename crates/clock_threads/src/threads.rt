@@ -49,9 +49,9 @@ fn run_tasks<'q, O: Sink + Send, G: Gate + Sync, R: Threads + Wait + Sync>(
     requires window { 0 < window }
     ensures many { length tasks.new ≡ length tasks.old }
     ensures done { result ≡ Done → (setting : Setting) (clocks : Map) → AreFresh O.room plan.now wires.now ticks setting clocks (map engine_of tasks.old)
-        → HasRunTasks O.held O.name O.faults wires.now setting clocks window ticks (map engine_of tasks.old) tasks.new logs.new }
+        → HasRunTasks O.held O.name O.faults O.appends wires.now setting clocks window ticks (map engine_of tasks.old) tasks.new logs.new }
     ensures part { (setting : Setting) (clocks : Map) → AreFresh O.room plan.now wires.now ticks setting clocks (map engine_of tasks.old)
-        → HasRunSome O.held O.name O.faults setting clocks window ticks (map engine_of tasks.old) (map engine_of tasks.new) result }
+        → HasRunSome O.held O.name O.faults O.appends setting clocks window ticks (map engine_of tasks.old) (map engine_of tasks.new) result }
 {
     if let Err(Memory) = join_all(wires, queues, passes, tasks) {
         return End::Memory;
@@ -103,9 +103,9 @@ pub(crate) fn run_wired<'a, O: Sink + Send, G: Gate + Sync, R: Threads + Wait + 
     requires window { 0 < window }
     ensures many { length engines.new.items ≡ length engines.old.items }
     ensures done { result.end ≡ Done → (setting : Setting) (clocks : Map) → AreFresh O.room plan.now wires.now ticks setting clocks engines.old.items
-        → HasRunAll O.held O.name O.faults setting clocks window ticks engines.old.items engines.new.items result.counts.items result.logs.items }
+        → HasRunAll O.held O.name O.faults O.appends setting clocks window ticks engines.old.items engines.new.items result.counts.items result.logs.items }
     ensures part { (setting : Setting) (clocks : Map) → AreFresh O.room plan.now wires.now ticks setting clocks engines.old.items
-        → HasRunSome O.held O.name O.faults setting clocks window ticks engines.old.items engines.new.items result.end }
+        → HasRunSome O.held O.name O.faults O.appends setting clocks window ticks engines.old.items engines.new.items result.end }
 {
     let Ok(mut logs) = no_logs(alloc, wires.len()) else {
         return ended(alloc, End::Memory);

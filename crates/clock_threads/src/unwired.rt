@@ -30,9 +30,9 @@ pub(crate) fn run_unwired<O: Sink + Send, G: Gate + Sync, R: Threads + Sync>(
     requires window { 0 < window }
     ensures many { length engines.new ≡ length engines.old }
     ensures done { result.end ≡ Done → (plan : ThePlan) (setting : Setting) (clocks : Map) → length plan.buffers ≡ 0 → AreEngines O.room plan clocks ticks setting engines.old
-        → HasRunAll O.held O.name O.faults setting clocks window ticks engines.old engines.new result.counts.items result.logs.items }
+        → HasRunAll O.held O.name O.faults O.appends setting clocks window ticks engines.old engines.new result.counts.items result.logs.items }
     ensures part { (plan : ThePlan) (setting : Setting) (clocks : Map) → length plan.buffers ≡ 0 → AreEngines O.room plan clocks ticks setting engines.old
-        → HasRunSome O.held O.name O.faults setting clocks window ticks engines.old engines.new result.end }
+        → HasRunSome O.held O.name O.faults O.appends setting clocks window ticks engines.old engines.new result.end }
     ensures memory { All (λ engine. engine.parts.cues.keeping ≡ true → ⊥) engines.old → result.end ≢ Memory }
 {
     ended(alloc, run_alone(rt, alloc, engines, ticks, window, gate))

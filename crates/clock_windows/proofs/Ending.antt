@@ -1,5 +1,5 @@
 -- The whole run.
-use Rattle.std.proofs.Common.{◌≡◌, ◌⊎◌, ℕ, suc, ◌<◌, ◌≤◌, ◌+◌, ◌-◌, All, List, [], ◌∷◌, length, slice_index_or, min, sym, refl, ap, ◌∙◌, subst, arith, inl, inr, Option, Some, None, ◌++◌, append-nil}
+use Rattle.std.proofs.Common.{◌≡◌, ◌⊎◌, ℕ, suc, ◌<◌, ◌≤◌, ◌+◌, ◌-◌, All, List, [], ◌∷◌, length, slice_index_or, min, sym, refl, ap, ◌∙◌, subst, arith, inl, inr, Option, Some, None, ◌++◌, add-suc, append-nil}
 use Rattle.std.specs.Prelude.{IfSome}
 use Rattle.clock_engine.specs.declared.engine.ClockEngine.{ClockEngine}
 use Rattle.frame_core.specs.Legal.{Legal, IsRun}
@@ -15,6 +15,8 @@ use Rattle.clock_tasks.specs.declared.task.Task.{Task}
 use Rattle.clock_tasks.specs.Histories.{History, Agree, answers_by, joined_from}
 use Rattle.stream_meaning.specs.Calls.{joined_upto}
 use Rattle.clock_engine.specs.Engines.{held_of}
+use Rattle.clock_engine.specs.Pieces.{GotBetween, GotPieces}
+use Rattle.clock_engine.proofs.Pieces.{between_then, got_between, got_then}
 use Rattle.clock_tasks.specs.Tasks.{CanRun, WasRun, EngineGone, EngineGonePart, IsSameClock, IsWriteOf}
 use Rattle.clock_tasks.proofs.Walking.{agree_none, joined_alike}
 use Rattle.clock_tasks.proofs.Running.{rooms_fewer, same_then}
@@ -63,22 +65,22 @@ with_one [] less f = absurd (omega (arith, less))
 with_one (x ∷ xs) less f = f x
 
 module _ {S R : Type 0} where
-  module _ (held name : S → Option (List ℕ)) (room : S → Option ℕ) (faults : S → ℕ) (wires : List Wire) (W N : ℕ) where
+  module _ (held name : S → Option (List ℕ)) (room : S → Option ℕ) (faults : S → ℕ) (appends : S → Option ℕ) (wires : List Wire) (W N : ℕ) where
     pub record LoopAt (made : ℕ) (first now : List (Task S (ThreadTaps R))) (logs : List (List Answers)) (d : Task S (ThreadTaps R)) : Type 0 where
       pub windows : ℕ
       pub is : made ≡ start W N windows
       pub tight : (i : ℕ) → i < windows → start W N i < N
-      pub going : Going held name room faults wires W N windows first now logs d
+      pub going : Going held name room faults appends wires W N windows first now logs d
 
     pub record Loop (made : ℕ) (first now : List (Task S (ThreadTaps R))) (logs : List (List Answers)) : Type 0 where
       pub many : length now ≡ length first
       pub at : (d : Task S (ThreadTaps R)) → LoopAt made first now logs d
 
-    pub loop_none : (first : List (Task S (ThreadTaps R))) (logs : List (List Answers)) → IsReady held name room faults wires W N first logs → Loop 0 first first logs
+    pub loop_none : (first : List (Task S (ThreadTaps R))) (logs : List (List Answers)) → IsReady held name room faults appends wires W N first logs → Loop 0 first first logs
     loop_none first logs ready = record { many = refl; at = λ d. record { windows = 0; is = sym (start_zero W N); tight = λ i low. absurd (omega (arith, low)); going = ready.begun d } }
 
     -- a run to its end, as far as any run
-    pub loop_part : (made : ℕ) (first now : List (Task S (ThreadTaps R))) (start_logs logs : List (List Answers)) → IsReady held name room faults wires W N first start_logs → Loop made first now logs → RunPart held name faults wires W N first now
+    pub loop_part : (made : ℕ) (first now : List (Task S (ThreadTaps R))) (start_logs logs : List (List Answers)) → IsReady held name room faults appends wires W N first start_logs → Loop made first now logs → RunPart held name faults appends wires W N first now
     loop_part made first now start_logs logs ready loop d = let l = loop.at d in
         record {
           closed = l.windows;
@@ -86,20 +88,27 @@ module _ {S R : Type 0} where
           since = λ k. [];
           many = loop.many;
           clocks = λ k h. (let c = l.going.clocks k h in
-              record { same = c.same; ticks = start W N l.windows; least = omega arith; came = inl (start_up W N l.windows, c.gone, sym (joined_none (l.going.histories k).calls (start W N l.windows))) });
+              record {
+                same = c.same;
+                ticks = start W N l.windows;
+                least = omega arith;
+                pieces = λ runs. c.pieces;
+                pieces_part = got_between appends (start W N l.windows) (start W N l.windows) (suc (start W N l.windows)) (slice_index_or first k d).engine.outs (slice_index_or now k d).engine.outs (omega arith) (omega arith) c.pieces;
+                came = inl (start_up W N l.windows, c.gone, sym (joined_none (l.going.histories k).calls (start W N l.windows)));
+              });
           ended = inl (λ k h. ((l.going.clocks k h).gone.stand.runs, refl));
-          runs = λ b low. (let g = going_runs held name room faults wires W N l.windows first now logs d l.going ready.places b low in
+          runs = λ b low. (let g = going_runs held name room faults appends wires W N l.windows first now logs d l.going ready.places b low in
               (g.0, run_more (wire_at wires b).capacity [] g.0 g.0 (windows_upto (wire_at wires b) l.going.histories b W N l.windows) [] [] g.1 Legal.ended));
-          in_order = λ b low e. (let f = going_local held name room faults wires W N l.windows first now logs d l.going ready.places b low e in
+          in_order = λ b low e. (let f = going_local held name room faults appends wires W N l.windows first now logs d l.going ready.places b low e in
               (f.0, subst (λ cs. Follows (wire_at wires b).capacity [] (on b cs) f.0) (sym (append-nil (joined_upto (l.going.histories (wire_at wires b).from).calls (start W N l.windows)))) f.1));
         }
 
-    pub loop_all : (made : ℕ) (first now : List (Task S (ThreadTaps R))) (logs : List (List Answers)) → N ≤ made → Loop made first now logs → RunDone held name room faults wires W N first now logs
+    pub loop_all : (made : ℕ) (first now : List (Task S (ThreadTaps R))) (logs : List (List Answers)) → N ≤ made → Loop made first now logs → RunDone held name room faults appends wires W N first now logs
     loop_all made first now logs high loop d = let l = loop.at d in
         record { windows = l.windows; all = (let m = start_most W N l.windows in let i = l.is in omega (arith, m, i, high)); tight = l.tight; going = l.going }
 
     -- each clock may make the ticks of the next window
-    pub loop_can : (made count : ℕ) (first now : List (Task S (ThreadTaps R))) (start_logs logs : List (List Answers)) → IsReady held name room faults wires W N first start_logs → N ≤ 1000000000 → made < N → count ≡ min W (N - made) → Loop made first now logs → All (CanRun room TapsBuffers count) now
+    pub loop_can : (made count : ℕ) (first now : List (Task S (ThreadTaps R))) (start_logs logs : List (List Answers)) → IsReady held name room faults appends wires W N first start_logs → N ≤ 1000000000 → made < N → count ≡ min W (N - made) → Loop made first now logs → All (CanRun room TapsBuffers count) now
     loop_can made count first now start_logs logs ready few less is loop = all_by (CanRun room TapsBuffers count) now (λ d k within.
         let l = loop.at d in let here : k < length first = (let m = loop.many in omega (arith, within, m)) in
         let c = l.going.clocks k here in let r = ready.buffers k d here in
@@ -112,8 +121,8 @@ module _ {S R : Type 0} where
           rooms = rooms_fewer room (slice_index_or now k d).engine.parts (slice_index_or now k d).engine.outs count (N - made) (omega (arith, most_left)) (c.rooms (N - made) (omega (arith, at, less)));
         })
 
-    module _ (made count : ℕ) (first now mid : List (Task S (ThreadTaps R))) (start_logs logs : List (List Answers)) (ready : IsReady held name room faults wires W N first start_logs) (less : made < N) (count_is : count ≡ min W (N - made)) (loop : Loop made first now logs)
-        (ran : (k : ℕ) (d : Task S (ThreadTaps R)) → k < length now → WasRun held name room faults TapsStand TapsBuffers SameTaps count (slice_index_or now k d) (slice_index_or mid k d)) (mid_many : length mid ≡ length now) where
+    module _ (made count : ℕ) (first now mid : List (Task S (ThreadTaps R))) (start_logs logs : List (List Answers)) (ready : IsReady held name room faults appends wires W N first start_logs) (less : made < N) (count_is : count ≡ min W (N - made)) (loop : Loop made first now logs)
+        (ran : (k : ℕ) (d : Task S (ThreadTaps R)) → k < length now → WasRun held name room faults appends TapsStand TapsBuffers SameTaps count (slice_index_or now k d) (slice_index_or mid k d)) (mid_many : length mid ≡ length now) where
       next_at : (d : Task S (ThreadTaps R)) → start W N (suc (loop.at d).windows) ≡ start W N (loop.at d).windows + count
       next_at d = start_next W N (loop.at d).windows made count (loop.at d).is less count_is
 
@@ -141,7 +150,7 @@ module _ {S R : Type 0} where
             | inl is ↦ subst (λ n. start W N n < N) (sym is) (subst (λ n. n < N) (loop.at d).is less)
             | inr off ↦ (loop.at d).tight i (omega (arith, low, off))
           ]);
-          going = going_more held name room faults wires W N (loop.at d).windows d count first now mid logs (next_at d) ready.places (λ i h. start_up W N i) (loop.at d).going (λ k h. ran k d h) mid_many (λ k h. all_run k d h) shut after closed last ends;
+          going = going_more held name room faults appends wires W N (loop.at d).windows d count first now mid logs (next_at d) ready.places (λ i h. start_up W N i) (loop.at d).going (λ k h. ran k d h) mid_many (λ k h. all_run k d h) shut after closed last ends;
         };
       }
 
@@ -154,7 +163,7 @@ module _ {S R : Type 0} where
       record At (d : Task S (ThreadTaps R)) (k : ℕ) (g : History) : Type 0 where
         agree : Agree (start W N (loop.at d).windows) ((loop.at d).going.histories k) g
         since : List Call
-        reached : k < length first → CameTo held name faults W N (loop.at d).windows g since (slice_index_or first k d) (slice_index_or mid k d)
+        reached : k < length first → CameTo held name faults appends W N (loop.at d).windows g since (slice_index_or first k d) (slice_index_or mid k d)
         ended : (low : k < length first) → (slice_index_or mid k d).engine.parts.stopped ≡ None → (reached low).ticks ≡ start W N (suc (loop.at d).windows)
         stood : k < length first → TapsStand (slice_index_or mid k d).taps (kept wires k (joined_upto ((loop.at d).going.histories k).calls (start W N (loop.at d).windows)) ++ since)
 
@@ -163,12 +172,21 @@ module _ {S R : Type 0} where
           let c = (loop.at d).going in let t = start W N (loop.at d).windows in let m = loop.many in let within : k < length now = omega (arith, less', m) in
           let r = ran k d within in let n = next_at d in
           let w = r.ran.on t (c.histories k) (held_of held (slice_index_or first k d).engine) (c.clocks k less').gone e in
-          let long : count ≡ t + count - t = omega arith in (
+          let long : count ≡ t + count - t = omega arith in
+          let pieces : GotPieces appends (t + count) (slice_index_or first k d).engine.outs (slice_index_or mid k d).engine.outs =
+          got_then appends t count (slice_index_or first k d).engine.outs (slice_index_or now k d).engine.outs (slice_index_or mid k d).engine.outs (c.clocks k less').same.outs (c.clocks k less').pieces w.pieces in (
             w.after,
             record {
               agree = w.agree;
               since = joined_from w.after.calls t count;
-              reached = λ again. record { same = same_from d k less'; ticks = t + count; least = omega arith; came = inl (omega (arith, n), w.gone, ap (joined_from w.after.calls t) long) };
+              reached = λ again. record {
+                same = same_from d k less';
+                ticks = t + count;
+                least = omega arith;
+                pieces = λ runs. pieces;
+                pieces_part = got_between appends (t + count) (t + count) (suc (t + count)) (slice_index_or first k d).engine.outs (slice_index_or mid k d).engine.outs (omega arith) (omega arith) pieces;
+                came = inl (omega (arith, n), w.gone, ap (joined_from w.after.calls t) long);
+              };
               ended = λ again runs. sym n;
               stood = λ again. w.taps (kept wires k (joined_upto (c.histories k).calls t)) (c.clocks k less').stand;
             },
@@ -186,6 +204,10 @@ module _ {S R : Type 0} where
                 same = same_from d k less';
                 ticks = t + w.made;
                 least = omega arith;
+                pieces = λ runs. absurd (some_none (sym e ∙ runs));
+                pieces_part =
+                    subst (λ n. GotBetween appends (t + w.made) n (slice_index_or first k d).engine.outs (slice_index_or mid k d).engine.outs) (add-suc t w.made)
+                    (between_then appends t w.made (suc w.made) (slice_index_or first k d).engine.outs (slice_index_or now k d).engine.outs (slice_index_or mid k d).engine.outs (c.clocks k less').same.outs (c.clocks k less').pieces w.pieces);
                 came = inr ((let f = w.fewer in omega (arith, f, n)), w.part, ap (λ l. joined_from w.after.calls t l ++ w.part.made) long);
               };
               ended = λ again runs. absurd (some_none (sym e ∙ runs));
@@ -217,11 +239,11 @@ module _ {S R : Type 0} where
       -- the windows may be closed, whatever the clocks did
       pub loop_close : MayClose wires mid
       loop_close = with_one mid (let s = ready.some in let m = loop.many in omega (arith, s, m, mid_many)) (λ d.
-          ends_close held name room faults wires W N (loop.at d).windows d count first now mid logs ready.places (loop.at d).going (λ k h. ran k d h) mid_many (called d) (stood_by d) ready.few)
+          ends_close held name room faults appends wires W N (loop.at d).windows d count first now mid logs ready.places (loop.at d).going (λ k h. ran k d h) mid_many (called d) (stood_by d) ready.few)
 
       module _ (shut : List (Task S (ThreadTaps R))) (closed : AllShut wires mid shut) where
         -- how far the clocks came
-        came_to : RunPart held name faults wires W N first mid
+        came_to : RunPart held name faults appends wires W N first mid
         came_to d =
             let l = loop.at d in let j = l.windows in let t = start W N j in
             let gs : ℕ → History = λ k. (chosen d k).0 in
@@ -235,15 +257,15 @@ module _ {S R : Type 0} where
               clocks = λ k h. (chosen d k).1.reached h;
               ended = inr (λ k h. (chosen d k).1.ended h);
               runs = λ b low. (let wire = wire_at wires b in
-                  let g = all_shut held name room faults wires W N j d count first now mid logs ready.places l.going (λ k h. ran k d h) mid_many (called d) (stood_by d) shut closed b low in
+                  let g = all_shut held name room faults appends wires W N j d count first now mid logs ready.places l.going (λ k h. ran k d h) mid_many (called d) (stood_by d) shut closed b low in
                   (g.0, subst (λ ws. IsRun wire.capacity [] (ws ++ (puts_to b (called d wire.from), takes_of b (called d wire.to)) ∷ []) g.0) (sym (same b)) g.1));
               in_order = λ b low e. (let k = (wire_at wires b).from in
-                  let f = list_follows held name room faults wires W N j d count first now mid logs ready.places l.going (λ k h. ran k d h) mid_many (called d) (stood_by d) b low e in
+                  let f = list_follows held name room faults appends wires W N j d count first now mid logs ready.places l.going (λ k h. ran k d h) mid_many (called d) (stood_by d) b low e in
                   (f.0, subst (λ cs. Follows (wire_at wires b).capacity [] (on b (cs ++ called d k)) f.0) (sym (joined_alike (gs k).calls (l.going.histories k).calls t (λ i less. (chosen d k).1.agree.calls i less))) f.1));
             }
 
         -- a clock stopped, or the log of a buffer could not take a window
-        pub loop_broke : (last : List (Task S (ThreadTaps R))) → SameEngines mid last → RunPart held name faults wires W N first last
+        pub loop_broke : (last : List (Task S (ThreadTaps R))) → SameEngines mid last → RunPart held name faults appends wires W N first last
         loop_broke last same d =
             let p = came_to d in
             record {
@@ -258,6 +280,8 @@ module _ {S R : Type 0} where
                     same = subst (IsSameClock name faults (slice_index_or first k d).engine) is c.same;
                     ticks = c.ticks;
                     least = c.least;
+                    pieces = λ runs. subst (λ (e : ClockEngine S). GotPieces appends c.ticks (slice_index_or first k d).engine.outs e.outs) is (c.pieces (ap (λ (e : ClockEngine S). e.parts.stopped) is ∙ runs));
+                    pieces_part = subst (λ (e : ClockEngine S). GotBetween appends c.ticks (suc c.ticks) (slice_index_or first k d).engine.outs e.outs) is c.pieces_part;
                     came = subst (λ (e : ClockEngine S). ((c.ticks ≤ to) × EngineGone held c.ticks (p.histories k) (held_of held (slice_index_or first k d).engine) e × (p.since k ≡ joined_from (p.histories k).calls from (c.ticks - from)))
                         ⊎ ((c.ticks < to) × (part : EngineGonePart held c.ticks (p.histories k) (held_of held (slice_index_or first k d).engine) e) × (p.since k ≡ joined_from (p.histories k).calls from (c.ticks - from) ++ part.made))) is c.came;
                   });

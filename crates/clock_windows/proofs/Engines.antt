@@ -56,28 +56,28 @@ module _ {S : Type 0} where
   pub none_ended : (tasks : List (Task S (ThreadTaps ⊤))) → AllEndedTasks [] tasks tasks
   none_ended tasks = ended_all [] 0 tasks tasks (omega arith) (ended_none [] tasks)
 
-  module _ (held name : S → Option (List ℕ)) (room : S → Option ℕ) (faults : S → ℕ) (W N : ℕ) where
+  module _ (held name : S → Option (List ℕ)) (room : S → Option ℕ) (faults : S → ℕ) (appends : S → Option ℕ) (W N : ℕ) where
     pub alone_can : (count : ℕ) (now : List (ClockEngine S)) → All (CanRun room TapsBuffers count) (all_alone now) → All (CanRunAlone room count) now
     alone_can count now can k d low =
         can_with room count TapsBuffers no_buffers (alone (slice_index_or now k d)) tt refl
         (subst (CanRun room TapsBuffers count) (alone_at now k (alone d) low) (can k (alone d) (let n = alone_long now in omega (arith, low, n))))
 
     pub alone_ran : (count : ℕ) (now mid : List (ClockEngine S)) → length mid ≡ length now
-        → ((i : ℕ) (d : ClockEngine S) → i < length now → WasRunAlone held name room faults count (slice_index_or now i d) (slice_index_or mid i d))
-        → (k : ℕ) (d : Task S (ThreadTaps ⊤)) → k < length (all_alone now) → WasRun held name room faults TapsStand TapsBuffers SameTaps count (slice_index_or (all_alone now) k d) (slice_index_or (all_alone mid) k d)
+        → ((i : ℕ) (d : ClockEngine S) → i < length now → WasRunAlone held name room faults appends count (slice_index_or now i d) (slice_index_or mid i d))
+        → (k : ℕ) (d : Task S (ThreadTaps ⊤)) → k < length (all_alone now) → WasRun held name room faults appends TapsStand TapsBuffers SameTaps count (slice_index_or (all_alone now) k d) (slice_index_or (all_alone mid) k d)
     alone_ran count now mid many ran k d h =
         let low : k < length now = (let n = alone_long now in omega (arith, h, n)) in
         let old = slice_index_or now k d.engine in let new = slice_index_or mid k d.engine in
-        subst (λ (z : Task S (ThreadTaps ⊤) × Task S (ThreadTaps ⊤)). WasRun held name room faults TapsStand TapsBuffers SameTaps count z.0 z.1)
+        subst (λ (z : Task S (ThreadTaps ⊤) × Task S (ThreadTaps ⊤)). WasRun held name room faults appends TapsStand TapsBuffers SameTaps count z.0 z.1)
         (λ i. (sym (alone_at now k d low) i, sym (alone_at mid k d (omega (arith, low, many))) i))
-        (ran_with room count held name faults any_calls no_buffers any_taps TapsStand TapsBuffers SameTaps (with_taps tt old) (with_taps tt new) no_taps
+        (ran_with room count held name faults appends any_calls no_buffers any_taps TapsStand TapsBuffers SameTaps (with_taps tt old) (with_taps tt new) no_taps
         (same_sides_refl [], same_sides_refl [], same_buffers_refl [])
         (λ calls. ((λ p e within. absurd (omega (arith, within))), (λ p e within. absurd (omega (arith, within))), (λ b e within away. absurd (omega (arith, within)))))
         (ran k d.engine low))
 
     -- no fault was want of memory
-    pub alone_memory : (made count : ℕ) (first now mid : List (ClockEngine S)) → IsReady held name room faults [] W N (all_alone first) [] → Loop held name room faults [] W N made (all_alone first) (all_alone now) []
-        → length mid ≡ length now → ((i : ℕ) (d : ClockEngine S) → i < length now → WasRunAlone held name room faults count (slice_index_or now i d) (slice_index_or mid i d))
+    pub alone_memory : (made count : ℕ) (first now mid : List (ClockEngine S)) → IsReady held name room faults appends [] W N (all_alone first) [] → Loop held name room faults appends [] W N made (all_alone first) (all_alone now) []
+        → length mid ≡ length now → ((i : ℕ) (d : ClockEngine S) → i < length now → WasRunAlone held name room faults appends count (slice_index_or now i d) (slice_index_or mid i d))
         → (end : End) → IsToldByLowest (all_alone mid) end → All (λ engine. engine.parts.cues.keeping ≡ true → ⊥) first → end ≡ NoMemory → ⊥
     alone_memory made count first now mid ready loop many ran end told none_keeps e = with_one (all_alone mid) (let w = told.within in omega (arith, w)) (λ d.
         let k = told.place in let within = told.within in

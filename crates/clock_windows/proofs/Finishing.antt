@@ -28,8 +28,8 @@ use Rattle.clock_windows.proofs.Lawfully.{windows, is_lawful, rests, answers_who
 got_same : (h : History) (t : ℕ) → answers_by h t ≡ got_by h t
 got_same h t = fun_ext (λ b. in_takes b (joined_upto h.calls t))
 
-module _ {S R : Type 0} (held name : S → Option (List ℕ)) (room : S → Option ℕ) (faults : S → ℕ) (wires : List Wire) (W N : ℕ) (first now : List (Task S (ThreadTaps R))) (logs : List (List Told)) (d : Task S (ThreadTaps R))
-    (done : DoneAt held name room faults wires W N first now logs d) (setting : Setting) (map : ClockMap) (is : IsSetting setting map) (are : AreWires setting map.running wires) (all_run : length first ≡ map.running) (some : 0 < length first)
+module _ {S R : Type 0} (held name : S → Option (List ℕ)) (room : S → Option ℕ) (faults : S → ℕ) (appends : S → Option ℕ) (wires : List Wire) (W N : ℕ) (first now : List (Task S (ThreadTaps R))) (logs : List (List Told)) (d : Task S (ThreadTaps R))
+    (done : DoneAt held name room faults appends wires W N first now logs d) (setting : Setting) (map : ClockMap) (is : IsSetting setting map) (are : AreWires setting map.running wires) (all_run : length first ≡ map.running) (some : 0 < length first)
     (shared : (k : ℕ) → k < length first → (setting_of (slice_index_or first k d).engine.parts ≡ setting) × ((slice_index_or first k d).engine.parts.clock ≡ k))
     (places : (b : ℕ) → b < length wires → (wire_at wires b).from < length first × ((wire_at wires b).to < length first)) where
   abbrev pub hs : ℕ → History
@@ -51,7 +51,7 @@ module _ {S R : Type 0} (held name : S → Option (List ℕ)) (room : S → Opti
       ∙ (λ j. meant (setting_is m h j) (and_rest (got_same (hs m) (suc i) j) rest) ((hs m).accepted i) (clock_is m h j) i)
 
   local : (b : ℕ) → b < length wires → (wire_at wires b).from ≡ (wire_at wires b).to → (rest : List (List Cell)) × Follows (wire_at wires b).capacity [] (on b (joined_upto (hs (wire_at wires b).from).calls N)) rest
-  local b less e = let f = going_local held name room faults wires W N done.windows first now logs d done.going places b less e in
+  local b less e = let f = going_local held name room faults appends wires W N done.windows first now logs d done.going places b less e in
       (f.0, subst (λ n. Follows (wire_at wires b).capacity [] (on b (joined_upto (hs (wire_at wires b).from).calls n)) f.0) done.all f.1)
 
   abbrev pub own : TakeOwn (meant setting) wires (length first)

@@ -11,9 +11,12 @@ use Rattle.buffer_ends.specs.Ends.{ListsStand, Has}
 use Rattle.buffer_ends.specs.Borders.{HasEnd}
 use Rattle.buffer_ends.specs.declared.thread_taps.ThreadTaps.{ThreadTaps}
 use Rattle.clock_engine.specs.Ticks.{HaveTicksRoom}
+use Rattle.clock_engine.specs.Pieces.{GotPieces}
+use Rattle.clock_engine.proofs.Pieces.{got_then}
 use Rattle.clock_tasks.specs.declared.task.Task.{Task}
 use Rattle.clock_tasks.specs.Histories.{History, joined_from, Agree}
 use Rattle.stream_meaning.specs.Calls.{joined_upto}
+use Rattle.clock_engine.specs.declared.engine.ClockEngine.{ClockEngine}
 use Rattle.clock_engine.specs.Engines.{held_of}
 use Rattle.clock_tasks.specs.Tasks.{EngineGone, WentOn, WasRun, IsSameClock}
 use Rattle.clock_tasks.proofs.Walking.{joined_alike, agree_none}
@@ -31,18 +34,18 @@ use Rattle.clock_windows.proofs.Logging.{map_joined, current_is, has_back, not_e
 use Rattle.clock_windows.proofs.Ended.{ended_capacity}
 use Rattle.clock_windows.proofs.Meeting.{joined_split, windows_alike, ends_from, ends_to, ends_tell, true_or_false, low_or_high, has_moved, has_end}
 
-module _ {S R : Type 0} (held name : S → Option (List ℕ)) (room : S → Option ℕ) (faults : S → ℕ) (wires : List Wire) (W N j : ℕ) (d : Task S (ThreadTaps R)) where
+module _ {S R : Type 0} (held name : S → Option (List ℕ)) (room : S → Option ℕ) (faults : S → ℕ) (appends : S → Option ℕ) (wires : List Wire) (W N j : ℕ) (d : Task S (ThreadTaps R)) where
   module _ (count : ℕ) (first now mid : List (Task S (ThreadTaps R))) (logs : List (List Answers)) (next : start W N (suc j) ≡ start W N j + count)
       (places : (b : ℕ) → b < length wires → (wire_at wires b).from < length first × ((wire_at wires b).to < length first))
       (up : (i : ℕ) → i ≤ j → start W N i ≤ start W N (suc i))
-      (going : Going held name room faults wires W N j first now logs d)
-      (ran : (k : ℕ) → k < length now → WasRun held name room faults TapsStand TapsBuffers SameTaps count (slice_index_or now k d) (slice_index_or mid k d))
+      (going : Going held name room faults appends wires W N j first now logs d)
+      (ran : (k : ℕ) → k < length now → WasRun held name room faults appends TapsStand TapsBuffers SameTaps count (slice_index_or now k d) (slice_index_or mid k d))
       (mid_many : length mid ≡ length now)
       (all_run : (k : ℕ) → k < length mid → (slice_index_or mid k d).engine.parts.stopped ≡ None) where
     abbrev within : (k : ℕ) → k < length first → k < length now
     within k h = let m = going.many in omega (arith, h, m)
 
-    abbrev went : (k : ℕ) (h : k < length first) → WentOn held TapsStand count (start W N j) (going.histories k) (held_of held (slice_index_or first k d).engine) (slice_index_or now k d) (slice_index_or mid k d)
+    abbrev went : (k : ℕ) (h : k < length first) → WentOn held appends TapsStand count (start W N j) (going.histories k) (held_of held (slice_index_or first k d).engine) (slice_index_or now k d) (slice_index_or mid k d)
     went k h = (ran k (within k h)).ran.on (start W N j) (going.histories k) (held_of held (slice_index_or first k d).engine) (going.clocks k h).gone (all_run k (let m = within k h in omega (arith, m, mid_many)))
 
     record Goes (k : ℕ) (h : History) : Type 0 where
@@ -94,7 +97,7 @@ module _ {S R : Type 0} (held name : S → Option (List ℕ)) (room : S → Opti
         → (put : QueueWindow) × (take : QueueWindow) × JoinRan (wire_at wires b) b put take mid
         × (put.opening ≡ take.opening) × IsRun (wire_at wires b).capacity [] (windows_upto (wire_at wires b) going.histories b W N j) put.opening
         × (put.answers ≡ puts_to b (since (wire_at wires b).from)) × (take.answers ≡ takes_of b (since (wire_at wires b).to))
-    join_ran = ends_ran held name room faults wires W N j d count first now mid logs places going ran mid_many since stood
+    join_ran = ends_ran held name room faults appends wires W N j d count first now mid logs places going ran mid_many since stood
 
     module _ (shut : List (Task S (ThreadTaps R))) (after_logs : List (List Answers)) (closed : AllClosed wires mid shut logs after_logs) where
       climbs : (i n : ℕ) → i + n ≡ j → start W N i ≤ start W N j
@@ -109,7 +112,7 @@ module _ {S R : Type 0} (held name : S → Option (List ℕ)) (room : S → Opti
           → (rest : List (List Cell)) × IsRun (wire_at wires b).capacity [] (windows_upto (wire_at wires b) after b W N (suc j)) rest × JoinOpen (wire_at wires b) b rest shut
       join_shut b less apart =
           let wire = wire_at wires b in let old = windows_upto wire going.histories b W N j in
-          let r = ends_shut held name room faults wires W N j d count first now mid logs places going ran mid_many since stood shut closed.shut b less apart in
+          let r = ends_shut held name room faults appends wires W N j d count first now mid logs places going ran mid_many since stood shut closed.shut b less apart in
           let more : count ≡ start W N (suc j) - start W N j = omega (arith, next) in
           let same : windows_upto wire after b W N j ≡ old = windows_alike wire going.histories after b W N j (start W N j) agrees (λ i low. reaches i low) (λ i low. up i (omega (arith, low))) in
           (r.0, subst (λ (l : List Window). IsRun wire.capacity [] l r.0) (λ i. sym same i ++ window_of wire after b (start W N j) (more i) ∷ []) r.1, r.2)
@@ -175,7 +178,7 @@ module _ {S R : Type 0} (held name : S → Option (List ℕ)) (room : S → Opti
                   | inr t' ↦ inr (has_end _ b _ (subst (λ n. HasEnd (take_ends (slice_index_or last n d)) b (opened g'.opens.queue g'.chunks)) t' (g'.opens.take d)))
                 ]
 
-        clock_on : (k : ℕ) → k < length first → ClockGoing held name room faults wires N (start W N (suc j)) k (after k) (slice_index_or first k d) (slice_index_or last k d)
+        clock_on : (k : ℕ) → k < length first → ClockGoing held name room faults appends wires N (start W N (suc j)) k (after k) (slice_index_or first k d) (slice_index_or last k d)
         clock_on k h =
             let c = going.clocks k h in let r = ran k (within k h) in let g = goes k h in
             let s = closed.shut.tasks.same k d (in_mid k h) in let e = ends.each k d (in_shut k h) in
@@ -197,6 +200,8 @@ module _ {S R : Type 0} (held name : S → Option (List ℕ)) (room : S → Opti
             record {
               gone = subst (λ (q : ℕ × _). EngineGone held q.0 (after k) (held_of held (slice_index_or first k d).engine) q.1) (λ i. (sym next i, sym engine i)) g.0;
               same = same_then name faults (slice_index_or first k d).engine x.engine u.engine c.same (subst (λ f. IsSameClock name faults x.engine f) (sym engine) r.clock);
+              pieces = subst (λ (q : ℕ × ClockEngine S). GotPieces appends q.0 (slice_index_or first k d).engine.outs q.1.outs) (λ i. (sym next i, sym engine i))
+                  (got_then appends (start W N j) count (slice_index_or first k d).engine.outs x.engine.outs y.engine.outs c.same.outs c.pieces (went k h).pieces);
               rooms = λ n is. subst (λ f. HaveTicksRoom room f.parts f.outs n) (sym engine) (r.rooms n running (c.rooms (n + count) (omega (arith, is, next))));
               wired = wired;
               stand = (
@@ -263,7 +268,7 @@ module _ {S R : Type 0} (held name : S → Option (List ℕ)) (room : S → Opti
               opens = ap (λ (q : LocalBuffer). q.current) list_is;
             }
 
-        pub going_more : Going held name room faults wires W N (suc j) first last after_logs d
+        pub going_more : Going held name room faults appends wires W N (suc j) first last after_logs d
         going_more = record {
           histories = after;
           many = (let m = ends.many in let n = closed.shut.tasks.many in let o = going.many in omega (arith, m, n, o, mid_many));

@@ -20,8 +20,8 @@ use Rattle.clock_windows.proofs.Lawfully.{leads_follows, local_run}
 pub none_ended : (wire : Wire) (k : ℕ) → wire.from ≡ wire.to → ends_at wire k ≡ false
 none_ended wire k e = ⊎_elim (λ (same : (eqb wire.from wire.to ≡ true) × (wire.from ≡ wire.to)). ap (λ z. if z then false else (wire.from == k || wire.to == k)) same.0) (λ off. absurd (off.1 e)) (eqb_tells wire.from wire.to)
 
-module _ {S R : Type 0} (held name : S → Option (List ℕ)) (room : S → Option ℕ) (faults : S → ℕ) (wires : List Wire) (W N j : ℕ) (first now : List (Task S (ThreadTaps R))) (logs : List (List Answers)) (d : Task S (ThreadTaps R))
-    (going : Going held name room faults wires W N j first now logs d) (places : (b : ℕ) → b < length wires → (wire_at wires b).from < length first × ((wire_at wires b).to < length first)) where
+module _ {S R : Type 0} (held name : S → Option (List ℕ)) (room : S → Option ℕ) (faults : S → ℕ) (appends : S → Option ℕ) (wires : List Wire) (W N j : ℕ) (first now : List (Task S (ThreadTaps R))) (logs : List (List Answers)) (d : Task S (ThreadTaps R))
+    (going : Going held name room faults appends wires W N j first now logs d) (places : (b : ℕ) → b < length wires → (wire_at wires b).from < length first × ((wire_at wires b).to < length first)) where
   pub going_local : (b : ℕ) → b < length wires → (wire_at wires b).from ≡ (wire_at wires b).to
       → (rest : List (List Cell)) × Follows (wire_at wires b).capacity [] (on b (joined_upto (going.histories (wire_at wires b).from).calls (start W N j))) rest
   going_local b less e =

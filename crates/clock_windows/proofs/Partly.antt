@@ -12,6 +12,8 @@ use Rattle.stream_meaning.specs.Settings.{IsSetting}
 use Rattle.node_states.specs.Ticks.{IsOutput, with_rest}
 use Rattle.run_records.specs.Records.{AreWindowsBegun, Follows, Run, setting_then, start}
 use Rattle.clock_engine.specs.Engines.{setting_of, held_of}
+use Rattle.clock_engine.specs.Pieces.{GotBetween}
+use Rattle.clock_engine.proofs.Pieces.{between_wider, got_between}
 use Rattle.clock_engine.specs.declared.engine.ClockEngine.{ClockEngine}
 use Rattle.clock_engine.specs.declared.fault.TickFault.{TickFault}
 use Rattle.clock_tasks.specs.declared.task.Task.{Task}
@@ -57,7 +59,7 @@ module _ {S : Type 0} (held : S → Option (List ℕ)) (setting : Setting) (m s 
     front = gone.part;
   }
 
-module _ {S R : Type 0} (held name : S → Option (List ℕ)) (faults : S → ℕ) (wires : List Wire) (W N : ℕ) (first now : List (Task S (ThreadTaps R))) (d : Task S (ThreadTaps R)) (part : PartAt held name faults wires W N first now d)
+module _ {S R : Type 0} (held name : S → Option (List ℕ)) (faults : S → ℕ) (appends : S → Option ℕ) (wires : List Wire) (W N : ℕ) (first now : List (Task S (ThreadTaps R))) (d : Task S (ThreadTaps R)) (part : PartAt held name faults appends wires W N first now d)
     (setting : Setting) (map : ClockMap) (is : IsSetting setting map) (are : AreWires setting map.running wires) (all_run : length first ≡ map.running)
     (shared : (k : ℕ) → k < length first → (setting_of (slice_index_or first k d).engine.parts ≡ setting) × ((slice_index_or first k d).engine.parts.clock ≡ k)) where
   abbrev old : ℕ → ℕ → Option (List ℕ)
@@ -79,6 +81,7 @@ module _ {S R : Type 0} (held name : S → Option (List ℕ)) (faults : S → �
   record Reached (k : ℕ) : Type 0 where
     reach : Reach setting map.running k s e (part.histories k) (Stands k) (old k) (new k)
     calls : k < length first → reach.since ≡ part.since k
+    came_at : k < length first → (low : k < length first) × (reach.ticks ≡ (part.clocks k low).ticks)
     stops : reach.tried ≡ suc reach.ticks → (k < length first) × (fault : TickFault) × ((slice_index_or now k d).engine.parts.stopped ≡ Some fault)
     runs : k < length first → reach.tried ≡ reach.ticks → (low : k < length first) × ((slice_index_or now k d).engine.parts.stopped ≡ None) × (reach.ticks ≡ (part.clocks k low).ticks)
 
@@ -111,6 +114,7 @@ module _ {S R : Type 0} (held name : S → Option (List ℕ)) (faults : S → �
               rests = λ high. absurd (omega (arith, low, high, all_run));
             };
             calls = λ again. refl;
+            came_at = λ again. (low, refl);
             stops = λ one. absurd (omega (arith, one));
             runs = λ again same. (low, gone.1.stand.runs, refl);
           })
@@ -131,6 +135,7 @@ module _ {S R : Type 0} (held name : S → Option (List ℕ)) (faults : S → �
               rests = λ high. absurd (omega (arith, low, high, all_run));
             };
             calls = λ again. refl;
+            came_at = λ again. (low, refl);
             stops = λ one. (low, gone.1.halted.fault, gone.1.halted.stopped);
             runs = λ again same. absurd (omega (arith, same));
           })
@@ -152,6 +157,7 @@ module _ {S R : Type 0} (held name : S → Option (List ℕ)) (faults : S → �
         rests = λ over. (refl, refl);
       };
       calls = λ low. absurd (omega (arith, low, high));
+      came_at = λ low. absurd (omega (arith, low, high));
       stops = λ one. absurd (omega (arith, one));
       runs = λ low same. absurd (omega (arith, low, high));
     }
@@ -210,3 +216,14 @@ module _ {S R : Type 0} (held name : S → Option (List ℕ)) (faults : S → �
 
   pub part_given : (k : ℕ) → k < length first → (rest : Answers) → (more : Answers) × (with_rest setting (answers_by (part.histories k) (reach k).ticks) more ≡ setting_then setting part_run rest)
   part_given k low rest = given setting map is wires are W N part.closed part.histories Stands old new reach k (omega (arith, low, all_run)) rest
+
+  -- how many pieces each sink got
+  pub part_pieces : (k : ℕ) → k < length first → GotBetween appends (reach k).ticks (reach k).tried (slice_index_or first k d).engine.outs (slice_index_or now k d).engine.outs
+  unfolding reach
+  part_pieces k low =
+      let at = (reach_at k).came_at low in let c = part.clocks k at.0 in let ticks = at.1 in
+      let old = (slice_index_or first k d).engine.outs in let new = (slice_index_or now k d).engine.outs in
+      elim (part_stood k low) [
+        | inl whole ↦ (let all = whole.0 in got_between appends c.ticks (reach k).ticks (reach k).tried old new (omega (arith, ticks)) (omega (arith, ticks, all)) (c.pieces whole.1.runs))
+        | inr stop ↦ (let next = stop.0 in between_wider appends c.ticks (suc c.ticks) (reach k).ticks (reach k).tried old new (omega (arith, ticks)) (omega (arith, ticks, next)) c.pieces_part)
+      ]

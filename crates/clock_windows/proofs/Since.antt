@@ -71,11 +71,11 @@ module _ (sides after : List Side) (b : ℕ) (w : QueueWindow) (same : SameSides
   pub later_takes : (old more : List Call) → TakesStand after (old ++ more) → takes_of b old ≡ [] → later_window.answers ≡ takes_of b more
   later_takes old more s none = s e.place (side b w) within_after ∙ ap (λ n. takes_of n (old ++ more)) buffer_after ∙ takes-append b old more ∙ ap (λ l. l ++ takes_of b more) none
 
-module _ {S R : Type 0} (held name : S → Option (List ℕ)) (room : S → Option ℕ) (faults : S → ℕ) (wires : List Wire) (W N j : ℕ) (d : Task S (ThreadTaps R))
+module _ {S R : Type 0} (held name : S → Option (List ℕ)) (room : S → Option ℕ) (faults : S → ℕ) (appends : S → Option ℕ) (wires : List Wire) (W N j : ℕ) (d : Task S (ThreadTaps R))
     (count : ℕ) (first now mid : List (Task S (ThreadTaps R))) (logs : List (List Answers))
     (places : (b : ℕ) → b < length wires → (wire_at wires b).from < length first × ((wire_at wires b).to < length first))
-    (going : Going held name room faults wires W N j first now logs d)
-    (ran : (k : ℕ) → k < length now → WasRun held name room faults TapsStand TapsBuffers SameTaps count (slice_index_or now k d) (slice_index_or mid k d))
+    (going : Going held name room faults appends wires W N j first now logs d)
+    (ran : (k : ℕ) → k < length now → WasRun held name room faults appends TapsStand TapsBuffers SameTaps count (slice_index_or now k d) (slice_index_or mid k d))
     (mid_many : length mid ≡ length now) (since : ℕ → List Call)
     (stood : (k : ℕ) → k < length first → TapsStand (slice_index_or mid k d).taps (kept wires k (joined_upto (going.histories k).calls (start W N j)) ++ since k)) where
   within : (k : ℕ) → k < length first → k < length now

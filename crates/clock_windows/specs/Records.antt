@@ -8,6 +8,7 @@ use Rattle.buffer_ends.specs.Local.{Answers, LocalBuffer, closed, no_answers}
 use Rattle.buffer_ends.specs.Ends.{EndsStand, ListsStand, Has}
 use Rattle.buffer_ends.specs.declared.thread_taps.ThreadTaps.{ThreadTaps}
 use Rattle.clock_engine.specs.Ticks.{HaveTicksRoom}
+use Rattle.clock_engine.specs.Pieces.{GotPieces}
 use Rattle.run_records.specs.Records.{Window, start}
 use Rattle.buffer_sides.specs.Logs.{told}
 use Rattle.clock_tasks.specs.declared.task.Task.{Task}
@@ -37,11 +38,13 @@ pub record IsWired {S R : Type 0} (wires : List Wire) (k : ℕ) (task : Task S (
   pub takes : (p : ℕ) (d : Side) → p < length (take_ends task) → let b = (slice_index_or (take_ends task) p d).buffer in
       (b < length wires) × ((wire_at wires b).to ≡ k) × ((wire_at wires b).from ≢ k)
 
--- clock k has made so many of N ticks, and its taps stand for the calls on the buffers that are its own alone
-pub record ClockGoing {S R : Type 0} (held name : S → Option (List ℕ)) (room : S → Option ℕ) (faults : S → ℕ) (wires : List Wire) (N t k : ℕ) (history : History)
+-- clock k has made so many of N ticks, each of its sinks got a piece for each of them, and its taps stand for the calls on the buffers
+-- that are its own alone
+pub record ClockGoing {S R : Type 0} (held name : S → Option (List ℕ)) (room : S → Option ℕ) (faults : S → ℕ) (appends : S → Option ℕ) (wires : List Wire) (N t k : ℕ) (history : History)
     (first now : Task S (ThreadTaps R)) : Type 0 where
   pub gone : EngineGone held t history (held_of held first.engine) now.engine
   pub same : IsSameClock name faults first.engine now.engine
+  pub pieces : GotPieces appends t first.engine.outs now.engine.outs
   pub rooms : (n : ℕ) → t + n ≡ N → HaveTicksRoom room now.engine.parts now.engine.outs n
   pub wired : IsWired wires k now
   pub stand : EndsStand (put_ends now) (take_ends now) now.taps.local (kept wires k (joined_upto history.calls t))
@@ -66,11 +69,11 @@ pub record LogsGoing {S R : Type 0} (wires : List Wire) (windows : ℕ → List 
   pub local : (b : ℕ) (e : LocalBuffer) → b < length wires → (wire_at wires b).from ≡ (wire_at wires b).to → IsLogged (windows b) (slice_index_or (slice_index_or now (wire_at wires b).from d).taps.local b e)
 
 -- so many windows were made and closed
-pub record Going {S R : Type 0} (held name : S → Option (List ℕ)) (room : S → Option ℕ) (faults : S → ℕ) (wires : List Wire) (W N j : ℕ)
+pub record Going {S R : Type 0} (held name : S → Option (List ℕ)) (room : S → Option ℕ) (faults : S → ℕ) (appends : S → Option ℕ) (wires : List Wire) (W N j : ℕ)
     (first now : List (Task S (ThreadTaps R))) (logs : List (List Answers)) (d : Task S (ThreadTaps R)) : Type 0 where
   pub histories : ℕ → History
   pub many : length now ≡ length first
-  pub clocks : (k : ℕ) → k < length first → ClockGoing held name room faults wires N (start W N j) k (histories k) (slice_index_or first k d) (slice_index_or now k d)
+  pub clocks : (k : ℕ) → k < length first → ClockGoing held name room faults appends wires N (start W N j) k (histories k) (slice_index_or first k d) (slice_index_or now k d)
   pub joins : (b : ℕ) → b < length wires → (wire_at wires b).from ≢ (wire_at wires b).to
       → JoinGoing (wire_at wires b) b (windows_upto (wire_at wires b) histories b W N j) now
   pub logged : LogsGoing wires (λ b. windows_upto (wire_at wires b) histories b W N j) now logs d

@@ -35,12 +35,12 @@ pub fn run_alone<O: Sink + Send, G: Gate + Sync, R: Threads + Sync>(
     window: u64,
     gate: &G,
 ) -> End
-    requires ready { IsReady O.held O.name O.room O.faults [] window ticks (all_alone engines.old) [] }
+    requires ready { IsReady O.held O.name O.room O.faults O.appends [] window ticks (all_alone engines.old) [] }
     requires few { ticks ≤ 1000000000 }
     requires window { 0 < window }
     ensures many { length engines.new ≡ length engines.old }
-    ensures done { result ≡ Done → RunDone O.held O.name O.room O.faults [] window ticks (all_alone engines.old) (all_alone engines.new) [] }
-    ensures part { RunPart O.held O.name O.faults [] window ticks (all_alone engines.old) (all_alone engines.new) }
+    ensures done { result ≡ Done → RunDone O.held O.name O.room O.faults O.appends [] window ticks (all_alone engines.old) (all_alone engines.new) [] }
+    ensures part { RunPart O.held O.name O.faults O.appends [] window ticks (all_alone engines.old) (all_alone engines.new) }
     ensures write { (clock sink : ℕ) → result ≡ Write clock sink → IsWriteAt O.faults clock sink (all_alone engines.old) (all_alone engines.new) }
     ensures memory { All (λ engine. engine.parts.cues.keeping ≡ true → ⊥) engines.old → result ≢ Memory }
 {

@@ -13,6 +13,7 @@ use Rattle.clock_outputs.specs.Appends.{AreKept, NoneFell, RoseAt}
 use Rattle.clock_engine.specs.declared.engine.ClockEngine.{ClockEngine}
 use Rattle.clock_engine.specs.Engines.{EngineStands, held_of, outputs_of, setting_of}
 use Rattle.clock_engine.specs.Ticks.{HaveTicksRoom}
+use Rattle.clock_engine.specs.Pieces.{GotBetween, GotPieces}
 use Rattle.buffer_ends.specs.declared.run_end.End.{End}
 use Rattle.buffer_ends.specs.declared.run_end.End.TheVariants.{Write, Memory as NoMemory}
 
@@ -57,9 +58,9 @@ pub record AreEngines {S : Type 0} (room : S → Option ℕ) (ticks : ℕ) (sett
   pub over : (k : ℕ) (engine : ClockEngine S) → slice_get engines k ≡ Some engine → setting_of engine.parts ≡ setting
 
 -- an engine has gone from `old` to `new` by so many ticks, none of them with a fault, in a run that made these calls: it has taken the
--- answers of the buffers that it reads; each output holds its bytes of these ticks more, no count of faults fell, and its sinks are
--- those that they were, by their names; and it keeps its marks if it did
-pub record HasRunTurns {S : Type 0} (held name : S → Option (List ℕ)) (faults : S → ℕ) (calls : List Call) (ticks : ℕ) (old new : ClockEngine S) : Type 0 where
+-- answers of the buffers that it reads; each output holds its bytes of these ticks more, and its sink got a piece for each of them; no
+-- count of faults fell, and its sinks are those that they were, by their names; and it keeps its marks if it did
+pub record HasRunTurns {S : Type 0} (held name : S → Option (List ℕ)) (faults : S → ℕ) (appends : S → Option ℕ) (calls : List Call) (ticks : ℕ) (old new : ClockEngine S) : Type 0 where
   pub setting : setting_of new.parts ≡ setting_of old.parts
   pub clock : new.parts.clock ≡ old.parts.clock
   pub keeping : new.parts.cues.keeping ≡ old.parts.cues.keeping
@@ -67,31 +68,33 @@ pub record HasRunTurns {S : Type 0} (held name : S → Option (List ℕ)) (fault
   pub own : (buffer : ℕ) → (answers buffer ≡ answers_in buffer calls) ⊎ IsUnread (setting_of old.parts) (Main old.parts.clock) buffer
   pub stands : EngineStands new.parts ticks answers
   pub grew : HoldTicks (setting_of old.parts) old.parts.clock ticks answers (held_of held old) (held_of held new)
+  pub pieces : GotPieces appends ticks old.outs new.outs
   pub none_fell : NoneFell faults old.outs new.outs
   pub outs : length new.outs ≡ length old.outs
   pub kept : AreKept name faults old.outs new.outs
 
 -- an engine has gone from `old` to `new` by at least and at most so many ticks: each output holds its bytes of the first more, and
--- then a front of those of the others, whatever answers follow those that were got; no count of faults fell, and its sinks are those
--- that they were, by their names
-pub record HasRunPart {S : Type 0} (held name : S → Option (List ℕ)) (faults : S → ℕ) (world : (ℕ → List Answer) → Setting) (least most : ℕ) (old new : ClockEngine S) : Type 0 where
+-- then a front of those of the others, whatever answers follow those that were got, and its sink got a piece for each of the first and
+-- at most one for each of the others; no count of faults fell, and its sinks are those that they were, by their names
+pub record HasRunPart {S : Type 0} (held name : S → Option (List ℕ)) (faults : S → ℕ) (appends : S → Option ℕ) (world : (ℕ → List Answer) → Setting) (least most : ℕ) (old new : ClockEngine S) : Type 0 where
   pub setting : setting_of new.parts ≡ setting_of old.parts
   pub clock : new.parts.clock ≡ old.parts.clock
   pub part : (rest : ℕ → List Answer) (sink node : ℕ) (output : IsOutput (setting_of old.parts) old.parts.clock sink node)
       → (bytes : List ℕ) × IsPrefix (ticks_bytes (world rest) output.wide node least) bytes × IsPrefix bytes (ticks_bytes (world rest) output.wide node most) × (held_of held new sink ≡ grown bytes (held_of held old sink))
+  pub pieces : GotBetween appends least most old.outs new.outs
   pub none_fell : NoneFell faults old.outs new.outs
   pub outs : length new.outs ≡ length old.outs
   pub kept : AreKept name faults old.outs new.outs
 
 -- each engine has run so many ticks
-pub record HaveRun {S : Type 0} (held name : S → Option (List ℕ)) (faults : S → ℕ) (calls : List Call) (ticks : ℕ → ℕ) (old new : List (ClockEngine S)) : Type 0 where
+pub record HaveRun {S : Type 0} (held name : S → Option (List ℕ)) (faults : S → ℕ) (appends : S → Option ℕ) (calls : List Call) (ticks : ℕ → ℕ) (old new : List (ClockEngine S)) : Type 0 where
   pub size : length new ≡ length old
-  pub each : (k : ℕ) (before after : ClockEngine S) → slice_get old k ≡ Some before → slice_get new k ≡ Some after → HasRunTurns held name faults calls (ticks k) before after
+  pub each : (k : ℕ) (before after : ClockEngine S) → slice_get old k ≡ Some before → slice_get new k ≡ Some after → HasRunTurns held name faults appends calls (ticks k) before after
 
 -- clock k has made at least and at most so many ticks
-pub record HaveRunPart {S : Type 0} (held name : S → Option (List ℕ)) (faults : S → ℕ) (world : (ℕ → List Answer) → Setting) (least most : ℕ → ℕ) (old new : List (ClockEngine S)) : Type 0 where
+pub record HaveRunPart {S : Type 0} (held name : S → Option (List ℕ)) (faults : S → ℕ) (appends : S → Option ℕ) (world : (ℕ → List Answer) → Setting) (least most : ℕ → ℕ) (old new : List (ClockEngine S)) : Type 0 where
   pub size : length new ≡ length old
-  pub each : (k : ℕ) (before after : ClockEngine S) → slice_get old k ≡ Some before → slice_get new k ≡ Some after → HasRunPart held name faults world (least k) (most k) before after
+  pub each : (k : ℕ) (before after : ClockEngine S) → slice_get old k ≡ Some before → slice_get new k ≡ Some after → HasRunPart held name faults appends world (least k) (most k) before after
 
 -- the end names an output of this clock, whose sink's count of faults rose
 pub record IsWriteEnd {S : Type 0} (faults : S → ℕ) (clock : ℕ) (old new : List (ClockEngine S)) (end : End) : Type 0 where
@@ -107,25 +110,25 @@ pub record IsWriteEnd {S : Type 0} (faults : S → ℕ) (clock : ℕ) (old new :
   pub rose : RoseAt faults place before.outs after.outs
 
 -- between two ticks of a run: the calls so far, what each engine has run, and the room that is left for the ticks that are not made
-pub record AreGoing {S T : Type 0} (held name : S → Option (List ℕ)) (room : S → Option ℕ) (faults : S → ℕ) (stands : T → List Call → Type 0) (setting : Setting)
+pub record AreGoing {S T : Type 0} (held name : S → Option (List ℕ)) (room : S → Option ℕ) (faults : S → ℕ) (appends : S → Option ℕ) (stands : T → List Call → Type 0) (setting : Setting)
     (total : ℕ) (made : ℕ → ℕ) (turns : ℕ) (first now : List (ClockEngine S)) (taps_first taps_now : T) : Type 0 where
   pub calls : List Call
   pub taps : Adds stands taps_first taps_now calls
   pub turned : AreTurns setting (length first) turns calls
-  pub run : HaveRun held name faults calls made first now
+  pub run : HaveRun held name faults appends calls made first now
   pub rooms : (k left : ℕ) (engine : ClockEngine S) → slice_get now k ≡ Some engine → made k + left ≡ total → HaveTicksRoom room engine.parts engine.outs left
 
 -- all rounds were made, by these calls
-pub record RoundsMade {S T : Type 0} (held name : S → Option (List ℕ)) (faults : S → ℕ) (stands : T → List Call → Type 0) (setting : Setting)
+pub record RoundsMade {S T : Type 0} (held name : S → Option (List ℕ)) (faults : S → ℕ) (appends : S → Option ℕ) (stands : T → List Call → Type 0) (setting : Setting)
     (ticks turns : ℕ) (first now : List (ClockEngine S)) (taps_first taps_now : T) : Type 0 where
   pub calls : List Call
   pub taps : Adds stands taps_first taps_now calls
   pub turned : AreTurns setting (length first) turns calls
-  pub run : HaveRun held name faults calls (λ clock. ticks) first now
+  pub run : HaveRun held name faults appends calls (λ clock. ticks) first now
 
 -- A fault ended the rounds, after these calls, in the turn of clock `clock` in round `round`: the clocks below it have made their tick
 -- of this round, those above it have not, and it has made at most a part of it.
-pub record RoundsStopped {S T : Type 0} (held name : S → Option (List ℕ)) (faults : S → ℕ) (stands : T → List Call → Type 0) (setting : Setting)
+pub record RoundsStopped {S T : Type 0} (held name : S → Option (List ℕ)) (faults : S → ℕ) (appends : S → Option ℕ) (stands : T → List Call → Type 0) (setting : Setting)
     (ticks turns : ℕ) (first now : List (ClockEngine S)) (taps_first taps_now : T) (end : End) : Type 0 where
   pub calls : List Call
   pub taps : Adds stands taps_first taps_now calls
@@ -134,7 +137,7 @@ pub record RoundsStopped {S T : Type 0} (held name : S → Option (List ℕ)) (f
   pub clock : ℕ
   pub below : clock < length first
   pub turn : AreTurnsUpto setting (length first) (round * length first + clock) calls
-  pub part : HaveRunPart held name faults (world setting calls) (ticks_by ticks round clock) (ticks_by ticks round (clock + 1)) first now
+  pub part : HaveRunPart held name faults appends (world setting calls) (ticks_by ticks round clock) (ticks_by ticks round (clock + 1)) first now
   pub cause : (end ≡ NoMemory) ⊎ IsWriteEnd faults clock first now end
 
 -- no engine keeps its marks

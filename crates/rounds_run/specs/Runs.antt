@@ -12,6 +12,7 @@ use Rattle.node_states.specs.Ticks.{IsOutput, with_rest}
 use Rattle.clock_outputs.specs.Appends.{AreKept, NoneFell}
 use Rattle.clock_engine.specs.declared.engine.ClockEngine.{ClockEngine}
 use Rattle.clock_engine.specs.Engines.{EngineStands, held_of, setting_of}
+use Rattle.clock_engine.specs.Pieces.{GotPieces}
 use Rattle.buffer_ends.specs.Local.{Answers}
 use Rattle.buffer_ends.specs.declared.counts.Counts.{Counts}
 use Rattle.buffer_ends.specs.declared.run_end.End.{End}
@@ -26,9 +27,9 @@ pub record AreOver {S : Type 0} (room : S → Option ℕ) (plan : Plan) (ticks :
   pub are : AreEngines room ticks setting engines
 
 -- an engine has gone from `old` to `new` by so many ticks, none of them with a fault, in this setting: it has taken the answers of the
--- buffers that it reads; each output holds its bytes of these ticks more, no count of faults fell, and its sinks are those that they
--- were, by their names; and it keeps its marks if it did
-pub record HasRunTicks {S : Type 0} (held name : S → Option (List ℕ)) (faults : S → ℕ) (setting : Setting) (ticks : ℕ) (old new : ClockEngine S) : Type 0 where
+-- buffers that it reads; each output holds its bytes of these ticks more, and its sink got a piece for each of them; no count of faults
+-- fell, and its sinks are those that they were, by their names; and it keeps its marks if it did
+pub record HasRunTicks {S : Type 0} (held name : S → Option (List ℕ)) (faults : S → ℕ) (appends : S → Option ℕ) (setting : Setting) (ticks : ℕ) (old new : ClockEngine S) : Type 0 where
   pub over : setting_of new.parts ≡ setting_of old.parts
   pub clock : new.parts.clock ≡ old.parts.clock
   pub keeping : new.parts.cues.keeping ≡ old.parts.cues.keeping
@@ -37,14 +38,15 @@ pub record HasRunTicks {S : Type 0} (held name : S → Option (List ℕ)) (fault
   pub given : with_rest (setting_of old.parts) answers rest ≡ setting
   pub stands : EngineStands new.parts ticks answers
   pub grew : (sink node : ℕ) (output : IsOutput (setting_of old.parts) old.parts.clock sink node) → held_of held new sink ≡ grown (ticks_bytes setting output.wide node ticks) (held_of held old sink)
+  pub pieces : GotPieces appends ticks old.outs new.outs
   pub none_fell : NoneFell faults old.outs new.outs
   pub outs : length new.outs ≡ length old.outs
   pub kept : AreKept name faults old.outs new.outs
 
 -- each engine has run so many ticks in this setting
-pub record HaveRunTicks {S : Type 0} (held name : S → Option (List ℕ)) (faults : S → ℕ) (setting : Setting) (ticks : ℕ) (old new : List (ClockEngine S)) : Type 0 where
+pub record HaveRunTicks {S : Type 0} (held name : S → Option (List ℕ)) (faults : S → ℕ) (appends : S → Option ℕ) (setting : Setting) (ticks : ℕ) (old new : List (ClockEngine S)) : Type 0 where
   pub size : length new ≡ length old
-  pub each : (k : ℕ) (before after : ClockEngine S) → slice_get old k ≡ Some before → slice_get new k ≡ Some after → HasRunTicks held name faults setting ticks before after
+  pub each : (k : ℕ) (before after : ClockEngine S) → slice_get old k ≡ Some before → slice_get new k ≡ Some after → HasRunTicks held name faults appends setting ticks before after
 
 -- how many puts of these windows were accepted and how many found the buffer full, and how many takes got a chunk and how many found
 -- it empty
@@ -65,19 +67,19 @@ logs_of_run run = map (λ windows. map told windows) run.buffers
 
 -- All rounds were made, and this is their record: each engine has run all its ticks, given what the record's takes got, and the counts
 -- and logs are the record's.
-pub record HasRunAll {S : Type 0} (held name : S → Option (List ℕ)) (faults : S → ℕ) (setting : Setting) (ticks : ℕ)
+pub record HasRunAll {S : Type 0} (held name : S → Option (List ℕ)) (faults : S → ℕ) (appends : S → Option ℕ) (setting : Setting) (ticks : ℕ)
     (first now : List (ClockEngine S)) (counts : List Counts) (logs : List (List Answers)) : Type 0 where
   pub run : Run
   pub rounds : IsRounds setting (length first) ticks run
-  pub engines : HaveRunTicks held name faults (setting_in setting run) ticks first now
+  pub engines : HaveRunTicks held name faults appends (setting_in setting run) ticks first now
   pub counts_are : counts ≡ counts_of_run run
   pub logs_are : logs ≡ logs_of_run run
 
 -- The rounds came so far, and this is their record: in the turn that it names, of a clock in a round, where the clocks below it have made
 -- their tick of this round, those above it have not, and it has made at most a part of it. A write that ended the run is one of this
 -- clock.
-pub record HasRunSome {S : Type 0} (held name : S → Option (List ℕ)) (faults : S → ℕ) (setting : Setting) (ticks : ℕ) (first now : List (ClockEngine S)) (end : End) : Type 0 where
+pub record HasRunSome {S : Type 0} (held name : S → Option (List ℕ)) (faults : S → ℕ) (appends : S → Option ℕ) (setting : Setting) (ticks : ℕ) (first now : List (ClockEngine S)) (end : End) : Type 0 where
   pub run : Run
   pub begun : AreRoundsBegun setting (length first) ticks run
-  pub part : HaveRunPart held name faults (setting_then setting run) (ticks_by ticks begun.round begun.clock) (ticks_by ticks begun.round (begun.clock + 1)) first now
+  pub part : HaveRunPart held name faults appends (setting_then setting run) (ticks_by ticks begun.round begun.clock) (ticks_by ticks begun.round (begun.clock + 1)) first now
   pub write : (failed sink : ℕ) → end ≡ Write failed sink → IsWriteEnd faults begun.clock first now end

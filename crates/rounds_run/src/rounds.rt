@@ -34,9 +34,9 @@ pub fn make_rounds<O: Sink, T: Taps>(
     requires few { ticks ≤ 1000000000 }
     requires buffers { HaveBuffers (T.buffers taps.old) engines.old }
     ensures done { OnOk result ((setting : Setting) → AreEngines O.room ticks setting engines.old
-        → RoundsMade O.held O.name O.faults T.stands setting ticks (ticks * length engines.old) engines.old engines.new taps.old taps.new) }
+        → RoundsMade O.held O.name O.faults O.appends T.stands setting ticks (ticks * length engines.old) engines.old engines.new taps.old taps.new) }
     ensures stopped { IfErr result (λ end. (setting : Setting) → AreEngines O.room ticks setting engines.old
-        → RoundsStopped O.held O.name O.faults T.stands setting ticks (ticks * length engines.old) engines.old engines.new taps.old taps.new end) }
+        → RoundsStopped O.held O.name O.faults O.appends T.stands setting ticks (ticks * length engines.old) engines.old engines.new taps.old taps.new end) }
     ensures memory { KeepNone engines.old → IfErr result (λ end. end ≡ NoMemory → 0 < T.buffers taps.old) }
     ensures buffers { T.buffers taps.new ≡ T.buffers taps.old }
     ensures same { T.same taps.old taps.new }

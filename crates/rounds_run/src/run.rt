@@ -25,9 +25,9 @@ pub fn run_rounds<O: Sink>(
     requires engines { (setting : Setting) × AreOver O.room plan.now ticks setting engines.old }
     requires few { ticks ≤ 1000000000 }
     ensures done { result.end ≡ Done → (setting : Setting) → AreOver O.room plan.now ticks setting engines.old
-        → HasRunAll O.held O.name O.faults setting ticks engines.old engines.new result.counts.items result.logs.items }
+        → HasRunAll O.held O.name O.faults O.appends setting ticks engines.old engines.new result.counts.items result.logs.items }
     ensures part { (setting : Setting) → AreOver O.room plan.now ticks setting engines.old
-        → HasRunSome O.held O.name O.faults setting ticks engines.old engines.new result.end }
+        → HasRunSome O.held O.name O.faults O.appends setting ticks engines.old engines.new result.end }
     ensures memory { KeepNone engines.old → result.end ≡ NoMemory → 0 < length plan.now.buffers }
 {
     let Ok(mut taps) = LocalTaps::new(alloc, plan) else {

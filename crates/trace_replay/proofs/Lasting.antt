@@ -12,6 +12,7 @@ use Rattle.buffer_ends.specs.declared.run_end.End.{End}
 use Rattle.buffer_ends.specs.declared.run_end.End.TheVariants.{Done, Write, Memory as NoMemory}
 use Rattle.clock_engine.specs.declared.engine.ClockEngine.{ClockEngine}
 use Rattle.clock_engine.specs.Engines.{held_of, outputs_of, setting_of}
+use Rattle.clock_engine.proofs.Pieces.{got_between, got_none}
 use Rattle.rounds_run.specs.Rounds.{HasRunPart, IsWriteEnd}
 use Rattle.rounds_run.specs.Runs.{HasRunTicks, HaveRunTicks}
 use Rattle.rounds_run.proofs.Fronts.{grown_nothing, itself}
@@ -30,9 +31,9 @@ to_above : (N clock n m : ℕ) → clock < m → ticks_to N clock n m ≡ 0
 to_above N clock n m high = (let none : nat_lt m clock ≡ false = le-ltb m clock (omega (arith, high)) in let off : nat_eq m clock ≡ false = grind (arith, nat_tests, high) in
     ap (λ (b : Bool). cond b N (cond (nat_eq m clock) n 0)) none ∙ ap (λ (b : Bool). cond b n 0) off)
 
-module _ {S : Type 0} (held name : S → Option (List ℕ)) (faults : S → ℕ) (setting : Setting) (N : ℕ) where
+module _ {S : Type 0} (held name : S → Option (List ℕ)) (faults : S → ℕ) (appends : S → Option ℕ) (setting : Setting) (N : ℕ) where
   abbrev Part : (least most : ℕ) → ClockEngine S → ClockEngine S → Type 0
-  Part least most before after = HasRunPart held name faults (λ rest. setting) least most before after
+  Part least most before after = HasRunPart held name faults appends (λ rest. setting) least most before after
 
   -- no tick
   part_none : (engine : ClockEngine S) → Part 0 0 engine engine
@@ -40,13 +41,14 @@ module _ {S : Type 0} (held name : S → Option (List ℕ)) (faults : S → ℕ)
     setting = refl;
     clock = refl;
     part = λ rest sink node output. ([], itself [], itself [], grown_nothing (held_of held engine sink));
+    pieces = got_between appends 0 0 0 engine.outs engine.outs (omega arith) (omega arith) (got_none appends engine.outs);
     none_fell = fell_none faults engine.outs;
     outs = refl;
     kept = kept_none name faults engine.outs;
   }
 
   -- all ticks
-  part_all : (before after : ClockEngine S) → HasRunTicks held name faults setting N before after → Part N N before after
+  part_all : (before after : ClockEngine S) → HasRunTicks held name faults appends setting N before after → Part N N before after
   part_all before after run = record {
     setting = run.over;
     clock = run.clock;
@@ -56,15 +58,16 @@ module _ {S : Type 0} (held name : S → Option (List ℕ)) (faults : S → ℕ)
       itself (ticks_bytes setting output.wide node N),
       run.grew sink node output,
     );
+    pieces = got_between appends N N N before.outs after.outs (omega arith) (omega arith) run.pieces;
     none_fell = run.none_fell;
     outs = run.outs;
     kept = run.kept;
   }
 
-  pub begin_engines : (first : List (ClockEngine S)) → AreReplayed held name faults setting N 0 first first
+  pub begin_engines : (first : List (ClockEngine S)) → AreReplayed held name faults appends setting N 0 first first
   begin_engines first = record { size = refl; done = λ j before after low. absurd (omega (arith, low)); same = λ j high. refl }
 
-  module _ (k : ℕ) (first now : List (ClockEngine S)) (going : AreReplayed held name faults setting N k first now) (old new : ClockEngine S) (was : slice_get now k ≡ Some old) where
+  module _ (k : ℕ) (first now : List (ClockEngine S)) (going : AreReplayed held name faults appends setting N k first now) (old new : ClockEngine S) (was : slice_get now k ≡ Some old) where
     was_first : slice_get first k ≡ Some old
     was_first = sym (going.same k (omega arith)) ∙ was
 
@@ -88,11 +91,11 @@ module _ {S : Type 0} (held name : S → Option (List ℕ)) (faults : S → ℕ)
     other_at j other = slice_get-set_other now k j new other
 
     -- one engine more
-    pub next_engine : HasRunTicks held name faults setting N old new → AreReplayed held name faults setting N (k + 1) first after
+    pub next_engine : HasRunTicks held name faults appends setting N old new → AreReplayed held name faults appends setting N (k + 1) first after
     next_engine run = record {
       size = size_after;
       done = λ j before engine low at is. elim (same_or_other k j) [
-        | inl e ↦ subst (λ x. HasRunTicks held name faults setting N x engine) (first_at j before e at) (subst (λ x. HasRunTicks held name faults setting N old x) (this_at j engine e is) run)
+        | inl e ↦ subst (λ x. HasRunTicks held name faults appends setting N x engine) (first_at j before e at) (subst (λ x. HasRunTicks held name faults appends setting N old x) (this_at j engine e is) run)
         | inr other ↦ going.done j before engine (omega (arith, low, other)) at (sym (other_at j other) ∙ is)
       ];
       same = λ j high. other_at j (λ e. omega (arith, high, e)) ∙ going.same j (omega (arith, high));
@@ -114,8 +117,8 @@ module _ {S : Type 0} (held name : S → Option (List ℕ)) (faults : S → ℕ)
     }
 
     -- up to a fault
-    pub engines_stopped : HasReplayedPart held name faults setting N old new → (end : End) → ((failed sink : ℕ) → end ≡ Write failed sink → IsWriteEnd faults k first after end)
-        → HasReplayedTo held name faults setting N first after end
+    pub engines_stopped : HasReplayedPart held name faults appends setting N old new → (end : End) → ((failed sink : ℕ) → end ≡ Write failed sink → IsWriteEnd faults k first after end)
+        → HasReplayedTo held name faults appends setting N first after end
     engines_stopped part end write = record {
       clock = k;
       made = part.n;
@@ -144,7 +147,7 @@ module _ {S : Type 0} (held name : S → Option (List ℕ)) (faults : S → ℕ)
     }
 
   -- all engines
-  pub all_engines : (k : ℕ) (first now : List (ClockEngine S)) → AreReplayed held name faults setting N k first now → length now ≤ k → HaveRunTicks held name faults setting N first now
+  pub all_engines : (k : ℕ) (first now : List (ClockEngine S)) → AreReplayed held name faults appends setting N k first now → length now ≤ k → HaveRunTicks held name faults appends setting N first now
   all_engines k first now going full = record {
     size = going.size;
     each = λ j before after was is. going.done j before after (let low = slice_get_within now j after is in omega (arith, low, full)) was is;
@@ -155,7 +158,7 @@ module _ {S : Type 0} (held name : S → Option (List ℕ)) (faults : S → ℕ)
   no_write_here NoMemory is failed sink e = cc
   no_write_here (Write clock out) is failed sink e = (let refused : Write clock out ≡ NoMemory = is (λ done. cc) in cc)
 
-  pub all_to : (first now : List (ClockEngine S)) → HaveRunTicks held name faults setting N first now → (end : End) → ((end ≡ Done → ⊥) → end ≡ NoMemory) → HasReplayedTo held name faults setting N first now end
+  pub all_to : (first now : List (ClockEngine S)) → HaveRunTicks held name faults appends setting N first now → (end : End) → ((end ≡ Done → ⊥) → end ≡ NoMemory) → HasReplayedTo held name faults appends setting N first now end
   all_to first now run end is = record {
     clock = length first;
     made = 0;
@@ -173,7 +176,7 @@ module _ {S : Type 0} (held name : S → Option (List ℕ)) (faults : S → ℕ)
   }
 
   -- none of them
-  pub none_to : (first : List (ClockEngine S)) (end : End) → end ≡ NoMemory → HasReplayedTo held name faults setting N first first end
+  pub none_to : (first : List (ClockEngine S)) (end : End) → end ≡ NoMemory → HasReplayedTo held name faults appends setting N first first end
   none_to first end is = record {
     clock = 0;
     made = 0;
@@ -193,5 +196,5 @@ module _ {S : Type 0} (held name : S → Option (List ℕ)) (faults : S → ℕ)
   }
 
   -- the same end, told again
-  pub ended_so : (first now : List (ClockEngine S)) (end told : End) → told ≡ end → HasReplayedTo held name faults setting N first now end → HasReplayedTo held name faults setting N first now told
-  ended_so first now end told is to = subst (HasReplayedTo held name faults setting N first now) (sym is) to
+  pub ended_so : (first now : List (ClockEngine S)) (end told : End) → told ≡ end → HasReplayedTo held name faults appends setting N first now end → HasReplayedTo held name faults appends setting N first now told
+  ended_so first now end told is to = subst (HasReplayedTo held name faults appends setting N first now) (sym is) to

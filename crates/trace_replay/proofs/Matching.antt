@@ -98,23 +98,23 @@ module _ (base : Setting) (clocks : ClockMap) (is : IsSetting base clocks) (text
       }
 
   -- of so many ticks
-  pub replaying_here : {S : Type 0} (held name : S → Option (List ℕ)) (room : S → Option ℕ) (faults : S → ℕ) (n : ℕ) (first now : ClockEngine S) (new after : List BufferState) → n ≡ N → first.parts.clock ≡ m
+  pub replaying_here : {S : Type 0} (held name : S → Option (List ℕ)) (room : S → Option ℕ) (faults : S → ℕ) (appends : S → Option ℕ) (n : ℕ) (first now : ClockEngine S) (new after : List BufferState) → n ≡ N → first.parts.clock ≡ m
       → MayReplay room score_here N first.parts.clock first new
-      → ((score : Score) → MayReplay room score n first.parts.clock first new → IsReplaying held name room faults score n first.parts.clock n first now after) → IsReplaying held name room faults score_here N m N first now after
-  replaying_here held name room faults n first now new after same clock_is may told_run =
-      subst (λ (k : ℕ). IsReplaying held name room faults score_here N k N first now after) clock_is
-      (subst (λ (t : ℕ). MayReplay room score_here t first.parts.clock first new → IsReplaying held name room faults score_here t first.parts.clock t first now after) same (told_run score_here) may)
+      → ((score : Score) → MayReplay room score n first.parts.clock first new → IsReplaying held name room faults appends score n first.parts.clock n first now after) → IsReplaying held name room faults appends score_here N m N first now after
+  replaying_here held name room faults appends n first now new after same clock_is may told_run =
+      subst (λ (k : ℕ). IsReplaying held name room faults appends score_here N k N first now after) clock_is
+      (subst (λ (t : ℕ). MayReplay room score_here t first.parts.clock first new → IsReplaying held name room faults appends score_here t first.parts.clock t first now after) same (told_run score_here) may)
 
-  pub broken_here : {S : Type 0} (held name : S → Option (List ℕ)) (room : S → Option ℕ) (faults : S → ℕ) (n : ℕ) (first now : ClockEngine S) (new : List BufferState) → n ≡ N → first.parts.clock ≡ m
+  pub broken_here : {S : Type 0} (held name : S → Option (List ℕ)) (room : S → Option ℕ) (faults : S → ℕ) (appends : S → Option ℕ) (n : ℕ) (first now : ClockEngine S) (new : List BufferState) → n ≡ N → first.parts.clock ≡ m
       → MayReplay room score_here N first.parts.clock first new
-      → ((score : Score) → MayReplay room score n first.parts.clock first new → IsBrokenOff held name faults score n first.parts.clock first now) → IsBrokenOff held name faults score_here N m first now
-  broken_here held name room faults n first now new same clock_is may told_run =
-      subst (λ (k : ℕ). IsBrokenOff held name faults score_here N k first now) clock_is
-      (subst (λ (t : ℕ). MayReplay room score_here t first.parts.clock first new → IsBrokenOff held name faults score_here t first.parts.clock first now) same (told_run score_here) may)
+      → ((score : Score) → MayReplay room score n first.parts.clock first new → IsBrokenOff held name faults appends score n first.parts.clock first now) → IsBrokenOff held name faults appends score_here N m first now
+  broken_here held name room faults appends n first now new same clock_is may told_run =
+      subst (λ (k : ℕ). IsBrokenOff held name faults appends score_here N k first now) clock_is
+      (subst (λ (t : ℕ). MayReplay room score_here t first.parts.clock first new → IsBrokenOff held name faults appends score_here t first.parts.clock first now) same (told_run score_here) may)
 
   -- behind the last one
-  module _ {S : Type 0} (held name : S → Option (List ℕ)) (room : S → Option ℕ) (faults : S → ℕ) (first now : ClockEngine S) (after : List BufferState)
-      (run : IsReplaying held name room faults score_here N m N first now after) where
+  module _ {S : Type 0} (held name : S → Option (List ℕ)) (room : S → Option ℕ) (faults : S → ℕ) (appends : S → Option ℕ) (first now : ClockEngine S) (after : List BufferState)
+      (run : IsReplaying held name room faults appends score_here N m N first now after) where
     own_now : All (IsOwn base m) run.calls
     own_now = own_made base clocks is m N run.accepted run.calls run.are
 
@@ -183,13 +183,13 @@ module _ (base : Setting) (clocks : ClockMap) (is : IsSetting base clocks) (text
       world_is : world base xs rest_of ≡ setting_in base run
       world_is = ap (answered base) (fun_ext (λ b. (remains b).1))
 
-      module _ {S : Type 0} (held name : S → Option (List ℕ)) (room : S → Option ℕ) (faults : S → ℕ) (first now : ClockEngine S) (over : setting_of first.parts ≡ base) where
+      module _ {S : Type 0} (held name : S → Option (List ℕ)) (room : S → Option ℕ) (faults : S → ℕ) (appends : S → Option ℕ) (first now : ClockEngine S) (over : setting_of first.parts ≡ base) where
         -- whole ticks
-        pub ticks_match : HasRunTurns held name faults xs N first now → HasRunTicks held name faults (setting_in base run) N first now
+        pub ticks_match : HasRunTurns held name faults appends xs N first now → HasRunTicks held name faults appends (setting_in base run) N first now
         ticks_match turns =
             let rest = meets (setting_of first.parts) (Main first.parts.clock) xs turns.answers turns.own rest_of in
             let given : with_rest (setting_of first.parts) turns.answers rest ≡ setting_in base run =
-            meets_is (setting_of first.parts) (Main first.parts.clock) xs turns.answers turns.own rest_of (none_read held name room faults N xs first now now turns) ∙ ap (λ (s : Setting). world s xs rest_of) over ∙ world_is in
+            meets_is (setting_of first.parts) (Main first.parts.clock) xs turns.answers turns.own rest_of (none_read held name room faults appends N xs first now now turns) ∙ ap (λ (s : Setting). world s xs rest_of) over ∙ world_is in
             record {
               over = turns.setting;
               clock = turns.clock;
@@ -199,13 +199,14 @@ module _ (base : Setting) (clocks : ClockMap) (is : IsSetting base clocks) (text
               given = given;
               stands = turns.stands;
               grew = λ sink node output. turns.grew.each rest sink node output ∙ ap (λ (V : Setting). grown (ticks_bytes V output.wide node N) (held_of held first sink)) given;
+              pieces = turns.pieces;
               none_fell = turns.none_fell;
               outs = turns.outs;
               kept = turns.kept;
             }
 
         -- and a part of one more
-        pub part_matches : (least most : ℕ) → HasRunPart held name faults (world (setting_of first.parts) xs) least most first now → HasRunPart held name faults (λ rest. setting_in base run) least most first now
+        pub part_matches : (least most : ℕ) → HasRunPart held name faults appends (world (setting_of first.parts) xs) least most first now → HasRunPart held name faults appends (λ rest. setting_in base run) least most first now
         part_matches least most part =
             let here : world (setting_of first.parts) xs rest_of ≡ setting_in base run = ap (λ (s : Setting). world s xs rest_of) over ∙ world_is in
             record {
@@ -214,19 +215,20 @@ module _ (base : Setting) (clocks : ClockMap) (is : IsSetting base clocks) (text
               part = λ rest sink node output.
                   subst (λ (V : Setting). (bytes : List ℕ) × IsPrefix (ticks_bytes V output.wide node least) bytes × IsPrefix bytes (ticks_bytes V output.wide node most) × (held_of held now sink ≡ grown bytes (held_of held first sink))) here
                   (part.part rest_of sink node output);
+              pieces = part.pieces;
               none_fell = part.none_fell;
               outs = part.outs;
               kept = part.kept;
             }
 
-    module _ {S : Type 0} (held name : S → Option (List ℕ)) (room : S → Option ℕ) (faults : S → ℕ) (first now : ClockEngine S) (over : setting_of first.parts ≡ base) where
+    module _ {S : Type 0} (held name : S → Option (List ℕ)) (room : S → Option ℕ) (faults : S → ℕ) (appends : S → Option ℕ) (first now : ClockEngine S) (over : setting_of first.parts ≡ base) where
       -- all ticks of the record
-      pub engine_done : (after : List BufferState) → IsReplaying held name room faults score_here N m N first now after → HasRunTicks held name faults (setting_in base run) N first now
+      pub engine_done : (after : List BufferState) → IsReplaying held name room faults appends score_here N m N first now after → HasRunTicks held name faults appends (setting_in base run) N first now
       engine_done after replay =
-          ticks_match calls (front_all calls) held name room faults first now over (subst (λ (l : List Call). HasRunTurns held name faults l N first now) (same_calls held name room faults first now after replay) replay.run)
+          ticks_match calls (front_all calls) held name room faults appends first now over (subst (λ (l : List Call). HasRunTurns held name faults appends l N first now) (same_calls held name room faults appends first now after replay) replay.run)
 
       -- or up to a fault
-      pub engine_broke : IsBrokenOff held name faults score_here N m first now → HasReplayedPart held name faults (setting_in base run) N first now
+      pub engine_broke : IsBrokenOff held name faults appends score_here N m first now → HasReplayedPart held name faults appends (setting_in base run) N first now
       engine_broke broken =
           let front : IsFront (broken.calls ++ broken.made) calls = subst (IsFront (broken.calls ++ broken.made)) (sym calls_are) (broken.front W (got_then calls nothing) kept replayed_here) in
-          record { n = broken.n; low = broken.low; part = part_matches (broken.calls ++ broken.made) front held name room faults first now over broken.n (suc broken.n) broken.part }
+          record { n = broken.n; low = broken.low; part = part_matches (broken.calls ++ broken.made) front held name room faults appends first now over broken.n (suc broken.n) broken.part }

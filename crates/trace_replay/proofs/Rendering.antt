@@ -8,13 +8,13 @@ use Rattle.stream_meaning.specs.Calls.{IsBegin, answers_in, calls_of_tick}
 use Rattle.stream_meaning.proofs.Answering.{answers_in-append}
 use Rattle.stream_laws.specs.Outputs.{first_calls}
 use Rattle.node_states.specs.Ticks.{HasStopped, HasTicked}
-use Rattle.clock_outputs.specs.Appends.{AreKept, NoneFell}
+use Rattle.clock_outputs.specs.Appends.{AreKept, GotOnePiece, NoneFell}
 use Rattle.clock_outputs.proofs.Since.{rose_since}
 use Rattle.clock_engine.specs.declared.engine.ClockEngine.{ClockEngine}
 use Rattle.clock_engine.specs.declared.fault.TickFault.{TickFault}
 use Rattle.clock_engine.specs.declared.fault.TickFault.TheVariants.{Write as TickWrite}
 use Rattle.clock_engine.specs.Engines.{AreParts, EngineStands, held_in, outputs_of, setting_of}
-use Rattle.clock_engine.specs.Ticks.{HasFailed as TickFailed, HasMade, HaveTickRoom, HaveTicksRoom, IsWriteFault, piece_size}
+use Rattle.clock_engine.specs.Ticks.{GotSomePieces, HasFailed as TickFailed, HasMade, HaveTickRoom, HaveTicksRoom, IsWriteFault, piece_size}
 use Rattle.rounds_run.proofs.Going.{run_failed, run_more, run_none}
 use Rattle.trace_replay.specs.declared.course.Course.{Course}
 use Rattle.trace_replay.specs.declared.course.Course.TheVariants.{Goes, Waits, Fails}
@@ -45,8 +45,8 @@ room_now room N n engine low rooms = record {
       omega (arith, more, parts);
 }
 
-module _ {S : Type 0} (held name : S → Option (List ℕ)) (room : S → Option ℕ) (faults : S → ℕ) (score : Score) (N m : ℕ) where
-  pub replay_begins : (engine : ClockEngine S) (states : List BufferState) → MayReplay room score N m engine states → IsReplaying held name room faults score N m 0 engine engine states
+module _ {S : Type 0} (held name : S → Option (List ℕ)) (room : S → Option ℕ) (faults : S → ℕ) (appends : S → Option ℕ) (score : Score) (N m : ℕ) where
+  pub replay_begins : (engine : ClockEngine S) (states : List BufferState) → MayReplay room score N m engine states → IsReplaying held name room faults appends score N m 0 engine engine states
   replay_begins engine states may = record {
     calls = [];
     accepted = λ t b. true;
@@ -56,16 +56,16 @@ module _ {S : Type 0} (held name : S → Option (List ℕ)) (room : S → Option
     engine = may.fresh;
     stand = may.stand;
     of = may.of;
-    run = run_none held name room faults N engine (record { fresh = may.fresh; rooms = may.rooms });
+    run = run_none held name room faults appends N engine (record { fresh = may.fresh; rooms = may.rooms });
     rooms = λ left e. subst (HaveTicksRoom room engine.parts engine.outs) (sym e ∙ (let z : 0 + left ≡ left = omega arith in z)) may.rooms;
   }
 
   module _ (n : ℕ) (less : n < N) (first old new : ClockEngine S) (opening : List BufferState) (may : MayReplay room score N m first opening) (taps taps_new : ToldTaps)
-      (now : IsReplaying held name room faults score N m n first old taps.buffers.items) (goes : taps.course ≡ Goes) (changed : SameBuffers taps.buffers.items taps_new.buffers.items)
+      (now : IsReplaying held name room faults appends score N m n first old taps.buffers.items) (goes : taps.course ≡ Goes) (changed : SameBuffers taps.buffers.items taps_new.buffers.items)
       (over_new : setting_of new.parts ≡ setting_of old.parts) (clock_new : new.parts.clock ≡ old.parts.clock) where
     -- a tick that was made
     module _ (made : HasMade held taps_stand old.parts new.parts old.outs new.outs taps taps_new) (fit : AreParts old.parts) (fell : NoneFell faults old.outs new.outs) (many : length new.outs ≡ length old.outs)
-        (kept : AreKept name faults old.outs new.outs) (keeping : new.parts.cues.keeping ≡ old.parts.cues.keeping) (rooms : (ticks : ℕ) → HaveTicksRoom room old.parts old.outs (ticks + 1) → HaveTicksRoom room new.parts new.outs ticks) where
+        (kept : AreKept name faults old.outs new.outs) (once : GotOnePiece appends (length old.outs) old.outs new.outs) (keeping : new.parts.cues.keeping ≡ old.parts.cues.keeping) (rooms : (ticks : ℕ) → HaveTicksRoom room old.parts old.outs (ticks + 1) → HaveTicksRoom room new.parts new.outs ticks) where
       abbrev more : List Call
       more = made.more
 
@@ -89,7 +89,7 @@ module _ {S : Type 0} (held name : S → Option (List ℕ)) (room : S → Option
           by (inr (inr e)) = absurd (never_fails score.base score.clocks may.is score.text may.window N m n score.chunks taps.buffers.items taps_new.buffers.items now.of changed now.calls now.accepted now.are now.stand more ticked.accepted tick less
               may.given may.taken may.whole (subst (λ (c : Course). TapsStand c taps_new.buffers.items (now.calls ++ more)) e stand_then))
 
-      pub replay_goes_on : IsReplaying held name room faults score N m (suc n) first new taps_new.buffers.items
+      pub replay_goes_on : IsReplaying held name room faults appends score N m (suc n) first new taps_new.buffers.items
       replay_goes_on = record {
         calls = now.calls ++ more;
         accepted = accepted_then score.base m n now.accepted now.calls now.are more ticked.accepted tick;
@@ -99,7 +99,7 @@ module _ {S : Type 0} (held name : S → Option (List ℕ)) (room : S → Option
         engine = subst (EngineStands new.parts (suc n)) (fun_ext (λ b. sym (answers_in-append b now.calls more))) ticked.stand;
         stand = subst (λ (c : Course). TapsStand c taps_new.buffers.items (now.calls ++ more)) still_goes stand_then;
         of = of_same score.base score.text m score.chunks taps.buffers.items now.of taps_new.buffers.items changed;
-        run = run_more held name room faults n now.calls first old new now.run taps_stand taps taps_new (record {
+        run = run_more held name room faults appends n now.calls first old new now.run taps_stand taps taps_new (record {
           fit = fit;
           setting = over_new;
           clock = clock_new;
@@ -108,6 +108,7 @@ module _ {S : Type 0} (held name : S → Option (List ℕ)) (room : S → Option
           none_fell = fell;
           outs = many;
           kept = kept;
+          once = once;
           rooms = rooms;
         });
         rooms = λ left e. rooms left (now.rooms (left + 1) (omega (arith, e)));
@@ -140,18 +141,18 @@ module _ {S : Type 0} (held name : S → Option (List ℕ)) (room : S → Option
         front_now = stopped_front score.base score.clocks may.is score.text N m n less score.chunks taps_new.buffers.items of_now now.accepted now.calls now.are failed.made stopped.accepted begun
             W given taken whole (all_stand (course_is taps_new.course))
 
-      pub replay_breaks : NoneFell faults old.outs new.outs → length new.outs ≡ length old.outs → AreKept name faults old.outs new.outs → IsBrokenOff held name faults score N m first new
-      replay_breaks fell many kept = record {
+      pub replay_breaks : GotSomePieces appends old.outs new.outs → NoneFell faults old.outs new.outs → length new.outs ≡ length old.outs → AreKept name faults old.outs new.outs → IsBrokenOff held name faults appends score N m first new
+      replay_breaks some fell many kept = record {
         n = n;
         low = less;
         calls = now.calls;
         made = failed.made;
         front = front_now;
-        part = run_failed held name room faults n now.calls first old new now.run taps_stand taps taps_new n (suc n) (omega arith) (omega arith) failed fell many kept over_new clock_new;
+        part = run_failed held name room faults appends n now.calls first old new now.run taps_stand taps taps_new n (suc n) (omega arith) (omega arith) failed some fell many kept over_new clock_new;
       }
 
     -- whose sink failed
-    pub sink_failed : {appends : S → Option ℕ} (fault : TickFault) → IsWriteFault faults appends old.parts old.outs new.outs fault → (sink : ℕ) → fault ≡ TickWrite sink → HasSinkFailed faults sink first new
+    pub sink_failed : (fault : TickFault) → IsWriteFault faults appends old.parts old.outs new.outs fault → (sink : ℕ) → fault ≡ TickWrite sink → HasSinkFailed faults sink first new
     sink_failed fault cause sink e =
         let both : TickWrite cause.sink ≡ TickWrite sink = sym cause.fault_is ∙ e in
         let same : cause.sink ≡ sink = cc in

@@ -32,7 +32,7 @@ pub record MayReplay {S : Type 0} (room : S → Option ℕ) (score : Score) (N m
   pub whole : HasReplayed score.base score.text window N m N score.chunks given taken
 
 -- between two ticks
-pub record IsReplaying {S : Type 0} (held name : S → Option (List ℕ)) (room : S → Option ℕ) (faults : S → ℕ) (score : Score) (N m n : ℕ) (first now : ClockEngine S) (states : List BufferState) : Type 0 where
+pub record IsReplaying {S : Type 0} (held name : S → Option (List ℕ)) (room : S → Option ℕ) (faults : S → ℕ) (appends : S → Option ℕ) (score : Score) (N m n : ℕ) (first now : ClockEngine S) (states : List BufferState) : Type 0 where
   pub calls : List Call
   pub accepted : ℕ → ℕ → Bool
   pub over : setting_of now.parts ≡ score.base
@@ -41,19 +41,19 @@ pub record IsReplaying {S : Type 0} (held name : S → Option (List ℕ)) (room 
   pub engine : EngineStands now.parts n (λ b. answers_in b calls)
   pub stand : AllStand states calls
   pub of : AreOf score.base score.text m score.chunks states
-  pub run : HasRunTurns held name faults calls n first now
+  pub run : HasRunTurns held name faults appends calls n first now
   pub rooms : (left : ℕ) → n + left ≡ N → HaveTicksRoom room now.parts now.outs left
 
 -- A fault ended it in tick n, after these calls of the ticks before and these ones of its own; they are the first ones of all the calls
 -- by which the clock makes its ticks as the text tells.
-pub record IsBrokenOff {S : Type 0} (held name : S → Option (List ℕ)) (faults : S → ℕ) (score : Score) (N m : ℕ) (first now : ClockEngine S) : Type 0 where
+pub record IsBrokenOff {S : Type 0} (held name : S → Option (List ℕ)) (faults : S → ℕ) (appends : S → Option ℕ) (score : Score) (N m : ℕ) (first now : ClockEngine S) : Type 0 where
   pub n : ℕ
   pub low : n < N
   pub calls : List Call
   pub made : List Call
   pub front : (W : ℕ) (given : ℕ → List Answer) (taken : ℕ → ℕ → Bool) → HasReplayed score.base score.text W N m N score.chunks given taken
       → IsFront (calls ++ made) (first_calls (answered score.base given) taken m N)
-  pub part : HasRunPart held name faults (world (setting_of first.parts) (calls ++ made)) n (suc n) first now
+  pub part : HasRunPart held name faults appends (world (setting_of first.parts) (calls ++ made)) n (suc n) first now
 
 -- the count of faults rose of this output of an engine's clock
 pub record HasSinkFailed {S : Type 0} (faults : S → ℕ) (sink : ℕ) (first now : ClockEngine S) : Type 0 where

@@ -35,9 +35,9 @@ pub fn replay_clock<O: Sink>(
     requires goes { taps.old.course ≡ IsGoing }
     requires play { (score : Score) × MayReplay O.room score ticks engine.old.parts.clock engine.old taps.old.buffers.items }
     ensures done { OnOk result ((score : Score) → MayReplay O.room score ticks engine.old.parts.clock engine.old taps.old.buffers.items
-        → IsReplaying O.held O.name O.room O.faults score ticks engine.old.parts.clock ticks engine.old engine.new taps.new.buffers.items) }
+        → IsReplaying O.held O.name O.room O.faults O.appends score ticks engine.old.parts.clock ticks engine.old engine.new taps.new.buffers.items) }
     ensures part { OnErr result ((score : Score) → MayReplay O.room score ticks engine.old.parts.clock engine.old taps.old.buffers.items
-        → IsBrokenOff O.held O.name O.faults score ticks engine.old.parts.clock engine.old engine.new) }
+        → IsBrokenOff O.held O.name O.faults O.appends score ticks engine.old.parts.clock engine.old engine.new) }
     ensures cause { IfErr result (λ fault. (sink : ℕ) → fault ≡ TickWrite sink → HasSinkFailed O.faults sink engine.old engine.new) }
 {
     for _tick in 0..ticks {
@@ -76,11 +76,11 @@ fn replay_engine<O: Sink>(
     requires told { AreTold (base_at station.now) (text_of trace.now.buffers) taps.old.buffers.items }
     requires found { HaveFound (base_at station.now) station.now.clocks.now trace.now.window trace.now.ticks (text_of trace.now.buffers) taps.old.buffers.items }
     ensures done { OnOk result ((run : Run) → IsRecordOf (base_at station.now) station.now.clocks.now.running trace.now run
-        → HasRunTicks O.held O.name O.faults (setting_in (base_at station.now) run) trace.now.ticks engine.old engine.new) }
+        → HasRunTicks O.held O.name O.faults O.appends (setting_in (base_at station.now) run) trace.now.ticks engine.old engine.new) }
     ensures told { OnOk result (AreTold (base_at station.now) (text_of trace.now.buffers) taps.new.buffers.items) }
     ensures found { OnOk result (HaveFound (base_at station.now) station.now.clocks.now trace.now.window trace.now.ticks (text_of trace.now.buffers) taps.new.buffers.items) }
     ensures part { OnErr result ((run : Run) → IsRecordOf (base_at station.now) station.now.clocks.now.running trace.now run
-        → HasReplayedPart O.held O.name O.faults (setting_in (base_at station.now) run) trace.now.ticks engine.old engine.new) }
+        → HasReplayedPart O.held O.name O.faults O.appends (setting_in (base_at station.now) run) trace.now.ticks engine.old engine.new) }
     ensures cause { IfErr result (λ fault. (sink : ℕ) → fault ≡ TickWrite sink → HasSinkFailed O.faults sink engine.old engine.new) }
 {
     begin_run(
@@ -110,9 +110,9 @@ pub fn replay_engines<O: Sink>(
     requires told { AreTold (base_at station.now) (text_of trace.now.buffers) taps.old.buffers.items }
     requires found { HaveFound (base_at station.now) station.now.clocks.now trace.now.window trace.now.ticks (text_of trace.now.buffers) taps.old.buffers.items }
     ensures done { OnOk result ((run : Run) → IsRecordOf (base_at station.now) station.now.clocks.now.running trace.now run
-        → HaveRunTicks O.held O.name O.faults (setting_in (base_at station.now) run) trace.now.ticks engines.old engines.new) }
+        → HaveRunTicks O.held O.name O.faults O.appends (setting_in (base_at station.now) run) trace.now.ticks engines.old engines.new) }
     ensures part { IfErr result (λ end. (run : Run) → IsRecordOf (base_at station.now) station.now.clocks.now.running trace.now run
-        → HasReplayedTo O.held O.name O.faults (setting_in (base_at station.now) run) trace.now.ticks engines.old engines.new end) }
+        → HasReplayedTo O.held O.name O.faults O.appends (setting_in (base_at station.now) run) trace.now.ticks engines.old engines.new end) }
     ensures stopped { IfErr result (λ end. end ≡ Done → ⊥) }
 {
     for k in 0..engines.len() {

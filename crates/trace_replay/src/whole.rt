@@ -100,8 +100,8 @@ pub fn replay<O: Sink>(
     requires engines { AreEngines O.room trace.now.ticks (base_of plan.now library.now clocks.now start.second) engines.old }
     requires all { length engines.old ≡ clocks.now.running }
     ensures done { result.end ≡ Done
-        → HasReplayedAll O.held O.name O.faults (base_of plan.now library.now clocks.now start.second) clocks.now.running trace.now engines.old engines.new result.counts.items result.logs.items }
-    ensures part { HasReplayedSome O.held O.name O.faults (base_of plan.now library.now clocks.now start.second) clocks.now.running trace.now engines.old engines.new result.end }
+        → HasReplayedAll O.held O.name O.faults O.appends (base_of plan.now library.now clocks.now start.second) clocks.now.running trace.now engines.old engines.new result.counts.items result.logs.items }
+    ensures part { HasReplayedSome O.held O.name O.faults O.appends (base_of plan.now library.now clocks.now start.second) clocks.now.running trace.now engines.old engines.new result.end }
 {
     let station = Station {
         plan,

@@ -55,7 +55,7 @@ pub record State (s : Table) (h : HeldVariables) (p : List ℕ) (bs : List AKnow
   pub typings : AreTypings s targets script (dones_in ds xs)
   pub whole : AreWhole script (dones_in ds xs)
 
-state_of : (targets : Targets) (script : Script) (t : Typing) → IsReady targets t → IsTypedSo targets script t → State t.subst t.held t.pending.items t.before t.defs.items t.steps.items targets script
+state_of : (targets : Targets) (script : Script) (t : Typing) → IsReady targets t → IsTypedSo targets script t → State t.subst t.held t.pending.items t.before t.defs t.steps.items targets script
 state_of targets script t ready so = record {
   seen = ready.seen;
   holds = ready.holds;
@@ -66,25 +66,25 @@ state_of targets script t ready so = record {
   whole = so.whole;
 }
 
-after_of : (targets : Targets) (script : Script) (t : Typing) → State t.subst t.held t.pending.items t.before t.defs.items t.steps.items targets script → IsAfter targets script t
+after_of : (targets : Targets) (script : Script) (t : Typing) → State t.subst t.held t.pending.items t.before t.defs t.steps.items targets script → IsAfter targets script t
 after_of targets script t st = record {
   ready = record { seen = st.seen; holds = st.holds; numbered = st.numbered; there = st.there };
   typed = record { known = st.known; typings = st.typings; whole = st.whole };
 }
 
-pub state_as : (t : Typing) (s : Table) (h : HeldVariables) (p : List ℕ) (bs : List AKnown) (ds : List KnownDef) (xs : List Step) (targets : Targets) (script : Script) → t.subst ≡ s → t.held ≡ h → t.pending.items ≡ p → t.before ≡ bs → t.defs.items ≡ ds → t.steps.items ≡ xs →
+pub state_as : (t : Typing) (s : Table) (h : HeldVariables) (p : List ℕ) (bs : List AKnown) (ds : List KnownDef) (xs : List Step) (targets : Targets) (script : Script) → t.subst ≡ s → t.held ≡ h → t.pending.items ≡ p → t.before ≡ bs → t.defs ≡ ds → t.steps.items ≡ xs →
     State s h p bs ds xs targets script → IsAfter targets script t
 state_as t s h p bs ds xs targets script es eh ep eb ed ex st =
     let a : State t.subst h p bs ds xs targets script = subst (λ (y : Table). State y h p bs ds xs targets script) (sym es) st in
     let b : State t.subst t.held p bs ds xs targets script = subst (λ (y : HeldVariables). State t.subst y p bs ds xs targets script) (sym eh) a in
     let c : State t.subst t.held t.pending.items bs ds xs targets script = subst (λ (y : List ℕ). State t.subst t.held y bs ds xs targets script) (sym ep) b in
     let d : State t.subst t.held t.pending.items t.before ds xs targets script = subst (λ (y : List AKnown). State t.subst t.held t.pending.items y ds xs targets script) (sym eb) c in
-    let e : State t.subst t.held t.pending.items t.before t.defs.items xs targets script = subst (λ (y : List KnownDef). State t.subst t.held t.pending.items t.before y xs targets script) (sym ed) d in
-    after_of targets script t (subst (λ (y : List Step). State t.subst t.held t.pending.items t.before t.defs.items y targets script) (sym ex) e)
+    let e : State t.subst t.held t.pending.items t.before t.defs xs targets script = subst (λ (y : List KnownDef). State t.subst t.held t.pending.items t.before y xs targets script) (sym ed) d in
+    after_of targets script t (subst (λ (y : List Step). State t.subst t.held t.pending.items t.before t.defs y targets script) (sym ex) e)
 
 -- the same typing, whose lists may have room for more
 pub after_same : (targets : Targets) (script : Script) (old new : Typing) → IsSameTyping old new → IsAfter targets script old → IsAfter targets script new
-after_same targets script old new same a = state_as new old.subst old.held old.pending.items old.before old.defs.items old.steps.items targets script same.subst same.held same.pending same.before same.defs same.steps (state_of targets script old a.ready a.typed)
+after_same targets script old new same a = state_as new old.subst old.held old.pending.items old.before old.defs old.steps.items targets script same.subst same.held same.pending same.before same.defs same.steps (state_of targets script old a.ready a.typed)
 
 -- ---- an expression, with what is known by the definitions
 
@@ -255,7 +255,7 @@ env_is names targets bs ds et ei eb ed =
       env t ks us = record { targets = t; before = ks; inner = us }
 
 -- what is to hold before an expression is typed
-pub seen_outside : (targets : Targets) (t : Typing) (names : Names) → IsReady targets t → env_of names ≡ outside targets (knowns t) → names.defs.now ≡ t.defs.items → IsSeen t.subst names []
+pub seen_outside : (targets : Targets) (t : Typing) (names : Names) → IsReady targets t → env_of names ≡ outside targets (knowns t) → names.defs.now ≡ t.defs → IsSeen t.subst names []
 seen_outside targets t names ready env defs = record {
   over = subst (IsEnvOver t.subst) (sym env) (record { before = ready.seen.over; inner = tt });
   uses_over = tt;
@@ -273,77 +273,77 @@ typed_known : (s s' : Table) (names : Names) (targets : Targets) (bs : List AKno
 typed_known s s' names targets bs ds e x env ed t =
     subst (λ (y : Env). IsTypedWith s s' y ds e x) env (subst (λ (y : List KnownDef). IsTypedWith s s' (env_of names) y e x) ed t)
 
-pub value_more : (targets : Targets) (b : ABind) (old mid new : Typing) (names : Names) (e : TypedExpr) → IsReady targets old → GoesOn old mid → mid.held ≡ old.held → mid.pending ≡ old.pending → env_of names ≡ outside targets (knowns old) → names.defs.now ≡ old.defs.items →
+pub value_more : (targets : Targets) (b : ABind) (old mid new : Typing) (names : Names) (e : TypedExpr) → IsReady targets old → GoesOn old mid → mid.held ≡ old.held → mid.pending ≡ old.pending → env_of names ≡ outside targets (knowns old) → names.defs.now ≡ old.defs →
     IsTypedWith old.subst mid.subst (env_of names) names.defs.now (view_full b.value) e → IsValueKept b.at e mid new → IsMore targets (BindPart (view_bind b)) old new
 value_more targets b old mid new names e ready on held pending env ed typed kept script semicolon so next =
     let bs = old.before in
-    let ds = old.defs.items in
+    let ds = old.defs in
     let xs = old.steps.items in
     let t = typed_known old.subst mid.subst names targets bs ds (view_full b.value) e env ed typed in
     let st = bound_state old.subst mid.subst old.held old.pending.items bs ds xs targets script b.at b.name (view_full b.value) semicolon e (state_of targets script old ready so) t next in
     state_as new mid.subst old.held (old.pending.items ++ e.var ∷ []) (bs ++ known.Value (name_as b.at e) ∷ []) ds (xs ++ step.Bound (name_as b.at e) e.uses ∷ []) targets (with_last script (Bind' b.at b.name (view_full b.value) semicolon))
     kept.subst (kept.held ∙ held) (kept.pending ∙ ap (λ v. v.items ++ e.var ∷ []) pending)
     (kept.before ∙ ap (λ (v : List AKnown). v ++ known.Value (name_as b.at e) ∷ []) on.before)
-    (kept.defs ∙ ap (λ v. v.items) on.defs)
+    (kept.defs ∙ on.defs)
     (kept.steps ∙ ap (λ v. v.items ++ step.Bound (name_as b.at e) e.uses ∷ []) on.steps) st
 
 pub value_no_more : (targets : Targets) (b : ABind) (old : Typing) (names : Names) → IsReady targets old → env_of names ≡ outside targets (knowns old) → HasNoType old.subst (env_of names) (view_full b.value) [] → IsNoMore targets (BindPart (view_bind b)) old
 value_no_more targets b old names ready env none script semicolon so =
-    bound_stops old.subst old.held old.pending.items old.before old.defs.items old.steps.items targets script b.at b.name (view_full b.value) semicolon (state_of targets script old ready so)
+    bound_stops old.subst old.held old.pending.items old.before old.defs old.steps.items targets script b.at b.name (view_full b.value) semicolon (state_of targets script old ready so)
     (subst (λ (y : Env). HasNoType old.subst y (view_full b.value) []) env none)
 
-pub call_more : (targets : Targets) (b : Tree ACall) (old mid new : Typing) (names : Names) (e : TypedExpr) → IsReady targets old → GoesOn old mid → mid.held ≡ old.held → mid.pending ≡ old.pending → env_of names ≡ outside targets (knowns old) → names.defs.now ≡ old.defs.items →
+pub call_more : (targets : Targets) (b : Tree ACall) (old mid new : Typing) (names : Names) (e : TypedExpr) → IsReady targets old → GoesOn old mid → mid.held ≡ old.held → mid.pending ≡ old.pending → env_of names ≡ outside targets (knowns old) → names.defs.now ≡ old.defs →
     IsTypedWith old.subst mid.subst (env_of names) names.defs.now b e → IsRunKept e mid new → IsMore targets (CallPart b) old new
 call_more targets b old mid new names e ready on held pending env ed typed kept script semicolon so next =
     let bs = old.before in
-    let ds = old.defs.items in
+    let ds = old.defs in
     let xs = old.steps.items in
     let t = typed_known old.subst mid.subst names targets bs ds b e env ed typed in
     let st = call_state old.subst mid.subst old.held old.pending.items bs ds xs targets script b semicolon e (state_of targets script old ready so) t next in
     state_as new mid.subst old.held old.pending.items bs ds (xs ++ step.Ran e.uses ∷ []) targets (with_last script (Stmt (CallPart b) semicolon))
-    kept.subst (kept.held ∙ held) (kept.pending ∙ ap (λ v. v.items) pending) (kept.before ∙ on.before) (kept.defs ∙ ap (λ v. v.items) on.defs) (kept.steps ∙ ap (λ v. v.items ++ step.Ran e.uses ∷ []) on.steps) st
+    kept.subst (kept.held ∙ held) (kept.pending ∙ ap (λ v. v.items) pending) (kept.before ∙ on.before) (kept.defs ∙ on.defs) (kept.steps ∙ ap (λ v. v.items ++ step.Ran e.uses ∷ []) on.steps) st
 
 pub call_no_more : (targets : Targets) (b : Tree ACall) (old : Typing) (names : Names) → IsReady targets old → env_of names ≡ outside targets (knowns old) → HasNoType old.subst (env_of names) b [] → IsNoMore targets (CallPart b) old
 call_no_more targets b old names ready env none script semicolon so =
-    call_stops old.subst old.held old.pending.items old.before old.defs.items old.steps.items targets script b semicolon (state_of targets script old ready so) (subst (λ (y : Env). HasNoType old.subst y b []) env none)
+    call_stops old.subst old.held old.pending.items old.before old.defs old.steps.items targets script b semicolon (state_of targets script old ready so) (subst (λ (y : Env). HasNoType old.subst y b []) env none)
 
-pub if_more : (targets : Targets) (b : Tree AnIf) (old mid new : Typing) (names : Names) (e : TypedExpr) → IsReady targets old → GoesOn old mid → mid.held ≡ old.held → mid.pending ≡ old.pending → env_of names ≡ outside targets (knowns old) → names.defs.now ≡ old.defs.items →
+pub if_more : (targets : Targets) (b : Tree AnIf) (old mid new : Typing) (names : Names) (e : TypedExpr) → IsReady targets old → GoesOn old mid → mid.held ≡ old.held → mid.pending ≡ old.pending → env_of names ≡ outside targets (knowns old) → names.defs.now ≡ old.defs →
     IsTypedWith old.subst mid.subst (env_of names) names.defs.now b e → IsRunKept e mid new → IsMore targets (IfPart b) old new
 if_more targets b old mid new names e ready on held pending env ed typed kept script semicolon so next =
     let bs = old.before in
-    let ds = old.defs.items in
+    let ds = old.defs in
     let xs = old.steps.items in
     let t = typed_known old.subst mid.subst names targets bs ds b e env ed typed in
     let st = if_state old.subst mid.subst old.held old.pending.items bs ds xs targets script b semicolon e (state_of targets script old ready so) t next in
     state_as new mid.subst old.held old.pending.items bs ds (xs ++ step.Ran e.uses ∷ []) targets (with_last script (Stmt (IfPart b) semicolon))
-    kept.subst (kept.held ∙ held) (kept.pending ∙ ap (λ v. v.items) pending) (kept.before ∙ on.before) (kept.defs ∙ ap (λ v. v.items) on.defs) (kept.steps ∙ ap (λ v. v.items ++ step.Ran e.uses ∷ []) on.steps) st
+    kept.subst (kept.held ∙ held) (kept.pending ∙ ap (λ v. v.items) pending) (kept.before ∙ on.before) (kept.defs ∙ on.defs) (kept.steps ∙ ap (λ v. v.items ++ step.Ran e.uses ∷ []) on.steps) st
 
 pub if_no_more : (targets : Targets) (b : Tree AnIf) (old : Typing) (names : Names) → IsReady targets old → env_of names ≡ outside targets (knowns old) → HasNoType old.subst (env_of names) b [] → IsNoMore targets (IfPart b) old
 if_no_more targets b old names ready env none script semicolon so =
-    if_stops old.subst old.held old.pending.items old.before old.defs.items old.steps.items targets script b semicolon (state_of targets script old ready so) (subst (λ (y : Env). HasNoType old.subst y b []) env none)
+    if_stops old.subst old.held old.pending.items old.before old.defs old.steps.items targets script b semicolon (state_of targets script old ready so) (subst (λ (y : Env). HasNoType old.subst y b []) env none)
 
-pub def_more : (targets : Targets) (d : Def) (old mid new : Typing) (names : Names) (t : KnownDef) → IsReady targets old → GoesOn old mid → mid.pending.items ≡ [] → env_of names ≡ outside targets (knowns old) → names.defs.now ≡ old.defs.items →
+pub def_more : (targets : Targets) (d : Def) (old mid new : Typing) (names : Names) (t : KnownDef) → IsReady targets old → GoesOn old mid → mid.pending.items ≡ [] → env_of names ≡ outside targets (knowns old) → names.defs.now ≡ old.defs →
     IsTypedDef old.subst mid.subst (env_of names).targets (env_of names).before d mid.held t → IsNumberedDef mid.subst t → AreSaidAs names (tokens_used (view_def d)) (text_of t) → IsDefKept t mid new → IsMore targets (DefPart (view_def d)) old new
 def_more targets d old mid new names t ready on none env ed typed check said kept script semicolon so next =
     let bs = old.before in
-    let ds = old.defs.items in
+    let ds = old.defs in
     let xs = old.steps.items in
     let there : IsTypedDef old.subst mid.subst targets (knowns old) d mid.held t = subst (λ (y : Env). IsTypedDef old.subst mid.subst y.targets y.before d mid.held t) env typed in
     let td : IsTypedDef old.subst mid.subst targets (knowns old) d new.held t = subst (λ (y : HeldVariables). IsTypedDef old.subst mid.subst targets (knowns old) d y t) (sym kept.held) there in
     let us = text_of t in
     let named : map text_said us ≡ map (aimed targets) (tokens_used (view_def d)) = subst (λ (y : Env). map text_said us ≡ map (aimed y.targets) (tokens_used (view_def d))) env (text_named names (tokens_used (view_def d)) us said) in
     let few : IsTextCountedIn ds us = subst (λ (y : List KnownDef). IsTextCountedIn y us) ed (text_counted_in names (tokens_used (view_def d)) us said) in
-    let same : mid.defs.items ≡ ds = ap (λ v. v.items) on.defs in
+    let same : mid.defs ≡ ds = on.defs in
     let st = def_state old.subst mid.subst old.held old.pending.items bs ds xs targets script d semicolon new.held t (state_of targets script old ready so) td check named few next in
     state_as new mid.subst new.held [] (bs ++ known.Function (length ds) ∷ []) (ds ++ t ∷ []) (xs ++ step.Defined (length ds) ∷ []) targets (with_last script (Stmt (DefPart (view_def d)) semicolon))
     kept.subst refl (kept.pending ∙ none)
-    (kept.before ∙ ap (λ (v : List AKnown). v ++ known.Function (length mid.defs.items) ∷ []) on.before ∙ ap (λ (y : List KnownDef). bs ++ known.Function (length y) ∷ []) same)
+    (kept.before ∙ ap (λ (v : List AKnown). v ++ known.Function (length mid.defs) ∷ []) on.before ∙ ap (λ (y : List KnownDef). bs ++ known.Function (length y) ∷ []) same)
     (kept.defs ∙ ap (λ (y : List KnownDef). y ++ t ∷ []) same)
-    (kept.steps ∙ ap (λ v. v.items ++ step.Defined (length mid.defs.items) ∷ []) on.steps ∙ ap (λ (y : List KnownDef). xs ++ step.Defined (length y) ∷ []) same) st
+    (kept.steps ∙ ap (λ v. v.items ++ step.Defined (length mid.defs) ∷ []) on.steps ∙ ap (λ (y : List KnownDef). xs ++ step.Defined (length y) ∷ []) same) st
 
 pub def_no_more : (targets : Targets) (d : Tree ADef) (old : Typing) (names : Names) → IsReady targets old → env_of names ≡ outside targets (knowns old) → HasNoTyping old.subst (env_of names).targets (env_of names).before d → IsNoMore targets (DefPart d) old
 def_no_more targets d old names ready env none script semicolon so =
-    def_stops old.subst old.held old.pending.items old.before old.defs.items old.steps.items targets script d semicolon (state_of targets script old ready so) (subst (λ (y : Env). HasNoTyping old.subst y.targets y.before d) env none)
+    def_stops old.subst old.held old.pending.items old.before old.defs old.steps.items targets script d semicolon (state_of targets script old ready so) (subst (λ (y : Env). HasNoTyping old.subst y.targets y.before d) env none)
 
 -- ---- one expression
 

@@ -22,5 +22,5 @@ none_yet targets s h d held = record {
   whole = record { placed = tt; done = tt; counted = tt };
 }
 
-pub begun_after : (targets : Targets) (t : Typing) → HasDefaults t.subst → t.pending.items ≡ [] → t.before ≡ [] → t.defs.items ≡ [] → t.steps.items ≡ [] → ((s : Table) → IsHeldBy s [] t.held) → IsAfter targets none t
+pub begun_after : (targets : Targets) (t : Typing) → HasDefaults t.subst → t.pending.items ≡ [] → t.before ≡ [] → t.defs ≡ [] → t.steps.items ≡ [] → ((s : Table) → IsHeldBy s [] t.held) → IsAfter targets none t
 begun_after targets t d ep eb ed ex held = state_as t t.subst t.held [] [] [] [] targets none refl refl ep eb ed ex (none_yet targets t.subst t.held d (held t.subst))

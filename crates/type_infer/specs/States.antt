@@ -50,18 +50,18 @@ IsTypedAs s s' env ds e (Some t) = IsTypedWith s s' env ds e t
 
 -- what is known, the newest first
 abbrev pub knowns : Typing → List Known
-knowns t = newest_first t.defs.items t.before
+knowns t = newest_first t.defs t.before
 
 -- what the statements have left
 abbrev pub dones : Typing → List Done
-dones t = dones_in t.defs.items t.steps.items
+dones t = dones_in t.defs t.steps.items
 
 -- what is to hold before a statement is typed
 pub record IsReady (targets : Targets) (t : Typing) : Type 0 where
-  pub seen : AreSeenDefs t.subst targets t.before t.defs.items
+  pub seen : AreSeenDefs t.subst targets t.before t.defs
   pub holds : HoldsLater t.subst (knowns t) t.held t.pending.items
-  pub numbered : AreNumberedDefs t.defs.items (knowns t)
-  pub there : AreThere (length t.defs.items) t.steps.items
+  pub numbered : AreNumberedDefs t.defs (knowns t)
+  pub there : AreThere (length t.defs) t.steps.items
 
 -- The solutions are the typings of the script, and what its statements have left is whole.
 pub record IsTypedSo (targets : Targets) (script : Script) (t : Typing) : Type 0 where
@@ -77,7 +77,7 @@ pub record IsAfter (targets : Targets) (script : Script) (t : Typing) : Type 0 w
 pub record IsSameTyping (old new : Typing) : Type 0 where
   pub subst : new.subst ≡ old.subst
   pub before : new.before ≡ old.before
-  pub defs : new.defs.items ≡ old.defs.items
+  pub defs : new.defs ≡ old.defs
   pub steps : new.steps.items ≡ old.steps.items
   pub held : new.held ≡ old.held
   pub pending : new.pending.items ≡ old.pending.items
@@ -104,7 +104,7 @@ IsStepped targets part old new false = IsNoMore targets part old
 pub record IsValueKept (at : ℕ) (e : TypedExpr) (old new : Typing) : Type 0 where
   pub subst : new.subst ≡ old.subst
   pub before : new.before ≡ old.before ++ known.Value (record { at = at; var = e.var }) ∷ []
-  pub defs : new.defs.items ≡ old.defs.items
+  pub defs : new.defs ≡ old.defs
   pub steps : new.steps.items ≡ old.steps.items ++ step.Bound (record { at = at; var = e.var }) e.uses ∷ []
   pub held : new.held ≡ old.held
   pub pending : new.pending.items ≡ old.pending.items ++ e.var ∷ []
@@ -113,7 +113,7 @@ pub record IsValueKept (at : ℕ) (e : TypedExpr) (old new : Typing) : Type 0 wh
 pub record IsRunKept (e : TypedExpr) (old new : Typing) : Type 0 where
   pub subst : new.subst ≡ old.subst
   pub before : new.before ≡ old.before
-  pub defs : new.defs.items ≡ old.defs.items
+  pub defs : new.defs ≡ old.defs
   pub steps : new.steps.items ≡ old.steps.items ++ step.Ran e.uses ∷ []
   pub held : new.held ≡ old.held
   pub pending : new.pending.items ≡ old.pending.items
@@ -121,9 +121,9 @@ pub record IsRunKept (e : TypedExpr) (old new : Typing) : Type 0 where
 -- a def
 pub record IsDefKept (d : KnownDef) (old new : Typing) : Type 0 where
   pub subst : new.subst ≡ old.subst
-  pub before : new.before ≡ old.before ++ known.Function (length old.defs.items) ∷ []
-  pub defs : new.defs.items ≡ old.defs.items ++ d ∷ []
-  pub steps : new.steps.items ≡ old.steps.items ++ step.Defined (length old.defs.items) ∷ []
+  pub before : new.before ≡ old.before ++ known.Function (length old.defs) ∷ []
+  pub defs : new.defs ≡ old.defs ++ d ∷ []
+  pub steps : new.steps.items ≡ old.steps.items ++ step.Defined (length old.defs) ∷ []
   pub held : new.held ≡ old.held
   pub pending : new.pending.items ≡ old.pending.items
 

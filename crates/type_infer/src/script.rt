@@ -24,7 +24,7 @@ use script_grammar::tree::{Script, Stmt, StmtPart};
 use std::alloc::Global;
 use token_table::TokenTable;
 use type_schemes::Held;
-use type_scope::{Bindings, target_table};
+use type_scope::{Bindings, Defs, target_table};
 use type_terms::Subst;
 use typing_rules::{Target, TypeFault, Use};
 
@@ -62,7 +62,7 @@ fn begun<'a>(alloc: Global, subst: Subst) -> Typing<'a>
     Typing {
         subst,
         before: Bindings::new(alloc),
-        defs: Vec::new(alloc),
+        defs: Defs::new(alloc),
         held: Held::new(alloc),
         pending: Vec::new(alloc),
         steps: Vec::new(alloc),

@@ -20,7 +20,7 @@ pub fn settled_uses(alloc: Global, typing: Typing<'_>, room: usize) -> Result<Ve
     ensures { IfOk result (λ us. AreDefaultOf typing.entry.subst (dones typing.entry) us.items) }
 {
     let steps = typing.steps;
-    steps_uses(alloc, &typing.subst, &typing.defs, steps, room)
+    steps_uses(alloc, &typing.subst, typing.defs.as_slice(), steps, room)
 }
 
 /// A kind where nothing binds its variable: stereo.

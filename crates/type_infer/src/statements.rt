@@ -15,7 +15,7 @@ use script_grammar::tree::{Bind, Call, Def, If, StmtPart};
 use std::alloc::Global;
 use token_table::TokenTable;
 use type_schemes::Held;
-use type_scope::{Bindings, Known, KnownDef, Names, TypedName};
+use type_scope::{Bindings, Defs, Known, KnownDef, Names, TypedName};
 use type_terms::{Subst, Ty};
 use typing_rules::Target;
 
@@ -41,7 +41,7 @@ pub fn type_part<'a>(
 fn outside<'n, 'a>(
     targets: &'n TokenTable<Target>,
     before: &'n Bindings,
-    defs: &'n [KnownDef<'a>],
+    defs: &'n Defs<'a>,
 ) -> Names<'n, 'a>
     ensures targets { result.targets.now ≡ targets.entry.now }
     ensures inner { result.inner.now ≡ [] }

@@ -1,6 +1,6 @@
 // The statements that were typed so far.
 use type_schemes::Held;
-use type_scope::{Bindings, FoundUse, KnownDef, TypedName};
+use type_scope::{Bindings, Defs, FoundUse, TypedName};
 use type_terms::Subst;
 
 /// The variable that is the type of a value, and the uses in it.
@@ -28,7 +28,7 @@ pub enum Step {
 pub struct Typing<'a> {
     pub subst: Subst,
     pub before: Bindings,
-    pub defs: Vec<KnownDef<'a>>,
+    pub defs: Defs<'a>,
     pub held: Held,
     pub pending: Vec<u64>,
     pub steps: Vec<Step>,

@@ -1,8 +1,13 @@
 -- Searches for what stands at a token.
-use Rattle.std.proofs.Common.{◌≡◌, ◌≢◌, ◌∙◌, sym, ap, refl, ℕ, ◌+◌, ◌<◌, ◌≤◌, length, List, [], ◌∷◌, ◌++◌, drop, get_or, map, Some, None, Option, Bool, true, false, cond, nat_eq, eq-eqb, ne_eqb}
-use Rattle.std.proofs.lemmas.List.{at_drop_all, drop_more}
-use Rattle.std.specs.Option.{option_or}
-use Rattle.std.specs.Prelude.{option_map, slice_get}
+use Rattle.std.proofs.Common.{◌≡◌, ◌≢◌, ◌∙◌, sym, ap, refl, ℕ, ◌+◌, ◌<◌, ◌≤◌, length, List, [], ◌∷◌, ◌++◌, drop, get_or, map, Some, None, Option, Bor, Bool, true, false, cond, not, nat_eq, eq-eqb, ne_eqb, arith}
+use Rattle.std.proofs.lemmas.List.{at_drop_all, drop_more, length_push}
+use Rattle.std.proofs.lemmas.List.Folds.{find_at, position_or_len_push}
+use Rattle.std.proofs.lemmas.List.Sums.{prefix_len-le-length}
+use Rattle.std.proofs.lemmas.Option.{slice_get_past, slice_get-get_or}
+use Rattle.std.specs.List.{HoldsAt, find, position, position_or_len}
+use Rattle.std.specs.Option.{option_and_then, option_or}
+use Rattle.std.specs.Prelude.{IfSome, MatchOption, option_map, slice_get}
+use Rattle.token_table.specs.At.{at_token}
 use Rattle.typing_rules.specs.declared.uses.Target.{Target}
 use Rattle.typing_rules.specs.Scripts.{Targets}
 use Rattle.typing_rules.specs.Scoping.{target_in}
@@ -15,8 +20,8 @@ use Rattle.type_scope.specs.declared.environment.TypedName.{TypedName}
 use Rattle.type_scope.specs.declared.environment.KnownDef.{KnownDef}
 use Rattle.type_scope.specs.declared.environment.Known.{Known as AKnown}
 use Rattle.type_scope.specs.declared.environment.Known.TheVariants as known
-use Rattle.type_scope.specs.Seen.{def_known, def_seen, known_seen, newest_first, types_seen}
-use Rattle.type_scope.specs.Tables.{newest_number, number_known, targets_of}
+use Rattle.type_scope.specs.Seen.{def_known, known_seen, newest_first, types_seen}
+use Rattle.type_scope.specs.Tables.{ArePlaces, def_seen, newest_number, number_known, targets_of}
 
 -- ---- targets
 
@@ -46,11 +51,31 @@ term_next t xs i x o so lt is other = search_next (terms_from t) (λ y. nat_eq y
 
 -- ---- defs
 
-pub def_there : (t : ℕ) (xs : List KnownDef) (i : ℕ) (x : KnownDef) (o : Option KnownDef) → def_seen t (drop i xs) ≡ o → i < length xs → x ≡ get_or xs i x → x.at ≡ t → Some x ≡ o
-def_there t xs i x o so lt is same = search_there (def_seen t) (λ y. nat_eq y.at t) (λ y. Some y) (λ y ys. refl) xs i x o so lt is (eq-eqb x.at t same)
+def_by_place : (t : ℕ) (ds : List KnownDef) → def_seen t ds ≡ find (λ d. nat_eq d.at t) ds
+def_by_place t [] = refl
+def_by_place t (d ∷ ds) = ap (λ (o : Option KnownDef). cond (nat_eq d.at t) (Some d) o) (def_by_place t ds)
 
-pub def_next : (t : ℕ) (xs : List KnownDef) (i : ℕ) (x : KnownDef) (o : Option KnownDef) → def_seen t (drop i xs) ≡ o → i < length xs → x ≡ get_or xs i x → x.at ≢ t → def_seen t (drop (i + 1) xs) ≡ o
-def_next t xs i x o so lt is other = search_next (def_seen t) (λ y. nat_eq y.at t) (λ y. Some y) (λ y ys. refl) xs i x o so lt is (ne_eqb x.at t other)
+find_by_position : {X : Type 0} (p : X → Bool) (xs : List X) → option_and_then (λ i. slice_get xs i) (position p xs) ≡ find p xs
+find_by_position p xs = grind (arith, find_at p xs, slice_get_past xs (position_or_len p xs))
+
+position_push : {X : Type 0} (p : X → Bool) (xs : List X) (y : X) → position p (xs ++ y ∷ []) ≡ option_or (position p xs) (cond (p y) (Some (length xs)) None)
+position_push p xs y = grind (arith, position_or_len_push p xs y, length_push xs y, prefix_len-le-length (λ x. not (p x)) xs)
+
+-- what stands at the place of a token
+pub def_placed : (t : ℕ) (ds : List KnownDef) (places : List (Option ℕ)) (o : Option ℕ) → ArePlaces places ds → o ≡ at_token t places → option_and_then (λ i. slice_get ds i) o ≡ def_seen t ds
+def_placed t ds places o table is =
+    ap (λ (p : Option ℕ). option_and_then (λ i. slice_get ds i) p) (is ∙ table t) ∙ find_by_position (λ d. nat_eq d.at t) ds ∙ sym (def_by_place t ds)
+
+pub def_at_place : (o : Option (Bor KnownDef)) (ds : List KnownDef) (i : ℕ) → IfSome o (λ x. x.now ≡ get_or ds i x.now) → MatchOption o (length ds ≤ i) (λ x. (i < length ds) × HoldsAt {X = KnownDef} (λ y. x.now ≡ y) ds i) → option_map (λ x. x.now) o ≡ slice_get ds i
+def_at_place None ds i is there = sym (slice_get_past ds i there)
+def_at_place (Some x) ds i is there = ap (λ (d : KnownDef). Some d) is ∙ sym (slice_get-get_or ds i x.now there.0)
+
+-- one def more
+pub places_more : (ds ls : List KnownDef) (d : KnownDef) (place : ℕ) (old new : List (Option ℕ)) → ls ≡ ds ++ d ∷ [] → place ≡ length ds → ArePlaces old ds → ((t : ℕ) → at_token t new ≡ option_or (at_token t old) (cond (nat_eq d.at t) (Some place) None)) → ArePlaces new ls
+places_more ds ls d place old new all last before noted t =
+    noted t ∙ ap (λ (o : Option ℕ). option_or o (cond (nat_eq d.at t) (Some place) None)) (before t)
+    ∙ ap (λ (n : ℕ). option_or (position (λ x. nat_eq x.at t) ds) (cond (nat_eq d.at t) (Some n) None)) last
+    ∙ sym (position_push (λ x. nat_eq x.at t) ds d) ∙ ap (λ (l : List KnownDef). position (λ x. nat_eq x.at t) l) (sym all)
 
 -- ---- the newest binding
 

@@ -1,5 +1,5 @@
 -- What the program's values stand for, and what is to hold of them.
-use Rattle.std.specs.Prelude.{◌≡◌, ℕ, List, [], ◌∷◌, ◌++◌, length, map, cond, nat_eq, Option, Some, None, slice_get, ⊤}
+use Rattle.std.specs.Prelude.{◌≡◌, ℕ, List, [], ◌∷◌, ◌++◌, length, map, Option, Some, None, slice_get, ⊤}
 use Rattle.script_grammar.specs.View.{view_def}
 use Rattle.type_terms.specs.Term.{Term, variable, term_of}
 use Rattle.type_terms.specs.Table.{Table}
@@ -23,6 +23,7 @@ use Rattle.type_scope.specs.declared.environment.Names.{Names}
 use Rattle.type_scope.specs.declared.calls.Called.{Called}
 use Rattle.type_scope.specs.declared.calls.Called.TheVariants as called
 use Rattle.type_scope.specs.declared.calls.Callee.{Callee}
+pub use Rattle.type_scope.specs.Tables.{def_seen}
 use Rattle.type_scope.specs.Tables.{targets_of}
 
 abbrev pub found : FoundUse → Found
@@ -57,11 +58,6 @@ newest_first ds (k ∷ ks) = newest_first ds ks ++ known_seen ds k
 
 abbrev pub env_of : Names → Env
 env_of n = record { targets = targets_of n.targets.now; before = newest_first n.defs.now n.before.now; inner = types_seen n.inner.now }
-
--- the first def whose name stands at a token
-abbrev pub def_seen : ℕ → List KnownDef → Option KnownDef
-def_seen t [] = None
-def_seen t (d ∷ ds) = cond (nat_eq d.at t) (Some d) (def_seen t ds)
 
 -- ---- what is to hold before
 

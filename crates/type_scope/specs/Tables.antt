@@ -1,10 +1,12 @@
 -- What look-ups by token find.
-use Rattle.std.specs.Prelude.{ℕ, List, [], ◌∷◌, cond, nat_eq, Option, Some, None}
+use Rattle.std.specs.Prelude.{◌≡◌, ℕ, List, [], ◌∷◌, cond, nat_eq, Option, Some, None}
+use Rattle.std.specs.List.{position}
 use Rattle.std.specs.Option.{option_or}
 use Rattle.token_table.specs.At.{at_token}
 use Rattle.typing_rules.specs.declared.uses.Target.{Target}
 use Rattle.typing_rules.specs.Scripts.{Targets}
 use Rattle.type_scope.specs.declared.environment.Known.{Known}
+use Rattle.type_scope.specs.declared.environment.KnownDef.{KnownDef}
 use Rattle.type_scope.specs.declared.environment.Known.TheVariants as known
 
 -- what names mean, by a table of their tokens
@@ -19,3 +21,12 @@ number_known t (known.Function i) = None
 abbrev pub newest_number : ℕ → List Known → Option ℕ
 newest_number t [] = None
 newest_number t (k ∷ ks) = option_or (newest_number t ks) (number_known t k)
+
+-- the first def whose name stands at a token
+abbrev pub def_seen : ℕ → List KnownDef → Option KnownDef
+def_seen t [] = None
+def_seen t (d ∷ ds) = cond (nat_eq d.at t) (Some d) (def_seen t ds)
+
+-- the table has at each token the place of the first def there
+abbrev pub ArePlaces : List (Option ℕ) → List KnownDef → Type 0
+ArePlaces places ds = (t : ℕ) → at_token t places ≡ position (λ d. nat_eq d.at t) ds

@@ -2,9 +2,11 @@
 ghost use Rattle.std.specs.Prelude.{◌≡◌, option_map};
 ghost use Rattle.type_terms.specs.Term.{variable};
 ghost use Rattle.type_steps.specs.Environment.{term_at, term_seen};
-ghost use Rattle.type_scope.specs.Seen.{def_seen, env_of, types_seen};
+ghost use Rattle.type_scope.specs.Seen.{env_of, types_seen};
+ghost use Rattle.type_scope.specs.Tables.{def_seen};
 
 use crate::bindings::Bindings;
+use crate::defs::Defs;
 use name_scope::Parameter;
 use script_grammar::tree::Def;
 use token_table::TokenTable;
@@ -65,7 +67,7 @@ pub struct Names<'n, 'a> {
     pub targets: &'n TokenTable<Target>,
     pub inner: &'n [TypedName],
     pub before: &'n Bindings,
-    pub defs: &'n [KnownDef<'a>],
+    pub defs: &'n Defs<'a>,
 }
 
 /// The variable of the first binding at a token.
@@ -75,18 +77,6 @@ fn var_in(names: &[TypedName], at: u32) -> Option<u64>
     for name in names {
         if name.at == at {
             return Some(name.var);
-        }
-    }
-    None
-}
-
-/// The first def whose name stands at a token.
-fn def_in<'n, 'a>(defs: &'n [KnownDef<'a>], at: u32) -> Option<&'n KnownDef<'a>>
-    ensures { option_map (λ d. d.now) result ≡ def_seen at defs.entry.now }
-{
-    for def in defs {
-        if def.at == at {
-            return Some(def);
         }
     }
     None
@@ -114,6 +104,6 @@ impl<'n, 'a> Names<'n, 'a> {
     pub fn function(&self, at: u32) -> Option<&'n KnownDef<'a>>
         ensures { option_map (λ d. d.now) result ≡ def_seen at self.now.defs.now }
     {
-        def_in(self.defs, at)
+        self.defs.find(at)
     }
 }

@@ -39,15 +39,15 @@ returns-clause-part g c = λ setting are.
 
 pub returns-in_default-clause-part : goal.returns-in_default-clause-part
 returns-in_default-clause-part g c = λ setting are.
-    none_made g.O.Sink.held g.O.Sink.name g.O.Sink.room g.O.Sink.faults c.args.plan.now setting c.args.clocks.now c.args.window c.args.ticks c.args.engines.items _
+    none_made g.O.Sink.held g.O.Sink.name g.O.Sink.room g.O.Sink.faults g.O.Sink.appends c.args.plan.now setting c.args.clocks.now c.args.window c.args.ticks c.args.engines.items _
     (λ clock sink e. memory_no_write clock sink (sym c.ended-in_default.ensures.end ∙ e)) are
 
 pub returns-then-is_empty-clause-done : goal.returns-then-is_empty-clause-done
 returns-then-is_empty-clause-done g c = λ e setting are.
-    none_run g.O.Sink.held g.O.Sink.name g.O.Sink.room g.O.Sink.faults c.args.plan.now setting c.args.clocks.now c.args.window c.args.ticks c.args.engines.items
+    none_run g.O.Sink.held g.O.Sink.name g.O.Sink.room g.O.Sink.faults g.O.Sink.appends c.args.plan.now setting c.args.clocks.now c.args.window c.args.ticks c.args.engines.items
     (search rules) c.requires.window are _ _ c.ended.ensures.none.0 c.ended.ensures.none.1
 
 pub returns-then-is_empty-clause-part : goal.returns-then-is_empty-clause-part
 returns-then-is_empty-clause-part g c = λ setting are.
-    none_made g.O.Sink.held g.O.Sink.name g.O.Sink.room g.O.Sink.faults c.args.plan.now setting c.args.clocks.now c.args.window c.args.ticks c.args.engines.items _
+    none_made g.O.Sink.held g.O.Sink.name g.O.Sink.room g.O.Sink.faults g.O.Sink.appends c.args.plan.now setting c.args.clocks.now c.args.window c.args.ticks c.args.engines.items _
     (λ clock sink e. done_no_write clock sink (sym c.ended.ensures.end ∙ e)) are

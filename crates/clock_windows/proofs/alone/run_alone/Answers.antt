@@ -6,7 +6,7 @@ use Rattle.clock_windows.proofs.Logging.{engines_refl}
 use Rattle.clock_windows.proofs.alone.run_alone.Goals as goal
 
 pub loop-made-init : goal.loop-made-init
-loop-made-init g c = loop_none g.O.Sink.held g.O.Sink.name g.O.Sink.room g.O.Sink.faults [] c.args.window c.args.ticks (all_alone c.args.engines.now) [] c.requires.ready
+loop-made-init g c = loop_none g.O.Sink.held g.O.Sink.name g.O.Sink.room g.O.Sink.faults g.O.Sink.appends [] c.args.window c.args.ticks (all_alone c.args.engines.now) [] c.requires.ready
 
 pub run_engines-requires-clause-some : goal.run_engines-requires-clause-some
 run_engines-requires-clause-some g c =
@@ -14,15 +14,15 @@ run_engines-requires-clause-some g c =
 
 pub run_engines-requires-clause-can : goal.run_engines-requires-clause-can
 run_engines-requires-clause-can g c = λ κs lives.
-    alone_can g.O.Sink.held g.O.Sink.name g.O.Sink.room g.O.Sink.faults c.args.window c.args.ticks c.min-count.result c.loop-made.engines
-    (loop_can g.O.Sink.held g.O.Sink.name g.O.Sink.room g.O.Sink.faults [] c.args.window c.args.ticks c.loop-made.made c.min-count.result (all_alone c.args.engines.now) (all_alone c.loop-made.engines) [] [] c.requires.ready c.requires.few
+    alone_can g.O.Sink.held g.O.Sink.name g.O.Sink.room g.O.Sink.faults g.O.Sink.appends c.args.window c.args.ticks c.min-count.result c.loop-made.engines
+    (loop_can g.O.Sink.held g.O.Sink.name g.O.Sink.room g.O.Sink.faults g.O.Sink.appends [] c.args.window c.args.ticks c.loop-made.made c.min-count.result (all_alone c.args.engines.now) (all_alone c.loop-made.engines) [] [] c.requires.ready c.requires.few
     c.loop-made-test.true c.min-count.ensures c.loop-made.invariant)
 
 pub returns-in-Some-clause-part : goal.returns-in-Some-clause-part
 returns-in-Some-clause-part g c =
-    loop_broke g.O.Sink.held g.O.Sink.name g.O.Sink.room g.O.Sink.faults [] c.args.window c.args.ticks c.loop-made.made c.min-count.result (all_alone c.args.engines.now) (all_alone c.loop-made.engines) (all_alone c.run_engines.new.engines) [] [] c.requires.ready
+    loop_broke g.O.Sink.held g.O.Sink.name g.O.Sink.room g.O.Sink.faults g.O.Sink.appends [] c.args.window c.args.ticks c.loop-made.made c.min-count.result (all_alone c.args.engines.now) (all_alone c.loop-made.engines) (all_alone c.run_engines.new.engines) [] [] c.requires.ready
     c.loop-made-test.true c.min-count.ensures c.loop-made.invariant
-    (alone_ran g.O.Sink.held g.O.Sink.name g.O.Sink.room g.O.Sink.faults c.args.window c.args.ticks c.min-count.result c.loop-made.engines c.run_engines.new.engines c.run_engines.auto.engines c.run_engines.ensures.ran)
+    (alone_ran g.O.Sink.held g.O.Sink.name g.O.Sink.room g.O.Sink.faults g.O.Sink.appends c.args.window c.args.ticks c.min-count.result c.loop-made.engines c.run_engines.new.engines c.run_engines.auto.engines c.run_engines.ensures.ran)
     (alone_long c.run_engines.new.engines ∙ c.run_engines.auto.engines ∙ sym (alone_long c.loop-made.engines))
     (all_alone c.run_engines.new.engines) (none_shut (all_alone c.run_engines.new.engines)) (all_alone c.run_engines.new.engines) (engines_refl (all_alone c.run_engines.new.engines))
 
@@ -33,22 +33,22 @@ returns-in-Some-clause-done g c = λ e.
 
 pub returns-in-Some-clause-memory : goal.returns-in-Some-clause-memory
 returns-in-Some-clause-memory g c =
-    alone_memory g.O.Sink.held g.O.Sink.name g.O.Sink.room g.O.Sink.faults c.args.window c.args.ticks c.loop-made.made c.min-count.result c.args.engines.now c.loop-made.engines c.run_engines.new.engines c.requires.ready
+    alone_memory g.O.Sink.held g.O.Sink.name g.O.Sink.room g.O.Sink.faults g.O.Sink.appends c.args.window c.args.ticks c.loop-made.made c.min-count.result c.args.engines.now c.loop-made.engines c.run_engines.new.engines c.requires.ready
     c.loop-made.invariant c.run_engines.auto.engines c.run_engines.ensures.ran _ c.in-Some.ensures.some
 
 pub returns-in-Some-clause-write : goal.returns-in-Some-clause-write
 returns-in-Some-clause-write g c =
-    loop_write g.O.Sink.held g.O.Sink.name g.O.Sink.room g.O.Sink.faults [] c.args.window c.args.ticks c.loop-made.made c.min-count.result (all_alone c.args.engines.now) (all_alone c.loop-made.engines) (all_alone c.run_engines.new.engines) [] [] c.requires.ready
+    loop_write g.O.Sink.held g.O.Sink.name g.O.Sink.room g.O.Sink.faults g.O.Sink.appends [] c.args.window c.args.ticks c.loop-made.made c.min-count.result (all_alone c.args.engines.now) (all_alone c.loop-made.engines) (all_alone c.run_engines.new.engines) [] [] c.requires.ready
     c.loop-made-test.true c.min-count.ensures c.loop-made.invariant
-    (alone_ran g.O.Sink.held g.O.Sink.name g.O.Sink.room g.O.Sink.faults c.args.window c.args.ticks c.min-count.result c.loop-made.engines c.run_engines.new.engines c.run_engines.auto.engines c.run_engines.ensures.ran)
+    (alone_ran g.O.Sink.held g.O.Sink.name g.O.Sink.room g.O.Sink.faults g.O.Sink.appends c.args.window c.args.ticks c.min-count.result c.loop-made.engines c.run_engines.new.engines c.run_engines.auto.engines c.run_engines.ensures.ran)
     (alone_long c.run_engines.new.engines ∙ c.run_engines.auto.engines ∙ sym (alone_long c.loop-made.engines)) _ c.in-Some.ensures.some
 
 pub loop-made-preserved : goal.loop-made-preserved
 loop-made-preserved g c =
     let now = all_alone c.run_engines.new.engines in
-    loop_more g.O.Sink.held g.O.Sink.name g.O.Sink.room g.O.Sink.faults [] c.args.window c.args.ticks c.loop-made.made c.min-count.result (all_alone c.args.engines.now) (all_alone c.loop-made.engines) now [] [] c.requires.ready
+    loop_more g.O.Sink.held g.O.Sink.name g.O.Sink.room g.O.Sink.faults g.O.Sink.appends [] c.args.window c.args.ticks c.loop-made.made c.min-count.result (all_alone c.args.engines.now) (all_alone c.loop-made.engines) now [] [] c.requires.ready
     c.loop-made-test.true c.min-count.ensures c.loop-made.invariant
-    (alone_ran g.O.Sink.held g.O.Sink.name g.O.Sink.room g.O.Sink.faults c.args.window c.args.ticks c.min-count.result c.loop-made.engines c.run_engines.new.engines c.run_engines.auto.engines c.run_engines.ensures.ran)
+    (alone_ran g.O.Sink.held g.O.Sink.name g.O.Sink.room g.O.Sink.faults g.O.Sink.appends c.args.window c.args.ticks c.min-count.result c.loop-made.engines c.run_engines.new.engines c.run_engines.auto.engines c.run_engines.ensures.ran)
     (alone_long c.run_engines.new.engines ∙ c.run_engines.auto.engines ∙ sym (alone_long c.loop-made.engines))
     (alone_runs c.run_engines.new.engines c.in_default.ensures.none) now now [] (none_closed now) (none_ended now)
 
@@ -61,8 +61,8 @@ returns-in-Some-clause-many g c = c.run_engines.auto.engines ∙ sym (alone_long
 pub returns-clause-done : goal.returns-clause-done
 returns-clause-done g c = λ e.
     let high : c.args.ticks ≤ c.loop-made.made = search rules in
-    loop_all g.O.Sink.held g.O.Sink.name g.O.Sink.room g.O.Sink.faults [] c.args.window c.args.ticks c.loop-made.made (all_alone c.args.engines.now) (all_alone c.loop-made.engines) [] high c.loop-made.invariant
+    loop_all g.O.Sink.held g.O.Sink.name g.O.Sink.room g.O.Sink.faults g.O.Sink.appends [] c.args.window c.args.ticks c.loop-made.made (all_alone c.args.engines.now) (all_alone c.loop-made.engines) [] high c.loop-made.invariant
 
 pub returns-clause-part : goal.returns-clause-part
 returns-clause-part g c =
-    loop_part g.O.Sink.held g.O.Sink.name g.O.Sink.room g.O.Sink.faults [] c.args.window c.args.ticks c.loop-made.made (all_alone c.args.engines.now) (all_alone c.loop-made.engines) [] [] c.requires.ready c.loop-made.invariant
+    loop_part g.O.Sink.held g.O.Sink.name g.O.Sink.room g.O.Sink.faults g.O.Sink.appends [] c.args.window c.args.ticks c.loop-made.made (all_alone c.args.engines.now) (all_alone c.loop-made.engines) [] [] c.requires.ready c.loop-made.invariant

@@ -14,7 +14,7 @@ pub returns-in_default-clause-part : goal.returns-in_default-clause-part
 returns-in_default-clause-part g c = record {
   run = c.requires.accepted.ordered.run;
   of = record_of (base_of c.args.plan.now c.args.library.now c.args.clocks.now c.args.start.second) c.args.clocks.now.running c.args.trace.now c.requires.accepted;
-  part = none_to g.O.Sink.held g.O.Sink.name g.O.Sink.faults (setting_in (base_of c.args.plan.now c.args.library.now c.args.clocks.now c.args.start.second) c.requires.accepted.ordered.run) c.args.trace.now.ticks c.args.engines.now c.ended.result.end c.ended.ensures;
+  part = none_to g.O.Sink.held g.O.Sink.name g.O.Sink.faults g.O.Sink.appends (setting_in (base_of c.args.plan.now c.args.library.now c.args.clocks.now c.args.start.second) c.requires.accepted.ordered.run) c.args.trace.now.ticks c.args.engines.now c.ended.result.end c.ended.ensures;
 }
 
 pub returns-in-Ok-replay_engines-clause-done : goal.returns-in-Ok-replay_engines-clause-done
@@ -30,14 +30,14 @@ pub returns-in-Ok-replay_engines-clause-part : goal.returns-in-Ok-replay_engines
 returns-in-Ok-replay_engines-clause-part g c = record {
   run = c.requires.accepted.ordered.run;
   of = record_of (base_of c.args.plan.now c.args.library.now c.args.clocks.now c.args.start.second) c.args.clocks.now.running c.args.trace.now c.requires.accepted;
-  part = all_to g.O.Sink.held g.O.Sink.name g.O.Sink.faults (setting_in (base_of c.args.plan.now c.args.library.now c.args.clocks.now c.args.start.second) c.requires.accepted.ordered.run) c.args.trace.now.ticks c.args.engines.now c.replay_engines.new.engines (c.in-Ok-replay_engines.ensures.done c.requires.accepted.ordered.run (record_of (base_of c.args.plan.now c.args.library.now c.args.clocks.now c.args.start.second) c.args.clocks.now.running c.args.trace.now c.requires.accepted)) c.told_or_ended.result.end c.told_or_ended.ensures.ended;
+  part = all_to g.O.Sink.held g.O.Sink.name g.O.Sink.faults g.O.Sink.appends (setting_in (base_of c.args.plan.now c.args.library.now c.args.clocks.now c.args.start.second) c.requires.accepted.ordered.run) c.args.trace.now.ticks c.args.engines.now c.replay_engines.new.engines (c.in-Ok-replay_engines.ensures.done c.requires.accepted.ordered.run (record_of (base_of c.args.plan.now c.args.library.now c.args.clocks.now c.args.start.second) c.args.clocks.now.running c.args.trace.now c.requires.accepted)) c.told_or_ended.result.end c.told_or_ended.ensures.ended;
 }
 
 pub returns-clause-part : goal.returns-clause-part
 returns-clause-part g c = record {
   run = c.requires.accepted.ordered.run;
   of = record_of (base_of c.args.plan.now c.args.library.now c.args.clocks.now c.args.start.second) c.args.clocks.now.running c.args.trace.now c.requires.accepted;
-  part = ended_so g.O.Sink.held g.O.Sink.name g.O.Sink.faults (setting_in (base_of c.args.plan.now c.args.library.now c.args.clocks.now c.args.start.second) c.requires.accepted.ordered.run) c.args.trace.now.ticks c.args.engines.now c.replay_engines.new.engines c.in-Err.end c.ended-in-Err.result.end c.ended-in-Err.ensures (c.in-Err.ensures.part c.requires.accepted.ordered.run (record_of (base_of c.args.plan.now c.args.library.now c.args.clocks.now c.args.start.second) c.args.clocks.now.running c.args.trace.now c.requires.accepted));
+  part = ended_so g.O.Sink.held g.O.Sink.name g.O.Sink.faults g.O.Sink.appends (setting_in (base_of c.args.plan.now c.args.library.now c.args.clocks.now c.args.start.second) c.requires.accepted.ordered.run) c.args.trace.now.ticks c.args.engines.now c.replay_engines.new.engines c.in-Err.end c.ended-in-Err.result.end c.ended-in-Err.ensures (c.in-Err.ensures.part c.requires.accepted.ordered.run (record_of (base_of c.args.plan.now c.args.library.now c.args.clocks.now c.args.start.second) c.args.clocks.now.running c.args.trace.now c.requires.accepted));
 }
 
 pub all_chunks-requires-clause-trace : goal.all_chunks-requires-clause-trace
