@@ -1,6 +1,6 @@
 -- What a run of all engines leaves in the sinks, once they are given back.
 use Rattle.std.proofs.Common.{◌≡◌, ◌<◌, ◌+◌, ◌∙◌, ℕ, suc, List, [], ◌∷◌, length, map, get_or, slice_index_or, arith, refl, ap, sym, subst, Bool}
-use Rattle.std.specs.Prelude.{Option, Result, Ok, Err, OnOk, IfOk}
+use Rattle.std.specs.Prelude.{Option, Result, Ok, Err, OnOk, IfOk, is_some}
 use Rattle.liq_base.specs.Files.{Files}
 use Rattle.liq_base.specs.Pieces.{HasRoom}
 use Rattle.plan_core.specs.declared.plan.Plan.{Plan}
@@ -19,7 +19,7 @@ use Rattle.buffer_ends.specs.declared.run_end.End.TheVariants.{Write}
 use Rattle.rounds_run.specs.Runs.{AreOver, counts_of_windows}
 use Rattle.clock_threads.specs.Runs as threads
 use Rattle.stations.specs.Findings.{IsFit}
-use Rattle.stations.specs.Stations.{Station, Way, answers_with, made_in, tried_in}
+use Rattle.stations.specs.Stations.{Station, Way, answers_with, made_in, setting_after, tried_in}
 use Rattle.stations.specs.Cues.{marks_if}
 use Rattle.stations.specs.Streams.{body_size, counts_in}
 use Rattle.station_render.specs.Sinks.{AreCreated, HasFailed}
@@ -34,7 +34,7 @@ use Rattle.station_render.proofs.Creating.{created_as, part_of_ready}
 use Rattle.station_render.proofs.Ending.{begun_all}
 use Rattle.station_render.proofs.Fits.{are_main}
 use Rattle.station_render.proofs.Gathering.{lawful_many, not_begun}
-use Rattle.station_render.proofs.Running.{AreAlike, LieInMain, all_part, all_whole, keep_after, may_run, stand_after}
+use Rattle.station_render.proofs.Running.{AreAlike, LieInMain, all_part, all_whole, keep_after, may_run, stand_after, stand_still}
 
 -- the counts of a record are those of its buffers
 counts_at : (run : Run) (b : ℕ) (xs : List (List Window)) (plans : List BufferPlan) → length xs ≡ length plans → ((k : ℕ) → slice_index_or run.buffers (b + k) [] ≡ slice_index_or xs k [])
@@ -166,6 +166,12 @@ module _ {plan : Plan} {library : Sounds} {clocks : ClockMap} {start ticks : ℕ
 
         pub failed_back : {end : End} → RanSome held name faults appends world clocks.running ticks way old new end → (clock sink : ℕ) → end ≡ Write clock sink → HasFailed faults groups_new
         failed_back some clock sink is = subst (λ gs. HasFailed faults gs) (sym (groups_are groups_new back)) (some.failed clock sink is)
+
+        -- what stands so of them by what they are known by, does so still
+        pub still_back : {Y : Type 0} {end : End} (So : Y → S → Type 0) → ((y : Y) (one other : S) → name one ≡ name other → is_some (appends one) ≡ is_some (appends other) → So y other → So y one) → RanSome held name faults appends world clocks.running ticks way old new end
+            → (ys : List Y) → AreCreated So ys order (outs_of old) → AreCreated So ys order groups_new
+        still_back So keeps some ys are = subst (λ gs. AreCreated So ys order gs) (sym (groups_are groups_new back))
+            (stand_still So held name faults appends (setting_after way world some.run) (made_in world clocks.running ticks way some.run some.begun) (tried_in world clocks.running ticks way some.run some.begun) keeps old new some.part ys order are)
 
         -- where all ticks were made, this is told of them
         whole_back : {trace : Option (List ℕ)} {cues : Bool} {counts : List Counts} {logs : List (List Answers)} (ran : RanAll held name faults appends world clocks.running ticks way old new counts logs) (rendered : Rendered)

@@ -1,6 +1,8 @@
 -- What a run leaves in the sinks of a clock, place by place.
 use Rattle.std.proofs.Common.{◌≡◌, ◌<◌, ◌+◌, ◌*◌, ◌∙◌, ◌++◌, ℕ, zero, suc, Bool, true, false, List, [], ◌∷◌, length, map, slice_get, get_or, nat_eq, arith, refl, ap, sym, subst, append_assoc, inl, if◌then◌else◌}
-use Rattle.std.specs.Prelude.{Option, Some, None}
+use Rattle.std.specs.Prelude.{Option, Some, None, is_some}
+use Rattle.std.specs.Fn.{iterate}
+use Rattle.liq_base.specs.Counts.{counted}
 use Rattle.std.specs.List.{AllZip}
 use Rattle.std.specs.Option.{option_map_or}
 use Rattle.std.proofs.lemmas.Bool.{eq-eqb, false_from_ne_true, eqb-true}
@@ -32,6 +34,7 @@ use Rattle.station_render.specs.Renders.{IsPart, IsReady, IsWhole, Written, main
 use Rattle.station_render.proofs.Lists.{got_is, mapped, many_mapped, unmapped, within}
 use Rattle.station_render.proofs.Dealing.{zip_at, zip_from, zip_size}
 use Rattle.station_render.proofs.Closing.{in_list}
+use Rattle.station_render.proofs.Listing.{counted_any}
 
 -- the nodes of these sinks lie in main clocks
 abbrev pub LieInMain : Setting → List SinkPlan → Type 0
@@ -223,6 +226,41 @@ headed header part rest whole is = ap (λ b. header ++ b) is ∙ sym (append_ass
 abbrev pub AreAlike : {S : Type 0} → (name title : S → Option (List ℕ)) → (debt : S → ℕ) → Type 0
 AreAlike name title debt = (one other : _) → name one ≡ name other → (title one ≡ title other) × (debt one ≡ debt other)
 
+-- an engine before a run, at the place of one after it
+before_at : {S : Type 0} (old new : List (ClockEngine S)) → length new ≡ length old → (m : ℕ) (group : List S) → slice_get (outs_of new) m ≡ Some group
+    → (before : ClockEngine S) × (after : ClockEngine S) × (slice_get old m ≡ Some before) × (slice_get new m ≡ Some after) × (after.outs ≡ group)
+before_at {S} old new size m group at =
+    let after = unmapped (λ (e : ClockEngine S). e.outs) new m group at in
+    let low = within new m after.0 after.1 in
+    let before = in_list old m (omega (arith, low, size)) in
+    (before.0, after.0, before.1, after.1, after.2)
+
+-- pieces change nothing in whether their number is told
+any_still : (pieces : ℕ) (told : Option ℕ) → is_some (iterate counted pieces told) ≡ is_some told
+any_still zero told = refl
+any_still (suc pieces) told = any_still pieces (counted told) ∙ counted_any told
+
+-- what stands so of sinks by what they are known by, and by whether they tell how many pieces they got, does so after a run
+pub stand_still : {Y S : Type 0} (So : Y → S → Type 0) (held name : S → Option (List ℕ)) (faults : S → ℕ) (appends : S → Option ℕ) (world : (ℕ → List Answer) → Setting) (least most : ℕ → ℕ)
+    → ((y : Y) (one other : S) → name one ≡ name other → is_some (appends one) ≡ is_some (appends other) → So y other → So y one) → (old new : List (ClockEngine S)) → HaveRunPart held name faults appends world least most old new
+    → (ys : List Y) (order : List ℕ) → AreCreated So ys order (outs_of old) → AreCreated So ys order (outs_of new)
+stand_still So held name faults appends world least most keeps old new run ys order are = record {
+  size = are.size;
+  below = λ k clock there. subst (λ n. clock < n) (sym (many_mapped (λ (e : ClockEngine _). e.outs) new ∙ run.size ∙ sym (many_mapped (λ (e : ClockEngine _). e.outs) old))) (are.below k clock there);
+  each = λ m group there.
+      let found = before_at old new run.size m group there in
+      let ran = run.each m found.0 found.1 found.2 found.3 in
+      let zip = are.each m found.0.outs (mapped (λ (e : ClockEngine _). e.outs) old m found.0 found.2) in
+      subst (λ g. AllZip So (of_clock m order ys) g) found.4
+      (zip_from So (of_clock m order ys) found.1.outs (ran.outs ∙ zip_size So (of_clock m order ys) found.0.outs zip)
+      (λ j y after mine_at after_at.
+      let low = within found.1.outs j after after_at in
+      let size = ran.outs in
+      let before = in_list found.0.outs j (omega (arith, low, size)) in
+      let got = ran.pieces.each j before.0 after before.1 after_at in
+      keeps y after before.0 (ran.kept.each j before.0 after before.1 after_at).0 (ap is_some got.3 ∙ any_still got.0 (appends before.0)) (zip_at So (of_clock m order ys) found.0.outs j y before.0 zip mine_at before.1)));
+}
+
 -- the sinks of all clocks
 module _ {S : Type 0} (setting : Setting) (ticks : ℕ) (main : LieInMain setting setting.plan.sinks) where
   main_here : (engine : ClockEngine S) → setting_of engine.parts ≡ setting → LieInMain (setting_of engine.parts) (setting_of engine.parts).plan.sinks
@@ -258,15 +296,6 @@ module _ {S : Type 0} (setting : Setting) (ticks : ℕ) (main : LieInMain settin
     in_order = λ m engine there. (at.each m engine there).clock_is;
     over = λ m engine there. (at.each m engine there).over;
   }
-
-  -- an engine before a run, at the place of one after it
-  before_at : (old new : List (ClockEngine S)) → length new ≡ length old → (m : ℕ) (group : List S) → slice_get (outs_of new) m ≡ Some group
-      → (before : ClockEngine S) × (after : ClockEngine S) × (slice_get old m ≡ Some before) × (slice_get new m ≡ Some after) × (after.outs ≡ group)
-  before_at old new size m group at =
-      let after = unmapped (λ (e : ClockEngine S). e.outs) new m group at in
-      let low = within new m after.0 after.1 in
-      let before = in_list old m (omega (arith, low, size)) in
-      (before.0, after.0, before.1, after.1, after.2)
 
   module _ (name title held : S → Option (List ℕ)) (left : S → Option ℕ) (debt faults : S → ℕ) (appends : S → Option ℕ) (alike : AreAlike name title debt) (files : Option Files) (old new : List (ClockEngine S)) (at : AreAt setting old)
       (ready : AreCreated (IsReady title held left debt files setting ticks) (written setting.plan.sinks) (order_of setting (written setting.plan.sinks)) (outs_of old)) where
