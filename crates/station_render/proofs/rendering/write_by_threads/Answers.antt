@@ -1,9 +1,13 @@
 use Rattle.std.proofs.Common.{inr, refl}
 use Rattle.stations.specs.Stations.{InWindows}
+use Rattle.station_render.specs.OutputSinks.{told}
 use Rattle.station_render.proofs.Fits.{are_main}
 use Rattle.station_render.proofs.Gathering.{threads_all, threads_some}
-use Rattle.station_render.proofs.Returning.{engines_are, failed_back, last_many, part_back, places_empty, places_many, stand_so, keep_so, whole_told}
+use Rattle.station_render.proofs.Returning.{still_back, engines_are, failed_back, last_many, part_back, places_empty, places_many, stand_so, keep_so, whole_told}
 use Rattle.station_render.proofs.Known.{known_alike}
+use Rattle.stations.specs.Creations.{names_in}
+use Rattle.station_render.specs.Listed.{IsTelling}
+use Rattle.station_render.proofs.Listing.{all_created, telling_still}
 use Rattle.station_render.proofs.Naming.{on_ok_so}
 use Rattle.station_render.proofs.rendering.write_by_threads.Goals as goal
 
@@ -80,3 +84,25 @@ returns-clause-cause g c =
 
 pub returns-clause-made : goal.returns-clause-made
 returns-clause-made g c = on_ok_so c.take_back.result _ c.in_ok-engines.ensures.made
+
+pub returns-clause-telling : goal.returns-clause-telling
+returns-clause-telling g c =
+    let opened = c.in_ok-engines.ensures.opened in
+    let are = engines_are (known_alike g.S.Out.Sink.name g.S.Out.Sink.room) c.requires.fit opened c.args.job.now.start.in_week in
+    let some = threads_some opened.at (c.run_threads-engines.ensures.part _ are) in
+    on_ok_so c.take_back.result _ (still_back (known_alike g.S.Out.Sink.name g.S.Out.Sink.room) c.requires.fit opened refl c.take_back.ensures.back (IsTelling (told g.S.Out.Sink.name) (told g.S.Out.Sink.appends) (g.S.Shelf.closed c.args.shelf.now))
+    (λ title one other same. telling_still (told g.S.Out.Sink.name) (told g.S.Out.Sink.appends) (g.S.Shelf.closed c.args.shelf.now) title one other (known_alike g.S.Out.Sink.name g.S.Out.Sink.room one other same).0) some (names_in c.args.job.now.plan.now.sinks)
+    c.in_ok-engines.ensures.telling)
+
+pub returns-clause-front : goal.returns-clause-front
+returns-clause-front g c =
+    let opened = c.in_ok-engines.ensures.opened in
+    let are = engines_are (known_alike g.S.Out.Sink.name g.S.Out.Sink.room) c.requires.fit opened c.args.job.now.start.in_week in
+    let some = threads_some opened.at (c.run_threads-engines.ensures.part _ are) in
+    all_created (told g.S.Out.Sink.name) (told g.S.Out.Sink.appends) (g.S.Shelf.closed c.args.shelf.now) _ _ _ _ _ c.in_ok-engines.ensures.made
+    (still_back (known_alike g.S.Out.Sink.name g.S.Out.Sink.room) c.requires.fit opened refl c.take_back.ensures.back (IsTelling (told g.S.Out.Sink.name) (told g.S.Out.Sink.appends) (g.S.Shelf.closed c.args.shelf.now))
+    (λ title one other same. telling_still (told g.S.Out.Sink.name) (told g.S.Out.Sink.appends) (g.S.Shelf.closed c.args.shelf.now) title one other (known_alike g.S.Out.Sink.name g.S.Out.Sink.room one other same).0) some (names_in c.args.job.now.plan.now.sinks)
+    c.in_ok-engines.ensures.telling)
+
+pub returns-in_err-engines-clause-front : goal.returns-in_err-engines-clause-front
+returns-in_err-engines-clause-front g c = c.in_err-engines.ensures.front
