@@ -7,16 +7,17 @@ use Rattle.liq_base.specs.Files.{Files}
 use Rattle.frame_core.specs.Library.{Sounds}
 use Rattle.plan_core.specs.declared.plan.Plan.{Plan}
 use Rattle.clock_infer.specs.declared.clock_map.ClockMap.{ClockMap}
-use Rattle.stations.specs.Creations.{MadeFront, after_making, names_of}
+use Rattle.liq_base.specs.Files.{Closing}
+use Rattle.stations.specs.Creations.{names_of}
 use Rattle.stations.specs.Stations.{Station, Way}
 use Rattle.stream_meaning.specs.Instants.{Setting}
-use Rattle.stations.proofs.Making.{all_made, none_made, none_more}
+use Rattle.stations.proofs.Making.{all_made, none_closed, none_made, none_more}
 use Rattle.station_render.specs.declared.fault.RenderFault.{RenderFault}
 use Rattle.station_render.specs.declared.fault.RenderFault.TheVariants.{Write as render_write, Memory as render_memory}
 use Rattle.liq_cli.specs.Words.{Asked, Check, Make, HasNoForm, IsAsked, cues_of, file_of, ticks_of, trace_of}
 use Rattle.liq_cli.specs.Answer.{Answer, Usage, Refused, Checked, Accepted, Made, ForAnswer, ForEachAnswer, IsAnswerTo}
 use Rattle.liq_cli.specs.Call.{Rendered}
-use Rattle.liq_cli.specs.Creating.{CreatesInOrder, creations}
+use Rattle.liq_cli.specs.Creating.{CreatesInOrder, MadeAll, MadeSome, Sinks, creations, sinks_of}
 use Rattle.liq_cli.specs.Prepared.{CreatedFor, EndsFor, ForEach, ForOne, Granted, IsOneRuling, Stops, TraceEnds, answer_of, halt_of_render, station_for}
 use Rattle.liq_cli.specs.Telling.{Finishes, Tells}
 use Rattle.liq_cli.specs.declared.halt.Halt.{Halt}
@@ -24,25 +25,43 @@ use Rattle.liq_cli.specs.declared.halt.Halt.TheVariants.{Read, Write, Memory, Re
 use Rattle.liq_cli.proofs.Asking.{AsksOne, for_answer, for_each_answer, for_usage, one_more}
 use Rattle.liq_cli.proofs.Outcomes.{for_each, for_one}
 
+-- what a shelf tells of its sinks is the same where both lists are
+pub same_sinks : {S : Type 0} (created : S → Option (List (List ℕ))) (closed : S → Option (List Closing)) (old new : S) → created new ≡ created old → closed new ≡ closed old
+    → sinks_of created closed new ≡ sinks_of created closed old
+same_sinks created closed old new names ends = λ i. record { created = names i; closed = ends i }
+
+-- nothing was made, or all of some names
+none_of : (names : List (List ℕ)) (before after : Sinks) → after ≡ before → MadeSome names before after
+none_of names before after same = none_made names before.created after.created before.closed after.closed (ap (λ (s : Sinks). s.created) same) (ap (λ (s : Sinks). s.closed) same)
+
+all_of : (names : List (List ℕ)) (before after : Sinks) → MadeAll names before after → MadeSome names before after
+all_of names before after made = all_made names before.created after.created before.closed after.closed made.created made.closed
+
+all_of_none : (before after : Sinks) → after ≡ before → MadeAll [] before after
+all_of_none before after same = record {
+  created = ap (λ (s : Sinks). s.created) same ∙ none_more before.created;
+  closed = none_closed before.closed after.closed (ap (λ (s : Sinks). s.closed) same);
+}
+
 -- a step before the rendering ended
-pub created_early : {T : Type 0} (asked : Asked) (told : Option Files) (reads_before reads_after : ℕ) (before after : Option (List (List ℕ))) (e : Halt)
+pub created_early : {T : Type 0} (asked : Asked) (told : Option Files) (reads_before reads_after : ℕ) (before after : Sinks) (e : Halt)
     → EndsFor {T = T} told (file_of asked) (trace_of asked) (cues_of asked) (ticks_of asked) reads_before reads_after (Err e) → after ≡ before → CreatedFor asked told before after (Err e)
 created_early asked told reads_before reads_after before after (refused_for fault) ends same = same
 created_early asked told reads_before reads_after before after Read ends same = same
 created_early asked told reads_before reads_after before after Write ends same = absurd (ends.no_write (cc))
-created_early asked told reads_before reads_after before after Memory ends same = λ files t answer is. none_made (creations answer) before after same
+created_early asked told reads_before reads_after before after Memory ends same = λ files t answer is. none_of (creations answer) before after same
 
 -- the reading of its trace did
-pub created_untold : {T : Type 0} (asked : Asked) (told told_then : Option Files) (name : List ℕ) (base : Setting) (clocks N reads_before reads_after : ℕ) (before after : Option (List (List ℕ))) (e : Halt)
+pub created_untold : {T : Type 0} (asked : Asked) (told told_then : Option Files) (name : List ℕ) (base : Setting) (clocks N reads_before reads_after : ℕ) (before after : Sinks) (e : Halt)
     → TraceEnds {T = T} told_then name base clocks N reads_before reads_after (Err e) → after ≡ before → CreatedFor asked told before after (Err e)
 created_untold asked told told_then name base clocks N reads_before reads_after before after (refused_for fault) ends same = same
 created_untold asked told told_then name base clocks N reads_before reads_after before after Read ends same = same
 created_untold asked told told_then name base clocks N reads_before reads_after before after Write ends same = absurd (ends.no_write (cc))
-created_untold asked told told_then name base clocks N reads_before reads_after before after Memory ends same = λ files t answer is. none_made (creations answer) before after same
+created_untold asked told told_then name base clocks N reads_before reads_after before after Memory ends same = λ files t answer is. none_of (creations answer) before after same
 
 module _ (asked : Asked) (told : Option Files) (plan : Plan) (library : Sounds) (clocks : ClockMap) (way : Way)
     (is_accepted : answer_of asked (Granted plan library clocks way) ≡ Accepted (station_for asked plan library clocks way))
-    (one : ForSome told (λ files. IsOneRuling asked files (Granted plan library clocks way))) (before between after : Option (List (List ℕ))) (same : between ≡ before) where
+    (one : ForSome told (λ files. IsOneRuling asked files (Granted plan library clocks way))) (before between after : Sinks) (same : between ≡ before) where
   abbrev station : Station
   station = station_for asked plan library clocks way
 
@@ -50,21 +69,21 @@ module _ (asked : Asked) (told : Option Files) (plan : Plan) (library : Sounds) 
   names_for : (P : List (List ℕ) → Type 0) → P (names_of station) → P (creations (answer_of asked (Granted plan library clocks way)))
   names_for P p = subst (λ a. P (creations a)) (sym is_accepted) p
 
-  front_before : MadeFront (names_of station) between after → MadeFront (creations (answer_of asked (Granted plan library clocks way))) before after
-  front_before front = names_for (λ names. MadeFront names before after) (subst (λ b. MadeFront (names_of station) b after) same front)
+  front_before : MadeSome (names_of station) between after → MadeSome (creations (answer_of asked (Granted plan library clocks way))) before after
+  front_before front = names_for (λ names. MadeSome names before after) (subst (λ b. MadeSome (names_of station) b after) same front)
 
   -- a rendering broke off
-  pub created_broken : (e : RenderFault) → MadeFront (names_of station) between after → CreatedFor asked told before after (Err (halt_of_render e))
-  created_broken render_write front = λ files t. for_one asked files (Granted plan library clocks way) (λ a. MadeFront (creations a) before after) (one files t) (front_before front)
-  created_broken render_memory front = λ files t. for_each asked files (Granted plan library clocks way) (λ a. MadeFront (creations a) before after) (one files t) (front_before front)
+  pub created_broken : (e : RenderFault) → MadeSome (names_of station) between after → CreatedFor asked told before after (Err (halt_of_render e))
+  created_broken render_write front = λ files t. for_one asked files (Granted plan library clocks way) (λ a. MadeSome (creations a) before after) (one files t) (front_before front)
+  created_broken render_memory front = λ files t. for_each asked files (Granted plan library clocks way) (λ a. MadeSome (creations a) before after) (one files t) (front_before front)
 
   -- a rendering whose last step is its report: memory may be refused for that
-  pub created_all : (r : Result (String Global) Halt) → IfErr r (λ e. e ≡ Memory) → after ≡ after_making (names_of station) between → CreatedFor asked told before after r
+  pub created_all : (r : Result (String Global) Halt) → IfErr r (λ e. e ≡ Memory) → MadeAll (names_of station) between after → CreatedFor asked told before after r
   created_all (Ok v) starved made = λ files t.
-      for_one asked files (Granted plan library clocks way) (λ a. after ≡ after_making (creations a) before) (one files t)
-      (names_for (λ names. after ≡ after_making names before) (made ∙ ap (after_making (names_of station)) same))
+      for_one asked files (Granted plan library clocks way) (λ a. MadeAll (creations a) before after) (one files t)
+      (names_for (λ names. MadeAll names before after) (subst (λ b. MadeAll (names_of station) b after) same made))
   created_all (Err e) starved made =
-      subst (λ x. CreatedFor asked told before after (Err x)) (sym starved) (created_broken render_memory (all_made (names_of station) between after made))
+      subst (λ x. CreatedFor asked told before after (Err x)) (sym starved) (created_broken render_memory (all_of (names_of station) between after made))
 
 -- where nothing was read of the words, they have no form
 pub unread : (words : List (List ℕ)) → ((asked : Asked) → IsAsked words asked → ◌≡◌ {A = Option Asked} None (Some asked)) → HasNoForm words
@@ -88,17 +107,17 @@ make_creates_none seed size files (Checked _) is = refl
 make_creates_none seed size files (Accepted _) is = absurd is
 make_creates_none seed size files (Made made _) is = refl
 
-module _ (asked : Asked) (none : CreatesNone asked) (before after : Option (List (List ℕ))) (same : after ≡ before) where
-  whole_of_none : (files : Files) (P : Answer → Type 0) → ForOne asked files P → ForOne asked files (λ a. after ≡ after_making (creations a) before)
+module _ (asked : Asked) (none : CreatesNone asked) (before after : Sinks) (same : after ≡ before) where
+  whole_of_none : (files : Files) (P : Answer → Type 0) → ForOne asked files P → ForOne asked files (λ a. MadeAll (creations a) before after)
   whole_of_none files P one = record {
     answer = one.answer;
     is_answer = one.is_answer;
     only = one.only;
-    holds = same ∙ none_more before ∙ ap (λ names. after_making names before) (sym (none files one.answer one.is_answer));
+    holds = subst (λ names. MadeAll names before after) (sym (none files one.answer one.is_answer)) (all_of_none before after same);
   }
 
-  front_of_none : (files : Files) (P : Answer → Type 0) → ForOne asked files P → ForOne asked files (λ a. MadeFront (creations a) before after)
-  front_of_none files P one = one_more asked files P (λ a. MadeFront (creations a) before after) (λ a p. none_made (creations a) before after same) one
+  front_of_none : (files : Files) (P : Answer → Type 0) → ForOne asked files P → ForOne asked files (λ a. MadeSome (creations a) before after)
+  front_of_none files P one = one_more asked files P (λ a. MadeSome (creations a) before after) (λ a p. none_of (creations a) before after same) one
 
   -- what is no rendering into the shelf created nothing there
   pub created_none : (told left : Option Files) (reads_before reads_after writes_before writes_after : ℕ) (job : Result (String Global) Halt)
@@ -108,10 +127,10 @@ module _ (asked : Asked) (none : CreatesNone asked) (before after : Option (List
   created_none told left reads_before reads_after writes_before writes_after (Err (refused_for fault)) done stops = same
   created_none told left reads_before reads_after writes_before writes_after (Err Read) done stops = same
   created_none told left reads_before reads_after writes_before writes_after (Err Write) done stops = λ files t. front_of_none files _ (stops.broken refl files t)
-  created_none told left reads_before reads_after writes_before writes_after (Err Memory) done stops = λ files t answer is. none_made (creations answer) before after same
+  created_none told left reads_before reads_after writes_before writes_after (Err Memory) done stops = λ files t answer is. none_of (creations answer) before after same
 
-module _ (words : List (List ℕ)) (told : Option Files) (before after : Option (List (List ℕ))) where
-  order_done : ForSome told (λ files. ForAnswer words files (λ a. after ≡ after_making (creations a) before)) → CreatesInOrder words told before after 0
+module _ (words : List (List ℕ)) (told : Option Files) (before after : Sinks) where
+  order_done : ForSome told (λ files. ForAnswer words files (λ a. MadeAll (creations a) before after)) → CreatesInOrder words told before after 0
   order_done all = record {
     done = λ at. all;
     refused = λ at. absurd (omega arith);
@@ -121,7 +140,7 @@ module _ (words : List (List ℕ)) (told : Option Files) (before after : Option 
     memory = λ at. absurd (omega arith);
   }
 
-  order_broken : ForSome told (λ files. ForAnswer words files (λ a. MadeFront (creations a) before after)) → CreatesInOrder words told before after 4
+  order_broken : ForSome told (λ files. ForAnswer words files (λ a. MadeSome (creations a) before after)) → CreatesInOrder words told before after 4
   order_broken front = record {
     done = λ at. absurd (omega arith);
     refused = λ at. absurd (omega arith);
@@ -131,7 +150,7 @@ module _ (words : List (List ℕ)) (told : Option Files) (before after : Option 
     memory = λ at. absurd (omega arith);
   }
 
-  order_starved : ForSome told (λ files. ForEachAnswer words files (λ a. MadeFront (creations a) before after)) → CreatesInOrder words told before after 5
+  order_starved : ForSome told (λ files. ForEachAnswer words files (λ a. MadeSome (creations a) before after)) → CreatesInOrder words told before after 5
   order_starved front = record {
     done = λ at. absurd (omega arith);
     refused = λ at. absurd (omega arith);
@@ -176,15 +195,15 @@ module _ (words : List (List ℕ)) (told : Option Files) (before after : Option 
       → Tells held faults line 2 err err' status → CreatesInOrder words told before after status
   ordered_usage held faults line err err' status none same tells =
       ⊎_elim (λ all. rw all.0 (order_usage same))
-      (λ part. rw part.0 (order_broken (λ files t. for_usage words files (λ a. MadeFront (creations a) before after) none (none_made [] before after same)))) tells
+      (λ part. rw part.0 (order_broken (λ files t. for_usage words files (λ a. MadeSome (creations a) before after) none (none_of [] before after same)))) tells
 
   module _ (asked : Asked) (asks : AsksOne words asked) where
-    front_of_all : ForSome told (λ files. ForOne asked files (λ a. after ≡ after_making (creations a) before)) → ForSome told (λ files. ForAnswer words files (λ a. MadeFront (creations a) before after))
-    front_of_all all = λ files t. for_answer words asked files (λ a. MadeFront (creations a) before after) asks
-        (one_more asked files (λ a. after ≡ after_making (creations a) before) (λ a. MadeFront (creations a) before after) (λ a made. all_made (creations a) before after made) (all files t))
+    front_of_all : ForSome told (λ files. ForOne asked files (λ a. MadeAll (creations a) before after)) → ForSome told (λ files. ForAnswer words files (λ a. MadeSome (creations a) before after))
+    front_of_all all = λ files t. for_answer words asked files (λ a. MadeSome (creations a) before after) asks
+        (one_more asked files (λ a. MadeAll (creations a) before after) (λ a. MadeSome (creations a) before after) (λ a made. all_of (creations a) before after made) (all files t))
 
-    starved_of : ForSome told (λ files. ForEach asked files (λ a. MadeFront (creations a) before after)) → CreatesInOrder words told before after 5
-    starved_of each = order_starved (λ files t. for_each_answer words asked files (λ a. MadeFront (creations a) before after) asks (each files t))
+    starved_of : ForSome told (λ files. ForEach asked files (λ a. MadeSome (creations a) before after)) → CreatesInOrder words told before after 5
+    starved_of each = order_starved (λ files t. for_each_answer words asked files (λ a. MadeSome (creations a) before after) asks (each files t))
 
     -- words of a form
     pub ordered : {O E : Type 0} (out_held : O → Option (List ℕ)) (out_faults : O → ℕ) (err_held : E → Option (List ℕ)) (err_faults : E → ℕ) (out out' : O) (err err' : E) (left : Option Files)
@@ -192,14 +211,14 @@ module _ (words : List (List ℕ)) (told : Option Files) (before after : Option 
         → Stops asked told left reads_before reads_after writes_before writes_after job
         → Finishes out_held out_faults err_held err_faults job out out' err err' status → CreatesInOrder words told before after status
     ordered out_held out_faults err_held err_faults out out' err err' left reads_before reads_after writes_before writes_after (Ok report) status made stops ends =
-        ⊎_elim (λ all. rw all.0 (order_done (λ files t. for_answer words asked files (λ a. after ≡ after_making (creations a) before) asks (made files t))))
+        ⊎_elim (λ all. rw all.0 (order_done (λ files t. for_answer words asked files (λ a. MadeAll (creations a) before after) asks (made files t))))
         (λ part. rw part.0 (order_broken (front_of_all made))) ends.0
     ordered out_held out_faults err_held err_faults out out' err err' left reads_before reads_after writes_before writes_after (Err (refused_for fault)) status made stops ends =
-        ⊎_elim (λ unsaid. rw unsaid.0 (starved_of (λ files t answer is. none_made (creations answer) before after made)))
+        ⊎_elim (λ unsaid. rw unsaid.0 (starved_of (λ files t answer is. none_of (creations answer) before after made)))
         (⊎_elim (λ all. rw all.0 (order_refused made))
-        (λ part. rw part.0 (order_broken (λ files t. for_answer words asked files (λ a. MadeFront (creations a) before after) asks
-        (one_more asked files (λ a. a ≡ Refused fault) (λ a. MadeFront (creations a) before after) (λ a is. none_made (creations a) before after made) (stops.fault fault refl files t)))))) ends.0
+        (λ part. rw part.0 (order_broken (λ files t. for_answer words asked files (λ a. MadeSome (creations a) before after) asks
+        (one_more asked files (λ a. a ≡ Refused fault) (λ a. MadeSome (creations a) before after) (λ a is. none_of (creations a) before after made) (stops.fault fault refl files t)))))) ends.0
     ordered out_held out_faults err_held err_faults out out' err err' left reads_before reads_after writes_before writes_after (Err Read) status made stops ends = rw ends.0 (order_unread made)
     ordered out_held out_faults err_held err_faults out out' err err' left reads_before reads_after writes_before writes_after (Err Write) status made stops ends =
-        rw ends.0 (order_broken (λ files t. for_answer words asked files (λ a. MadeFront (creations a) before after) asks (made files t)))
+        rw ends.0 (order_broken (λ files t. for_answer words asked files (λ a. MadeSome (creations a) before after) asks (made files t)))
     ordered out_held out_faults err_held err_faults out out' err err' left reads_before reads_after writes_before writes_after (Err Memory) status made stops ends = rw ends.0 (starved_of made)

@@ -1,8 +1,8 @@
--- What one call creates on the shelf, and in which order, for each status.
+-- What one call creates on the shelf and closes, and in which order, for each status.
 use Rattle.std.specs.Prelude.{◌≡◌, ℕ, List, [], Option}
 use Rattle.std.specs.Option.{ForSome}
-use Rattle.liq_base.specs.Files.{Files}
-use Rattle.stations.specs.Creations.{MadeFront, after_making, names_of}
+use Rattle.liq_base.specs.Files.{Closing, Files}
+use Rattle.stations.specs.Creations.{HaveClosed, MadeFront, after_making, names_of}
 use Rattle.liq_cli.specs.Answer.{Answer, Usage, Refused, Checked, Accepted, Made, ForAnswer, ForEachAnswer}
 
 -- the names of the files that are to be created for an answer, in order: for a rendering those of its outputs, in sink order, then those of
@@ -15,12 +15,30 @@ creations (Made made station) = []
 creations (Refused fault) = []
 creations Usage = []
 
--- By status: after 0 all these files were created, one after another; after 4 and 5 the first of them, maybe none and maybe all; after 1, 2
--- and 3 none. `files`, `before` and `after` are what the shelf tells: its files, and the names of the sinks that it made.
-pub record CreatesInOrder (words : List (List ℕ)) (files : Option Files) (before after : Option (List (List ℕ))) (status : ℕ) : Type 0 where
-  pub done : status ≡ 0 → ForSome files (λ all. ForAnswer words all (λ answer. after ≡ after_making (creations answer) before))
-  pub refused : status ≡ 1 → after ≡ before
-  pub usage : status ≡ 2 → after ≡ before
-  pub read_fault : status ≡ 3 → after ≡ before
-  pub write_fault : status ≡ 4 → ForSome files (λ all. ForAnswer words all (λ answer. MadeFront (creations answer) before after))
-  pub memory : status ≡ 5 → ForSome files (λ all. ForEachAnswer words all (λ answer. MadeFront (creations answer) before after))
+-- what a shelf tells of its sinks at one moment: of those that it made their names, and of those that were closed their names and pieces
+pub record Sinks : Type 0 where
+  pub created : Option (List (List ℕ))
+  pub closed : Option (List Closing)
+
+-- the moment at which a shelf is this one
+abbrev pub sinks_of : {S : Type 0} → (S → Option (List (List ℕ))) → (S → Option (List Closing)) → S → Sinks
+sinks_of created closed shelf = record { created = created shelf; closed = closed shelf }
+
+-- sinks of these names were made, one after another, and closed in the same order, and no others
+pub record MadeAll (names : List (List ℕ)) (old new : Sinks) : Type 0 where
+  pub created : new.created ≡ after_making names old.created
+  pub closed : HaveClosed names old.closed new.closed
+
+-- the first of these were so, maybe none, and maybe all
+abbrev pub MadeSome : (names : List (List ℕ)) (old new : Sinks) → Type 0
+MadeSome names old new = MadeFront names old.created new.created old.closed new.closed
+
+-- By status: after 0 all these files were created, one after another, and closed in that order; after 4 and 5 the first of them, maybe none
+-- and maybe all; after 1, 2 and 3 none. `files` are those that the shelf tells, and `old` and `new` what it tells of its sinks.
+pub record CreatesInOrder (words : List (List ℕ)) (files : Option Files) (old new : Sinks) (status : ℕ) : Type 0 where
+  pub done : status ≡ 0 → ForSome files (λ all. ForAnswer words all (λ answer. MadeAll (creations answer) old new))
+  pub refused : status ≡ 1 → new ≡ old
+  pub usage : status ≡ 2 → new ≡ old
+  pub read_fault : status ≡ 3 → new ≡ old
+  pub write_fault : status ≡ 4 → ForSome files (λ all. ForAnswer words all (λ answer. MadeSome (creations answer) old new))
+  pub memory : status ≡ 5 → ForSome files (λ all. ForEachAnswer words all (λ answer. MadeSome (creations answer) old new))

@@ -9,7 +9,6 @@ use Rattle.plan_core.specs.declared.plan.Plan.{Plan}
 use Rattle.clock_infer.specs.declared.clock_map.ClockMap.{ClockMap}
 use Rattle.script_plan.specs.declared.fault.ScriptFault.{ScriptFault}
 use Rattle.script_plan.specs.declared.fault.ScriptFault.TheVariants as script_fault
-use Rattle.stations.specs.Creations.{MadeFront, after_making}
 use Rattle.stations.specs.Stations.{Station, Way}
 use Rattle.stream_meaning.specs.Instants.{Setting}
 use Rattle.station_check.specs.declared.halt.Halt.{Halt as CheckHalt}
@@ -23,7 +22,7 @@ use Rattle.liq_cli.specs.Words.{Asked, Check, Make, Render, Replay, cues_of, fil
 use Rattle.liq_cli.specs.Answer.{Answer, Refused, Checked, Accepted, Made, IsFault, IsAnswerTo, IsPrepared, IsRefusal, IsWay, files_for, files_made}
 use Rattle.liq_cli.specs.Replays.{IsReplayFault}
 use Rattle.liq_cli.specs.Call.{Broken, Starved}
-use Rattle.liq_cli.specs.Creating.{creations}
+use Rattle.liq_cli.specs.Creating.{MadeAll, MadeSome, Sinks, creations}
 use Rattle.liq_cli.specs.declared.halt.Halt.{Halt}
 use Rattle.liq_cli.specs.declared.halt.Halt.TheVariants.{Read, Write, Memory, Refused as refused_for}
 use Rattle.liq_cli.specs.declared.prepare.Work.{Work}
@@ -140,14 +139,14 @@ pub record Stops {T : Type 0} (asked : Asked) (told left : Option Files) (reads_
   pub broken : IsErrOf result Write → ForSome told (λ files. ForOne asked files (λ answer. Broken answer writes_before writes_after files left))
   pub memory : IsErrOf result Memory → ForSome told (λ files. ForEach asked files (λ answer. Starved answer writes_before writes_after files left))
 
--- what a job created, by the way that it ended: with its report all that is to be created for the answer, in order; with a fault, and after
--- a read that failed, nothing; else a front of it
-abbrev pub CreatedFor : Asked → (told : Option Files) (before after : Option (List (List ℕ))) → Result (String Global) Halt → Type 0
-CreatedFor asked told before after (Ok report) = ForSome told (λ files. ForOne asked files (λ answer. after ≡ after_making (creations answer) before))
-CreatedFor asked told before after (Err (refused_for fault)) = after ≡ before
-CreatedFor asked told before after (Err Read) = after ≡ before
-CreatedFor asked told before after (Err Write) = ForSome told (λ files. ForOne asked files (λ answer. MadeFront (creations answer) before after))
-CreatedFor asked told before after (Err Memory) = ForSome told (λ files. ForEach asked files (λ answer. MadeFront (creations answer) before after))
+-- what a job created and closed, by the way that it ended: with its report all that is to be created for the answer, in order; with a fault,
+-- and after a read that failed, nothing; else a front of it
+abbrev pub CreatedFor : Asked → (told : Option Files) (old new : Sinks) → Result (String Global) Halt → Type 0
+CreatedFor asked told old new (Ok report) = ForSome told (λ files. ForOne asked files (λ answer. MadeAll (creations answer) old new))
+CreatedFor asked told old new (Err (refused_for fault)) = new ≡ old
+CreatedFor asked told old new (Err Read) = new ≡ old
+CreatedFor asked told old new (Err Write) = ForSome told (λ files. ForOne asked files (λ answer. MadeSome (creations answer) old new))
+CreatedFor asked told old new (Err Memory) = ForSome told (λ files. ForEach asked files (λ answer. MadeSome (creations answer) old new))
 
 -- how the ends of lower steps go on
 abbrev pub halt_of_script : ScriptFault → Halt

@@ -1,7 +1,7 @@
 // The top call.
 ghost use Rattle.std.specs.Prelude.{◌≡◌, ◌↔◌, None, IfSome, IsNone};
 ghost use Rattle.liq_cli.specs.Call.{Ends, EndsApart, IsComplete, moment_of};
-ghost use Rattle.liq_cli.specs.Creating.{CreatesInOrder};
+ghost use Rattle.liq_cli.specs.Creating.{CreatesInOrder, sinks_of};
 ghost use Rattle.liq_cli.specs.Telling.{Finishes, MayTell, Tells};
 ghost use Rattle.liq_cli.specs.Words.{AsksToMake, NeedsThreads, texts};
 ghost use Rattle.refusal_lines.specs.Lines.{line_of};
@@ -62,7 +62,7 @@ pub fn liq<S: Shelf, O: Sink, E: Sink, G: Gate + Sync, R: Threads + Wait + Sync>
         (moment_of S.files S.read_count S.write_count O.held O.faults E.held E.faults shelf.old out.old err.old)
         (moment_of S.files S.read_count S.write_count O.held O.faults E.held E.faults shelf.new out.new err.new)
         result }
-    ensures order { CreatesInOrder (texts words.now) (S.files shelf.old) (S.created shelf.old) (S.created shelf.new) result }
+    ensures order { CreatesInOrder (texts words.now) (S.files shelf.old) (sinks_of S.created S.closed shelf.old) (sinks_of S.created S.closed shelf.new) result }
     // A workload rests on no file and no device of the shelf.
     ensures made { AsksToMake (texts words.now) → EndsApart (texts words.now)
         (moment_of S.files S.read_count S.write_count O.held O.faults E.held E.faults shelf.old out.old err.old)
@@ -95,7 +95,7 @@ pub fn liq_alone<S: Shelf, O: Sink, E: Sink>(
     ensures complete { IfSome result (IsComplete (texts words.now)
         (moment_of S.files S.read_count S.write_count O.held O.faults E.held E.faults shelf.old out.old err.old)
         (moment_of S.files S.read_count S.write_count O.held O.faults E.held E.faults shelf.new out.new err.new)) }
-    ensures order { IfSome result (CreatesInOrder (texts words.now) (S.files shelf.old) (S.created shelf.old) (S.created shelf.new)) }
+    ensures order { IfSome result (CreatesInOrder (texts words.now) (S.files shelf.old) (sinks_of S.created S.closed shelf.old) (sinks_of S.created S.closed shelf.new)) }
 {
     let Some(form) = read_words(words) else {
         return Some(tell(err, USAGE, NO_FORM));
@@ -136,7 +136,7 @@ fn by_threads<S: Shelf, O: Sink, E: Sink, G: Gate + Sync, R: Threads + Wait + Sy
         (moment_of S.files S.read_count S.write_count O.held O.faults E.held E.faults shelf.old out.old err.old)
         (moment_of S.files S.read_count S.write_count O.held O.faults E.held E.faults shelf.new out.new err.new)
         result }
-    ensures order { CreatesInOrder (texts words.now) (S.files shelf.old) (S.created shelf.old) (S.created shelf.new) result }
+    ensures order { CreatesInOrder (texts words.now) (S.files shelf.old) (sinks_of S.created S.closed shelf.old) (sinks_of S.created S.closed shelf.new) result }
     ensures made { AsksToMake (texts words.now) → EndsApart (texts words.now)
         (moment_of S.files S.read_count S.write_count O.held O.faults E.held E.faults shelf.old out.old err.old)
         (moment_of S.files S.read_count S.write_count O.held O.faults E.held E.faults shelf.new out.new err.new)

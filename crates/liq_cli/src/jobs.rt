@@ -3,6 +3,7 @@ ghost use Rattle.std.specs.Prelude.{◌≡◌, IfOk, IfErr, None, Ok, string_byt
 ghost use Rattle.std.specs.Option.{ForSome};
 ghost use Rattle.liq_cli.specs.declared.halt.Halt.TheVariants.{Memory as no_memory};
 ghost use Rattle.liq_cli.specs.Call.{Rendered};
+ghost use Rattle.liq_cli.specs.Creating.{sinks_of};
 ghost use Rattle.liq_cli.specs.Prepared.{CreatedFor, ForOne, Stops};
 ghost use Rattle.liq_cli.specs.Read.{asked_to_render};
 ghost use Rattle.liq_cli.specs.Words.{Check, Render};
@@ -31,6 +32,7 @@ pub fn check_job<S: Shelf>(alloc: Global, file: &str, shelf: &mut S) -> Result<S
     ensures stops { Stops (Check file.now) (S.files shelf.old) (S.files shelf.new) (S.read_count shelf.old) (S.read_count shelf.new)
         (S.write_count shelf.old) (S.write_count shelf.new) result }
     ensures created { S.created shelf.new ≡ S.created shelf.old }
+    ensures closed { S.closed shelf.new ≡ S.closed shelf.old }
 {
     let work = prepare(alloc, file, None, false, 0, shelf)?;
     report_or_halt(check_report(alloc, &work.plan, &work.ready))
@@ -49,7 +51,7 @@ pub fn alone_job<S: Shelf>(
         ForOne (Render file.now start.second ticks.count None None cues) files (λ answer. Rendered answer files (S.files shelf.new) (string_bytes report)))) }
     ensures stops { Stops (Render file.now start.second ticks.count None None cues) (S.files shelf.old) (S.files shelf.new) (S.read_count shelf.old) (S.read_count shelf.new)
         (S.write_count shelf.old) (S.write_count shelf.new) result }
-    ensures order { CreatedFor (Render file.now start.second ticks.count None None cues) (S.files shelf.old) (S.created shelf.old) (S.created shelf.new) result }
+    ensures order { CreatedFor (Render file.now start.second ticks.count None None cues) (S.files shelf.old) (sinks_of S.created S.closed shelf.old) (sinks_of S.created S.closed shelf.new) result }
 {
     let work = prepare(alloc, file, None, cues, ticks.count, shelf)?;
     infallible_outputs_have_no_gaps();
@@ -80,7 +82,7 @@ pub fn threads_job<S: Shelf, G: Gate + Sync, R: Threads + Wait + Sync>(
         ForOne (asked_to_render asked.now) files (λ answer. Rendered answer files (S.files shelf.new) (string_bytes report)))) }
     ensures stops { Stops (asked_to_render asked.now) (S.files shelf.old) (S.files shelf.new) (S.read_count shelf.old) (S.read_count shelf.new)
         (S.write_count shelf.old) (S.write_count shelf.new) result }
-    ensures order { CreatedFor (asked_to_render asked.now) (S.files shelf.old) (S.created shelf.old) (S.created shelf.new) result }
+    ensures order { CreatedFor (asked_to_render asked.now) (S.files shelf.old) (sinks_of S.created S.closed shelf.old) (sinks_of S.created S.closed shelf.new) result }
 {
     let ticks = asked.ticks.count;
     let work = prepare(alloc, asked.file, asked.trace, asked.cues, ticks, shelf)?;

@@ -42,6 +42,7 @@ pub fn prepare<S: Shelf>(
     ensures ends { EndsFor (S.files shelf.old) file.now (named trace.entry) cues ticks (S.read_count shelf.old) (S.read_count shelf.new) result }
     ensures shelf { OnlyRead S.files S.read_count S.write_count shelf.old shelf.new }
     ensures created { S.created shelf.new ≡ S.created shelf.old }
+    ensures closed { S.closed shelf.new ≡ S.closed shelf.old }
 {
     let script = read_script(alloc, file, shelf)?;
     one_answer();
@@ -57,6 +58,7 @@ fn read_script<S: Shelf>(alloc: Global, file: &str, shelf: &mut S) -> Result<Vec
     ensures ends { (trace : Option (List ℕ)) (cues : Bool) (ticks : ℕ) → EndsFor (S.files shelf.old) file.now trace cues ticks (S.read_count shelf.old) (S.read_count shelf.new) result }
     ensures shelf { OnlyRead S.files S.read_count S.write_count shelf.old shelf.new }
     ensures created { S.created shelf.new ≡ S.created shelf.old }
+    ensures closed { S.closed shelf.new ≡ S.closed shelf.old }
 {
     let mut script = Vec::new(alloc);
     one_answer();

@@ -2,6 +2,7 @@
 ghost use Rattle.std.specs.Prelude.{IfOk, string_bytes};
 ghost use Rattle.std.specs.Option.{ForSome};
 ghost use Rattle.liq_cli.specs.Call.{Rendered};
+ghost use Rattle.liq_cli.specs.Creating.{sinks_of};
 ghost use Rattle.liq_cli.specs.Prepared.{CreatedFor, ForOne, Stops};
 ghost use Rattle.liq_cli.specs.Words.{Replay};
 
@@ -35,7 +36,7 @@ pub fn replay_job<S: Shelf>(
         ForOne (Replay file.now start.second ticks.count trace.now) files (λ answer. Rendered answer files (S.files shelf.new) (string_bytes report)))) }
     ensures stops { Stops (Replay file.now start.second ticks.count trace.now) (S.files shelf.old) (S.files shelf.new) (S.read_count shelf.old) (S.read_count shelf.new)
         (S.write_count shelf.old) (S.write_count shelf.new) result }
-    ensures order { CreatedFor (Replay file.now start.second ticks.count trace.now) (S.files shelf.old) (S.created shelf.old) (S.created shelf.new) result }
+    ensures order { CreatedFor (Replay file.now start.second ticks.count trace.now) (S.files shelf.old) (sinks_of S.created S.closed shelf.old) (sinks_of S.created S.closed shelf.new) result }
 {
     let ticks = ticks.count;
     let work = prepare(alloc, file, None, false, ticks, shelf)?;

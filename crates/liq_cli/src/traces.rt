@@ -43,6 +43,7 @@ pub fn find_trace<S: Shelf>(
         (S.read_count shelf.old) (S.read_count shelf.new) result }
     ensures shelf { OnlyRead S.files S.read_count S.write_count shelf.old shelf.new }
     ensures created { S.created shelf.new ≡ S.created shelf.old }
+    ensures closed { S.closed shelf.new ≡ S.closed shelf.old }
 {
     let trace = read_trace(alloc, name, shelf)?;
     let fits = accepts(
@@ -67,6 +68,7 @@ fn read_trace<S: Shelf>(alloc: Global, name: &str, shelf: &mut S) -> Result<Trac
     ensures ends { (base : Setting) (clocks ticks : ℕ) → TraceEnds (S.files shelf.old) name.now base clocks ticks (S.read_count shelf.old) (S.read_count shelf.new) result }
     ensures shelf { OnlyRead S.files S.read_count S.write_count shelf.old shelf.new }
     ensures created { S.created shelf.new ≡ S.created shelf.old }
+    ensures closed { S.closed shelf.new ≡ S.closed shelf.old }
 {
     let text = read_text(alloc, name, shelf)?;
     match read(alloc, &text) {
@@ -84,6 +86,7 @@ fn read_text<S: Shelf>(alloc: Global, name: &str, shelf: &mut S) -> Result<Vec<u
     ensures ends { (base : Setting) (clocks ticks : ℕ) → TraceEnds (S.files shelf.old) name.now base clocks ticks (S.read_count shelf.old) (S.read_count shelf.new) result }
     ensures shelf { OnlyRead S.files S.read_count S.write_count shelf.old shelf.new }
     ensures created { S.created shelf.new ≡ S.created shelf.old }
+    ensures closed { S.closed shelf.new ≡ S.closed shelf.old }
 {
     let mut text = Vec::new(alloc);
     match shelf.read(name, &mut text, MAX_TRACE_BYTES) {

@@ -1,6 +1,7 @@
 use Rattle.std.proofs.Common.{◌≡◌, ◌∙◌, ap, refl}
 use Rattle.std.specs.Prelude.{Some}
 use Rattle.liq_base.specs.Files.{Files}
+use Rattle.liq_cli.specs.Creating.{sinks_of}
 use Rattle.liq_cli.specs.Read.{asked_by_threads, asked_to_render}
 use Rattle.liq_cli.specs.Words.{Make, texts}
 use Rattle.liq_cli.proofs.Complete.{completes}
@@ -52,7 +53,7 @@ returns-in-Make-clause-untouched g c = λ asks. refl
 pub returns-in-Render-clause-order : goal.returns-in-Render-clause-order
 returns-in-Render-clause-order g c =
     let asks : AsksOne (texts c.args.words.now) (asked_by_threads c.read_threaded.result) = record { is = c.read_threaded.ensures.found; only = c.read_threaded.ensures.only } in
-    ordered (texts c.args.words.now) (g.S.Shelf.files c.args.shelf.now) (g.S.Shelf.created c.args.shelf.now) (g.S.Shelf.created c.threads_job-job.new.shelf)
+    ordered (texts c.args.words.now) (g.S.Shelf.files c.args.shelf.now) (sinks_of g.S.Shelf.created g.S.Shelf.closed c.args.shelf.now) (sinks_of g.S.Shelf.created g.S.Shelf.closed c.threads_job-job.new.shelf)
     (asked_to_render c.in-Render.asked) (rw c.in-Render.is at asks)
     g.O.Sink.held g.O.Sink.faults g.E.Sink.held g.E.Sink.faults c.args.out.now c.finish.new.out c.args.err.now c.finish.new.err _ _ _ _ _ c.threads_job-job.result c.finish.result
     c.threads_job-job.ensures.order c.threads_job-job.ensures.stops c.finish.ensures
@@ -63,7 +64,7 @@ returns-in-Make-clause-order g c =
     let asked = Make c.in-Make.seed c.in-Make.size.files in
     let shelf = c.args.shelf.now in
     let told = g.S.Shelf.files shelf in
-    let made = g.S.Shelf.created shelf in
+    let made = sinks_of g.S.Shelf.created g.S.Shelf.closed shelf in
     let stops = c.make_job-job.ensures.stops told (g.S.Shelf.read_count shelf) (g.S.Shelf.write_count shelf) in
     ordered (texts c.args.words.now) told made made asked (rw c.in-Make.is at asks)
     g.O.Sink.held g.O.Sink.faults g.E.Sink.held g.E.Sink.faults c.args.out.now c.finish-in-Make.new.out c.args.err.now c.finish-in-Make.new.err told _ _ _ _ c.make_job-job.result c.finish-in-Make.result

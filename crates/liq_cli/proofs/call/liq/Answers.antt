@@ -1,7 +1,7 @@
 use Rattle.std.proofs.Common.{◌∙◌, ap, refl, sym, subst}
 use Rattle.std.specs.Prelude.{is_some}
 use Rattle.std.proofs.lemmas.Bool.{true≢false}
-use Rattle.liq_cli.specs.Creating.{CreatesInOrder}
+use Rattle.liq_cli.specs.Creating.{CreatesInOrder, sinks_of}
 use Rattle.liq_cli.specs.Words.{texts}
 use Rattle.liq_cli.proofs.Complete.{completes}
 use Rattle.liq_cli.proofs.Finished.{apart_from, ended_from}
@@ -36,4 +36,4 @@ returns-in-None-clause-untouched g c = λ asks. c.by_threads.ensures.untouched a
 
 pub returns-in-None-clause-order : goal.returns-in-None-clause-order
 returns-in-None-clause-order g c =
-    subst (λ shelf. CreatesInOrder (texts c.args.words.now) (g.S.Shelf.files shelf) (g.S.Shelf.created shelf) (g.S.Shelf.created c.by_threads.new.shelf) c.by_threads.result) (c.in-None.ensures.kept refl).0 c.by_threads.ensures.order
+    subst (λ shelf. CreatesInOrder (texts c.args.words.now) (g.S.Shelf.files shelf) (sinks_of g.S.Shelf.created g.S.Shelf.closed shelf) (sinks_of g.S.Shelf.created g.S.Shelf.closed c.by_threads.new.shelf) c.by_threads.result) (c.in-None.ensures.kept refl).0 c.by_threads.ensures.order

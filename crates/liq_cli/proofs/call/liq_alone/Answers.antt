@@ -1,12 +1,13 @@
 use Rattle.std.proofs.Common.{refl, sym, subst}
 use Rattle.std.specs.Prelude.{None}
+use Rattle.liq_cli.specs.Creating.{sinks_of}
 use Rattle.liq_cli.specs.Read.{asked_of}
 use Rattle.liq_cli.specs.Words.{Check, Render, Replay, TakesThreads, texts}
 use Rattle.liq_cli.proofs.Asking.{asks_one}
 use Rattle.liq_cli.proofs.Complete.{completes}
 use Rattle.liq_cli.proofs.Finished.{finished}
 use Rattle.liq_cli.proofs.Threading.{read_takes, takes_threads}
-use Rattle.liq_cli.proofs.Ordered.{check_creates_none, created_none, ordered, ordered_usage, unread}
+use Rattle.liq_cli.proofs.Ordered.{check_creates_none, created_none, ordered, ordered_usage, same_sinks, unread}
 use Rattle.liq_cli.proofs.call.liq_alone.Goals as goal
 use Rattle.liq_cli.proofs.call.liq_alone.Goals.{in-Check, in-Alone, in-Replay}
 
@@ -58,14 +59,14 @@ pub returns-clause-order : goal.returns-clause-order
 returns-clause-order g c =
     let asks = asks_one _ c.in-Some.form c.in-Some.ensures.found c.in-Some.ensures.only in
     elim c.match-form.branch [
-      | in-Check w ↦ rw w.shelf-is (ordered (texts c.args.words.now) (g.S.Shelf.files c.args.shelf.now) (g.S.Shelf.created c.args.shelf.now) (g.S.Shelf.created w.check_job-job.new.shelf) (Check w.in-Check.file.now) (rw w.in-Check.is at asks)
+      | in-Check w ↦ rw w.shelf-is (ordered (texts c.args.words.now) (g.S.Shelf.files c.args.shelf.now) (sinks_of g.S.Shelf.created g.S.Shelf.closed c.args.shelf.now) (sinks_of g.S.Shelf.created g.S.Shelf.closed w.check_job-job.new.shelf) (Check w.in-Check.file.now) (rw w.in-Check.is at asks)
           g.O.Sink.held g.O.Sink.faults g.E.Sink.held g.E.Sink.faults c.args.out.now c.finish.new.out c.args.err.now c.finish.new.err _ _ _ _ _ w.check_job-job.result c.finish.result
-          (created_none (Check w.in-Check.file.now) (check_creates_none w.in-Check.file.now) _ _ w.check_job-job.ensures.created _ _ _ _ _ _ w.check_job-job.result w.check_job-job.ensures.done w.check_job-job.ensures.stops)
+          (created_none (Check w.in-Check.file.now) (check_creates_none w.in-Check.file.now) _ _ (same_sinks g.S.Shelf.created g.S.Shelf.closed _ _ w.check_job-job.ensures.created w.check_job-job.ensures.closed) _ _ _ _ _ _ w.check_job-job.result w.check_job-job.ensures.done w.check_job-job.ensures.stops)
           w.check_job-job.ensures.stops (rw w.job-is at c.finish.ensures))
-      | in-Alone w ↦ rw w.shelf-is (ordered (texts c.args.words.now) (g.S.Shelf.files c.args.shelf.now) (g.S.Shelf.created c.args.shelf.now) (g.S.Shelf.created w.alone_job-job.new.shelf) (Render w.in-Alone.file.now w.in-Alone.start.second w.in-Alone.ticks.count None None w.in-Alone.cues) (rw w.in-Alone.is at asks)
+      | in-Alone w ↦ rw w.shelf-is (ordered (texts c.args.words.now) (g.S.Shelf.files c.args.shelf.now) (sinks_of g.S.Shelf.created g.S.Shelf.closed c.args.shelf.now) (sinks_of g.S.Shelf.created g.S.Shelf.closed w.alone_job-job.new.shelf) (Render w.in-Alone.file.now w.in-Alone.start.second w.in-Alone.ticks.count None None w.in-Alone.cues) (rw w.in-Alone.is at asks)
           g.O.Sink.held g.O.Sink.faults g.E.Sink.held g.E.Sink.faults c.args.out.now c.finish.new.out c.args.err.now c.finish.new.err _ _ _ _ _ w.alone_job-job.result c.finish.result
           w.alone_job-job.ensures.order w.alone_job-job.ensures.stops (rw w.job-is at c.finish.ensures))
-      | in-Replay w ↦ rw w.shelf-is (ordered (texts c.args.words.now) (g.S.Shelf.files c.args.shelf.now) (g.S.Shelf.created c.args.shelf.now) (g.S.Shelf.created w.replay_job-job.new.shelf) (Replay w.in-Replay.file.now w.in-Replay.start.second w.in-Replay.ticks.count w.in-Replay.trace.now) (rw w.in-Replay.is at asks)
+      | in-Replay w ↦ rw w.shelf-is (ordered (texts c.args.words.now) (g.S.Shelf.files c.args.shelf.now) (sinks_of g.S.Shelf.created g.S.Shelf.closed c.args.shelf.now) (sinks_of g.S.Shelf.created g.S.Shelf.closed w.replay_job-job.new.shelf) (Replay w.in-Replay.file.now w.in-Replay.start.second w.in-Replay.ticks.count w.in-Replay.trace.now) (rw w.in-Replay.is at asks)
           g.O.Sink.held g.O.Sink.faults g.E.Sink.held g.E.Sink.faults c.args.out.now c.finish.new.out c.args.err.now c.finish.new.err _ _ _ _ _ w.replay_job-job.result c.finish.result
           w.replay_job-job.ensures.order w.replay_job-job.ensures.stops (rw w.job-is at c.finish.ensures))
     ]

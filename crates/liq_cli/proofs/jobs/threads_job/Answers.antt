@@ -5,7 +5,7 @@ use Rattle.stations.specs.Stations.{InWindows, station_of}
 use Rattle.liq_cli.specs.Read.{asked_to_render, named}
 use Rattle.liq_cli.proofs.Counted.{as_many}
 use Rattle.liq_cli.proofs.Leavings.{RunLaws, broke_off, ended_written, of_report, rendered, stopped_early}
-use Rattle.liq_cli.proofs.Ordered.{created_all, created_broken, created_early}
+use Rattle.liq_cli.proofs.Ordered.{created_all, created_broken, created_early, same_sinks}
 use Rattle.liq_cli.proofs.Outcomes.{plain_ruled, render_plain}
 use Rattle.liq_cli.proofs.jobs.threads_job.Goals as goal
 
@@ -67,16 +67,16 @@ report-requires-clause-many g c =
 pub returns-in_err-work-clause-order : goal.returns-in_err-work-clause-order
 returns-in_err-work-clause-order g c =
     let p = err_from_is_err_and c.from_residual.result c.from_residual.ensures.1 in rw (p.1, p.2)
-    (created_early (asked_to_render c.args.asked.now) _ _ _ _ _ _ c.in_err-work.ensures.ends c.prepare.ensures.created)
+    (created_early (asked_to_render c.args.asked.now) _ _ _ _ _ _ c.in_err-work.ensures.ends (same_sinks g.S.Shelf.created g.S.Shelf.closed _ _ c.prepare.ensures.created c.prepare.ensures.closed))
 
 pub returns-in_err-rendered-clause-order : goal.returns-in_err-rendered-clause-order
 returns-in_err-rendered-clause-order g c =
     let p = err_from_is_err_and c.from_residual-in_err-rendered.result c.from_residual-in_err-rendered.ensures.1 in rw (p.1, p.2)
     (created_broken (asked_to_render c.args.asked.now) _ _ _ _ (InWindows c.args.asked.now.window.ticks) refl
-    (λ files t. plain_ruled (asked_to_render c.args.asked.now) (InWindows c.args.asked.now.window.ticks) (render_plain c.args.asked.now.file.now c.args.asked.now.start.second c.args.asked.now.ticks.count (Some c.args.asked.now.window.ticks) (named c.args.asked.now.trace) c.args.asked.now.cues) files _ _ _ (c.in_ok-work.ensures.found files t)) _ _ _ c.prepare.ensures.created _ c.render.ensures.front)
+    (λ files t. plain_ruled (asked_to_render c.args.asked.now) (InWindows c.args.asked.now.window.ticks) (render_plain c.args.asked.now.file.now c.args.asked.now.start.second c.args.asked.now.ticks.count (Some c.args.asked.now.window.ticks) (named c.args.asked.now.trace) c.args.asked.now.cues) files _ _ _ (c.in_ok-work.ensures.found files t)) _ _ _ (same_sinks g.S.Shelf.created g.S.Shelf.closed _ _ c.prepare.ensures.created c.prepare.ensures.closed) _ c.render.ensures.front)
 
 pub returns-clause-order : goal.returns-clause-order
 returns-clause-order g c =
     created_all (asked_to_render c.args.asked.now) _ _ _ _ (InWindows c.args.asked.now.window.ticks) refl
-    (λ files t. plain_ruled (asked_to_render c.args.asked.now) (InWindows c.args.asked.now.window.ticks) (render_plain c.args.asked.now.file.now c.args.asked.now.start.second c.args.asked.now.ticks.count (Some c.args.asked.now.window.ticks) (named c.args.asked.now.trace) c.args.asked.now.cues) files _ _ _ (c.in_ok-work.ensures.found files t)) _ _ _ c.prepare.ensures.created
-    c.report_or_halt.result c.report_or_halt.ensures.starved c.in_ok-rendered.ensures.made
+    (λ files t. plain_ruled (asked_to_render c.args.asked.now) (InWindows c.args.asked.now.window.ticks) (render_plain c.args.asked.now.file.now c.args.asked.now.start.second c.args.asked.now.ticks.count (Some c.args.asked.now.window.ticks) (named c.args.asked.now.trace) c.args.asked.now.cues) files _ _ _ (c.in_ok-work.ensures.found files t)) _ _ _ (same_sinks g.S.Shelf.created g.S.Shelf.closed _ _ c.prepare.ensures.created c.prepare.ensures.closed)
+    c.report_or_halt.result c.report_or_halt.ensures.starved (record { created = c.in_ok-rendered.ensures.made; closed = c.in_ok-rendered.ensures.closed })

@@ -6,7 +6,7 @@ use Rattle.liq_cli.specs.Words.{Replay}
 use Rattle.liq_cli.proofs.Counted.{as_many}
 use Rattle.liq_cli.proofs.Judging.{Tells, TraceLaws, one_told}
 use Rattle.liq_cli.proofs.Leavings.{RunLaws, broke_off, ended_written, of_report, rendered, stopped_early, stopped_untold}
-use Rattle.liq_cli.proofs.Ordered.{created_all, created_broken, created_early, created_untold}
+use Rattle.liq_cli.proofs.Ordered.{created_all, created_broken, created_early, created_untold, same_sinks}
 use Rattle.liq_cli.proofs.Outcomes.{replay_ruled}
 use Rattle.liq_cli.proofs.replaying.replay_job.Goals as goal
 
@@ -18,7 +18,7 @@ returns-in_err-work-clause-stops g c =
 pub returns-in_err-work-clause-order : goal.returns-in_err-work-clause-order
 returns-in_err-work-clause-order g c =
     let p = err_from_is_err_and c.from_residual.result c.from_residual.ensures.1 in rw (p.1, p.2)
-    (created_early (Replay c.args.file.now c.args.start.second c.args.ticks.count c.args.trace.now) _ _ _ _ _ _ c.in_err-work.ensures.ends c.prepare.ensures.created)
+    (created_early (Replay c.args.file.now c.args.start.second c.args.ticks.count c.args.trace.now) _ _ _ _ _ _ c.in_err-work.ensures.ends (same_sinks g.S.Shelf.created g.S.Shelf.closed _ _ c.prepare.ensures.created c.prepare.ensures.closed))
 
 pub returns-in_err-told-clause-stops : goal.returns-in_err-told-clause-stops
 returns-in_err-told-clause-stops g c =
@@ -35,7 +35,7 @@ returns-in_err-told-clause-stops g c =
 pub returns-in_err-told-clause-order : goal.returns-in_err-told-clause-order
 returns-in_err-told-clause-order g c =
     let p = err_from_is_err_and c.from_residual-in_err-told.result c.from_residual-in_err-told.ensures.1 in rw (p.1, p.2)
-    (created_untold (Replay c.args.file.now c.args.start.second c.args.ticks.count c.args.trace.now) _ _ _ _ _ _ _ _ _ _ _ c.in_err-told.ensures.ends (c.find_trace.ensures.created ∙ c.prepare.ensures.created))
+    (created_untold (Replay c.args.file.now c.args.start.second c.args.ticks.count c.args.trace.now) _ _ _ _ _ _ _ _ _ _ _ c.in_err-told.ensures.ends (same_sinks g.S.Shelf.created g.S.Shelf.closed _ _ (c.find_trace.ensures.created ∙ c.prepare.ensures.created) (c.find_trace.ensures.closed ∙ c.prepare.ensures.closed)))
 
 pub returns-in_err-rendered-clause-stops : goal.returns-in_err-rendered-clause-stops
 returns-in_err-rendered-clause-stops g c =
@@ -70,7 +70,7 @@ returns-in_err-rendered-clause-order g c =
     } in
     created_broken (Replay c.args.file.now c.args.start.second c.args.ticks.count c.args.trace.now) _ _ _ _ (Again c.in_ok-told.told) refl
     (λ files t. replay_ruled c.args.file.now c.args.start.second c.args.ticks.count c.args.trace.now files _ _ _ (c.in_ok-work.ensures.found files t) (Tells c.in_ok-told.told)
-    (one_told tells_one files c.args.trace.now _ _ _ (Tells c.in_ok-told.told) (record { has = c.in_ok-told.ensures.found files (c.prepare.ensures.shelf.files_kept ∙ t); fits = c.in_ok-told.ensures.fits }))) _ _ _ (c.find_trace.ensures.created ∙ c.prepare.ensures.created) _ c.render_again.ensures.front)
+    (one_told tells_one files c.args.trace.now _ _ _ (Tells c.in_ok-told.told) (record { has = c.in_ok-told.ensures.found files (c.prepare.ensures.shelf.files_kept ∙ t); fits = c.in_ok-told.ensures.fits }))) _ _ _ (same_sinks g.S.Shelf.created g.S.Shelf.closed _ _ (c.find_trace.ensures.created ∙ c.prepare.ensures.created) (c.find_trace.ensures.closed ∙ c.prepare.ensures.closed)) _ c.render_again.ensures.front)
 
 pub returns-clause-stops : goal.returns-clause-stops
 returns-clause-stops g c =
@@ -127,5 +127,5 @@ returns-clause-order g c =
     } in
     created_all (Replay c.args.file.now c.args.start.second c.args.ticks.count c.args.trace.now) _ _ _ _ (Again c.in_ok-told.told) refl
     (λ files t. replay_ruled c.args.file.now c.args.start.second c.args.ticks.count c.args.trace.now files _ _ _ (c.in_ok-work.ensures.found files t) (Tells c.in_ok-told.told)
-    (one_told tells_one files c.args.trace.now _ _ _ (Tells c.in_ok-told.told) (record { has = c.in_ok-told.ensures.found files (c.prepare.ensures.shelf.files_kept ∙ t); fits = c.in_ok-told.ensures.fits }))) _ _ _ (c.find_trace.ensures.created ∙ c.prepare.ensures.created)
-    c.report_or_halt.result c.report_or_halt.ensures.starved c.in_ok-rendered.ensures.made
+    (one_told tells_one files c.args.trace.now _ _ _ (Tells c.in_ok-told.told) (record { has = c.in_ok-told.ensures.found files (c.prepare.ensures.shelf.files_kept ∙ t); fits = c.in_ok-told.ensures.fits }))) _ _ _ (same_sinks g.S.Shelf.created g.S.Shelf.closed _ _ (c.find_trace.ensures.created ∙ c.prepare.ensures.created) (c.find_trace.ensures.closed ∙ c.prepare.ensures.closed))
+    c.report_or_halt.result c.report_or_halt.ensures.starved (record { created = c.in_ok-rendered.ensures.made; closed = c.in_ok-rendered.ensures.closed })
