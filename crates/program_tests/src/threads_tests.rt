@@ -10,7 +10,7 @@ use std::thread;
 use std::thread::Threads;
 
 /// Mono, 8000 Hz, the samples 1 2 3.
-const ONE_TWO_THREE: &[u8] =
+pub const ONE_TWO_THREE: &[u8] =
     b"RIFF\x2a\0\0\0WAVEfmt \x10\0\0\0\x01\0\x01\0\x40\x1f\0\0\x80\x3e\0\0\x02\0\x10\0data\x06\0\0\0\x01\0\x02\0\x03\0";
 
 /// These samples on both sides.
