@@ -99,7 +99,8 @@ pub fn feed_on(shape: &Shape<'_>, lanes: &mut ClockLanes, k: u32, time: WeekTime
     feed_lane(shape, lanes, k, many);
 }
 
-// How many instants of the sub-clock of crossfade k go on as its latest one did, at this time, if the child gave.
+// How many instants of the sub-clock of crossfade k go on as its latest one did, at this time, if the child gave; no more than the
+// crossfade can use.
 fn goes_for(shape: &Shape<'_>, lanes: &ClockLanes, k: u32, time: WeekTime) -> u32
     requires nodes { AreNodes shape.now.plan.now.nodes }
     requires in_clocks { length shape.now.clocks.now ≡ length shape.now.plan.now.nodes }
@@ -120,7 +121,21 @@ fn goes_for(shape: &Shape<'_>, lanes: &ClockLanes, k: u32, time: WeekTime) -> u3
     if slot_of(&lanes.latest.parts, child).is_none() {
         return 0;
     }
-    rest_for(shape, lanes, NodeClock::Sub(k), time, u32::MAX)
+    let most = most_used(lanes, k);
+    rest_for(shape, lanes, NodeClock::Sub(k), time, most)
+}
+
+// How many of its sub-clock's instants that go on crossfade k can use at once, at most: as many as it takes where it wants any, else those of a
+// run through it.
+fn most_used(lanes: &ClockLanes, k: u32) -> u32
+    requires within { k < length lanes.now.states.items }
+    ensures some { 0 < result }
+    ensures short { result ≤ 1024 }
+{
+    match lanes.states[k as usize].room() {
+        0 => MAX_RUN,
+        room => room.min(MAX_RUN),
+    }
 }
 
 // How many of so many slots more crossfade k takes, and a run has at most.
