@@ -1,5 +1,5 @@
 // What a crossfade takes of the instants of its sub-clock.
-ghost use Rattle.std.specs.Prelude.{◌≡◌, ◌<◌, ◌≤◌, ◌+◌, ◌*◌, ◌++◌, ◌∷◌, ℕ, suc, List, [], Some, true, is_some, length, slice_get, slice_index_or};
+ghost use Rattle.std.specs.Prelude.{◌≡◌, ◌<◌, ◌≤◌, ◌+◌, ◌++◌, ◌∷◌, ℕ, suc, List, [], Some, true, is_some, length, slice_get, slice_index_or};
 ghost use Rattle.liq_base.specs.declared.limits.TheConstants.{MAX_NODES};
 ghost use Rattle.plan_core.specs.Plans.{AreNodes};
 ghost use Rattle.clock_infer.specs.declared.clock_map.NodeClock.{NodeClock as Clock};
@@ -192,8 +192,6 @@ fn feed_lane(shape: &Shape<'_>, lanes: &mut ClockLanes, k: u32, many: u32)
 fn feed_samples(state: &mut NodeState, runs: &Runs, child: u32, title: u32, count: usize)
     requires short { count ≤ 1024 }
     requires some { 0 < count }
-    requires in_left { (child + 1) * 1024 ≤ length runs.now.left.items }
-    requires in_right { (child + 1) * 1024 ≤ length runs.now.right.items }
     requires room { count ≤ room state.old }
     ensures fits { (library : Sounds) (children : ℕ) → Fits library children state.old → Fits library children state.new }
     ensures less { left state.new < left state.old }
