@@ -4,15 +4,15 @@ use Rattle.std.specs.Prelude.{Option, Some, IsSomeAnd, Vec}
 use Rattle.std.specs.declared.alloc.Global.{Global}
 use Rattle.std.specs.Option.{ForSome}
 use Rattle.std.proofs.lemmas.List.{map-append}
-use Rattle.liq_base.specs.Files.{Files}
+use Rattle.liq_base.specs.Files.{Closing, Files}
 use Rattle.frame_core.specs.Library.{Sounds}
 use Rattle.plan_core.specs.declared.sink.SinkPlan.{SinkPlan}
 use Rattle.plan_core.specs.declared.sink.SinkPlan.TheVariants.{Output, Feed}
 use Rattle.stream_meaning.specs.Sinks.{Cue}
-use Rattle.stations.specs.Creations.{MadeFront, after_making, names_in}
+use Rattle.stations.specs.Creations.{HaveClosed, MadeFront, after_making, names_in}
 use Rattle.stations.specs.Cues.{cue_name, cue_names_in}
 use Rattle.stations.specs.Outputs.{HoldsUpto, with_outputs}
-use Rattle.stations.proofs.Making.{front_made, then_front, then_made}
+use Rattle.stations.proofs.Making.{front_made, then_closed, then_front, then_made}
 use Rattle.stations.proofs.Parts.{upto_all}
 use Rattle.clock_engine.specs.declared.cues.CueMark.{CueMark}
 use Rattle.station_render.specs.Marks.{cue_file, cue_files_with, cue_of, cues_of}
@@ -127,13 +127,28 @@ module _ (sinks : List SinkPlan) (k : ℕ) (before between : Option (List (List 
     cues_next one =
         then_made (cue_names_in (take k sinks)) (cue_name said ∷ []) before between after so_far one ∙ ap (λ names. after_making names before) (sym cue_next)
 
-    pub cues_front : MadeFront (cue_name said ∷ []) between after → MadeFront (cue_names_in sinks) before after
-    cues_front front =
+    pub cues_front : (closed_before closed_between closed_after : Option (List Closing)) → HaveClosed (cue_names_in (take k sinks)) closed_before closed_between
+        → MadeFront (cue_name said ∷ []) between after closed_between closed_after → MadeFront (cue_names_in sinks) before after closed_before closed_after
+    cues_front closed_before closed_between closed_after closed front =
         let whole : cue_names_in sinks ≡ (cue_names_in (take k sinks) ++ cue_name said ∷ []) ++ cue_names_in (drop (k + 1) sinks) =
         ap cue_names_in (taken_and_left sinks (k + 1)) ∙ cue_names_both (take (k + 1) sinks) (drop (k + 1) sinks) ∙ ap (λ names. names ++ cue_names_in (drop (k + 1) sinks)) cue_next in
-        subst (λ names. MadeFront names before after) (sym whole)
-        (front_made (cue_names_in (take k sinks) ++ cue_name said ∷ []) (cue_names_in (drop (k + 1) sinks)) before after
-        (then_front (cue_names_in (take k sinks)) (cue_name said ∷ []) before between after so_far front))
+        subst (λ names. MadeFront names before after closed_before closed_after) (sym whole)
+        (front_made (cue_names_in (take k sinks) ++ cue_name said ∷ []) (cue_names_in (drop (k + 1) sinks)) before after closed_before closed_after
+        (then_front (cue_names_in (take k sinks)) (cue_name said ∷ []) before between after closed_before closed_between closed_after so_far closed front))
+
+-- and for the closings
+module _ (sinks : List SinkPlan) (k : ℕ) (before between : Option (List Closing)) (so_far : HaveClosed (cue_names_in (take k sinks)) before between) where
+  pub closed_still : (buffer node : ℕ) → slice_get sinks k ≡ Some (Feed buffer node) → HaveClosed (cue_names_in (take (k + 1) sinks)) before between
+  closed_still buffer node at =
+      subst (λ names. HaveClosed names before between) (cue_names_are (take k sinks) ∙ ap (map cue_name) (sym (names_still sinks k buffer node at)) ∙ sym (cue_names_are (take (k + 1) sinks))) so_far
+
+  pub closed_next : (name said : List ℕ) (node : ℕ) (fallible wide : Bool) → slice_get sinks k ≡ Some (Output name node fallible wide) → said ≡ name → (after : Option (List Closing))
+      → HaveClosed (cue_name said ∷ []) between after → HaveClosed (cue_names_in (take (k + 1) sinks)) before after
+  closed_next name said node fallible wide at said_is after one =
+      subst (λ names. HaveClosed names before after)
+      (ap (λ n. cue_names_in (take k sinks) ++ cue_name n ∷ []) said_is ∙ ap (λ names. names ++ cue_name name ∷ []) (cue_names_are (take k sinks))
+      ∙ sym (map-append cue_name (names_in (take k sinks)) (name ∷ [])) ∙ ap (map cue_name) (sym (names_next sinks k name node fallible wide at)) ∙ sym (cue_names_are (take (k + 1) sinks)))
+      (then_closed (cue_names_in (take k sinks)) (cue_name said ∷ []) before between after so_far one)
 
 -- the marks of an output, by its place
 pub marks_at : (marks : List (Vec CueMark Global)) (place index : ℕ) → place ≡ index → (found : Vec CueMark Global) → place < length marks → found ≡ get_or marks place found → (slice : List CueMark) → slice ≡ found.items

@@ -157,8 +157,8 @@ counts_told [] = refl
 counts_told (windows ∷ buffers) = λ i. count_told windows i ∷ counts_told buffers i
 
 -- the records of rounds
-module _ {S : Type 0} {held name : S → Option (List ℕ)} {faults : S → ℕ} {setting : Setting} {clocks ticks : ℕ} {old new : List (ClockEngine S)} (all : length old ≡ clocks) where
-  pub rounds_all : {counts : List Counts} {logs : List (List Answers)} → rounds.HasRunAll held name faults setting ticks old new counts logs → RanAll held name faults setting clocks ticks InRounds old new counts logs
+module _ {S : Type 0} {held name : S → Option (List ℕ)} {faults : S → ℕ} {appends : S → Option ℕ} {setting : Setting} {clocks ticks : ℕ} {old new : List (ClockEngine S)} (all : length old ≡ clocks) where
+  pub rounds_all : {counts : List Counts} {logs : List (List Answers)} → rounds.HasRunAll held name faults appends setting ticks old new counts logs → RanAll held name faults appends setting clocks ticks InRounds old new counts logs
   rounds_all ran = record {
     run = ran.run;
     lawful = subst (λ n. IsRounds setting n ticks ran.run) all ran.rounds;
@@ -167,10 +167,10 @@ module _ {S : Type 0} {held name : S → Option (List ℕ)} {faults : S → ℕ}
     logs_are = ran.logs_are;
   }
 
-  pub rounds_some : {end : End} → rounds.HasRunSome held name faults setting ticks old new end → RanSome held name faults setting clocks ticks InRounds old new end
+  pub rounds_some : {end : End} → rounds.HasRunSome held name faults appends setting ticks old new end → RanSome held name faults appends setting clocks ticks InRounds old new end
   rounds_some ran =
       let moved = subst (λ n. (begun : AreRoundsBegun setting n ticks ran.run)
-      × HaveRunPart held name faults (setting_then setting ran.run) (ticks_by ticks begun.round begun.clock) (ticks_by ticks begun.round (begun.clock + 1)) old new) all (ran.begun, ran.part) in
+      × HaveRunPart held name faults appends (setting_then setting ran.run) (ticks_by ticks begun.round begun.clock) (ticks_by ticks begun.round (begun.clock + 1)) old new) all (ran.begun, ran.part) in
       record {
         run = ran.run;
         begun = moved.0;
@@ -179,17 +179,17 @@ module _ {S : Type 0} {held name : S → Option (List ℕ)} {faults : S → ℕ}
       }
 
 -- the record of a replay
-module _ {S : Type 0} {held name : S → Option (List ℕ)} {faults : S → ℕ} {setting : Setting} {clocks ticks : ℕ} {old new : List (ClockEngine S)} (trace : TraceValue) (ticks_are : trace.ticks ≡ ticks) where
-  pub replay_all : {counts : List Counts} {logs : List (List Answers)} → HasReplayedAll held name faults setting clocks trace old new counts logs → RanAll held name faults setting clocks ticks (Again trace) old new counts logs
+module _ {S : Type 0} {held name : S → Option (List ℕ)} {faults : S → ℕ} {appends : S → Option ℕ} {setting : Setting} {clocks ticks : ℕ} {old new : List (ClockEngine S)} (trace : TraceValue) (ticks_are : trace.ticks ≡ ticks) where
+  pub replay_all : {counts : List Counts} {logs : List (List Answers)} → HasReplayedAll held name faults appends setting clocks trace old new counts logs → RanAll held name faults appends setting clocks ticks (Again trace) old new counts logs
   replay_all ran = record {
     run = ran.run;
     lawful = record { ticks_are = ticks_are; of = ran.of };
-    engines = subst (λ n. HaveRunTicks held name faults (setting_in setting ran.run) n old new) ticks_are ran.engines;
+    engines = subst (λ n. HaveRunTicks held name faults appends (setting_in setting ran.run) n old new) ticks_are ran.engines;
     counts_are = ran.counts_are;
     logs_are = ran.logs_are;
   }
 
-  pub replay_some : {end : End} → HasReplayedSome held name faults setting clocks trace old new end → RanSome held name faults setting clocks ticks (Again trace) old new end
+  pub replay_some : {end : End} → HasReplayedSome held name faults appends setting clocks trace old new end → RanSome held name faults appends setting clocks ticks (Again trace) old new end
   replay_some ran =
       let came = ran.part in
       record {
@@ -203,7 +203,7 @@ module _ {S : Type 0} {held name : S → Option (List ℕ)} {faults : S → ℕ}
           one_more = came.one_more;
           most = subst (λ n. came.tried ≤ n) ticks_are came.most;
         };
-        part = subst (λ n. HaveRunPart held name faults (λ rest. setting_in setting ran.run) (ticks_to n came.clock came.made) (ticks_to n came.clock came.tried) old new) ticks_are came.part;
+        part = subst (λ n. HaveRunPart held name faults appends (λ rest. setting_in setting ran.run) (ticks_to n came.clock came.made) (ticks_to n came.clock came.tried) old new) ticks_are came.part;
         failed = λ failed sink is. let write = came.write failed sink is in failed_at faults came.clock write.place new write.before write.after write.is write.rose;
       }
 
@@ -215,9 +215,9 @@ both_are : {A : Type 0} (old new : List A) (k : ℕ) (before after : A) → slic
 both_are old new k before after was is = λ i. (got_is old k before before was i, got_is new k after before is i)
 
 -- the records of threads
-module _ {S : Type 0} {held name : S → Option (List ℕ)} {faults : S → ℕ} {setting : Setting} {clocks : ClockMap} {window ticks : ℕ} {old new : List (ClockEngine S)} (at : AreAt setting old) where
-  pub threads_all : {counts : List Counts} {logs : List (List Answers)} → threads.HasRunAll held name faults setting clocks window ticks old new counts logs
-      → RanAll held name faults setting clocks.running ticks (InWindows window) old new counts logs
+module _ {S : Type 0} {held name : S → Option (List ℕ)} {faults : S → ℕ} {appends : S → Option ℕ} {setting : Setting} {clocks : ClockMap} {window ticks : ℕ} {old new : List (ClockEngine S)} (at : AreAt setting old) where
+  pub threads_all : {counts : List Counts} {logs : List (List Answers)} → threads.HasRunAll held name faults appends setting clocks window ticks old new counts logs
+      → RanAll held name faults appends setting clocks.running ticks (InWindows window) old new counts logs
   unfolding output_in
   threads_all ran = record {
     run = ran.run;
@@ -226,7 +226,7 @@ module _ {S : Type 0} {held name : S → Option (List ℕ)} {faults : S → ℕ}
       size = ran.has_run.many;
       each = λ k before after was is.
           let fresh = at.each k before was in
-          let made = subst (λ (z : ClockEngine S × ClockEngine S). threads.HasMadeAll held name faults setting ran.run ticks k z.0 z.1) (both_are old new k before after was is) (ran.has_run.engines k before (within old k before was)) in
+          let made = subst (λ (z : ClockEngine S × ClockEngine S). threads.HasMadeAll held name faults appends setting ran.run ticks k z.0 z.1) (both_are old new k before after was is) (ran.has_run.engines k before (within old k before was)) in
           record {
             over = made.same.setting;
             clock = made.same.clock;
@@ -236,6 +236,7 @@ module _ {S : Type 0} {held name : S → Option (List ℕ)} {faults : S → ℕ}
             given = ap (λ s. with_rest s made.answers made.rest) fresh.over ∙ made.are;
             stands = made.stands;
             grew = λ sink node out. made.bytes sink node (output_in setting k before fresh sink node out);
+            pieces = made.pieces;
             none_fell = made.same.none_fell;
             outs = made.same.outs;
             kept = made.same.kept;
@@ -245,7 +246,7 @@ module _ {S : Type 0} {held name : S → Option (List ℕ)} {faults : S → ℕ}
     logs_are = ran.tells.logs_are;
   }
 
-  pub threads_some : {end : End} → threads.HasRunSome held name faults setting clocks window ticks old new end → RanSome held name faults setting clocks.running ticks (InWindows window) old new end
+  pub threads_some : {end : End} → threads.HasRunSome held name faults appends setting clocks window ticks old new end → RanSome held name faults appends setting clocks.running ticks (InWindows window) old new end
   unfolding output_in
   threads_some ran = record {
     run = ran.run;
@@ -254,12 +255,13 @@ module _ {S : Type 0} {held name : S → Option (List ℕ)} {faults : S → ℕ}
       size = ran.many;
       each = λ k before after was is.
           let fresh = at.each k before was in
-          let made = subst (λ (z : ClockEngine S × ClockEngine S). threads.HasMadePart held name faults setting ran.run (ran.begun.made k) (ran.begun.tried k) k z.0 z.1) (both_are old new k before after was is) (ran.engines k before (within old k before was)) in
+          let made = subst (λ (z : ClockEngine S × ClockEngine S). threads.HasMadePart held name faults appends setting ran.run (ran.begun.made k) (ran.begun.tried k) k z.0 z.1) (both_are old new k before after was is) (ran.engines k before (within old k before was)) in
           record {
             setting = made.same.setting;
             clock = made.same.clock;
             part = λ rest sink node out.
                 made.part rest sink node (output_in setting k before fresh sink node out);
+            pieces = made.pieces;
             none_fell = made.same.none_fell;
             outs = made.same.outs;
             kept = made.same.kept;

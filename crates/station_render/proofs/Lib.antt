@@ -17,3 +17,4 @@ pub mod CueFiles
 pub mod Writing
 pub mod Known
 pub mod Marking
+pub mod Listing

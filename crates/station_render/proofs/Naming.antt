@@ -1,12 +1,13 @@
 -- The names of the outputs that were created, one after another.
-use Rattle.std.proofs.Common.{◌≡◌, ◌≤◌, ◌+◌, ◌∙◌, ◌++◌, ℕ, Bool, true, List, [], ◌∷◌, length, take, drop, slice_get, ap, sym, subst, add-one}
+use Rattle.std.proofs.Common.{◌≡◌, ◌≤◌, ◌+◌, ◌∙◌, ◌++◌, ℕ, Bool, true, List, [], ◌∷◌, length, take, drop, slice_get, refl, ap, sym, subst, add-one}
 use Rattle.std.specs.Prelude.{Option, Some, None, Result, Ok, Err, OnOk, is_ok}
 use Rattle.std.proofs.lemmas.List.{append-nil}
 use Rattle.std.proofs.lemmas.Bool.{true≢false}
+use Rattle.liq_base.specs.Files.{Closing}
 use Rattle.plan_core.specs.declared.sink.SinkPlan.{SinkPlan}
 use Rattle.plan_core.specs.declared.sink.SinkPlan.TheVariants.{Output, Feed}
-use Rattle.stations.specs.Creations.{MadeFront, after_making, names_in, trace_name}
-use Rattle.stations.proofs.Making.{front_made, names_both, none_more, then_front, then_made}
+use Rattle.stations.specs.Creations.{HaveClosed, MadeFront, after_making, names_in, trace_name}
+use Rattle.stations.proofs.Making.{names_both, none_closed, none_more, then_made}
 use Rattle.station_render.proofs.Creating.{take_more, take_whole, taken_and_left}
 
 module _ (sinks : List SinkPlan) (k : ℕ) where
@@ -34,19 +35,9 @@ module _ (sinks : List SinkPlan) (k : ℕ) where
           then_made (names_in (take k sinks)) (said ∷ []) before between after so_far one
           ∙ ap (λ n. after_making (names_in (take k sinks) ++ n ∷ []) before) said_is ∙ ap (λ names. after_making names before) (sym (names_next name node fallible wide at))
 
-      -- one more may have been
-      pub front_next : MadeFront (said ∷ []) between after → MadeFront (names_in sinks) before after
-      front_next front =
-          let whole : names_in sinks ≡ names_in (take k sinks) ++ said ∷ [] ++ names_in (drop (k + 1) sinks) =
-          ap names_in (taken_and_left sinks (k + 1)) ∙ names_both (take (k + 1) sinks) (drop (k + 1) sinks)
-          ∙ ap (λ names. names ++ names_in (drop (k + 1) sinks)) (names_next name node fallible wide at ∙ ap (λ n. names_in (take k sinks) ++ n ∷ []) (sym said_is)) in
-          subst (λ names. MadeFront names before after) (sym whole)
-          (front_made (names_in (take k sinks) ++ said ∷ []) (names_in (drop (k + 1) sinks)) before after
-          (then_front (names_in (take k sinks)) (said ∷ []) before between after so_far front))
-
--- where nothing more is made, what was made stays
-pub front_kept : (names : List (List ℕ)) (before between after : Option (List (List ℕ))) → after ≡ between → MadeFront names before between → MadeFront names before after
-front_kept names before between after same front = subst (λ told. MadeFront names before told) (sym same) front
+-- those of the first sinks, and of the others
+pub names_split : (sinks : List SinkPlan) (k : ℕ) → names_in sinks ≡ names_in (take k sinks) ++ names_in (drop k sinks)
+names_split sinks k = ap names_in (taken_and_left sinks k) ∙ names_both (take k sinks) (drop k sinks)
 
 -- what holds whatever a call answers
 pub on_ok_so : {T E : Type 0} (r : Result T E) (P : Type 0) → P → OnOk r P
@@ -67,5 +58,12 @@ no_trace_made name told is = none_more told ∙ ap (λ n. after_making (trace_na
 pub trace_made : (name : Option (List ℕ)) (title : List ℕ) (before after : Option (List (List ℕ))) → name ≡ Some title → after ≡ after_making (title ∷ []) before → after ≡ after_making (trace_name name) before
 trace_made name title before after is made = made ∙ ap (λ n. after_making (trace_name n) before) (sym is)
 
-pub trace_front : (name : Option (List ℕ)) (title : List ℕ) (before after : Option (List (List ℕ))) → name ≡ Some title → MadeFront (title ∷ []) before after → MadeFront (trace_name name) before after
-trace_front name title before after is front = subst (λ n. MadeFront (trace_name n) before after) (sym is) front
+pub trace_closed : (name : Option (List ℕ)) (title : List ℕ) (before after : Option (List Closing)) → name ≡ Some title → HaveClosed (title ∷ []) before after → HaveClosed (trace_name name) before after
+trace_closed name title before after is closed = subst (λ n. HaveClosed (trace_name n) before after) (sym is) closed
+
+pub no_trace_closed : (name : Option (List ℕ)) (told : Option (List Closing)) → name ≡ None → HaveClosed (trace_name name) told told
+no_trace_closed name told is = subst (λ n. HaveClosed (trace_name n) told told) (sym is) (none_closed told told refl)
+
+pub trace_front : (name : Option (List ℕ)) (title : List ℕ) (before after : Option (List (List ℕ))) (closed_before closed_after : Option (List Closing)) → name ≡ Some title
+    → MadeFront (title ∷ []) before after closed_before closed_after → MadeFront (trace_name name) before after closed_before closed_after
+trace_front name title before after closed_before closed_after is front = subst (λ n. MadeFront (trace_name n) before after closed_before closed_after) (sym is) front

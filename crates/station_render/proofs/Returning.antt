@@ -1,6 +1,8 @@
 -- What a run of all engines leaves in the sinks, once they are given back.
 use Rattle.std.proofs.Common.{◌≡◌, ◌<◌, ◌+◌, ◌∙◌, ℕ, suc, List, [], ◌∷◌, length, map, get_or, slice_index_or, arith, refl, ap, sym, subst, Bool}
-use Rattle.std.specs.Prelude.{Option, Result, Ok, Err, OnOk, IfOk}
+use Rattle.std.specs.Prelude.{Option, Result, Ok, Err, OnOk, IfOk, is_some}
+use Rattle.std.specs.Fn.{iterate}
+use Rattle.liq_base.specs.Counts.{counted}
 use Rattle.liq_base.specs.Files.{Files}
 use Rattle.liq_base.specs.Pieces.{HasRoom}
 use Rattle.plan_core.specs.declared.plan.Plan.{Plan}
@@ -19,7 +21,7 @@ use Rattle.buffer_ends.specs.declared.run_end.End.TheVariants.{Write}
 use Rattle.rounds_run.specs.Runs.{AreOver, counts_of_windows}
 use Rattle.clock_threads.specs.Runs as threads
 use Rattle.stations.specs.Findings.{IsFit}
-use Rattle.stations.specs.Stations.{Station, Way, answers_with, made_in, tried_in}
+use Rattle.stations.specs.Stations.{Station, Way, answers_with, made_in, setting_after, tried_in}
 use Rattle.stations.specs.Cues.{marks_if}
 use Rattle.stations.specs.Streams.{body_size, counts_in}
 use Rattle.station_render.specs.Sinks.{AreCreated, HasFailed}
@@ -34,7 +36,7 @@ use Rattle.station_render.proofs.Creating.{created_as, part_of_ready}
 use Rattle.station_render.proofs.Ending.{begun_all}
 use Rattle.station_render.proofs.Fits.{are_main}
 use Rattle.station_render.proofs.Gathering.{lawful_many, not_begun}
-use Rattle.station_render.proofs.Running.{AreAlike, LieInMain, all_part, all_whole, keep_after, may_run, stand_after}
+use Rattle.station_render.proofs.Running.{AreAlike, LieInMain, all_part, all_whole, keep_after, may_run, stand_after, stand_counted, stand_still}
 
 -- the counts of a record are those of its buffers
 counts_at : (run : Run) (b : ℕ) (xs : List (List Window)) (plans : List BufferPlan) → length xs ≡ length plans → ((k : ℕ) → slice_index_or run.buffers (b + k) [] ≡ slice_index_or xs k [])
@@ -139,36 +141,51 @@ module _ {plan : Plan} {library : Sounds} {clocks : ClockMap} {start ticks : ℕ
     groups_are : (groups_new : List (List S)) → groups_new ≡ outs_of last → groups_new ≡ outs_of new
     groups_are groups_new back = back ∙ ap outs_of last_is
 
-    module _ {faults : S → ℕ} {way : Way} where
+    module _ {faults : S → ℕ} {appends : S → Option ℕ} {way : Way} where
       -- they stand for all ticks
-      stand : {counts : List Counts} {logs : List (List Answers)} (ran : RanAll held name faults world clocks.running ticks way old new counts logs) → ArePast world (setting_in world ran.run) ticks last
+      stand : {counts : List Counts} {logs : List (List Answers)} (ran : RanAll held name faults appends world clocks.running ticks way old new counts logs) → ArePast world (setting_in world ran.run) ticks last
       stand ran =
-          subst (λ es. ArePast world (setting_in world ran.run) ticks es) (sym last_is) (stand_after held name faults world (setting_in world ran.run) ticks old new opened.at ran.engines)
+          subst (λ es. ArePast world (setting_in world ran.run) ticks es) (sym last_is) (stand_after held name faults appends world (setting_in world ran.run) ticks old new opened.at ran.engines)
 
-      pub stand_so : {counts : List Counts} {logs : List (List Answers)} → RanAll held name faults world clocks.running ticks way old new counts logs
+      pub stand_so : {counts : List Counts} {logs : List (List Answers)} → RanAll held name faults appends world clocks.running ticks way old new counts logs
           → (other : Setting) × (meant : Setting) × (t : ℕ) × (other.plan ≡ plan) × (other.clocks ≡ clocks.of) × ArePast other meant t last
       stand_so ran = (world, setting_in world ran.run, ticks, refl, refl, stand ran)
 
       -- and keep their marks, where these are wanted
-      pub keep_so : {counts : List Counts} {logs : List (List Answers)} (wanted : Bool) → AreKeeping wanted old → RanAll held name faults world clocks.running ticks way old new counts logs → AreKeeping wanted last
-      keep_so wanted keep ran = subst (AreKeeping wanted) (sym last_is) (keep_after held name faults (setting_in world ran.run) ticks wanted old new keep ran.engines)
+      pub keep_so : {counts : List Counts} {logs : List (List Answers)} (wanted : Bool) → AreKeeping wanted old → RanAll held name faults appends world clocks.running ticks way old new counts logs → AreKeeping wanted last
+      keep_so wanted keep ran = subst (AreKeeping wanted) (sym last_is) (keep_after held name faults appends (setting_in world ran.run) ticks wanted old new keep ran.engines)
 
       module _ {groups_new : List (List S)} (back : groups_new ≡ outs_of last) where
-        pub part_back : {trace : Option (List ℕ)} {cues : Bool} {end : End} → RanSome held name faults world clocks.running ticks way old new end → RanPart title held faults files (record { plan = plan; library = library; clocks = clocks; start = start; ticks = ticks; way = way; trace = trace; cues = cues }) order groups_new
+        pub part_back : {trace : Option (List ℕ)} {cues : Bool} {end : End} → RanSome held name faults appends world clocks.running ticks way old new end → RanPart title held faults files (record { plan = plan; library = library; clocks = clocks; start = start; ticks = ticks; way = way; trace = trace; cues = cues }) order groups_new
         part_back some = record {
           run = some.run;
           begun = some.begun;
           parts = begun_all title held faults files world (answers_with way some.run) ticks (made_in world clocks.running ticks way some.run some.begun) (tried_in world clocks.running ticks way some.run some.begun) order groups_new
               (λ rest. subst (λ (z : List ℕ × List (List S)). AreCreated (IsPart title held faults files (answered world (answers_with way some.run rest)) ticks (made_in world clocks.running ticks way some.run some.begun) (tried_in world clocks.running ticks way some.run some.begun)) (written plan.sinks) z.0 z.1)
               (λ i. (sym opened.order_is i, sym (groups_are groups_new back) i))
-              (all_part world ticks mains name title held left debt faults alike files old new opened.at opened.ready (answers_with way some.run) (made_in world clocks.running ticks way some.run some.begun) (tried_in world clocks.running ticks way some.run some.begun) some.part rest));
+              (all_part world ticks mains name title held left debt faults appends alike files old new opened.at opened.ready (answers_with way some.run) (made_in world clocks.running ticks way some.run some.begun) (tried_in world clocks.running ticks way some.run some.begun) some.part rest));
         }
 
-        pub failed_back : {end : End} → RanSome held name faults world clocks.running ticks way old new end → (clock sink : ℕ) → end ≡ Write clock sink → HasFailed faults groups_new
+        pub failed_back : {end : End} → RanSome held name faults appends world clocks.running ticks way old new end → (clock sink : ℕ) → end ≡ Write clock sink → HasFailed faults groups_new
         failed_back some clock sink is = subst (λ gs. HasFailed faults gs) (sym (groups_are groups_new back)) (some.failed clock sink is)
 
+        -- what stands so of them by what they are known by, does so still
+        pub still_back : {Y : Type 0} {end : End} (So : Y → S → Type 0) → ((y : Y) (one other : S) → name one ≡ name other → is_some (appends one) ≡ is_some (appends other) → So y other → So y one) → RanSome held name faults appends world clocks.running ticks way old new end
+            → (ys : List Y) → AreCreated So ys order (outs_of old) → AreCreated So ys order groups_new
+        still_back So keeps some ys are = subst (λ gs. AreCreated So ys order gs) (sym (groups_are groups_new back))
+            (stand_still So held name faults appends (setting_after way world some.run) (made_in world clocks.running ticks way some.run some.begun) (tried_in world clocks.running ticks way some.run some.begun) keeps old new some.part ys order are)
+
+        -- where all ticks were made, so many pieces came
+        pub counted_back : {Y Done E : Type 0} {counts : List Counts} {logs : List (List Answers)} (So Then : Y → S → Type 0) → ((y : Y) (one other : S) → name one ≡ name other → appends one ≡ iterate counted ticks (appends other) → So y other → Then y one)
+            → (result : Result Rendered E) → (Done → RanAll held name faults appends world clocks.running ticks way old new counts logs) → OnOk result Done
+            → (ys : List Y) → AreCreated So ys order (outs_of old) → OnOk result (AreCreated Then ys order groups_new)
+        counted_back So Then keeps (Ok rendered) all done ys are =
+            let ran = all done in
+            subst (λ gs. AreCreated Then ys order gs) (sym (groups_are groups_new back)) (stand_counted So Then held name faults appends (setting_in world ran.run) ticks keeps old new ran.engines ys order are)
+        counted_back So Then keeps (Err fault) all done ys are = tt
+
         -- where all ticks were made, this is told of them
-        whole_back : {trace : Option (List ℕ)} {cues : Bool} {counts : List Counts} {logs : List (List Answers)} (ran : RanAll held name faults world clocks.running ticks way old new counts logs) (rendered : Rendered)
+        whole_back : {trace : Option (List ℕ)} {cues : Bool} {counts : List Counts} {logs : List (List Answers)} (ran : RanAll held name faults appends world clocks.running ticks way old new counts logs) (rendered : Rendered)
             → rendered.counts.items ≡ counts → rendered.logs.items ≡ logs → rendered.gaps.items ≡ counts_in (setting_in world ran.run) ticks plan.sinks
             → cues_of rendered.cues.items ≡ marks_if cues (setting_in world ran.run) ticks plan.sinks → RanWhole title held debt files (record { plan = plan; library = library; clocks = clocks; start = start; ticks = ticks; way = way; trace = trace; cues = cues }) order groups_new rendered
         whole_back ran rendered counts_are logs_are gaps_are cues_are = record {
@@ -182,11 +199,11 @@ module _ {plan : Plan} {library : Sounds} {clocks : ClockMap} {start ticks : ℕ
             cues_are = cues_are;
           };
           whole = subst (λ (z : List ℕ × List (List S)). AreCreated (IsWhole title held debt files (setting_in world ran.run) ticks) (written plan.sinks) z.0 z.1) (λ i. (sym opened.order_is i, sym (groups_are groups_new back) i))
-              (all_whole world ticks mains name title held left debt faults alike files old new opened.at opened.ready (answers_of ran.run) ran.engines);
+              (all_whole world ticks mains name title held left debt faults appends alike files old new opened.at opened.ready (answers_of ran.run) ran.engines);
         }
 
         pub whole_told : (trace : Option (List ℕ)) (cues : Bool) {counts : List Counts} {logs : List (List Answers)} {E Done : Type 0} (result : Result Rendered E)
-            → (Done → RanAll held name faults world clocks.running ticks way old new counts logs) → OnOk result Done
+            → (Done → RanAll held name faults appends world clocks.running ticks way old new counts logs) → OnOk result Done
             → IfOk result (λ rendered. (other meant : Setting) (t : ℕ) → other.plan ≡ plan → other.clocks ≡ clocks.of → ArePast other meant t last → rendered.gaps.items ≡ counts_in meant t plan.sinks)
             → IfOk result (λ rendered. (other meant : Setting) (t : ℕ) → other.plan ≡ plan → other.clocks ≡ clocks.of → ArePast other meant t last → cues_of rendered.cues.items ≡ marks_if cues meant t plan.sinks)
             → IfOk result (λ rendered. rendered.counts.items ≡ counts) → IfOk result (λ rendered. rendered.logs.items ≡ logs) → IfOk result (RanWhole title held debt files (record { plan = plan; library = library; clocks = clocks; start = start; ticks = ticks; way = way; trace = trace; cues = cues }) order groups_new)

@@ -1,6 +1,8 @@
 -- What a run leaves in the sinks of a clock, place by place.
 use Rattle.std.proofs.Common.{◌≡◌, ◌<◌, ◌+◌, ◌*◌, ◌∙◌, ◌++◌, ℕ, zero, suc, Bool, true, false, List, [], ◌∷◌, length, map, slice_get, get_or, nat_eq, arith, refl, ap, sym, subst, append_assoc, inl, if◌then◌else◌}
-use Rattle.std.specs.Prelude.{Option, Some, None}
+use Rattle.std.specs.Prelude.{Option, Some, None, is_some}
+use Rattle.std.specs.Fn.{iterate}
+use Rattle.liq_base.specs.Counts.{counted}
 use Rattle.std.specs.List.{AllZip}
 use Rattle.std.specs.Option.{option_map_or}
 use Rattle.std.proofs.lemmas.Bool.{eq-eqb, false_from_ne_true, eqb-true}
@@ -32,6 +34,7 @@ use Rattle.station_render.specs.Renders.{IsPart, IsReady, IsWhole, Written, main
 use Rattle.station_render.proofs.Lists.{got_is, mapped, many_mapped, unmapped, within}
 use Rattle.station_render.proofs.Dealing.{zip_at, zip_from, zip_size}
 use Rattle.station_render.proofs.Closing.{in_list}
+use Rattle.station_render.proofs.Listing.{counted_any}
 
 -- the nodes of these sinks lie in main clocks
 abbrev pub LieInMain : Setting → List SinkPlan → Type 0
@@ -149,7 +152,7 @@ placed_at setting m main j output at =
           false_from_ne_true (nat_eq other.0 found.0.0) (λ e. let same : other.0 ≡ found.0.0 = eqb-true other.0 found.0.0 e in omega (arith, less, same));
     }
 
-module _ {S : Type 0} (held name : S → Option (List ℕ)) (faults : S → ℕ) (ticks : ℕ) (old new : ClockEngine S) (main : LieInMain (setting_of old.parts) (setting_of old.parts).plan.sinks) where
+module _ {S : Type 0} (held name : S → Option (List ℕ)) (faults : S → ℕ) (appends : S → Option ℕ) (ticks : ℕ) (old new : ClockEngine S) (main : LieInMain (setting_of old.parts) (setting_of old.parts).plan.sinks) where
   abbrev here : Setting
   here = setting_of old.parts
 
@@ -171,7 +174,7 @@ module _ {S : Type 0} (held name : S → Option (List ℕ)) (faults : S → ℕ)
       )
 
   -- after all ticks
-  pub whole_at : (world : Setting) → HasRunTicks held name faults world ticks old new → (j : ℕ) (output : Written) (before after : S)
+  pub whole_at : (world : Setting) → HasRunTicks held name faults appends world ticks old new → (j : ℕ) (output : Written) (before after : S)
       → slice_get mine j ≡ Some output → slice_get old.outs j ≡ Some before → slice_get new.outs j ≡ Some after
       → (name after ≡ name before) × (held after ≡ grown (ticks_bytes world output.wide output.node ticks) (held before))
   whole_at world run j output before after at was is =
@@ -181,7 +184,7 @@ module _ {S : Type 0} (held name : S → Option (List ℕ)) (faults : S → ℕ)
       )
 
   -- after a part of them
-  pub part_at : (worlds : (ℕ → List Answer) → Setting) (least most : ℕ) → HasRunPart held name faults worlds least most old new → (rest : ℕ → List Answer) (j : ℕ) (output : Written) (before after : S)
+  pub part_at : (worlds : (ℕ → List Answer) → Setting) (least most : ℕ) → HasRunPart held name faults appends worlds least most old new → (rest : ℕ → List Answer) (j : ℕ) (output : Written) (before after : S)
       → slice_get mine j ≡ Some output → slice_get old.outs j ≡ Some before → slice_get new.outs j ≡ Some after
       → (name after ≡ name before)
       × ((bytes : List ℕ) × IsPrefix (ticks_bytes (worlds rest) output.wide output.node least) bytes × IsPrefix bytes (ticks_bytes (worlds rest) output.wide output.node most) × (held after ≡ grown bytes (held before)))
@@ -223,6 +226,61 @@ headed header part rest whole is = ap (λ b. header ++ b) is ∙ sym (append_ass
 abbrev pub AreAlike : {S : Type 0} → (name title : S → Option (List ℕ)) → (debt : S → ℕ) → Type 0
 AreAlike name title debt = (one other : _) → name one ≡ name other → (title one ≡ title other) × (debt one ≡ debt other)
 
+-- an engine before a run, at the place of one after it
+before_at : {S : Type 0} (old new : List (ClockEngine S)) → length new ≡ length old → (m : ℕ) (group : List S) → slice_get (outs_of new) m ≡ Some group
+    → (before : ClockEngine S) × (after : ClockEngine S) × (slice_get old m ≡ Some before) × (slice_get new m ≡ Some after) × (after.outs ≡ group)
+before_at {S} old new size m group at =
+    let after = unmapped (λ (e : ClockEngine S). e.outs) new m group at in
+    let low = within new m after.0 after.1 in
+    let before = in_list old m (omega (arith, low, size)) in
+    (before.0, after.0, before.1, after.1, after.2)
+
+-- pieces change nothing in whether their number is told
+any_still : (pieces : ℕ) (told : Option ℕ) → is_some (iterate counted pieces told) ≡ is_some told
+any_still zero told = refl
+any_still (suc pieces) told = any_still pieces (counted told) ∙ counted_any told
+
+-- what stands so of sinks by what they are known by, and by whether they tell how many pieces they got, does so after a run
+pub stand_still : {Y S : Type 0} (So : Y → S → Type 0) (held name : S → Option (List ℕ)) (faults : S → ℕ) (appends : S → Option ℕ) (world : (ℕ → List Answer) → Setting) (least most : ℕ → ℕ)
+    → ((y : Y) (one other : S) → name one ≡ name other → is_some (appends one) ≡ is_some (appends other) → So y other → So y one) → (old new : List (ClockEngine S)) → HaveRunPart held name faults appends world least most old new
+    → (ys : List Y) (order : List ℕ) → AreCreated So ys order (outs_of old) → AreCreated So ys order (outs_of new)
+stand_still So held name faults appends world least most keeps old new run ys order are = record {
+  size = are.size;
+  below = λ k clock there. subst (λ n. clock < n) (sym (many_mapped (λ (e : ClockEngine _). e.outs) new ∙ run.size ∙ sym (many_mapped (λ (e : ClockEngine _). e.outs) old))) (are.below k clock there);
+  each = λ m group there.
+      let found = before_at old new run.size m group there in
+      let ran = run.each m found.0 found.1 found.2 found.3 in
+      let zip = are.each m found.0.outs (mapped (λ (e : ClockEngine _). e.outs) old m found.0 found.2) in
+      subst (λ g. AllZip So (of_clock m order ys) g) found.4
+      (zip_from So (of_clock m order ys) found.1.outs (ran.outs ∙ zip_size So (of_clock m order ys) found.0.outs zip)
+      (λ j y after mine_at after_at.
+      let low = within found.1.outs j after after_at in
+      let size = ran.outs in
+      let before = in_list found.0.outs j (omega (arith, low, size)) in
+      let got = ran.pieces.each j before.0 after before.1 after_at in
+      keeps y after before.0 (ran.kept.each j before.0 after before.1 after_at).0 (ap is_some got.3 ∙ any_still got.0 (appends before.0)) (zip_at So (of_clock m order ys) found.0.outs j y before.0 zip mine_at before.1)));
+}
+
+-- the same where all ticks were made: so many pieces came
+pub stand_counted : {Y S : Type 0} (So Then : Y → S → Type 0) (held name : S → Option (List ℕ)) (faults : S → ℕ) (appends : S → Option ℕ) (world : Setting) (ticks : ℕ)
+    → ((y : Y) (one other : S) → name one ≡ name other → appends one ≡ iterate counted ticks (appends other) → So y other → Then y one) → (old new : List (ClockEngine S)) → HaveRunTicks held name faults appends world ticks old new
+    → (ys : List Y) (order : List ℕ) → AreCreated So ys order (outs_of old) → AreCreated Then ys order (outs_of new)
+stand_counted So Then held name faults appends world ticks keeps old new run ys order are = record {
+  size = are.size;
+  below = λ k clock there. subst (λ n. clock < n) (sym (many_mapped (λ (e : ClockEngine _). e.outs) new ∙ run.size ∙ sym (many_mapped (λ (e : ClockEngine _). e.outs) old))) (are.below k clock there);
+  each = λ m group there.
+      let found = before_at old new run.size m group there in
+      let ran = run.each m found.0 found.1 found.2 found.3 in
+      let zip = are.each m found.0.outs (mapped (λ (e : ClockEngine _). e.outs) old m found.0 found.2) in
+      subst (λ g. AllZip Then (of_clock m order ys) g) found.4
+      (zip_from Then (of_clock m order ys) found.1.outs (ran.outs ∙ zip_size So (of_clock m order ys) found.0.outs zip)
+      (λ j y after mine_at after_at.
+      let low = within found.1.outs j after after_at in
+      let size = ran.outs in
+      let before = in_list found.0.outs j (omega (arith, low, size)) in
+      keeps y after before.0 (ran.kept.each j before.0 after before.1 after_at).0 (ran.pieces.each j before.0 after before.1 after_at) (zip_at So (of_clock m order ys) found.0.outs j y before.0 zip mine_at before.1)));
+}
+
 -- the sinks of all clocks
 module _ {S : Type 0} (setting : Setting) (ticks : ℕ) (main : LieInMain setting setting.plan.sinks) where
   main_here : (engine : ClockEngine S) → setting_of engine.parts ≡ setting → LieInMain (setting_of engine.parts) (setting_of engine.parts).plan.sinks
@@ -248,7 +306,7 @@ module _ {S : Type 0} (setting : Setting) (ticks : ℕ) (main : LieInMain settin
         let zip = rooms.each m engine.outs (mapped (λ (e : ClockEngine S). e.outs) engines m engine there) in
         record {
           fresh = is.stands;
-          rooms = rooms_at (λ s. None) (λ s. None) (λ s. 0) ticks engine engine (main_here engine is.over) left
+          rooms = rooms_at (λ s. None) (λ s. None) (λ s. 0) (λ s. None) ticks engine engine (main_here engine is.over) left
               (λ j output out mine_at out_at.
               subst (λ s. HasRoom (left out) (body_size s output.wide ticks output.node)) (sym is.over)
               (zip_at (λ output sink. HasRoom (left sink) (body_size setting output.wide ticks output.node)) (of_clock m (order_of setting (written setting.plan.sinks)) (written setting.plan.sinks)) engine.outs j output out zip
@@ -259,21 +317,12 @@ module _ {S : Type 0} (setting : Setting) (ticks : ℕ) (main : LieInMain settin
     over = λ m engine there. (at.each m engine there).over;
   }
 
-  -- an engine before a run, at the place of one after it
-  before_at : (old new : List (ClockEngine S)) → length new ≡ length old → (m : ℕ) (group : List S) → slice_get (outs_of new) m ≡ Some group
-      → (before : ClockEngine S) × (after : ClockEngine S) × (slice_get old m ≡ Some before) × (slice_get new m ≡ Some after) × (after.outs ≡ group)
-  before_at old new size m group at =
-      let after = unmapped (λ (e : ClockEngine S). e.outs) new m group at in
-      let low = within new m after.0 after.1 in
-      let before = in_list old m (omega (arith, low, size)) in
-      (before.0, after.0, before.1, after.1, after.2)
-
-  module _ (name title held : S → Option (List ℕ)) (left : S → Option ℕ) (debt faults : S → ℕ) (alike : AreAlike name title debt) (files : Option Files) (old new : List (ClockEngine S)) (at : AreAt setting old)
+  module _ (name title held : S → Option (List ℕ)) (left : S → Option ℕ) (debt faults : S → ℕ) (appends : S → Option ℕ) (alike : AreAlike name title debt) (files : Option Files) (old new : List (ClockEngine S)) (at : AreAt setting old)
       (ready : AreCreated (IsReady title held left debt files setting ticks) (written setting.plan.sinks) (order_of setting (written setting.plan.sinks)) (outs_of old)) where
     same_many : length new ≡ length old → length (outs_of new) ≡ length (outs_of old)
     same_many size = many_mapped (λ (e : ClockEngine S). e.outs) new ∙ size ∙ sym (many_mapped (λ (e : ClockEngine S). e.outs) old)
 
-    pub all_whole : (answers : ℕ → List Answer) → HaveRunTicks held name faults (answered setting answers) ticks old new → AreCreated (IsWhole title held debt files (answered setting answers) ticks) (written setting.plan.sinks) (order_of setting (written setting.plan.sinks)) (outs_of new)
+    pub all_whole : (answers : ℕ → List Answer) → HaveRunTicks held name faults appends (answered setting answers) ticks old new → AreCreated (IsWhole title held debt files (answered setting answers) ticks) (written setting.plan.sinks) (order_of setting (written setting.plan.sinks)) (outs_of new)
     all_whole answers run = record {
       size = ready.size;
       below = λ k clock there. subst (λ n. clock < n) (sym (same_many run.size)) (ready.below k clock there);
@@ -290,7 +339,7 @@ module _ {S : Type 0} (setting : Setting) (ticks : ℕ) (main : LieInMain settin
           let size = ran.outs in
           let before = in_list found.0.outs j (omega (arith, low, size)) in
           let told = zip_at (IsReady title held left debt files setting ticks) (of_clock m (order_of setting (written setting.plan.sinks)) (written setting.plan.sinks)) found.0.outs j output before.0 zip mine_at before.1 in
-          let did = whole_at held name faults ticks found.0 found.1 (main_here found.0 is.over) (answered setting answers) ran j output before.0 after
+          let did = whole_at held name faults appends ticks found.0 found.1 (main_here found.0 is.over) (answered setting answers) ran j output before.0 after
           (ap (λ ws. slice_get ws j) (mine_is found.0 m is) ∙ mine_at) before.1 after_at in
           let same = alike after before.0 did.0 in
           record {
@@ -302,7 +351,7 @@ module _ {S : Type 0} (setting : Setting) (ticks : ℕ) (main : LieInMain settin
           }));
     }
 
-    pub all_part : (answers : (ℕ → List Answer) → ℕ → List Answer) (least most : ℕ → ℕ) → HaveRunPart held name faults (λ rest. answered setting (answers rest)) least most old new → (rest : ℕ → List Answer)
+    pub all_part : (answers : (ℕ → List Answer) → ℕ → List Answer) (least most : ℕ → ℕ) → HaveRunPart held name faults appends (λ rest. answered setting (answers rest)) least most old new → (rest : ℕ → List Answer)
         → AreCreated (IsPart title held faults files (answered setting (answers rest)) ticks least most) (written setting.plan.sinks) (order_of setting (written setting.plan.sinks)) (outs_of new)
     all_part answers least most run rest = record {
       size = ready.size;
@@ -322,9 +371,9 @@ module _ {S : Type 0} (setting : Setting) (ticks : ℕ) (main : LieInMain settin
           let before = in_list found.0.outs j (omega (arith, low, size)) in
           let told = zip_at (IsReady title held left debt files setting ticks) (of_clock m (order_of setting (written setting.plan.sinks)) (written setting.plan.sinks)) found.0.outs j output before.0 zip mine_at before.1 in
           let mine_here = ap (λ ws. slice_get ws j) (mine_is found.0 m is) ∙ mine_at in
-          let did = part_at held name faults ticks found.0 found.1 (main_here found.0 is.over) (λ more. answered setting (answers more)) (least m) (most m) ran rest j output before.0 after mine_here before.1 after_at in
+          let did = part_at held name faults appends ticks found.0 found.1 (main_here found.0 is.over) (λ more. answered setting (answers more)) (least m) (most m) ran rest j output before.0 after mine_here before.1 after_at in
           let lies : clock_of setting output.node ≡ Main m =
-          (λ i. clock_of (sym is.over i) output.node) ∙ lies_here held name faults ticks found.0 found.1 (main_here found.0 is.over) j output mine_here ∙ ap Main is.clock_is in
+          (λ i. clock_of (sym is.over i) output.node) ∙ lies_here held name faults appends ticks found.0 found.1 (main_here found.0 is.over) j output mine_here ∙ ap Main is.clock_is in
           let clock : main_clock world output.node ≡ m = ap (main_within world (length world.plan.nodes)) lies in
           let header = header_for setting output.wide ticks output.node in
           λ all here. record {
@@ -343,18 +392,18 @@ module _ {S : Type 0} (setting : Setting) (ticks : ℕ) (main : LieInMain settin
     }
 
 -- and keep their marks, if they did
-pub keep_after : {S : Type 0} (held name : S → Option (List ℕ)) (faults : S → ℕ) (world : Setting) (ticks : ℕ) (wanted : Bool) (old new : List (ClockEngine S)) → AreKeeping wanted old
-    → HaveRunTicks held name faults world ticks old new → AreKeeping wanted new
-keep_after held name faults world ticks wanted old new keep run is m after there =
+pub keep_after : {S : Type 0} (held name : S → Option (List ℕ)) (faults : S → ℕ) (appends : S → Option ℕ) (world : Setting) (ticks : ℕ) (wanted : Bool) (old new : List (ClockEngine S)) → AreKeeping wanted old
+    → HaveRunTicks held name faults appends world ticks old new → AreKeeping wanted new
+keep_after held name faults appends world ticks wanted old new keep run is m after there =
     let low = within new m after there in
     let size = run.size in
     let before = in_list old m (omega (arith, low, size)) in
     (run.each m before.0 after before.1 there).keeping ∙ keep is m before.0 before.1
 
 -- after a run the engines stand for its ticks
-pub stand_after : {S : Type 0} (held name : S → Option (List ℕ)) (faults : S → ℕ) (setting world : Setting) (ticks : ℕ) (old new : List (ClockEngine S)) → AreAt setting old
-    → HaveRunTicks held name faults world ticks old new → ArePast setting world ticks new
-stand_after held name faults setting world ticks old new at run = record {
+pub stand_after : {S : Type 0} (held name : S → Option (List ℕ)) (faults : S → ℕ) (appends : S → Option ℕ) (setting world : Setting) (ticks : ℕ) (old new : List (ClockEngine S)) → AreAt setting old
+    → HaveRunTicks held name faults appends world ticks old new → ArePast setting world ticks new
+stand_after held name faults appends setting world ticks old new at run = record {
   each = λ m after there.
       let low = within new m after there in
       let size = run.size in

@@ -33,21 +33,21 @@ pub record AreOpened {S : Type 0} (name held : S → Option (List ℕ)) (left : 
   pub many : length groups ≡ length engines
   pub taken : AreEmptyBelow (length engines) groups
 
--- The engines of so many clocks made all ticks, and this is their record: each stands for its ticks and has written their bytes, given
--- what the record's takes got, and these are the record's counts and logs.
-pub record RanAll {S : Type 0} (held name : S → Option (List ℕ)) (faults : S → ℕ) (setting : Setting) (clocks ticks : ℕ) (way : Way)
+-- The engines of so many clocks made all ticks, and this is their record: each stands for its ticks and has written their bytes, one piece
+-- for each tick, given what the record's takes got, and these are the record's counts and logs.
+pub record RanAll {S : Type 0} (held name : S → Option (List ℕ)) (faults : S → ℕ) (appends : S → Option ℕ) (setting : Setting) (clocks ticks : ℕ) (way : Way)
     (old new : List (ClockEngine S)) (counts : List Counts) (logs : List (List Answers)) : Type 0 where
   pub run : Run
   pub lawful : IsLawfulIn setting clocks ticks way run
-  pub engines : HaveRunTicks held name faults (setting_in setting run) ticks old new
+  pub engines : HaveRunTicks held name faults appends (setting_in setting run) ticks old new
   pub counts_are : counts ≡ counts_of_run run
   pub logs_are : logs ≡ map (map told) run.buffers
 
 -- The engines came so far, and this is their record: each has written its bytes of the ticks that it made, and a front of those of the one
 -- that it tried, whatever answers follow. A write that ended the run is one of a sink that failed.
-pub record RanSome {S : Type 0} (held name : S → Option (List ℕ)) (faults : S → ℕ) (setting : Setting) (clocks ticks : ℕ) (way : Way)
+pub record RanSome {S : Type 0} (held name : S → Option (List ℕ)) (faults : S → ℕ) (appends : S → Option ℕ) (setting : Setting) (clocks ticks : ℕ) (way : Way)
     (old new : List (ClockEngine S)) (end : End) : Type 0 where
   pub run : Run
   pub begun : IsBegunIn setting clocks ticks way run
-  pub part : HaveRunPart held name faults (setting_after way setting run) (made_in setting clocks ticks way run begun) (tried_in setting clocks ticks way run begun) old new
+  pub part : HaveRunPart held name faults appends (setting_after way setting run) (made_in setting clocks ticks way run begun) (tried_in setting clocks ticks way run begun) old new
   pub failed : (clock sink : ℕ) → end ≡ Write clock sink → HasFailed faults (outs_of new)

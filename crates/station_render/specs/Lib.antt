@@ -6,3 +6,4 @@ pub mod Engines
 pub mod Runs
 pub mod EngineRuns
 pub mod Marks
+pub mod Listed

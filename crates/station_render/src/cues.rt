@@ -4,7 +4,7 @@ ghost use Rattle.std.specs.Option.{ForSome};
 ghost use Rattle.frame_core.specs.Library.{name_of};
 ghost use Rattle.liq_base.specs.Counts.{Rose};
 ghost use Rattle.stations.specs.Cues.{cue_line, cue_name, cue_names_if, cue_names_in, cue_text, spaced};
-ghost use Rattle.stations.specs.Creations.{MadeFront, after_making};
+ghost use Rattle.stations.specs.Creations.{HaveClosed, MadeFront, after_making};
 ghost use Rattle.stations.specs.Outputs.{HoldsUpto, with_outputs};
 ghost use Rattle.station_render.specs.Marks.{cue_file, cue_files_by, cue_files_with, cue_of, cues_of};
 ghost use Rattle.station_render.specs.Renders.{written};
@@ -30,7 +30,8 @@ pub(crate) fn leave_wanted<S: Shelf>(
     ensures part { ForSome (S.files shelf.old) (λ files. IsSomeAnd (S.files shelf.new) (HoldsUpto files (cue_files_by job.now (cues_of marks.now)))) }
     ensures cause { IsErrOf result RenderFault.Write → Rose (S.write_count shelf.old) (S.write_count shelf.new) }
     ensures made { OnOk result (S.created shelf.new ≡ after_making (cue_names_if job.now.cues job.now.plan.now.sinks) (S.created shelf.old)) }
-    ensures front { MadeFront (cue_names_if job.now.cues job.now.plan.now.sinks) (S.created shelf.old) (S.created shelf.new) }
+    ensures closed { OnOk result (HaveClosed (cue_names_if job.now.cues job.now.plan.now.sinks) (S.closed shelf.old) (S.closed shelf.new)) }
+    ensures front { MadeFront (cue_names_if job.now.cues job.now.plan.now.sinks) (S.created shelf.old) (S.created shelf.new) (S.closed shelf.old) (S.closed shelf.new) }
     ensures reads { S.read_count shelf.old ≤ S.read_count shelf.new }
     ensures writes { S.write_count shelf.old ≤ S.write_count shelf.new }
 {
@@ -53,7 +54,8 @@ fn leave_cues<S: Shelf>(
     ensures part { ForSome (S.files shelf.old) (λ files. IsSomeAnd (S.files shelf.new) (HoldsUpto files (cue_files_with library.now plan.now.sinks (cues_of marks.now)))) }
     ensures cause { IsErrOf result RenderFault.Write → Rose (S.write_count shelf.old) (S.write_count shelf.new) }
     ensures made { OnOk result (S.created shelf.new ≡ after_making (cue_names_in plan.now.sinks) (S.created shelf.old)) }
-    ensures front { MadeFront (cue_names_in plan.now.sinks) (S.created shelf.old) (S.created shelf.new) }
+    ensures closed { OnOk result (HaveClosed (cue_names_in plan.now.sinks) (S.closed shelf.old) (S.closed shelf.new)) }
+    ensures front { MadeFront (cue_names_in plan.now.sinks) (S.created shelf.old) (S.created shelf.new) (S.closed shelf.old) (S.closed shelf.new) }
     ensures reads { S.read_count shelf.old ≤ S.read_count shelf.new }
     ensures writes { S.write_count shelf.old ≤ S.write_count shelf.new }
 {
@@ -80,7 +82,8 @@ fn leave_one<S: Shelf>(
     ensures part { ForSome (S.files shelf.old) (λ files. IsSomeAnd (S.files shelf.new) (HoldsUpto files (cue_file library.now name.now (map cue_of marks.now) ∷ []))) }
     ensures cause { IsErrOf result RenderFault.Write → Rose (S.write_count shelf.old) (S.write_count shelf.new) }
     ensures made { OnOk result (S.created shelf.new ≡ after_making (cue_name name.now ∷ []) (S.created shelf.old)) }
-    ensures front { MadeFront (cue_name name.now ∷ []) (S.created shelf.old) (S.created shelf.new) }
+    ensures closed { OnOk result (HaveClosed (cue_name name.now ∷ []) (S.closed shelf.old) (S.closed shelf.new)) }
+    ensures front { MadeFront (cue_name name.now ∷ []) (S.created shelf.old) (S.created shelf.new) (S.closed shelf.old) (S.closed shelf.new) }
     ensures reads { S.read_count shelf.old ≤ S.read_count shelf.new }
     ensures writes { S.write_count shelf.old ≤ S.write_count shelf.new }
 {

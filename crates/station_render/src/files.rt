@@ -1,10 +1,10 @@
 // A file that is written at once.
-ghost use Rattle.std.specs.Prelude.{◌≡◌, ◌≤◌, ◌∷◌, [], Some, IsErrOf, IsSomeAnd, OnErr, OnOk, length};
+ghost use Rattle.std.specs.Prelude.{◌≡◌, ◌≤◌, ◌∷◌, [], Some, IsErrOf, IsSomeAnd, OnErr, OnOk, is_some, length};
 ghost use Rattle.std.specs.Option.{ForSome};
 ghost use Rattle.liq_base.specs.Counts.{Rose};
 ghost use Rattle.liq_base.specs.Files.{HoldsPart, with_file};
 ghost use Rattle.liq_base.specs.Pieces.{HasRoom, Took, TookPart};
-ghost use Rattle.stations.specs.Creations.{MadeFront, after_making};
+ghost use Rattle.stations.specs.Creations.{HaveClosed, MadeFront, after_making};
 
 use crate::RenderFault;
 use liq_base::{Failed, Shelf, Sink};
@@ -20,7 +20,8 @@ pub(crate) fn write_file<S: Shelf>(
     ensures part { ForSome (S.files shelf.old) (λ files. IsSomeAnd (S.files shelf.new) (HoldsPart files name.now text.now)) }
     ensures cause { IsErrOf result RenderFault.Write → Rose (S.write_count shelf.old) (S.write_count shelf.new) }
     ensures made { OnOk result (S.created shelf.new ≡ after_making (name.now ∷ []) (S.created shelf.old)) }
-    ensures front { MadeFront (name.now ∷ []) (S.created shelf.old) (S.created shelf.new) }
+    ensures closed { OnOk result (HaveClosed (name.now ∷ []) (S.closed shelf.old) (S.closed shelf.new)) }
+    ensures front { MadeFront (name.now ∷ []) (S.created shelf.old) (S.created shelf.new) (S.closed shelf.old) (S.closed shelf.new) }
     ensures reads { S.read_count shelf.old ≤ S.read_count shelf.new }
     ensures writes { S.write_count shelf.old ≤ S.write_count shelf.new }
 {
@@ -38,6 +39,7 @@ fn append_any<O: Sink>(sink: &mut O, text: &[u8]) -> Result<(), Failed>
     ensures took { OnOk result (Took O.held O.room text.now sink.old sink.new) }
     ensures part { OnErr result (TookPart O.held O.room text.now sink.old sink.new) }
     ensures name { O.name sink.new ≡ O.name sink.old }
+    ensures counts { is_some (O.appends sink.new) ≡ is_some (O.appends sink.old) }
     ensures faults { O.faults sink.old ≤ O.faults sink.new }
     ensures cause { OnErr result (Rose (O.faults sink.old) (O.faults sink.new)) }
 {

@@ -1,9 +1,10 @@
 // A station is rendered.
-ghost use Rattle.std.specs.Prelude.{◌≡◌, ◌≤◌, ◌⊎◌, [], IfOk, IsErrOf, OnOk};
+ghost use Rattle.std.specs.Prelude.{◌≡◌, ◌≤◌, ◌+◌, ◌⊎◌, [], IfOk, IsErrOf, OnOk};
 ghost use Rattle.std.specs.Option.{ForSome};
 ghost use Rattle.liq_base.specs.Counts.{Rose};
-ghost use Rattle.stations.specs.Creations.{MadeFront, after_making, names_in, names_of};
+ghost use Rattle.stations.specs.Creations.{HaveClosed, HaveListed, MadeFront, after_making, names_in, names_of, output_closings};
 ghost use Rattle.stations.specs.Renderings.{WrotePart};
+ghost use Rattle.station_render.specs.Listed.{AreCounted, CreatedFront, HaveAllListed};
 ghost use Rattle.station_render.specs.OutputSinks.{owed, told};
 ghost use Rattle.station_render.specs.Sinks.{AreEmpty, HasFailed, lists_of};
 ghost use Rattle.station_render.specs.Runs.{IsFitting, IsRendered, RanPart, RanWhole, WroteOutputs, setting_by, station_again, station_alone, station_by};
@@ -48,7 +49,9 @@ pub fn render<S: Shelf, G: Gate + Sync, R: Threads + Wait + Sync>(
         (S.write_count shelf.old) (S.write_count shelf.new) files (S.files shelf.new)) }
     ensures cause { IsErrOf result RenderFault.Write → Rose (S.write_count shelf.old) (S.write_count shelf.new) }
     ensures made { OnOk result (S.created shelf.new ≡ after_making (names_of (station_by job.now threading.entry)) (S.created shelf.old)) }
-    ensures front { MadeFront (names_of (station_by job.now threading.entry)) (S.created shelf.old) (S.created shelf.new) }
+    ensures closed { OnOk result (HaveClosed (names_of (station_by job.now threading.entry)) (S.closed shelf.old) (S.closed shelf.new)) }
+    ensures pieces { OnOk result (HaveListed (output_closings (station_by job.now threading.entry)) (S.closed shelf.old) (S.closed shelf.new)) }
+    ensures front { MadeFront (names_of (station_by job.now threading.entry)) (S.created shelf.old) (S.created shelf.new) (S.closed shelf.old) (S.closed shelf.new) }
     ensures reads { S.read_count shelf.old ≤ S.read_count shelf.new }
     ensures writes { S.write_count shelf.old ≤ S.write_count shelf.new }
 {
@@ -69,7 +72,9 @@ pub fn render_alone<S: Shelf>(
         (S.write_count shelf.old) (S.write_count shelf.new) files (S.files shelf.new)) }
     ensures cause { IsErrOf result RenderFault.Write → Rose (S.write_count shelf.old) (S.write_count shelf.new) }
     ensures made { OnOk result (S.created shelf.new ≡ after_making (names_of (station_alone job.now)) (S.created shelf.old)) }
-    ensures front { MadeFront (names_of (station_alone job.now)) (S.created shelf.old) (S.created shelf.new) }
+    ensures closed { OnOk result (HaveClosed (names_of (station_alone job.now)) (S.closed shelf.old) (S.closed shelf.new)) }
+    ensures pieces { OnOk result (HaveListed (output_closings (station_alone job.now)) (S.closed shelf.old) (S.closed shelf.new)) }
+    ensures front { MadeFront (names_of (station_alone job.now)) (S.created shelf.old) (S.created shelf.new) (S.closed shelf.old) (S.closed shelf.new) }
     ensures reads { S.read_count shelf.old ≤ S.read_count shelf.new }
     ensures writes { S.write_count shelf.old ≤ S.write_count shelf.new }
 {
@@ -95,7 +100,9 @@ pub fn render_again<S: Shelf>(
         (S.write_count shelf.old) (S.write_count shelf.new) files (S.files shelf.new)) }
     ensures cause { IsErrOf result RenderFault.Write → Rose (S.write_count shelf.old) (S.write_count shelf.new) }
     ensures made { OnOk result (S.created shelf.new ≡ after_making (names_of (station_again job.now trace.now)) (S.created shelf.old)) }
-    ensures front { MadeFront (names_of (station_again job.now trace.now)) (S.created shelf.old) (S.created shelf.new) }
+    ensures closed { OnOk result (HaveClosed (names_of (station_again job.now trace.now)) (S.closed shelf.old) (S.closed shelf.new)) }
+    ensures pieces { OnOk result (HaveListed (output_closings (station_again job.now trace.now)) (S.closed shelf.old) (S.closed shelf.new)) }
+    ensures front { MadeFront (names_of (station_again job.now trace.now)) (S.created shelf.old) (S.created shelf.new) (S.closed shelf.old) (S.closed shelf.new) }
     ensures reads { S.read_count shelf.old ≤ S.read_count shelf.new }
     ensures writes { S.write_count shelf.old ≤ S.write_count shelf.new }
 {
@@ -119,7 +126,9 @@ fn render_outputs<S: Shelf, G: Gate + Sync, R: Threads + Wait + Sync>(
         (S.write_count shelf.old) (S.write_count shelf.new) files (S.files shelf.new)) }
     ensures cause { IsErrOf result RenderFault.Write → Rose (S.write_count shelf.old) (S.write_count shelf.new) }
     ensures made { OnOk result (S.created shelf.new ≡ after_making (names_in job.now.plan.now.sinks) (S.created shelf.old)) }
-    ensures front { MadeFront (names_in job.now.plan.now.sinks) (S.created shelf.old) (S.created shelf.new) }
+    ensures closed { OnOk result (HaveClosed (names_in job.now.plan.now.sinks) (S.closed shelf.old) (S.closed shelf.new)) }
+    ensures pieces { OnOk result (HaveAllListed (output_closings (station_by job.now threading.entry)) (S.closed shelf.old) (S.closed shelf.new)) }
+    ensures front { MadeFront (names_in job.now.plan.now.sinks) (S.created shelf.old) (S.created shelf.new) (S.closed shelf.old) (S.closed shelf.new) }
     ensures reads { S.read_count shelf.old ≤ S.read_count shelf.new }
     ensures writes { S.write_count shelf.old ≤ S.write_count shelf.new }
 {
@@ -150,7 +159,9 @@ fn render_outputs_alone<S: Shelf>(
         (S.write_count shelf.old) (S.write_count shelf.new) files (S.files shelf.new)) }
     ensures cause { IsErrOf result RenderFault.Write → Rose (S.write_count shelf.old) (S.write_count shelf.new) }
     ensures made { OnOk result (S.created shelf.new ≡ after_making (names_in job.now.plan.now.sinks) (S.created shelf.old)) }
-    ensures front { MadeFront (names_in job.now.plan.now.sinks) (S.created shelf.old) (S.created shelf.new) }
+    ensures closed { OnOk result (HaveClosed (names_in job.now.plan.now.sinks) (S.closed shelf.old) (S.closed shelf.new)) }
+    ensures pieces { OnOk result (HaveAllListed (output_closings (station_alone job.now)) (S.closed shelf.old) (S.closed shelf.new)) }
+    ensures front { MadeFront (names_in job.now.plan.now.sinks) (S.created shelf.old) (S.created shelf.new) (S.closed shelf.old) (S.closed shelf.new) }
     ensures reads { S.read_count shelf.old ≤ S.read_count shelf.new }
     ensures writes { S.write_count shelf.old ≤ S.write_count shelf.new }
 {
@@ -175,7 +186,9 @@ fn render_outputs_again<S: Shelf>(
         (S.write_count shelf.old) (S.write_count shelf.new) files (S.files shelf.new)) }
     ensures cause { IsErrOf result RenderFault.Write → Rose (S.write_count shelf.old) (S.write_count shelf.new) }
     ensures made { OnOk result (S.created shelf.new ≡ after_making (names_in job.now.plan.now.sinks) (S.created shelf.old)) }
-    ensures front { MadeFront (names_in job.now.plan.now.sinks) (S.created shelf.old) (S.created shelf.new) }
+    ensures closed { OnOk result (HaveClosed (names_in job.now.plan.now.sinks) (S.closed shelf.old) (S.closed shelf.new)) }
+    ensures pieces { OnOk result (HaveAllListed (output_closings (station_again job.now trace.now)) (S.closed shelf.old) (S.closed shelf.new)) }
+    ensures front { MadeFront (names_in job.now.plan.now.sinks) (S.created shelf.old) (S.created shelf.new) (S.closed shelf.old) (S.closed shelf.new) }
     ensures reads { S.read_count shelf.old ≤ S.read_count shelf.new }
     ensures writes { S.write_count shelf.old ≤ S.write_count shelf.new }
 {
@@ -205,7 +218,9 @@ fn write_by_threads<S: Shelf, G: Gate + Sync, R: Threads + Wait + Sync>(
     ensures cause { IsErrOf result RenderFault.Write → Rose (S.write_count shelf.old) (S.write_count shelf.new) ⊎ HasFailed (told S.Out.faults) (lists_of groups.new.items) }
     ensures files { S.files shelf.new ≡ S.files shelf.old }
     ensures made { OnOk result (S.created shelf.new ≡ after_making (names_in job.now.plan.now.sinks) (S.created shelf.old)) }
-    ensures front { MadeFront (names_in job.now.plan.now.sinks) (S.created shelf.old) (S.created shelf.new) }
+    ensures counted { OnOk result (AreCounted (told S.Out.name) (told S.Out.appends) (S.closed shelf.old) (1 + job.now.ticks) (names_in job.now.plan.now.sinks) order.new.items (lists_of groups.new.items)) }
+    ensures front { CreatedFront (told S.Out.name) (told S.Out.appends) (S.closed shelf.old) (names_in job.now.plan.now.sinks) (S.created shelf.old) (S.created shelf.new) order.new.items (lists_of groups.new.items) }
+    ensures closed { S.closed shelf.new ≡ S.closed shelf.old }
     ensures reads { S.read_count shelf.old ≤ S.read_count shelf.new }
     ensures writes { S.write_count shelf.old ≤ S.write_count shelf.new }
 {
@@ -239,7 +254,9 @@ fn write_alone<S: Shelf>(
     ensures cause { IsErrOf result RenderFault.Write → Rose (S.write_count shelf.old) (S.write_count shelf.new) ⊎ HasFailed (told S.Out.faults) (lists_of groups.new.items) }
     ensures files { S.files shelf.new ≡ S.files shelf.old }
     ensures made { OnOk result (S.created shelf.new ≡ after_making (names_in job.now.plan.now.sinks) (S.created shelf.old)) }
-    ensures front { MadeFront (names_in job.now.plan.now.sinks) (S.created shelf.old) (S.created shelf.new) }
+    ensures counted { OnOk result (AreCounted (told S.Out.name) (told S.Out.appends) (S.closed shelf.old) (1 + job.now.ticks) (names_in job.now.plan.now.sinks) order.new.items (lists_of groups.new.items)) }
+    ensures front { CreatedFront (told S.Out.name) (told S.Out.appends) (S.closed shelf.old) (names_in job.now.plan.now.sinks) (S.created shelf.old) (S.created shelf.new) order.new.items (lists_of groups.new.items) }
+    ensures closed { S.closed shelf.new ≡ S.closed shelf.old }
     ensures reads { S.read_count shelf.old ≤ S.read_count shelf.new }
     ensures writes { S.write_count shelf.old ≤ S.write_count shelf.new }
 {
@@ -267,7 +284,9 @@ fn write_again<S: Shelf>(
     ensures cause { IsErrOf result RenderFault.Write → Rose (S.write_count shelf.old) (S.write_count shelf.new) ⊎ HasFailed (told S.Out.faults) (lists_of groups.new.items) }
     ensures files { S.files shelf.new ≡ S.files shelf.old }
     ensures made { OnOk result (S.created shelf.new ≡ after_making (names_in job.now.plan.now.sinks) (S.created shelf.old)) }
-    ensures front { MadeFront (names_in job.now.plan.now.sinks) (S.created shelf.old) (S.created shelf.new) }
+    ensures counted { OnOk result (AreCounted (told S.Out.name) (told S.Out.appends) (S.closed shelf.old) (1 + job.now.ticks) (names_in job.now.plan.now.sinks) order.new.items (lists_of groups.new.items)) }
+    ensures front { CreatedFront (told S.Out.name) (told S.Out.appends) (S.closed shelf.old) (names_in job.now.plan.now.sinks) (S.created shelf.old) (S.created shelf.new) order.new.items (lists_of groups.new.items) }
+    ensures closed { S.closed shelf.new ≡ S.closed shelf.old }
     ensures reads { S.read_count shelf.old ≤ S.read_count shelf.new }
     ensures writes { S.write_count shelf.old ≤ S.write_count shelf.new }
 {

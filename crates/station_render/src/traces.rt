@@ -4,7 +4,7 @@ ghost use Rattle.std.specs.Option.{ForSome};
 ghost use Rattle.liq_base.specs.Counts.{Rose};
 ghost use Rattle.liq_base.specs.Files.{HoldsPart, with_file};
 ghost use Rattle.trace_log.specs.Texts.{IsTrace, trace_text};
-ghost use Rattle.stations.specs.Creations.{MadeFront, after_making, trace_name};
+ghost use Rattle.stations.specs.Creations.{HaveClosed, MadeFront, after_making, trace_name};
 ghost use Rattle.stations.specs.Outputs.{HoldsUpto, with_outputs};
 ghost use Rattle.stations.specs.Traces.{traced};
 ghost use Rattle.station_render.specs.Runs.{name_in};
@@ -34,7 +34,8 @@ pub(crate) fn leave_trace<S: Shelf>(
         (HoldsUpto files (traced (name_in threading.entry) (record { ticks = ticks; window = threading.entry.window; buffers = rendered.logs.items })))) }
     ensures cause { IsErrOf result RenderFault.Write → Rose (S.write_count shelf.old) (S.write_count shelf.new) }
     ensures made { OnOk result (S.created shelf.new ≡ after_making (trace_name (name_in threading.entry)) (S.created shelf.old)) }
-    ensures front { MadeFront (trace_name (name_in threading.entry)) (S.created shelf.old) (S.created shelf.new) }
+    ensures closed { OnOk result (HaveClosed (trace_name (name_in threading.entry)) (S.closed shelf.old) (S.closed shelf.new)) }
+    ensures front { MadeFront (trace_name (name_in threading.entry)) (S.created shelf.old) (S.created shelf.new) (S.closed shelf.old) (S.closed shelf.new) }
     ensures reads { S.read_count shelf.old ≤ S.read_count shelf.new }
     ensures writes { S.write_count shelf.old ≤ S.write_count shelf.new }
 {
@@ -76,7 +77,8 @@ fn write_trace<S: Shelf>(
     ensures part { ForSome (S.files shelf.old) (λ files. IsSomeAnd (S.files shelf.new) (HoldsPart files name.now (trace_text trace.now))) }
     ensures cause { IsErrOf result RenderFault.Write → Rose (S.write_count shelf.old) (S.write_count shelf.new) }
     ensures made { OnOk result (S.created shelf.new ≡ after_making (name.now ∷ []) (S.created shelf.old)) }
-    ensures front { MadeFront (name.now ∷ []) (S.created shelf.old) (S.created shelf.new) }
+    ensures closed { OnOk result (HaveClosed (name.now ∷ []) (S.closed shelf.old) (S.closed shelf.new)) }
+    ensures front { MadeFront (name.now ∷ []) (S.created shelf.old) (S.created shelf.new) (S.closed shelf.old) (S.closed shelf.new) }
     ensures reads { S.read_count shelf.old ≤ S.read_count shelf.new }
     ensures writes { S.write_count shelf.old ≤ S.write_count shelf.new }
 {

@@ -2,60 +2,107 @@
 use Rattle.std.proofs.Common.{◌≡◌, ◌∙◌, ◌++◌, ℕ, List, [], ◌∷◌, map, refl, ap, sym, append_assoc, Bool, true, false}
 use Rattle.std.specs.Prelude.{Option, Some, None}
 use Rattle.std.proofs.lemmas.List.{append-nil, map-append}
-use Rattle.liq_base.specs.Files.{noted}
+use Rattle.std.specs.Option.{ForSome}
+use Rattle.liq_base.specs.Files.{Closing, noted}
 use Rattle.plan_core.specs.declared.sink.SinkPlan.{SinkPlan}
 use Rattle.plan_core.specs.declared.sink.SinkPlan.TheVariants.{Output, Feed}
 use Rattle.stream_meaning.specs.Instants.{Setting}
 use Rattle.run_records.specs.Records.{Run}
 use Rattle.trace_log.specs.Values.{TraceValue}
 use Rattle.stations.specs.Cues.{cue_name, cue_names_if, cue_names_in, cues_if, cues_in}
-use Rattle.stations.specs.Creations.{AreNamesOfFiles, MadeFront, after_making, names_in, trace_name, trace_name_in}
+use Rattle.stations.specs.Creations.{AreNamesOfFiles, HaveClosed, HaveListed, MadeFront, after_making, names_in, trace_name, trace_name_in}
 use Rattle.stations.specs.Outputs.{OutputFile}
 use Rattle.stations.specs.Stations.{Station, Way, InRounds, InWindows, Again, setting_of_run}
 use Rattle.stations.specs.Streams.{outputs_in}
 use Rattle.stations.specs.Traces.{traced, traces_in}
 
 -- nothing more was made
-pub none_more : (told : Option (List (List ℕ))) → told ≡ after_making [] told
+pub none_more : {A : Type 0} (told : Option (List A)) → told ≡ after_making [] told
 none_more None = refl
 none_more (Some before) = ap Some (sym (append-nil before))
 
 -- one more was
-pub one_more : (name : List ℕ) (told : Option (List (List ℕ))) → noted name told ≡ after_making (name ∷ []) told
-one_more name None = refl
-one_more name (Some before) = refl
+pub one_more : {A : Type 0} (item : A) (told : Option (List A)) → noted item told ≡ after_making (item ∷ []) told
+one_more item None = refl
+one_more item (Some before) = refl
 
 -- these were, and then those
-pub both_made : (xs ys : List (List ℕ)) (told : Option (List (List ℕ))) → after_making ys (after_making xs told) ≡ after_making (xs ++ ys) told
+pub both_made : {A : Type 0} (xs ys : List A) (told : Option (List A)) → after_making ys (after_making xs told) ≡ after_making (xs ++ ys) told
 both_made xs ys None = refl
 both_made xs ys (Some before) = ap Some (append_assoc before xs ys)
 
-pub then_made : (xs ys : List (List ℕ)) (before between after : Option (List (List ℕ))) → between ≡ after_making xs before → after ≡ after_making ys between → after ≡ after_making (xs ++ ys) before
+pub then_made : {A : Type 0} (xs ys : List A) (before between after : Option (List A)) → between ≡ after_making xs before → after ≡ after_making ys between → after ≡ after_making (xs ++ ys) before
 then_made xs ys before between after first then_others = then_others ∙ ap (after_making ys) first ∙ both_made xs ys before
 
--- all of them are a front of them, and so are none
-pub all_made : (names : List (List ℕ)) (before after : Option (List (List ℕ))) → after ≡ after_making names before → MadeFront names before after
-all_made names before after is = record { made = names; others = []; names_are = sym (append-nil names); told = is }
+-- nothing more was closed
+pub none_closed : (before after : Option (List Closing)) → after ≡ before → HaveClosed [] before after
+none_closed before after same told at = record { closings = []; names_are = refl; told = same ∙ at ∙ ap Some (sym (append-nil told)) }
 
-pub none_made : (names : List (List ℕ)) (before after : Option (List (List ℕ))) → after ≡ before → MadeFront names before after
-none_made names before after is = record { made = []; others = names; names_are = refl; told = is ∙ none_more before }
+-- one more was
+pub one_closed : (name : List ℕ) (pieces : ℕ) (before after : Option (List Closing)) → after ≡ noted (record { name = name; pieces = pieces }) before → HaveClosed (name ∷ []) before after
+one_closed name pieces before after is told at = record {
+  closings = (record { name = name; pieces = pieces }) ∷ [];
+  names_are = refl;
+  told = is ∙ ap (noted (record { name = name; pieces = pieces })) at;
+}
+
+-- these were, and then those
+pub then_closed : (xs ys : List (List ℕ)) (before between after : Option (List Closing)) → HaveClosed xs before between → HaveClosed ys between after → HaveClosed (xs ++ ys) before after
+then_closed xs ys before between after first others told at =
+    let one = first told at in
+    let more = others (told ++ one.closings) one.told in
+    record {
+      closings = one.closings ++ more.closings;
+      names_are = map-append (λ (closing : Closing). closing.name) one.closings more.closings ∙ (λ i. one.names_are i ++ more.names_are i);
+      told = more.told ∙ ap Some (append_assoc told one.closings more.closings);
+    }
+
+-- all of some outputs, and then others
+pub listed_all : (closings : List Closing) (before after : Option (List Closing)) → ForSome before (λ told. after ≡ Some (told ++ closings)) → HaveListed closings before after
+listed_all closings before after listed told at = record { more = []; told = listed told at ∙ ap Some (sym (append-nil (told ++ closings))) }
+
+pub listed_then : (closings : List Closing) (names : List (List ℕ)) (before between after : Option (List Closing)) → HaveListed closings before between → HaveClosed names between after → HaveListed closings before after
+listed_then closings names before between after first others told at =
+    let one = first told at in
+    let more = others ((told ++ closings) ++ one.more) one.told in
+    record { more = one.more ++ more.closings; told = more.told ∙ ap Some (append_assoc (told ++ closings) one.more more.closings) }
+
+-- all of them are a front of them, and so are none
+pub all_made : (names : List (List ℕ)) (before after : Option (List (List ℕ))) (closed_before closed_after : Option (List Closing)) → after ≡ after_making names before → HaveClosed names closed_before closed_after
+    → MadeFront names before after closed_before closed_after
+all_made names before after closed_before closed_after is closed = record { made = names; others = []; names_are = sym (append-nil names); told = is; closed = closed }
+
+pub none_made : (names : List (List ℕ)) (before after : Option (List (List ℕ))) (closed_before closed_after : Option (List Closing)) → after ≡ before → closed_after ≡ closed_before
+    → MadeFront names before after closed_before closed_after
+none_made names before after closed_before closed_after is same = record {
+  made = [];
+  others = names;
+  names_are = refl;
+  told = is ∙ none_more before;
+  closed = none_closed closed_before closed_after same;
+}
 
 -- a front is one of more names
-pub front_made : (names more : List (List ℕ)) (before after : Option (List (List ℕ))) → MadeFront names before after → MadeFront (names ++ more) before after
-front_made names more before after front = record {
+pub front_made : (names more : List (List ℕ)) (before after : Option (List (List ℕ))) (closed_before closed_after : Option (List Closing)) → MadeFront names before after closed_before closed_after
+    → MadeFront (names ++ more) before after closed_before closed_after
+front_made names more before after closed_before closed_after front = record {
   made = front.made;
   others = front.others ++ more;
   names_are = ap (λ ns. ns ++ more) front.names_are ∙ append_assoc front.made front.others more;
   told = front.told;
+  closed = front.closed;
 }
 
 -- all of some names, and then a front of others
-pub then_front : (names more : List (List ℕ)) (before between after : Option (List (List ℕ))) → between ≡ after_making names before → MadeFront more between after → MadeFront (names ++ more) before after
-then_front names more before between after first front = record {
+pub then_front : (names more : List (List ℕ)) (before between after : Option (List (List ℕ))) (closed_before closed_between closed_after : Option (List Closing))
+    → between ≡ after_making names before → HaveClosed names closed_before closed_between → MadeFront more between after closed_between closed_after
+    → MadeFront (names ++ more) before after closed_before closed_after
+then_front names more before between after closed_before closed_between closed_after first closed front = record {
   made = names ++ front.made;
   others = front.others;
   names_are = ap (λ ns. names ++ ns) front.names_are ∙ sym (append_assoc names front.made front.others);
   told = then_made names front.made before between after first front.told;
+  closed = then_closed names front.made closed_before closed_between closed_after closed front.closed;
 }
 
 -- the names of two rows of sinks

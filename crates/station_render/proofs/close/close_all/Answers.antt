@@ -34,3 +34,17 @@ pub returns-clause-well : goal.returns-clause-well
 returns-clause-well g c =
     let is : c.args.wrote ≡ Ok c.in_ok-rendered.rendered = c.branch-rendered.ensures ∙ (rw c.in_ok-rendered.is refl) in
     ap is_ok is
+
+pub returns-in_err-rendered-clause-closed : goal.returns-in_err-rendered-clause-closed
+returns-in_err-rendered-clause-closed g c = c.close_each-closed.ensures.closed
+
+pub returns-in_err-closed-clause-closed : goal.returns-in_err-closed-clause-closed
+returns-in_err-closed-clause-closed g c = c.close_each-closed.ensures.closed
+
+pub returns-clause-closed : goal.returns-clause-closed
+returns-clause-closed g c = c.close_each-closed.ensures.closed
+
+pub returns-clause-pieces : goal.returns-clause-pieces
+returns-clause-pieces g c =
+    let is : c.args.wrote ≡ Ok c.in_ok-rendered.rendered = c.branch-rendered.ensures ∙ (rw c.in_ok-rendered.is refl) in
+    c.in_ok-closed.ensures.pieces (c.is_ok.ensures.value ∙ ap is_ok is)

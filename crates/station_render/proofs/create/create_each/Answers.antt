@@ -1,4 +1,4 @@
-use Rattle.std.proofs.Common.{arith, List, ◌≡◌, ◌<◌, ◌≤◌, ◌+◌, ◌∙◌, length, take, slice_get, slice_index_or, ap, sym, subst}
+use Rattle.std.proofs.Common.{arith, List, ◌≡◌, ◌<◌, ◌≤◌, ◌+◌, ◌∙◌, ◌⊎◌, length, take, slice_get, slice_index_or, ap, sym, subst}
 use Rattle.std.specs.Prelude.{Some}
 use Rattle.plan_core.specs.declared.sink.SinkPlan.{SinkPlan}
 use Rattle.plan_core.specs.declared.sink.SinkPlan.TheVariants.{Output, Feed}
@@ -8,8 +8,10 @@ use Rattle.station_render.specs.Renders.{order_of, setting_for, written}
 use Rattle.station_render.proofs.Lists.{got}
 use Rattle.station_render.proofs.Fits.{are_main, clock_below, header_fits}
 use Rattle.station_render.proofs.Creating.{added_many, begun_here, broken_off, created_by, next_ready, order_more, take_whole, written_next, written_still}
-use Rattle.station_render.proofs.Naming.{front_next, made_next, made_still, made_whole}
-use Rattle.stations.proofs.Making.{all_made}
+use Rattle.station_render.proofs.Naming.{made_next, made_still, made_whole, names_next, names_still}
+use Rattle.stations.specs.Creations.{names_in}
+use Rattle.station_render.specs.Listed.{NoneListed, WasListed}
+use Rattle.station_render.proofs.Listing.{all_created, are_telling, counted_more, counted_of, some_created}
 use Rattle.station_render.proofs.create.create_each.Goals as goal
 
 pub loop-sink-preserved-in_default : goal.loop-sink-preserved-in_default
@@ -26,6 +28,9 @@ loop-sink-preserved-in_default g c =
       size = c.loop-sink.invariant.size;
       files = c.loop-sink.invariant.files;
       made = made_still c.args.plan.now.sinks c.loop-sink.sink-index _ _ c.loop-sink.invariant.made c.in_default.field-0 c.in_default.field-1 at;
+      counted = counted_of (told g.S.Out.Sink.name) (told g.S.Out.Sink.appends) (g.S.Shelf.closed c.args.shelf.now) 1 _ _ _ _ (names_still c.args.plan.now.sinks c.loop-sink.sink-index c.in_default.field-0 c.in_default.field-1 at)
+          c.loop-sink.invariant.counted;
+      closed = c.loop-sink.invariant.closed;
       reads = c.loop-sink.invariant.reads;
       writes = c.loop-sink.invariant.writes;
     }
@@ -78,6 +83,8 @@ loop-sink-preserved g c =
     let below = clock_below c.args.plan.now c.requires.fit.0 c.args.clocks.now c.args.ticks c.requires.fit.1 c.loop-sink.sink-index c.in-Output.name c.in-Output.node c.in-Output.fallible c.in-Output.wide at
     c.opening_of-opening.result.clock c.opening_of-opening.ensures.clock (length (lists_of c.loop-sink.groups.items)) c.loop-sink.invariant.size in
     let made = c.in_ok-create_one.ensures.created in
+    let listed = subst (λ closed. WasListed (told g.S.Out.Sink.name) (told g.S.Out.Sink.appends) closed c.opening_of-opening.result.clock c.as_str.result.now (g.S.Shelf.created c.loop-sink.shelf) (g.S.Shelf.created c.create_one.new.shelf)
+    c.loop-sink.order.items c.create_one.new.order.items (lists_of c.loop-sink.groups.items) (lists_of c.create_one.new.groups.items)) c.loop-sink.invariant.closed c.in_ok-create_one.ensures.listed in
     record {
       created = λ library start. next_ready (told g.S.Out.Sink.name) (told g.S.Out.Sink.held) (spared g.S.Out.Sink.room) (owed g.S.Out.Sink.room) (told g.S.Out.Sink.faults) (g.S.Shelf.files c.args.shelf.now) (g.S.Shelf.files c.loop-sink.shelf) c.loop-sink.invariant.files
           (setting_for c.args.plan.now library c.args.clocks.now start) c.args.ticks c.loop-sink.sink-index c.in-Output.name c.as_str.result.now c.in-Output.node c.in-Output.fallible c.in-Output.wide at c.as_str.ensures.same
@@ -90,7 +97,11 @@ loop-sink-preserved g c =
       size = added_many c.opening_of-opening.result.clock made.sink (lists_of c.loop-sink.groups.items) (lists_of c.create_one.new.groups.items) made.added ∙ c.loop-sink.invariant.size;
       files = c.create_one.ensures.files ∙ c.loop-sink.invariant.files;
       made = made_next c.args.plan.now.sinks c.loop-sink.sink-index _ _ c.loop-sink.invariant.made c.in-Output.name c.as_str.result.now c.in-Output.node c.in-Output.fallible c.in-Output.wide at c.as_str.ensures.same _
-          c.in_ok-create_one.ensures.made;
+          listed.told;
+      counted = counted_of (told g.S.Out.Sink.name) (told g.S.Out.Sink.appends) (g.S.Shelf.closed c.args.shelf.now) 1 _ _ _ _ (names_next c.args.plan.now.sinks c.loop-sink.sink-index c.in-Output.name c.in-Output.node c.in-Output.fallible c.in-Output.wide at)
+          (counted_more (told g.S.Out.Sink.name) (told g.S.Out.Sink.appends) (g.S.Shelf.closed c.args.shelf.now) (names_in (take c.loop-sink.sink-index c.args.plan.now.sinks)) c.opening_of-opening.result.clock c.in-Output.name c.as_str.result.now
+          _ _ _ _ _ _ below c.as_str.ensures.same c.loop-sink.invariant.counted listed);
+      closed = c.create_one.ensures.closed ∙ c.loop-sink.invariant.closed;
       reads = omega (arith, c.create_one.ensures.reads, c.loop-sink.invariant.reads);
       writes = omega (arith, c.create_one.ensures.writes, c.loop-sink.invariant.writes);
     }
@@ -116,14 +127,27 @@ returns-in_err-create_one-clause-front g c =
     let item : c.sink-item.result ≡ slice_index_or c.args.plan.now.sinks c.loop-sink.sink-index c.sink-item.result = c.sink-item.is ∙ ap (λ (xs : List SinkPlan). slice_index_or xs c.loop-sink.sink-index c.sink-item.result) c.as_slice-sink-items.ensures in
     let at : slice_get c.args.plan.now.sinks c.loop-sink.sink-index ≡ Some (Output c.in-Output.name c.in-Output.node c.in-Output.fallible c.in-Output.wide) =
     got c.args.plan.now.sinks c.loop-sink.sink-index c.sink-item.result low ∙ ap Some (sym item ∙ c.in-Output.is) in
-    front_next c.args.plan.now.sinks c.loop-sink.sink-index _ _ c.loop-sink.invariant.made c.in-Output.name c.as_str.result.now c.in-Output.node c.in-Output.fallible c.in-Output.wide at c.as_str.ensures.same _ c.create_one.ensures.front
+    let below = clock_below c.args.plan.now c.requires.fit.0 c.args.clocks.now c.args.ticks c.requires.fit.1 c.loop-sink.sink-index c.in-Output.name c.in-Output.node c.in-Output.fallible c.in-Output.wide at
+    c.opening_of-opening.result.clock c.opening_of-opening.ensures.clock (length (lists_of c.loop-sink.groups.items)) c.loop-sink.invariant.size in
+    some_created (told g.S.Out.Sink.name) (told g.S.Out.Sink.appends) (g.S.Shelf.closed c.args.shelf.now) c.args.plan.now.sinks c.loop-sink.sink-index _ _ _ _ _ _ _ c.opening_of-opening.result.clock c.in-Output.name c.as_str.result.now
+    c.in-Output.node c.in-Output.fallible c.in-Output.wide at c.as_str.ensures.same below c.loop-sink.invariant.made c.loop-sink.invariant.counted
+    (subst (λ closed. NoneListed (g.S.Shelf.created c.loop-sink.shelf) (g.S.Shelf.created c.create_one.new.shelf) c.loop-sink.order.items c.create_one.new.order.items (lists_of c.loop-sink.groups.items) (lists_of c.create_one.new.groups.items)
+    ⊎ WasListed (told g.S.Out.Sink.name) (told g.S.Out.Sink.appends) closed c.opening_of-opening.result.clock c.as_str.result.now (g.S.Shelf.created c.loop-sink.shelf) (g.S.Shelf.created c.create_one.new.shelf)
+    c.loop-sink.order.items c.create_one.new.order.items (lists_of c.loop-sink.groups.items) (lists_of c.create_one.new.groups.items)) c.loop-sink.invariant.closed c.in_err-create_one.ensures.unlisted)
 
 pub returns-clause-made : goal.returns-clause-made
 returns-clause-made g c =
     let all : length c.args.plan.now.sinks ≤ c.loop-sink.sink-index = subst (λ (xs : List SinkPlan). length xs ≤ c.loop-sink.sink-index) c.as_slice-sink-items.ensures c.loop-sink-test.false in
     made_whole c.args.plan.now.sinks c.loop-sink.sink-index _ _ c.loop-sink.invariant.made all
 
+pub returns-clause-counted : goal.returns-clause-counted
+returns-clause-counted g c =
+    let all : length c.args.plan.now.sinks ≤ c.loop-sink.sink-index = subst (λ (xs : List SinkPlan). length xs ≤ c.loop-sink.sink-index) c.as_slice-sink-items.ensures c.loop-sink-test.false in
+    counted_of (told g.S.Out.Sink.name) (told g.S.Out.Sink.appends) (g.S.Shelf.closed c.args.shelf.now) 1 _ _ _ _ (sym (ap names_in (take_whole c.args.plan.now.sinks c.loop-sink.sink-index all))) c.loop-sink.invariant.counted
+
 pub returns-clause-front : goal.returns-clause-front
 returns-clause-front g c =
     let all : length c.args.plan.now.sinks ≤ c.loop-sink.sink-index = subst (λ (xs : List SinkPlan). length xs ≤ c.loop-sink.sink-index) c.as_slice-sink-items.ensures c.loop-sink-test.false in
-    all_made _ _ _ (made_whole c.args.plan.now.sinks c.loop-sink.sink-index _ _ c.loop-sink.invariant.made all)
+    all_created (told g.S.Out.Sink.name) (told g.S.Out.Sink.appends) (g.S.Shelf.closed c.args.shelf.now) _ _ _ _ _ (made_whole c.args.plan.now.sinks c.loop-sink.sink-index _ _ c.loop-sink.invariant.made all)
+    (are_telling (told g.S.Out.Sink.name) (told g.S.Out.Sink.appends) (g.S.Shelf.closed c.args.shelf.now) 1 _ _ _
+    (counted_of (told g.S.Out.Sink.name) (told g.S.Out.Sink.appends) (g.S.Shelf.closed c.args.shelf.now) 1 _ _ _ _ (sym (ap names_in (take_whole c.args.plan.now.sinks c.loop-sink.sink-index all))) c.loop-sink.invariant.counted))

@@ -1,9 +1,9 @@
-use Rattle.std.proofs.Common.{rules, arith, ◌≡◌, ◌<◌, ◌++◌, ◌∷◌, [], length, sym, subst, inr, ◌∙◌, refl}
+use Rattle.std.proofs.Common.{rules, arith, ◌≡◌, ◌<◌, ◌++◌, ◌∷◌, [], length, sym, subst, inl, inr, refl}
 use Rattle.station_render.specs.OutputSinks.{told}
 use Rattle.station_render.specs.Sinks.{lists_of}
 use Rattle.station_render.proofs.Closing.{on_err_so}
 use Rattle.station_render.proofs.Creating.{added_failed, was_broken, was_created}
-use Rattle.stations.proofs.Making.{all_made, none_made, one_more}
+use Rattle.station_render.proofs.Listing.{was_listed}
 use Rattle.station_render.proofs.create.create_one.Goals as goal
 
 pub returns-in_err-wrote-clause-cause : goal.returns-in_err-wrote-clause-cause
@@ -12,23 +12,22 @@ returns-in_err-wrote-clause-cause g c =
     let failed : 0 < g.S.Out.Sink.faults c.append-wrote.new.self = search (rules, arith) in
     λ e. inr (added_failed (told g.S.Out.Sink.faults) c.args.opening.now.clock _ (lists_of c.reserve_one.new.groups.items) (lists_of c.add_one.new.groups.items) low c.add_one.ensures failed)
 
-pub returns-in_err-reserve-clause-front : goal.returns-in_err-reserve-clause-front
-returns-in_err-reserve-clause-front g c = none_made _ _ _ refl
+pub returns-in_err-sink-clause-unlisted : goal.returns-in_err-sink-clause-unlisted
+returns-in_err-sink-clause-unlisted g c = on_err_so _ _ (inl (record { order_is = search rules; same = c.reserve_one.ensures.same; told = c.in_err-sink.ensures.unnoted }))
 
-pub returns-in_err-reserve_one-clause-front : goal.returns-in_err-reserve_one-clause-front
-returns-in_err-reserve_one-clause-front g c = none_made _ _ _ refl
+pub returns-in_err-wrote-clause-unlisted : goal.returns-in_err-wrote-clause-unlisted
+returns-in_err-wrote-clause-unlisted g c =
+    let more : c.push.new.self.items ≡ c.args.order.now.items ++ c.args.opening.now.clock ∷ [] = search rules in
+    on_err_so _ _ (inr (was_listed g.S.Out.Sink.name g.S.Out.Sink.appends (g.S.Shelf.closed c.args.shelf.now) c.args.name.now c.in_ok-sink.sink c.append-wrote.new.self c.in_ok-sink.ensures.named c.in_ok-sink.ensures.name
+    c.in_ok-sink.ensures.appends c.append-wrote.ensures.name c.append-wrote.ensures.once _ c.args.opening.now.clock _ _ c.in_ok-sink.ensures.noted
+    _ _ _ _ _ more c.reserve_one.ensures.same c.add_one.ensures))
 
-pub returns-in_err-sink-clause-front : goal.returns-in_err-sink-clause-front
-returns-in_err-sink-clause-front g c = none_made _ _ _ c.in_err-sink.ensures.unnoted
-
-pub returns-in_err-wrote-clause-front : goal.returns-in_err-wrote-clause-front
-returns-in_err-wrote-clause-front g c = all_made _ _ _ (c.in_ok-sink.ensures.noted ∙ one_more c.args.name.now _)
-
-pub returns-clause-front : goal.returns-clause-front
-returns-clause-front g c = all_made _ _ _ (c.in_ok-sink.ensures.noted ∙ one_more c.args.name.now _)
-
-pub returns-clause-made : goal.returns-clause-made
-returns-clause-made g c = c.in_ok-sink.ensures.noted ∙ one_more c.args.name.now _
+pub returns-clause-listed : goal.returns-clause-listed
+returns-clause-listed g c =
+    let more : c.push.new.self.items ≡ c.args.order.now.items ++ c.args.opening.now.clock ∷ [] = search rules in
+    was_listed g.S.Out.Sink.name g.S.Out.Sink.appends (g.S.Shelf.closed c.args.shelf.now) c.args.name.now c.in_ok-sink.sink c.append-wrote.new.self c.in_ok-sink.ensures.named c.in_ok-sink.ensures.name
+    c.in_ok-sink.ensures.appends c.append-wrote.ensures.name c.append-wrote.ensures.once _ c.args.opening.now.clock _ _ c.in_ok-sink.ensures.noted
+    _ _ _ _ _ more c.reserve_one.ensures.same c.add_one.ensures
 
 pub returns-clause-created : goal.returns-clause-created
 returns-clause-created g c =

@@ -5,7 +5,7 @@ use Rattle.plan_core.specs.declared.sink.SinkPlan.TheVariants.{Output, Feed}
 use Rattle.station_render.specs.Marks.{cues_of}
 use Rattle.station_render.proofs.Lists.{got}
 use Rattle.station_render.proofs.Creating.{written_still}
-use Rattle.station_render.proofs.CueFiles.{cues_front, cues_next, cues_still, files_next, files_part, files_still, files_upto, files_whole, marks_at, named_as, part_named_as}
+use Rattle.station_render.proofs.CueFiles.{closed_next, closed_still, cues_front, cues_next, cues_still, files_next, files_part, files_still, files_upto, files_whole, marks_at, named_as, part_named_as}
 use Rattle.station_render.proofs.Reporting.{one_place, place_below}
 use Rattle.station_render.proofs.cues.leave_cues.Goals as goal
 
@@ -19,6 +19,7 @@ loop-sink-preserved-in_default g c =
       place = c.loop-sink.invariant.place ∙ sym (ap length (written_still c.args.plan.now.sinks c.loop-sink.sink-index c.in_default.field-0 c.in_default.field-1 at));
       files = files_still c.args.library.now c.args.plan.now.sinks (cues_of c.args.marks.now) c.loop-sink.sink-index _ _ c.loop-sink.invariant.files c.in_default.field-0 c.in_default.field-1 at;
       made = cues_still c.args.plan.now.sinks c.loop-sink.sink-index _ _ c.loop-sink.invariant.made c.in_default.field-0 c.in_default.field-1 at;
+      closed = closed_still c.args.plan.now.sinks c.loop-sink.sink-index _ _ c.loop-sink.invariant.closed c.in_default.field-0 c.in_default.field-1 at;
       reads = c.loop-sink.invariant.reads;
       writes = c.loop-sink.invariant.writes;
     }
@@ -70,7 +71,7 @@ returns-in_err-leave_one-clause-front g c =
     let item : c.sink-item.result ≡ slice_index_or c.args.plan.now.sinks c.loop-sink.sink-index c.sink-item.result = c.sink-item.is ∙ ap (λ (xs : List SinkPlan). slice_index_or xs c.loop-sink.sink-index c.sink-item.result) c.as_slice-sink-items.ensures in
     let at : slice_get c.args.plan.now.sinks c.loop-sink.sink-index ≡ Some (Output c.in-Output.name c.in-Output.node c.in-Output.fallible c.in-Output.wide) =
     got c.args.plan.now.sinks c.loop-sink.sink-index c.sink-item.result low ∙ ap Some (sym item ∙ c.in-Output.is) in
-    cues_front c.args.plan.now.sinks c.loop-sink.sink-index _ _ c.loop-sink.invariant.made c.in-Output.name c.as_str.result.now c.in-Output.node c.in-Output.fallible c.in-Output.wide at c.as_str.ensures.same _ c.leave_one.ensures.front
+    cues_front c.args.plan.now.sinks c.loop-sink.sink-index _ _ c.loop-sink.invariant.made c.in-Output.name c.as_str.result.now c.in-Output.node c.in-Output.fallible c.in-Output.wide at c.as_str.ensures.same _ _ _ _ c.loop-sink.invariant.closed c.leave_one.ensures.front
 
 pub loop-sink-preserved : goal.loop-sink-preserved
 loop-sink-preserved g c =
@@ -86,6 +87,7 @@ loop-sink-preserved g c =
       files = files_next c.args.library.now c.args.plan.now.sinks (cues_of c.args.marks.now) c.loop-sink.sink-index _ _ c.loop-sink.invariant.files c.in-Output.name c.in-Output.node c.in-Output.fallible c.in-Output.wide at _ there _
           (named_as c.args.library.now c.as_str.result.now c.in-Output.name c.as_str.ensures.same _ _ _ c.in_ok-leave_one.ensures.written);
       made = cues_next c.args.plan.now.sinks c.loop-sink.sink-index _ _ c.loop-sink.invariant.made c.in-Output.name c.as_str.result.now c.in-Output.node c.in-Output.fallible c.in-Output.wide at c.as_str.ensures.same _ c.in_ok-leave_one.ensures.made;
+      closed = closed_next c.args.plan.now.sinks c.loop-sink.sink-index _ _ c.loop-sink.invariant.closed c.in-Output.name c.as_str.result.now c.in-Output.node c.in-Output.fallible c.in-Output.wide at c.as_str.ensures.same _ c.in_ok-leave_one.ensures.closed;
       reads = omega (arith, c.leave_one.ensures.reads, c.loop-sink.invariant.reads);
       writes = omega (arith, c.leave_one.ensures.writes, c.loop-sink.invariant.writes);
     }

@@ -2,6 +2,7 @@ use Rattle.std.proofs.Common.{rules, arith, ◌<◌, ◌∙◌}
 use Rattle.liq_base.specs.Kept.{rose_within}
 use Rattle.station_render.proofs.Writing.{kept_part, part_left, took_whole, whole_left}
 use Rattle.stations.proofs.Making.{all_made, none_made, one_more}
+use Rattle.station_render.proofs.Listing.{closed_file}
 use Rattle.station_render.proofs.files.write_file.Goals as goal
 
 pub returns-in_err-sink-clause-part : goal.returns-in_err-sink-clause-part
@@ -39,16 +40,27 @@ returns-clause-written g c =
     c.in_ok-sink.ensures.tells c.in_ok-sink.ensures.name c.in_ok-sink.ensures.held c.append_any-wrote.ensures.name c.in_ok-wrote.ensures.took c.in_ok-closed.ensures.closed
 
 pub returns-in_err-sink-clause-front : goal.returns-in_err-sink-clause-front
-returns-in_err-sink-clause-front g c = none_made _ _ _ c.in_err-sink.ensures.unnoted
+returns-in_err-sink-clause-front g c = none_made _ _ _ _ _ c.in_err-sink.ensures.unnoted c.create.ensures.closed
 
 pub returns-in_err-wrote-clause-front : goal.returns-in_err-wrote-clause-front
-returns-in_err-wrote-clause-front g c = all_made _ _ _ (c.close-closed.ensures.created ∙ c.in_ok-sink.ensures.noted ∙ one_more c.args.name.now _)
+returns-in_err-wrote-clause-front g c = all_made _ _ _ _ _ (c.close-closed.ensures.created ∙ c.in_ok-sink.ensures.noted ∙ one_more c.args.name.now _)
+    (closed_file g.S.Out.Sink.name g.S.Out.Sink.appends c.args.name.now c.in_ok-sink.sink c.append_any-wrote.new.sink _ _ _ c.create.ensures.closed c.in_ok-sink.ensures.named c.in_ok-sink.ensures.name
+    c.append_any-wrote.ensures.name c.append_any-wrote.ensures.counts c.close-closed.ensures.listed)
 
 pub returns-in_err-closed-clause-front : goal.returns-in_err-closed-clause-front
-returns-in_err-closed-clause-front g c = all_made _ _ _ (c.close-closed.ensures.created ∙ c.in_ok-sink.ensures.noted ∙ one_more c.args.name.now _)
+returns-in_err-closed-clause-front g c = all_made _ _ _ _ _ (c.close-closed.ensures.created ∙ c.in_ok-sink.ensures.noted ∙ one_more c.args.name.now _)
+    (closed_file g.S.Out.Sink.name g.S.Out.Sink.appends c.args.name.now c.in_ok-sink.sink c.append_any-wrote.new.sink _ _ _ c.create.ensures.closed c.in_ok-sink.ensures.named c.in_ok-sink.ensures.name
+    c.append_any-wrote.ensures.name c.append_any-wrote.ensures.counts c.close-closed.ensures.listed)
 
 pub returns-clause-front : goal.returns-clause-front
-returns-clause-front g c = all_made _ _ _ (c.close-closed.ensures.created ∙ c.in_ok-sink.ensures.noted ∙ one_more c.args.name.now _)
+returns-clause-front g c = all_made _ _ _ _ _ (c.close-closed.ensures.created ∙ c.in_ok-sink.ensures.noted ∙ one_more c.args.name.now _)
+    (closed_file g.S.Out.Sink.name g.S.Out.Sink.appends c.args.name.now c.in_ok-sink.sink c.append_any-wrote.new.sink _ _ _ c.create.ensures.closed c.in_ok-sink.ensures.named c.in_ok-sink.ensures.name
+    c.append_any-wrote.ensures.name c.append_any-wrote.ensures.counts c.close-closed.ensures.listed)
+
+pub returns-clause-closed : goal.returns-clause-closed
+returns-clause-closed g c =
+    closed_file g.S.Out.Sink.name g.S.Out.Sink.appends c.args.name.now c.in_ok-sink.sink c.append_any-wrote.new.sink _ _ _ c.create.ensures.closed c.in_ok-sink.ensures.named c.in_ok-sink.ensures.name
+    c.append_any-wrote.ensures.name c.append_any-wrote.ensures.counts c.close-closed.ensures.listed
 
 pub returns-clause-made : goal.returns-clause-made
 returns-clause-made g c = c.close-closed.ensures.created ∙ c.in_ok-sink.ensures.noted ∙ one_more c.args.name.now _

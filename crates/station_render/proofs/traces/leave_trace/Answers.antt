@@ -4,7 +4,7 @@ use Rattle.std.specs.Prelude.{option_map}
 use Rattle.station_render.specs.Runs.{name_in}
 use Rattle.station_render.proofs.Leaving.{left_so, none_so, part_none, wrote_so}
 use Rattle.stations.proofs.Making.{none_made}
-use Rattle.station_render.proofs.Naming.{no_trace_made, trace_front, trace_made}
+use Rattle.station_render.proofs.Naming.{no_trace_closed, no_trace_made, trace_closed, trace_front, trace_made}
 use Rattle.station_render.proofs.traces.leave_trace.Goals as goal
 
 pub returns-in_default-clause-written : goal.returns-in_default-clause-written
@@ -31,13 +31,20 @@ returns-in_default-clause-made g c =
     no_trace_made (name_in c.args.threading) _ (ap (option_map (λ (name : Bor (List ℕ)). name.now)) c.in_default.is)
 
 pub returns-in_default-clause-front : goal.returns-in_default-clause-front
-returns-in_default-clause-front g c = none_made _ _ _ refl
+returns-in_default-clause-front g c = none_made _ _ _ _ _ refl refl
 
 pub returns-clause-made : goal.returns-clause-made
 returns-clause-made g c = trace_made (name_in c.args.threading) _ _ _ (ap (option_map (λ (name : Bor (List ℕ)). name.now)) c.in-Some.is) c.in_ok-wrote.ensures.made
 
 pub returns-clause-front : goal.returns-clause-front
-returns-clause-front g c = trace_front (name_in c.args.threading) _ _ _ (ap (option_map (λ (name : Bor (List ℕ)). name.now)) c.in-Some.is) c.write_trace-wrote.ensures.front
+returns-clause-front g c = trace_front (name_in c.args.threading) _ _ _ _ _ (ap (option_map (λ (name : Bor (List ℕ)). name.now)) c.in-Some.is) c.write_trace-wrote.ensures.front
 
 pub returns-in_err-wrote-clause-front : goal.returns-in_err-wrote-clause-front
-returns-in_err-wrote-clause-front g c = trace_front (name_in c.args.threading) _ _ _ (ap (option_map (λ (name : Bor (List ℕ)). name.now)) c.in-Some.is) c.write_trace-wrote.ensures.front
+returns-in_err-wrote-clause-front g c = trace_front (name_in c.args.threading) _ _ _ _ _ (ap (option_map (λ (name : Bor (List ℕ)). name.now)) c.in-Some.is) c.write_trace-wrote.ensures.front
+
+pub returns-in_default-clause-closed : goal.returns-in_default-clause-closed
+returns-in_default-clause-closed g c =
+    no_trace_closed (name_in c.args.threading) _ (ap (option_map (λ (name : Bor (List ℕ)). name.now)) c.in_default.is)
+
+pub returns-clause-closed : goal.returns-clause-closed
+returns-clause-closed g c = trace_closed (name_in c.args.threading) _ _ _ (ap (option_map (λ (name : Bor (List ℕ)). name.now)) c.in-Some.is) c.in_ok-wrote.ensures.closed

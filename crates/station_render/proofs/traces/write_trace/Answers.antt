@@ -21,4 +21,4 @@ returns-clause-part g c =
     subst (λ t. ForSome (g.S.Shelf.files c.args.shelf.now) (λ files. IsSomeAnd (g.S.Shelf.files c.write_file.new.shelf) (HoldsPart files c.args.name.now t))) is c.write_file.ensures.part
 
 pub returns-in_err-print-clause-front : goal.returns-in_err-print-clause-front
-returns-in_err-print-clause-front g c = none_made _ _ _ refl
+returns-in_err-print-clause-front g c = none_made _ _ _ _ _ refl refl
