@@ -38,6 +38,7 @@ pub fn check_plan<S: Shelf>(
     ensures fit { IfOk result (λ ready. IsFit plan.now ready.library ready.clocks ticks) }
     ensures files { S.files shelf.new ≡ S.files shelf.old }
     ensures created { S.created shelf.new ≡ S.created shelf.old }
+    ensures closed { S.closed shelf.new ≡ S.closed shelf.old }
     ensures reads { S.read_count shelf.old ≤ S.read_count shelf.new }
     ensures writes { S.write_count shelf.old ≤ S.write_count shelf.new }
 {

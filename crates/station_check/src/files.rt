@@ -26,6 +26,7 @@ pub fn read_files<S: Shelf>(alloc: Global, plan: &Plan, shelf: &mut S) -> Result
         (λ files fault. (ticks : ℕ) → IsFound files plan.now ticks (Fails fault))) }
     ensures files { S.files shelf.new ≡ S.files shelf.old }
     ensures created { S.created shelf.new ≡ S.created shelf.old }
+    ensures closed { S.closed shelf.new ≡ S.closed shelf.old }
     ensures reads { S.read_count shelf.old ≤ S.read_count shelf.new }
     ensures writes { S.write_count shelf.old ≤ S.write_count shelf.new }
 {

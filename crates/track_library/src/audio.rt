@@ -111,6 +111,7 @@ impl AudioFiles {
         ensures fault { IfErr result (Ends (S.files shelf.old) (S.read_count shelf.old) (S.read_count shelf.new) (λ _. FirstRead (heard_of self.old).names name.now) (λ files. use_audio rules files (heard_of self.old) name.now)) }
         ensures files { S.files shelf.new ≡ S.files shelf.old }
         ensures created { S.created shelf.new ≡ S.created shelf.old }
+        ensures closed { S.closed shelf.new ≡ S.closed shelf.old }
         ensures reads { S.read_count shelf.old ≤ S.read_count shelf.new }
         ensures writes { S.write_count shelf.old ≤ S.write_count shelf.new }
     {

@@ -32,6 +32,7 @@ impl ReadLists {
         ensures fault { IfErr result (Ends (S.files shelf.old) (S.read_count shelf.old) (S.read_count shelf.new) (λ _. FirstRead (lists_of self.old) name.now) (λ files. use_list files (lists_of self.old) name.now)) }
         ensures files { S.files shelf.new ≡ S.files shelf.old }
         ensures created { S.created shelf.new ≡ S.created shelf.old }
+        ensures closed { S.closed shelf.new ≡ S.closed shelf.old }
         ensures reads { S.read_count shelf.old ≤ S.read_count shelf.new }
         ensures writes { S.write_count shelf.old ≤ S.write_count shelf.new }
     {

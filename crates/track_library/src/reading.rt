@@ -31,6 +31,7 @@ pub fn fetch<S: Shelf>(
     ensures fault { IfErr result (λ fault. IsReading name.now (S.read_count shelf.old) (S.read_count shelf.new) fault) }
     ensures files { S.files shelf.new ≡ S.files shelf.old }
     ensures created { S.created shelf.new ≡ S.created shelf.old }
+    ensures closed { S.closed shelf.new ≡ S.closed shelf.old }
     ensures reads { S.read_count shelf.old ≤ S.read_count shelf.new }
     ensures writes { S.write_count shelf.old ≤ S.write_count shelf.new }
 {
@@ -123,6 +124,7 @@ pub fn read_audio<S: Shelf>(
     ensures fault { IfErr result (λ fault. IsReading name.now (S.read_count shelf.old) (S.read_count shelf.new) fault) }
     ensures files { S.files shelf.new ≡ S.files shelf.old }
     ensures created { S.created shelf.new ≡ S.created shelf.old }
+    ensures closed { S.closed shelf.new ≡ S.closed shelf.old }
     ensures reads { S.read_count shelf.old ≤ S.read_count shelf.new }
     ensures writes { S.write_count shelf.old ≤ S.write_count shelf.new }
 {

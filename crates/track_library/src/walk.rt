@@ -61,6 +61,7 @@ impl Walk {
         ensures single { IfOk result (λ leaf. HasOne op.now leaf.items) }
         ensures files { S.files shelf.new ≡ S.files shelf.old }
         ensures created { S.created shelf.new ≡ S.created shelf.old }
+        ensures closed { S.closed shelf.new ≡ S.closed shelf.old }
         ensures reads { S.read_count shelf.old ≤ S.read_count shelf.new }
         ensures writes { S.write_count shelf.old ≤ S.write_count shelf.new }
     {
@@ -113,6 +114,7 @@ pub fn load<S: Shelf>(
         (λ files. load_of (record { rate = plan.now.rate; file = sizes.file; all = sizes.all }) files plan.now.nodes)) }
     ensures files { S.files shelf.new ≡ S.files shelf.old }
     ensures created { S.created shelf.new ≡ S.created shelf.old }
+    ensures closed { S.closed shelf.new ≡ S.closed shelf.old }
     ensures reads { S.read_count shelf.old ≤ S.read_count shelf.new }
     ensures writes { S.write_count shelf.old ≤ S.write_count shelf.new }
 {
@@ -139,6 +141,7 @@ pub fn find_files<S: Shelf>(
         (λ files. load_of (record { rate = plan.now.rate; file = sizes.file; all = sizes.all }) files plan.now.nodes)) }
     ensures files { S.files shelf.new ≡ S.files shelf.old }
     ensures created { S.created shelf.new ≡ S.created shelf.old }
+    ensures closed { S.closed shelf.new ≡ S.closed shelf.old }
     ensures reads { S.read_count shelf.old ≤ S.read_count shelf.new }
     ensures writes { S.write_count shelf.old ≤ S.write_count shelf.new }
 {
@@ -172,6 +175,7 @@ fn find_single<S: Shelf>(
     ensures one { IfOk result (λ leaf. length leaf.items ≡ 1) }
     ensures files { S.files shelf.new ≡ S.files shelf.old }
     ensures created { S.created shelf.new ≡ S.created shelf.old }
+    ensures closed { S.closed shelf.new ≡ S.closed shelf.old }
     ensures reads { S.read_count shelf.old ≤ S.read_count shelf.new }
     ensures writes { S.write_count shelf.old ≤ S.write_count shelf.new }
 {
@@ -210,6 +214,7 @@ fn play_entries<S: Shelf>(
     ensures plays { IfOk result (λ leaf. Plays (heard_of audio.old) (heard_of audio.new) leaf.items) }
     ensures files { S.files shelf.new ≡ S.files shelf.old }
     ensures created { S.created shelf.new ≡ S.created shelf.old }
+    ensures closed { S.closed shelf.new ≡ S.closed shelf.old }
     ensures reads { S.read_count shelf.old ≤ S.read_count shelf.new }
     ensures writes { S.write_count shelf.old ≤ S.write_count shelf.new }
 {

@@ -67,6 +67,7 @@ loop-node-preserved g c =
           (one_single_more c.as_slice-node-items.result.now c.args.plan.now.nodes c.loop-node.node-index leaves c.in_ok-leaf.leaf.items c.node-item.result
           c.as_slice-node-items.ensures c.loop-node-test.true c.node-item.is c.loop-node.invariant.6 c.in_ok-leaf.ensures.single c.loop-node.invariant.7),
       c.in_ok-leaf.ensures.created ∙ c.loop-node.invariant.8,
+      c.in_ok-leaf.ensures.closed ∙ c.loop-node.invariant.9,
     )
 
 pub returns-clause-singles : goal.returns-clause-singles

@@ -21,4 +21,4 @@ invariant-loop-node g l =
     → LoadReads l.rules files l.plan.nodes read)
     × (length l.leaves ≡ l.node-index)
     × SinglesSoFar l.node-index l.plan.nodes l.leaves
-    × (g.S.Shelf.created l.shelf ≡ g.S.Shelf.created l.fn.shelf)
+    × (g.S.Shelf.created l.shelf ≡ g.S.Shelf.created l.fn.shelf) × (g.S.Shelf.closed l.shelf ≡ g.S.Shelf.closed l.fn.shelf)

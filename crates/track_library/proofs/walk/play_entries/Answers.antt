@@ -56,4 +56,5 @@ loop-name-preserved g c =
           (ap (entry_played c.loop-name.leaf.items) (c.in_ok-found.ensures.used files (c.loop-name.invariant.0 ∙ t))
           ∙ (played_found (heard_of c.find.new.self) c.loop-name.leaf.items c.in_ok-found.found ∙ ap (λ (l : List ℕ). Ok (heard_of c.find.new.self, l)) (sym pushed))) h),
       c.in_ok-found.ensures.created ∙ c.loop-name.invariant.6,
+      c.in_ok-found.ensures.closed ∙ c.loop-name.invariant.7,
     )

@@ -17,4 +17,4 @@ invariant-loop-name g l =
     ≡ entries_played l.rules files (drop l.name-index l.names) (Ok (heard_of l.audio, l.leaf.items)))
     × ForSome (g.S.Shelf.files l.fn.shelf) (λ files. (read : List ℕ) → EntriesRead l.rules files (drop l.name-index l.names) (Ok (heard_of l.audio, l.leaf.items)) read
     → EntriesRead l.rules files l.names (Ok (heard_of l.fn.audio, [])) read)
-    × (g.S.Shelf.created l.shelf ≡ g.S.Shelf.created l.fn.shelf)
+    × (g.S.Shelf.created l.shelf ≡ g.S.Shelf.created l.fn.shelf) × (g.S.Shelf.closed l.shelf ≡ g.S.Shelf.closed l.fn.shelf)
