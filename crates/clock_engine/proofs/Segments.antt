@@ -1,8 +1,7 @@
 -- A segment of a clock: its first instant, and the run behind it.
-use Rattle.std.proofs.Common.{◌≡◌, ◌<◌, ◌≤◌, ◌+◌, ◌-◌, ◌*◌, ◌∙◌, ℕ, zero, suc, ℤ, Some, None, Bool, true, false, List, [], ◌∷◌, length, map, drop, replicate, is_some, arith, refl, ap, sym, subst, inl, inr}
+use Rattle.std.proofs.Common.{◌≡◌, ◌<◌, ◌+◌, ◌-◌, ◌∙◌, ℕ, zero, suc, ℤ, Some, None, Bool, true, false, List, [], ◌∷◌, length, map, replicate, is_some, arith, refl, ap, sym, subst}
 use Rattle.std.specs.List.{range_with_len}
-use Rattle.std.proofs.lemmas.Bool.{cases_lt}
-use Rattle.std.proofs.lemmas.List.{get_or_past, length-drop, length-map, length-replicate, length-take-le}
+use Rattle.std.proofs.lemmas.List.{length-map, length-replicate}
 use Rattle.std.proofs.lemmas.Simd.{length-zip2}
 use Rattle.plan_core.specs.declared.plan.Plan.{Plan}
 use Rattle.clock_infer.specs.declared.clock_map.NodeClock.{NodeClock}
@@ -12,26 +11,20 @@ use Rattle.frame_core.specs.Library.{Sounds}
 use Rattle.frame_core.specs.Calls.{Call}
 use Rattle.op_leaf.specs.Lanes.{AreTitled, IsLane}
 use Rattle.op_leaf.proofs.Laid.{lane_cells}
-use Rattle.stream_meaning.specs.Instants.{history, moment_after, offer, part_at, silent}
+use Rattle.stream_meaning.specs.Instants.{history, moment_after, offer, part_at}
 use Rattle.stream_meaning.specs.Calls.{after_calls, calls_of, joined_upto}
 use Rattle.stream_meaning.proofs.Answering.{joined_skip}
 use Rattle.clock_outputs.specs.Segments.{segment_slots}
 use Rattle.node_mixing.specs.Runs.{samples_of}
+use Rattle.node_mixing.proofs.Heard.{samples_long}
 use Rattle.node_states.specs.Times.{TimeStands}
 use Rattle.engine_instants.specs.Held.{IsHeld}
-use Rattle.engine_instants.specs.Runs.{HasRunRoom}
 use Rattle.engine_instants.specs.States.{over}
 use Rattle.sub_clocks.specs.Clocks.{InstantMade, IsWorld}
 use Rattle.sub_clocks.specs.Runs.{InstantsRun}
 use Rattle.sub_clocks.specs.declared.lanes.ClockLanes.{ClockLanes}
 use Rattle.clock_engine.specs.declared.clock_state.ClockState.{ClockState}
 use Rattle.clock_engine.specs.Runs.{SegmentRun, segment_of, slot_in}
-
--- the samples of a node are as many as the run has instants
-pub samples_long : (samples : List ℤ) (nodes i many : ℕ) → length samples ≡ nodes * 1024 → i < nodes → many ≤ 1024 → length (samples_of samples i many) ≡ many
-samples_long samples nodes i many room within short =
-    let rest = length-drop (i * 1024) samples in
-    length-take-le many (drop (i * 1024) samples) (omega (arith, rest, room, within, short))
 
 slots_long : (slot : Slot) (many : ℕ) (lefts rights : List ℤ) → (is_some slot ≡ true → (length lefts ≡ many) × (length rights ≡ many)) → length (segment_slots slot many lefts rights) ≡ suc many
 slots_long None many lefts rights long = ap suc (length-replicate many None)
@@ -40,21 +33,10 @@ slots_long (Some cell) many lefts rights long =
     let same : length lefts ≡ length rights = both.0 ∙ sym both.1 in
     ap suc (length-map (inner_cells cell.title lefts rights) Some ∙ length-zip2 (inner_cell cell.title) lefts rights same ∙ both.0)
 
--- a node that there is not offers nothing
-within_parts : (lanes : ClockLanes) (nodes i : ℕ) → length lanes.latest.parts.items ≡ nodes → is_some (part_at lanes.latest.parts.items i).slot ≡ true → i < nodes
-within_parts lanes nodes i size gives = elim (cases_lt i nodes) [
-  | inl low ↦ low
-  | inr high ↦ (let none : part_at lanes.latest.parts.items i ≡ silent = get_or_past lanes.latest.parts.items i silent (omega (arith, size, high)) in
-      let wrong : true ≡ false = sym gives ∙ ap (λ part. is_some part.slot) none in absurd cc)
-]
-
-pub segment_long : (lanes : ClockLanes) (nodes many : ℕ) → length lanes.latest.parts.items ≡ nodes → HasRunRoom nodes lanes.runs → many ≤ 1024 → (i : ℕ) → length (segment_of lanes many i) ≡ suc many
-segment_long lanes nodes many size room short i =
+pub segment_long : (lanes : ClockLanes) (many : ℕ) → (i : ℕ) → length (segment_of lanes many i) ≡ suc many
+segment_long lanes many i =
     slots_long (part_at lanes.latest.parts.items i).slot many (samples_of lanes.runs.left.items i many) (samples_of lanes.runs.right.items i many)
-    (λ gives. let within = within_parts lanes nodes i size gives in (
-      samples_long lanes.runs.left.items nodes i many room.in_left within short,
-      samples_long lanes.runs.right.items nodes i many room.in_right within short,
-    ))
+    (λ gives. (samples_long lanes.runs.left.items i many, samples_long lanes.runs.right.items i many))
 
 nones : (slots : ℕ → Slot) (from many : ℕ) → ((j : ℕ) → j < many → slots (from + j) ≡ None) → replicate many None ≡ map slots (range_with_len from many)
 nones slots from zero none = refl

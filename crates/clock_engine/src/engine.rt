@@ -114,7 +114,7 @@ fn make_parts<'a>(
     let marks = vec![in alloc; false; states.len()]?;
     let nodes = ClockNodes::new(alloc, shape.clocks)?;
     let desk = Desk::new(alloc, most_children(shape.plan))?;
-    let runs = Runs::new(alloc, states.len())?;
+    let runs = Runs::new(alloc, &states)?;
     let own = own_roots(alloc, &shape)?;
     let ports = ports_of(alloc, &shape, clock)?;
     let feeds = feeds_of(alloc, &shape, clock)?;

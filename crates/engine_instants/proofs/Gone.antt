@@ -1,5 +1,5 @@
 -- The nodes of a clock make a run, one node behind another.
-use Rattle.std.proofs.Common.{◌≡◌, ◌<◌, ◌≤◌, ◌+◌, ◌*◌, ◌∙◌, ◌&&◌, ◌||◌, All, [], take, nat_eq, ℕ, ℤ, suc, Bool, true, false, Some, Option, List, ◌∷◌, length, set, slice_get, arith, refl, ap, sym, subst, inl, inr}
+use Rattle.std.proofs.Common.{◌≡◌, ◌<◌, ◌+◌, ◌∙◌, ◌&&◌, ◌||◌, All, [], nat_eq, ℕ, ℤ, suc, Bool, true, false, Some, Option, List, ◌∷◌, length, set, slice_get, arith, refl, ap, sym, subst, inl, inr}
 use Rattle.std.specs.Prelude.{is_some}
 use Rattle.std.specs.List.{list_any}
 use Rattle.std.specs.Option.{option_map_or}
@@ -16,7 +16,7 @@ use Rattle.stream_meaning.specs.Operators.{Work, Plays, Picks, Mixes, Fades, Rea
 use Rattle.stream_meaning.specs.Instants.{Setting, Moment, demanded, gives, lies_in, moment_after, offer, work_at}
 use Rattle.segment_laws.specs.Stretches.{IsNode, IsStretch, going_on, lane}
 use Rattle.segment_laws.proofs.Parts.{other_part, part_past}
-use Rattle.node_mixing.specs.Runs.{samples_of}
+use Rattle.node_mixing.specs.Runs.{Lanes, samples_of}
 use Rattle.node_states.specs.declared.state.NodeState.{NodeState}
 use Rattle.node_states.specs.Passing.{passes}
 use Rattle.node_states.specs.Runs.{GoesOn, fed_on}
@@ -26,7 +26,7 @@ use Rattle.node_states.proofs.Running.{kept_stands}
 use Rattle.engine_instants.specs.Held.{goes_through}
 use Rattle.engine_instants.specs.Runs.{HasGoneOn, IsGoing, NodeGivesOn, NodeHasRun, begun_on}
 use Rattle.engine_instants.specs.States.{ClockStands, IsIn}
-use Rattle.engine_instants.proofs.Samples.{samples_before}
+use Rattle.engine_instants.proofs.Samples.{samples_none}
 use Rattle.engine_instants.proofs.Places.{item_there, same_or_other, slice_get-set_other, slice_get-set_same}
 
 begun_none : (more : Bool) (fed : ℕ) → fed_on more 0 fed ≡ fed
@@ -84,20 +84,20 @@ module _ (setting : Setting) (sub : ℕ → ℕ → List Slot) (clock : NodeCloc
 
   module _ (many : ℕ) (fed : ℕ → ℕ) (old : List NodeState) where
     -- the nodes below `below` have made their run
-    pub record HaveRun (below : ℕ) (left right : List ℤ) (states : List NodeState) : Type 0 where
+    pub record HaveRun (below : ℕ) (left right : Lanes) (states : List NodeState) : Type 0 where
       pub each : (k : ℕ) (node : Node) (state : NodeState) → k < below → IsIn setting clock k node → slice_get states k ≡ Some state
           → StateStands setting sub (going_on setting sub clock (suc many) past) (begun_on setting clock (goes_through First old) many fed k) k (work_at setting k node) state
       pub lanes : (k : ℕ) → k < below → gives First k ≡ true
           → IsLane (λ j. lane setting sub clock past (suc j) k) many (samples_of left k many) (samples_of right k many)
 
-    pub run_none : (left right : List ℤ) (states : List NodeState) → HaveRun 0 left right states
+    pub run_none : (left right : Lanes) (states : List NodeState) → HaveRun 0 left right states
     run_none left right states = record {
       each = λ k node state low inside found. absurd (omega (arith, low));
       lanes = λ k low gave. absurd (omega (arith, low));
     }
 
     -- nodes of other clocks stay, and give nothing
-    pub run_skip : (i n : ℕ) (left right : List ℤ) (states : List NodeState) → IsFirst setting.clocks clock i n → HaveRun i left right states → HaveRun n left right states
+    pub run_skip : (i n : ℕ) (left right : Lanes) (states : List NodeState) → IsFirst setting.clocks clock i n → HaveRun i left right states → HaveRun n left right states
     run_skip i n left right states first run = record {
       each = λ k node state low inside found. elim (cases_lt k i) [
         | inl less ↦ run.each k node state less inside found
@@ -110,7 +110,7 @@ module _ (setting : Setting) (sub : ℕ → ℕ → List Slot) (clock : NodeCloc
     }
 
     -- node i makes its run
-    pub run_step : (i : ℕ) (left right left_new right_new : List ℤ) (states : List NodeState) (new : NodeState) → i < length states
+    pub run_step : (i : ℕ) (left right left_new right_new : Lanes) (states : List NodeState) (new : NodeState) → i < length states
         → ((k : ℕ) → k < i → samples_of left_new k many ≡ samples_of left k many) → ((k : ℕ) → k < i → samples_of right_new k many ≡ samples_of right k many)
         → (node : Node) (state : NodeState) → IsIn setting clock i node → slice_get old i ≡ Some state → NodeHasRun setting sub clock past many (fed i) i node state left_new right_new new
         → HaveRun i left right states → HaveRun (suc i) left_new right_new (set states i new)
@@ -142,7 +142,7 @@ module _ (setting : Setting) (sub : ℕ → ℕ → List Slot) (clock : NodeCloc
             (subst (λ n. StateStands setting sub (going_on setting sub clock (suc many) past) (fed_on ((gives First i && passes was) || reads (work_at setting i n)) many (fed i)) i (work_at setting i n) new) node_is has.stands))
 
     -- all have
-    pub run_all : (n : ℕ) (left right : List ℤ) (states : List NodeState) → n ≡ length setting.plan.nodes → HaveRun n left right states
+    pub run_all : (n : ℕ) (left right : Lanes) (states : List NodeState) → n ≡ length setting.plan.nodes → HaveRun n left right states
         → HasGoneOn setting sub clock past many fed old left right states
     run_all n left right states all run = record {
       stands = record { each = λ i node state inside found. run.each i node state (let low = slice_get_within setting.plan.nodes i node inside.there in omega (arith, low, all)) inside found };
@@ -153,7 +153,7 @@ module _ (setting : Setting) (sub : ℕ → ℕ → List Slot) (clock : NodeCloc
     }
 
   -- no instant more
-  pub gone_on_none : (fed : ℕ → ℕ) (states : List NodeState) (left right : List ℤ) → ClockStands setting sub clock (First ∷ past) fed states
+  pub gone_on_none : (fed : ℕ → ℕ) (states : List NodeState) (left right : Lanes) → ClockStands setting sub clock (First ∷ past) fed states
       → HasGoneOn setting sub clock past 0 fed states left right states
   gone_on_none fed states left right stands = record {
     stands = record {
@@ -162,11 +162,11 @@ module _ (setting : Setting) (sub : ℕ → ℕ → List Slot) (clock : NodeCloc
           (sym (begun_none (lies_in setting clock i && (goes_through First states i || reads_at setting i)) (fed i)))
           (stands.each i node state inside found);
     };
-    lanes = λ i gave. record { left_is = refl; right_is = refl; inner = λ j low. absurd (omega (arith, low)) };
+    lanes = λ i gave. record { left_is = samples_none left i; right_is = samples_none right i; inner = λ j low. absurd (omega (arith, low)) };
   }
 
   -- a node that does not give
-  pub kept_run : (many fed i : ℕ) (node : Node) (state : NodeState) (left right : List ℤ) → AreNodes setting.plan.nodes → 0 < many → IsStretch setting sub clock past (suc many) → IsNode setting clock i node
+  pub kept_run : (many fed i : ℕ) (node : Node) (state : NodeState) (left right : Lanes) → AreNodes setting.plan.nodes → 0 < many → IsStretch setting sub clock past (suc many) → IsNode setting clock i node
       → gives First i ≡ false → (reads (work_at setting i node) ≡ true → fed ≡ suc (length past)) → StateStands setting sub (First ∷ past) fed i (work_at setting i node) state
       → NodeHasRun setting sub clock past many fed i node state left right state
   kept_run many fed i node state left right nodes some stretch is not begun stands =
@@ -179,7 +179,7 @@ module _ (setting : Setting) (sub : ℕ → ℕ → List Slot) (clock : NodeCloc
       }
 
   -- what `run` asks for of a node that does
-  pub goes_on : (many fed i : ℕ) (node : Node) (held parts : List Part) (left right : List ℤ) (state : NodeState) → AreNodes setting.plan.nodes
+  pub goes_on : (many fed i : ℕ) (node : Node) (held parts : List Part) (left right : Lanes) (state : NodeState) → AreNodes setting.plan.nodes
       → NodeGivesOn setting sub clock past many fed i node held parts left right state → gives First i ≡ true → GoesOn setting sub clock past many i node
   goes_on many fed i node held parts left right state nodes before gave = record {
     nodes = nodes;
@@ -197,32 +197,22 @@ module _ (setting : Setting) (sub : ℕ → ℕ → List Slot) (clock : NodeCloc
       let inside = slice_get_within setting.plan.nodes i node found in
       let long = length-take-le i setting.plan.nodes (omega (arith, inside)) in omega (arith, under, long))) among
 
-  -- the samples of the children that give stand before the node's own
-  pub children_lanes : (many fed i : ℕ) (node : Node) (held parts : List Part) (left right : List ℤ) (state : NodeState) → AreNodes setting.plan.nodes → many ≤ 1024
-      → i * 1024 ≤ length left → i * 1024 ≤ length right → NodeGivesOn setting sub clock past many fed i node held parts left right state
-      → (c : ℕ) → list_any (nat_eq c) node.children ≡ true → gives First c ≡ true
-      → IsLane (λ j. lane setting sub clock past (suc j) c) many (samples_of (take (i * 1024) left) c many) (samples_of (take (i * 1024) right) c many)
-  children_lanes many fed i node held parts left right state nodes short in_left in_right before c among gave =
-      let low : c < i = child_low i c node nodes before.is.there among in
-      subst (λ l. IsLane (λ j. lane setting sub clock past (suc j) c) many l (samples_of (take (i * 1024) right) c many)) (sym (samples_before c i many left low short in_left))
-      (subst (λ r. IsLane (λ j. lane setting sub clock past (suc j) c) many (samples_of left c many) r) (sym (samples_before c i many right low short in_right)) (before.lanes c low gave))
-
 -- the same over equal lists
-pub going_over : (setting : Setting) (sub : ℕ → ℕ → List Slot) (clock : NodeClock) (past : List Moment) (many : ℕ) (fed : ℕ → ℕ) (held other : List Part) (states : List NodeState) (left left_new right right_new : List ℤ)
+pub going_over : (setting : Setting) (sub : ℕ → ℕ → List Slot) (clock : NodeClock) (past : List Moment) (many : ℕ) (fed : ℕ → ℕ) (held other : List Part) (states : List NodeState) (left left_new right right_new : Lanes)
     → other ≡ held → left_new ≡ left → right_new ≡ right → IsGoing setting sub clock past many fed held states left right → IsGoing setting sub clock past many fed other states left_new right_new
 going_over setting sub clock past many fed held other states left left_new right right_new same one two going =
     subst (λ (ps : List Part). IsGoing setting sub clock past many fed ps states left_new right_new) (sym same)
-    (subst (λ (xs : List ℤ). IsGoing setting sub clock past many fed held states xs right_new) (sym one)
-    (subst (λ (xs : List ℤ). IsGoing setting sub clock past many fed held states left xs) (sym two) going))
+    (subst (λ (xs : Lanes). IsGoing setting sub clock past many fed held states xs right_new) (sym one)
+    (subst (λ (xs : Lanes). IsGoing setting sub clock past many fed held states left xs) (sym two) going))
 
-pub gone_over : (setting : Setting) (sub : ℕ → ℕ → List Slot) (clock : NodeClock) (past : List Moment) (many : ℕ) (fed : ℕ → ℕ) (old : List NodeState) (left left_new right right_new : List ℤ) (states : List NodeState)
+pub gone_over : (setting : Setting) (sub : ℕ → ℕ → List Slot) (clock : NodeClock) (past : List Moment) (many : ℕ) (fed : ℕ → ℕ) (old : List NodeState) (left left_new right right_new : Lanes) (states : List NodeState)
     → left_new ≡ left → right_new ≡ right → HasGoneOn setting sub clock past many fed old left right states → HasGoneOn setting sub clock past many fed old left_new right_new states
 gone_over setting sub clock past many fed old left left_new right right_new states same alike went =
-    subst (λ (xs : List ℤ). HasGoneOn setting sub clock past many fed old xs right_new states) (sym same)
-    (subst (λ (xs : List ℤ). HasGoneOn setting sub clock past many fed old left xs states) (sym alike) went)
+    subst (λ (xs : Lanes). HasGoneOn setting sub clock past many fed old xs right_new states) (sym same)
+    (subst (λ (xs : Lanes). HasGoneOn setting sub clock past many fed old left xs states) (sym alike) went)
 
 -- what a node that gives did
-pub has_run : (setting : Setting) (sub : ℕ → ℕ → List Slot) (clock : NodeClock) (past : List Moment) (many fed i : ℕ) (node : Node) (old : NodeState) (own_left left own_right right : List ℤ) (state : NodeState)
+pub has_run : (setting : Setting) (sub : ℕ → ℕ → List Slot) (clock : NodeClock) (past : List Moment) (many fed i : ℕ) (node : Node) (old : NodeState) (own_left : List ℤ) (left : Lanes) (own_right : List ℤ) (right : Lanes) (state : NodeState)
     → gives (moment_after setting sub clock past) i ≡ true → samples_of left i many ≡ own_left → samples_of right i many ≡ own_right
     → StateStands setting sub (going_on setting sub clock (suc many) past) (fed_on (passes old || reads (work_at setting i node)) many fed) i (work_at setting i node) state
     → IsLane (λ j. lane setting sub clock past (suc j) i) many own_left own_right → NodeHasRun setting sub clock past many fed i node old left right state

@@ -17,3 +17,4 @@ pub mod Kept
 mod Asking
 pub mod Needing
 pub mod Supplied
+mod Laning

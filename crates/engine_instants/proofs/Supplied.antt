@@ -1,9 +1,8 @@
 -- What a crossfade through which cells pass is given in a run.
-use Rattle.std.proofs.Common.{◌≡◌, ◌<◌, ◌≤◌, ◌+◌, ◌*◌, ◌∙◌, ◌++◌, ℕ, ℤ, zero, suc, Bool, true, false, Some, Option, List, [], ◌∷◌, length, get_or, slice_get, take, arith, refl, ap, sym, subst}
+use Rattle.std.proofs.Common.{◌≡◌, ◌<◌, ◌+◌, ◌∙◌, ◌++◌, ℕ, ℤ, zero, suc, Bool, true, false, Some, Option, List, [], ◌∷◌, length, get_or, slice_get, arith, refl, ap, sym, subst}
 use Rattle.std.specs.Option.{option_map_or}
 use Rattle.std.proofs.lemmas.Bool.{false≢true}
-use Rattle.std.proofs.lemmas.List.{length-take-le}
-use Rattle.std.proofs.lemmas.Option.{slice_get-get_or, slice_get_within}
+use Rattle.std.proofs.lemmas.Option.{slice_get-get_or}
 use Rattle.liq_base.specs.declared.memory.Kind.{Kind}
 use Rattle.plan_core.specs.declared.node.Node.{Node}
 use Rattle.plan_core.specs.declared.node.Op.{Op}
@@ -16,12 +15,11 @@ use Rattle.stream_meaning.specs.Operators.{Work, Plays, Picks, Mixes, Fades, Rea
 use Rattle.stream_meaning.specs.Instants.{Setting, Moment, IsMeaning, crossfaded, history, moment_after, offer, work_at}
 use Rattle.segment_laws.specs.Stretches.{going_on, lane}
 use Rattle.clock_infer.specs.declared.clock_map.NodeClock.{NodeClock}
-use Rattle.node_mixing.specs.Runs.{samples_of}
+use Rattle.node_mixing.specs.Runs.{Lanes, samples_of}
 use Rattle.node_states.specs.declared.state.NodeState.{NodeState}
 use Rattle.node_states.specs.declared.state.NodeState.TheVariants.{Leaf, Select, Turn, Mix, Cross, Read, Idle}
 use Rattle.node_states.specs.Passing.{ChildFeeds, LaneFeeds, passes}
 use Rattle.node_states.specs.States.{StateStands}
-use Rattle.engine_instants.proofs.Samples.{samples_before}
 
 abbrev is_fade : Work → Bool
 is_fade (Plays leaf) = false
@@ -65,37 +63,21 @@ passing_fades setting sub past fed i (Reads buffer) (Cross state) s e = absurd s
 passing_fades setting sub past fed i work (Read reader) s e = absurd (false≢true e)
 passing_fades setting sub past fed i work Idle s e = absurd (false≢true e)
 
--- the samples of the child stand before the crossfade's own
-pub child_feeds : (setting : Setting) (sub : ℕ → ℕ → List Slot) (past : List Moment) (many fed i title : ℕ) (node : Node) (state : NodeState) (left right : List ℤ) → AreNodes setting.plan.nodes
+-- the samples of the child are those of the crossfade's first child
+pub child_feeds : (setting : Setting) (sub : ℕ → ℕ → List Slot) (past : List Moment) (many fed i title : ℕ) (node : Node) (state : NodeState) (left right : Lanes) → AreNodes setting.plan.nodes
     → slice_get setting.plan.nodes i ≡ Some node → StateStands setting sub past fed i (work_at setting i node) state → passes state ≡ true
-    → many ≤ 1024 → i * 1024 ≤ length left → i * 1024 ≤ length right
     → LaneFeeds (sub i) fed many title (samples_of left (crossfaded setting.plan.nodes i) many) (samples_of right (crossfaded setting.plan.nodes i) many)
-    → ChildFeeds (sub i) fed many title node.children (take (i * 1024) left) (take (i * 1024) right)
-child_feeds setting sub past many fed i title node state left right nodes found stands through short in_left in_right feeds =
+    → ChildFeeds (sub i) fed many title node.children left right
+child_feeds setting sub past many fed i title node state left right nodes found stands through feeds =
     let own = nodes i node found in
     let some : 0 < length node.children = one_child setting.plan.rate i node.kind node.op (length node.children)
     (passing_fades setting sub past fed i (work_at setting i node) state stands through) own.number in
     let is : crossfaded setting.plan.nodes i ≡ get_or node.children 0 0 = ap (λ (at : Option Node). option_map_or (λ (node : Node). get_or node.children 0 0) at 0) found in
-    let under = own.children 0 0 some in
-    let inside = slice_get_within setting.plan.nodes i node found in
-    let long = length-take-le i setting.plan.nodes (omega (arith, inside)) in
-    let low : get_or node.children 0 0 < i = omega (arith, under, long) in
     record {
       child = get_or node.children 0 0;
       there = slice_get-get_or node.children 0 0 some;
-      feeds = subst (λ (l : List ℤ). LaneFeeds (sub i) fed many title l (samples_of (take (i * 1024) right) (get_or node.children 0 0) many))
-          (sym (samples_before (get_or node.children 0 0) i many left low short in_left))
-          (subst (λ (r : List ℤ). LaneFeeds (sub i) fed many title (samples_of left (get_or node.children 0 0) many) r)
-          (sym (samples_before (get_or node.children 0 0) i many right low short in_right))
-          (subst (λ n. LaneFeeds (sub i) fed many title (samples_of left n many) (samples_of right n many)) is feeds));
+      feeds = subst (λ n. LaneFeeds (sub i) fed many title (samples_of left n many) (samples_of right n many)) is feeds;
     }
-
--- the same over equal lists
-pub feeds_over : (slots_of : ℕ → List Slot) (n many title : ℕ) (children : List ℕ) (left left_new right right_new : List ℤ) → left_new ≡ left → right_new ≡ right
-    → ChildFeeds slots_of n many title children left right → ChildFeeds slots_of n many title children left_new right_new
-feeds_over slots_of n many title children left left_new right right_new same alike feeds =
-    subst (λ (l : List ℤ). ChildFeeds slots_of n many title children l right_new) (sym same)
-    (subst (λ (r : List ℤ). ChildFeeds slots_of n many title children left r) (sym alike) feeds)
 
 -- the instants of a clock from one on
 pub history_later : (setting : Setting) (sub : ℕ → ℕ → List Slot) (clock : NodeClock) (n j : ℕ) → history setting sub clock (n + j) ≡ going_on setting sub clock j (history setting sub clock n)

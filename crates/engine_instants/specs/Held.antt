@@ -1,5 +1,5 @@
 -- What the nodes gave at the latest instants of their own clocks, and how far sub-clocks go on.
-use Rattle.std.specs.Prelude.{◌≡◌, ◌<◌, ◌+◌, ◌≤◌, ◌&&◌, Bool, true, false, Some, List, ℕ, ℤ, suc, is_some, length, slice_get, slice_index_or, if◌then◌else◌}
+use Rattle.std.specs.Prelude.{◌≡◌, ◌<◌, ◌+◌, ◌≤◌, ◌&&◌, Bool, true, false, Some, List, ℕ, suc, is_some, length, slice_get, slice_index_or, if◌then◌else◌}
 use Rattle.std.specs.Option.{option_map_or}
 use Rattle.plan_core.specs.declared.node.Node.{Node}
 use Rattle.clock_infer.specs.declared.clock_map.NodeClock.{NodeClock}
@@ -9,7 +9,7 @@ use Rattle.stream_meaning.specs.declared.part.Part.{Part}
 use Rattle.stream_meaning.specs.Operators.{Fades}
 use Rattle.stream_meaning.specs.Instants.{Setting, Moment, crossfaded, gives, lies_in, moment_after, part_at, position, silent, work_at}
 use Rattle.segment_laws.specs.Stretches.{AreFed, IsNode}
-use Rattle.node_mixing.specs.Runs.{samples_of}
+use Rattle.node_mixing.specs.Runs.{Lanes, samples_of}
 use Rattle.node_states.specs.declared.state.NodeState.{NodeState}
 use Rattle.node_states.specs.Passing.{LaneFeeds, asked, given_part, passes}
 use Rattle.engine_instants.specs.Nodes.{lies_at}
@@ -57,7 +57,7 @@ pub record AllAsk (setting : Setting) (sub : ℕ → ℕ → List Slot) (clock :
 -- the crossfades of a clock that gave at the instant after these, and through which cells pass, have the samples of their children,
 -- whose titles are held
 pub record AreSupplied (setting : Setting) (sub : ℕ → ℕ → List Slot) (clock : NodeClock) (past : List Moment) (many : ℕ) (fed : ℕ → ℕ)
-    (held : List Part) (states : List NodeState) (left right : List ℤ) : Type 0 where
+    (held : List Part) (states : List NodeState) (left right : Lanes) : Type 0 where
   pub each : (k : ℕ) (node : Node) (state : NodeState) → IsNode setting clock k node → slice_get states k ≡ Some state
       → gives (moment_after setting sub clock past) k ≡ true → passes state ≡ true
       → LaneFeeds (sub k) (fed k) many (title_of (part_at held (crossfaded setting.plan.nodes k)).slot) (samples_of left (crossfaded setting.plan.nodes k) many) (samples_of right (crossfaded setting.plan.nodes k) many)

@@ -1,5 +1,5 @@
 -- Instants that go on as the latest one of a clock did, made at once.
-use Rattle.std.specs.Prelude.{◌≡◌, ◌<◌, ◌≤◌, ◌*◌, ◌&&◌, ◌||◌, Bool, true, Some, List, ◌∷◌, ℕ, ℤ, suc, length, slice_get}
+use Rattle.std.specs.Prelude.{◌≡◌, ◌<◌, ◌≤◌, ◌&&◌, ◌||◌, Bool, true, Some, List, ◌∷◌, ℕ, ℤ, suc, length, slice_get}
 use Rattle.plan_core.specs.declared.node.Node.{Node}
 use Rattle.clock_infer.specs.declared.clock_map.NodeClock.{NodeClock}
 use Rattle.frame_core.specs.Slots.{Slot, title_of}
@@ -8,8 +8,9 @@ use Rattle.op_leaf.specs.Lanes.{IsLane}
 use Rattle.stream_meaning.specs.declared.part.Part.{Part}
 use Rattle.stream_meaning.specs.Instants.{Setting, Moment, crossfaded, gives, lies_in, moment_after, part_at, silent, work_at}
 use Rattle.segment_laws.specs.Stretches.{IsNode, IsStretch, going_on, lane}
-use Rattle.node_mixing.specs.Runs.{samples_of}
+use Rattle.node_mixing.specs.Runs.{HasLane, Lanes, samples_of}
 use Rattle.node_states.specs.declared.state.NodeState.{NodeState}
+use Rattle.node_states.specs.declared.state.NodeState.TheVariants.{Idle}
 use Rattle.node_states.specs.declared.time.WeekTime.{WeekTime}
 use Rattle.node_states.specs.Passing.{LaneFeeds, given_part, passes}
 use Rattle.node_states.specs.Runs.{LiesAhead, fed_on}
@@ -21,14 +22,26 @@ use Rattle.engine_instants.specs.Nodes.{lies_at}
 use Rattle.engine_instants.specs.Resting.{AreReadTo}
 use Rattle.engine_instants.specs.States.{ClockStands}
 
--- room for the runs of so many nodes; between two runs no node has a part
+-- node i has a lane on each side, with room for any run
+pub record HasLanes (left right : Lanes) (i : ℕ) : Type 0 where
+  pub on_left : HasLane left i
+  pub on_right : HasLane right i
+
+-- room for the runs of so many nodes, of which some have lanes; between two runs no node has a part
 pub record HasRunRoom (nodes : ℕ) (runs : Runs) : Type 0 where
-  pub in_left : length runs.left.items ≡ nodes * 1024
-  pub in_right : length runs.right.items ≡ nodes * 1024
+  pub in_left : length runs.left.items ≡ nodes
+  pub in_right : length runs.right.items ≡ nodes
+  pub in_spare_left : 1024 ≤ length runs.spare_left.items
+  pub in_spare_right : 1024 ≤ length runs.spare_right.items
   pub in_held : length runs.held.items ≡ nodes
   pub in_rests : length runs.rests.items ≡ nodes
   pub in_parts : length runs.parts.items ≡ nodes
   pub clear : (j : ℕ) → part_at runs.parts.items j ≡ silent
+
+-- of the first nodes, as many as there are lanes, each one whose state is not idle has a lane
+pub record HaveLanes (states : List NodeState) (count : ℕ) (lanes : Lanes) : Type 0 where
+  pub size : length lanes ≡ count
+  pub each : (i : ℕ) (state : NodeState) → i < count → slice_get states i ≡ Some state → (state ≡ Idle → ⊥) → HasLane lanes i
 
 -- so many cells or items of each node of a clock that gave, of those below this one, are there and begin no track, but where cells pass
 pub record AllLieAhead (library : Sounds) (clocks : List NodeClock) (clock : NodeClock) (held : List Part) (states : List NodeState)
@@ -48,15 +61,16 @@ pub record IsBehind (setting : Setting) (sub : ℕ → ℕ → List Slot) (clock
   pub time_is : TimeStands setting.start (length past) time
   pub fed_on : AreFedOn setting sub clock past fed held states rests
 
--- what was given at the instant after these is held, with which so many instants are a stretch, the states stand for it too, and the
--- crossfades through which cells pass have the samples of their children
+-- what was given at the instant after these is held, with which so many instants are a stretch, the states stand for it too, the nodes of
+-- the clock have lanes, and the crossfades through which cells pass have the samples of their children
 pub record IsGoing (setting : Setting) (sub : ℕ → ℕ → List Slot) (clock : NodeClock) (past : List Moment) (many : ℕ) (fed : ℕ → ℕ)
-    (held : List Part) (states : List NodeState) (left right : List ℤ) : Type 0 where
+    (held : List Part) (states : List NodeState) (left right : Lanes) : Type 0 where
   pub long : AreLong sub
   pub stretch : IsStretch setting sub clock past (suc many)
   pub stands : ClockStands setting sub clock (moment_after setting sub clock past ∷ past) fed states
   pub held_are : IsHeld setting sub clock past held
   pub begun : AreReadTo setting clock fed (suc (length past))
+  pub laned : (i : ℕ) (node : Node) → IsNode setting clock i node → HasLanes left right i
   pub supplied : AreSupplied setting sub clock past many fed held states left right
 
 -- what the nodes of a clock have begun or were fed, where its readers have begun so many instants more, and its crossfades through which
@@ -67,7 +81,7 @@ begun_on setting clock through many fed i = fed_on (lies_in setting clock i && (
 -- so many instants go on as the instant after these did, from these states on: the states stand for them too, and the nodes that give
 -- have left their samples
 pub record HasGoneOn (setting : Setting) (sub : ℕ → ℕ → List Slot) (clock : NodeClock) (past : List Moment) (many : ℕ) (fed : ℕ → ℕ)
-    (old : List NodeState) (left right : List ℤ) (states : List NodeState) : Type 0 where
+    (old : List NodeState) (left right : Lanes) (states : List NodeState) : Type 0 where
   pub stands : ClockStands setting sub clock (going_on setting sub clock (suc many) past)
       (begun_on setting clock (goes_through (moment_after setting sub clock past) old) many fed) states
   pub lanes : (i : ℕ) → gives (moment_after setting sub clock past) i ≡ true
@@ -76,10 +90,11 @@ pub record HasGoneOn (setting : Setting) (sub : ℕ → ℕ → List Slot) (cloc
 -- a stretch of so many instants behind the one after these, as node i sees it before its run: what it and the nodes before it gave, and
 -- the samples of those that give; `held` is what all nodes gave
 pub record NodeGivesOn (setting : Setting) (sub : ℕ → ℕ → List Slot) (clock : NodeClock) (past : List Moment) (many fed i : ℕ) (node : Node)
-    (held parts : List Part) (left right : List ℤ) (state : NodeState) : Type 0 where
+    (held parts : List Part) (left right : Lanes) (state : NodeState) : Type 0 where
   pub long : AreLong sub
   pub stretch : IsStretch setting sub clock past (suc many)
   pub is : IsNode setting clock i node
+  pub laned : HasLanes left right i
   pub given : (k : ℕ) → k ≤ i → part_at parts k ≡ given_part (moment_after setting sub clock past) k
   pub begun : reads (work_at setting i node) ≡ true → fed ≡ suc (length past)
   pub stands : StateStands setting sub (moment_after setting sub clock past ∷ past) fed i (work_at setting i node) state
@@ -90,8 +105,15 @@ pub record NodeGivesOn (setting : Setting) (sub : ℕ → ℕ → List Slot) (cl
 
 -- and behind it
 pub record NodeHasRun (setting : Setting) (sub : ℕ → ℕ → List Slot) (clock : NodeClock) (past : List Moment) (many fed i : ℕ) (node : Node)
-    (old : NodeState) (left right : List ℤ) (state : NodeState) : Type 0 where
+    (old : NodeState) (left right : Lanes) (state : NodeState) : Type 0 where
   pub stands : StateStands setting sub (going_on setting sub clock (suc many) past)
       (fed_on ((gives (moment_after setting sub clock past) i && passes old) || reads (work_at setting i node)) many fed) i (work_at setting i node) state
   pub lane_is : gives (moment_after setting sub clock past) i ≡ true
       → IsLane (λ j. lane setting sub clock past (suc j) i) many (samples_of left i many) (samples_of right i many)
+
+-- the same of a node that gave, whose samples are these
+pub record NodeHasMade (setting : Setting) (sub : ℕ → ℕ → List Slot) (clock : NodeClock) (past : List Moment) (many fed i : ℕ) (node : Node)
+    (old : NodeState) (left right : List ℤ) (state : NodeState) : Type 0 where
+  pub gave : gives (moment_after setting sub clock past) i ≡ true
+  pub stands : StateStands setting sub (going_on setting sub clock (suc many) past) (fed_on (passes old || reads (work_at setting i node)) many fed) i (work_at setting i node) state
+  pub lane_is : IsLane (λ j. lane setting sub clock past (suc j) i) many left right

@@ -120,16 +120,16 @@ fn node_rest(
     let node = &shape.plan.nodes.as_slice()[i];
     let gave = held.slot.is_some();
     let begins = begins(parts, node.children.as_slice(), state.last());
-    let rest = state.rest(
+    let bound = border(&node.op, second, tick, most).min(most);
+    state.rest(
         parts[i],
         gave,
         begins,
         shape.library,
         below,
         below_title,
-        most,
-    );
-    rest.min(border(&node.op, second, tick, most))
+        bound,
+    )
 }
 
 // Whether a node with this part gives.

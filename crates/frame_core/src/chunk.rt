@@ -43,6 +43,15 @@ impl Chunk {
         Ok(Some(Chunk { cells }))
     }
 
+    /// The same cells once more.
+    pub fn copy(&self, alloc: Global) -> Result<Chunk, Memory>
+        ensures { IfOk result (λ copy. copy ≡ self.now) }
+    {
+        let mut cells = Vec::with_capacity(alloc, self.cells.len())?;
+        cells.extend_from_slice(&self.cells)?;
+        Ok(Chunk { cells })
+    }
+
     /// How many cells it has, from 1 to 65536.
     pub fn len(&self) -> u32
         ensures count { result ≡ length self.now }

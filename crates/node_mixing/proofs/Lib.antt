@@ -2,3 +2,4 @@ pub mod CellSums
 pub mod Lanes
 mod Levels
 mod Summing
+pub mod Heard

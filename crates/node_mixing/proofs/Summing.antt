@@ -1,10 +1,10 @@
 -- The sums of lanes, one child at a time.
-use Rattle.std.proofs.Common.{◌≡◌, ◌<◌, ◌≤◌, ◌+◌, ◌*◌, ◌∙◌, ◌++◌, ℕ, ℤ, zero, suc, Bool, true, false, pos, ◌+ℤ◌, Some, List, [], ◌∷◌, All, cond, length, map, replicate, drop, arith, refl, ap, sym, subst, append_assoc}
+use Rattle.std.proofs.Common.{◌≡◌, ◌<◌, ◌≤◌, ◌+◌, ◌∙◌, ◌++◌, ℕ, ℤ, zero, suc, Bool, true, false, pos, ◌+ℤ◌, Some, List, [], ◌∷◌, All, cond, length, map, replicate, arith, refl, ap, sym, subst, append_assoc}
 use Rattle.std.specs.List.{range_with_len}
 use Rattle.std.specs.Simd.Lanes.{zip2}
 use Rattle.std.proofs.lemmas.Int.{ints}
 use Rattle.std.proofs.lemmas.List.Elements.{All-weaker}
-use Rattle.std.proofs.lemmas.List.{append-nil, length-drop, length-take-le}
+use Rattle.std.proofs.lemmas.List.{append-nil}
 use Rattle.frame_core.specs.declared.cell.Cell.{Cell}
 use Rattle.frame_core.specs.Slots.{Slot}
 use Rattle.op_leaf.specs.Lanes.{IsLane}
@@ -14,7 +14,7 @@ use Rattle.stream_meaning.specs.Arithmetic.{Adds, cells_of, changed_slot, mix_sl
 use Rattle.node_mixing.specs.declared.mixer.Mixer.{Mixer}
 use Rattle.node_mixing.specs.declared.mixer.Mixer.TheVariants as variant
 use Rattle.node_mixing.specs.Mixings.{mixing_of}
-use Rattle.node_mixing.specs.Runs.{AreHeard, IsHeard, changed_left, changed_right, first_that_gives, levels_of, many_give, samples_of, summed_lanes, sums_of}
+use Rattle.node_mixing.specs.Runs.{AreHeard, IsHeard, changed_left, changed_right, first_that_gives, levels_of, many_give, summed_lanes, sums_of}
 use Rattle.node_mixing.proofs.Lanes.{changed_lane, lefts_with, rights_with, sum_lane, sums_without}
 
 -- ---- one child more, behind the others
@@ -84,12 +84,6 @@ passed_over gives lanes room children child count sums so_far e = record {
   sums_are = so_far.sums_are ∙ sym (summed_without gives lanes (replicate room (pos 0)) children child e);
   fit = so_far.fit;
 }
-
--- the samples of a node are as many as are asked for
-pub samples_long : (samples : List ℤ) (i count : ℕ) → count ≤ 1024 → (i + 1) * 1024 ≤ length samples → length (samples_of samples i count) ≡ count
-samples_long samples i count short there =
-    let rest = length-drop (i * 1024) samples in
-    length-take-le count (drop (i * 1024) samples) (omega (arith, rest, short, there))
 
 -- ---- over lanes that are heard
 

@@ -1,5 +1,7 @@
 -- What a node makes of the lanes of its children over a run.
-use Rattle.std.specs.Prelude.{◌≡◌, ◌<◌, ◌*◌, ◌+ℤ◌, Bool, true, false, Option, Some, None, List, [], ◌∷◌, ℕ, suc, ℤ, pos, is_some, length, map, replicate, take, drop, if◌then◌else◌}
+use Rattle.std.specs.Prelude.{◌≡◌, ◌<◌, ◌≤◌, ◌+ℤ◌, Bool, true, false, Option, Some, None, List, [], ◌∷◌, Vec, ℕ, suc, ℤ, pos, is_some, length, map, nat_lt, replicate, slice_get, take, if◌then◌else◌}
+use Rattle.std.specs.declared.alloc.Global.{Global}
+use Rattle.std.specs.Option.{option_map_or}
 use Rattle.std.specs.List.{range_with_len}
 use Rattle.std.specs.Simd.Lanes.{zip2}
 use Rattle.frame_core.specs.declared.cell.Cell.{Cell}
@@ -10,9 +12,25 @@ use Rattle.stream_meaning.specs.declared.part.Part.{Part}
 use Rattle.stream_meaning.specs.Instants.{part_at}
 use Rattle.stream_meaning.specs.Arithmetic.{Mixing, Adds, Scales, Halves, Doubles, Passes, cells_of, sum_of}
 
--- the samples of node i over so many instants, where each node has room for 1024 of them
-abbrev pub samples_of : List ℤ → (i count : ℕ) → List ℤ
-samples_of samples i count = take count (drop (i * 1024) samples)
+-- by node: room for its samples over a run, on one side
+abbrev pub Lanes : Type 0
+Lanes = List (Vec ℤ Global)
+
+-- the lane of node i; empty where the node has none
+abbrev pub lane_at : Lanes → ℕ → List ℤ
+lane_at lanes i = option_map_or (λ lane. lane.items) (slice_get lanes i) []
+
+-- node i has a lane with room for any run
+abbrev pub HasLane : Lanes → ℕ → Type 0
+HasLane lanes i = 1024 ≤ length (lane_at lanes i)
+
+-- the samples of a lane over so many instants; silence where it has no room for them
+abbrev pub heard_of : List ℤ → (count : ℕ) → List ℤ
+heard_of lane count = if nat_lt (length lane) count then replicate count (pos 0) else take count lane
+
+-- the samples of node i over so many instants
+abbrev pub samples_of : Lanes → (i count : ℕ) → List ℤ
+samples_of lanes i count = heard_of (lane_at lanes i) count
 
 -- whether a node offers a cell
 abbrev pub offers_in : List Part → ℕ → Bool

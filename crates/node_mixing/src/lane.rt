@@ -1,5 +1,5 @@
 // What a node makes of the samples of its children over a run.
-ghost use Rattle.std.specs.Prelude.{◌≡◌, ◌<◌, ◌≤◌, ◌+◌, ◌*◌, ℕ, pos, Some, length, map, replicate, All};
+ghost use Rattle.std.specs.Prelude.{◌≡◌, ◌<◌, ◌≤◌, ℕ, pos, Some, length, map, replicate, All};
 ghost use Rattle.frame_core.specs.Slots.{Slot};
 ghost use Rattle.op_leaf.specs.Lanes.{IsLane};
 ghost use Rattle.sample_kernels.specs.Samples.{IsSumOf};
@@ -14,14 +14,14 @@ use sample_kernels::{add_into, clamp_all, divide, halves, scale};
 use stream_meaning::Part;
 
 impl Mixer {
-    /// The samples of a node in a run, over those of the nodes before it: `MAX_RUN` for each, on both sides. A child is heard
+    /// The samples of a node in a run, over the lanes of the nodes before it, on both sides. A child is heard
     /// where it offers by these parts. Where none does nothing is written. It takes no memory.
     pub fn run(
         &self,
         children: &[u32],
         parts: &[Part],
-        before_left: &[i16],
-        before_right: &[i16],
+        before_left: &[Vec<i16>],
+        before_right: &[Vec<i16>],
         sums: &mut Sums,
         left: &mut [i16],
         right: &mut [i16],
@@ -29,8 +29,6 @@ impl Mixer {
         requires few { length children.now ≤ 65535 }
         requires same { length right.old ≡ length left.old }
         requires short { length left.old ≤ 1024 }
-        requires before { length before_right.now ≡ length before_left.now }
-        requires below { All (λ child. (child + 1) * 1024 ≤ length before_left.now) children.now }
         ensures lane { (slots : ℕ → ℕ → Slot)
             → AreHeard slots (offers_in parts.now) (λ child. samples_of before_left.now child (length left.old)) (λ child. samples_of before_right.now child (length left.old)) (length left.old) children.now
             → 0 < many_give (offers_in parts.now) children.now
@@ -50,15 +48,13 @@ impl Mixer {
         &self,
         children: &[u32],
         parts: &[Part],
-        before_left: &[i16],
-        before_right: &[i16],
+        before_left: &[Vec<i16>],
+        before_right: &[Vec<i16>],
         left: &mut [i16],
         right: &mut [i16],
     )
         requires same { length right.old ≡ length left.old }
         requires short { length left.old ≤ 1024 }
-        requires before { length before_right.now ≡ length before_left.now }
-        requires below { All (λ child. (child + 1) * 1024 ≤ length before_left.now) children.now }
         ensures left { (first : ℕ) → first_that_gives (offers_in parts.now) children.now ≡ Some first
             → left.new ≡ changed_left (mixing_of self.now) (samples_of before_left.now first (length left.old)) (samples_of before_right.now first (length left.old)) }
         ensures right { (first : ℕ) → first_that_gives (offers_in parts.now) children.now ≡ Some first
@@ -106,7 +102,7 @@ impl Mixer {
 pub fn sum_lane(
     children: &[u32],
     parts: &[Part],
-    before: &[i16],
+    before: &[Vec<i16>],
     normalize: bool,
     sums: &mut [i32],
     counts: &mut [u16],
@@ -116,7 +112,6 @@ pub fn sum_lane(
     requires short { length into.old ≤ 1024 }
     requires sums { length into.old ≤ length sums.old }
     requires counts { length into.old ≤ length counts.old }
-    requires below { All (λ child. (child + 1) * 1024 ≤ length before.now) children.now }
     ensures sum { 0 < many_give (offers_in parts.now) children.now
         → into.new ≡ levels_of normalize (many_give (offers_in parts.now) children.now)
         (summed_lanes (offers_in parts.now) (λ child. samples_of before.now child (length into.old)) (replicate (length into.old) (pos 0)) children.now) }
@@ -130,10 +125,9 @@ pub fn sum_lane(
 }
 
 // Adds the samples of the children that offer, at each instant, and answers how many they are.
-fn add_all(children: &[u32], parts: &[Part], before: &[i16], sums: &mut [i32]) -> u16
+fn add_all(children: &[u32], parts: &[Part], before: &[Vec<i16>], sums: &mut [i32]) -> u16
     requires few { length children.now ≤ 65535 }
     requires short { length sums.old ≤ 1024 }
-    requires below { All (λ child. (child + 1) * 1024 ≤ length before.now) children.now }
     ensures count { result ≡ many_give (offers_in parts.now) children.now }
     ensures sums { sums.new ≡ summed_lanes (offers_in parts.now) (λ child. samples_of before.now child (length sums.old)) (replicate (length sums.old) (pos 0)) children.now }
     ensures fit { All (IsSumOf result) sums.new }

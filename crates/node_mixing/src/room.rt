@@ -1,5 +1,5 @@
 // Room for the sums of a run.
-ghost use Rattle.std.specs.Prelude.{◌≡◌, ◌<◌, ◌≤◌, ◌+◌, ◌*◌, pos, length, replicate, All};
+ghost use Rattle.std.specs.Prelude.{◌≡◌, ◌<◌, ◌≤◌, pos, length, replicate};
 ghost use Rattle.node_mixing.specs.Runs.{levels_of, many_give, offers_in, samples_of, summed_lanes};
 
 use crate::lane::sum_lane;
@@ -42,13 +42,12 @@ impl Sums {
         &mut self,
         children: &[u32],
         parts: &[Part],
-        before: &[i16],
+        before: &[Vec<i16>],
         normalize: bool,
         into: &mut [i16],
     )
         requires few { length children.now ≤ 65535 }
         requires short { length into.old ≤ 1024 }
-        requires below { All (λ child. (child + 1) * 1024 ≤ length before.now) children.now }
         ensures sum { 0 < many_give (offers_in parts.now) children.now
             → into.new ≡ levels_of normalize (many_give (offers_in parts.now) children.now)
             (summed_lanes (offers_in parts.now) (λ child. samples_of before.now child (length into.old)) (replicate (length into.old) (pos 0)) children.now) }

@@ -1,9 +1,12 @@
 // The children that are heard in a run, and their samples.
-ghost use Rattle.std.specs.Prelude.{◌≡◌, ◌≤◌, ◌+◌, ◌*◌, length};
-ghost use Rattle.node_mixing.specs.Runs.{first_that_gives, offers_in, samples_of};
+ghost use Rattle.std.specs.Prelude.{◌≡◌, ◌≤◌, length, pos, replicate};
+ghost use Rattle.node_mixing.specs.Runs.{first_that_gives, lane_at, offers_in, samples_of};
 
 use crate::room::MAX_RUN;
 use stream_meaning::Part;
+
+// What a node that has no lane gives over a run.
+static SILENCE: [i16; MAX_RUN as usize] = [0; MAX_RUN as usize];
 
 /// Whether a node offers a cell.
 pub fn offers(parts: &[Part], node: u32) -> bool
@@ -27,13 +30,35 @@ pub fn first_that_offers(children: &[u32], parts: &[Part]) -> Option<u32>
     None
 }
 
-/// The samples of a node over so many instants of a run, where each node has room for `MAX_RUN` of them.
-pub fn samples_of(samples: &[i16], node: u32, count: usize) -> &[i16]
+/// The samples of a node over so many instants of a run, by the lanes of the nodes: silence where it has no lane.
+pub fn samples_of(lanes: &[Vec<i16>], node: u32, count: usize) -> &[i16]
     requires short { count ≤ 1024 }
-    requires there { (node + 1) * 1024 ≤ length samples.now }
-    ensures { result.now ≡ samples_of samples.now node count }
+    ensures is { result.now ≡ samples_of lanes.now node count }
+    ensures long { length result.now ≡ count }
 {
-    let (_, own) = samples.split_at(node as usize * MAX_RUN as usize);
-    let (own, _) = own.split_at(count);
+    let lane = lane_of(lanes, node);
+    if lane.len() < count {
+        return silence(count);
+    }
+    let (own, _) = lane.split_at(count);
     own
+}
+
+// The lane of a node, which is empty where the node has none.
+fn lane_of(lanes: &[Vec<i16>], node: u32) -> &[i16]
+    ensures { result.now ≡ lane_at lanes.now node }
+{
+    match lanes.get(node as usize) {
+        Some(lane) => lane.as_slice(),
+        None => &[],
+    }
+}
+
+// So many samples of silence.
+fn silence(count: usize) -> &'static [i16]
+    requires short { count ≤ 1024 }
+    ensures { result.now ≡ replicate count (pos 0) }
+{
+    let (front, _) = SILENCE.split_at(count);
+    front
 }

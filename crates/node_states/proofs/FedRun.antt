@@ -1,8 +1,8 @@
 -- A crossfade that is fed a run of cells.
-use Rattle.std.proofs.Common.{◌≡◌, ◌<◌, ◌≤◌, ◌+◌, ◌-◌, ◌*◌, ◌∙◌, ◌++◌, ℕ, ℤ, zero, suc, Some, List, [], ◌∷◌, length, map, take, drop, arith, refl, ap, sym, subst, inl, inr, append_assoc}
+use Rattle.std.proofs.Common.{◌≡◌, ◌<◌, ◌≤◌, ◌+◌, ◌-◌, ◌∙◌, ◌++◌, ℕ, ℤ, zero, suc, Some, List, [], ◌∷◌, length, map, take, arith, refl, ap, sym, subst, inl, inr, append_assoc}
 use Rattle.std.specs.List.{range_with_len}
 use Rattle.std.proofs.lemmas.Bool.{cases_lt}
-use Rattle.std.proofs.lemmas.List.{append-nil, length-drop, length-map, length-take-le, take_all}
+use Rattle.std.proofs.lemmas.List.{append-nil, length-map, take_all}
 use Rattle.frame_core.specs.declared.cell.Cell.{Cell}
 use Rattle.frame_core.specs.Slots.{Slot}
 use Rattle.cell_ring.specs.Rings.{inner_cells}
@@ -12,7 +12,6 @@ use Rattle.op_leaf.specs.Lanes.{AreTitled, IsLane}
 use Rattle.op_leaf.proofs.Laid.{lane_cells}
 use Rattle.stream_meaning.specs.Operators.{Work, Plays, Picks, Mixes, Fades, Reads}
 use Rattle.stream_meaning.specs.Instants.{Setting, Moment, position}
-use Rattle.node_mixing.specs.Runs.{samples_of}
 use Rattle.node_states.specs.declared.state.NodeState.TheVariants.{Cross}
 use Rattle.node_states.specs.States.{CrossStands, StateStands}
 
@@ -95,9 +94,3 @@ state_fed setting sub past fed many i title (Mixes mixing) slots left right old 
 state_fed setting sub past fed many i title (Fades overlap) slots left right old new same goes least s lane titled steps =
     run_fed slots (sub i) fed many title left right lane titled steps (position past i) overlap old new same goes least s
 state_fed setting sub past fed many i title (Reads buffer) slots left right old new same goes least s lane titled steps = absurd s
-
--- a node has room for a run
-pub samples_long : (samples : List ℤ) (i count : ℕ) → count ≤ 1024 → (i + 1) * 1024 ≤ length samples → length (samples_of samples i count) ≡ count
-samples_long samples i count short inside =
-    let rest = length-drop (i * 1024) samples in
-    length-take-le count (drop (i * 1024) samples) (omega (arith, short, inside, rest))

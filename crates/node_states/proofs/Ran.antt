@@ -20,7 +20,7 @@ use Rattle.op_select.specs.Selection.{Selection}
 use Rattle.random_ops.specs.Turns.{Turning}
 use Rattle.node_mixing.specs.declared.mixer.Mixer.{Mixer}
 use Rattle.node_mixing.specs.Mixings.{mixing_of}
-use Rattle.node_mixing.specs.Runs.{AreHeard, many_give, offers_in, samples_of}
+use Rattle.node_mixing.specs.Runs.{AreHeard, Lanes, many_give, offers_in, samples_of}
 use Rattle.stream_meaning.specs.declared.part.Part.{Part}
 use Rattle.stream_meaning.specs.Arithmetic.{mix_slot}
 use Rattle.stream_meaning.specs.Operators.{Choice, Eligible, Work, Plays, Picks, Mixes, Fades, Reads}
@@ -49,7 +49,7 @@ module _ (setting : Setting) (sub : ℕ → ℕ → List Slot) (clock : NodeCloc
   Lane j c = lane setting sub clock past (suc j) c
 
   -- what the samples of the nodes before it hold
-  abbrev pub Before : List ℤ → List ℤ → Type 0
+  abbrev pub Before : Lanes → Lanes → Type 0
   Before lefts rights = (c : ℕ) → list_any (nat_eq c) node.children ≡ true → gives First c ≡ true
       → IsLane (λ j. Lane j c) many (samples_of lefts c many) (samples_of rights c many)
 
@@ -120,7 +120,7 @@ module _ (setting : Setting) (sub : ℕ → ℕ → List Slot) (clock : NodeCloc
   turn_stands some state (Reads buffer) s = absurd s
 
   -- the samples of the child that was picked were laid
-  module _ (pick : Option ℕ) (lefts rights left right : List ℤ) (pick_is : pick ≡ (part_at First.parts i).pick)
+  module _ (pick : Option ℕ) (lefts rights : Lanes) (left right : List ℤ) (pick_is : pick ≡ (part_at First.parts i).pick)
       (left_is : (place child : ℕ) → pick ≡ Some place → slice_get node.children place ≡ Some child → left ≡ samples_of lefts child many)
       (right_is : (place child : ℕ) → pick ≡ Some place → slice_get node.children place ≡ Some child → right ≡ samples_of rights child many)
       (before : Before lefts rights) where
@@ -160,7 +160,7 @@ module _ (setting : Setting) (sub : ℕ → ℕ → List Slot) (clock : NodeCloc
   mix_stands mixer (Fades overlap) s = absurd s
   mix_stands mixer (Reads buffer) s = absurd s
 
-  pub mix_lane : (mixer : Mixer) (parts : List Part) (lefts rights left right : List ℤ)
+  pub mix_lane : (mixer : Mixer) (parts : List Part) (lefts rights : Lanes) (left right : List ℤ)
       → ((c : ℕ) → list_any (nat_eq c) node.children ≡ true → part_at parts c ≡ given_part First c)
       → ((slots : ℕ → ℕ → Slot) → AreHeard slots (offers_in parts) (λ child. samples_of lefts child many) (λ child. samples_of rights child many) many node.children
       → 0 < many_give (offers_in parts) node.children → IsLane (λ j. mix_slot (mixing_of mixer) (map (slots j) node.children)) many left right)

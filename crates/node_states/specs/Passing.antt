@@ -5,7 +5,7 @@ use Rattle.op_cross.specs.States.{passes as crossing_passes}
 use Rattle.op_leaf.specs.Lanes.{AreTitled, IsLane}
 use Rattle.stream_meaning.specs.declared.part.Part.{Part}
 use Rattle.stream_meaning.specs.Instants.{Moment, gives, part_at, silent}
-use Rattle.node_mixing.specs.Runs.{samples_of}
+use Rattle.node_mixing.specs.Runs.{Lanes, samples_of}
 use Rattle.node_states.specs.declared.state.NodeState.{NodeState}
 use Rattle.node_states.specs.declared.state.NodeState.TheVariants.{Leaf, Select, Turn, Mix, Cross, Read, Idle}
 
@@ -36,7 +36,7 @@ pub record LaneFeeds (slots_of : ℕ → List Slot) (n count title : ℕ) (left 
   pub fed : (m : ℕ) → m < count → slots_of (suc (n + m)) ≡ slots_of (n + m) ++ slots m ∷ []
 
 -- they are the cells of the lane of its child
-pub record ChildFeeds (slots_of : ℕ → List Slot) (n count title : ℕ) (children : List ℕ) (lefts rights : List ℤ) : Type 0 where
+pub record ChildFeeds (slots_of : ℕ → List Slot) (n count title : ℕ) (children : List ℕ) (lefts rights : Lanes) : Type 0 where
   pub child : ℕ
   pub there : slice_get children 0 ≡ Some child
   pub feeds : LaneFeeds slots_of n count title (samples_of lefts child count) (samples_of rights child count)

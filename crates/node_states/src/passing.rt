@@ -1,5 +1,5 @@
 // A run of a crossfade through which the cells of its child pass.
-ghost use Rattle.std.specs.Prelude.{◌≡◌, ◌≤◌, ◌+◌, ◌*◌, ◌++◌, ℕ, List, Some, true, All, map, take, drop, length, slice_get};
+ghost use Rattle.std.specs.Prelude.{◌≡◌, ◌≤◌, ◌+◌, ◌++◌, ℕ, List, Some, true, map, take, drop, length, slice_get};
 ghost use Rattle.cell_ring.specs.Rings.{inner_cells};
 ghost use Rattle.frame_core.specs.Slots.{Slot};
 ghost use Rattle.op_cross.specs.Crossfade.{cross};
@@ -16,16 +16,14 @@ pub fn pass_child(
     state: &mut CrossState,
     title: u32,
     children: &[u32],
-    before_left: &[i16],
-    before_right: &[i16],
+    before_left: &[Vec<i16>],
+    before_right: &[Vec<i16>],
     left: &mut [i16],
     right: &mut [i16],
 )
     requires passes { passes state.old ≡ true }
     requires same { length right.old ≡ length left.old }
     requires short { length left.old ≤ 1024 }
-    requires before { length before_right.now ≡ length before_left.now }
-    requires below { All (λ child. (child + 1) * 1024 ≤ length before_left.now) children.now }
     ensures overlap { (child : ℕ) → slice_get children.now 0 ≡ Some child → state.new.overlap ≡ state.old.overlap }
     ensures stands { (child p : ℕ) (slots : List Slot) → slice_get children.now 0 ≡ Some child → StandsFor state.old slots p
         → StandsFor state.new (slots ++ map Some (inner_cells title (samples_of before_left.now child (length left.old)) (samples_of before_right.now child (length left.old)))) (p + length left.old) }

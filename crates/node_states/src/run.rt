@@ -1,5 +1,5 @@
 // A run of a node.
-ghost use Rattle.std.specs.Prelude.{◌≡◌, ◌<◌, ◌≤◌, ◌+◌, ◌*◌, ◌∷◌, ◌||◌, ℕ, List, Some, true, length, slice_get, suc, nat_eq, All};
+ghost use Rattle.std.specs.Prelude.{◌≡◌, ◌<◌, ◌≤◌, ◌∷◌, ◌||◌, ℕ, List, Some, true, length, slice_get, suc, nat_eq};
 ghost use Rattle.std.specs.List.{list_any};
 ghost use Rattle.liq_base.specs.declared.limits.TheConstants.{MAX_CHILDREN};
 ghost use Rattle.clock_infer.specs.declared.clock_map.NodeClock.{NodeClock as Clock};
@@ -21,7 +21,7 @@ use stream_meaning::Part;
 
 impl NodeState {
     /// Makes as many instants as the slices are long of a node that gave at the latest one, with which they go on: its samples
-    /// are laid, over those of the nodes before it, and its state goes on behind them. `pick` is the child that it used at the
+    /// are laid, over the lanes of the nodes before it, and its state goes on behind them. `pick` is the child that it used at the
     /// latest instant, and `parts` are what its children gave there; through a crossfade that passes go the samples of its child,
     /// whose cells have the title `below`. It takes no memory.
     pub fn run(
@@ -31,8 +31,8 @@ impl NodeState {
         parts: &[Part],
         below: u32,
         library: &Library,
-        before_left: &[i16],
-        before_right: &[i16],
+        before_left: &[Vec<i16>],
+        before_right: &[Vec<i16>],
         sums: &mut Sums,
         left: &mut [i16],
         right: &mut [i16],
@@ -43,8 +43,6 @@ impl NodeState {
         requires some { 0 < length left.old }
         requires short { length left.old ≤ 1024 }
         requires ahead { LiesAhead library.now self.old (length left.old) }
-        requires before { length before_right.now ≡ length before_left.now }
-        requires below { All (λ child. (child + 1) * 1024 ≤ length before_left.now) node.now.children }
         ensures fits { Fits library.now (length node.now.children) self.new }
         ensures stands { (setting : Setting) (sub : ℕ → ℕ → List TheSlot) (clock : Clock) (past : List Moment) (fed i : ℕ)
             → setting.library ≡ library.now → GoesOn setting sub clock past (length left.old) i node.now
@@ -108,15 +106,13 @@ impl NodeState {
 fn copy_picked(
     children: &[u32],
     pick: Option<u32>,
-    before_left: &[i16],
-    before_right: &[i16],
+    before_left: &[Vec<i16>],
+    before_right: &[Vec<i16>],
     left: &mut [i16],
     right: &mut [i16],
 )
     requires same { length right.old ≡ length left.old }
     requires short { length left.old ≤ 1024 }
-    requires before { length before_right.now ≡ length before_left.now }
-    requires below { All (λ child. (child + 1) * 1024 ≤ length before_left.now) children.now }
     ensures left { (place child : ℕ) → pick ≡ Some place → slice_get children.now place ≡ Some child → left.new ≡ samples_of before_left.now child (length left.old) }
     ensures right { (place child : ℕ) → pick ≡ Some place → slice_get children.now place ≡ Some child → right.new ≡ samples_of before_right.now child (length left.old) }
 {

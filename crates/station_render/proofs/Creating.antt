@@ -83,7 +83,7 @@ created_as So Other f ys order groups are = record {
   each = λ m group at. zip_as So Other f (of_clock m order ys) group (are.each m group at);
 }
 
-dealt_mapped : {Y Z : Type 0} (f : Y → Z) (m : ℕ) (order : List ℕ) (ys : List Y) → of_clock m order (map f ys) ≡ map f (of_clock m order ys)
+pub dealt_mapped : {Y Z : Type 0} (f : Y → Z) (m : ℕ) (order : List ℕ) (ys : List Y) → of_clock m order (map f ys) ≡ map f (of_clock m order ys)
 dealt_mapped f m [] ys = refl
 dealt_mapped f m (c ∷ order) [] = refl
 dealt_mapped f m (c ∷ order) (y ∷ ys) = by_test (nat_eq c m) (dealt_mapped f m order ys)

@@ -1,6 +1,8 @@
 -- What a run of all engines leaves in the sinks, once they are given back.
 use Rattle.std.proofs.Common.{◌≡◌, ◌<◌, ◌+◌, ◌∙◌, ℕ, suc, List, [], ◌∷◌, length, map, get_or, slice_index_or, arith, refl, ap, sym, subst, Bool}
 use Rattle.std.specs.Prelude.{Option, Result, Ok, Err, OnOk, IfOk, is_some}
+use Rattle.std.specs.Fn.{iterate}
+use Rattle.liq_base.specs.Counts.{counted}
 use Rattle.liq_base.specs.Files.{Files}
 use Rattle.liq_base.specs.Pieces.{HasRoom}
 use Rattle.plan_core.specs.declared.plan.Plan.{Plan}
@@ -34,7 +36,7 @@ use Rattle.station_render.proofs.Creating.{created_as, part_of_ready}
 use Rattle.station_render.proofs.Ending.{begun_all}
 use Rattle.station_render.proofs.Fits.{are_main}
 use Rattle.station_render.proofs.Gathering.{lawful_many, not_begun}
-use Rattle.station_render.proofs.Running.{AreAlike, LieInMain, all_part, all_whole, keep_after, may_run, stand_after, stand_still}
+use Rattle.station_render.proofs.Running.{AreAlike, LieInMain, all_part, all_whole, keep_after, may_run, stand_after, stand_counted, stand_still}
 
 -- the counts of a record are those of its buffers
 counts_at : (run : Run) (b : ℕ) (xs : List (List Window)) (plans : List BufferPlan) → length xs ≡ length plans → ((k : ℕ) → slice_index_or run.buffers (b + k) [] ≡ slice_index_or xs k [])
@@ -172,6 +174,15 @@ module _ {plan : Plan} {library : Sounds} {clocks : ClockMap} {start ticks : ℕ
             → (ys : List Y) → AreCreated So ys order (outs_of old) → AreCreated So ys order groups_new
         still_back So keeps some ys are = subst (λ gs. AreCreated So ys order gs) (sym (groups_are groups_new back))
             (stand_still So held name faults appends (setting_after way world some.run) (made_in world clocks.running ticks way some.run some.begun) (tried_in world clocks.running ticks way some.run some.begun) keeps old new some.part ys order are)
+
+        -- where all ticks were made, so many pieces came
+        pub counted_back : {Y Done E : Type 0} {counts : List Counts} {logs : List (List Answers)} (So Then : Y → S → Type 0) → ((y : Y) (one other : S) → name one ≡ name other → appends one ≡ iterate counted ticks (appends other) → So y other → Then y one)
+            → (result : Result Rendered E) → (Done → RanAll held name faults appends world clocks.running ticks way old new counts logs) → OnOk result Done
+            → (ys : List Y) → AreCreated So ys order (outs_of old) → OnOk result (AreCreated Then ys order groups_new)
+        counted_back So Then keeps (Ok rendered) all done ys are =
+            let ran = all done in
+            subst (λ gs. AreCreated Then ys order gs) (sym (groups_are groups_new back)) (stand_counted So Then held name faults appends (setting_in world ran.run) ticks keeps old new ran.engines ys order are)
+        counted_back So Then keeps (Err fault) all done ys are = tt
 
         -- where all ticks were made, this is told of them
         whole_back : {trace : Option (List ℕ)} {cues : Bool} {counts : List Counts} {logs : List (List Answers)} (ran : RanAll held name faults appends world clocks.running ticks way old new counts logs) (rendered : Rendered)

@@ -261,6 +261,26 @@ stand_still So held name faults appends world least most keeps old new run ys or
       keeps y after before.0 (ran.kept.each j before.0 after before.1 after_at).0 (ap is_some got.3 ∙ any_still got.0 (appends before.0)) (zip_at So (of_clock m order ys) found.0.outs j y before.0 zip mine_at before.1)));
 }
 
+-- the same where all ticks were made: so many pieces came
+pub stand_counted : {Y S : Type 0} (So Then : Y → S → Type 0) (held name : S → Option (List ℕ)) (faults : S → ℕ) (appends : S → Option ℕ) (world : Setting) (ticks : ℕ)
+    → ((y : Y) (one other : S) → name one ≡ name other → appends one ≡ iterate counted ticks (appends other) → So y other → Then y one) → (old new : List (ClockEngine S)) → HaveRunTicks held name faults appends world ticks old new
+    → (ys : List Y) (order : List ℕ) → AreCreated So ys order (outs_of old) → AreCreated Then ys order (outs_of new)
+stand_counted So Then held name faults appends world ticks keeps old new run ys order are = record {
+  size = are.size;
+  below = λ k clock there. subst (λ n. clock < n) (sym (many_mapped (λ (e : ClockEngine _). e.outs) new ∙ run.size ∙ sym (many_mapped (λ (e : ClockEngine _). e.outs) old))) (are.below k clock there);
+  each = λ m group there.
+      let found = before_at old new run.size m group there in
+      let ran = run.each m found.0 found.1 found.2 found.3 in
+      let zip = are.each m found.0.outs (mapped (λ (e : ClockEngine _). e.outs) old m found.0 found.2) in
+      subst (λ g. AllZip Then (of_clock m order ys) g) found.4
+      (zip_from Then (of_clock m order ys) found.1.outs (ran.outs ∙ zip_size So (of_clock m order ys) found.0.outs zip)
+      (λ j y after mine_at after_at.
+      let low = within found.1.outs j after after_at in
+      let size = ran.outs in
+      let before = in_list found.0.outs j (omega (arith, low, size)) in
+      keeps y after before.0 (ran.kept.each j before.0 after before.1 after_at).0 (ran.pieces.each j before.0 after before.1 after_at) (zip_at So (of_clock m order ys) found.0.outs j y before.0 zip mine_at before.1)));
+}
+
 -- the sinks of all clocks
 module _ {S : Type 0} (setting : Setting) (ticks : ℕ) (main : LieInMain setting setting.plan.sinks) where
   main_here : (engine : ClockEngine S) → setting_of engine.parts ≡ setting → LieInMain (setting_of engine.parts) (setting_of engine.parts).plan.sinks

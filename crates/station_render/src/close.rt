@@ -2,13 +2,13 @@
 ghost use Rattle.std.specs.Prelude.{◌≡◌, ◌<◌, ◌≤◌, ◌⊎◌, ◌∷◌, [], ℕ, List, Option, length, slice_get, Some, IfOk, IsErrOf, IsSomeAnd, OnOk, OnErr, is_ok, true};
 ghost use Rattle.std.specs.Option.{ForSome};
 ghost use Rattle.liq_base.specs.Counts.{Rose};
-ghost use Rattle.liq_base.specs.Files.{Files};
+ghost use Rattle.liq_base.specs.Files.{Closing, Files};
 ghost use Rattle.stations.specs.Creations.{HaveClosed};
 ghost use Rattle.stations.specs.Outputs.{OutputFile, OutputPart, with_outputs, HoldsParts};
 ghost use Rattle.stations.specs.Renderings.{WrotePart};
 ghost use Rattle.stations.specs.Stations.{Station};
 ghost use Rattle.station_render.specs.Runs.{RanPart, RanWhole, WroteOutputs};
-ghost use Rattle.station_render.specs.Listed.{AreTelling};
+ghost use Rattle.station_render.specs.Listed.{AreTelling, HaveAllListed, WillList};
 ghost use Rattle.station_render.specs.OutputSinks.{HaveRooms, HoldsBody, HoldsFrontIf, owed, told};
 ghost use Rattle.station_render.specs.Sinks.{AreCreated, HasFailed, HaveSizes, AreAllEmpty, WasTaken, lists_of};
 
@@ -38,6 +38,8 @@ pub(crate) fn close_all<S: Shelf>(
     ensures created { S.created shelf.new ≡ S.created shelf.old }
     ensures closed { (names : List (List ℕ)) → AreTelling (told S.Out.name) (told S.Out.appends) (S.closed shelf.old) names order.now (lists_of groups.items)
         → HaveClosed names (S.closed shelf.old) (S.closed shelf.new) }
+    ensures pieces { OnOk result ((closings : List Closing) → AreCreated (WillList S.Out.name S.Out.appends (S.closed shelf.old)) closings order.now (lists_of groups.items)
+        → HaveAllListed closings (S.closed shelf.old) (S.closed shelf.new)) }
     ensures reads { S.read_count shelf.old ≤ S.read_count shelf.new }
     ensures writes { S.write_count shelf.old ≤ S.write_count shelf.new }
 {
@@ -67,6 +69,8 @@ fn close_each<S: Shelf>(
     ensures created { S.created shelf.new ≡ S.created shelf.old }
     ensures closed { (names : List (List ℕ)) → AreTelling (told S.Out.name) (told S.Out.appends) (S.closed shelf.old) names order.now (lists_of groups.items)
         → HaveClosed names (S.closed shelf.old) (S.closed shelf.new) }
+    ensures pieces { OnOk result (well ≡ true → (closings : List Closing) → AreCreated (WillList S.Out.name S.Out.appends (S.closed shelf.old)) closings order.now (lists_of groups.items)
+        → HaveAllListed closings (S.closed shelf.old) (S.closed shelf.new)) }
     ensures reads { S.read_count shelf.old ≤ S.read_count shelf.new }
     ensures writes { S.write_count shelf.old ≤ S.write_count shelf.new }
 {

@@ -4,7 +4,7 @@ ghost use Rattle.liq_base.specs.Counts.{Rose};
 ghost use Rattle.frame_core.specs.Library.{Sounds};
 ghost use Rattle.op_leaf.specs.Readers.{Answer};
 ghost use Rattle.stations.specs.Creations.{after_making, names_in};
-ghost use Rattle.station_render.specs.Listed.{AreTelling, CreatedFront, NoneListed, WasListed};
+ghost use Rattle.station_render.specs.Listed.{AreCounted, CreatedFront, NoneListed, WasListed};
 ghost use Rattle.stations.specs.Findings.{IsFit};
 ghost use Rattle.station_render.specs.OutputSinks.{owed, spared, told};
 ghost use Rattle.station_render.specs.Sinks.{AreCreated, AreEmpty, HasFailed, lists_of};
@@ -42,7 +42,7 @@ pub(crate) fn create_each<S: Shelf>(
     ensures cause { IsErrOf result RenderFault.Write → Rose (S.write_count shelf.old) (S.write_count shelf.new) ⊎ HasFailed (told S.Out.faults) (lists_of groups.new.items) }
     ensures files { S.files shelf.new ≡ S.files shelf.old }
     ensures made { OnOk result (S.created shelf.new ≡ after_making (names_in plan.now.sinks) (S.created shelf.old)) }
-    ensures telling { OnOk result (AreTelling (told S.Out.name) (told S.Out.appends) (S.closed shelf.old) (names_in plan.now.sinks) order.new.items (lists_of groups.new.items)) }
+    ensures counted { OnOk result (AreCounted (told S.Out.name) (told S.Out.appends) (S.closed shelf.old) 1 (names_in plan.now.sinks) order.new.items (lists_of groups.new.items)) }
     ensures front { CreatedFront (told S.Out.name) (told S.Out.appends) (S.closed shelf.old) (names_in plan.now.sinks) (S.created shelf.old) (S.created shelf.new) order.new.items (lists_of groups.new.items) }
     ensures closed { S.closed shelf.new ≡ S.closed shelf.old }
     ensures reads { S.read_count shelf.old ≤ S.read_count shelf.new }

@@ -2,7 +2,7 @@
 ghost use Rattle.std.specs.Prelude.{◌≡◌, ◌≤◌, ◌⊎◌, [], List, Option, ℕ, IfOk, IsErrOf, OnErr, OnOk};
 ghost use Rattle.liq_base.specs.Counts.{Rose};
 ghost use Rattle.stations.specs.Creations.{after_making, names_in};
-ghost use Rattle.station_render.specs.Listed.{AreTelling, CreatedFront};
+ghost use Rattle.station_render.specs.Listed.{AreCounted, CreatedFront};
 ghost use Rattle.stations.specs.Stations.{Way};
 ghost use Rattle.station_render.specs.Engines.{AreKeeping, outs_of};
 ghost use Rattle.station_render.specs.OutputSinks.{owed, spared, told};
@@ -38,7 +38,7 @@ pub(crate) fn open_all<'a, S: Shelf>(
     ensures cause { IsErrOf result RenderFault.Write → Rose (S.write_count shelf.old) (S.write_count shelf.new) ⊎ HasFailed (told S.Out.faults) (lists_of groups.new.items) }
     ensures files { S.files shelf.new ≡ S.files shelf.old }
     ensures made { OnOk result (S.created shelf.new ≡ after_making (names_in job.now.plan.now.sinks) (S.created shelf.old)) }
-    ensures telling { IfOk result (λ engines. AreTelling (told S.Out.name) (told S.Out.appends) (S.closed shelf.old) (names_in job.now.plan.now.sinks) order.new.items (outs_of engines.items)) }
+    ensures counted { IfOk result (λ engines. AreCounted (told S.Out.name) (told S.Out.appends) (S.closed shelf.old) 1 (names_in job.now.plan.now.sinks) order.new.items (outs_of engines.items)) }
     ensures front { OnErr result (CreatedFront (told S.Out.name) (told S.Out.appends) (S.closed shelf.old) (names_in job.now.plan.now.sinks) (S.created shelf.old) (S.created shelf.new) order.new.items (lists_of groups.new.items)) }
     ensures closed { S.closed shelf.new ≡ S.closed shelf.old }
     ensures reads { S.read_count shelf.old ≤ S.read_count shelf.new }

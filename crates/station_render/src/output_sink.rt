@@ -1,6 +1,7 @@
 // The sink of an output.
 ghost use Rattle.std.specs.Prelude.{◌≡◌, ◌<◌, ◌≤◌, true, OnOk, OnErr, is_some};
 ghost use Rattle.liq_base.specs.Pieces.{HasRoom};
+ghost use Rattle.station_render.specs.Listed.{counted_if};
 ghost use Rattle.station_render.specs.OutputSinks.{HasEnded, HasEndedPart};
 
 use liq_base::{Failed, Sink};
@@ -37,6 +38,7 @@ pub(crate) fn end_if<O: Sink>(well: bool, output: &mut OutputSink<O>) -> Result<
     requires { well ≡ true → output.old.odd ≡ true → HasRoom (O.room output.old.sink) 1 }
     ensures name { O.name output.new.sink ≡ O.name output.old.sink }
     ensures counts { is_some (O.appends output.new.sink) ≡ is_some (O.appends output.old.sink) }
+    ensures pieces { OnOk result (well ≡ true → O.appends output.new.sink ≡ counted_if output.old.odd (O.appends output.old.sink)) }
     ensures ended { OnOk result (well ≡ true → HasEnded O.held output.old.odd output.old.sink output.new.sink) }
     ensures part { HasEndedPart O.held well output.old.odd output.old.sink output.new.sink }
     ensures faults { O.faults output.old.sink ≤ O.faults output.new.sink }

@@ -1,10 +1,10 @@
 // A station is rendered.
-ghost use Rattle.std.specs.Prelude.{◌≡◌, ◌≤◌, ◌⊎◌, [], IfOk, IsErrOf, OnOk};
+ghost use Rattle.std.specs.Prelude.{◌≡◌, ◌≤◌, ◌+◌, ◌⊎◌, [], IfOk, IsErrOf, OnOk};
 ghost use Rattle.std.specs.Option.{ForSome};
 ghost use Rattle.liq_base.specs.Counts.{Rose};
-ghost use Rattle.stations.specs.Creations.{HaveClosed, MadeFront, after_making, names_in, names_of};
+ghost use Rattle.stations.specs.Creations.{HaveClosed, HaveListed, MadeFront, after_making, names_in, names_of, output_closings};
 ghost use Rattle.stations.specs.Renderings.{WrotePart};
-ghost use Rattle.station_render.specs.Listed.{AreTelling, CreatedFront};
+ghost use Rattle.station_render.specs.Listed.{AreCounted, CreatedFront, HaveAllListed};
 ghost use Rattle.station_render.specs.OutputSinks.{owed, told};
 ghost use Rattle.station_render.specs.Sinks.{AreEmpty, HasFailed, lists_of};
 ghost use Rattle.station_render.specs.Runs.{IsFitting, IsRendered, RanPart, RanWhole, WroteOutputs, setting_by, station_again, station_alone, station_by};
@@ -50,6 +50,7 @@ pub fn render<S: Shelf, G: Gate + Sync, R: Threads + Wait + Sync>(
     ensures cause { IsErrOf result RenderFault.Write → Rose (S.write_count shelf.old) (S.write_count shelf.new) }
     ensures made { OnOk result (S.created shelf.new ≡ after_making (names_of (station_by job.now threading.entry)) (S.created shelf.old)) }
     ensures closed { OnOk result (HaveClosed (names_of (station_by job.now threading.entry)) (S.closed shelf.old) (S.closed shelf.new)) }
+    ensures pieces { OnOk result (HaveListed (output_closings (station_by job.now threading.entry)) (S.closed shelf.old) (S.closed shelf.new)) }
     ensures front { MadeFront (names_of (station_by job.now threading.entry)) (S.created shelf.old) (S.created shelf.new) (S.closed shelf.old) (S.closed shelf.new) }
     ensures reads { S.read_count shelf.old ≤ S.read_count shelf.new }
     ensures writes { S.write_count shelf.old ≤ S.write_count shelf.new }
@@ -72,6 +73,7 @@ pub fn render_alone<S: Shelf>(
     ensures cause { IsErrOf result RenderFault.Write → Rose (S.write_count shelf.old) (S.write_count shelf.new) }
     ensures made { OnOk result (S.created shelf.new ≡ after_making (names_of (station_alone job.now)) (S.created shelf.old)) }
     ensures closed { OnOk result (HaveClosed (names_of (station_alone job.now)) (S.closed shelf.old) (S.closed shelf.new)) }
+    ensures pieces { OnOk result (HaveListed (output_closings (station_alone job.now)) (S.closed shelf.old) (S.closed shelf.new)) }
     ensures front { MadeFront (names_of (station_alone job.now)) (S.created shelf.old) (S.created shelf.new) (S.closed shelf.old) (S.closed shelf.new) }
     ensures reads { S.read_count shelf.old ≤ S.read_count shelf.new }
     ensures writes { S.write_count shelf.old ≤ S.write_count shelf.new }
@@ -99,6 +101,7 @@ pub fn render_again<S: Shelf>(
     ensures cause { IsErrOf result RenderFault.Write → Rose (S.write_count shelf.old) (S.write_count shelf.new) }
     ensures made { OnOk result (S.created shelf.new ≡ after_making (names_of (station_again job.now trace.now)) (S.created shelf.old)) }
     ensures closed { OnOk result (HaveClosed (names_of (station_again job.now trace.now)) (S.closed shelf.old) (S.closed shelf.new)) }
+    ensures pieces { OnOk result (HaveListed (output_closings (station_again job.now trace.now)) (S.closed shelf.old) (S.closed shelf.new)) }
     ensures front { MadeFront (names_of (station_again job.now trace.now)) (S.created shelf.old) (S.created shelf.new) (S.closed shelf.old) (S.closed shelf.new) }
     ensures reads { S.read_count shelf.old ≤ S.read_count shelf.new }
     ensures writes { S.write_count shelf.old ≤ S.write_count shelf.new }
@@ -124,6 +127,7 @@ fn render_outputs<S: Shelf, G: Gate + Sync, R: Threads + Wait + Sync>(
     ensures cause { IsErrOf result RenderFault.Write → Rose (S.write_count shelf.old) (S.write_count shelf.new) }
     ensures made { OnOk result (S.created shelf.new ≡ after_making (names_in job.now.plan.now.sinks) (S.created shelf.old)) }
     ensures closed { OnOk result (HaveClosed (names_in job.now.plan.now.sinks) (S.closed shelf.old) (S.closed shelf.new)) }
+    ensures pieces { OnOk result (HaveAllListed (output_closings (station_by job.now threading.entry)) (S.closed shelf.old) (S.closed shelf.new)) }
     ensures front { MadeFront (names_in job.now.plan.now.sinks) (S.created shelf.old) (S.created shelf.new) (S.closed shelf.old) (S.closed shelf.new) }
     ensures reads { S.read_count shelf.old ≤ S.read_count shelf.new }
     ensures writes { S.write_count shelf.old ≤ S.write_count shelf.new }
@@ -156,6 +160,7 @@ fn render_outputs_alone<S: Shelf>(
     ensures cause { IsErrOf result RenderFault.Write → Rose (S.write_count shelf.old) (S.write_count shelf.new) }
     ensures made { OnOk result (S.created shelf.new ≡ after_making (names_in job.now.plan.now.sinks) (S.created shelf.old)) }
     ensures closed { OnOk result (HaveClosed (names_in job.now.plan.now.sinks) (S.closed shelf.old) (S.closed shelf.new)) }
+    ensures pieces { OnOk result (HaveAllListed (output_closings (station_alone job.now)) (S.closed shelf.old) (S.closed shelf.new)) }
     ensures front { MadeFront (names_in job.now.plan.now.sinks) (S.created shelf.old) (S.created shelf.new) (S.closed shelf.old) (S.closed shelf.new) }
     ensures reads { S.read_count shelf.old ≤ S.read_count shelf.new }
     ensures writes { S.write_count shelf.old ≤ S.write_count shelf.new }
@@ -182,6 +187,7 @@ fn render_outputs_again<S: Shelf>(
     ensures cause { IsErrOf result RenderFault.Write → Rose (S.write_count shelf.old) (S.write_count shelf.new) }
     ensures made { OnOk result (S.created shelf.new ≡ after_making (names_in job.now.plan.now.sinks) (S.created shelf.old)) }
     ensures closed { OnOk result (HaveClosed (names_in job.now.plan.now.sinks) (S.closed shelf.old) (S.closed shelf.new)) }
+    ensures pieces { OnOk result (HaveAllListed (output_closings (station_again job.now trace.now)) (S.closed shelf.old) (S.closed shelf.new)) }
     ensures front { MadeFront (names_in job.now.plan.now.sinks) (S.created shelf.old) (S.created shelf.new) (S.closed shelf.old) (S.closed shelf.new) }
     ensures reads { S.read_count shelf.old ≤ S.read_count shelf.new }
     ensures writes { S.write_count shelf.old ≤ S.write_count shelf.new }
@@ -212,7 +218,7 @@ fn write_by_threads<S: Shelf, G: Gate + Sync, R: Threads + Wait + Sync>(
     ensures cause { IsErrOf result RenderFault.Write → Rose (S.write_count shelf.old) (S.write_count shelf.new) ⊎ HasFailed (told S.Out.faults) (lists_of groups.new.items) }
     ensures files { S.files shelf.new ≡ S.files shelf.old }
     ensures made { OnOk result (S.created shelf.new ≡ after_making (names_in job.now.plan.now.sinks) (S.created shelf.old)) }
-    ensures telling { OnOk result (AreTelling (told S.Out.name) (told S.Out.appends) (S.closed shelf.old) (names_in job.now.plan.now.sinks) order.new.items (lists_of groups.new.items)) }
+    ensures counted { OnOk result (AreCounted (told S.Out.name) (told S.Out.appends) (S.closed shelf.old) (1 + job.now.ticks) (names_in job.now.plan.now.sinks) order.new.items (lists_of groups.new.items)) }
     ensures front { CreatedFront (told S.Out.name) (told S.Out.appends) (S.closed shelf.old) (names_in job.now.plan.now.sinks) (S.created shelf.old) (S.created shelf.new) order.new.items (lists_of groups.new.items) }
     ensures closed { S.closed shelf.new ≡ S.closed shelf.old }
     ensures reads { S.read_count shelf.old ≤ S.read_count shelf.new }
@@ -248,7 +254,7 @@ fn write_alone<S: Shelf>(
     ensures cause { IsErrOf result RenderFault.Write → Rose (S.write_count shelf.old) (S.write_count shelf.new) ⊎ HasFailed (told S.Out.faults) (lists_of groups.new.items) }
     ensures files { S.files shelf.new ≡ S.files shelf.old }
     ensures made { OnOk result (S.created shelf.new ≡ after_making (names_in job.now.plan.now.sinks) (S.created shelf.old)) }
-    ensures telling { OnOk result (AreTelling (told S.Out.name) (told S.Out.appends) (S.closed shelf.old) (names_in job.now.plan.now.sinks) order.new.items (lists_of groups.new.items)) }
+    ensures counted { OnOk result (AreCounted (told S.Out.name) (told S.Out.appends) (S.closed shelf.old) (1 + job.now.ticks) (names_in job.now.plan.now.sinks) order.new.items (lists_of groups.new.items)) }
     ensures front { CreatedFront (told S.Out.name) (told S.Out.appends) (S.closed shelf.old) (names_in job.now.plan.now.sinks) (S.created shelf.old) (S.created shelf.new) order.new.items (lists_of groups.new.items) }
     ensures closed { S.closed shelf.new ≡ S.closed shelf.old }
     ensures reads { S.read_count shelf.old ≤ S.read_count shelf.new }
@@ -278,7 +284,7 @@ fn write_again<S: Shelf>(
     ensures cause { IsErrOf result RenderFault.Write → Rose (S.write_count shelf.old) (S.write_count shelf.new) ⊎ HasFailed (told S.Out.faults) (lists_of groups.new.items) }
     ensures files { S.files shelf.new ≡ S.files shelf.old }
     ensures made { OnOk result (S.created shelf.new ≡ after_making (names_in job.now.plan.now.sinks) (S.created shelf.old)) }
-    ensures telling { OnOk result (AreTelling (told S.Out.name) (told S.Out.appends) (S.closed shelf.old) (names_in job.now.plan.now.sinks) order.new.items (lists_of groups.new.items)) }
+    ensures counted { OnOk result (AreCounted (told S.Out.name) (told S.Out.appends) (S.closed shelf.old) (1 + job.now.ticks) (names_in job.now.plan.now.sinks) order.new.items (lists_of groups.new.items)) }
     ensures front { CreatedFront (told S.Out.name) (told S.Out.appends) (S.closed shelf.old) (names_in job.now.plan.now.sinks) (S.created shelf.old) (S.created shelf.new) order.new.items (lists_of groups.new.items) }
     ensures closed { S.closed shelf.new ≡ S.closed shelf.old }
     ensures reads { S.read_count shelf.old ≤ S.read_count shelf.new }

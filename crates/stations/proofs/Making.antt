@@ -2,6 +2,7 @@
 use Rattle.std.proofs.Common.{◌≡◌, ◌∙◌, ◌++◌, ℕ, List, [], ◌∷◌, map, refl, ap, sym, append_assoc, Bool, true, false}
 use Rattle.std.specs.Prelude.{Option, Some, None}
 use Rattle.std.proofs.lemmas.List.{append-nil, map-append}
+use Rattle.std.specs.Option.{ForSome}
 use Rattle.liq_base.specs.Files.{Closing, noted}
 use Rattle.plan_core.specs.declared.sink.SinkPlan.{SinkPlan}
 use Rattle.plan_core.specs.declared.sink.SinkPlan.TheVariants.{Output, Feed}
@@ -9,7 +10,7 @@ use Rattle.stream_meaning.specs.Instants.{Setting}
 use Rattle.run_records.specs.Records.{Run}
 use Rattle.trace_log.specs.Values.{TraceValue}
 use Rattle.stations.specs.Cues.{cue_name, cue_names_if, cue_names_in, cues_if, cues_in}
-use Rattle.stations.specs.Creations.{AreNamesOfFiles, HaveClosed, MadeFront, after_making, names_in, trace_name, trace_name_in}
+use Rattle.stations.specs.Creations.{AreNamesOfFiles, HaveClosed, HaveListed, MadeFront, after_making, names_in, trace_name, trace_name_in}
 use Rattle.stations.specs.Outputs.{OutputFile}
 use Rattle.stations.specs.Stations.{Station, Way, InRounds, InWindows, Again, setting_of_run}
 use Rattle.stations.specs.Streams.{outputs_in}
@@ -55,6 +56,16 @@ then_closed xs ys before between after first others told at =
       names_are = map-append (λ (closing : Closing). closing.name) one.closings more.closings ∙ (λ i. one.names_are i ++ more.names_are i);
       told = more.told ∙ ap Some (append_assoc told one.closings more.closings);
     }
+
+-- all of some outputs, and then others
+pub listed_all : (closings : List Closing) (before after : Option (List Closing)) → ForSome before (λ told. after ≡ Some (told ++ closings)) → HaveListed closings before after
+listed_all closings before after listed told at = record { more = []; told = listed told at ∙ ap Some (sym (append-nil (told ++ closings))) }
+
+pub listed_then : (closings : List Closing) (names : List (List ℕ)) (before between after : Option (List Closing)) → HaveListed closings before between → HaveClosed names between after → HaveListed closings before after
+listed_then closings names before between after first others told at =
+    let one = first told at in
+    let more = others ((told ++ closings) ++ one.more) one.told in
+    record { more = one.more ++ more.closings; told = more.told ∙ ap Some (append_assoc (told ++ closings) one.more more.closings) }
 
 -- all of them are a front of them, and so are none
 pub all_made : (names : List (List ℕ)) (before after : Option (List (List ℕ))) (closed_before closed_after : Option (List Closing)) → after ≡ after_making names before → HaveClosed names closed_before closed_after

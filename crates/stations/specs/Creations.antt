@@ -1,11 +1,13 @@
 -- The names under which a rendering creates its files, in order, and what a shelf tells of them.
-use Rattle.std.specs.Prelude.{◌≡◌, ℕ, List, [], ◌∷◌, ◌++◌, Option, Some, None, map}
+use Rattle.std.specs.Prelude.{◌≡◌, ℕ, suc, ◌+◌, ◌%◌, List, [], ◌∷◌, ◌++◌, Option, Some, None, map}
 use Rattle.std.specs.Option.{ForSome}
 use Rattle.liq_base.specs.Files.{Closing}
 use Rattle.plan_core.specs.declared.sink.SinkPlan.{SinkPlan}
 use Rattle.plan_core.specs.declared.sink.SinkPlan.TheVariants.{Output, Feed}
 use Rattle.run_records.specs.Records.{Run}
-use Rattle.stations.specs.Stations.{Station, Way, InRounds, InWindows, Again}
+use Rattle.stream_meaning.specs.Instants.{Setting}
+use Rattle.stations.specs.Stations.{Station, Way, InRounds, InWindows, Again, bare}
+use Rattle.stations.specs.Streams.{body_size}
 use Rattle.stations.specs.Cues.{cue_names_if}
 use Rattle.stations.specs.Traces.{files_of}
 
@@ -57,3 +59,23 @@ pub record MadeFront (names : List (List ℕ)) (before after : Option (List (Lis
   pub names_are : names ≡ made ++ others
   pub told : after ≡ after_making made before
   pub closed : HaveClosed made closed_before closed_after
+
+-- what a shelf lists of the outputs among these sinks, of which all ticks were made, once they are closed: the name of each, and its pieces,
+-- which are its header, one for each tick, and its last zero byte, if it has one
+abbrev pub closings_in : Setting → (ticks : ℕ) → List SinkPlan → List Closing
+closings_in setting ticks [] = []
+closings_in setting ticks (Output name node fallible wide ∷ sinks) =
+    record { name = name; pieces = suc ticks + body_size setting wide ticks node % 2 } ∷ closings_in setting ticks sinks
+closings_in setting ticks (Feed buffer node ∷ sinks) = closings_in setting ticks sinks
+
+-- those of all outputs of a station
+abbrev pub output_closings : Station → List Closing
+output_closings station = closings_in (bare station) station.ticks station.plan.sinks
+
+-- where the shelf tells of its closings, these came first, and then others, or none
+pub record AreListed (closings before : List Closing) (after : Option (List Closing)) : Type 0 where
+  pub more : List Closing
+  pub told : after ≡ Some ((before ++ closings) ++ more)
+
+abbrev pub HaveListed : List Closing → (before after : Option (List Closing)) → Type 0
+HaveListed closings before after = ForSome before (λ told. AreListed closings told after)

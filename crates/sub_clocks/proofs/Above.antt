@@ -16,12 +16,12 @@ use Rattle.engine_instants.specs.Nodes.{lies_at}
 use Rattle.engine_instants.specs.Runs.{AllLieAhead}
 use Rattle.engine_instants.proofs.Ahead.{ahead_same}
 use Rattle.sub_clocks.specs.declared.lanes.ClockLanes.{ClockLanes}
-use Rattle.sub_clocks.specs.Clocks.{AreLeft, HasRanks, IsIdle, clock_at, is_in, rest_at}
+use Rattle.sub_clocks.specs.Clocks.{AreLeft, HasRanks, IsIdle, clock_at, is_in, laned_at, rest_at}
 use Rattle.sub_clocks.specs.Runs.{AreAbove, AreSamplesLeft}
 use Rattle.sub_clocks.proofs.Equal.{item_at, they_differ}
 
 pub above_none : (clocks : List NodeClock) (rank : NodeClock → ℕ) (level : ℕ) (touched : ℕ → Type 0) (lanes : ClockLanes) → AreAbove clocks rank level touched lanes lanes
-above_none clocks rank level touched lanes = record { states = λ i low. refl; held = λ i low. refl; times = λ i other low. refl; rests = λ i other low. refl }
+above_none clocks rank level touched lanes = record { states = λ i low. refl; held = λ i low. refl; times = λ i other low. refl; rests = λ i other low. refl; laned = λ i has. has }
 
 pub above_then : (clocks : List NodeClock) (rank : NodeClock → ℕ) (level lower : ℕ) (touched first next : ℕ → Type 0) (a b c : ClockLanes) → level ≤ lower
     → ((i : ℕ) → rank (clock_at clocks i) ≤ level → first i → touched i) → ((i : ℕ) → rank (clock_at clocks i) ≤ level → next i → touched i)
@@ -31,6 +31,7 @@ above_then clocks rank level lower touched first next a b c down from to one two
   held = λ i low. two.held i (omega (arith, low, down)) ∙ one.held i low;
   times = λ i other low. two.times i (λ m. other (to i low m)) (omega (arith, low, down)) ∙ one.times i (λ m. other (from i low m)) low;
   rests = λ i other low. two.rests i (λ m. other (to i low m)) (omega (arith, low, down)) ∙ one.rests i (λ m. other (from i low m)) low;
+  laned = λ i has. two.laned i (one.laned i has);
 }
 
 -- a sub-clock of which no instants are kept
@@ -69,12 +70,13 @@ samples_then clocks rank level lower touched first next many a b c down from to 
 -- a clock's own nodes go on behind the sub-clocks
 pub left_above : (clocks : List NodeClock) (rank : NodeClock → ℕ) (clock : NodeClock) (a b c : ClockLanes) → AreAbove clocks rank (rank clock) (is_in clocks clock) a b
     → ((i : ℕ) → same_clock (clock_at clocks i) clock ≡ false → slice_get c.states.items i ≡ slice_get b.states.items i) → c.times ≡ b.times → c.runs.held ≡ b.runs.held → c.runs.rests ≡ b.runs.rests
-    → AreLeft clocks rank (rank clock) (is_in clocks clock) a c
-left_above clocks rank clock a b c above states times held rests = record {
+    → ((i : ℕ) → laned_at b i → laned_at c i) → AreLeft clocks rank (rank clock) (is_in clocks clock) a c
+left_above clocks rank clock a b c above states times held rests laned = record {
   states = λ i other low. states i (they_differ (clock_at clocks i) clock other) ∙ above.states i low;
   times = λ i other low. ap (λ xs. slice_get xs.items i) times ∙ above.times i other low;
   held = λ i other low. ap (λ ps. part_at ps.items i) held ∙ above.held i low;
   rests = λ i other low. ap (λ xs. slice_index_or xs.items i 0) rests ∙ above.rests i other low;
+  laned = λ i has. laned i (above.laned i has);
 }
 
 -- what a clock's nodes have ahead

@@ -37,7 +37,9 @@ use Rattle.node_states.proofs.Running.{fed_none, needed_kept}
 use Rattle.engine_instants.specs.Held.{IsHeld, goes_through, passes_at}
 use Rattle.engine_instants.specs.Runs.{HasGoneOn, IsBehind, IsGoing, begun_on}
 use Rattle.engine_instants.specs.States.{ClockStands}
+use Rattle.engine_instants.proofs.Samples.{samples_none}
 use Rattle.sub_clocks.specs.declared.lanes.ClockLanes.{ClockLanes}
+use Rattle.sub_clocks.specs.Clocks.{laned_at}
 use Rattle.sub_clocks.specs.Clocks.{HasRanks, IsOpen, RanAsNeeded, Stand, fade_at, is_fade, is_in, rest_at}
 use Rattle.sub_clocks.proofs.Titled.{held_title}
 use Rattle.sub_clocks.specs.Runs.{AreAbove, CanRun, HasRunOn, IsRunOf, SubsRun}
@@ -138,6 +140,7 @@ module _ (setting : Setting) (sub : ℕ → ℕ → List Slot) (rank : NodeClock
     (times : new.times ≡ mid.times) (held : new.runs.held ≡ mid.runs.held) (rests : new.runs.rests ≡ mid.runs.rests)
     (others : (i : ℕ) → lies_in setting clock i ≡ false → slice_get new.states.items i ≡ slice_get mid.states.items i)
     (in_times : length mid.times.items ≡ length setting.plan.nodes) (mid_states : length mid.states.items ≡ length setting.plan.nodes)
+    (laned : (i : ℕ) → laned_at mid i → laned_at new i)
     (goes_on : (past : List Moment) (fed : ℕ → ℕ) → IsGoing setting sub clock past many fed mid.runs.held.items mid.states.items mid.runs.left.items mid.runs.right.items
     → HasGoneOn setting sub clock past many fed mid.states.items new.runs.left.items new.runs.right.items new.states.items) where
   abbrev Past : List Moment
@@ -257,6 +260,9 @@ module _ (setting : Setting) (sub : ℕ → ℕ → List Slot) (rank : NodeClock
           fed_kept i inside ∙ can.needed.begun i (reads_work setting i buffer node is.there work) (let l = level i inside in omega (arith, l)) ∙ ap ran inside ∙ can.at
           ∙ ap suc (sym (past_long setting sub clock n));
     };
+    laned = λ i node is.
+        let inside = same_clock-true (clock_of setting i) clock is.inside in
+        above.laned i (can.stand.laned i (slice_get_within setting.plan.nodes i node is.there) (let l = level i inside in omega (arith, l)));
     supplied = record {
       each = λ k node state is found gave through.
           let inside = same_clock-true (clock_of setting k) clock is.inside in
@@ -525,6 +531,7 @@ module _ (setting : Setting) (sub : ℕ → ℕ → List Slot) (rank : NodeClock
           subst (λ m. TimeStands setting.start m time) (sym (now_sub k low high)) (s.time k time low high stored_mid);
       needed = needed_below setting sub rank (rank clock) (suc (rank clock)) Now Fed (omega arith) needed_all;
       kept = open_all;
+      laned = λ i within high. laned i (above.laned i (can.stand.laned i within high));
     };
     once = put-same s.ran_now clock (ran clock + many);
     others = λ other apart low. put-other s.ran_now clock (ran clock + many) other apart ∙ s.others other low;
@@ -547,7 +554,7 @@ has_run_none setting sub rank own clock n ran fed front lanes stand needed = rec
   needed = needed;
   quiet = λ j low. absurd (omega (arith, low));
   slots = λ i is. record {
-    given = λ there. record { left_is = refl; right_is = refl; inner = λ j low. absurd (omega (arith, low)) };
+    given = λ there. record { left_is = samples_none lanes.runs.left.items i; right_is = samples_none lanes.runs.right.items i; inner = λ j low. absurd (omega (arith, low)) };
     titled = λ there j low. absurd (omega (arith, low));
     silent = λ none j low. absurd (omega (arith, low));
   };

@@ -16,6 +16,7 @@ use Rattle.node_states.specs.declared.time.WeekTime.{WeekTime}
 use Rattle.node_states.specs.States.{StateStands}
 use Rattle.node_states.specs.Times.{TimeStands}
 use Rattle.sub_clocks.specs.declared.lanes.ClockLanes.{ClockLanes}
+use Rattle.sub_clocks.proofs.Levels.{lanes_same}
 use Rattle.engine_instants.proofs.Places.{same_or_other}
 use Rattle.sub_clocks.specs.Clocks.{AreLeft, AreOwnRoots, GoesOnFor, HasRanks, IsFeeding, IsOpen, fade_at, is_in, is_none, rest_at}
 use Rattle.sub_clocks.proofs.Kept.{goes_kept, open_kept}
@@ -103,10 +104,11 @@ module _ (setting : Setting) (sub : ℕ → ℕ → List Slot) (rank : NodeClock
 pub fed_kept : (setting : Setting) (sub : ℕ → ℕ → List Slot) (rank : NodeClock → ℕ) (ranks : HasRanks setting.clocks rank) (in_clocks : length setting.clocks ≡ length setting.plan.nodes)
     (k : ℕ) (within : k < length setting.plan.nodes) (ran : NodeClock → ℕ) (fed : ℕ → ℕ) (front : ℕ → List Answer) (more : List Call) (old new : ClockLanes) (rest : ℕ)
     → new.states ≡ old.states → new.times ≡ old.times → new.runs.held ≡ old.runs.held → rest_at new k ≡ rest → ((i : ℕ) → (i ≡ k → ⊥) → rest_at new i ≡ rest_at old i)
+    → new.runs.left ≡ old.runs.left → new.runs.right ≡ old.runs.right
     → (r : IsFeeding setting sub rank (rank (clock_of setting k)) k is_none ran fed front more old)
     → (0 < rest → IsOpen setting sub k rest r.reached.ran_now r.reached.fed_now old)
     → IsFeeding setting sub rank (rank (clock_of setting k)) k is_none ran fed front more new
-fed_kept setting sub rank ranks in_clocks k within ran fed front more old new rest states times held is others r opens = record {
+fed_kept setting sub rank ranks in_clocks k within ran fed front more old new rest states times held is others left right r opens = record {
   reached = record {
     ran_now = r.reached.ran_now;
     fed_now = r.reached.fed_now;
@@ -117,6 +119,7 @@ fed_kept setting sub rank ranks in_clocks k within ran fed front more old new re
       time = λ i time above at. r.reached.stand.time i time above (sym (ap (λ xs. slice_get xs.items i) times) ∙ at);
       needed = r.reached.stand.needed;
       kept = kept_all;
+      laned = λ i low above. lanes_same old new left right i (r.reached.stand.laned i low above);
     };
     others = r.reached.others;
     held = r.reached.held;

@@ -15,6 +15,5 @@ mod Children
 pub mod SubRuns
 mod SubSteps
 pub mod Behind
-mod Sampled
 pub mod FedOn
 pub mod Settling

@@ -22,6 +22,7 @@ use Rattle.node_states.specs.Ticks.{past_of}
 use Rattle.node_states.specs.Times.{TimeStands}
 use Rattle.engine_instants.specs.States.{AreRoots, AreSettled, ClockStands}
 use Rattle.sub_clocks.specs.declared.lanes.ClockLanes.{ClockLanes}
+use Rattle.sub_clocks.specs.Clocks.{laned_at}
 use Rattle.engine_instants.specs.Takes.{begun_by, begun_in}
 use Rattle.sub_clocks.specs.Clocks.{AreFed, AreOwnRoots, AreReady, HasMadeInstant, HasRanks, IsOpen, RanAsNeeded, Stand, fade_at, is_fade, rest_at}
 use Rattle.engine_instants.specs.Held.{IsHeld}
@@ -102,7 +103,7 @@ module _ (setting : Setting) (sub : ℕ → ℕ → List Slot) (rank : NodeClock
       (others : (i : ℕ) → same_clock (clock_of setting i) clock ≡ false → slice_get new.states.items i ≡ slice_get lanes.states.items i)
       (times : new.times.items ≡ lanes.times.items)
       (held : (i : ℕ) → same_clock (clock_of setting i) clock ≡ false → part_at new.runs.held.items i ≡ part_at lanes.runs.held.items i)
-      (rests : (i : ℕ) → rest_at new i ≡ rest_at lanes i) where
+      (rests : (i : ℕ) → rest_at new i ≡ rest_at lanes i) (laned : (i : ℕ) → laned_at lanes i → laned_at new i) where
     -- no crossfade of the clock's rank or a deeper one has this clock for its sub-clock
     no_sub : (k : ℕ) → k < length setting.plan.nodes → rank clock ≤ rank (clock_of setting k) → Sub k ≡ clock → ⊥
     no_sub k within above e = let up = ranks.deeper k (omega (arith, within, in_clocks)) in let same : rank (Sub k) ≡ rank clock = ap rank e in omega (arith, up, same, above)
@@ -231,6 +232,7 @@ module _ (setting : Setting) (sub : ℕ → ℕ → List Slot) (rank : NodeClock
               (let low = slice_get_within new.times.items k time at in let many = ap length times in omega (arith, low, many, in_times)) above at;
           needed = needed_below setting sub rank (rank clock) (suc (rank clock)) (bumped u.reached.ran_now clock) u.reached.fed_now (omega arith) needed_all;
           kept = open_all;
+          laned = λ i within above. laned i (u.reached.stand.laned i within above);
         };
         once = bumped-same u.reached.ran_now clock ∙ ap suc (u.reached.others clock (omega arith));
         others = λ other apart low. bumped-other u.reached.ran_now clock other apart ∙ u.reached.others other low;

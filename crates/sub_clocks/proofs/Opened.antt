@@ -23,6 +23,7 @@ use Rattle.engine_instants.specs.Nodes.{lies_at}
 use Rattle.engine_instants.specs.States.{ClockStands, IsIn, over}
 use Rattle.engine_instants.specs.Takes.{HasOwnReaders, HaveBegun, HaveTaken, HaveTakenSome, begun_by, begun_in, takes_below}
 use Rattle.sub_clocks.specs.declared.lanes.ClockLanes.{ClockLanes}
+use Rattle.engine_instants.specs.Runs.{HasLanes}
 use Rattle.sub_clocks.specs.Clocks.{ClockOpened, HasRanks, IsOpen, OpeningStopped, RanAsNeeded, Stand, rest_at}
 use Rattle.plan_core.specs.declared.plan.Plan.{Plan}
 use Rattle.frame_core.specs.Library.{Sounds}
@@ -187,6 +188,7 @@ module _ (setting : Setting) (sub : ℕ → ℕ → List Slot) (rank : NodeClock
       time = λ k time above at. stand.time k time above (ap (λ ts. slice_get ts k) (sym times) ∙ at);
       needed = record { each = stand.needed.each; begun = begun_all };
       kept = open_all;
+      laned = λ i within above. subst (λ r. HasLanes r.left.items r.right.items i) (sym runs) (stand.laned i within above);
     }
 
 -- what holds of an answer holds of what follows from it

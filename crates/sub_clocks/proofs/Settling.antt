@@ -56,12 +56,13 @@ module _ {T : Type 0} (stands : T → List Call → Type 0) (plan : Plan) (libra
 
     -- no instants of the sub-clock are kept any more
     pub node_closed : (within : k < length plan.nodes) (lanes kept : ClockLanes) (b : T) → kept.states ≡ lanes.states → kept.times ≡ lanes.times → kept.runs.held ≡ lanes.runs.held
-        → rest_at kept k ≡ 0 → ((i : ℕ) → (i ≡ k → ⊥) → rest_at kept i ≡ rest_at lanes i) → NodeFeeding stands plan library clocks own k old lanes a b → NodeFeeding stands plan library clocks own k old kept a b
-    node_closed within lanes kept b states times held none others so = record {
+        → rest_at kept k ≡ 0 → ((i : ℕ) → (i ≡ k → ⊥) → rest_at kept i ≡ rest_at lanes i) → kept.runs.left ≡ lanes.runs.left → kept.runs.right ≡ lanes.runs.right
+        → NodeFeeding stands plan library clocks own k old lanes a b → NodeFeeding stands plan library clocks own k old kept a b
+    node_closed within lanes kept b states times held none others left right so = record {
       more = so.more;
       taps = so.taps;
       feeding = λ other sub rank ran fed front world has stand.
-          fed_kept (over plan library clocks other) sub rank world.ranks in_clocks k within ran fed front so.more lanes kept 0 states times held none others
+          fed_kept (over plan library clocks other) sub rank world.ranks in_clocks k within ran fed front so.more lanes kept 0 states times held none others left right
           (so.feeding other sub rank ran fed front world has stand) (λ some. absurd (omega (arith, some)));
     }
 

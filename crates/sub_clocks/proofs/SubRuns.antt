@@ -21,6 +21,8 @@ use Rattle.node_states.specs.Passing.{LaneFeeds}
 use Rattle.node_states.specs.Times.{TimeStands}
 use Rattle.engine_instants.proofs.Places.{same_or_other as same_place}
 use Rattle.sub_clocks.specs.declared.lanes.ClockLanes.{ClockLanes}
+use Rattle.sub_clocks.proofs.Levels.{lanes_same}
+use Rattle.engine_instants.specs.Runs.{HasLanes}
 use Rattle.sub_clocks.specs.Clocks.{AreLeft, IsOpen, IsWorld, RanAsNeeded, Stand, is_in, rest_at}
 use Rattle.sub_clocks.specs.Runs.{AreSamplesLeft, CanRun, HasRunOn, SubsRun}
 use Rattle.sub_clocks.proofs.Equal.{item_at, other_subs, same_or_above}
@@ -138,6 +140,7 @@ module _ (setting : Setting) (sub : ℕ → ℕ → List Slot) (rank : NodeClock
           open_kept setting sub k s.ran_now s.ran_now s.fed_now s.fed_now lanes kept refl (others_kept k (not_i k above))
           (λ j here. (refl, ap (λ xs. slice_get xs.items j) kept_states, ap (λ ps. part_at ps.items j) kept_held))
           (s.stand.kept k low (let u = up in omega (arith, u, above))) more;
+      laned = λ k low above. lanes_same lanes kept kept_left kept_right k (s.stand.laned k low (let u = up in omega (arith, u, above)));
     }
 
     can : CanRun setting sub rank own (Sub i) opened.n many s.ran_now s.fed_now front kept
@@ -273,6 +276,7 @@ module _ (setting : Setting) (sub : ℕ → ℕ → List Slot) (rank : NodeClock
         time = λ k time above at. time_all k time (let l = slice_get_within new.times.items k time at in omega (arith, l, in_new)) (omega (arith, above)) at;
         needed = needed_below setting sub rank (rank (Sub i)) (suc (suc (rank clock))) h.ran_now h.fed_now (let u = up in omega (arith, u)) h.needed;
         kept = open_deep;
+        laned = λ k low above. subst (λ r. HasLanes r.left.items r.right.items k) (sym runs) (h.stand.laned k low (let u = up in omega (arith, u, above)));
       };
       needed = subst (λ n. RanAsNeeded setting sub rank n h.ran_now h.fed_now) up h.needed;
       others = λ other low. h.others other (apart_low other low) (let u = up in omega (arith, u, low)) ∙ s.others other low;

@@ -19,6 +19,8 @@ use Rattle.engine_instants.specs.States.{over}
 use Rattle.engine_instants.proofs.Ahead.{ahead_less, ahead_same, through_less, through_same}
 use Rattle.engine_instants.proofs.Kept.{held_gives}
 use Rattle.sub_clocks.specs.declared.lanes.ClockLanes.{ClockLanes}
+use Rattle.sub_clocks.proofs.Levels.{lanes_same}
+use Rattle.engine_instants.specs.Runs.{HasLanes}
 use Rattle.sub_clocks.specs.Clocks.{AreLeft, AreResting, HasRanks, IsIdle, clock_at, is_in, is_node, is_none, is_upto, rest_at}
 use Rattle.sub_clocks.specs.Runs.{AreAbove, AreSamplesLeft, ClockRun, SubClockRun, SubClocksRun, SubsRun}
 use Rattle.node_mixing.specs.Runs.{samples_of}
@@ -137,14 +139,15 @@ samples_step clocks rank clock i many a b c ranks within here one two =
 -- the run of node i's sub-clock leaves what lies above it
 pub above_sub : (clocks : List NodeClock) (rank : NodeClock → ℕ) (i : ℕ) (lanes kept mid new : ClockLanes) → HasRanks clocks rank → i < length clocks
     → kept.states ≡ lanes.states → kept.times ≡ lanes.times → kept.runs.held ≡ lanes.runs.held → ((k : ℕ) → (k ≡ i → ⊥) → rest_at kept k ≡ rest_at lanes k)
-    → AreLeft clocks rank (rank (Sub i)) (is_in clocks (Sub i)) kept mid
+    → kept.runs.left ≡ lanes.runs.left → kept.runs.right ≡ lanes.runs.right → AreLeft clocks rank (rank (Sub i)) (is_in clocks (Sub i)) kept mid
     → new.states ≡ mid.states → new.runs ≡ mid.runs → ((k : ℕ) → (k ≡ i → ⊥) → slice_get new.times.items k ≡ slice_get mid.times.items k)
     → AreAbove clocks rank (rank (clock_at clocks i)) (is_node i) lanes new
-above_sub clocks rank i lanes kept mid new ranks within states times held rests left new_states new_runs new_times = record {
+above_sub clocks rank i lanes kept mid new ranks within states times held rests kept_left kept_right left new_states new_runs new_times = record {
   states = λ k low. ap (λ xs. slice_get xs.items k) new_states ∙ left.states k (apart k low) (deep k low) ∙ ap (λ xs. slice_get xs.items k) states;
   held = λ k low. ap (λ r. part_at r.held.items k) new_runs ∙ left.held k (apart k low) (deep k low) ∙ ap (λ ps. part_at ps.items k) held;
   times = λ k other low. new_times k other ∙ left.times k (apart k low) (deep k low) ∙ ap (λ xs. slice_get xs.items k) times;
   rests = λ k other low. ap (λ r. slice_index_or r.rests.items k 0) new_runs ∙ left.rests k (apart k low) (deep k low) ∙ rests k other;
+  laned = λ k has. subst (λ r. HasLanes r.left.items r.right.items k) (sym new_runs) (left.laned k (lanes_same lanes kept kept_left kept_right k has));
 }
   where
     deep : (k : ℕ) → rank (clock_at clocks k) ≤ rank (clock_at clocks i) → rank (clock_at clocks k) ≤ rank (Sub i)

@@ -21,6 +21,7 @@ use Rattle.node_states.specs.Ticks.{past_of}
 use Rattle.node_states.specs.Times.{TimeStands}
 use Rattle.engine_instants.proofs.Places.{same_or_other}
 use Rattle.sub_clocks.specs.declared.lanes.ClockLanes.{ClockLanes}
+use Rattle.engine_instants.specs.Runs.{HasLanes}
 use Rattle.sub_clocks.specs.Clocks.{AreLeft, HasItem, HasRanks, IsFeeding, IsFeedingStopped, IsOpen, IsReached, RanAsNeeded, Stand, calls_below, fade_at, is_in, is_node, is_none, rest_at}
 use Rattle.sub_clocks.proofs.Equal.{fed_more, fed_more-other, fed_more-same, item_at, other_subs, same_or_above}
 use Rattle.sub_clocks.proofs.Fading.{fade_within, fades_on, reads_fade, reads_work}
@@ -45,6 +46,7 @@ stand_below setting sub rank low high ran fed front lanes up stand = record {
   time = λ k time above at. stand.time k time (omega (arith, up, above)) at;
   needed = needed_below setting sub rank (suc low) (suc high) ran fed (omega (arith, up)) stand.needed;
   kept = λ k within above. stand.kept k within (omega (arith, up, above));
+  laned = λ i within above. stand.laned i within (omega (arith, up, above));
 }
 
 -- the slots of a crossfade's child, one instant later
@@ -286,6 +288,7 @@ module _ (setting : Setting) (sub : ℕ → ℕ → List Slot) (rank : NodeClock
               time = time_all;
               needed = needed_all;
               kept = open_all;
+              laned = λ i inside above. subst (λ it. HasLanes it.left.items it.right.items i) (sym feeds.runs) (left.laned i (r.reached.stand.laned i inside above));
             };
             others = λ clock low. m.others clock (apart clock low) (under clock low) ∙ r.reached.others clock low;
             held = λ i other low. fed_more-other m.fed_now k many i other ∙ m.held i (apart (clock_of setting i) low) (under (clock_of setting i) low) ∙ r.reached.held i other low;

@@ -24,7 +24,7 @@ use Rattle.node_states.specs.Ticks.{past_of}
 use Rattle.node_states.specs.Times.{TimeStands}
 use Rattle.engine_instants.specs.Nodes.{AreNodesOf, IsLatest}
 use Rattle.engine_instants.specs.Held.{AllAsk, AllPassOn, IsHeld}
-use Rattle.engine_instants.specs.Runs.{AllLieAhead, HasRunRoom}
+use Rattle.engine_instants.specs.Runs.{AllLieAhead, HasLanes, HasRunRoom}
 use Rattle.engine_instants.specs.States.{AllFit, HasRoomFor, over}
 use Rattle.engine_instants.specs.Takes.{HasOwnReaders, begun_in}
 use Rattle.sub_clocks.specs.declared.lanes.ClockLanes.{ClockLanes}
@@ -42,6 +42,10 @@ pub record HasLevels (clocks : List NodeClock) (clock : NodeClock) (levels : ℕ
   pub rank : NodeClock → ℕ
   pub ranks : HasRanks clocks rank
   pub enough : (k : ℕ) → k < length clocks → rank (Sub k) ≤ rank clock + levels
+
+-- node i has lanes for its samples
+abbrev pub laned_at : ClockLanes → ℕ → Type 0
+laned_at lanes i = HasLanes lanes.runs.left.items lanes.runs.right.items i
 
 -- how many instants go on as the latest one of the sub-clock of crossfade k did, of those that are kept
 abbrev pub rest_at : ClockLanes → ℕ → ℕ
@@ -103,6 +107,8 @@ pub record AreLeft (clocks : List NodeClock) (rank : NodeClock → ℕ) (level :
   pub times : (i : ℕ) → (touched i → ⊥) → rank (clock_at clocks i) ≤ level → slice_get new.times.items i ≡ slice_get old.times.items i
   pub held : (i : ℕ) → (touched i → ⊥) → rank (clock_at clocks i) ≤ level → part_at new.runs.held.items i ≡ part_at old.runs.held.items i
   pub rests : (i : ℕ) → (touched i → ⊥) → rank (clock_at clocks i) ≤ level → rest_at new i ≡ rest_at old i
+  -- and each node its lanes
+  pub laned : (i : ℕ) → laned_at old i → laned_at new i
 
 -- whether a node's work is to fade
 abbrev pub is_fade : Work → Bool
@@ -145,7 +151,8 @@ pub record IsOpen (setting : Setting) (sub : ℕ → ℕ → List Slot) (k rest 
 
 -- the readers have taken these answers; in clocks of this rank and deeper ones the states stand for the instants that the clocks have
 -- made, each crossfade was fed what its sub-clock made, and the sub-clock's time is that of its next instant; and clocks deeper than
--- this ran as needed. `fed i` is also how many instants reader i has begun. Of states in lower clocks nothing is said: such may be idle
+-- this ran as needed; and their nodes have lanes. `fed i` is also how many instants reader i has begun. Of states in lower clocks nothing
+-- is said: such may be idle
 pub record Stand (setting : Setting) (sub : ℕ → ℕ → List Slot) (rank : NodeClock → ℕ) (level : ℕ) (ran : NodeClock → ℕ) (fed : ℕ → ℕ)
     (front : ℕ → List Answer) (lanes : ClockLanes) : Type 0 where
   pub stand : (i : ℕ) (node : Node) (state : NodeState) → slice_get setting.plan.nodes i ≡ Some node → slice_get lanes.states.items i ≡ Some state
@@ -157,6 +164,7 @@ pub record Stand (setting : Setting) (sub : ℕ → ℕ → List Slot) (rank : N
       → TimeStands setting.start (ran (Sub k)) time
   pub needed : RanAsNeeded setting sub rank (suc level) ran fed
   pub kept : (k : ℕ) → k < length setting.plan.nodes → level ≤ rank (clock_of setting k) → 0 < rest_at lanes k → IsOpen setting sub k (rest_at lanes k) ran fed lanes
+  pub laned : (i : ℕ) → i < length setting.plan.nodes → level ≤ rank (clock_of setting i) → laned_at lanes i
 
 -- the item of node k is settled, if it is a crossfade, by no more slots than it takes
 pub record HasItem (setting : Setting) (sub : ℕ → ℕ → List Slot) (ran : NodeClock → ℕ) (fed : ℕ → ℕ) (k : ℕ) (node : Node) : Type 0 where

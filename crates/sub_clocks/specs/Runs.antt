@@ -17,7 +17,7 @@ use Rattle.engine_instants.specs.States.{over}
 use Rattle.sub_clocks.specs.declared.lanes.ClockLanes.{ClockLanes}
 use Rattle.engine_instants.specs.Held.{IsHeld, gave_at, goes_through, passes_at}
 use Rattle.node_states.specs.Passing.{LaneFeeds}
-use Rattle.sub_clocks.specs.Clocks.{GoesOnFor, IsFeeding, IsOpen, IsWorld, RanAsNeeded, Stand, clock_at, fade_at, is_none, rest_at}
+use Rattle.sub_clocks.specs.Clocks.{GoesOnFor, IsFeeding, IsOpen, IsWorld, RanAsNeeded, Stand, clock_at, fade_at, is_none, laned_at, rest_at}
 
 -- at so many instants a node offers nothing, where it offered nothing at the one before them; or cells of its title there that begin no
 -- track, and these are their samples
@@ -121,9 +121,10 @@ pub record AreSamplesLeft (clocks : List NodeClock) (rank : NodeClock → ℕ) (
   pub right : (i : ℕ) → (touched i → ⊥) → rank (clock_at clocks i) ≤ level → samples_of new.runs.right.items i many ≡ samples_of old.runs.right.items i many
 
 -- nodes in clocks of this rank or a lower one have the states that they had, and what is kept of them; and but for some nodes their
--- sub-clocks have the times and the instants that are kept
+-- sub-clocks have the times and the instants that are kept; and each node keeps its lanes
 pub record AreAbove (clocks : List NodeClock) (rank : NodeClock → ℕ) (level : ℕ) (touched : ℕ → Type 0) (old new : ClockLanes) : Type 0 where
   pub states : (i : ℕ) → rank (clock_at clocks i) ≤ level → slice_get new.states.items i ≡ slice_get old.states.items i
   pub held : (i : ℕ) → rank (clock_at clocks i) ≤ level → part_at new.runs.held.items i ≡ part_at old.runs.held.items i
   pub times : (i : ℕ) → (touched i → ⊥) → rank (clock_at clocks i) ≤ level → slice_get new.times.items i ≡ slice_get old.times.items i
   pub rests : (i : ℕ) → (touched i → ⊥) → rank (clock_at clocks i) ≤ level → rest_at new i ≡ rest_at old i
+  pub laned : (i : ℕ) → laned_at old i → laned_at new i

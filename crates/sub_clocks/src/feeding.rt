@@ -1,5 +1,5 @@
 // What a crossfade takes of the instants of its sub-clock.
-ghost use Rattle.std.specs.Prelude.{◌≡◌, ◌<◌, ◌≤◌, ◌+◌, ◌*◌, ◌++◌, ◌∷◌, ℕ, suc, List, [], Some, true, is_some, length, slice_get, slice_index_or};
+ghost use Rattle.std.specs.Prelude.{◌≡◌, ◌<◌, ◌≤◌, ◌+◌, ◌++◌, ◌∷◌, ℕ, suc, List, [], Some, true, is_some, length, slice_get, slice_index_or};
 ghost use Rattle.liq_base.specs.declared.limits.TheConstants.{MAX_NODES};
 ghost use Rattle.plan_core.specs.Plans.{AreNodes};
 ghost use Rattle.clock_infer.specs.declared.clock_map.NodeClock.{NodeClock as Clock};
@@ -99,7 +99,8 @@ pub fn feed_on(shape: &Shape<'_>, lanes: &mut ClockLanes, k: u32, time: WeekTime
     feed_lane(shape, lanes, k, many);
 }
 
-// How many instants of the sub-clock of crossfade k go on as its latest one did, at this time, if the child gave.
+// How many instants of the sub-clock of crossfade k go on as its latest one did, at this time, if the child gave; no more than the
+// crossfade can use.
 fn goes_for(shape: &Shape<'_>, lanes: &ClockLanes, k: u32, time: WeekTime) -> u32
     requires nodes { AreNodes shape.now.plan.now.nodes }
     requires in_clocks { length shape.now.clocks.now ≡ length shape.now.plan.now.nodes }
@@ -120,7 +121,21 @@ fn goes_for(shape: &Shape<'_>, lanes: &ClockLanes, k: u32, time: WeekTime) -> u3
     if slot_of(&lanes.latest.parts, child).is_none() {
         return 0;
     }
-    rest_for(shape, lanes, NodeClock::Sub(k), time, u32::MAX)
+    let most = most_used(lanes, k);
+    rest_for(shape, lanes, NodeClock::Sub(k), time, most)
+}
+
+// How many of its sub-clock's instants that go on crossfade k can use at once, at most: as many as it takes where it wants any, else those of a
+// run through it.
+fn most_used(lanes: &ClockLanes, k: u32) -> u32
+    requires within { k < length lanes.now.states.items }
+    ensures some { 0 < result }
+    ensures short { result ≤ 1024 }
+{
+    match lanes.states[k as usize].room() {
+        0 => MAX_RUN,
+        room => room.min(MAX_RUN),
+    }
 }
 
 // How many of so many slots more crossfade k takes, and a run has at most.
@@ -177,8 +192,6 @@ fn feed_lane(shape: &Shape<'_>, lanes: &mut ClockLanes, k: u32, many: u32)
 fn feed_samples(state: &mut NodeState, runs: &Runs, child: u32, title: u32, count: usize)
     requires short { count ≤ 1024 }
     requires some { 0 < count }
-    requires in_left { (child + 1) * 1024 ≤ length runs.now.left.items }
-    requires in_right { (child + 1) * 1024 ≤ length runs.now.right.items }
     requires room { count ≤ room state.old }
     ensures fits { (library : Sounds) (children : ℕ) → Fits library children state.old → Fits library children state.new }
     ensures less { left state.new < left state.old }

@@ -31,6 +31,8 @@ pub fn finish(
     ensures kept { (i : ℕ) → same_clock (slice_index_or shape.now.clocks.now i (InMain 0)) clock ≡ false
         → part_at lanes.new.runs.held.items i ≡ part_at lanes.old.runs.held.items i }
     ensures rests { lanes.new.runs.rests ≡ lanes.old.runs.rests }
+    ensures left { lanes.new.runs.left ≡ lanes.old.runs.left }
+    ensures right { lanes.new.runs.right ≡ lanes.old.runs.right }
     ensures others { (i : ℕ) → same_clock (slice_index_or shape.now.clocks.now i (InMain 0)) clock ≡ false
         → slice_get lanes.new.states.items i ≡ slice_get lanes.old.states.items i }
     ensures times { lanes.new.times.items ≡ lanes.old.times.items }

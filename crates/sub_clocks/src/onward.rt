@@ -10,7 +10,7 @@ ghost use Rattle.node_mixing.specs.Runs.{samples_of};
 ghost use Rattle.engine_instants.specs.Held.{AllPassOn, gave_at, passes_at};
 ghost use Rattle.engine_instants.specs.Runs.{AllLieAhead, HasGoneOn, IsGoing};
 ghost use Rattle.engine_instants.specs.States.{over};
-ghost use Rattle.sub_clocks.specs.Clocks.{AreClockLanes, AreLeft, HasLevels, HasRanks, IsIdle, is_in, is_node, is_none, is_upto, rest_at};
+ghost use Rattle.sub_clocks.specs.Clocks.{AreClockLanes, AreLeft, HasLevels, HasRanks, IsIdle, is_in, is_node, is_none, is_upto, laned_at, rest_at};
 ghost use Rattle.sub_clocks.specs.Runs.{AreAbove, AreSamplesLeft, ClockRun, SubClockRun, SubClocksRun};
 
 use crate::ClockLanes;
@@ -145,6 +145,7 @@ fn run_own(shape: &Shape<'_>, lanes: &mut ClockLanes, clock: NodeClock, many: u3
         → samples_of lanes.new.runs.left.items i many ≡ samples_of lanes.old.runs.left.items i many }
     ensures right { (i : ℕ) → same_clock (slice_index_or shape.now.clocks.now i (InMain 0)) clock ≡ false
         → samples_of lanes.new.runs.right.items i many ≡ samples_of lanes.old.runs.right.items i many }
+    ensures laned { (i : ℕ) → laned_at lanes.old i → laned_at lanes.new i }
     ensures run { (other : Setting) (sub : ℕ → ℕ → List TheSlot) (past : List Moment) (fed : ℕ → ℕ) →
         let setting = over shape.now.plan.now shape.now.library.now shape.now.clocks.now other in
         IsGoing setting sub clock past many fed lanes.old.runs.held.items lanes.old.states.items lanes.old.runs.left.items lanes.old.runs.right.items

@@ -2,7 +2,7 @@
 ghost use Rattle.std.specs.Prelude.{◌≡◌, ◌<◌, ◌≤◌, ◌+◌, ◌&&◌, Some, slice_get, true, IfOk, IfErr, OnErr, length};
 ghost use Rattle.trace_replay.specs.Answering.{BufferState, PutsOn, TakesOn, SameBuffer, begun, is_list};
 
-use frame_core::{Chunk, Frame};
+use frame_core::Chunk;
 use liq_base::Memory;
 use std::alloc::Global;
 use std::marker::Model;
@@ -70,20 +70,6 @@ impl Model for ToldBuffer {
     ghost invariant = { λ b. (b.put_at ≤ length b.puts.items) × (b.take_at ≤ length b.takes.items) × (b.got ≤ length b.chunks.items) × (b.opened ≤ length b.chunks.items) };
 }
 
-// The same chunk again.
-fn copy_of(alloc: Global, chunk: &Chunk) -> Result<Chunk, Memory>
-    ensures { IfOk result (λ copy. copy ≡ chunk.now) }
-{
-    let mut frame = Frame::new(alloc, chunk.len())?;
-    for at in 0..chunk.len() {
-        frame.set(at, Some(chunk.cell(at)));
-    }
-    match Chunk::from_frame(alloc, &frame)? {
-        Some(copy) => Ok(copy),
-        None => Err(Memory),
-    }
-}
-
 impl ToldBuffer {
     /// Begins a run of a clock, which feeds it or not, and reads it or not.
     pub fn begin(&mut self, fed: bool, read: bool)
@@ -148,7 +134,7 @@ impl ToldBuffer {
             }
             return Ok(Taken::Waits);
         }
-        let chunk = copy_of(alloc, &self.chunks[self.got])?;
+        let chunk = self.chunks[self.got].copy(alloc)?;
         self.take_at += 1;
         self.got += 1;
         Ok(Taken::Chunk(chunk))

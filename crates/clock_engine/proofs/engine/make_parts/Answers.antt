@@ -1,4 +1,4 @@
-use Rattle.std.proofs.Common.{◌≡◌, ◌∙◌, rules, [], length, ap, arith, refl, subst}
+use Rattle.std.proofs.Common.{◌∙◌, rules, [], length, slice_get, ap, arith, refl, subst}
 use Rattle.std.proofs.lemmas.Option.{slice_get_within}
 use Rattle.stream_meaning.specs.Instants.{Setting}
 use Rattle.engine_instants.specs.Runs.{HasRunRoom}
@@ -12,7 +12,6 @@ use Rattle.clock_engine.proofs.engine.make_parts.Goals as goal
 pub returns-clause-parts : goal.returns-clause-parts
 returns-clause-parts c =
     let S : Setting = record { plan = c.args.shape.plan.now; library = c.args.shape.library.now; clocks = c.args.shape.clocks.now; start = c.args.start.second; answers = λ buffer. [] } in
-    let nodes : c.len-4.result ≡ length c.args.shape.plan.now.nodes = c.len-4.ensures ∙ c.in_ok-states.states.ok.0 ∙ c.in_ok-states.ensures.size in
     record {
       plan = c.requires.plan;
       nodes = c.requires.plan.nodes;
@@ -36,7 +35,7 @@ returns-clause-parts c =
             marks = λ j outside. all_alike _ _ _ (c.in_ok-marks.ensures.items_if_clones_equal (λ y e. e)) j;
           };
           room = search rules;
-          runs = subst (λ n. HasRunRoom n c.in_ok-runs.runs) nodes c.in_ok-runs.ensures.room;
+          runs = subst (λ n. HasRunRoom n c.in_ok-runs.runs) (ap length c.deref.ensures.value ∙ c.in_ok-states.ensures.size) c.in_ok-runs.ensures.room;
           resting = record {
             ahead = λ k some. (let none = c.in_ok-runs.ensures.none k in absurd (omega (arith, none, some)));
             through = λ k some. (let none = c.in_ok-runs.ensures.none k in absurd (omega (arith, none, some)));
@@ -55,7 +54,7 @@ returns-clause-parts c =
       rooms = λ k d h. (c.in_ok-ports.ensures.new S k d h).room;
       feeds = c.in_ok-feeds.ensures.feeds S;
       frames = λ k d h. (c.in_ok-feeds.ensures.new k d h).long;
-      lists = c.in_ok-cues.ensures.size ∙ c.len-5.ensures ∙ c.in_ok-ports.ports.ok.0;
+      lists = c.in_ok-cues.ensures.size ∙ c.len-4.ensures ∙ c.in_ok-ports.ports.ok.0;
     }
 
 pub returns-clause-stands : goal.returns-clause-stands
@@ -65,7 +64,8 @@ returns-clause-stands c =
       made = refl;
       runs = refl;
       others = λ buffer unread. refl;
-      state = λ rest. new_stand (with_rest S (λ buffer. []) rest) c.args.clock _ (length c.args.shape.plan.now.nodes) _ (has_ranks c.args.shape.plan.now c.args.shape.clocks.now c.requires.clocks c.requires.in_clocks) (rank_low c.args.shape.plan.now c.args.shape.clocks.now c.requires.clocks c.requires.in_clocks) c.in_ok-states.ensures c.new-time.ensures.stands c.in_ok-times.ensures.each c.in_ok-runs.ensures.none;
+      state = λ rest. new_stand (with_rest S (λ buffer. []) rest) c.args.clock _ (length c.args.shape.plan.now.nodes) _ (has_ranks c.args.shape.plan.now c.args.shape.clocks.now c.requires.clocks c.requires.in_clocks) (rank_low c.args.shape.plan.now c.args.shape.clocks.now c.requires.clocks c.requires.in_clocks) c.in_ok-states.ensures c.new-time.ensures.stands c.in_ok-times.ensures.each c.in_ok-runs.ensures.none refl
+          (λ i state found busy. c.in_ok-runs.ensures.laned i state (ap (λ xs. slice_get xs i) c.deref.ensures.value ∙ found) busy);
       gaps_are = λ rest k port at. (all_at (IsNewPort S) c.in_ok-ports.ports.items (c.in_ok-ports.ensures.new S) k port at).gaps;
       cues_are = λ new rest k port list at_port at_list. c.in_ok-cues.ensures.none k list at_list;
     }

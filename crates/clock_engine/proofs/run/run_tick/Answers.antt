@@ -68,10 +68,7 @@ loop-instant-preserved g c =
     let next : instant + (1 + many) ≡ instant + suc many = omega arith in
     let lanes = c.make_segment.new.lanes.clocks in
     let slots : ℕ → List Slot = segment_of lanes many in
-    let runs = c.in_ok-many.ensures.lanes.below.runs in
-    let parts : length lanes.latest.parts.items ≡ length c.args.shape.now.plan.now.nodes = c.in_ok-many.ensures.lanes.below.latest.in_parts ∙ c.requires.in_clocks in
-    let few : many ≤ 1024 = omega (arith, c.in_ok-many.ensures.within, c.min-most.ensures) in
-    let long = segment_long lanes (length c.args.shape.now.plan.now.nodes) many parts runs few in
+    let long = segment_long lanes many in
     let is : c.hear_all.new.ports.items ≡ map (λ (port : Port). after_slots port (slots port.node)) c.loop-instant.ports.items = c.hear_all.ensures in
     let filled : c.feed_all.new.feeds.items ≡ map (λ (feed : FeedPort). with_slots_from instant (slots feed.node) feed) c.loop-instant.feeds.items = c.feed_all.ensures in
     record {

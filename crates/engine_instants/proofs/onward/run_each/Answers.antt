@@ -28,6 +28,9 @@ loop-i-init c =
       in_parts = refl;
       in_left = refl;
       in_right = refl;
+      spare_left = c.requires.spare_left;
+      spare_right = c.requires.spare_right;
+      laned = λ k has. has;
       others = λ k outside. refl;
       stayed = λ k high. refl;
       left_kept = λ k outside. refl;
@@ -82,6 +85,9 @@ loop-i-preserved c =
       in_parts = length-set _ _ _ ∙ c.loop-i.invariant.in_parts;
       in_left = search rules;
       in_right = search rules;
+      spare_left = c.run_node.ensures.spare_left;
+      spare_right = c.run_node.ensures.spare_right;
+      laned = λ k has. c.run_node.ensures.laned k (c.loop-i.invariant.laned k has);
       others = λ k outside. slice_get-set_other c.loop-i.states c.loop-i.i k c.run_node.new.state (λ e. not_here c.args.shape.now.clocks.now c.args.clock c.loop-i.i k inside outside (sym e))
           ∙ c.loop-i.invariant.others k outside;
       stayed = λ k high. slice_get-set_other c.loop-i.states c.loop-i.i k c.run_node.new.state (λ e. (let low = after.low in omega (arith, high, low, e)))
@@ -99,6 +105,7 @@ loop-i-preserved c =
             long = going.long;
             stretch = going.stretch;
             is = record { there = node.1; inside = inside };
+            laned = c.loop-i.invariant.laned c.loop-i.i (going.laned c.loop-i.i node.0 (record { there = node.1; inside = inside }));
             given = λ k low. parts_given S sub c.args.clock past c.args.held.now _ (suc c.loop-i.i) going.held_are laid k (omega (arith, low)) (omega (arith, low, in_nodes));
             begun = reads_begun (work_at S c.loop-i.i node.0) (fed c.loop-i.i) past (λ buffer at. going.begun.each c.loop-i.i node.0 buffer (record { there = node.1; inside = inside }) at);
             stands = going.stands.each c.loop-i.i node.0 _ (record { there = node.1; inside = inside }) was;

@@ -1,7 +1,7 @@
-use Rattle.std.proofs.Common.{◌≡◌, ◌<◌, ◌≤◌, ◌+◌, ◌*◌, ◌∙◌, ◌++◌, ◌∷◌, [], ℕ, true, false, get_or, length, take, arith, rules, ap, sym, subst}
+use Rattle.std.proofs.Common.{◌≡◌, ◌<◌, ◌+◌, ◌∙◌, ◌++◌, ◌∷◌, [], ℕ, true, false, get_or, length, take, arith, rules, ap, sym, subst}
 use Rattle.std.proofs.lemmas.List.{length-take, take_more}
 use Rattle.node_mixing.specs.Runs.{offers_in, samples_of}
-use Rattle.node_mixing.proofs.Summing.{Added, many_few, one_added, passed_over, room_for, samples_long}
+use Rattle.node_mixing.proofs.Summing.{Added, many_few, one_added, passed_over, room_for}
 use Rattle.node_mixing.proofs.lane.add_all.Goals as goal
 
 pub loop-child-preserved-then-not-offers : goal.loop-child-preserved-then-not-offers
@@ -33,11 +33,8 @@ loop-child-preserved c =
     take_more c.args.children.now c.loop-child.child-index 0 within in
     let loud : c.offers.result ≡ true = search rules in
     let heard : offers_in c.args.parts.now child ≡ true = sym c.offers.ensures ∙ loud in
-    let there : (child + 1) * 1024 ≤ length c.args.before.now =
-    c.requires.below c.loop-child.child-index 0 within in
-    let short : length c.loop-child.sums ≤ 1024 = omega (arith, c.loop-child.invariant.long, c.requires.short) in
     let lane_is : c.samples_of-lane.result.now ≡ samples_of c.args.before.now child (length c.args.sums.now) =
-    c.samples_of-lane.ensures ∙ ap (samples_of c.args.before.now child) c.loop-child.invariant.long in
+    c.samples_of-lane.ensures.is ∙ ap (samples_of c.args.before.now child) c.loop-child.invariant.long in
     let long : length c.add_into.new.sum ≡ length c.loop-child.sums = omega arith in
     record {
       long = long ∙ c.loop-child.invariant.long;
@@ -48,11 +45,7 @@ loop-child-preserved c =
     }
 
 pub add_into-requires-clause-same : goal.add_into-requires-clause-same
-add_into-requires-clause-same c =
-    let child : ℕ = get_or c.args.children.now c.loop-child.child-index 0 in
-    let there : (child + 1) * 1024 ≤ length c.args.before.now = c.requires.below c.loop-child.child-index 0 c.loop-child-test.true in
-    let short : length c.loop-child.sums ≤ 1024 = omega (arith, c.loop-child.invariant.long, c.requires.short) in
-    ap length c.samples_of-lane.ensures ∙ samples_long c.args.before.now child (length c.loop-child.sums) short there
+add_into-requires-clause-same c = c.samples_of-lane.ensures.long
 
 pub add_into-requires-clause-room : goal.add_into-requires-clause-room
 add_into-requires-clause-room c =

@@ -4,7 +4,7 @@ use Rattle.liq_base.specs.Kept.{rose_within}
 use Rattle.station_render.specs.OutputSinks.{told}
 use Rattle.station_render.specs.Sinks.{lists_of}
 use Rattle.station_render.proofs.Closing.{all_empty, both_ok, failed_left, has_first, none_failed, on_err_so, part_then, rooms_first, rooms_left, sizes_left, whole_if, whole_then}
-use Rattle.station_render.proofs.Listing.{closed_none, closed_then}
+use Rattle.station_render.proofs.Listing.{closed_none, closed_then, pieces_none, pieces_then}
 use Rattle.station_render.proofs.close.+close_each.Goals as goal
 
 pub end_all-requires : goal.end_all-requires
@@ -113,3 +113,18 @@ returns-clause-closed g t c =
     let split : c.args.order.now ≡ c.in-Some.clock.now ∷ c.in-Some.rest.now = search rules in
     closed_then c.args.order.now c.in-Some.rest.now c.in-Some.clock.now split (lists_of c.args.groups.items) (lists_of c.take_first-output.new.groups.items) c.take_first-output.result c.take_first-output.ensures
     g.S.Out.Sink.name g.S.Out.Sink.appends c.end_if-ended.new.output.sink c.end_if-ended.ensures.name c.end_if-ended.ensures.counts _ _ _ c.close-first.ensures.listed c.close_each-others.ensures.closed
+
+pub returns-in_default-clause-pieces : goal.returns-in_default-clause-pieces
+returns-in_default-clause-pieces g t c =
+    let none : length c.args.order.now ≡ 0 = search rules in
+    λ well. pieces_none g.S.Out.Sink.name g.S.Out.Sink.appends c.args.order.now (lists_of c.args.groups.items) none _
+
+pub returns-clause-pieces : goal.returns-clause-pieces
+returns-clause-pieces g t c =
+    let split : c.args.order.now ≡ c.in-Some.clock.now ∷ c.in-Some.rest.now = search rules in
+    let one : c.end_if-ended.result ≡ Ok c.in_ok-ended.field-0 = c.branch-ended.ensures ∙ (rw c.in_ok-ended.is refl) in
+    let two : c.close-first.result ≡ Ok c.in_ok-first.field-0 = c.branch-first.ensures ∙ (rw c.in_ok-first.is refl) in
+    whole_if c.close_each-others.result c.args.well c.still_well-goes_on.result _ _ (both_ok c.end_if-ended.result c.close-first.result _ _ _ one two c.still_well-goes_on.ensures.still)
+    (λ well. pieces_then c.args.order.now c.in-Some.rest.now c.in-Some.clock.now split (lists_of c.args.groups.items) (lists_of c.take_first-output.new.groups.items) c.take_first-output.result c.take_first-output.ensures
+    g.S.Out.Sink.name g.S.Out.Sink.appends c.end_if-ended.new.output.sink c.end_if-ended.ensures.name (c.in_ok-ended.ensures.pieces well) _ _ _ c.close-first.ensures.listed)
+    c.close_each-others.ensures.pieces

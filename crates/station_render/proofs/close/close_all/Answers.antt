@@ -43,3 +43,8 @@ returns-in_err-closed-clause-closed g c = c.close_each-closed.ensures.closed
 
 pub returns-clause-closed : goal.returns-clause-closed
 returns-clause-closed g c = c.close_each-closed.ensures.closed
+
+pub returns-clause-pieces : goal.returns-clause-pieces
+returns-clause-pieces g c =
+    let is : c.args.wrote ≡ Ok c.in_ok-rendered.rendered = c.branch-rendered.ensures ∙ (rw c.in_ok-rendered.is refl) in
+    c.in_ok-closed.ensures.pieces (c.is_ok.ensures.value ∙ ap is_ok is)

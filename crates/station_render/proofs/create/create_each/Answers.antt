@@ -11,7 +11,7 @@ use Rattle.station_render.proofs.Creating.{added_many, begun_here, broken_off, c
 use Rattle.station_render.proofs.Naming.{made_next, made_still, made_whole, names_next, names_still}
 use Rattle.stations.specs.Creations.{names_in}
 use Rattle.station_render.specs.Listed.{NoneListed, WasListed}
-use Rattle.station_render.proofs.Listing.{all_created, some_created, telling_more, telling_of}
+use Rattle.station_render.proofs.Listing.{all_created, are_telling, counted_more, counted_of, some_created}
 use Rattle.station_render.proofs.create.create_each.Goals as goal
 
 pub loop-sink-preserved-in_default : goal.loop-sink-preserved-in_default
@@ -28,8 +28,8 @@ loop-sink-preserved-in_default g c =
       size = c.loop-sink.invariant.size;
       files = c.loop-sink.invariant.files;
       made = made_still c.args.plan.now.sinks c.loop-sink.sink-index _ _ c.loop-sink.invariant.made c.in_default.field-0 c.in_default.field-1 at;
-      telling = telling_of (told g.S.Out.Sink.name) (told g.S.Out.Sink.appends) (g.S.Shelf.closed c.args.shelf.now) _ _ _ _ (names_still c.args.plan.now.sinks c.loop-sink.sink-index c.in_default.field-0 c.in_default.field-1 at)
-          c.loop-sink.invariant.telling;
+      counted = counted_of (told g.S.Out.Sink.name) (told g.S.Out.Sink.appends) (g.S.Shelf.closed c.args.shelf.now) 1 _ _ _ _ (names_still c.args.plan.now.sinks c.loop-sink.sink-index c.in_default.field-0 c.in_default.field-1 at)
+          c.loop-sink.invariant.counted;
       closed = c.loop-sink.invariant.closed;
       reads = c.loop-sink.invariant.reads;
       writes = c.loop-sink.invariant.writes;
@@ -98,9 +98,9 @@ loop-sink-preserved g c =
       files = c.create_one.ensures.files ∙ c.loop-sink.invariant.files;
       made = made_next c.args.plan.now.sinks c.loop-sink.sink-index _ _ c.loop-sink.invariant.made c.in-Output.name c.as_str.result.now c.in-Output.node c.in-Output.fallible c.in-Output.wide at c.as_str.ensures.same _
           listed.told;
-      telling = telling_of (told g.S.Out.Sink.name) (told g.S.Out.Sink.appends) (g.S.Shelf.closed c.args.shelf.now) _ _ _ _ (names_next c.args.plan.now.sinks c.loop-sink.sink-index c.in-Output.name c.in-Output.node c.in-Output.fallible c.in-Output.wide at)
-          (telling_more (told g.S.Out.Sink.name) (told g.S.Out.Sink.appends) (g.S.Shelf.closed c.args.shelf.now) (names_in (take c.loop-sink.sink-index c.args.plan.now.sinks)) c.opening_of-opening.result.clock c.in-Output.name c.as_str.result.now
-          _ _ _ _ _ _ below c.as_str.ensures.same c.loop-sink.invariant.telling listed);
+      counted = counted_of (told g.S.Out.Sink.name) (told g.S.Out.Sink.appends) (g.S.Shelf.closed c.args.shelf.now) 1 _ _ _ _ (names_next c.args.plan.now.sinks c.loop-sink.sink-index c.in-Output.name c.in-Output.node c.in-Output.fallible c.in-Output.wide at)
+          (counted_more (told g.S.Out.Sink.name) (told g.S.Out.Sink.appends) (g.S.Shelf.closed c.args.shelf.now) (names_in (take c.loop-sink.sink-index c.args.plan.now.sinks)) c.opening_of-opening.result.clock c.in-Output.name c.as_str.result.now
+          _ _ _ _ _ _ below c.as_str.ensures.same c.loop-sink.invariant.counted listed);
       closed = c.create_one.ensures.closed ∙ c.loop-sink.invariant.closed;
       reads = omega (arith, c.create_one.ensures.reads, c.loop-sink.invariant.reads);
       writes = omega (arith, c.create_one.ensures.writes, c.loop-sink.invariant.writes);
@@ -130,7 +130,7 @@ returns-in_err-create_one-clause-front g c =
     let below = clock_below c.args.plan.now c.requires.fit.0 c.args.clocks.now c.args.ticks c.requires.fit.1 c.loop-sink.sink-index c.in-Output.name c.in-Output.node c.in-Output.fallible c.in-Output.wide at
     c.opening_of-opening.result.clock c.opening_of-opening.ensures.clock (length (lists_of c.loop-sink.groups.items)) c.loop-sink.invariant.size in
     some_created (told g.S.Out.Sink.name) (told g.S.Out.Sink.appends) (g.S.Shelf.closed c.args.shelf.now) c.args.plan.now.sinks c.loop-sink.sink-index _ _ _ _ _ _ _ c.opening_of-opening.result.clock c.in-Output.name c.as_str.result.now
-    c.in-Output.node c.in-Output.fallible c.in-Output.wide at c.as_str.ensures.same below c.loop-sink.invariant.made c.loop-sink.invariant.telling
+    c.in-Output.node c.in-Output.fallible c.in-Output.wide at c.as_str.ensures.same below c.loop-sink.invariant.made c.loop-sink.invariant.counted
     (subst (λ closed. NoneListed (g.S.Shelf.created c.loop-sink.shelf) (g.S.Shelf.created c.create_one.new.shelf) c.loop-sink.order.items c.create_one.new.order.items (lists_of c.loop-sink.groups.items) (lists_of c.create_one.new.groups.items)
     ⊎ WasListed (told g.S.Out.Sink.name) (told g.S.Out.Sink.appends) closed c.opening_of-opening.result.clock c.as_str.result.now (g.S.Shelf.created c.loop-sink.shelf) (g.S.Shelf.created c.create_one.new.shelf)
     c.loop-sink.order.items c.create_one.new.order.items (lists_of c.loop-sink.groups.items) (lists_of c.create_one.new.groups.items)) c.loop-sink.invariant.closed c.in_err-create_one.ensures.unlisted)
@@ -140,13 +140,14 @@ returns-clause-made g c =
     let all : length c.args.plan.now.sinks ≤ c.loop-sink.sink-index = subst (λ (xs : List SinkPlan). length xs ≤ c.loop-sink.sink-index) c.as_slice-sink-items.ensures c.loop-sink-test.false in
     made_whole c.args.plan.now.sinks c.loop-sink.sink-index _ _ c.loop-sink.invariant.made all
 
-pub returns-clause-telling : goal.returns-clause-telling
-returns-clause-telling g c =
+pub returns-clause-counted : goal.returns-clause-counted
+returns-clause-counted g c =
     let all : length c.args.plan.now.sinks ≤ c.loop-sink.sink-index = subst (λ (xs : List SinkPlan). length xs ≤ c.loop-sink.sink-index) c.as_slice-sink-items.ensures c.loop-sink-test.false in
-    telling_of (told g.S.Out.Sink.name) (told g.S.Out.Sink.appends) (g.S.Shelf.closed c.args.shelf.now) _ _ _ _ (sym (ap names_in (take_whole c.args.plan.now.sinks c.loop-sink.sink-index all))) c.loop-sink.invariant.telling
+    counted_of (told g.S.Out.Sink.name) (told g.S.Out.Sink.appends) (g.S.Shelf.closed c.args.shelf.now) 1 _ _ _ _ (sym (ap names_in (take_whole c.args.plan.now.sinks c.loop-sink.sink-index all))) c.loop-sink.invariant.counted
 
 pub returns-clause-front : goal.returns-clause-front
 returns-clause-front g c =
     let all : length c.args.plan.now.sinks ≤ c.loop-sink.sink-index = subst (λ (xs : List SinkPlan). length xs ≤ c.loop-sink.sink-index) c.as_slice-sink-items.ensures c.loop-sink-test.false in
     all_created (told g.S.Out.Sink.name) (told g.S.Out.Sink.appends) (g.S.Shelf.closed c.args.shelf.now) _ _ _ _ _ (made_whole c.args.plan.now.sinks c.loop-sink.sink-index _ _ c.loop-sink.invariant.made all)
-    (telling_of (told g.S.Out.Sink.name) (told g.S.Out.Sink.appends) (g.S.Shelf.closed c.args.shelf.now) _ _ _ _ (sym (ap names_in (take_whole c.args.plan.now.sinks c.loop-sink.sink-index all))) c.loop-sink.invariant.telling)
+    (are_telling (told g.S.Out.Sink.name) (told g.S.Out.Sink.appends) (g.S.Shelf.closed c.args.shelf.now) 1 _ _ _
+    (counted_of (told g.S.Out.Sink.name) (told g.S.Out.Sink.appends) (g.S.Shelf.closed c.args.shelf.now) 1 _ _ _ _ (sym (ap names_in (take_whole c.args.plan.now.sinks c.loop-sink.sink-index all))) c.loop-sink.invariant.counted))

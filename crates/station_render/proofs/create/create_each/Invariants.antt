@@ -1,7 +1,7 @@
 use Rattle.std.proofs.Common.{◌≡◌, ◌≤◌, ℕ, length, take}
 use Rattle.frame_core.specs.Library.{Sounds}
 use Rattle.stations.specs.Creations.{after_making, names_in}
-use Rattle.station_render.specs.Listed.{AreTelling}
+use Rattle.station_render.specs.Listed.{AreCounted}
 use Rattle.station_render.specs.OutputSinks.{owed, spared, told}
 use Rattle.station_render.specs.Sinks.{AreCreated, lists_of}
 use Rattle.station_render.specs.Renders.{IsReady, order_of, setting_for, written}
@@ -15,7 +15,7 @@ invariant-loop-sink g l = record {
   size : length (lists_of l.groups.items) ≡ l.clocks.running;
   files : g.S.Shelf.files l.shelf ≡ g.S.Shelf.files l.fn.shelf;
   made : g.S.Shelf.created l.shelf ≡ after_making (names_in (take l.sink-index l.plan.sinks)) (g.S.Shelf.created l.fn.shelf);
-  telling : AreTelling (told g.S.Out.Sink.name) (told g.S.Out.Sink.appends) (g.S.Shelf.closed l.fn.shelf) (names_in (take l.sink-index l.plan.sinks)) l.order.items (lists_of l.groups.items);
+  counted : AreCounted (told g.S.Out.Sink.name) (told g.S.Out.Sink.appends) (g.S.Shelf.closed l.fn.shelf) 1 (names_in (take l.sink-index l.plan.sinks)) l.order.items (lists_of l.groups.items);
   closed : g.S.Shelf.closed l.shelf ≡ g.S.Shelf.closed l.fn.shelf;
   reads : g.S.Shelf.read_count l.fn.shelf ≤ g.S.Shelf.read_count l.shelf;
   writes : g.S.Shelf.write_count l.fn.shelf ≤ g.S.Shelf.write_count l.shelf;

@@ -1,10 +1,9 @@
-use Rattle.std.proofs.Common.{rules, arith, ◌≡◌, ◌<◌, ◌++◌, ◌∷◌, [], length, ap, sym, subst, inl, inr, ◌∙◌, refl}
+use Rattle.std.proofs.Common.{rules, arith, ◌≡◌, ◌<◌, ◌++◌, ◌∷◌, [], length, sym, subst, inl, inr, refl}
 use Rattle.station_render.specs.OutputSinks.{told}
 use Rattle.station_render.specs.Sinks.{lists_of}
 use Rattle.station_render.proofs.Closing.{on_err_so}
 use Rattle.station_render.proofs.Creating.{added_failed, was_broken, was_created}
-use Rattle.std.specs.Prelude.{is_some}
-use Rattle.station_render.proofs.Listing.{counted_any, was_listed}
+use Rattle.station_render.proofs.Listing.{was_listed}
 use Rattle.station_render.proofs.create.create_one.Goals as goal
 
 pub returns-in_err-wrote-clause-cause : goal.returns-in_err-wrote-clause-cause
@@ -20,14 +19,14 @@ pub returns-in_err-wrote-clause-unlisted : goal.returns-in_err-wrote-clause-unli
 returns-in_err-wrote-clause-unlisted g c =
     let more : c.push.new.self.items ≡ c.args.order.now.items ++ c.args.opening.now.clock ∷ [] = search rules in
     on_err_so _ _ (inr (was_listed g.S.Out.Sink.name g.S.Out.Sink.appends (g.S.Shelf.closed c.args.shelf.now) c.args.name.now c.in_ok-sink.sink c.append-wrote.new.self c.in_ok-sink.ensures.named c.in_ok-sink.ensures.name
-    c.append-wrote.ensures.name (ap is_some c.append-wrote.ensures.once ∙ counted_any (g.S.Out.Sink.appends c.in_ok-sink.sink)) _ c.args.opening.now.clock _ _ c.in_ok-sink.ensures.noted
+    c.in_ok-sink.ensures.appends c.append-wrote.ensures.name c.append-wrote.ensures.once _ c.args.opening.now.clock _ _ c.in_ok-sink.ensures.noted
     _ _ _ _ _ more c.reserve_one.ensures.same c.add_one.ensures))
 
 pub returns-clause-listed : goal.returns-clause-listed
 returns-clause-listed g c =
     let more : c.push.new.self.items ≡ c.args.order.now.items ++ c.args.opening.now.clock ∷ [] = search rules in
     was_listed g.S.Out.Sink.name g.S.Out.Sink.appends (g.S.Shelf.closed c.args.shelf.now) c.args.name.now c.in_ok-sink.sink c.append-wrote.new.self c.in_ok-sink.ensures.named c.in_ok-sink.ensures.name
-    c.append-wrote.ensures.name (ap is_some c.append-wrote.ensures.once ∙ counted_any (g.S.Out.Sink.appends c.in_ok-sink.sink)) _ c.args.opening.now.clock _ _ c.in_ok-sink.ensures.noted
+    c.in_ok-sink.ensures.appends c.append-wrote.ensures.name c.append-wrote.ensures.once _ c.args.opening.now.clock _ _ c.in_ok-sink.ensures.noted
     _ _ _ _ _ more c.reserve_one.ensures.same c.add_one.ensures
 
 pub returns-clause-created : goal.returns-clause-created

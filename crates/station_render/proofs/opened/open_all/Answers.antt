@@ -12,9 +12,9 @@ use Rattle.station_render.proofs.Pooling.{outs_many}
 use Rattle.station_render.proofs.Returning.{in_main, starved}
 use Rattle.station_render.proofs.Running.{many_sinks}
 use Rattle.stations.specs.Creations.{names_in}
-use Rattle.station_render.specs.Listed.{AreTelling}
+use Rattle.station_render.specs.Listed.{AreCounted}
 use Rattle.station_render.proofs.Closing.{on_err_so}
-use Rattle.station_render.proofs.Listing.{all_created}
+use Rattle.station_render.proofs.Listing.{all_created, are_telling}
 use Rattle.station_render.proofs.opened.open_all.Goals as goal
 
 pub returns-in_err-create_each-clause-part : goal.returns-in_err-create_each-clause-part
@@ -69,9 +69,9 @@ returns-clause-opened g c =
       taken = c.in_ok-make_engines.ensures.taken;
     }
 
-pub returns-clause-telling : goal.returns-clause-telling
-returns-clause-telling g c =
-    subst (λ gs. AreTelling (told g.S.Out.Sink.name) (told g.S.Out.Sink.appends) (g.S.Shelf.closed c.args.shelf.now) (names_in c.args.job.now.plan.now.sinks) c.create_each.new.order.items gs) (sym c.in_ok-make_engines.ensures.outs) c.in_ok-create_each.ensures.telling
+pub returns-clause-counted : goal.returns-clause-counted
+returns-clause-counted g c =
+    subst (λ gs. AreCounted (told g.S.Out.Sink.name) (told g.S.Out.Sink.appends) (g.S.Shelf.closed c.args.shelf.now) 1 (names_in c.args.job.now.plan.now.sinks) c.create_each.new.order.items gs) (sym c.in_ok-make_engines.ensures.outs) c.in_ok-create_each.ensures.counted
 
 pub returns-in_err-create_each-clause-front : goal.returns-in_err-create_each-clause-front
 returns-in_err-create_each-clause-front g c = on_err_so _ _ c.create_each.ensures.front
@@ -79,5 +79,6 @@ returns-in_err-create_each-clause-front g c = on_err_so _ _ c.create_each.ensure
 pub returns-in_err-make_engines-clause-front : goal.returns-in_err-make_engines-clause-front
 returns-in_err-make_engines-clause-front g c = on_err_so _ _
     (all_created (told g.S.Out.Sink.name) (told g.S.Out.Sink.appends) (g.S.Shelf.closed c.args.shelf.now) _ _ _ _ _ c.in_ok-create_each.ensures.made
-    (subst (λ gs. AreTelling (told g.S.Out.Sink.name) (told g.S.Out.Sink.appends) (g.S.Shelf.closed c.args.shelf.now) (names_in c.args.job.now.plan.now.sinks) c.create_each.new.order.items gs)
-    (sym c.in_err-make_engines.ensures.back) c.in_ok-create_each.ensures.telling))
+    (are_telling (told g.S.Out.Sink.name) (told g.S.Out.Sink.appends) (g.S.Shelf.closed c.args.shelf.now) 1 _ _ _
+    (subst (λ gs. AreCounted (told g.S.Out.Sink.name) (told g.S.Out.Sink.appends) (g.S.Shelf.closed c.args.shelf.now) 1 (names_in c.args.job.now.plan.now.sinks) c.create_each.new.order.items gs)
+    (sym c.in_err-make_engines.ensures.back) c.in_ok-create_each.ensures.counted)))

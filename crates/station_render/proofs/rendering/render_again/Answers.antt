@@ -6,7 +6,7 @@ use Rattle.liq_base.specs.Kept.{rose_within}
 use Rattle.stations.specs.Creations.{names_in}
 use Rattle.stations.specs.Cues.{cue_names_if}
 use Rattle.stations.specs.Outputs.{HoldsUpto, with_outputs}
-use Rattle.stations.proofs.Making.{front_made, none_closed, none_more, then_closed, then_front, then_made}
+use Rattle.stations.proofs.Making.{front_made, listed_all, listed_then, none_closed, none_more, then_closed, then_front, then_made}
 use Rattle.station_render.specs.Marks.{cue_files_by, cues_of}
 use Rattle.station_render.specs.Renders.{written}
 use Rattle.station_render.specs.Runs.{station_again}
@@ -71,3 +71,7 @@ returns-clause-closed g c =
     let sinks = c.args.job.now.plan.now.sinks in
     then_closed (names_in sinks) (cue_names_if c.args.job.now.cues sinks ++ []) _ _ _ c.in_ok-rendered.ensures.closed
     (then_closed (cue_names_if c.args.job.now.cues sinks) [] _ _ _ c.in_ok-leave_wanted.ensures.closed (none_closed _ _ refl))
+
+pub returns-clause-pieces : goal.returns-clause-pieces
+returns-clause-pieces g c =
+    listed_then _ (cue_names_if c.args.job.now.cues c.args.job.now.plan.now.sinks) _ _ _ (listed_all _ _ _ c.in_ok-rendered.ensures.pieces) c.in_ok-leave_wanted.ensures.closed

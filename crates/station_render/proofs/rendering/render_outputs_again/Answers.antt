@@ -1,4 +1,4 @@
-use Rattle.std.proofs.Common.{arith, [], inl, refl, sym, subst}
+use Rattle.std.proofs.Common.{arith, [], inl, refl, sym, subst, ◌+◌}
 use Rattle.std.specs.Prelude.{IfOk}
 use Rattle.stations.specs.Stations.{Again, made_of, setting_with, tried_of}
 use Rattle.station_render.specs.Sinks.{HaveSizes, lists_of}
@@ -11,7 +11,7 @@ use Rattle.stations.proofs.Parts.{none_written}
 use Rattle.station_render.proofs.Gathering.{not_begun}
 use Rattle.station_render.proofs.Naming.{closed_made}
 use Rattle.stations.specs.Creations.{names_in}
-use Rattle.station_render.proofs.Listing.{closed_front, closed_whole}
+use Rattle.station_render.proofs.Listing.{closed_front, closed_whole, listed_whole}
 use Rattle.stations.proofs.Making.{none_made}
 use Rattle.station_render.proofs.rendering.render_outputs_again.Goals as goal
 
@@ -59,9 +59,15 @@ returns-clause-made g c = closed_made c.close_all.result c.write_again-wrote.res
 pub returns-clause-closed : goal.returns-clause-closed
 returns-clause-closed g c =
     closed_whole (told g.S.Out.Sink.name) (told g.S.Out.Sink.appends) (names_in c.args.job.now.plan.now.sinks) (g.S.Shelf.created c.args.shelf.now) (g.S.Shelf.created c.write_again-wrote.new.shelf) (g.S.Shelf.created c.close_all.new.shelf) _ _ _
-    c.write_again-wrote.new.order.items _ (lists_of c.write_again-wrote.new.groups.items) c.write_again-wrote.ensures.closed c.deref.ensures.value c.close_all.ensures.closed c.close_all.result c.write_again-wrote.result c.close_all.ensures.well c.write_again-wrote.ensures.telling
+    c.write_again-wrote.new.order.items _ (lists_of c.write_again-wrote.new.groups.items) c.write_again-wrote.ensures.closed c.deref.ensures.value c.close_all.ensures.closed (1 + c.args.job.now.ticks) c.close_all.result c.write_again-wrote.result c.close_all.ensures.well c.write_again-wrote.ensures.counted
 
 pub returns-clause-front : goal.returns-clause-front
 returns-clause-front g c =
     closed_front (told g.S.Out.Sink.name) (told g.S.Out.Sink.appends) (names_in c.args.job.now.plan.now.sinks) _ _ _ _ _ _ c.write_again-wrote.new.order.items _ (lists_of c.write_again-wrote.new.groups.items)
     c.write_again-wrote.ensures.closed c.deref.ensures.value c.close_all.ensures.closed c.close_all.ensures.created c.write_again-wrote.ensures.front
+
+pub returns-clause-pieces : goal.returns-clause-pieces
+returns-clause-pieces g c =
+    let few = c.requires.fit.few in
+    listed_whole (station_again c.args.job.now c.args.trace.now) g.S.Out.Sink.name g.S.Out.Sink.held g.S.Out.Sink.room g.S.Out.Sink.appends (g.S.Shelf.files c.args.shelf.now) _ _ _ (omega (arith, few)) c.write_again-wrote.new.order.items _ (lists_of c.write_again-wrote.new.groups.items)
+    c.write_again-wrote.ensures.closed c.deref.ensures.value c.close_all.result c.write_again-wrote.result c.close_all.ensures.well c.write_again-wrote.ensures.done c.write_again-wrote.ensures.counted c.close_all.ensures.pieces

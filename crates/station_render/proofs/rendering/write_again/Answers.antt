@@ -1,4 +1,4 @@
-use Rattle.std.proofs.Common.{◌≡◌, ◌∙◌, length, ap, inr, subst, sym, vec_len}
+use Rattle.std.proofs.Common.{◌≡◌, ◌∙◌, length, ap, inr, subst, sym, vec_len, ◌+◌, arith}
 use Rattle.std.specs.Prelude.{None}
 use Rattle.stations.specs.Stations.{Again}
 use Rattle.clock_infer.proofs.Merging.{written_back}
@@ -9,11 +9,11 @@ use Rattle.station_render.specs.OutputSinks.{spared, told}
 use Rattle.station_render.specs.Runs.{setting_by}
 use Rattle.station_render.proofs.Fits.{are_main}
 use Rattle.station_render.proofs.Gathering.{replay_all, replay_some}
-use Rattle.station_render.proofs.Returning.{still_back, failed_back, is_setting, last_many, opened_at, over_plan, part_back, places_empty, places_many, stand_so, keep_so, whole_told}
+use Rattle.station_render.proofs.Returning.{counted_back, still_back, failed_back, is_setting, last_many, opened_at, over_plan, part_back, places_empty, places_many, stand_so, keep_so, whole_told}
 use Rattle.station_render.proofs.Known.{known_alike}
 use Rattle.stations.specs.Creations.{names_in}
-use Rattle.station_render.specs.Listed.{AreTelling, IsTelling}
-use Rattle.station_render.proofs.Listing.{all_created, telling_still}
+use Rattle.station_render.specs.Listed.{AreCounted, IsCounted, IsTelling}
+use Rattle.station_render.proofs.Listing.{all_created, are_telling, counted_on, telling_still}
 use Rattle.station_render.proofs.Naming.{on_ok_so}
 use Rattle.station_render.proofs.rendering.write_again.Goals as goal
 
@@ -110,15 +110,19 @@ returns-clause-cause g c =
 pub returns-clause-made : goal.returns-clause-made
 returns-clause-made g c = on_ok_so c.take_back.result _ c.in_ok-engines.ensures.made
 
-pub returns-clause-telling : goal.returns-clause-telling
-returns-clause-telling g c =
+pub returns-clause-counted : goal.returns-clause-counted
+returns-clause-counted g c =
     let opened = opened_at c.deref_mut.ensures.value c.in_ok-engines.ensures.opened in
     let some = replay_some c.args.trace.now c.requires.accepted.ticks c.replay-run.ensures.part in
     let len : vec_len c.in_ok-engines.engines ≡ length c.replay-run.new.engines = c.in_ok-engines.engines.ok.0 ∙ ap length (sym c.deref_mut.ensures.value) ∙ sym some.part.size in
     let last = written_back _ c.replay-run.new.engines _ len in
-    on_ok_so c.take_back.result _ (still_back (known_alike g.S.Out.Sink.name g.S.Out.Sink.room) c.requires.fit opened last c.take_back.ensures.back (IsTelling (told g.S.Out.Sink.name) (told g.S.Out.Sink.appends) (g.S.Shelf.closed c.args.shelf.now))
-    (λ title one other same. telling_still (told g.S.Out.Sink.name) (told g.S.Out.Sink.appends) (g.S.Shelf.closed c.args.shelf.now) title one other (known_alike g.S.Out.Sink.name g.S.Out.Sink.room one other same).0) some (names_in c.args.job.now.plan.now.sinks)
-    (subst (λ es. AreTelling (told g.S.Out.Sink.name) (told g.S.Out.Sink.appends) (g.S.Shelf.closed c.args.shelf.now) (names_in c.args.job.now.plan.now.sinks) c.open_all.new.order.items (outs_of es)) (sym c.deref_mut.ensures.value) c.in_ok-engines.ensures.telling))
+    let few = c.requires.fit.few in
+    counted_back (known_alike g.S.Out.Sink.name g.S.Out.Sink.room) c.requires.fit opened last c.take_back.ensures.back (IsCounted (told g.S.Out.Sink.name) (told g.S.Out.Sink.appends) (g.S.Shelf.closed c.args.shelf.now) 1)
+    (IsCounted (told g.S.Out.Sink.name) (told g.S.Out.Sink.appends) (g.S.Shelf.closed c.args.shelf.now) (1 + c.args.job.now.ticks))
+    (λ title one other same got. counted_on (told g.S.Out.Sink.name) (told g.S.Out.Sink.appends) (g.S.Shelf.closed c.args.shelf.now) 1 c.args.job.now.ticks (omega (arith, few)) title one other
+    (known_alike g.S.Out.Sink.name g.S.Out.Sink.room one other same).0 got)
+    c.take_back.result (λ done. replay_all c.args.trace.now c.requires.accepted.ticks (c.replay-run.ensures.done done)) c.take_back.ensures.done (names_in c.args.job.now.plan.now.sinks)
+    (subst (λ es. AreCounted (told g.S.Out.Sink.name) (told g.S.Out.Sink.appends) (g.S.Shelf.closed c.args.shelf.now) 1 (names_in c.args.job.now.plan.now.sinks) c.open_all.new.order.items (outs_of es)) (sym c.deref_mut.ensures.value) c.in_ok-engines.ensures.counted)
 
 pub returns-clause-front : goal.returns-clause-front
 returns-clause-front g c =
@@ -129,7 +133,7 @@ returns-clause-front g c =
     all_created (told g.S.Out.Sink.name) (told g.S.Out.Sink.appends) (g.S.Shelf.closed c.args.shelf.now) _ _ _ _ _ c.in_ok-engines.ensures.made
     (still_back (known_alike g.S.Out.Sink.name g.S.Out.Sink.room) c.requires.fit opened last c.take_back.ensures.back (IsTelling (told g.S.Out.Sink.name) (told g.S.Out.Sink.appends) (g.S.Shelf.closed c.args.shelf.now))
     (λ title one other same. telling_still (told g.S.Out.Sink.name) (told g.S.Out.Sink.appends) (g.S.Shelf.closed c.args.shelf.now) title one other (known_alike g.S.Out.Sink.name g.S.Out.Sink.room one other same).0) some (names_in c.args.job.now.plan.now.sinks)
-    (subst (λ es. AreTelling (told g.S.Out.Sink.name) (told g.S.Out.Sink.appends) (g.S.Shelf.closed c.args.shelf.now) (names_in c.args.job.now.plan.now.sinks) c.open_all.new.order.items (outs_of es)) (sym c.deref_mut.ensures.value) c.in_ok-engines.ensures.telling))
+    (are_telling (told g.S.Out.Sink.name) (told g.S.Out.Sink.appends) (g.S.Shelf.closed c.args.shelf.now) 1 _ _ _ (subst (λ es. AreCounted (told g.S.Out.Sink.name) (told g.S.Out.Sink.appends) (g.S.Shelf.closed c.args.shelf.now) 1 (names_in c.args.job.now.plan.now.sinks) c.open_all.new.order.items (outs_of es)) (sym c.deref_mut.ensures.value) c.in_ok-engines.ensures.counted)))
 
 pub returns-in_err-engines-clause-front : goal.returns-in_err-engines-clause-front
 returns-in_err-engines-clause-front g c = c.in_err-engines.ensures.front

@@ -1,13 +1,13 @@
-use Rattle.std.proofs.Common.{inr, refl}
+use Rattle.std.proofs.Common.{inr, refl, ◌+◌, arith}
 use Rattle.stations.specs.Stations.{InWindows}
 use Rattle.station_render.specs.OutputSinks.{told}
 use Rattle.station_render.proofs.Fits.{are_main}
 use Rattle.station_render.proofs.Gathering.{threads_all, threads_some}
-use Rattle.station_render.proofs.Returning.{still_back, engines_are, failed_back, last_many, part_back, places_empty, places_many, stand_so, keep_so, whole_told}
+use Rattle.station_render.proofs.Returning.{counted_back, still_back, engines_are, failed_back, last_many, part_back, places_empty, places_many, stand_so, keep_so, whole_told}
 use Rattle.station_render.proofs.Known.{known_alike}
 use Rattle.stations.specs.Creations.{names_in}
-use Rattle.station_render.specs.Listed.{IsTelling}
-use Rattle.station_render.proofs.Listing.{all_created, telling_still}
+use Rattle.station_render.specs.Listed.{IsCounted, IsTelling}
+use Rattle.station_render.proofs.Listing.{all_created, are_telling, counted_on, telling_still}
 use Rattle.station_render.proofs.Naming.{on_ok_so}
 use Rattle.station_render.proofs.rendering.write_by_threads.Goals as goal
 
@@ -85,14 +85,18 @@ returns-clause-cause g c =
 pub returns-clause-made : goal.returns-clause-made
 returns-clause-made g c = on_ok_so c.take_back.result _ c.in_ok-engines.ensures.made
 
-pub returns-clause-telling : goal.returns-clause-telling
-returns-clause-telling g c =
+pub returns-clause-counted : goal.returns-clause-counted
+returns-clause-counted g c =
     let opened = c.in_ok-engines.ensures.opened in
     let are = engines_are (known_alike g.S.Out.Sink.name g.S.Out.Sink.room) c.requires.fit opened c.args.job.now.start.in_week in
     let some = threads_some opened.at (c.run_threads-engines.ensures.part _ are) in
-    on_ok_so c.take_back.result _ (still_back (known_alike g.S.Out.Sink.name g.S.Out.Sink.room) c.requires.fit opened refl c.take_back.ensures.back (IsTelling (told g.S.Out.Sink.name) (told g.S.Out.Sink.appends) (g.S.Shelf.closed c.args.shelf.now))
-    (λ title one other same. telling_still (told g.S.Out.Sink.name) (told g.S.Out.Sink.appends) (g.S.Shelf.closed c.args.shelf.now) title one other (known_alike g.S.Out.Sink.name g.S.Out.Sink.room one other same).0) some (names_in c.args.job.now.plan.now.sinks)
-    c.in_ok-engines.ensures.telling)
+    let few = c.requires.fit.few in
+    counted_back (known_alike g.S.Out.Sink.name g.S.Out.Sink.room) c.requires.fit opened refl c.take_back.ensures.back (IsCounted (told g.S.Out.Sink.name) (told g.S.Out.Sink.appends) (g.S.Shelf.closed c.args.shelf.now) 1)
+    (IsCounted (told g.S.Out.Sink.name) (told g.S.Out.Sink.appends) (g.S.Shelf.closed c.args.shelf.now) (1 + c.args.job.now.ticks))
+    (λ title one other same got. counted_on (told g.S.Out.Sink.name) (told g.S.Out.Sink.appends) (g.S.Shelf.closed c.args.shelf.now) 1 c.args.job.now.ticks (omega (arith, few)) title one other
+    (known_alike g.S.Out.Sink.name g.S.Out.Sink.room one other same).0 got)
+    c.take_back.result (λ done. threads_all opened.at (c.run_threads-engines.ensures.done done _ are)) c.take_back.ensures.done (names_in c.args.job.now.plan.now.sinks)
+    c.in_ok-engines.ensures.counted
 
 pub returns-clause-front : goal.returns-clause-front
 returns-clause-front g c =
@@ -102,7 +106,7 @@ returns-clause-front g c =
     all_created (told g.S.Out.Sink.name) (told g.S.Out.Sink.appends) (g.S.Shelf.closed c.args.shelf.now) _ _ _ _ _ c.in_ok-engines.ensures.made
     (still_back (known_alike g.S.Out.Sink.name g.S.Out.Sink.room) c.requires.fit opened refl c.take_back.ensures.back (IsTelling (told g.S.Out.Sink.name) (told g.S.Out.Sink.appends) (g.S.Shelf.closed c.args.shelf.now))
     (λ title one other same. telling_still (told g.S.Out.Sink.name) (told g.S.Out.Sink.appends) (g.S.Shelf.closed c.args.shelf.now) title one other (known_alike g.S.Out.Sink.name g.S.Out.Sink.room one other same).0) some (names_in c.args.job.now.plan.now.sinks)
-    c.in_ok-engines.ensures.telling)
+    (are_telling (told g.S.Out.Sink.name) (told g.S.Out.Sink.appends) (g.S.Shelf.closed c.args.shelf.now) 1 _ _ _ c.in_ok-engines.ensures.counted))
 
 pub returns-in_err-engines-clause-front : goal.returns-in_err-engines-clause-front
 returns-in_err-engines-clause-front g c = c.in_err-engines.ensures.front

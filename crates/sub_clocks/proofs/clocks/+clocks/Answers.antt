@@ -17,7 +17,8 @@ use Rattle.engine_instants.proofs.Walking.{next_own}
 use Rattle.engine_instants.specs.Held.{IsHeld}
 use Rattle.sub_clocks.specs.Clocks.{IsIdle, clock_at, is_in, is_node}
 use Rattle.sub_clocks.proofs.Above.{idle_left}
-use Rattle.sub_clocks.proofs.Levels.{kept_at, left_fed, left_finished, left_kept, left_none, left_settled, left_then, left_under, levels_at, levels_some, levels_under, rest_kept}
+use Rattle.engine_instants.specs.Runs.{HasLanes}
+use Rattle.sub_clocks.proofs.Levels.{kept_at, lanes_same, left_fed, left_finished, left_kept, left_none, left_settled, left_then, left_under, levels_at, levels_some, levels_under, rest_kept}
 use Rattle.sub_clocks.proofs.Settling.{all_more, all_none, all_stopped, node_closed, node_more, node_none, node_settled, node_stopped, opening_stopped, settling_stopped}
 use Rattle.sub_clocks.proofs.Readers.{reader_above}
 use Rattle.sub_clocks.proofs.SubSteps.{sub_idle}
@@ -53,7 +54,7 @@ settle-feed_child-requires-clause-idle g t c =
     (left_under c.args.shape.now.clocks.now c.requires.levels.rank c.args.k c.args.lanes.now c.keep.new.lanes c.make_instant.new.lanes c.requires.levels.ranks in_clocks
     (left_then c.args.shape.now.clocks.now c.requires.levels.rank (c.requires.levels.rank (clock_at c.args.shape.now.clocks.now c.args.k)) (c.requires.levels.rank (clock_at c.args.shape.now.clocks.now c.args.k)) (is_node c.args.k) (is_node c.args.k)
     c.args.lanes.now c.loop-lanes.lanes c.keep.new.lanes (omega arith) (λ i low same. same) (c.loop-lanes.invariant.left c.requires.levels.rank c.requires.levels.ranks)
-    (left_kept c.args.shape.now.clocks.now c.requires.levels.rank (c.requires.levels.rank (clock_at c.args.shape.now.clocks.now c.args.k)) c.args.k c.loop-lanes.lanes c.keep.new.lanes c.keep.ensures.states c.keep.ensures.times c.keep.ensures.held c.keep.ensures.others))
+    (left_kept c.args.shape.now.clocks.now c.requires.levels.rank (c.requires.levels.rank (clock_at c.args.shape.now.clocks.now c.args.k)) c.args.k c.loop-lanes.lanes c.keep.new.lanes c.keep.ensures.states c.keep.ensures.times c.keep.ensures.held c.keep.ensures.others c.keep.ensures.left c.keep.ensures.right))
     (c.in_ok-make_instant.ensures.left c.requires.levels.rank c.requires.levels.ranks)) c.requires.idle
 
 pub settle-feed_on-requires-clause-idle : goal.settle-feed_on-requires-clause-idle
@@ -65,9 +66,8 @@ settle-feed_on-requires-clause-idle g t c =
     (left_fed c.args.shape.now.clocks.now c.requires.levels.rank c.args.k c.args.lanes.now c.keep.new.lanes c.make_instant.new.lanes c.feed_child.new.lanes c.requires.levels.ranks in_clocks
     (left_then c.args.shape.now.clocks.now c.requires.levels.rank (c.requires.levels.rank (clock_at c.args.shape.now.clocks.now c.args.k)) (c.requires.levels.rank (clock_at c.args.shape.now.clocks.now c.args.k)) (is_node c.args.k) (is_node c.args.k)
     c.args.lanes.now c.loop-lanes.lanes c.keep.new.lanes (omega arith) (λ i low same. same) (c.loop-lanes.invariant.left c.requires.levels.rank c.requires.levels.ranks)
-    (left_kept c.args.shape.now.clocks.now c.requires.levels.rank (c.requires.levels.rank (clock_at c.args.shape.now.clocks.now c.args.k)) c.args.k c.loop-lanes.lanes c.keep.new.lanes c.keep.ensures.states c.keep.ensures.times c.keep.ensures.held c.keep.ensures.others))
-    (c.in_ok-make_instant.ensures.left c.requires.levels.rank c.requires.levels.ranks) c.feed_child.ensures.states c.feed_child.ensures.times
-    (ap (λ r. r.held.items) c.feed_child.ensures.runs) (λ i other. ap (λ r. slice_index_or r.rests.items i 0) c.feed_child.ensures.runs)) c.requires.idle
+    (left_kept c.args.shape.now.clocks.now c.requires.levels.rank (c.requires.levels.rank (clock_at c.args.shape.now.clocks.now c.args.k)) c.args.k c.loop-lanes.lanes c.keep.new.lanes c.keep.ensures.states c.keep.ensures.times c.keep.ensures.held c.keep.ensures.others c.keep.ensures.left c.keep.ensures.right))
+    (c.in_ok-make_instant.ensures.left c.requires.levels.rank c.requires.levels.ranks) c.feed_child.ensures.states c.feed_child.ensures.times c.feed_child.ensures.runs) c.requires.idle
 
 pub settle-feed_on-requires-clause-none : goal.settle-feed_on-requires-clause-none
 settle-feed_on-requires-clause-none g t c =
@@ -110,14 +110,13 @@ settle-loop-lanes-preserved g t c =
           (left_fed c.args.shape.now.clocks.now rank c.args.k c.args.lanes.now c.keep.new.lanes c.make_instant.new.lanes c.feed_child.new.lanes ranks in_clocks
           (left_then c.args.shape.now.clocks.now rank (rank (get_or c.args.shape.now.clocks.now c.args.k (Main 0))) (rank (get_or c.args.shape.now.clocks.now c.args.k (Main 0))) (is_node c.args.k) (is_node c.args.k)
           c.args.lanes.now c.loop-lanes.lanes c.keep.new.lanes (omega arith) (λ i low same. same) (c.loop-lanes.invariant.left rank ranks)
-          (left_kept c.args.shape.now.clocks.now rank (rank (get_or c.args.shape.now.clocks.now c.args.k (Main 0))) c.args.k c.loop-lanes.lanes c.keep.new.lanes c.keep.ensures.states c.keep.ensures.times c.keep.ensures.held c.keep.ensures.others))
-          (c.in_ok-make_instant.ensures.left rank ranks) c.feed_child.ensures.states c.feed_child.ensures.times
-          (ap (λ r. r.held.items) c.feed_child.ensures.runs) (λ i other. ap (λ r. slice_index_or r.rests.items i 0) c.feed_child.ensures.runs))
+          (left_kept c.args.shape.now.clocks.now rank (rank (get_or c.args.shape.now.clocks.now c.args.k (Main 0))) c.args.k c.loop-lanes.lanes c.keep.new.lanes c.keep.ensures.states c.keep.ensures.times c.keep.ensures.held c.keep.ensures.others c.keep.ensures.left c.keep.ensures.right))
+          (c.in_ok-make_instant.ensures.left rank ranks) c.feed_child.ensures.states c.feed_child.ensures.times c.feed_child.ensures.runs)
           (c.feed_on.ensures.left rank ranks);
       feeding = node_more g.T.Taps.stands c.args.shape.now.plan.now c.args.shape.now.library.now c.args.shape.now.clocks.now c.args.own.now c.requires.in_clocks c.args.lanes.now c.args.taps.now c.args.k
           c.requires.within c.keep.new.lanes c.loop-lanes.taps c.index.result.now at
           (node_closed g.T.Taps.stands c.args.shape.now.plan.now c.args.shape.now.library.now c.args.shape.now.clocks.now c.args.own.now c.requires.in_clocks c.args.lanes.now c.args.taps.now c.args.k
-          c.requires.within c.loop-lanes.lanes c.keep.new.lanes c.loop-lanes.taps c.keep.ensures.states c.keep.ensures.times c.keep.ensures.held c.keep.ensures.kept c.keep.ensures.others c.loop-lanes.invariant.feeding)
+          c.requires.within c.loop-lanes.lanes c.keep.new.lanes c.loop-lanes.taps c.keep.ensures.states c.keep.ensures.times c.keep.ensures.held c.keep.ensures.kept c.keep.ensures.others c.keep.ensures.left c.keep.ensures.right c.loop-lanes.invariant.feeding)
           (λ setting sub past fed i work long stands. c.wants.ensures.more setting sub past fed i work long stands c.loop-lanes-test.true)
           c.make_instant.new.taps c.index-time.result.now timed c.keep.ensures.kept c.make_instant.new.lanes c.feed_child.new.lanes c.feed_on.new.lanes
           (λ rank ranks. c.in_ok-make_instant.ensures.left rank ranks) c.make_instant.ensures.lanes.fit.size c.make_instant.ensures.lanes.in_times
@@ -140,7 +139,7 @@ settle-returns-in_err-make_instant-clause-stopped g t c =
     on_err c.from_residual.result (node_stopped g.T.Taps.stands c.args.shape.now.plan.now c.args.shape.now.library.now c.args.shape.now.clocks.now c.args.own.now c.requires.in_clocks c.args.lanes.now c.args.taps.now c.args.k
     c.requires.within c.keep.new.lanes c.loop-lanes.taps c.index.result.now at
     (node_closed g.T.Taps.stands c.args.shape.now.plan.now c.args.shape.now.library.now c.args.shape.now.clocks.now c.args.own.now c.requires.in_clocks c.args.lanes.now c.args.taps.now c.args.k
-    c.requires.within c.loop-lanes.lanes c.keep.new.lanes c.loop-lanes.taps c.keep.ensures.states c.keep.ensures.times c.keep.ensures.held c.keep.ensures.kept c.keep.ensures.others c.loop-lanes.invariant.feeding)
+    c.requires.within c.loop-lanes.lanes c.keep.new.lanes c.loop-lanes.taps c.keep.ensures.states c.keep.ensures.times c.keep.ensures.held c.keep.ensures.kept c.keep.ensures.others c.keep.ensures.left c.keep.ensures.right c.loop-lanes.invariant.feeding)
     (λ setting sub past fed i work long stands. c.wants.ensures.more setting sub past fed i work long stands c.loop-lanes-test.true)
     c.make_instant.new.taps c.index-time.result.now timed c.in_err-make_instant.ensures.stopped)
 
@@ -219,8 +218,10 @@ make_instant-returns-clause-left g t c rank ranks =
     (left_then c.args.shape.now.clocks.now rank (rank c.args.clock) (rank c.args.clock) (is_in c.args.shape.now.clocks.now c.args.clock) (is_in c.args.shape.now.clocks.now c.args.clock)
     c.args.lanes.now c.begin_clock.new.lanes c.settle_all.new.lanes (omega arith) (λ i low inside. inside)
     (left_finished c.args.shape.now.clocks.now rank c.args.clock c.args.lanes.now c.args.lanes.now c.begin_clock.new.lanes
-    (left_none c.args.shape.now.clocks.now rank (rank c.args.clock) (is_in c.args.shape.now.clocks.now c.args.clock) c.args.lanes.now) c.begin_clock.ensures.others c.begin_clock.ensures.times (λ i other. ap (λ r. part_at r.held.items i) c.begin_clock.ensures.runs) (λ i. ap (λ r. slice_index_or r.rests.items i 0) c.begin_clock.ensures.runs))
+    (left_none c.args.shape.now.clocks.now rank (rank c.args.clock) (is_in c.args.shape.now.clocks.now c.args.clock) c.args.lanes.now) c.begin_clock.ensures.others c.begin_clock.ensures.times (λ i other. ap (λ r. part_at r.held.items i) c.begin_clock.ensures.runs) (λ i. ap (λ r. slice_index_or r.rests.items i 0) c.begin_clock.ensures.runs)
+    (λ i has. subst (λ r. HasLanes r.left.items r.right.items i) (sym c.begin_clock.ensures.runs) has))
     (c.in_ok-settle_all.ensures.left rank ranks)) c.finish.ensures.others c.finish.ensures.times c.finish.ensures.kept (λ i. ap (λ xs. slice_index_or xs.items i 0) c.finish.ensures.rests)
+    (lanes_same c.settle_all.new.lanes c.finish.new.lanes c.finish.ensures.left c.finish.ensures.right)
 
 pub make_instant-returns-clause-made : goal.make_instant-returns-clause-made
 make_instant-returns-clause-made g t c =
@@ -244,7 +245,8 @@ make_instant-returns-clause-made g t c =
           made (over c.args.shape.now.plan.now c.args.shape.now.library.now c.args.shape.now.clocks.now other) sub rank c.args.clock ran fed front opened.more settled.more c.settle_all.new.lanes u
           world.ranks c.requires.in_clocks c.args.lanes.now c.finish.new.lanes stand needed
           (c.finish.ensures.stand other sub past u.reached.fed_now second long clocked items world.roots)
-          c.finish.ensures.others c.finish.ensures.times c.finish.ensures.kept (λ i. ap (λ xs. slice_index_or xs.items i 0) c.finish.ensures.rests) c.settle_all.ensures.lanes.in_times world.down o.calls
+          c.finish.ensures.others c.finish.ensures.times c.finish.ensures.kept (λ i. ap (λ xs. slice_index_or xs.items i 0) c.finish.ensures.rests)
+          (lanes_same c.settle_all.new.lanes c.finish.new.lanes c.finish.ensures.left c.finish.ensures.right) c.settle_all.ensures.lanes.in_times world.down o.calls
           (c.finish.ensures.parts other sub past u.reached.fed_now second long clocked items world.roots
           ∙ ap (λ n. (moment_after (over c.args.shape.now.plan.now c.args.shape.now.library.now c.args.shape.now.clocks.now other) sub c.args.clock (history (over c.args.shape.now.plan.now c.args.shape.now.library.now c.args.shape.now.clocks.now other) sub c.args.clock n)).parts) same)
           (subst (λ n. IsHeld (over c.args.shape.now.plan.now c.args.shape.now.library.now c.args.shape.now.clocks.now other) sub c.args.clock (history (over c.args.shape.now.plan.now c.args.shape.now.library.now c.args.shape.now.clocks.now other) sub c.args.clock n) c.finish.new.lanes.runs.held.items) same

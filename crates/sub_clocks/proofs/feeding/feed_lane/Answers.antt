@@ -10,23 +10,10 @@ use Rattle.node_states.specs.States.{StateStands, left, room}
 use Rattle.node_states.specs.Times.{TimeStands}
 use Rattle.engine_instants.proofs.Going.{fit_set}
 use Rattle.engine_instants.proofs.Places.{same_or_other, slice_get-set_other, slice_get-set_same}
-use Rattle.sub_clocks.proofs.Sampled.{crossfaded_low}
 use Rattle.sub_clocks.specs.Clocks.{clock_at}
 use Rattle.sub_clocks.proofs.Equal.{not_same}
 use Rattle.sub_clocks.proofs.Restful.{resting_own}
 use Rattle.sub_clocks.proofs.feeding.feed_lane.Goals as goal
-
-pub feed_samples-requires-clause-in_left : goal.feed_samples-requires-clause-in_left
-feed_samples-requires-clause-in_left c =
-    let low = crossfaded_low c.args.shape.now.plan.now.nodes c.args.k c.requires.nodes c.requires.within in
-    let child : c.child_of-child.result ≡ crossfaded c.args.shape.now.plan.now.nodes c.args.k = c.child_of-child.ensures ∙ ap (λ ns. crossfaded ns c.args.k) c.as_slice.ensures in
-    omega (arith, low, child, c.requires.lanes.runs.in_left)
-
-pub feed_samples-requires-clause-in_right : goal.feed_samples-requires-clause-in_right
-feed_samples-requires-clause-in_right c =
-    let low = crossfaded_low c.args.shape.now.plan.now.nodes c.args.k c.requires.nodes c.requires.within in
-    let child : c.child_of-child.result ≡ crossfaded c.args.shape.now.plan.now.nodes c.args.k = c.child_of-child.ensures ∙ ap (λ ns. crossfaded ns c.args.k) c.as_slice.ensures in
-    omega (arith, low, child, c.requires.lanes.runs.in_right)
 
 pub feed_samples-requires-clause-room : goal.feed_samples-requires-clause-room
 feed_samples-requires-clause-room c =

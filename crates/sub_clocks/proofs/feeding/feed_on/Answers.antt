@@ -1,5 +1,4 @@
 use Rattle.std.proofs.Common.{◌≡◌, ◌<◌, ◌∙◌, length, get_or, arith, ap, sym}
-use Rattle.std.specs.Prelude.{slice_index_or}
 use Rattle.std.specs.Option.{option_map_or}
 use Rattle.clock_infer.specs.declared.clock_map.NodeClock.TheVariants.{Main, Sub}
 use Rattle.stream_meaning.specs.Instants.{history}
@@ -23,14 +22,14 @@ keep-requires-clause-ranks c = (c.requires.levels.rank, c.requires.levels.ranks)
 
 pub returns-then-many-eq0-clause-left : goal.returns-then-many-eq0-clause-left
 returns-then-many-eq0-clause-left c rank ranks =
-    left_kept c.args.shape.now.clocks.now rank (rank (get_or c.args.shape.now.clocks.now c.args.k (Main 0))) c.args.k c.args.lanes.now c.keep.new.lanes c.keep.ensures.states c.keep.ensures.times c.keep.ensures.held c.keep.ensures.others
+    left_kept c.args.shape.now.clocks.now rank (rank (get_or c.args.shape.now.clocks.now c.args.k (Main 0))) c.args.k c.args.lanes.now c.keep.new.lanes c.keep.ensures.states c.keep.ensures.times c.keep.ensures.held c.keep.ensures.others c.keep.ensures.left c.keep.ensures.right
 
 pub returns-then-many-eq0-clause-fed : goal.returns-then-many-eq0-clause-fed
 returns-then-many-eq0-clause-fed c = record {
   fed = λ other sub rank ran fed front more own n world fades before at parts held time.
       let S = over c.args.shape.now.plan.now c.args.shape.now.library.now c.args.shape.now.clocks.now other in
       fed_kept S sub rank world.ranks c.requires.in_clocks c.args.k c.requires.within ran fed front more c.args.lanes.now c.keep.new.lanes c.goes_for-rest.result
-      c.keep.ensures.states c.keep.ensures.times c.keep.ensures.held c.keep.ensures.kept c.keep.ensures.others before
+      c.keep.ensures.states c.keep.ensures.times c.keep.ensures.held c.keep.ensures.kept c.keep.ensures.others c.keep.ensures.left c.keep.ensures.right before
       (λ some. record {
         n = n;
         at = at;
@@ -56,7 +55,7 @@ returns-clause-left c rank ranks =
     left_fed c.args.shape.now.clocks.now rank c.args.k c.args.lanes.now c.args.lanes.now c.run_clock.new.lanes c.feed_lane.new.lanes ranks in_clocks
     (left_none c.args.shape.now.clocks.now rank (rank (get_or c.args.shape.now.clocks.now c.args.k (Main 0))) (is_node c.args.k) c.args.lanes.now)
     (c.run_clock.ensures.left rank ranks)
-    c.feed_lane.ensures.states c.feed_lane.ensures.times (ap (λ r. r.held.items) c.feed_lane.ensures.runs) (λ i other. ap (λ r. slice_index_or r.rests.items i 0) c.feed_lane.ensures.runs)
+    c.feed_lane.ensures.states c.feed_lane.ensures.times c.feed_lane.ensures.runs
 
 pub feed_lane-requires-clause-idle : goal.feed_lane-requires-clause-idle
 feed_lane-requires-clause-idle c =

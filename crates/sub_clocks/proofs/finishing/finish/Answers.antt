@@ -23,6 +23,8 @@ returns-clause-lanes c =
       runs = record {
         in_left = c.requires.lanes.runs.in_left;
         in_right = c.requires.lanes.runs.in_right;
+        in_spare_left = c.requires.lanes.runs.in_spare_left;
+        in_spare_right = c.requires.lanes.runs.in_spare_right;
         in_held = (let long = ap length held in let was = ap length c.deref_mut-2.ensures.value in omega (arith, long, few, was, c.deref_mut-2.ensures.len, c.requires.lanes.runs.in_held));
         in_rests = c.requires.lanes.runs.in_rests;
         in_parts = c.requires.lanes.runs.in_parts;

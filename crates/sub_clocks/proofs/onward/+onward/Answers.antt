@@ -27,7 +27,7 @@ run_clock-run_own-requires-clause-ahead t c =
 pub run_clock-returns-clause-left : goal.run_clock-returns-clause-left
 run_clock-returns-clause-left t c rank ranks =
     left_above c.args.shape.now.clocks.now rank c.args.clock c.args.lanes.now c.run_subs.new.lanes c.run_own.new.lanes (c.run_subs.ensures.above rank ranks)
-    c.run_own.ensures.others c.run_own.ensures.times c.run_own.ensures.held c.run_own.ensures.rests
+    c.run_own.ensures.others c.run_own.ensures.times c.run_own.ensures.held c.run_own.ensures.rests c.run_own.ensures.laned
 
 pub run_clock-returns-clause-samples : goal.run_clock-returns-clause-samples
 run_clock-returns-clause-samples t c rank ranks =
@@ -44,7 +44,7 @@ run_clock-returns-clause-run t c = record {
       let S = over c.args.shape.now.plan.now c.args.shape.now.library.now c.args.shape.now.clocks.now other in
       has_run_on S sub rank own c.requires.in_clocks c.requires.nodes c.args.clock n c.args.many c.requires.some ran fed front c.args.lanes.now c.run_subs.new.lanes c.run_own.new.lanes can
       (c.run_subs.ensures.run.run other sub rank ran fed front own n can) (c.run_subs.ensures.above rank can.world.ranks)
-      c.run_own.ensures.times c.run_own.ensures.held c.run_own.ensures.rests c.run_own.ensures.others c.run_subs.ensures.lanes.in_times c.run_subs.ensures.lanes.fit.size
+      c.run_own.ensures.times c.run_own.ensures.held c.run_own.ensures.rests c.run_own.ensures.others c.run_subs.ensures.lanes.in_times c.run_subs.ensures.lanes.fit.size c.run_own.ensures.laned
       (λ past fed going. c.run_own.ensures.run other sub past fed going);
 }
 
@@ -194,7 +194,7 @@ pub run_sub-returns-clause-above : goal.run_sub-returns-clause-above
 run_sub-returns-clause-above t c rank ranks =
     let in_clocks : c.args.i < length c.args.shape.now.clocks.now = omega (arith, c.requires.within, c.requires.in_clocks) in
     above_sub c.args.shape.now.clocks.now rank c.args.i c.args.lanes.now c.keep.new.lanes c.run_clock.new.lanes c.take_on.new.lanes ranks in_clocks
-    c.keep.ensures.states c.keep.ensures.times c.keep.ensures.held c.keep.ensures.others (c.run_clock.ensures.left rank ranks) c.take_on.ensures.states c.take_on.ensures.runs c.take_on.ensures.times
+    c.keep.ensures.states c.keep.ensures.times c.keep.ensures.held c.keep.ensures.others c.keep.ensures.left c.keep.ensures.right (c.run_clock.ensures.left rank ranks) c.take_on.ensures.states c.take_on.ensures.runs c.take_on.ensures.times
 
 pub run_sub-returns-clause-samples : goal.run_sub-returns-clause-samples
 run_sub-returns-clause-samples t c rank ranks =
