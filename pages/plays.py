@@ -1,14 +1,16 @@
 """What was played when: the starts of a cue file, and what the files and the sound say of their ends."""
+import bisect
 from dataclasses import dataclass
 
 UNLIKE = 0.9  # a misfit above which two sounds have nothing to do with each other
 LIKE = 0.02   # one below which one sound is the other
+TAIL = 4096   # instants at the end of a play that are compared
 
 
 @dataclass
 class Play:
-    """A stretch from one start to the next, or to the silence before it, or to the end. All numbers are instants of the
-    output."""
+    """A stretch from one start to the next, or to a silence in which nothing is played, or to the end. All numbers are
+    instants of the output."""
     start: int
     end: int
     name: str | None           # None: no title
@@ -31,29 +33,76 @@ class Listener:
         """The plays of the output, in order."""
         found = []
         for k in range(len(self.cues)):
-            found.append(self.play(k, found[-1] if found else None))
+            found += self.track(k, found[-1] if found else None)
         return found
 
     def start_of(self, k):
-        """Where the k-th play starts; behind the last one the end of the output."""
+        """Where the k-th track starts; behind the last one the end of the output."""
         return self.cues[k][0] if k < len(self.cues) else self.sound.frames
 
-    def play(self, k, before):
-        """The k-th play, with the one before it."""
+    def silences_within(self, start, end):
+        """The silent stretches from this start on that are over before this end."""
+        first, last = bisect.bisect_left(self.silences, (start, 0)), bisect.bisect_left(self.silences, (end, 0))
+        return [run for run in self.silences[first:last] if run[1] < end]
+
+    def last_sound(self, start, end):
+        """Where the silence before this end begins; the end where there is none behind this start."""
+        silent = self.ends.get(end, end)
+        return silent if start < silent else end
+
+    def first_sound(self, start, end):
+        """Where the first silence behind this start begins; the end where there is none."""
+        inner = self.silences_within(start + 1, end)
+        return inner[0][0] if inner else self.last_sound(start, end)
+
+    def track(self, k, before):
+        """The plays of the k-th track, with the play before it: several where it breaks off into nothing to play and goes on,
+        which starts no track."""
         (start, name), following = self.cues[k], self.start_of(k + 1)
-        silent = self.ends.get(following, following)
-        play = Play(start, silent if start < silent else following, name)
+        play = Play(start, self.first_sound(start, following), name)
         if before and before.ending == "faded":
             play.overlap = before.left
         length = self.shelf.length(name, self.sound.rate)
         if length is None or not self.find_place(play, length):
-            return play
-        whole = start + length - play.at
+            play.end = self.last_sound(start, following)
+            return [play]
+        found, is_known = self.stretches(play, k, length)
+        if is_known:
+            self.end_whole(found[-1], following, length)
+            self.close(found[-1], k, length)
+        return found
+
+    def stretches(self, play, k, length):
+        """The stretches of the k-th track that begins with this play, of which the last one is not closed yet; and whether all
+        that is heard up to the next start is known."""
+        found, following = [play], self.start_of(k + 1)
+        for low, high in self.silences_within(play.start, following):
+            place = play.at + low - play.start
+            quiet = self.shelf.zeros(play.name, place, min(high - low, max(0, length - place)), self.sound.rate)
+            more = Play(high, self.first_sound(high, following), play.name, place + quiet, resumed=True)
+            if quiet == high - low or place > length:
+                continue       # the recording is silent, or is another one
+            goes_on = self.likeliest_place(more, [more.at, place + high - low], length)
+            if goes_on == place + high - low:
+                continue       # the recording is so soft here that zeros were written
+            play.end = low + quiet
+            if goes_on is None and self.likeliest_place(play, [play.at], length) is None:
+                return found, False
+            self.close(play, k, length)
+            if goes_on is None:
+                return found, False
+            self.paused[play.name].remove(more.at)
+            found.append(more)
+            play = more
+        play.end = self.last_sound(play.start, following)
+        return found, True
+
+    def end_whole(self, play, following, length):
+        """Lets a play last to the end of its file, where that is as silent as what is heard."""
+        whole = play.start + length - play.at
         if play.end < following and play.end <= whole <= following and \
-                self.shelf.is_silent(name, length, whole - play.end, self.sound.rate):
-            play.end = whole   # it was played to its end, which is silent itself
-        self.close(play, k, length)
-        return play
+                self.shelf.is_silent(play.name, length, whole - play.end, self.sound.rate):
+            play.end = whole
 
     def find_place(self, play, length):
         """Finds out where a play begins in a file that was left before; whether that is known."""
@@ -88,8 +137,8 @@ class Listener:
     def close(self, play, k, length):
         """How the k-th play ends."""
         left = length - (play.at + play.end - play.start)
-        if left < 0:
-            return             # the file is not the one that was played
+        if left < 0 or left > 0 and not self.ends_alike(play):
+            return             # the file is not the one that was played, or broke off for less time than is looked at
         play.left = left
         if left == 0:
             play.ending = "whole"
@@ -102,6 +151,12 @@ class Listener:
         if play.ending in ("cut", "breaks off", ""):
             self.paused.setdefault(play.name, []).append(length - left)
 
+    def ends_alike(self, play):
+        """Whether the end of a play sounds like the place of its file at which it would be."""
+        span = min(play.end - play.start, TAIL)
+        frames = sorted({play.end - play.start - 1 - k * span // 64 for k in range(64)})
+        return misfit(self.heard(play.start, frames), self.said(play.name, play.at, frames)) < UNLIKE
+
     def fade_or_cut(self, play, k, length):
         """Whether the rest of a file is mixed into the k-th play or left out, by the sound; "" where that does not say."""
         (start, name), rest = self.cues[k], play.left
@@ -110,7 +165,7 @@ class Listener:
         next_length = self.shelf.length(name, self.sound.rate)
         if next_length is None:
             return ""
-        span = min(rest, self.start_of(k + 1) - start, next_length)
+        span = min(rest, self.first_sound(start, self.start_of(k + 1)) - start, next_length)
         frames = sorted({j * span // 128 for j in range(1, 97)})
         heard = self.heard(start, frames)
         old, new = self.said(play.name, length - rest, frames), self.said(name, 0, frames)

@@ -34,3 +34,10 @@ class Shelf:
     def is_silent(self, name, length, count, rate):
         """Whether the last samples of a file are zero, so many, by about 64 of them."""
         return all(self.value(name, length - 1 - k * count // 64, rate) == 0 for k in range(min(64, count)))
+
+    def zeros(self, name, frame, count, rate):
+        """How many instants of a file from this one on are zero, at most so many."""
+        sound = self.sound(name)
+        first = sound.first_sound(min(frame * sound.rate // rate, sound.frames))
+        until = first * rate if sound.rate == rate else (first - 1) * rate + 1
+        return min(count, max(0, -(-until // sound.rate) - frame))

@@ -84,7 +84,7 @@ class Sound:
             if here != zero[:len(here)]:
                 at += step
                 continue
-            start, end = self._zero_before(at), self._zero_behind(at)
+            start, end = self._zero_before(at), self.first_sound(at)
             if end - start >= least:
                 found.append((start, end))
             at = max(at + step, -(-end // step) * step)
@@ -100,7 +100,8 @@ class Sound:
             at = low
         return 0
 
-    def _zero_behind(self, frame, piece=1 << 16):
+    def first_sound(self, frame, piece=1 << 16):
+        """The first frame from this one on with a sample that is not zero; the end where there is none."""
         at = frame * self.block
         while at < len(self.data):
             here = bytes(self.data[at:at + piece])

@@ -21,7 +21,7 @@ def text_of(path):
 
 def documents():
     """The pages of the repository, by their paths from its top."""
-    found = ["README.md", "liq.1"]
+    found = ["README.md", "CHANGELOG.md", "liq.1"]
     for folder in ("docs", "examples", "bench", "crates"):
         for base, folders, names in os.walk(os.path.join(TOP, folder)):
             folders[:] = [name for name in folders if name != "out"]
@@ -46,14 +46,14 @@ def sources():
 
 
 def paths_that_are_missing(_program):
-    """Each path in backticks and each link of the documents exists. The page of a crate names files of its own, and of the
-    crates that it names."""
+    """Each path in backticks and each link of the documents exists. The page of a crate names files of its own, and any page those
+    of the crates that it names."""
     found = []
     for page in documents():
         text, place = text_of(page), os.path.dirname(page)
         named = re.findall(r"`((?:%s)/[^`\s]*)`" % "|".join(TOPS), text)
         places = ["", place]
-        if page.startswith("crates/"):
+        if page.startswith(("crates/", "docs/")):
             named += re.findall(r"`((?:specs|proofs|src|must-fail)/[\w/.-]+)`", text)
             places += [f"crates/{name}" for name in re.findall(r"`(?:crates/)?([a-z_]+)[`/]", text)]
         linked = [link for link in re.findall(r"\]\(([^)\s]+)\)", text) if not re.match(r"https?:|#", link)]
@@ -90,6 +90,42 @@ def sections_that_are_missing(_program):
             if not has_anchor(path, anchor):
                 found.append(f"{page} links to the section {anchor} of {path}")
     return found
+
+
+def rows_of_tables(text):
+    """The rows of the tables of a page, each as pairs of a head and a cell."""
+    heads = None
+    for line in text.split("\n"):
+        if not line.startswith("|"):
+            heads = None
+        elif heads is None:
+            heads = cells_of(line)
+        else:
+            yield list(zip(heads, cells_of(line)))
+
+
+def clauses_that_are_missing(_program):
+    """Each name in a column of clauses stands in the code or in the definitions."""
+    there = {word for path in sources() for word in re.findall(r"\w+", text_of(path))}
+    cells = [(page, cell) for page in documents() for row in rows_of_tables(text_of(page)) for head, cell in row if "clause" in head]
+    return [f"{page} names the clause {word}" for page, cell in cells for name in re.findall(r"`([^`]+)`", cell)
+            for word in re.findall(r"[A-Za-z_]\w*", name) if word not in there]
+
+
+def crates_and_their_uses():
+    """The crates of crates.txt in their order, each with those that its text names."""
+    rows = [line.partition("#")[0].partition(":") for line in text_of("crates.txt").splitlines()]
+    return {head.split()[0]: used.split() for head, colon, used in rows if colon}
+
+
+def rooms_that_differ(_program):
+    """The table of crates has those of crates.txt in their order, but for the test crates; each stands below those that it uses."""
+    uses = crates_and_their_uses()
+    rows = map(cells_of, section(text_of("docs/architecture.md"), "Crates"))
+    told = [name for cells in rows if len(cells) == 5 for name in re.findall(r"`(\w+)`", cells[1])]
+    wanted = [name for name in uses if not name.endswith("_tests") and name != "plan_samples"]
+    found = [f"{name} stands above {used}" for name in told for used in uses.get(name, []) if used in told[told.index(name):]]
+    return found if told == wanted else found + [f"the table of crates has {told}, crates.txt {wanted}"]
 
 
 def tests_that_are_missing(_program):
@@ -279,9 +315,8 @@ def completions_that_differ():
 
 def trusted_crates_that_differ(_program):
     """The README names as trusted the crates of the kit on which crates.txt rests, all of them and no other."""
-    rows = [line.partition("#")[0].partition(":") for line in text_of("crates.txt").splitlines() if ":" in line.partition("#")[0]]
-    own = {row[0].split()[0] for row in rows}
-    used = sorted({name for row in rows for name in row[2].split()} - own)
+    uses = crates_and_their_uses()
+    used = sorted({name for names in uses.values() for name in names} - set(uses))
     told = re.findall(r"`(\w+)`", "\n".join(section(text_of("README.md"), "What is trusted")).split("kit's crates", 1)[1].split(".", 1)[0])
     return [] if told == used else [f"the README trusts {told}, crates.txt uses {used}"]
 
@@ -335,9 +370,19 @@ def recipes_that_fail(program):
     return found
 
 
+def versions_that_differ(_program):
+    """The README and the man page have the version that stands first in the list of changes."""
+    version = re.search(r"^## (\S+)$", text_of("CHANGELOG.md"), flags=re.M)[1]
+    wanted = {"README.md": f"This is version {version} ", "liq.1": f'"Dizhuppan {version}"'}
+    return [f"{page} has not the version {version}" for page, text in wanted.items() if text not in text_of(page)]
+
+
 checks = {
+    "documents/versions": versions_that_differ,
     "documents/paths": paths_that_are_missing,
     "documents/sections": sections_that_are_missing,
+    "documents/clauses": clauses_that_are_missing,
+    "documents/rooms": rooms_that_differ,
     "documents/tests": tests_that_are_missing,
     "documents/builtins": builtins_that_differ,
     "documents/forms": forms_that_differ,

@@ -1,12 +1,13 @@
 -- What is to blame for a silence.
-use Rattle.std.proofs.Common.{◌≡◌, ℕ, ◌+◌, ◌<◌, ◌≤◌, suc, Bool, true, false, ◌&&◌, ◌||◌, List, [], ◌∷◌, length, get_or, take, drop, set, refl, sym, ap, ◌∙◌, inl, inr, arith}
+use Rattle.std.proofs.Common.{◌≡◌, ℕ, ◌+◌, ◌<◌, ◌≤◌, suc, Bool, true, false, ◌&&◌, ◌||◌, List, [], ◌∷◌, length, get_or, min, nat_eq, take, drop, set, refl, sym, ap, ◌∙◌, inl, inr, arith}
 use Rattle.std.specs.Prelude.{◌⊎◌}
 use Rattle.std.specs.List.{list_any, zip}
 use Rattle.std.proofs.Math.Seq.{drop-cons, drop-length}
 use Rattle.std.proofs.lemmas.List.{drop-set, take_all}
 use Rattle.std.proofs.lemmas.List.Folds.{list_any_at, list_any_more}
-use Rattle.std.proofs.lemmas.Slice.Zip.{get_or-zip}
+use Rattle.std.proofs.lemmas.Slice.Zip.{get_or-zip, length-zip}
 use Rattle.plan_core.specs.declared.node.Node.{Node}
+use Rattle.time_pred.specs.Predicates.{Predicate, is_always}
 use Rattle.plan_picture.specs.Blames.{is_to_blame, needs, reds_from}
 
 pub none_red : (mark : ℕ → Bool) (refused : ℕ) (nodes : List Node) (reds : List Bool) (k : ℕ) → k ≡ length nodes → length reds ≡ length nodes
@@ -82,3 +83,39 @@ pub not_found : (child : ℕ) (nodes : List Node) (reds : List Bool) (k : ℕ) �
 not_found child nodes reds k h size none =
     let long : length (zip nodes reds) ≡ length nodes = pairs_size nodes reds size in
     sym (ap (list_any (asks_for child)) (sym (take_all k (zip nodes reds) (omega arith))) ∙ none)
+
+-- whether this is a case of a switch that is always true, with this child
+abbrev pub is_case : (child : ℕ) → Predicate × ℕ → Bool
+is_case child pair = is_always pair.0 && nat_eq pair.1 child
+
+case_at : (child : ℕ) (preds : List Predicate) (children : List ℕ) (k : ℕ) (p : Predicate) → k < length preds → k < length children → p ≡ get_or preds k p
+    → is_case child (get_or (zip preds children) k (p, 0)) ≡ (is_always p && nat_eq (get_or children k 0) child)
+case_at child preds children k p h more is =
+    ap (is_case child) (get_or-zip preds children k (p, 0) h more)
+    ∙ ap (λ (q : Predicate). is_always q && nat_eq (get_or children k 0) child) (sym is)
+
+pub case_found : (child : ℕ) (preds : List Predicate) (children : List ℕ) (k : ℕ) (p : Predicate) → k < length preds → k < length children → p ≡ get_or preds k p
+    → is_always p ≡ true → nat_eq (get_or children k 0) child ≡ true → true ≡ list_any (is_case child) (zip preds children)
+case_found child preds children k p h more is sure it =
+    let long : length (zip preds children) ≡ min (length preds) (length children) = length-zip preds children in
+    sym (list_any_at (is_case child) (zip preds children) k (p, 0) (omega arith)
+    (case_at child preds children k p h more is ∙ ap (λ (b : Bool). b && nat_eq (get_or children k 0) child) sure ∙ it))
+
+pub case_more : (child : ℕ) (preds : List Predicate) (children : List ℕ) (k : ℕ) (p : Predicate) → k < length preds → k < length children → p ≡ get_or preds k p
+    → list_any (is_case child) (take k (zip preds children)) ≡ false → (is_always p ≡ false) ⊎ (nat_eq (get_or children k 0) child ≡ false)
+    → list_any (is_case child) (take (k + 1) (zip preds children)) ≡ false
+case_more child preds children k p h more is none which =
+    let long : length (zip preds children) ≡ min (length preds) (length children) = length-zip preds children in
+    let fails : (is_always p && nat_eq (get_or children k 0) child) ≡ false = elim which [
+      | inl unsure ↦ ap (λ (b : Bool). b && nat_eq (get_or children k 0) child) unsure
+      | inr other ↦ ap (λ (b : Bool). is_always p && b) other ∙ and_false (is_always p)
+    ] in
+    list_any_more (is_case child) (zip preds children) k (p, 0) (omega arith)
+    ∙ ap (λ (b : Bool). b || is_case child (get_or (zip preds children) k (p, 0))) none
+    ∙ case_at child preds children k p h more is ∙ fails
+
+pub case_done : (child : ℕ) (preds : List Predicate) (children : List ℕ) (k : ℕ) → min (length preds) (length children) ≤ k
+    → list_any (is_case child) (take k (zip preds children)) ≡ false → false ≡ list_any (is_case child) (zip preds children)
+case_done child preds children k h none =
+    let long : length (zip preds children) ≡ min (length preds) (length children) = length-zip preds children in
+    sym (ap (list_any (is_case child)) (sym (take_all k (zip preds children) (omega arith))) ∙ none)

@@ -18,10 +18,10 @@ use Rattle.clock_infer.specs.declared.clock_map.ClockFault.TheVariants.{TwoClock
 use Rattle.clock_infer.specs.Forcings.{id_or}
 use Rattle.plan_picture.specs.Texts.{escaped}
 
--- whether a source that may offer nothing does so for this child: a sequence for its last one, a switch for none where no predicate is
--- always true, and any other for each of its children
+-- whether a source that may offer nothing does so for this child: a sequence for its last one, a switch for one whose predicate is always
+-- true, and any other for each of its children
 abbrev pub needs : Op → (children : List ℕ) → (child : ℕ) → Bool
-needs (Switch sensitive preds) children child = list_any is_always preds && list_any (λ other. nat_eq other child) children
+needs (Switch sensitive preds) children child = list_any (λ pair. is_always pair.0 && nat_eq pair.1 child) (zip preds children)
 needs Sequence children child = option_map_or (λ last. nat_eq last child) (last_of children) false
 needs _ children child = list_any (λ other. nat_eq other child) children
 
@@ -53,6 +53,9 @@ name_text (Named id) = escaped id
 name_text (SubClock k) = codes "crossfade " ++ decimal k
 name_text AnyMain = codes "an output"
 
+abbrev pub both_names : (first second : ClockName) → List ℕ
+both_names first second = name_text first ++ (codes " and " ++ name_text second)
+
 abbrev pub clock_asks : (id : List ℕ) → (k : ℕ) → Op → Bool
 clock_asks id k (Clock written) = bytes_eq id (id_or k written)
 clock_asks id k _ = false
@@ -79,7 +82,7 @@ clock_red (Err TooManyClocks) k op = false
 clock_red (Err Memory) k op = false
 
 abbrev pub shared_words : (is_it : Bool) → (first second : ClockName) → List ℕ
-shared_words true first second = codes "\\nE26 under clocks " ++ (name_text first ++ (codes " and " ++ name_text second))
+shared_words true first second = codes "\\nE26 under clocks " ++ both_names first second
 shared_words false first second = []
 
 abbrev pub asking_words : (asks : Bool) → (k : ℕ) → Op → List ℕ

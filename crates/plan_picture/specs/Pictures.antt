@@ -1,9 +1,10 @@
 -- The picture of a plan.
-use Rattle.std.specs.Prelude.{ℕ, Bool, Option, Some, None, List, [], ◌++◌, codes, Result}
+use Rattle.std.specs.Prelude.{◌≡◌, ℕ, Bool, Option, Some, None, List, [], ◌++◌, codes, Result}
 use Rattle.std.specs.Option.{is_some}
 use Rattle.plan_core.specs.declared.plan.Plan.{Plan}
 use Rattle.clock_infer.specs.declared.clock_map.ClockMap.{ClockMap}
 use Rattle.clock_infer.specs.declared.clock_map.ClockFault.{ClockFault}
+use Rattle.clock_infer.specs.Ties.{IsGrouping}
 use Rattle.plan_picture.specs.Blames.{reds_from, refused_node}
 use Rattle.plan_picture.specs.Boxes.{node_boxes}
 use Rattle.plan_picture.specs.Edges.{node_edges, sink_texts}
@@ -17,10 +18,17 @@ abbrev pub reds : Plan → (mark : ℕ → Bool) → Option ℕ → List Bool
 reds plan mark None = []
 reds plan mark (Some sink) = reds_from mark (refused_node plan.sinks sink) 0 plan.nodes
 
-abbrev pub picture_with : Plan → (mark : ℕ → Bool) → Option ℕ → Result ClockMap ClockFault → (silent : Bool) → (red : List Bool) → List ℕ
-picture_with plan mark refused clocks silent red = beginning ++ (node_boxes plan plan.nodes mark silent red clocks ++ (node_edges plan.nodes silent red clocks
-    ++ (sink_texts plan plan.sinks mark refused ++ (regions_of plan silent clocks ++ codes "}\n"))))
+abbrev pub picture_with : Plan → (mark : ℕ → Bool) → Option ℕ → Result ClockMap ClockFault → (group : ℕ → ℕ) → (silent : Bool) → (red : List Bool) → List ℕ
+picture_with plan mark refused clocks group silent red = beginning ++ (node_boxes plan plan.nodes mark silent red clocks ++ (node_edges plan.nodes silent red clocks
+    ++ (sink_texts plan plan.sinks mark refused ++ (regions_of plan silent clocks group ++ codes "}\n"))))
 
--- the text of a plan, of which these sources are infallible, this output was refused, and these are the clocks
-abbrev pub picture : Plan → (mark : ℕ → Bool) → Option ℕ → Result ClockMap ClockFault → List ℕ
-picture plan mark refused clocks = picture_with plan mark refused clocks (is_some refused) (reds plan mark refused)
+-- the text of a plan, of which these sources are infallible, this output was refused, these are the clocks, and these the groups of
+-- sources that share one
+abbrev pub picture : Plan → (mark : ℕ → Bool) → Option ℕ → Result ClockMap ClockFault → (group : ℕ → ℕ) → List ℕ
+picture plan mark refused clocks group = picture_with plan mark refused clocks group (is_some refused) (reds plan mark refused)
+
+-- a text is that of a plan with its groups, of which there is one grouping alone
+pub record IsPicture (plan : Plan) (mark : ℕ → Bool) (refused : Option ℕ) (clocks : Result ClockMap ClockFault) (text : List ℕ) : Type 0 where
+  pub group : ℕ → ℕ
+  pub grouping : IsGrouping plan.nodes group
+  pub is : text ≡ picture plan mark refused clocks group

@@ -1,16 +1,16 @@
 -- The clocks: each a region with its sources and outputs.
-use Rattle.std.specs.Prelude.{ℕ, zero, suc, ◌%◌, Bool, true, false, List, [], ◌++◌, codes, decimal, nat_eq, nat_lt, slice_index_or, if◌then◌else◌, Result, Ok, Err}
+use Rattle.std.specs.Prelude.{ℕ, zero, suc, ◌%◌, Bool, true, false, List, [], ◌++◌, codes, decimal, length, nat_eq, nat_lt, slice_index_or, if◌then◌else◌, Result, Ok, Err}
 use Rattle.plan_core.specs.declared.node.Node.{Node}
 use Rattle.plan_core.specs.declared.plan.Plan.{Plan}
 use Rattle.plan_core.specs.declared.sink.SinkPlan.{SinkPlan}
 use Rattle.plan_core.specs.declared.sink.SinkPlan.TheVariants.{Output, Feed}
 use Rattle.clock_infer.specs.declared.clock_map.ClockMap.{ClockMap}
 use Rattle.clock_infer.specs.declared.clock_map.ClockFault.{ClockFault}
-use Rattle.clock_infer.specs.declared.clock_map.ClockFault.TheVariants.{TwoClocks, Nested, TooManyClocks, Memory}
 use Rattle.clock_infer.specs.declared.clock_map.NodeClock.{NodeClock}
 use Rattle.clock_infer.specs.declared.clock_map.NodeClock.TheVariants.{Main, Sub}
 use Rattle.clock_infer.specs.Ties.{fades}
 use Rattle.plan_picture.specs.Texts.{escaped, numbered}
+use Rattle.plan_picture.specs.Faults.{fault_text}
 
 abbrev pub clock_of : List NodeClock → (node : ℕ) → NodeClock
 clock_of of node = slice_index_or of node (Main 0)
@@ -27,9 +27,9 @@ closing of levels (Main m) = codes " }"
 closing of zero (Sub k) = []
 closing of (suc levels) (Sub k) = closing of levels (clock_of of k) ++ codes " }"
 
--- a statement in the region of a clock
+-- a statement in the region of a clock, within at most as many regions as there are sources
 abbrev pub within : List NodeClock → NodeClock → (statement : List ℕ) → List ℕ
-within of clock statement = opening of 16 clock ++ (statement ++ (closing of 16 clock ++ codes "\n"))
+within of clock statement = opening of (length of) clock ++ (statement ++ (closing of (length of) clock ++ codes "\n"))
 
 -- each main clock has a tint, in turn
 abbrev pub tint_of : ℕ → List ℕ
@@ -86,21 +86,7 @@ output_members of sinks = numbered (output_member of) 0 sinks
 abbrev pub regions_by : Plan → ClockMap → List ℕ
 regions_by plan clocks = named_regions clocks.running clocks.names ++ (sub_regions clocks.of plan.nodes ++ (members clocks.of ++ output_members clocks.of plan.sinks))
 
-abbrev pub heading : ClockFault → List ℕ
-heading (TwoClocks node first second) = codes "E26 a source would be driven by two clocks"
-heading (Nested node) = codes "E27 a crossfade lies in its own clock"
-heading TooManyClocks = codes "E28 more than 64 clocks would run"
-heading Memory = []
-
-abbrev pub told_text : ClockFault → List ℕ
-told_text fault = codes "labelloc=t; fontcolor=\"#b3261e\"; label=\"" ++ (heading fault ++ codes "\";\n")
-
--- a fault of clocks is told where no silence is
-abbrev pub fault_text : (silent : Bool) → ClockFault → List ℕ
-fault_text true fault = []
-fault_text false fault = told_text fault
-
 -- the regions of a plan; where there are none, why
-abbrev pub regions_of : Plan → (silent : Bool) → Result ClockMap ClockFault → List ℕ
-regions_of plan silent (Ok clocks) = regions_by plan clocks
-regions_of plan silent (Err fault) = fault_text silent fault
+abbrev pub regions_of : Plan → (silent : Bool) → Result ClockMap ClockFault → (group : ℕ → ℕ) → List ℕ
+regions_of plan silent (Ok clocks) group = regions_by plan clocks
+regions_of plan silent (Err fault) group = fault_text silent plan.nodes fault group

@@ -4,7 +4,7 @@ ghost use Rattle.std.specs.List.{list_any};
 ghost use Rattle.fallible_infer.specs.Infallible.{mark_at};
 ghost use Rattle.time_pred.specs.Predicates.{is_always};
 ghost use Rattle.time_pred.specs.View.{view_pred};
-ghost use Rattle.plan_picture.specs.Blames.{asking, asking_words, asks, childless_words, clock_asks, clock_red, clock_words, edge_red, either_asks, name_text, nested_words, node_red, reason, reason_words, red_words, refused_node, shared_words};
+ghost use Rattle.plan_picture.specs.Blames.{asking, asking_words, asks, both_names, childless_words, clock_asks, clock_red, clock_words, edge_red, either_asks, name_text, nested_words, node_red, reason, reason_words, red_words, refused_node, shared_words};
 
 use crate::texts::{push_named, push_number, push_plain, push_quoted};
 use crate::words::id_of;
@@ -169,8 +169,8 @@ fn push_switch_reason(into: &mut Vec<u8>, preds: &[Pred]) -> Result<(), Memory>
     }
 }
 
-/// Whether some predicate is always true by its form.
-pub fn some_always(preds: &[Pred]) -> bool
+// Whether some predicate is always true by its form.
+fn some_always(preds: &[Pred]) -> bool
     ensures { result ≡ list_any is_always (map view_pred preds.now) }
 {
     for pred in preds {
@@ -257,14 +257,15 @@ fn push_shared(
 }
 
 fn push_both(into: &mut Vec<u8>, first: &ClockName, second: &ClockName) -> Result<(), Memory>
-    ensures { OnOk result (into.new.items ≡ into.old.items ++ (codes "\\nE26 under clocks " ++ (name_text first.now ++ (codes " and " ++ name_text second.now)))) }
+    ensures { OnOk result (into.new.items ≡ into.old.items ++ (codes "\\nE26 under clocks " ++ both_names first.now second.now)) }
 {
     push_plain(into, b"\\nE26 under clocks ")?;
     push_names(into, first, second)
 }
 
-fn push_names(into: &mut Vec<u8>, first: &ClockName, second: &ClockName) -> Result<(), Memory>
-    ensures { OnOk result (into.new.items ≡ into.old.items ++ (name_text first.now ++ (codes " and " ++ name_text second.now))) }
+/// Appends the names of two clocks.
+pub fn push_names(into: &mut Vec<u8>, first: &ClockName, second: &ClockName) -> Result<(), Memory>
+    ensures { OnOk result (into.new.items ≡ into.old.items ++ both_names first.now second.now) }
 {
     push_name(into, first)?;
     into.extend_from_slice(b" and ")?;

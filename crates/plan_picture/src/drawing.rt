@@ -1,11 +1,11 @@
 // The picture of a plan.
-ghost use Rattle.std.specs.Prelude.{◌≡◌, ◌++◌, IfOk, OnOk, codes};
+ghost use Rattle.std.specs.Prelude.{◌≡◌, ◌++◌, IfOk, OnOk, codes, slice_index};
 ghost use Rattle.std.specs.Option.{is_some};
 ghost use Rattle.plan_core.specs.Plans.{IsWellFormed};
 ghost use Rattle.fallible_infer.specs.Infallible.{mark_at};
 ghost use Rattle.plan_picture.specs.Edges.{sink_texts};
 ghost use Rattle.plan_picture.specs.Regions.{regions_of};
-ghost use Rattle.plan_picture.specs.Pictures.{beginning, picture, picture_with, reds};
+ghost use Rattle.plan_picture.specs.Pictures.{beginning, IsPicture, picture_with, reds};
 
 use crate::blames::refused_node;
 use crate::boxes::push_nodes;
@@ -13,14 +13,14 @@ use crate::edges::{push_edges, push_sinks};
 use crate::reds::reds;
 use crate::regions::push_regions;
 use crate::texts::push_plain;
-use clock_infer::{ClockFault, ClockMap};
+use clock_infer::{ClockFault, ClockMap, groups_of};
 use liq_base::Memory;
 use plan_core::Plan;
 use std::alloc::Global;
 
 /// The text from which graphviz draws a plan: a box for each source and output, an edge wherever one plays another, and a
 /// region for each clock. A source that may offer nothing has a dashed box. In red stands why the plan is refused: the sink
-/// of the number `refused` may fall silent, or there are no clocks.
+/// of the number `refused` may fall silent, or there are no clocks; then a region lies round the sources that would share one.
 pub fn picture(
     alloc: Global,
     plan: &Plan,
@@ -29,11 +29,14 @@ pub fn picture(
     clocks: &Result<ClockMap, ClockFault>,
 ) -> Result<Vec<u8>, Memory>
     requires { IsWellFormed plan.now }
-    ensures { IfOk result (λ text. text.items ≡ picture plan.now (mark_at marks.now) refused clocks.now) }
+    ensures { IfOk result (λ text. IsPicture plan.now (mark_at marks.now) refused clocks.now text.items) }
 {
     let red = all_reds(alloc, plan, marks, refused)?;
+    let groups = groups_of(alloc, plan.nodes.as_slice())?;
     let mut text = Vec::new(alloc);
-    push_picture(alloc, &mut text, plan, marks, refused, clocks, &red)?;
+    push_picture(
+        alloc, &mut text, plan, marks, refused, clocks, &groups, &red,
+    )?;
     Ok(text)
 }
 
@@ -62,10 +65,11 @@ fn push_picture(
     marks: &[bool],
     refused: Option<u32>,
     clocks: &Result<ClockMap, ClockFault>,
+    groups: &[u32],
     red: &[bool],
 ) -> Result<(), Memory>
     requires { IsWellFormed plan.now }
-    ensures { OnOk result (into.new.items ≡ into.old.items ++ picture_with plan.now (mark_at marks.now) refused clocks.now (is_some refused) red.now) }
+    ensures { OnOk result (into.new.items ≡ into.old.items ++ picture_with plan.now (mark_at marks.now) refused clocks.now (λ k. slice_index groups.now k) (is_some refused) red.now) }
 {
     let silent = refused.is_some();
     push_beginning(into)?;
@@ -80,7 +84,7 @@ fn push_picture(
         clocks,
     )?;
     push_edges(into, plan.nodes.as_slice(), silent, red, clocks)?;
-    push_rest(into, plan, marks, refused, silent, clocks)
+    push_rest(into, plan, marks, refused, silent, clocks, groups)
 }
 
 fn push_rest(
@@ -90,12 +94,13 @@ fn push_rest(
     refused: Option<u32>,
     silent: bool,
     clocks: &Result<ClockMap, ClockFault>,
+    groups: &[u32],
 ) -> Result<(), Memory>
     requires { IsWellFormed plan.now }
-    ensures { OnOk result (into.new.items ≡ into.old.items ++ (sink_texts plan.now plan.now.sinks (mark_at marks.now) refused ++ (regions_of plan.now silent clocks.now ++ codes "}\n"))) }
+    ensures { OnOk result (into.new.items ≡ into.old.items ++ (sink_texts plan.now plan.now.sinks (mark_at marks.now) refused ++ (regions_of plan.now silent clocks.now (λ k. slice_index groups.now k) ++ codes "}\n"))) }
 {
     push_sinks(into, plan, plan.sinks.as_slice(), marks, refused)?;
-    push_regions(into, plan, silent, clocks)?;
+    push_regions(into, plan, silent, clocks, groups)?;
     push_plain(into, b"}\n")
 }
 

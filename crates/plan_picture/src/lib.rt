@@ -5,6 +5,7 @@ mod blames;
 mod boxes;
 mod drawing;
 mod edges;
+mod faults;
 pub mod laws;
 mod numbers;
 mod preds;

@@ -1,14 +1,17 @@
 // The sources that are to blame for a silence.
-ghost use Rattle.std.specs.Prelude.{◌≡◌, ◌<◌, ◌≤◌, ◌+◌, ◌&&◌, IfOk, drop, false, length, nat_eq};
+ghost use Rattle.std.specs.Prelude.{◌≡◌, ◌<◌, ◌≤◌, ◌+◌, ◌&&◌, IfOk, drop, false, length, map, nat_eq};
 ghost use Rattle.std.specs.List.{list_any, zip};
 ghost use Rattle.std.specs.Option.{option_map_or};
 ghost use Rattle.fallible_infer.specs.Infallible.{last_of, mark_at};
+ghost use Rattle.time_pred.specs.Predicates.{is_always};
+ghost use Rattle.time_pred.specs.View.{view_pred};
 ghost use Rattle.plan_picture.specs.Blames.{is_to_blame, needs, reds_from};
 
-use crate::blames::{mark, some_always};
+use crate::blames::mark;
 use liq_base::Memory;
 use plan_core::{Node, Op};
 use std::alloc::Global;
+use time_pred::Pred;
 
 /// Of each source whether it is to blame for the silence of the source that was refused: that one is, and each source that may
 /// offer nothing and for which one to blame does.
@@ -58,10 +61,23 @@ fn needs(op: &Op, children: &[u32], child: u64) -> bool
     ensures { result ≡ needs op.now children.now child }
 {
     match op {
-        Op::Switch { preds, .. } => some_always(preds.as_slice()) && contains(children, child),
+        Op::Switch { preds, .. } => is_sure(preds.as_slice(), children, child),
         Op::Sequence => is_last(children, child),
         _ => contains(children, child),
     }
+}
+
+// Whether a predicate of this child is always true by its form.
+fn is_sure(preds: &[Pred], children: &[u32], child: u64) -> bool
+    ensures { result ≡ list_any (λ pair. is_always pair.0 && nat_eq pair.1 child) (zip (map view_pred preds.now) children.now) }
+{
+    let count = preds.len().min(children.len());
+    for k in 0..count {
+        if preds[k].always() && children[k] as u64 == child {
+            return true;
+        }
+    }
+    false
 }
 
 fn is_last(children: &[u32], child: u64) -> bool
