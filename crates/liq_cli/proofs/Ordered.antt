@@ -1,5 +1,5 @@
 -- What a call creates, by the way that its job ended.
-use Rattle.std.proofs.Common.{◌≡◌, ◌∙◌, ℕ, List, [], refl, sym, ap, subst, ⊎_elim, arith}
+use Rattle.std.proofs.Common.{◌≡◌, ◌∙◌, ℕ, List, [], ◌++◌, refl, sym, ap, subst, ⊎_elim, append-nil, arith}
 use Rattle.std.specs.Prelude.{Option, Some, None, Result, Ok, Err, IfOk, IfErr, String, string_bytes}
 use Rattle.std.specs.Option.{ForSome}
 use Rattle.std.specs.declared.alloc.Global.{Global}
@@ -8,7 +8,7 @@ use Rattle.frame_core.specs.Library.{Sounds}
 use Rattle.plan_core.specs.declared.plan.Plan.{Plan}
 use Rattle.clock_infer.specs.declared.clock_map.ClockMap.{ClockMap}
 use Rattle.liq_base.specs.Files.{Closing}
-use Rattle.stations.specs.Creations.{names_of}
+use Rattle.stations.specs.Creations.{HaveClosed, HaveListed, after_making, names_of}
 use Rattle.stations.specs.Stations.{Station, Way}
 use Rattle.stream_meaning.specs.Instants.{Setting}
 use Rattle.stations.proofs.Making.{all_made, none_closed, none_made, none_more}
@@ -17,7 +17,7 @@ use Rattle.station_render.specs.declared.fault.RenderFault.TheVariants.{Write as
 use Rattle.liq_cli.specs.Words.{Asked, Check, Make, HasNoForm, IsAsked, cues_of, file_of, ticks_of, trace_of}
 use Rattle.liq_cli.specs.Answer.{Answer, Usage, Refused, Checked, Accepted, Made, ForAnswer, ForEachAnswer, IsAnswerTo}
 use Rattle.liq_cli.specs.Call.{Rendered}
-use Rattle.liq_cli.specs.Creating.{CreatesInOrder, MadeAll, MadeSome, Sinks, creations, sinks_of}
+use Rattle.liq_cli.specs.Creating.{CreatesInOrder, MadeAll, MadeSome, Sinks, closings, creations, sinks_of}
 use Rattle.liq_cli.specs.Prepared.{CreatedFor, EndsFor, ForEach, ForOne, Granted, IsOneRuling, Stops, TraceEnds, answer_of, halt_of_render, station_for}
 use Rattle.liq_cli.specs.Telling.{Finishes, Tells}
 use Rattle.liq_cli.specs.declared.halt.Halt.{Halt}
@@ -34,14 +34,25 @@ same_sinks created closed old new names ends = λ i. record { created = names i;
 none_of : (names : List (List ℕ)) (before after : Sinks) → after ≡ before → MadeSome names before after
 none_of names before after same = none_made names before.created after.created before.closed after.closed (ap (λ (s : Sinks). s.created) same) (ap (λ (s : Sinks). s.closed) same)
 
-all_of : (names : List (List ℕ)) (before after : Sinks) → MadeAll names before after → MadeSome names before after
-all_of names before after made = all_made names before.created after.created before.closed after.closed made.created made.closed
+all_of : (answer : Answer) (before after : Sinks) → MadeAll answer before after → MadeSome (creations answer) before after
+all_of answer before after made = all_made (creations answer) before.created after.created before.closed after.closed made.created made.closed
 
-all_of_none : (before after : Sinks) → after ≡ before → MadeAll [] before after
-all_of_none before after same = record {
-  created = ap (λ (s : Sinks). s.created) same ∙ none_more before.created;
-  closed = none_closed before.closed after.closed (ap (λ (s : Sinks). s.closed) same);
-}
+-- an answer for which nothing is to be created
+abbrev IsIdle : Answer → Type 0
+IsIdle answer = (creations answer ≡ []) × (closings answer ≡ [])
+
+none_listed : (before after : Option (List Closing)) → after ≡ before → HaveListed [] before after
+none_listed before after same told at = record { more = []; told = same ∙ at ∙ ap Some (sym (append-nil told) ∙ sym (append-nil (told ++ []))) }
+
+all_of_none : (answer : Answer) (before after : Sinks) → IsIdle answer → after ≡ before → MadeAll answer before after
+all_of_none answer before after idle same =
+    let names = ap (λ (s : Sinks). s.created) same in
+    let ends = ap (λ (s : Sinks). s.closed) same in
+    record {
+      created = names ∙ none_more before.created ∙ ap (λ (ns : List (List ℕ)). after_making ns before.created) (sym idle.0);
+      closed = subst (λ (ns : List (List ℕ)). HaveClosed ns before.closed after.closed) (sym idle.0) (none_closed before.closed after.closed ends);
+      pieces = subst (λ (cs : List Closing). HaveListed cs before.closed after.closed) (sym idle.1) (none_listed before.closed after.closed ends);
+    }
 
 -- a step before the rendering ended
 pub created_early : {T : Type 0} (asked : Asked) (told : Option Files) (reads_before reads_after : ℕ) (before after : Sinks) (e : Halt)
@@ -65,12 +76,12 @@ module _ (asked : Asked) (told : Option Files) (plan : Plan) (library : Sounds) 
   abbrev station : Station
   station = station_for asked plan library clocks way
 
-  -- what is created for the station is what is created for the answer
-  names_for : (P : List (List ℕ) → Type 0) → P (names_of station) → P (creations (answer_of asked (Granted plan library clocks way)))
-  names_for P p = subst (λ a. P (creations a)) (sym is_accepted) p
+  -- what holds of the station holds of the answer
+  answer_for : (P : Answer → Type 0) → P (Accepted station) → P (answer_of asked (Granted plan library clocks way))
+  answer_for P p = subst P (sym is_accepted) p
 
   front_before : MadeSome (names_of station) between after → MadeSome (creations (answer_of asked (Granted plan library clocks way))) before after
-  front_before front = names_for (λ names. MadeSome names before after) (subst (λ b. MadeSome (names_of station) b after) same front)
+  front_before front = answer_for (λ a. MadeSome (creations a) before after) (subst (λ b. MadeSome (names_of station) b after) same front)
 
   -- a rendering broke off
   pub created_broken : (e : RenderFault) → MadeSome (names_of station) between after → CreatedFor asked told before after (Err (halt_of_render e))
@@ -78,12 +89,12 @@ module _ (asked : Asked) (told : Option Files) (plan : Plan) (library : Sounds) 
   created_broken render_memory front = λ files t. for_each asked files (Granted plan library clocks way) (λ a. MadeSome (creations a) before after) (one files t) (front_before front)
 
   -- a rendering whose last step is its report: memory may be refused for that
-  pub created_all : (r : Result (String Global) Halt) → IfErr r (λ e. e ≡ Memory) → MadeAll (names_of station) between after → CreatedFor asked told before after r
+  pub created_all : (r : Result (String Global) Halt) → IfErr r (λ e. e ≡ Memory) → MadeAll (Accepted station) between after → CreatedFor asked told before after r
   created_all (Ok v) starved made = λ files t.
-      for_one asked files (Granted plan library clocks way) (λ a. MadeAll (creations a) before after) (one files t)
-      (names_for (λ names. MadeAll names before after) (subst (λ b. MadeAll (names_of station) b after) same made))
+      for_one asked files (Granted plan library clocks way) (λ a. MadeAll a before after) (one files t)
+      (answer_for (λ a. MadeAll a before after) (subst (λ b. MadeAll (Accepted station) b after) same made))
   created_all (Err e) starved made =
-      subst (λ x. CreatedFor asked told before after (Err x)) (sym starved) (created_broken render_memory (all_of (names_of station) between after made))
+      subst (λ x. CreatedFor asked told before after (Err x)) (sym starved) (created_broken render_memory (all_of (Accepted station) between after made))
 
 -- where nothing was read of the words, they have no form
 pub unread : (words : List (List ℕ)) → ((asked : Asked) → IsAsked words asked → ◌≡◌ {A = Option Asked} None (Some asked)) → HasNoForm words
@@ -91,29 +102,29 @@ unread words only asked is = let e : ◌≡◌ {A = Option Asked} None (Some ask
 
 -- for no answer is anything to be created
 abbrev CreatesNone : Asked → Type 0
-CreatesNone asked = (files : Files) (answer : Answer) → IsAnswerTo asked files answer → creations answer ≡ []
+CreatesNone asked = (files : Files) (answer : Answer) → IsAnswerTo asked files answer → IsIdle answer
 
 pub check_creates_none : (file : List ℕ) → CreatesNone (Check file)
-check_creates_none file files Usage is = refl
-check_creates_none file files (Refused fault) is = refl
-check_creates_none file files (Checked _) is = refl
+check_creates_none file files Usage is = (refl, refl)
+check_creates_none file files (Refused fault) is = (refl, refl)
+check_creates_none file files (Checked _) is = (refl, refl)
 check_creates_none file files (Accepted _) is = absurd is
-check_creates_none file files (Made made _) is = refl
+check_creates_none file files (Made made _) is = (refl, refl)
 
 pub make_creates_none : (seed size : ℕ) → CreatesNone (Make seed size)
-make_creates_none seed size files Usage is = refl
-make_creates_none seed size files (Refused fault) is = refl
-make_creates_none seed size files (Checked _) is = refl
+make_creates_none seed size files Usage is = (refl, refl)
+make_creates_none seed size files (Refused fault) is = (refl, refl)
+make_creates_none seed size files (Checked _) is = (refl, refl)
 make_creates_none seed size files (Accepted _) is = absurd is
-make_creates_none seed size files (Made made _) is = refl
+make_creates_none seed size files (Made made _) is = (refl, refl)
 
 module _ (asked : Asked) (none : CreatesNone asked) (before after : Sinks) (same : after ≡ before) where
-  whole_of_none : (files : Files) (P : Answer → Type 0) → ForOne asked files P → ForOne asked files (λ a. MadeAll (creations a) before after)
+  whole_of_none : (files : Files) (P : Answer → Type 0) → ForOne asked files P → ForOne asked files (λ a. MadeAll a before after)
   whole_of_none files P one = record {
     answer = one.answer;
     is_answer = one.is_answer;
     only = one.only;
-    holds = subst (λ names. MadeAll names before after) (sym (none files one.answer one.is_answer)) (all_of_none before after same);
+    holds = all_of_none one.answer before after (none files one.answer one.is_answer) same;
   }
 
   front_of_none : (files : Files) (P : Answer → Type 0) → ForOne asked files P → ForOne asked files (λ a. MadeSome (creations a) before after)
@@ -130,7 +141,7 @@ module _ (asked : Asked) (none : CreatesNone asked) (before after : Sinks) (same
   created_none told left reads_before reads_after writes_before writes_after (Err Memory) done stops = λ files t answer is. none_of (creations answer) before after same
 
 module _ (words : List (List ℕ)) (told : Option Files) (before after : Sinks) where
-  order_done : ForSome told (λ files. ForAnswer words files (λ a. MadeAll (creations a) before after)) → CreatesInOrder words told before after 0
+  order_done : ForSome told (λ files. ForAnswer words files (λ a. MadeAll a before after)) → CreatesInOrder words told before after 0
   order_done all = record {
     done = λ at. all;
     refused = λ at. absurd (omega arith);
@@ -198,9 +209,9 @@ module _ (words : List (List ℕ)) (told : Option Files) (before after : Sinks) 
       (λ part. rw part.0 (order_broken (λ files t. for_usage words files (λ a. MadeSome (creations a) before after) none (none_of [] before after same)))) tells
 
   module _ (asked : Asked) (asks : AsksOne words asked) where
-    front_of_all : ForSome told (λ files. ForOne asked files (λ a. MadeAll (creations a) before after)) → ForSome told (λ files. ForAnswer words files (λ a. MadeSome (creations a) before after))
+    front_of_all : ForSome told (λ files. ForOne asked files (λ a. MadeAll a before after)) → ForSome told (λ files. ForAnswer words files (λ a. MadeSome (creations a) before after))
     front_of_all all = λ files t. for_answer words asked files (λ a. MadeSome (creations a) before after) asks
-        (one_more asked files (λ a. MadeAll (creations a) before after) (λ a. MadeSome (creations a) before after) (λ a made. all_of (creations a) before after made) (all files t))
+        (one_more asked files (λ a. MadeAll a before after) (λ a. MadeSome (creations a) before after) (λ a made. all_of a before after made) (all files t))
 
     starved_of : ForSome told (λ files. ForEach asked files (λ a. MadeSome (creations a) before after)) → CreatesInOrder words told before after 5
     starved_of each = order_starved (λ files t. for_each_answer words asked files (λ a. MadeSome (creations a) before after) asks (each files t))
@@ -211,7 +222,7 @@ module _ (words : List (List ℕ)) (told : Option Files) (before after : Sinks) 
         → Stops asked told left reads_before reads_after writes_before writes_after job
         → Finishes out_held out_faults err_held err_faults job out out' err err' status → CreatesInOrder words told before after status
     ordered out_held out_faults err_held err_faults out out' err err' left reads_before reads_after writes_before writes_after (Ok report) status made stops ends =
-        ⊎_elim (λ all. rw all.0 (order_done (λ files t. for_answer words asked files (λ a. MadeAll (creations a) before after) asks (made files t))))
+        ⊎_elim (λ all. rw all.0 (order_done (λ files t. for_answer words asked files (λ a. MadeAll a before after) asks (made files t))))
         (λ part. rw part.0 (order_broken (front_of_all made))) ends.0
     ordered out_held out_faults err_held err_faults out out' err err' left reads_before reads_after writes_before writes_after (Err (refused_for fault)) status made stops ends =
         ⊎_elim (λ unsaid. rw unsaid.0 (starved_of (λ files t answer is. none_of (creations answer) before after made)))

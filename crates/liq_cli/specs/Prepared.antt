@@ -142,7 +142,7 @@ pub record Stops {T : Type 0} (asked : Asked) (told left : Option Files) (reads_
 -- what a job created and closed, by the way that it ended: with its report all that is to be created for the answer, in order; with a fault,
 -- and after a read that failed, nothing; else a front of it
 abbrev pub CreatedFor : Asked → (told : Option Files) (old new : Sinks) → Result (String Global) Halt → Type 0
-CreatedFor asked told old new (Ok report) = ForSome told (λ files. ForOne asked files (λ answer. MadeAll (creations answer) old new))
+CreatedFor asked told old new (Ok report) = ForSome told (λ files. ForOne asked files (λ answer. MadeAll answer old new))
 CreatedFor asked told old new (Err (refused_for fault)) = new ≡ old
 CreatedFor asked told old new (Err Read) = new ≡ old
 CreatedFor asked told old new (Err Write) = ForSome told (λ files. ForOne asked files (λ answer. MadeSome (creations answer) old new))

@@ -79,4 +79,4 @@ pub returns-clause-order : goal.returns-clause-order
 returns-clause-order g c =
     created_all (Render c.args.file.now c.args.start.second c.args.ticks.count None None c.args.cues) _ _ _ _ (InRounds) refl
     (λ files t. plain_ruled (Render c.args.file.now c.args.start.second c.args.ticks.count None None c.args.cues) (InRounds) (render_plain c.args.file.now c.args.start.second c.args.ticks.count None None c.args.cues) files _ _ _ (c.in_ok-work.ensures.found files t)) _ _ _ (same_sinks g.S.Shelf.created g.S.Shelf.closed _ _ c.prepare.ensures.created c.prepare.ensures.closed)
-    c.report_or_halt.result c.report_or_halt.ensures.starved (record { created = c.in_ok-rendered.ensures.made; closed = c.in_ok-rendered.ensures.closed })
+    c.report_or_halt.result c.report_or_halt.ensures.starved (record { created = c.in_ok-rendered.ensures.made; closed = c.in_ok-rendered.ensures.closed; pieces = c.in_ok-rendered.ensures.pieces })

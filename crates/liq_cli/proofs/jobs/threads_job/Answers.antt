@@ -79,4 +79,4 @@ pub returns-clause-order : goal.returns-clause-order
 returns-clause-order g c =
     created_all (asked_to_render c.args.asked.now) _ _ _ _ (InWindows c.args.asked.now.window.ticks) refl
     (λ files t. plain_ruled (asked_to_render c.args.asked.now) (InWindows c.args.asked.now.window.ticks) (render_plain c.args.asked.now.file.now c.args.asked.now.start.second c.args.asked.now.ticks.count (Some c.args.asked.now.window.ticks) (named c.args.asked.now.trace) c.args.asked.now.cues) files _ _ _ (c.in_ok-work.ensures.found files t)) _ _ _ (same_sinks g.S.Shelf.created g.S.Shelf.closed _ _ c.prepare.ensures.created c.prepare.ensures.closed)
-    c.report_or_halt.result c.report_or_halt.ensures.starved (record { created = c.in_ok-rendered.ensures.made; closed = c.in_ok-rendered.ensures.closed })
+    c.report_or_halt.result c.report_or_halt.ensures.starved (record { created = c.in_ok-rendered.ensures.made; closed = c.in_ok-rendered.ensures.closed; pieces = c.in_ok-rendered.ensures.pieces })

@@ -128,4 +128,4 @@ returns-clause-order g c =
     created_all (Replay c.args.file.now c.args.start.second c.args.ticks.count c.args.trace.now) _ _ _ _ (Again c.in_ok-told.told) refl
     (λ files t. replay_ruled c.args.file.now c.args.start.second c.args.ticks.count c.args.trace.now files _ _ _ (c.in_ok-work.ensures.found files t) (Tells c.in_ok-told.told)
     (one_told tells_one files c.args.trace.now _ _ _ (Tells c.in_ok-told.told) (record { has = c.in_ok-told.ensures.found files (c.prepare.ensures.shelf.files_kept ∙ t); fits = c.in_ok-told.ensures.fits }))) _ _ _ (same_sinks g.S.Shelf.created g.S.Shelf.closed _ _ (c.find_trace.ensures.created ∙ c.prepare.ensures.created) (c.find_trace.ensures.closed ∙ c.prepare.ensures.closed))
-    c.report_or_halt.result c.report_or_halt.ensures.starved (record { created = c.in_ok-rendered.ensures.made; closed = c.in_ok-rendered.ensures.closed })
+    c.report_or_halt.result c.report_or_halt.ensures.starved (record { created = c.in_ok-rendered.ensures.made; closed = c.in_ok-rendered.ensures.closed; pieces = c.in_ok-rendered.ensures.pieces })
